@@ -1,0 +1,4 @@
+//! Byte strings that are paths or names on Unix: views, and their text where they have one.
+#![tactic(auto)]
+
+pub mod bytes;
