@@ -1,0 +1,14 @@
+pub mod CaseLemmas
+pub mod PieceLemmas
+pub mod PlaceLemmas
+pub mod PartLemmas
+pub mod IdleLemmas
+pub mod CutLemmas
+pub mod TrimLemmas
+pub mod LastLemmas
+pub mod SpanLemmas
+pub mod StepLemmas
+pub mod SplitLemmas
+pub mod MiddleLemmas
+pub mod RestLemmas
+pub mod CursorLemmas

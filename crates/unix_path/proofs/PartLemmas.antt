@@ -1,0 +1,99 @@
+-- The parts of a whole string, by what stands first.
+use Rattle.std.proofs.Common.{◌≡◌, ℕ, ◌+◌, ◌-◌, ◌<◌, false, cond, eqb, List, [], ◌∷◌, ◌++◌, length}
+use Rattle.std.proofs.Common.{get_or, take, drop, map, eqb-true, refl, sym, ap, ap₂, ◌∙◌, arith}
+use Rattle.std.proofs.Common.{take_all, zero-add}
+use Rattle.std.specs.List.{position_or_len}
+use Rattle.std.specs.Str.{bytes_eq}
+use Rattle.std.proofs.lemmas.Slice.Eq.{bytes_eq-Decides}
+use Rattle.std.proofs.lemmas.List.{drop_all}
+use Rattle.unix_path.proofs.CaseLemmas.{by_test, take-suc_cons}
+use Rattle.unix_path.proofs.PieceLemmas.{counted-first, counted-slash, first_counted, first_piece}
+use Rattle.unix_path.proofs.PieceLemmas.{length-first_piece, position_or_len-other}
+use Rattle.unix_path.proofs.PieceLemmas.{slice_split-first}
+use Rattle.unix_path.specs.Parts.{begins_with_root, Value, parent_dir, is_rooted, CurDir, Part}
+use Rattle.unix_path.specs.Parts.{RootDir, counted, cur_dir, first_is_cur_dir, is_slash}
+use Rattle.unix_path.specs.Parts.{leading_part, parts, value_of_piece, values}
+use Rattle.unix_path.specs.Rest.{rest, span_of}
+use Rattle.unix_path.specs.Steps.{first_value}
+
+abbrev pub root : Part
+root = record { start = 0; end = 1; value = RootDir }
+
+-- a string that begins with a slash
+pub parts-root : (s : List ℕ) → get_or s 0 0 ≡ 47
+    → parts s ≡ record { start = 0; end = 1; value = RootDir } ∷ counted 1 (drop 1 s)
+unfolding parts leading_part
+parts-root [] e = absurd (omega arith)
+parts-root (b ∷ s) e = ap (λ b. parts (b ∷ s)) e ∙ ap (λ ps. root ∷ ps) (counted-slash 0 s)
+
+-- byte 0, where there is one
+pub is_rooted-at : (s : List ℕ) → is_rooted s ≡ eqb (get_or s 0 0) 47
+is_rooted-at [] = refl
+is_rooted-at (b ∷ s) = refl
+
+pub leading_part-name : (s : List ℕ) → eqb (get_or s 0 0) 47 ≡ false
+    → leading_part s ≡ cond (bytes_eq (first_piece s) cur_dir)
+    (record { start = 0; end = 1; value = CurDir } ∷ []) []
+unfolding leading_part
+leading_part-name s e =
+    rw (is_rooted-at s ∙ e)
+    (ap (λ ps. cond (first_is_cur_dir ps)
+    (record { start = 0; end = 1; value = CurDir } ∷ []) []) (slice_split-first s))
+
+pub nonempty_first_piece : (s : List ℕ) → 0 < length s → eqb (get_or s 0 0) 47 ≡ false
+    → bytes_eq (first_piece s) [] ≡ false
+nonempty_first_piece [] l e = absurd (omega arith)
+nonempty_first_piece (b ∷ s) l e =
+    rw (position_or_len-other b s e) (rw (take-suc_cons (position_or_len is_slash s) b s) refl)
+
+-- a string that begins with anything else
+pub parts-name : (s : List ℕ) → 0 < length s → eqb (get_or s 0 0) 47 ≡ false
+    → parts s ≡ record {
+      start = 0;
+      end = position_or_len is_slash s;
+      value = first_value (first_piece s);
+    } ∷ counted (position_or_len is_slash s)
+    (drop (position_or_len is_slash s) s)
+unfolding parts
+parts-name s l e =
+    let n = position_or_len is_slash s in
+    let p = first_piece s in
+    let tail = counted n (drop n s) in
+    let all : parts s ≡ cond (bytes_eq p cur_dir)
+    (record { start = 0; end = 1; value = CurDir } ∷ []) [] ++ (first_counted 0 p ++ tail) =
+    ap₂ ◌++◌ (leading_part-name s e)
+    (counted-first 0 s ∙ ap (λ k. first_counted 0 p ++ counted k (drop n s)) (zero-add n)) in
+    let some = nonempty_first_piece s l e in
+    by_test (bytes_eq p cur_dir)
+    (λ dot. all ∙ rw (some, dot)
+    (ap (λ k. record { start = 0; end = k; value = CurDir } ∷ tail)
+    (sym (ap length ((bytes_eq-Decides p cur_dir).0 dot)) ∙ length-first_piece s)))
+    (λ no. all ∙ rw (some, no)
+    (ap (λ k. record { start = 0; end = k; value = value_of_piece p } ∷ tail)
+    (zero-add (length p) ∙ length-first_piece s)))
+
+pub values-nil : values [] ≡ []
+unfolding values parts leading_part counted
+values-nil = refl
+
+pub rest-nil : (k m : ℕ) → rest [] k m ≡ []
+unfolding rest parts leading_part counted
+rest-nil k m = ap (λ ps. span_of [] (take (0 - (k + m)) ps)) (drop_all k [] (omega arith))
+    ∙ ap (span_of []) (take_all (0 - (k + m)) [] (omega arith))
+
+pub parts-nil : parts [] ≡ []
+unfolding parts leading_part counted
+parts-nil = refl
+
+-- the values begin with the root exactly where byte 0 is a slash
+pub begins_with_root-values : (s : List ℕ) → begins_with_root (values s) ≡ eqb (get_or s 0 0) 47
+unfolding values
+begins_with_root-values [] = ap (λ ps. begins_with_root (map (λ p. p.value) ps)) parts-nil
+begins_with_root-values (b ∷ s) = by_test (eqb b 47)
+    (λ e. rw (parts-root (b ∷ s) (eqb-true b 47 e)) (sym e))
+    (λ e. rw (parts-name (b ∷ s) (omega arith) e) (no_root (first_piece (b ∷ s)) _ ∙ sym e))
+  where
+    no_root : (p : List ℕ) (vs : List Value) → begins_with_root (first_value p ∷ vs) ≡ false
+    no_root p vs = by_test (bytes_eq p cur_dir)
+        (λ e. rw e refl)
+        (λ e. by_test (bytes_eq p parent_dir) (λ f. rw (e, f) refl) (λ f. rw (e, f) refl))

@@ -1,0 +1,115 @@
+-- The first piece of a string, and what stands after it.
+use Rattle.std.proofs.Common.{◌≡◌, ℕ, ◌+◌, true, false, not, ◌||◌, eqb, List, [], ◌∷◌, ◌++◌, length}
+use Rattle.std.proofs.Common.{take, drop, map, filter, refl, sym, ap, ap₂, subst, ◌∙◌, arith}
+use Rattle.std.proofs.Common.{eqb-true}
+use Rattle.std.specs.List.{slice_split, onto_first, position_or_len}
+use Rattle.std.specs.Str.{bytes_eq}
+use Rattle.std.proofs.lemmas.List.Splits.{slice_split-cons_yes, slice_split-cons_no}
+use Rattle.unix_path.proofs.CaseLemmas.{by_test, drop-suc_cons, take-suc_cons}
+use Rattle.unix_path.specs.Parts.{Part, counted, counts, cur_dir, is_slash, part_of, placed}
+
+-- the parts of these pieces, the first of which stands at `at`
+pub of_pieces : ℕ → List (List ℕ) → List Part
+of_pieces at ps = map part_of (filter counts (placed at ps))
+
+pub counted-nil : (at : ℕ) → counted at [] ≡ []
+unfolding counted
+counted-nil at = refl
+
+-- an empty piece doesn't count
+pub counted-slash : (at : ℕ) (s : List ℕ) → counted at (47 ∷ s) ≡ counted (at + 1) s
+unfolding counted
+counted-slash at s = ap
+    (λ n. map part_of (filter counts (placed n (slice_split is_slash s)))) {x = at + 0 + 1}
+    {y = at + 1} (omega arith)
+
+-- nor does a `.`
+pub counted-dot : (at : ℕ) → counted at (46 ∷ []) ≡ []
+unfolding counted
+counted-dot at = refl
+
+pub counted-dot_slash : (at : ℕ) (s : List ℕ) → counted at (46 ∷ 47 ∷ s) ≡ counted (at + 1) (47 ∷ s)
+unfolding counted
+counted-dot_slash at s =
+    ap (λ n. map part_of (filter counts (placed n (slice_split is_slash s)))) {x = at + 1 + 1}
+    {y = at + 1 + 0 + 1} (omega arith)
+
+abbrev pub first_piece : List ℕ → List ℕ
+first_piece s = take (position_or_len is_slash s) s
+
+-- the pieces_at after the first, from the slash on
+abbrev after_cut : List ℕ → List (List ℕ)
+after_cut [] = []
+after_cut (b ∷ s) = slice_split is_slash s
+
+-- the string is empty or begins with a slash
+abbrev IsCut : List ℕ → Type 0
+IsCut [] = Unit {0}
+IsCut (b ∷ s) = b ≡ 47
+
+pub position_or_len-slash : (x : ℕ) (xs : List ℕ) → eqb x 47 ≡ true
+    → position_or_len is_slash (x ∷ xs) ≡ 0
+position_or_len-slash x xs e = rw e refl
+
+pub position_or_len-other : (x : ℕ) (xs : List ℕ) → eqb x 47 ≡ false
+    → position_or_len is_slash (x ∷ xs) ≡ 1 + position_or_len is_slash xs
+position_or_len-other x xs e = rw e refl
+
+pub slice_split-first : (s : List ℕ)
+    → slice_split is_slash s ≡ first_piece s ∷ after_cut (drop (position_or_len is_slash s) s)
+slice_split-first [] = refl
+slice_split-first (x ∷ xs) = by_test (eqb x 47)
+    (λ e. slice_split-cons_yes is_slash x xs e
+    ∙ sym (ap (λ n. take n (x ∷ xs) ∷ after_cut (drop n (x ∷ xs)))
+    (position_or_len-slash x xs e)))
+    (λ e. let n = position_or_len is_slash xs in
+    slice_split-cons_no is_slash x xs e ∙ ap (onto_first x) (slice_split-first xs)
+    ∙ sym (ap (λ n. take n (x ∷ xs) ∷ after_cut (drop n (x ∷ xs))) (position_or_len-other x xs e)
+    ∙ ap₂ (λ a b. a ∷ after_cut b) (take-suc_cons n x xs) (drop-suc_cons n x xs)))
+
+IsCut-drop : (s : List ℕ) → IsCut (drop (position_or_len is_slash s) s)
+IsCut-drop [] = tt
+IsCut-drop (x ∷ xs) = by_test (eqb x 47)
+    (λ e. subst (λ n. IsCut (drop n (x ∷ xs))) (sym (position_or_len-slash x xs e))
+    (eqb-true x 47 e))
+    (λ e. subst (λ n. IsCut (drop n (x ∷ xs))) (sym (position_or_len-other x xs e))
+    (subst IsCut (sym (drop-suc_cons (position_or_len is_slash xs) x xs)) (IsCut-drop xs)))
+
+pub length-first_piece : (s : List ℕ) → length (first_piece s) ≡ position_or_len is_slash s
+length-first_piece [] = refl
+length-first_piece (x ∷ xs) = by_test (eqb x 47)
+    (λ e. ap (λ n. length (take n (x ∷ xs))) (position_or_len-slash x xs e)
+    ∙ sym (position_or_len-slash x xs e))
+    (λ e. ap (λ n. length (take n (x ∷ xs))) (position_or_len-other x xs e)
+    ∙ ap length (take-suc_cons (position_or_len is_slash xs) x xs)
+    ∙ omega (arith, length-first_piece xs, position_or_len-other x xs e))
+
+-- the first piece, read alone
+abbrev pub first_counted : ℕ → List ℕ → List Part
+first_counted at p = map part_of
+    (filter counts (record { start = at; end = at + length p; bytes = p } ∷ []))
+
+pub first_cons : (at : ℕ) (p : List ℕ) (ps : List (List ℕ))
+    → map part_of (filter counts (placed at (p ∷ ps))) ≡ first_counted at p ++ map part_of
+    (filter counts (placed (at + length p + 1) ps))
+first_cons at p ps = by_test (not (bytes_eq p [] || bytes_eq p cur_dir)) (λ e. rw e refl)
+    (λ e. rw e refl)
+
+counted-after_cut : (at : ℕ) (s : List ℕ) → IsCut s
+    → map part_of (filter counts (placed (at + 1) (after_cut s))) ≡ counted at s
+unfolding counted
+counted-after_cut at [] h = refl
+counted-after_cut at (b ∷ s) h = sym (ap (λ b. counted at (b ∷ s)) h ∙ counted-slash at s)
+
+pub counted-first : (at : ℕ) (s : List ℕ)
+    → counted at s ≡ first_counted at (first_piece s) ++ counted (at + position_or_len is_slash s)
+    (drop (position_or_len is_slash s) s)
+unfolding counted
+counted-first at s =
+    let n = position_or_len is_slash s in
+    ap (λ ps. map part_of (filter counts (placed at ps))) (slice_split-first s)
+    ∙ first_cons at (first_piece s) (after_cut (drop n s))
+    ∙ ap (λ k. first_counted at (first_piece s) ++ map part_of
+    (filter counts (placed (at + k + 1) (after_cut (drop n s))))) (length-first_piece s)
+    ∙ ap (λ ps. first_counted at (first_piece s) ++ ps)
+    (counted-after_cut (at + n) (drop n s) (IsCut-drop s))

@@ -1,0 +1,69 @@
+-- Places move with the string, and values stay.
+use Rattle.std.proofs.Common.{◌≡◌, ℕ, ◌+◌, ◌<◌, not, ◌||◌, List, [], ◌∷◌, length, map, filter, refl}
+use Rattle.std.proofs.Common.{ap, ap₂, ◌∙◌, arith}
+use Rattle.std.specs.List.{slice_split}
+use Rattle.std.specs.Str.{bytes_eq}
+use Rattle.unix_path.proofs.CaseLemmas.{by_test}
+use Rattle.unix_path.specs.Parts.{Part, counted, counts, cur_dir, is_slash, part_of, placed}
+use Rattle.unix_path.specs.Parts.{value_of_piece}
+use Rattle.unix_path.specs.Rest.{last_end}
+use Rattle.unix_path.specs.Steps.{parts_end}
+
+-- a part d places further on
+abbrev pub moved : ℕ → Part → Part
+moved d p = record { start = p.start + d; end = p.end + d; value = p.value }
+
+moved_pieces : (at d : ℕ) (ps : List (List ℕ))
+    → map part_of (filter counts (placed (at + d) ps)) ≡ map (moved d)
+    (map part_of (filter counts (placed at ps)))
+moved_pieces at d [] = refl
+moved_pieces at d (p ∷ ps) =
+    let next = ap (λ n. map part_of (filter counts (placed n ps))) {x = at + d + length p + 1}
+    {y = (at + length p + 1) + d} (omega arith) ∙ moved_pieces (at + length p + 1) d ps in
+    let first : at + d + length p ≡ (at + length p) + d = omega arith in
+    by_test (not (bytes_eq p [] || bytes_eq p cur_dir))
+    (λ e. rw e (ap₂ (λ n ps. record { start = at + d; end = n; value = value_of_piece p } ∷ ps)
+    first next))
+    (λ e. rw e next)
+
+pub counted-moved : (at d : ℕ) (s : List ℕ) → counted (at + d) s ≡ map (moved d) (counted at s)
+unfolding counted
+counted-moved at d s = moved_pieces at d (slice_split is_slash s)
+
+pub values_moved : (d : ℕ) (ps : List Part)
+    → map (λ p. p.value) (map (moved d) ps) ≡ map (λ p. p.value) ps
+values_moved d [] = refl
+values_moved d (p ∷ ps) = ap (λ vs. p.value ∷ vs) (values_moved d ps)
+
+-- the values don't depend on where the string stands
+pub values-counted : (at : ℕ) (s : List ℕ)
+    → map (λ p. p.value) (counted at s) ≡ map (λ p. p.value) (counted 0 s)
+values-counted at s = ap (λ n. map (λ p. p.value) (counted n s)) {x = at} {y = 0 + at} (omega arith)
+    ∙ ap (map (λ p. p.value)) (counted-moved 0 at s) ∙ values_moved at (counted 0 s)
+
+pub last_end-moved : (d : ℕ) (p : Part) (ps : List Part)
+    → last_end (moved d p) (map (moved d) ps) ≡ last_end p ps + d
+last_end-moved d p [] = refl
+last_end-moved d p (q ∷ qs) = last_end-moved d q qs
+
+pub parts_end-moved : (d : ℕ) (ps : List Part) → 0 < length ps
+    → parts_end (map (moved d) ps) ≡ parts_end ps + d
+parts_end-moved d [] l = absurd (omega arith)
+parts_end-moved d (p ∷ ps) l = last_end-moved d p ps
+
+pub moved-moved : (i j : ℕ) (ps : List Part)
+    → map (moved i) (map (moved j) ps) ≡ map (moved (i + j)) ps
+moved-moved i j [] = refl
+moved-moved i j (p ∷ ps) =
+    let start : p.start + j + i ≡ p.start + (i + j) = omega arith in
+    let end : p.end + j + i ≡ p.end + (i + j) = omega arith in
+    ap₂ (λ s e. record { start = s; end = e; value = p.value } ∷ map (moved i) (map (moved j) ps))
+    start end ∙ ap (λ ps. moved (i + j) p ∷ ps) (moved-moved i j ps)
+
+pub moved-zero : (ps : List Part) → map (moved 0) ps ≡ ps
+moved-zero [] = refl
+moved-zero (p ∷ ps) =
+    let start : p.start + 0 ≡ p.start = omega arith in
+    let end : p.end + 0 ≡ p.end = omega arith in
+    ap₂ (λ s e. record { start = s; end = e; value = p.value } ∷ map (moved 0) ps) start end
+    ∙ ap (λ ps. p ∷ ps) (moved-zero ps)

@@ -1,0 +1,104 @@
+-- One part is taken, in front or behind.
+use Rattle.std.proofs.Common.{◌≡◌, ℕ, ◌+◌, ◌-◌, ◌≤◌, ◌<◌, false, List, [], ◌∷◌, ◌++◌, length}
+use Rattle.std.proofs.Common.{get_or, take, drop, map, refl, sym, ap, subst, ◌∙◌, arith, take_all}
+use Rattle.std.proofs.Common.{length-drop, drop-drop, length-append, length-take-le}
+use Rattle.std.proofs.lemmas.List.{map-append, take-append-le}
+use Rattle.unix_path.proofs.IdleLemmas.{counted_busy, parts-busy}
+use Rattle.unix_path.proofs.LastLemmas.{last_part, root_alone}
+use Rattle.unix_path.proofs.PieceLemmas.{counted-nil}
+use Rattle.unix_path.proofs.PlaceLemmas.{values-counted}
+use Rattle.unix_path.proofs.SpanLemmas.{parts_end-whole, span-parts, trimmed}
+use Rattle.unix_path.proofs.TrimLemmas.{EndsInPart-drop, EndsInPart-take}
+use Rattle.unix_path.specs.Parts.{Part, RootDir, Value, counted, parts, values}
+use Rattle.unix_path.specs.Rest.{rest, span_of}
+use Rattle.unix_path.specs.Steps.{EndsInPart, IsLastStart, TakesFirst, TakesLast, first_value}
+use Rattle.unix_path.specs.Steps.{is_idle, is_trailing, parts_end}
+
+pub rest-first : (s : List ℕ) (p : Part) (ps : List Part) → parts s ≡ p ∷ ps
+    → rest s 1 0 ≡ span_of s ps
+unfolding rest
+rest-first s p ps e = rw e (ap (span_of s) (take_all (length (p ∷ ps) - 1) ps (omega arith)))
+
+span_busy : (t u : List ℕ) (i : ℕ) → drop i t ≡ u → i ≤ length t
+    → (0 < length u → is_idle u 0 ≡ false) → (0 < length u → parts_end (counted i u) ≡ length t)
+    → span_of t (counted i u) ≡ u
+span_busy t [] i is l busy end = ap (span_of t) (counted-nil i)
+span_busy t (b ∷ u) i is l busy end =
+    let first = counted_busy i (b ∷ u) (omega arith) (busy (omega arith)) in
+    let reaches = end (omega arith) in
+    let n : length (drop i t) ≡ length t - i = length-drop i t in
+    ap (span_of t) first ∙ ap (λ n. take (n - i) (drop i t)) (sym (ap parts_end first) ∙ reaches)
+    ∙ take_all (length t - i) (drop i t) (omega arith) ∙ is
+
+pub takes_first : (t : List ℕ) (e d : ℕ) (v : Value) → EndsInPart t → e ≤ length t
+    → d ≤ length (drop e t)
+    → parts t ≡ record { start = 0; end = e; value = v } ∷ counted e (drop e t)
+    → counted e (drop e t) ≡ counted (e + d) (drop d (drop e t))
+    → (0 < length (drop d (drop e t)) → is_idle (drop d (drop e t)) 0 ≡ false)
+    → TakesFirst t (drop d (drop e t)) v
+unfolding values
+takes_first t e d v ends l m first idle busy =
+    let u = drop d (drop e t) in
+    let all = first ∙ ap (λ ps. record { start = 0; end = e; value = v } ∷ ps) idle in
+    let is : drop (e + d) t ≡ u = sym (drop-drop d e t) in
+    let n = length-drop e t in
+    let in_range : e + d ≤ length t = omega arith in
+    let end : 0 < length u
+    → parts_end (counted (e + d) u) ≡ length t = λ some. end_of (e + d) u some (busy some) e v
+    ∙ sym (ap parts_end all) ∙ parts_end-whole t ends in
+    record {
+      value = ap (map (λ p. p.value)) all
+          ∙ ap (λ vs. v ∷ vs) (values-counted (e + d) u
+          ∙ ap (map (λ p. p.value)) (sym (parts-busy u busy)));
+      rest = rest-first t _ _ all ∙ span_busy t u (e + d) is in_range busy end;
+      ends = subst EndsInPart is (EndsInPart-drop t (e + d) in_range ends);
+    }
+  where
+    end_of : (i : ℕ) (u : List ℕ) → 0 < length u → is_idle u 0 ≡ false → (e : ℕ) (v : Value)
+        → parts_end (counted i u) ≡ parts_end
+        (record { start = 0; end = e; value = v } ∷ counted i u)
+    end_of i u some busy e v = let first = counted_busy i u some busy in rw first refl
+
+pub rest-last : (s : List ℕ) (ps : List Part) (p : Part) → parts s ≡ ps ++ p ∷ []
+    → rest s 0 1 ≡ span_of s ps
+unfolding rest
+rest-last s ps p e =
+    let n : length (ps ++ p ∷ []) - (0 + 1) ≡ length ps =
+    omega (arith, length-append ps (p ∷ [])) in
+    ap (λ all. span_of s (take (length all - (0 + 1)) all)) e
+    ∙ ap (λ k. span_of s (take k (ps ++ p ∷ []))) n
+    ∙ ap (span_of s) (take-append-le (length ps) ps (p ∷ []) (omega arith)
+    ∙ take_all (length ps) ps (omega arith))
+
+takes_last_to : (t : List ℕ) (n at to : ℕ) (v : Value) → n ≤ length t
+    → parts t ≡ parts (take n t) ++ record { start = at; end = to; value = v } ∷ []
+    → EndsInPart (take n t) → TakesLast t (take n t) v
+unfolding values
+takes_last_to t n at to v l all ends =
+    let u = take n t in
+    record {
+      value = ap (map (λ p. p.value)) all
+          ∙ map-append (λ p. p.value) (parts u) (record { start = at; end = to; value = v } ∷ []);
+      rest = rest-last t (parts u) _ all ∙ span-parts t u
+          ∙ ap (λ k. take k t) (parts_end-whole u ends ∙ length-take-le n t l);
+      ends = ends;
+    }
+
+pub takes_last : (t : List ℕ) (start n : ℕ) → IsLastStart t start → start < length t → EndsInPart t
+    → n ≤ start → parts (take n t) ≡ parts (take start t) → (0 < n → is_trailing t (n - 1) ≡ false)
+    → TakesLast t (take n t) (first_value (drop start t))
+takes_last t start n h l ends m same trimmed =
+    let last = last_part t start h l ends in
+    takes_last_to t n last.0 (length t) (first_value (drop start t)) (omega arith)
+    (last.1 ∙ ap (λ ps. ps ++ record
+    { start = last.0; end = length t; value = first_value (drop start t) } ∷ []) (sym same))
+    (EndsInPart-take t n (omega arith) trimmed)
+
+pub takes_root : (t : List ℕ) → 0 < length t → EndsInPart t → get_or t (length t - 1) 0 ≡ 47
+    → TakesLast t (take 0 t) RootDir
+takes_root t l ends e =
+    let none : parts [] ≡ [] = parts-busy [] (λ l. absurd (omega arith)) ∙ counted-nil 0 in
+    takes_last_to t 0 0 (length t) RootDir (omega arith)
+    (root_alone t l ends e
+    ∙ ap (λ ps. ps ++ record { start = 0; end = length t; value = RootDir } ∷ []) (sym none))
+    (λ l. absurd (omega arith))

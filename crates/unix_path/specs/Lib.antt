@@ -1,0 +1,9 @@
+pub mod Parts
+pub mod Rest
+pub mod Names
+pub mod Joins
+pub mod Edits
+pub mod Order
+pub mod Steps
+pub mod Views
+pub mod Cursor

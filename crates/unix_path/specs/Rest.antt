@@ -1,0 +1,17 @@
+-- What is left of a path after some parts in front and some behind (Rust's `Components::as_path`).
+use Rattle.std.specs.Prelude.{ℕ, ◌+◌, ◌-◌, List, [], ◌∷◌, length, take, drop, slice_range}
+use Rattle.unix_path.specs.Parts.{Part, parts}
+
+-- the end of the last of p and ps
+abbrev pub last_end : Part → List Part → ℕ
+last_end p [] = p.end
+last_end p (q ∷ qs) = last_end q qs
+
+-- s from the start of the first of these parts to the end of the last; nothing where there is none
+abbrev pub span_of : List ℕ → List Part → List ℕ
+span_of s [] = []
+span_of s (p ∷ ps) = slice_range s p.start (last_end p ps)
+
+-- what is left of s after its first k and its last m parts
+unfoldable pub rest : List ℕ → ℕ → ℕ → List ℕ
+rest s k m = let all = parts s in span_of s (take (length all - (k + m)) (drop k all))

@@ -1,0 +1,13 @@
+-- The values that components stand for.
+use Rattle.unix_path.specs.Parts.{Value}
+use Rattle.unix_path.specs.Parts as parts
+use Rattle.unix_path.specs.declared.cursor.Component.{Component}
+use Rattle.unix_path.specs.declared.cursor.Component.TheVariants.{RootDir, CurDir, ParentDir}
+use Rattle.unix_path.specs.declared.cursor.Component.TheVariants.{Normal}
+
+-- the value of a component
+abbrev pub value_of : Component → Value
+value_of RootDir = parts.RootDir
+value_of CurDir = parts.CurDir
+value_of ParentDir = parts.ParentDir
+value_of (Normal name) = parts.Normal name.bytes.now
