@@ -37,7 +37,7 @@ counted-dot_slash at s =
 abbrev pub first_piece : List ℕ → List ℕ
 first_piece s = take (position_or_len is_slash s) s
 
--- the pieces_at after the first, from the slash on
+-- the pieces after the first, from the slash on
 abbrev after_cut : List ℕ → List (List ℕ)
 after_cut [] = []
 after_cut (b ∷ s) = slice_split is_slash s
