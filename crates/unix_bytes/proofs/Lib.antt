@@ -1,0 +1,15 @@
+pub mod SequenceLemmas
+pub mod WidthLemmas
+pub mod BeginLemmas
+pub mod BegunLemmas
+pub mod LongestLemmas
+pub mod TurnLemmas
+pub mod FrontLemmas
+pub mod BrokenLemmas
+pub mod TextLemmas
+pub mod LossyLemmas
+pub mod ChunkLemmas
+pub mod SplitLemmas
+pub mod WriteLemmas
+pub mod LawLemmas
+pub mod PartitionLemmas

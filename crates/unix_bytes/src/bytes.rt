@@ -1,7 +1,19 @@
 //! Byte strings as Unix has them in paths and names.
-ghost use Rattle.std.specs.Prelude.{◌≡◌, ◌↔◌, [], length, IsTrue};
+ghost use Rattle.std.specs.Prelude.{◌≡◌, ◌↔◌, ◌++◌, [], length, IsTrue, IfOk, IsOk, OnOk, IsSome};
+ghost use Rattle.std.specs.Prelude.{IfSome};
+ghost use Rattle.std.specs.String.{string_bytes};
+ghost use Rattle.unix_bytes.specs.Utf8.{IsText};
+ghost use Rattle.unix_bytes.specs.Lossy.{lossy_of};
+ghost use Rattle.unix_bytes.specs.Chunks.{shown};
 
+use crate::lossy::{Utf8Lossy, Utf8LossyChunk};
+use std::alloc::{AllocError, Global};
+use std::hash::{Hash, Hasher};
 use std::{fmt, str};
+
+mod owned;
+
+pub use owned::UnixString;
 
 /// A borrowed byte string: a path or a name as Unix keeps it, in whatever encoding.
 ///
@@ -15,6 +27,8 @@ pub struct UnixStr<'a> {
 }
 
 impl<'a> UnixStr<'a> {
+    ghost use Rattle.unix_bytes.specs.Texts.{text_bytes, IsBorrowed};
+
     /// The bytes of the text, in UTF-8. Takes no memory.
     ///
     /// `UnixStr::new("tmp")` has the 3 bytes of `tmp`.
@@ -66,14 +80,113 @@ impl<'a> UnixStr<'a> {
     {
         self.bytes.is_empty()
     }
-}
 
-/// The debug form of the text where the bytes are UTF-8, and otherwise that of the list of bytes.
-impl fmt::Debug for UnixStr<'_> {
-    fn fmt<W: fmt::Write>(&self, f: &mut fmt::Formatter<W>) -> fmt::Result {
+    /// The bytes as text, where they are UTF-8. Takes no memory.
+    ///
+    /// As Rust's `OsStr::to_str`; UTF-8 is that of RFC 3629, section 4.
+    ///
+    /// `UnixStr::from_bytes(b"a\xFF").to_str()` is `None`.
+    #[inline]
+    #[tactic(auto, using(crate::proofs::TextLemmas::text_is_utf8))]
+    pub fn to_str(self) -> Option<&'a str>
+        ensures value { IsSome result ↔ IsText self.entry.bytes.now }
+        ensures bytes { IfSome result (λ text. text.now ≡ self.entry.bytes.now) }
+    {
         match str::from_utf8(self.bytes) {
-            Ok(text) => fmt::Debug::fmt(&text, f),
-            Err(_) => fmt::Debug::fmt(&self.bytes, f),
+            Ok(text) => Some(text),
+            Err(_) => None,
         }
     }
+
+    /// The bytes as text, with U+FFFD for each broken front.
+    ///
+    /// Bytes that are UTF-8 are borrowed, and then no memory is taken. Otherwise a new text is
+    /// made, and the error says that there was no memory for it.
+    /// As Rust's `OsStr::to_string_lossy`.
+    ///
+    /// Of 61 FF it is `a` and U+FFFD.
+    #[tactic(auto, using(crate::proofs::LossyLemmas::text_is_lossy))]
+    pub fn to_string_lossy(self, alloc: Global) -> Result<LossyText<'a>, AllocError>
+        ensures value { IfOk result (λ text. text_bytes text ≡ lossy_of self.entry.bytes.now) }
+        ensures borrowed { IfOk result (λ text. IsBorrowed text ↔ IsText self.entry.bytes.now) }
+        ensures succeeds { IsText self.entry.bytes.now → IsOk result }
+    {
+        match self.to_str() {
+            Some(text) => Ok(LossyText::Borrowed(text)),
+            None => Ok(LossyText::Owned(lossy_string(alloc, self.bytes)?)),
+        }
+    }
+}
+
+/// The length, and then the bytes in one write: names that are fed one after the other don't run
+/// together, and long ones are fed fast. Own.
+impl Hash for UnixStr<'_> {
+    ghost use Rattle.unix_bytes.specs.Hashed.{name_input};
+    ghost use Rattle.std.specs.Cmp.Lexicographic.{bytes_decides};
+    ghost use Rattle.std.proofs.Common.{ap};
+
+    ghost hash_input = { λ s. name_input s.bytes.now };
+
+    ghost respects_eq = { λ x y e. ap name_input ((bytes_decides x.bytes.now y.bytes.now).0 e) };
+
+    fn hash<H: Hasher>(&self, state: &mut H) {
+        state.write_usize(self.bytes.len());
+        state.write(self.bytes);
+    }
+}
+
+/// The debug form of the lossy text, which for UTF-8 is the text itself. Takes no memory. Own.
+impl fmt::Debug for UnixStr<'_> {
+    fn fmt<W: fmt::Write>(&self, f: &mut fmt::Formatter<W>) -> fmt::Result {
+        fmt::Debug::fmt(&Utf8Lossy::from_bytes(self.bytes), f)
+    }
+}
+
+/// Text that was read from bytes: borrowed from them where they are UTF-8, and new otherwise.
+///
+/// It stands for Rust's `Cow<str>`.
+#[derive(Debug, Drop)]
+pub enum LossyText<'a> {
+    /// The bytes themselves.
+    Borrowed(&'a str),
+    /// A text of its own.
+    Owned(String),
+}
+
+impl LossyText<'_> {
+    ghost use Rattle.unix_bytes.specs.Texts.{text_bytes};
+
+    /// The text, wherever it stands. Takes no memory. As a `Cow<str>` is a `str` in Rust.
+    ///
+    /// Of what was read from 61 FF it is `a` and U+FFFD.
+    pub fn as_str(&self) -> &str
+        ensures { result.now ≡ text_bytes self.now }
+    {
+        match self {
+            LossyText::Borrowed(text) => text,
+            LossyText::Owned(text) => text.as_str(),
+        }
+    }
+}
+
+// The lossy text of the bytes, as a text of its own.
+fn lossy_string(alloc: Global, bytes: &[u8]) -> Result<String, AllocError>
+    ensures { IfOk result (λ text. string_bytes text ≡ lossy_of bytes.now) }
+{
+    let mut text = String::with_capacity(alloc, bytes.len())?;
+    for chunk in Utf8Lossy::from_bytes(bytes).chunks() {
+        push_chunk(&mut text, chunk)?;
+    }
+    Ok(text)
+}
+
+// Adds the chunk's text, and U+FFFD for its broken front.
+fn push_chunk(text: &mut String, chunk: Utf8LossyChunk<'_>) -> Result<(), AllocError>
+    ensures { OnOk result (string_bytes text.new ≡ string_bytes text.old ++ shown chunk.entry) }
+{
+    text.push_str(chunk.valid)?;
+    if chunk.broken.is_empty() {
+        return Ok(());
+    }
+    text.push_str("\u{FFFD}")
 }

@@ -2,3 +2,7 @@
 #![tactic(auto)]
 
 pub mod bytes;
+pub mod laws;
+pub mod lossy;
+#[cfg(test)]
+mod tests;

@@ -1,0 +1,91 @@
+-- What begins a sequence: its test, and the bytes by their ranges.
+use Rattle.std.proofs.Common.{◌≡◌, ℕ, ◌≤◌, List, [], ◌∷◌, ◌++◌, length, take, drop, map, Bool, true}
+use Rattle.std.proofs.Common.{false, ⊎_elim, nat_le, refl, sym, ap, ◌∙◌, subst, arith, append_assoc}
+use Rattle.std.proofs.Common.{take-append-drop}
+use Rattle.std.specs.Prelude.{◌||◌}
+use Rattle.std.specs.List.{list_any, list_all}
+use Rattle.std.specs.Int.{is_in_range}
+use Rattle.std.proofs.lemmas.Bool.{and_parts}
+use Rattle.std.proofs.lemmas.Bool.Decides.{nat_tests}
+use Rattle.std.proofs.lemmas.List.{take-take}
+use Rattle.unix_bytes.specs.Utf8.{table, fits, is_sequence, IsSequence, BeginsSequence}
+use Rattle.unix_bytes.specs.Utf8.{begins_sequence}
+use Rattle.unix_bytes.proofs.SequenceLemmas.{or_cases}
+
+or_right : (x y : Bool) → y ≡ true → (x || y) ≡ true
+or_right true y e = refl
+or_right false y e = e
+
+-- what fits a row has a beginning that fits the row's beginning
+fits_front : (row : List (ℕ × ℕ)) (t u : List ℕ)
+    → fits row (t ++ u) ≡ true → fits (take (length t) row) t ≡ true
+fits_front row [] u h = refl
+fits_front [] (b ∷ t) u h = h
+fits_front (r ∷ row) (b ∷ t) u h =
+    let k : (fits row (t ++ u) ≡ true) × (is_in_range r.0 r.1 b ≡ true) = and_parts _ _ h in
+    rw (fits_front row t u k.0, k.1) refl
+
+any_more : {X : Type 0} (p q : X → Bool) (xs : List X)
+    → ((x : X) → p x ≡ true → q x ≡ true) → list_any p xs ≡ true → list_any q xs ≡ true
+any_more p q [] f h = h
+any_more p q (x ∷ xs) f h =
+    ⊎_elim (λ e. rw (f x e) refl)
+    (λ e. or_right (q x) (list_any q xs) (any_more p q xs f e)) (or_cases (p x) (list_any p xs) h)
+
+pub begins_sequence-from : (t : List ℕ) → BeginsSequence t → begins_sequence t ≡ true
+unfolding is_sequence begins_sequence
+begins_sequence-from t (u, h) =
+    any_more (λ row. fits row (t ++ u)) (λ row. fits (take (length t) row) t) table
+    (λ row e. fits_front row t u e) h
+
+-- each range has a byte
+abbrev has_bytes : List (ℕ × ℕ) → Bool
+has_bytes row = list_all (λ r. nat_le r.0 r.1) row
+
+in_least : (lo hi : ℕ) → nat_le lo hi ≡ true → is_in_range lo hi lo ≡ true
+in_least lo hi h = grind (arith, nat_tests)
+
+fits_least : (row : List (ℕ × ℕ)) → has_bytes row ≡ true → fits row (map (λ r. r.0) row) ≡ true
+fits_least [] h = refl
+fits_least (r ∷ row) h =
+    let k : (nat_le r.0 r.1 ≡ true) × (has_bytes row ≡ true) = and_parts _ _ h in
+    rw (fits_least row k.1, in_least r.0 r.1 k.0) refl
+
+-- what fits a row's beginning fits the row once the least bytes of the other ranges follow
+fits_more : (row : List (ℕ × ℕ)) (t : List ℕ) → has_bytes row ≡ true
+    → fits (take (length t) row) t ≡ true
+    → fits row (t ++ map (λ r. r.0) (drop (length t) row)) ≡ true
+fits_more row [] b h = fits_least row b
+fits_more [] (x ∷ t) b h = h
+fits_more (r ∷ row) (x ∷ t) b h =
+    let k : (nat_le r.0 r.1 ≡ true) × (has_bytes row ≡ true) = and_parts _ _ b in
+    let j : (fits (take (length t) row) t ≡ true) × (is_in_range r.0 r.1 x ≡ true) =
+    and_parts _ _ h in
+    rw (fits_more row t k.1 j.0, j.1) refl
+
+some_row : (rows : List (List (ℕ × ℕ))) (t : List ℕ) → list_all has_bytes rows ≡ true
+    → list_any (λ row. fits (take (length t) row) t) rows ≡ true
+    → (u : List ℕ) × (list_any (λ row. fits row (t ++ u)) rows ≡ true)
+some_row [] t b h = ([], h)
+some_row (row ∷ rows) t b h =
+    let k : (has_bytes row ≡ true) × (list_all has_bytes rows ≡ true) = and_parts _ _ b in
+    ⊎_elim (λ e. (map (λ r. r.0) (drop (length t) row), rw (fits_more row t k.0 e) refl))
+    (λ e.
+    let (u, j) = some_row rows t k.1 e in
+    (u, or_right (fits row (t ++ u)) (list_any (λ row. fits row (t ++ u)) rows) j))
+    (or_cases (fits (take (length t) row) t)
+    (list_any (λ row. fits (take (length t) row) t) rows) h)
+
+pub BeginsSequence-from : (t : List ℕ) → begins_sequence t ≡ true → BeginsSequence t
+unfolding is_sequence begins_sequence
+BeginsSequence-from t h = some_row table t refl h
+
+-- a shorter front of what begins a sequence begins one too
+pub BeginsSequence-take : (j k : ℕ) (t : List ℕ) → j ≤ k
+    → BeginsSequence (take k t) → BeginsSequence (take j t)
+BeginsSequence-take j k t le (u, is) =
+    let rest = drop j (take k t) in
+    let e : take j t ++ (rest ++ u) ≡ take k t ++ u =
+    sym (append_assoc (take j t) rest u) ∙ ap (λ p. p ++ rest ++ u) (sym (take-take j k t le))
+    ∙ ap (λ p. p ++ u) (take-append-drop j (take k t)) in
+    (rest ++ u, subst IsSequence (sym e) is)

@@ -1,0 +1,108 @@
+-- How far a sequence has begun, byte by byte.
+use Rattle.std.proofs.Common.{◌≡◌, ℕ, ◌<◌, ◌≤◌, List, [], ◌∷◌, length, take, true, ⊎_elim, arith}
+use Rattle.std.proofs.Common.{refl, slice_index}
+use Rattle.std.proofs.lemmas.Bool.{cases_lt}
+use Rattle.unix_bytes.specs.Utf8.{IsSequence, begins_sequence}
+use Rattle.unix_bytes.specs.Lossy.{HasBegun}
+use Rattle.unix_bytes.proofs.SequenceLemmas.{two_bytes, three_bytes, four_bytes, more_bytes}
+use Rattle.unix_bytes.proofs.SequenceLemmas.{three_is, four_is}
+use Rattle.unix_bytes.proofs.BeginLemmas.{begins_sequence-from, BeginsSequence-from}
+
+-- the ranges of the first two bytes of a sequence
+abbrev Pair : ℕ → ℕ → Type 0
+Pair x y =
+    (0xC2 ≤ x) × (x ≤ 0xF4) × (0x80 ≤ y) × (y ≤ 0xBF) × (x ≡ 0xE0 → 0xA0 ≤ y)
+    × (x ≡ 0xED → y ≤ 0x9F) × (x ≡ 0xF0 → 0x90 ≤ y) × (x ≡ 0xF4 → y ≤ 0x8F)
+
+pair_of : (x y : ℕ) (u : List ℕ) → IsSequence (x ∷ y ∷ u) → Pair x y
+pair_of x y [] h = let p = two_bytes x y h in grind arith
+pair_of x y (a ∷ []) h = let p = three_bytes x y a h in grind arith
+pair_of x y (a ∷ b ∷ []) h = let p = four_bytes x y a b h in grind arith
+pair_of x y (a ∷ b ∷ c ∷ u) h = let p = more_bytes x y a b c u in cc
+
+abbrev IsTail : ℕ → Type 0
+IsTail z = (0x80 ≤ z) × (z ≤ 0xBF)
+
+third_of : (x y z : ℕ) (u : List ℕ) → IsSequence (x ∷ y ∷ z ∷ u) → (0xE0 ≤ x) × IsTail z
+third_of x y z [] h = let p = three_bytes x y z h in (omega arith, (omega arith, omega arith))
+third_of x y z (a ∷ []) h =
+    let p = four_bytes x y z a h in (omega arith, (omega arith, omega arith))
+third_of x y z (a ∷ b ∷ u) h = let p = more_bytes x y z a b u in cc
+
+fourth_of : (x y z w : ℕ) (u : List ℕ) → IsSequence (x ∷ y ∷ z ∷ w ∷ u) → (0xF0 ≤ x) × IsTail w
+fourth_of x y z w [] h = let p = four_bytes x y z w h in (omega arith, (omega arith, omega arith))
+fourth_of x y z w (a ∷ u) h = let p = more_bytes x y z w a u in cc
+
+third_begins : (x y z : ℕ) → begins_sequence (x ∷ y ∷ []) ≡ true → 0xE0 ≤ x → IsTail z
+    → begins_sequence (x ∷ y ∷ z ∷ []) ≡ true
+third_begins x y z b g r =
+    let (u, is) = BeginsSequence-from (x ∷ y ∷ []) b in
+    let h = pair_of x y u is in
+    begins_sequence-from (x ∷ y ∷ z ∷ [])
+    (⊎_elim (λ (l : x < 0xF0). ([], three_is x y z (grind arith)))
+    (λ (k : 0xF0 ≤ x). (0x80 ∷ [], four_is x y z 0x80 (grind arith))) (cases_lt x 0xF0))
+
+fourth_begins : (x y z w : ℕ) → begins_sequence (x ∷ y ∷ z ∷ []) ≡ true → 0xF0 ≤ x → IsTail w
+    → begins_sequence (x ∷ y ∷ z ∷ w ∷ []) ≡ true
+fourth_begins x y z w b g r =
+    let (u, is) = BeginsSequence-from (x ∷ y ∷ z ∷ []) b in
+    let h = pair_of x y (z ∷ u) is in
+    let k = third_of x y z u is in
+    begins_sequence-from (x ∷ y ∷ z ∷ w ∷ []) ([], four_is x y z w (grind arith))
+
+-- the same in a string
+pub begun_two : (s : List ℕ) → 1 < length s
+    → take 2 s ≡ slice_index s 0 ∷ slice_index s 1 ∷ []
+begun_two [] l = absurd (omega arith)
+begun_two (x ∷ []) l = absurd (omega arith)
+begun_two (x ∷ y ∷ s) l = refl
+
+-- three bytes have begun a sequence where two have and the third goes on
+pub begun_three : (s : List ℕ) → HasBegun s 2 → 0xE0 ≤ slice_index s 0 → 2 < length s
+    → IsTail (slice_index s 2) → HasBegun s 3
+begun_three [] h g l t = absurd (omega arith)
+begun_three (x ∷ []) h g l t = absurd (omega arith)
+begun_three (x ∷ y ∷ []) h g l t = absurd (omega arith)
+begun_three (x ∷ y ∷ z ∷ s) h g l t = (omega arith, third_begins x y z h.1 g t)
+
+pub third_begun : (s : List ℕ) → HasBegun s 3
+    → (0xE0 ≤ slice_index s 0) × (2 < length s) × IsTail (slice_index s 2)
+third_begun [] h = absurd (omega arith)
+third_begun (x ∷ []) h = absurd (omega arith)
+third_begun (x ∷ y ∷ []) h = absurd (omega arith)
+third_begun (x ∷ y ∷ z ∷ s) h =
+    let (u, is) = BeginsSequence-from (x ∷ y ∷ z ∷ []) h.1 in
+    let t = third_of x y z u is in
+    (t.0, omega arith, t.1)
+
+pub begun_four : (s : List ℕ) → HasBegun s 3 → 0xF0 ≤ slice_index s 0 → 3 < length s
+    → IsTail (slice_index s 3) → HasBegun s 4
+begun_four [] h g l t = absurd (omega arith)
+begun_four (x ∷ []) h g l t = absurd (omega arith)
+begun_four (x ∷ y ∷ []) h g l t = absurd (omega arith)
+begun_four (x ∷ y ∷ z ∷ []) h g l t = absurd (omega arith)
+begun_four (x ∷ y ∷ z ∷ w ∷ s) h g l t = (omega arith, fourth_begins x y z w h.1 g t)
+
+pub fourth_begun : (s : List ℕ) → HasBegun s 4
+    → (0xF0 ≤ slice_index s 0) × (3 < length s) × IsTail (slice_index s 3)
+fourth_begun [] h = absurd (omega arith)
+fourth_begun (x ∷ []) h = absurd (omega arith)
+fourth_begun (x ∷ y ∷ []) h = absurd (omega arith)
+fourth_begun (x ∷ y ∷ z ∷ []) h = absurd (omega arith)
+fourth_begun (x ∷ y ∷ z ∷ w ∷ s) h =
+    let (u, is) = BeginsSequence-from (x ∷ y ∷ z ∷ w ∷ []) h.1 in
+    let t = fourth_of x y z w u is in
+    (t.0, omega arith, t.1)
+
+-- and five never
+pub fifth_begun : (s : List ℕ) → HasBegun s 5 → ⊥
+fifth_begun [] h = absurd (omega arith)
+fifth_begun (x ∷ []) h = absurd (omega arith)
+fifth_begun (x ∷ y ∷ []) h = absurd (omega arith)
+fifth_begun (x ∷ y ∷ z ∷ []) h = absurd (omega arith)
+fifth_begun (x ∷ y ∷ z ∷ w ∷ []) h = absurd (omega arith)
+fifth_begun (x ∷ y ∷ z ∷ w ∷ v ∷ s) h =
+    let (u, is) = BeginsSequence-from (x ∷ y ∷ z ∷ w ∷ v ∷ []) h.1 in
+    let p = more_bytes x y z w v u in cc
+
+pub ruleset begun = (begun_two, begun_three, third_begun, begun_four, fourth_begun)

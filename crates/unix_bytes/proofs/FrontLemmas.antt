@@ -1,0 +1,147 @@
+-- The front of bytes: a sequence, or else the broken front.
+use Rattle.std.proofs.Common.{◌≡◌, ℕ, suc, ◌-◌, ◌+◌, ◌<◌, ◌≤◌, List, [], ◌∷◌, ◌++◌, length, take}
+use Rattle.std.proofs.Common.{drop, ◌⊎◌, ⊎_elim, inl, inr, refl, sym, ap, ◌∙◌, subst, arith}
+use Rattle.std.proofs.Common.{append_assoc, append-nil, length-append, length-take-le}
+use Rattle.std.proofs.Common.{take-append-drop}
+use Rattle.std.specs.Prelude.{max}
+use Rattle.std.proofs.lemmas.Bool.{cases_lt, cond-true, cond-false}
+use Rattle.std.proofs.lemmas.List.{take_at, take_all}
+use Rattle.std.proofs.Math.Seq.{take-append-add}
+use Rattle.unix_bytes.specs.Utf8.{is_sequence, IsSequence, BeginsSequence, begins_sequence}
+use Rattle.unix_bytes.specs.Lossy.{longest_len, broken_front_of, front_of, HasBegun}
+use Rattle.unix_bytes.proofs.SequenceLemmas.{no_bytes, sequence_len}
+use Rattle.unix_bytes.proofs.WidthLemmas.{prefix_free}
+use Rattle.unix_bytes.proofs.BeginLemmas.{begins_sequence-from, BeginsSequence-from}
+use Rattle.unix_bytes.proofs.BeginLemmas.{BeginsSequence-take}
+use Rattle.unix_bytes.proofs.BegunLemmas.{fifth_begun}
+use Rattle.unix_bytes.proofs.LongestLemmas.{not_true, longest_len-is, longest_len-longest}
+use Rattle.unix_bytes.proofs.LongestLemmas.{longest_len-least}
+
+pub BeginsSequence-sequence : (u : List ℕ) → IsSequence u → BeginsSequence u
+BeginsSequence-sequence u h = ([], subst IsSequence (sym (append-nil u)) h)
+
+-- no front that is longer than a sequence begins one
+none_longer : (u s : List ℕ) (k : ℕ) → IsSequence u → length u < k → k ≤ length (u ++ s)
+    → BeginsSequence (take k (u ++ s)) → ⊥
+none_longer u s k h more within (v, is) =
+    let j = k - length u in
+    let split : k ≡ length u + j = omega arith in
+    let front : take k (u ++ s) ≡ u ++ take j s =
+    ap (λ n. take n (u ++ s)) split ∙ take-append-add u s j in
+    let long : IsSequence (u ++ (take j s ++ v)) =
+    subst IsSequence (ap (λ x. x ++ v) front ∙ append_assoc u (take j s) v) is in
+    let none : take j s ++ v ≡ [] = prefix_free u (take j s ++ v) h long in
+    let some : j ≤ length s = omega (arith, length-append u s) in
+    absurd (omega (arith, ap length none, length-append (take j s) v, length-take-le j s some))
+
+pub longest_len-sequence : (u s : List ℕ) → IsSequence u
+    → longest_len is_sequence (u ++ s) ≡ length u
+longest_len-sequence u s h =
+    longest_len-is is_sequence (u ++ s) (length u) (omega (arith, length-append u s))
+    (inr (ap is_sequence (take_at u s (length u) refl) ∙ h))
+    (λ k p q. not_true (is_sequence (take k (u ++ s)))
+    (λ t. none_longer u s k h p q (BeginsSequence-sequence (take k (u ++ s)) t)))
+
+longest_len-begun : (u s : List ℕ) → IsSequence u
+    → longest_len begins_sequence (u ++ s) ≡ length u
+longest_len-begun u s h =
+    longest_len-is begins_sequence (u ++ s) (length u) (omega (arith, length-append u s))
+    (inr (ap begins_sequence (take_at u s (length u) refl)
+    ∙ begins_sequence-from u (BeginsSequence-sequence u h)))
+    (λ k p q. not_true (begins_sequence (take k (u ++ s)))
+    (λ t. none_longer u s k h p q (BeginsSequence-from (take k (u ++ s)) t)))
+
+pub front_of-sequence : (u s : List ℕ) → IsSequence u → front_of (u ++ s) ≡ u
+unfolding front_of
+front_of-sequence u s h =
+    let e : take (longest_len is_sequence (u ++ s)) (u ++ s) ≡ u =
+    ap (λ k. take k (u ++ s)) (longest_len-sequence u s h) ∙ take_at u s (length u) refl in
+    cond-true _ _ _ (ap is_sequence e ∙ h) ∙ e
+
+broken_front_of-sequence : (u s : List ℕ) → IsSequence u → broken_front_of (u ++ s) ≡ u
+unfolding broken_front_of
+broken_front_of-sequence u s h =
+    let k = sequence_len u h in
+    let e : max 1 (longest_len begins_sequence (u ++ s)) ≡ length u =
+    omega (arith, longest_len-begun u s h) in
+    ap (λ n. take n (u ++ s)) e ∙ take_at u s (length u) refl
+
+pub front_of-none : (s : List ℕ) → longest_len is_sequence s ≡ 0 → front_of s ≡ broken_front_of s
+unfolding front_of
+front_of-none s z =
+    cond-false _ _ _ (ap (λ n. is_sequence (take n s)) z ∙ no_bytes)
+
+-- a sequence in front is also the longest front that begins one
+pub front_of-broken_front_of : (s : List ℕ) → front_of s ≡ broken_front_of s
+front_of-broken_front_of s =
+    let n = longest_len is_sequence s in
+    ⊎_elim (λ z. front_of-none s z)
+    (λ t. subst (λ x. front_of x ≡ broken_front_of x) (take-append-drop n s)
+    (front_of-sequence (take n s) (drop n s) t
+    ∙ sym (broken_front_of-sequence (take n s) (drop n s) t)))
+    (longest_len-longest is_sequence s).passes
+
+-- how many bytes the front has
+pub length-front_of : (s : List ℕ) (n : ℕ) → 1 ≤ n → n ≤ length s → (n ≡ 1) ⊎ HasBegun s n
+    → (HasBegun s (suc n) → ⊥) → length (front_of s) ≡ n
+unfolding broken_front_of
+length-front_of s n some within at above =
+    let l = longest_len begins_sequence s in
+    let h = longest_len-longest begins_sequence s in
+    let w = h.within in
+    let low : l ≤ n = ⊎_elim
+    (λ (more : n < l).
+    ⊎_elim (λ z. omega arith)
+    (λ p. absurd (above (
+      omega arith,
+      begins_sequence-from (take (suc n) s)
+          (BeginsSequence-take (suc n) l s (omega arith) (BeginsSequence-from (take l s) p)),
+    )))
+    h.passes) (λ le. le) (cases_lt n l) in
+    let high : n ≤ max 1 l = ⊎_elim (λ e. omega arith)
+    (λ b. let k = longest_len-least begins_sequence s n within b.1 in omega arith) at in
+    let e : max 1 l ≡ n = omega arith in
+    ap length (front_of-broken_front_of s) ∙ ap (λ k. length (take k s)) e
+    ∙ length-take-le n s within
+
+-- a byte or more, and no more than there are
+pub front_within : (b : ℕ) (bs : List ℕ)
+    → (1 ≤ length (front_of (b ∷ bs))) × (length (front_of (b ∷ bs)) ≤ length (b ∷ bs))
+unfolding broken_front_of
+front_within b bs =
+    let l = longest_len begins_sequence (b ∷ bs) in
+    let w = (longest_len-longest begins_sequence (b ∷ bs)).within in
+    let e : length (front_of (b ∷ bs)) ≡ max 1 l =
+    ap length (front_of-broken_front_of (b ∷ bs))
+    ∙ length-take-le (max 1 l) (b ∷ bs) (omega arith) in
+    (omega (arith, e), omega (arith, e))
+
+pub front_of-nil : front_of [] ≡ []
+unfolding broken_front_of
+front_of-nil = front_of-broken_front_of [] ∙ take_all _ [] (omega arith)
+
+-- the front is a front
+pub front_of-take : (s : List ℕ) → front_of s ≡ take (length (front_of s)) s
+unfolding broken_front_of
+front_of-take [] = front_of-nil ∙ sym (take_all _ [] (omega arith))
+front_of-take (b ∷ bs) =
+    let l = longest_len begins_sequence (b ∷ bs) in
+    let w = (longest_len-longest begins_sequence (b ∷ bs)).within in
+    let e = front_of-broken_front_of (b ∷ bs) in
+    let k = length-take-le (max 1 l) (b ∷ bs) (omega arith) in
+    e ∙ ap (λ n. take n (b ∷ bs)) (sym (ap length e ∙ k))
+
+-- how many bytes the front has, by how far a sequence has begun
+pub one_byte_front : (s : List ℕ) → 0 < length s → (HasBegun s 2 → ⊥) → length (front_of s) ≡ 1
+one_byte_front s some end = length-front_of s 1 (omega arith) (omega arith) (inl refl) end
+
+pub two_byte_front : (s : List ℕ) → HasBegun s 2 → (HasBegun s 3 → ⊥) → length (front_of s) ≡ 2
+two_byte_front s h end = length-front_of s 2 (omega arith) h.0 (inr h) end
+
+pub three_byte_front : (s : List ℕ) → HasBegun s 3 → (HasBegun s 4 → ⊥) → length (front_of s) ≡ 3
+three_byte_front s h end = length-front_of s 3 (omega arith) h.0 (inr h) end
+
+pub four_byte_front : (s : List ℕ) → HasBegun s 4 → length (front_of s) ≡ 4
+four_byte_front s h = length-front_of s 4 (omega arith) h.0 (inr h) (fifth_begun s)
+
+pub ruleset front_lengths = (one_byte_front, two_byte_front, three_byte_front, four_byte_front)

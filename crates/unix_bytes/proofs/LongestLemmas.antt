@@ -1,0 +1,91 @@
+-- The longest front that passes a test.
+use Rattle.std.proofs.Common.{◌≡◌, ℕ, zero, suc, ◌<◌, ◌≤◌, List, ◌++◌, length, take, Bool, true}
+use Rattle.std.proofs.Common.{false, cond, ◌⊎◌, ⊎_elim, inl, inr, refl, sym, ap, ◌∙◌, subst, arith}
+use Rattle.std.proofs.Common.{length-append}
+use Rattle.std.proofs.lemmas.Bool.{cases_lt, cond-true, cond-false, true≢false}
+use Rattle.std.proofs.lemmas.List.{take_at}
+use Rattle.unix_bytes.specs.Lossy.{longest_len_to, longest_len}
+
+pub not_true : (b : Bool) → (b ≡ true → ⊥) → b ≡ false
+not_true true h = absurd (h refl)
+not_true false h = refl
+
+-- nothing between n and m passes, and n passes or is 0
+longest_len_to-is : (m n : ℕ) (test : List ℕ → Bool) (s : List ℕ) → n ≤ m
+    → (n ≡ 0) ⊎ (test (take n s) ≡ true)
+    → ((k : ℕ) → n < k → k ≤ m → test (take k s) ≡ false) → longest_len_to m test s ≡ n
+longest_len_to-is zero n test s le at above = omega arith
+longest_len_to-is (suc m) n test s le at above =
+    ⊎_elim
+    (λ (l : n < suc m).
+    cond-false _ _ _ (above (suc m) l (omega arith))
+    ∙ longest_len_to-is m n test s (omega arith) at (λ k p q. above k p (omega arith)))
+    (λ (g : suc m ≤ n).
+    let e : n ≡ suc m = omega arith in
+    ⊎_elim (λ z. absurd (omega arith))
+    (λ t. cond-true _ _ _ (subst (λ j. test (take j s) ≡ true) e t) ∙ sym e) at)
+    (cases_lt n (suc m))
+
+pub longest_len-is : (test : List ℕ → Bool) (s : List ℕ) (n : ℕ) → n ≤ length s
+    → (n ≡ 0) ⊎ (test (take n s) ≡ true)
+    → ((k : ℕ) → n < k → k ≤ length s → test (take k s) ≡ false) → longest_len test s ≡ n
+unfolding longest_len
+longest_len-is test s n le at above = longest_len_to-is (length s) n test s le at above
+
+-- n bytes are within the m, pass unless they are none, and no more of the m do
+pub record Longest (test : List ℕ → Bool) (s : List ℕ) (n m : ℕ) : Type 0 where
+  pub within : n ≤ m
+  pub passes : (n ≡ 0) ⊎ (test (take n s) ≡ true)
+  pub longest : (k : ℕ) → n < k → k ≤ m → test (take k s) ≡ false
+
+one_more : (m : ℕ) (test : List ℕ → Bool) (s : List ℕ)
+    → Longest test s (longest_len_to m test s) m
+    → Longest test s (longest_len_to (suc m) test s) (suc m)
+one_more m test s h = by (test (take (suc m) s)) refl
+  where
+    by : (b : Bool) → test (take (suc m) s) ≡ b
+        → Longest test s (cond b (suc m) (longest_len_to m test s)) (suc m)
+    by true e = record {
+      within = omega arith;
+      passes = inr e;
+      longest = λ k p q. absurd (omega arith);
+    }
+    by false e = record {
+      within = let w = h.within in omega arith;
+      passes = h.passes;
+      longest = λ k p q. ⊎_elim (λ (l : k < suc m). h.longest k p (omega arith))
+          (λ (g : suc m ≤ k).
+          let same : k ≡ suc m = omega arith in
+          subst (λ j. test (take j s) ≡ false) (sym same) e) (cases_lt k (suc m));
+    }
+
+longest_len_to-longest : (m : ℕ) (test : List ℕ → Bool) (s : List ℕ)
+    → Longest test s (longest_len_to m test s) m
+longest_len_to-longest zero test s = record {
+  within = omega arith;
+  passes = inl refl;
+  longest = λ k p q. absurd (omega arith);
+}
+longest_len_to-longest (suc m) test s = one_more m test s (longest_len_to-longest m test s)
+
+pub longest_len-longest : (test : List ℕ → Bool) (s : List ℕ)
+    → Longest test s (longest_len test s) (length s)
+unfolding longest_len
+longest_len-longest test s = longest_len_to-longest (length s) test s
+
+-- k bytes that pass are no more than the longest
+pub longest_len-least : (test : List ℕ → Bool) (s : List ℕ) (k : ℕ) → k ≤ length s
+    → test (take k s) ≡ true → k ≤ longest_len test s
+longest_len-least test s k within t =
+    ⊎_elim
+    (λ (more : longest_len test s < k).
+    absurd (true≢false (sym t ∙ (longest_len-longest test s).longest k more within)))
+    (λ le. le) (cases_lt (longest_len test s) k)
+
+-- nor is a front that passes
+pub longest_len-front : (test : List ℕ → Bool) (s u v : List ℕ) → test u ≡ true → s ≡ u ++ v
+    → length u ≤ longest_len test s
+longest_len-front test s u v t e =
+    let at : take (length u) s ≡ u = ap (take (length u)) e ∙ take_at u v (length u) refl in
+    longest_len-least test s (length u) (omega (arith, ap length e, length-append u v))
+    (ap test at ∙ t)

@@ -1,0 +1,161 @@
+-- Bytes cut into fronts, the test of text, and the lossy text.
+use Rattle.std.proofs.Common.{◌≡◌, ℕ, zero, suc, ◌≤◌, ◌<◌, List, [], ◌∷◌, ◌++◌, length, take, drop}
+use Rattle.std.proofs.Common.{true, false, refl, sym, ap, ap₂, ◌∙◌, arith, le_refl, append_assoc}
+use Rattle.std.proofs.Common.{length-drop, length-take-le, take-append-drop, append-nil}
+use Rattle.std.specs.List.{concat, flat_map, list_all}
+use Rattle.std.specs.Str.{IsUtf8}
+use Rattle.std.proofs.lemmas.Bool.{and_parts, cond-true, cond-false}
+use Rattle.std.proofs.lemmas.List.{drop_at}
+use Rattle.std.proofs.lemmas.List.Concat.{flat_map-append}
+use Rattle.std.proofs.lemmas.List.Sums.{AllPass-from_list_all, list_all-from_AllPass}
+use Rattle.unix_bytes.specs.Utf8.{is_sequence, IsSequence, IsText}
+use Rattle.unix_bytes.specs.Lossy.{longest_len, broken_front_of, front_of, fronts_of, replacement}
+use Rattle.unix_bytes.specs.Lossy.{shown_front, lossy_of, is_text}
+use Rattle.unix_bytes.proofs.SequenceLemmas.{no_bytes, sequence_len}
+use Rattle.unix_bytes.proofs.TextLemmas.{IsText-from_IsUtf8, IsUtf8-from_IsText}
+use Rattle.unix_bytes.proofs.LongestLemmas.{not_true, longest_len-front}
+use Rattle.unix_bytes.proofs.TurnLemmas.{in_turn-some}
+use Rattle.unix_bytes.proofs.FrontLemmas.{front_of-sequence, front_of-none, front_of-take}
+use Rattle.unix_bytes.proofs.FrontLemmas.{front_within}
+
+fronts_of-nil : fronts_of [] ≡ []
+unfolding fronts_of
+fronts_of-nil = refl
+
+fronts_of-some : (b : ℕ) (bs : List ℕ) → fronts_of (b ∷ bs)
+    ≡ front_of (b ∷ bs) ∷ fronts_of (drop (length (front_of (b ∷ bs))) (b ∷ bs))
+unfolding fronts_of
+fronts_of-some b bs = in_turn-some front_of length (b ∷ bs) (omega arith) (front_within b bs).0
+
+fronts_of-sequence : (u s : List ℕ) → IsSequence u → fronts_of (u ++ s) ≡ u ∷ fronts_of s
+fronts_of-sequence [] s h = let k = no_bytes in cc
+fronts_of-sequence (b ∷ u) s h =
+    let e = front_of-sequence (b ∷ u) s h in
+    fronts_of-some b (u ++ s)
+    ∙ ap (λ f. f ∷ fronts_of (drop (length f) (b ∷ u ++ s))) e
+    ∙ ap (λ t. (b ∷ u) ∷ fronts_of t) (drop_at (b ∷ u) s (length (b ∷ u)) refl)
+
+fronts_of-concat : (us : List (List ℕ)) (s : List ℕ) → list_all is_sequence us ≡ true
+    → fronts_of (concat us ++ s) ≡ us ++ fronts_of s
+fronts_of-concat [] s h = refl
+fronts_of-concat (u ∷ us) s h =
+    let k : IsSequence u × (list_all is_sequence us ≡ true) = and_parts _ _ h in
+    ap fronts_of (append_assoc u (concat us) s) ∙ fronts_of-sequence u (concat us ++ s) k.0
+    ∙ ap (λ fs. u ∷ fs) (fronts_of-concat us s k.1)
+
+pub fewer : (n k b : ℕ) (bs : List ℕ) → 1 ≤ k → length (b ∷ bs) ≤ suc n
+    → length (drop k (b ∷ bs)) ≤ n
+fewer n k b bs some le = omega (arith, length-drop k (b ∷ bs))
+
+concat-fronts_within : (n : ℕ) (s : List ℕ) → length s ≤ n → concat (fronts_of s) ≡ s
+concat-fronts_within n [] le = ap concat fronts_of-nil
+concat-fronts_within zero (b ∷ bs) le = absurd (omega arith)
+concat-fronts_within (suc n) (b ∷ bs) le =
+    let s = b ∷ bs in
+    let k = length (front_of s) in
+    ap concat (fronts_of-some b bs)
+    ∙ ap₂ (λ f t. f ++ t) (front_of-take s)
+    (concat-fronts_within n (drop k s) (fewer n k b bs (front_within b bs).0 le))
+    ∙ take-append-drop k s
+
+-- the fronts partition the bytes
+pub concat-fronts_of : (s : List ℕ) → concat (fronts_of s) ≡ s
+concat-fronts_of s = concat-fronts_within (length s) s (le_refl (length s))
+
+pub IsText-from_is_text : (s : List ℕ) → is_text s ≡ true → IsText s
+unfolding is_text
+IsText-from_is_text s h =
+    (fronts_of s, AllPass-from_list_all is_sequence (fronts_of s) h, concat-fronts_of s)
+
+-- text in front is cut into its sequences
+fronts_of-text : (t s : List ℕ) → IsText t → (us : List (List ℕ))
+    × (list_all is_sequence us ≡ true) × (concat us ≡ t) × (fronts_of (t ++ s) ≡ us ++ fronts_of s)
+fronts_of-text t s (us, h, e) =
+    let all = list_all-from_AllPass is_sequence us h in
+    (us, all, e, ap (λ x. fronts_of (x ++ s)) (sym e) ∙ fronts_of-concat us s all)
+
+pub is_text-from_IsText : (s : List ℕ) → IsText s → is_text s ≡ true
+unfolding is_text
+is_text-from_IsText s t =
+    let (us, all, e, cut) = fronts_of-text s [] t in
+    let same : fronts_of s ≡ us =
+    ap fronts_of (sym (append-nil s)) ∙ cut ∙ ap (λ fs. us ++ fs) fronts_of-nil ∙ append-nil us in
+    ap (list_all is_sequence) same ∙ all
+
+shown-sequences : (us : List (List ℕ)) → list_all is_sequence us ≡ true
+    → flat_map shown_front us ≡ concat us
+shown-sequences [] h = refl
+shown-sequences (u ∷ us) h =
+    let k : IsSequence u × (list_all is_sequence us ≡ true) = and_parts _ _ h in
+    ap₂ (λ f t. f ++ t) (cond-true _ _ _ k.0) (shown-sequences us k.1)
+
+pub lossy_of-nil : lossy_of [] ≡ []
+unfolding lossy_of
+lossy_of-nil = ap (flat_map shown_front) fronts_of-nil
+
+-- text in front is shown as it is
+pub lossy_of-append : (t s : List ℕ) → IsText t → lossy_of (t ++ s) ≡ t ++ lossy_of s
+unfolding lossy_of
+lossy_of-append t s h =
+    let (us, all, e, cut) = fronts_of-text t s h in
+    ap (flat_map shown_front) cut ∙ flat_map-append shown_front us (fronts_of s)
+    ∙ ap (λ x. x ++ flat_map shown_front (fronts_of s)) (shown-sequences us all ∙ e)
+
+pub lossy_of-text : (s : List ℕ) → IsText s → lossy_of s ≡ s
+lossy_of-text s t =
+    ap lossy_of (sym (append-nil s)) ∙ lossy_of-append s [] t
+    ∙ ap (λ x. s ++ x) lossy_of-nil ∙ append-nil s
+
+-- where no sequence stands in front, no front is one
+pub no_sequence : (s u v : List ℕ) → longest_len is_sequence s ≡ 0 → s ≡ u ++ v → IsSequence u → ⊥
+no_sequence s u v z e h =
+    let some = sequence_len u h in
+    let few = longest_len-front is_sequence s u v h e in
+    absurd (omega arith)
+
+pub is_sequence-front_of : (s : List ℕ) → longest_len is_sequence s ≡ 0
+    → is_sequence (front_of s) ≡ false
+is_sequence-front_of s z =
+    let k = length (front_of s) in
+    let e : s ≡ front_of s ++ drop k s =
+    sym (take-append-drop k s) ∙ ap (λ f. f ++ drop k s) (sym (front_of-take s)) in
+    not_true (is_sequence (front_of s)) (no_sequence s (front_of s) (drop k s) z e)
+
+pub lossy_of-none : (b : ℕ) (bs : List ℕ) → longest_len is_sequence (b ∷ bs) ≡ 0
+    → lossy_of (b ∷ bs)
+    ≡ replacement ++ lossy_of (drop (length (broken_front_of (b ∷ bs))) (b ∷ bs))
+unfolding lossy_of
+lossy_of-none b bs z =
+    let s = b ∷ bs in
+    ap (flat_map shown_front) (fronts_of-some b bs)
+    ∙ ap (λ f. f ++ flat_map shown_front (fronts_of (drop (length (front_of s)) s)))
+    (cond-false _ _ _ (is_sequence-front_of s z))
+    ∙ ap (λ f. replacement ++ flat_map shown_front (fronts_of (drop (length f) s)))
+    (front_of-none s z)
+
+-- where no sequence stands in front, no text does
+pub first_sequence : (s : List ℕ) (k : ℕ) → IsText (take k s) → 0 < k → k ≤ length s
+    → longest_len is_sequence s ≡ 0 → ⊥
+first_sequence s k (us, h, e) some within z =
+    first_of us (list_all-from_AllPass is_sequence us h) e
+  where
+    first_of : (vs : List (List ℕ)) → list_all is_sequence vs ≡ true → concat vs ≡ take k s → ⊥
+    first_of [] all f = absurd (omega (arith, ap length f, length-take-le k s within))
+    first_of (v ∷ vs) all f =
+        let front : s ≡ v ++ (concat vs ++ drop k s) =
+        sym (take-append-drop k s) ∙ ap (λ t. t ++ drop k s) (sym f)
+        ∙ append_assoc v (concat vs) (drop k s) in
+        no_sequence s v (concat vs ++ drop k s) z front (and_parts _ _ all).0
+
+-- the same by the library's UTF-8
+pub lossy_of-utf8 : (s : List ℕ) → IsUtf8 s → lossy_of s ≡ s
+lossy_of-utf8 s u = lossy_of-text s (IsText-from_IsUtf8 s u)
+
+pub is_text-utf8 : (s : List ℕ) → IsUtf8 s → is_text s ≡ true
+is_text-utf8 s u = is_text-from_IsText s (IsText-from_IsUtf8 s u)
+
+pub is_text-broken : (s : List ℕ) → (IsUtf8 s → ⊥) → is_text s ≡ false
+is_text-broken s broken =
+    not_true (is_text s) (λ t. broken (IsUtf8-from_IsText s (IsText-from_is_text s t)))
+
+pub ruleset text_is_lossy = (lossy_of-text)

@@ -1,0 +1,94 @@
+-- Well-formed sequences, by the ranges of their bytes.
+use Rattle.std.proofs.Common.{◌≡◌, ℕ, ◌≤◌, List, [], ◌∷◌, length, Bool, true, false, ◌&&◌, ◌⊎◌}
+use Rattle.std.proofs.Common.{⊎_elim, inl, inr, refl, arith}
+use Rattle.std.specs.Prelude.{◌||◌}
+use Rattle.std.specs.Int.{is_in_range}
+use Rattle.std.proofs.lemmas.Bool.Decides.{nat_tests}
+use Rattle.unix_bytes.specs.Utf8.{is_sequence, IsSequence}
+
+pub or_cases : (x y : Bool) → (x || y) ≡ true → (x ≡ true) ⊎ (y ≡ true)
+or_cases true y e = inl refl
+or_cases false y e = inr e
+
+pub one_byte : (a : ℕ) → IsSequence (a ∷ []) → a ≤ 0x7F
+unfolding is_sequence
+one_byte a h = grind (arith, nat_tests)
+
+pub one_is : (a : ℕ) → a ≤ 0x7F → IsSequence (a ∷ [])
+unfolding is_sequence
+one_is a h = grind (arith, nat_tests)
+
+abbrev pub Two : ℕ → ℕ → Type 0
+Two a b = (0xC2 ≤ a) × (a ≤ 0xDF) × (0x80 ≤ b) × (b ≤ 0xBF)
+
+pub two_bytes : (a b : ℕ) → IsSequence (a ∷ b ∷ []) → Two a b
+unfolding is_sequence
+two_bytes a b h = grind (arith, nat_tests)
+
+pub two_is : (a b : ℕ) → Two a b → IsSequence (a ∷ b ∷ [])
+unfolding is_sequence
+two_is a b h = grind (arith, nat_tests)
+
+abbrev pub Three : ℕ → ℕ → ℕ → Type 0
+Three a b c =
+    (0xE0 ≤ a) × (a ≤ 0xEF) × (0x80 ≤ b) × (b ≤ 0xBF) × (0x80 ≤ c) × (c ≤ 0xBF)
+    × (a ≡ 0xE0 → 0xA0 ≤ b) × (a ≡ 0xED → b ≤ 0x9F)
+
+in_three : (al ah bl bh a b c : ℕ)
+    → (is_in_range 0x80 0xBF c && is_in_range bl bh b && is_in_range al ah a) ≡ true
+    → (al ≤ a) × (a ≤ ah) × (bl ≤ b) × (b ≤ bh) × (0x80 ≤ c) × (c ≤ 0xBF)
+in_three al ah bl bh a b c h = grind (arith, nat_tests)
+
+pub three_bytes : (a b c : ℕ) → IsSequence (a ∷ b ∷ c ∷ []) → Three a b c
+unfolding is_sequence
+three_bytes a b c h =
+    ⊎_elim (λ r. let k = in_three 0xE0 0xE0 0xA0 0xBF a b c r in grind arith)
+    (λ h. ⊎_elim (λ r. let k = in_three 0xE1 0xEC 0x80 0xBF a b c r in grind arith)
+    (λ h. ⊎_elim (λ r. let k = in_three 0xED 0xED 0x80 0x9F a b c r in grind arith)
+    (λ h. ⊎_elim (λ r. let k = in_three 0xEE 0xEF 0x80 0xBF a b c r in grind arith)
+    (λ h. cc) (or_cases _ _ h)) (or_cases _ _ h)) (or_cases _ _ h)) (or_cases _ _ h)
+
+pub three_is : (a b c : ℕ) → Three a b c → IsSequence (a ∷ b ∷ c ∷ [])
+unfolding is_sequence
+three_is a b c h = grind (arith, nat_tests)
+
+abbrev pub Four : ℕ → ℕ → ℕ → ℕ → Type 0
+Four a b c d =
+    (0xF0 ≤ a) × (a ≤ 0xF4) × (0x80 ≤ b) × (b ≤ 0xBF) × (0x80 ≤ c) × (c ≤ 0xBF)
+    × (0x80 ≤ d) × (d ≤ 0xBF) × (a ≡ 0xF0 → 0x90 ≤ b) × (a ≡ 0xF4 → b ≤ 0x8F)
+
+in_four : (al ah bl bh a b c d : ℕ)
+    → (is_in_range 0x80 0xBF d && is_in_range 0x80 0xBF c
+    && is_in_range bl bh b && is_in_range al ah a) ≡ true
+    → (al ≤ a) × (a ≤ ah) × (bl ≤ b) × (b ≤ bh) × (0x80 ≤ c) × (c ≤ 0xBF)
+    × (0x80 ≤ d) × (d ≤ 0xBF)
+in_four al ah bl bh a b c d h = grind (arith, nat_tests)
+
+pub four_bytes : (a b c d : ℕ) → IsSequence (a ∷ b ∷ c ∷ d ∷ []) → Four a b c d
+unfolding is_sequence
+four_bytes a b c d h =
+    ⊎_elim (λ r. let k = in_four 0xF0 0xF0 0x90 0xBF a b c d r in grind arith)
+    (λ h. ⊎_elim (λ r. let k = in_four 0xF1 0xF3 0x80 0xBF a b c d r in grind arith)
+    (λ h. ⊎_elim (λ r. let k = in_four 0xF4 0xF4 0x80 0x8F a b c d r in grind arith)
+    (λ h. cc) (or_cases _ _ h)) (or_cases _ _ h)) (or_cases _ _ h)
+
+pub four_is : (a b c d : ℕ) → Four a b c d → IsSequence (a ∷ b ∷ c ∷ d ∷ [])
+unfolding is_sequence
+four_is a b c d h = grind (arith, nat_tests)
+
+pub no_bytes : is_sequence [] ≡ false
+unfolding is_sequence
+no_bytes = refl
+
+pub more_bytes : (a b c d e : ℕ) (u : List ℕ)
+    → is_sequence (a ∷ b ∷ c ∷ d ∷ e ∷ u) ≡ false
+unfolding is_sequence
+more_bytes a b c d e u = refl
+
+pub sequence_len : (u : List ℕ) → IsSequence u → (1 ≤ length u) × (length u ≤ 4)
+sequence_len [] h = let k = no_bytes in cc
+sequence_len (a ∷ []) h = (omega arith, omega arith)
+sequence_len (a ∷ b ∷ []) h = (omega arith, omega arith)
+sequence_len (a ∷ b ∷ c ∷ []) h = (omega arith, omega arith)
+sequence_len (a ∷ b ∷ c ∷ d ∷ []) h = (omega arith, omega arith)
+sequence_len (a ∷ b ∷ c ∷ d ∷ e ∷ u) h = let k = more_bytes a b c d e u in cc

@@ -1,0 +1,87 @@
+-- How many bytes a sequence has, by its first; so no sequence begins another.
+use Rattle.std.proofs.Common.{◌≡◌, ℕ, suc, ◌<◌, ◌≤◌, List, [], ◌∷◌, ◌++◌, length, ⊎_elim, refl, sym}
+use Rattle.std.proofs.Common.{◌∙◌, arith, length-append}
+use Rattle.std.proofs.lemmas.Bool.{cases_lt}
+use Rattle.unix_bytes.specs.Utf8.{IsSequence, BeginsSequence}
+use Rattle.unix_bytes.proofs.SequenceLemmas.{one_byte, two_bytes, three_bytes, four_bytes, one_is}
+use Rattle.unix_bytes.proofs.SequenceLemmas.{two_is, three_is, four_is, no_bytes, more_bytes}
+
+-- n is the length that the first byte b says
+pub record HasWidth (b n : ℕ) : Type 0 where
+  pub one : b < 0xC2 → (b ≤ 0x7F) × (n ≡ 1)
+  pub two : 0xC2 ≤ b → b ≤ 0xDF → n ≡ 2
+  pub three : 0xE0 ≤ b → b ≤ 0xEF → n ≡ 3
+  pub four : 0xF0 ≤ b → (b ≤ 0xF4) × (n ≡ 4)
+
+pub has_width : (b : ℕ) (u : List ℕ) → IsSequence (b ∷ u) → HasWidth b (suc (length u))
+has_width b [] h =
+    let p = one_byte b h in
+    record {
+      one = λ l. (omega arith, omega arith);
+      two = λ l g. absurd (omega arith);
+      three = λ l g. absurd (omega arith);
+      four = λ l. absurd (omega arith);
+    }
+has_width b (x ∷ []) h =
+    let p = two_bytes b x h in
+    record {
+      one = λ l. absurd (omega arith);
+      two = λ l g. omega arith;
+      three = λ l g. absurd (omega arith);
+      four = λ l. absurd (omega arith);
+    }
+has_width b (x ∷ y ∷ []) h =
+    let p = three_bytes b x y h in
+    record {
+      one = λ l. absurd (omega arith);
+      two = λ l g. absurd (omega arith);
+      three = λ l g. omega arith;
+      four = λ l. absurd (omega arith);
+    }
+has_width b (x ∷ y ∷ z ∷ []) h =
+    let p = four_bytes b x y z h in
+    record {
+      one = λ l. absurd (omega arith);
+      two = λ l g. absurd (omega arith);
+      three = λ l g. absurd (omega arith);
+      four = λ l. (omega arith, omega arith);
+    }
+has_width b (x ∷ y ∷ z ∷ w ∷ u) h = let p = more_bytes b x y z w u in cc
+
+-- the first byte alone says the length
+same_width : (b n m : ℕ) → HasWidth b n → HasWidth b m → n ≡ m
+same_width b n m p q =
+    ⊎_elim (λ (l : b < 0xC2). (p.one l).1 ∙ sym (q.one l).1)
+    (λ g. ⊎_elim (λ (l : b < 0xE0). p.two g (omega arith) ∙ sym (q.two g (omega arith)))
+    (λ g. ⊎_elim (λ (l : b < 0xF0). p.three g (omega arith) ∙ sym (q.three g (omega arith)))
+    (λ g. (p.four g).1 ∙ sym (q.four g).1)
+    (cases_lt b 0xF0)) (cases_lt b 0xE0)) (cases_lt b 0xC2)
+
+none_more : (u v : List ℕ) → length (u ++ v) ≡ length u → v ≡ []
+none_more u [] e = refl
+none_more u (x ∷ v) e = absurd (omega (arith, length-append u (x ∷ v)))
+
+-- no sequence begins another
+pub prefix_free : (u v : List ℕ) → IsSequence u → IsSequence (u ++ v) → v ≡ []
+prefix_free [] v h k = let e = no_bytes in cc
+prefix_free (b ∷ u) v h k =
+    none_more (b ∷ u) v
+    (same_width b (length (b ∷ u ++ v)) (length (b ∷ u)) (has_width b (u ++ v) k) (has_width b u h))
+
+pub begins_one : (b : ℕ) → b ≤ 0x7F → BeginsSequence (b ∷ [])
+begins_one b h = ([], one_is b h)
+
+pub begins_two : (b : ℕ) → 0xC2 ≤ b → b ≤ 0xDF → BeginsSequence (b ∷ [])
+begins_two b h k = (0x80 ∷ [], two_is b 0x80 (h, k, omega arith, omega arith))
+
+pub begins_three : (b : ℕ) → 0xE0 ≤ b → b ≤ 0xEF → BeginsSequence (b ∷ [])
+begins_three b h k =
+    ⊎_elim (λ (l : b < 0xE1). (0xA0 ∷ 0x80 ∷ [], three_is b 0xA0 0x80 (grind arith)))
+    (λ (g : 0xE1 ≤ b). (0x80 ∷ 0x80 ∷ [], three_is b 0x80 0x80 (grind arith)))
+    (cases_lt b 0xE1)
+
+pub begins_four : (b : ℕ) → 0xF0 ≤ b → b ≤ 0xF4 → BeginsSequence (b ∷ [])
+begins_four b h k =
+    ⊎_elim (λ (l : b < 0xF1). (0x90 ∷ 0x80 ∷ 0x80 ∷ [], four_is b 0x90 0x80 0x80 (grind arith)))
+    (λ (g : 0xF1 ≤ b). (0x80 ∷ 0x80 ∷ 0x80 ∷ [], four_is b 0x80 0x80 0x80 (grind arith)))
+    (cases_lt b 0xF1)

@@ -1,0 +1,5 @@
+use Rattle.unix_bytes.proofs.LawLemmas.{lossy_is_text}
+use Rattle.unix_bytes.proofs.laws.lossy_is_text.Goals as goal
+
+pub returns : goal.returns
+returns c = lossy_is_text

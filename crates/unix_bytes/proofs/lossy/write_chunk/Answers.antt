@@ -1,0 +1,15 @@
+use Rattle.std.proofs.Common.{◌++◌, List, ℕ, true, ap, sym, refl, ◌∙◌}
+use Rattle.std.proofs.lemmas.Bool.{cond-false}
+use Rattle.unix_bytes.specs.Lossy.{replacement}
+use Rattle.unix_bytes.proofs.WriteLemmas.{styled_append, styled_same}
+use Rattle.unix_bytes.proofs.lossy.write_chunk.Goals as goal
+
+pub returns-clause-styled : goal.returns-clause-styled
+returns-clause-styled g c = λ p q.
+    let took = g.W.Write.write_str_gives in
+    let valid : List ℕ = c.args.chunk.valid.now in
+    let a = c.in_ok-write_str.ensures.styled p (refl {a = true}) in
+    let b = c.write_str-2.ensures.styled a.flush q in
+    let some = sym c.is_empty.ensures ∙ c.if-is_empty.false in
+    styled_same took _ _ _ _ (ap (λ x. valid ++ x) (sym (cond-false _ _ _ some)))
+    (styled_append took _ valid _ replacement _ a b)

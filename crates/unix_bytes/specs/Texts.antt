@@ -1,0 +1,15 @@
+-- What a lossy text holds.
+use Rattle.std.specs.Prelude.{ℕ, List, ⊤}
+use Rattle.std.specs.String.{string_bytes}
+use Rattle.unix_bytes.specs.declared.bytes.LossyText.{LossyText}
+use Rattle.unix_bytes.specs.declared.bytes.LossyText.TheVariants.{Borrowed, Owned}
+
+-- its bytes
+abbrev pub text_bytes : LossyText → List ℕ
+text_bytes (Borrowed t) = t.now
+text_bytes (Owned t) = string_bytes t
+
+-- it borrows the bytes that it was read from
+abbrev pub IsBorrowed : LossyText → Type 0
+IsBorrowed (Borrowed t) = ⊤
+IsBorrowed (Owned t) = ⊥

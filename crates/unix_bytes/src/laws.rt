@@ -1,0 +1,74 @@
+//! Laws of text and of lossy text: each function does nothing, and its contract is the law.
+ghost use Rattle.unix_bytes.specs.Laws.{TextIsUtf8, SequencesStandAlone, BeginningIsTested};
+ghost use Rattle.unix_bytes.specs.Laws.{TextIsTested, BrokenBegins, BrokenIsLongest, BrokenIsFront};
+ghost use Rattle.unix_bytes.specs.Laws.{BrokenIsShort, FrontsPartition, LossyOfSequence};
+ghost use Rattle.unix_bytes.specs.Laws.{LossyOfBroken, LossyOfText, LossyIsText, ChunksOfNothing};
+ghost use Rattle.unix_bytes.specs.Laws.{ChunksOfSome, ValidIsText, ValidIsLongest, ChunksPartition};
+ghost use Rattle.unix_bytes.specs.Laws.{ChunksAreShort, WholeChunkIsLast, ChunksShowLossy};
+
+/// Text by the table of RFC 3629, section 4, is what the library means by UTF-8.
+pub fn text_is_utf8()
+    ensures { TextIsUtf8 }
+{}
+
+/// No well-formed sequence begins another.
+pub fn sequences_stand_alone()
+    ensures { SequencesStandAlone }
+{}
+
+/// The tests that the definitions use say what they are named for.
+pub fn tests_are_right()
+    ensures beginning { BeginningIsTested }
+    ensures text { TextIsTested }
+{}
+
+/// What is broken in front is the longest front that begins some sequence, or one byte: three
+/// bytes at most, where no sequence stands there.
+pub fn broken_front()
+    ensures front { BrokenIsFront }
+    ensures begins { BrokenBegins }
+    ensures longest { BrokenIsLongest }
+    ensures short { BrokenIsShort }
+{}
+
+/// The lossy text copies sequences, and has U+FFFD for each broken front.
+pub fn lossy_in_turn()
+    ensures partition { FrontsPartition }
+    ensures sequence { LossyOfSequence }
+    ensures broken { LossyOfBroken }
+{}
+
+/// Text is its own lossy text.
+pub fn lossy_of_text()
+    ensures { LossyOfText }
+{}
+
+/// The lossy text of any bytes is text.
+pub fn lossy_is_text()
+    ensures { LossyIsText }
+{}
+
+/// The chunks of bytes are the first chunk, and then those of what follows it.
+pub fn chunks_in_turn()
+    ensures nothing { ChunksOfNothing }
+    ensures some { ChunksOfSome }
+{}
+
+/// A chunk's text is the longest front that is text.
+pub fn valid_is_longest()
+    ensures text { ValidIsText }
+    ensures longest { ValidIsLongest }
+{}
+
+/// The chunks partition the bytes; at most three bytes of each are broken, and none only in the
+/// last.
+pub fn chunks_partition()
+    ensures partition { ChunksPartition }
+    ensures short { ChunksAreShort }
+    ensures last { WholeChunkIsLast }
+{}
+
+/// The chunks, each shown by itself, show the lossy text.
+pub fn chunks_show_lossy()
+    ensures { ChunksShowLossy }
+{}

@@ -1,0 +1,4 @@
+//! Tables, worked rows, printed text and failing writers.
+mod bytes;
+mod chunks;
+mod formats;
