@@ -12,3 +12,15 @@ pub mod SplitLemmas
 pub mod MiddleLemmas
 pub mod RestLemmas
 pub mod CursorLemmas
+pub mod JoinLemmas
+pub mod EndLemmas
+pub mod ParentLemmas
+pub mod NameLemmas
+pub mod ComponentLemmas
+pub mod StemLemmas
+pub mod RootLemmas
+pub mod AncestorLemmas
+pub mod PrefixLemmas
+pub mod SuffixLemmas
+pub mod GapLemmas
+pub mod EditLemmas

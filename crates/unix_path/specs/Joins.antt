@@ -1,5 +1,5 @@
 -- One path joined to another (Rust's `Path::join`).
-use Rattle.std.specs.Prelude.{ℕ, Bool, true, false, List, [], ◌∷◌, ◌++◌, if◌then◌else◌}
+use Rattle.std.specs.Prelude.{ℕ, Bool, true, List, [], ◌∷◌, ◌++◌, if◌then◌else◌}
 use Rattle.unix_path.specs.Parts.{slash, is_slash, is_rooted}
 
 -- there is no byte, or the last is a slash

@@ -3,7 +3,13 @@ pub mod Rest
 pub mod Names
 pub mod Joins
 pub mod Edits
+pub mod Buffers
+pub mod Kept
+pub mod Json
 pub mod Order
 pub mod Steps
 pub mod Views
 pub mod Cursor
+pub mod Ancestors
+pub mod Hashed
+pub mod OrderLaws

@@ -1,10 +1,10 @@
 -- The parent and the ancestors of a path, and its file name (Rust's `Path::parent`,
 -- `Path::ancestors`, `Path::file_name`, `Path::file_stem`, `Path::extension`).
-use Rattle.std.specs.Prelude.{◌≡◌, ℕ, ◌+◌, ◌-◌, nat_lt, Bool, ◌==◌, not, List, [], ◌∷◌, ◌++◌}
+use Rattle.std.specs.Prelude.{◌≡◌, ℕ, ◌-◌, nat_lt, Bool, ◌==◌, not, List, [], ◌∷◌, ◌++◌}
 use Rattle.std.specs.Prelude.{length, take, drop, map, Option, Some, None, option_map}
 use Rattle.std.specs.Prelude.{if◌then◌else◌}
 use Rattle.std.specs.List.{suffix_len, range_with_len}
-use Rattle.unix_path.specs.Parts.{Value, RootDir, Normal, Part, parts, values, is_rooted}
+use Rattle.unix_path.specs.Parts.{Value, RootDir, Normal, values, is_rooted}
 use Rattle.unix_path.specs.Rest.{rest}
 
 -- the last, if there is one

@@ -9,7 +9,10 @@ ghost use Rattle.unix_path.specs.Steps.{IsLastStart};
 ghost use Rattle.unix_path.specs.Steps.{TakesFirst, TakesLast};
 ghost use Rattle.unix_path.specs.Views.{value_of};
 
+mod parents;
+
 use crate::path::Path;
+pub use parents::Ancestors;
 use std::fmt;
 use std::iter::FusedIterator;
 use unix_bytes::bytes::UnixStr;
@@ -18,8 +21,9 @@ use unix_bytes::bytes::UnixStr;
 ///
 /// Two are equal if they are of one kind and, being names, have the same bytes. `RootDir` comes
 /// before `CurDir`, that before `ParentDir` and that before every name; names go by their bytes.
+/// A hasher is fed the kind, and then a name as `UnixStr` feeds it.
 /// As Rust's `Component`, without a prefix.
-#[derive(Clone, Copy, Debug, PartialEq, Eq, PartialOrd, Ord)]
+#[derive(Clone, Copy, Debug, PartialEq, Eq, PartialOrd, Ord, Hash)]
 pub enum Component<'a> {
     /// The root that a path begins with, as in `/tmp`.
     RootDir,

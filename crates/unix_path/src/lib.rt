@@ -1,9 +1,22 @@
 //! Unix paths as plain bytes, on any platform.
 #![tactic(auto)]
 
+pub mod buf;
 pub mod cursor;
+pub mod display;
+pub mod json;
+pub mod kept;
+mod names;
+mod order;
 pub mod path;
+mod prefix;
 
-pub use cursor::{Component, Components, Iter};
-pub use path::Path;
-pub use unix_bytes::bytes;
+pub use buf::PathBuf;
+pub use cursor::{Ancestors, Component, Components, Iter};
+pub use display::Display;
+pub use kept::{BoxedPath, CowPath, RcPath};
+pub use path::{MAIN_SEPARATOR, Path, StripPrefixError, is_separator};
+pub use unix_bytes::{bytes, lossy};
+
+#[cfg(test)]
+mod tests;

@@ -1,10 +1,18 @@
 //! The view of a path.
-ghost use Rattle.std.specs.Prelude.{◌≡◌, not};
+ghost use Rattle.std.specs.Prelude.{◌≡◌, ◌↔◌, ◌≤◌, not, length, take, option_map, IfSome};
+ghost use Rattle.std.specs.Prelude.{IsTrue, IsOk, IfOk, Some, codes};
 ghost use Rattle.unix_path.specs.Parts.{values, begins_with_root};
 ghost use Rattle.unix_path.specs.Rest.{rest};
 ghost use Rattle.unix_path.specs.Cursor.{cursor_rest, iter_rest};
+ghost use Rattle.unix_path.specs.Names.{parent_of, ancestors_of, file_name_of, stem_of};
+ghost use Rattle.unix_path.specs.Names.{extension_of, StartsWithValues, EndsWithValues};
+ghost use Rattle.unix_path.specs.Names.{stripped_of};
+ghost use Rattle.unix_path.specs.Edits.{before_name_of, stem_end_of};
 
-use crate::cursor::{Components, Iter};
+use crate::cursor::{Ancestors, Component, Components, Iter};
+use crate::names::split_name;
+use crate::prefix::{after_prefix, ends_with_parts};
+use std::error::Error;
 use std::fmt;
 use unix_bytes::bytes::UnixStr;
 
@@ -18,7 +26,44 @@ pub struct Path<'a> {
     pub bytes: &'a [u8],
 }
 
+/// The byte between two parts of a path, as a character. As Rust's `std::path::MAIN_SEPARATOR` on
+/// Unix.
+///
+/// It is `/`.
+pub const MAIN_SEPARATOR: char = '/';
+
+/// Whether the character stands between two parts of a path: `/` alone does. Takes no memory. As
+/// Rust's `std::path::is_separator` on Unix.
+///
+/// `is_separator('/')` is true, and `is_separator('\\')` is false.
+#[inline]
+pub fn is_separator(c: char) -> bool
+    ensures { IsTrue result ↔ (c ≡ 47) }
+{
+    c == MAIN_SEPARATOR
+}
+
+/// The refusal of `Path::strip_prefix`: the parts of the base don't begin those of the path.
+///
+/// Its text is `prefix not found`, padded like any text. As Rust's `StripPrefixError`.
+///
+/// `foo/bar` stripped of `foo/baz` answers it.
+#[derive(Clone, Copy, Debug, PartialEq, Eq)]
+pub struct StripPrefixError(());
+
+impl fmt::Display for StripPrefixError {
+    ghost output = { λ _. Some (codes "prefix not found") };
+
+    fn fmt<W: fmt::Write>(&self, f: &mut fmt::Formatter<W>) -> fmt::Result {
+        f.pad("prefix not found")
+    }
+}
+
+impl Error for StripPrefixError {}
+
 impl<'a> Path<'a> {
+    ghost use Rattle.unix_path.specs.Ancestors.{ancestors_left};
+
     /// The path with these bytes. Takes no memory. As Rust's `Path::new`.
     ///
     /// `Path::new(UnixStr::new("/tmp"))` is the path `/tmp`.
@@ -90,6 +135,165 @@ impl<'a> Path<'a> {
     {
         Iter {
             components: self.components(),
+        }
+    }
+
+    /// The path without its last part, as a slice of this path's bytes. `None` where there is no
+    /// part or the last is the root.
+    ///
+    /// The parent of a single name is the empty path, which has no parent. Takes no memory. As
+    /// Rust's `Path::parent`, whose words name the root alone.
+    ///
+    /// That of `/tmp//foo/.` is `/tmp`.
+    #[inline]
+    pub fn parent(&self) -> Option<Path<'a>>
+        ensures { option_map (λ path. path.bytes.now) result ≡ parent_of self.now.bytes.now }
+    {
+        let mut left = self.components();
+        let Some(last) = left.next_back() else {
+            return None;
+        };
+        match last {
+            Component::RootDir => None,
+            _ => Some(left.as_path()),
+        }
+    }
+
+    /// A walk over the path itself, its parent, the parent of that, and so on. Takes no memory. As
+    /// Rust's `Path::ancestors`.
+    ///
+    /// That of `../a` gives `../a`, `..` and the empty path.
+    #[inline]
+    pub fn ancestors(&self) -> Ancestors<'a>
+        ensures { ancestors_left result ≡ ancestors_of self.now.bytes.now }
+    {
+        Ancestors { next: Some(*self) }
+    }
+
+    /// The last part, where it is a name. `None` where there is no part, or the last is the root,
+    /// `.` or `..`. Takes no memory. As Rust's `Path::file_name`, whose words name `..` alone.
+    ///
+    /// That of `foo.txt/.//` is `foo.txt`.
+    #[inline]
+    pub fn file_name(&self) -> Option<UnixStr<'a>>
+        ensures { option_map (λ name. name.bytes.now) result ≡ file_name_of self.now.bytes.now }
+    {
+        let Some(last) = self.components().next_back() else {
+            return None;
+        };
+        match last {
+            Component::Normal(name) => Some(name),
+            _ => None,
+        }
+    }
+
+    /// The file name up to its last dot; all of it where that is its first byte or there is no dot.
+    /// `None` where there is no file name. Takes no memory. As Rust's `Path::file_stem`.
+    ///
+    /// That of `foo.tar.gz` is `foo.tar`, and that of `.foo` is `.foo`.
+    #[inline]
+    pub fn file_stem(&self) -> Option<UnixStr<'a>>
+        ensures { option_map (λ stem. stem.bytes.now) result ≡ stem_of self.now.bytes.now }
+    {
+        match self.file_name() {
+            Some(name) => Some(UnixStr {
+                bytes: split_name(name.bytes).0,
+            }),
+            None => None,
+        }
+    }
+
+    /// The file name's bytes after its last dot, without the dot. `None` where that is its first
+    /// byte, or there is no dot or no file name. Takes no memory. As Rust's `Path::extension`.
+    ///
+    /// That of `foo.tar.gz` is `gz`, and that of `foo.` is empty.
+    #[inline]
+    pub fn extension(&self) -> Option<UnixStr<'a>>
+        ensures { option_map (λ part. part.bytes.now) result ≡ extension_of self.now.bytes.now }
+    {
+        let Some(name) = self.file_name() else {
+            return None;
+        };
+        match split_name(name.bytes).1 {
+            Some(bytes) => Some(UnixStr { bytes }),
+            None => None,
+        }
+    }
+
+    /// What follows `base`, as a slice of this path's bytes, where `base`'s parts begin this
+    /// path's.
+    ///
+    /// Whole parts count: `foo/bar` has no prefix `foo/ba`. No bytes are left where all parts
+    /// match. Refused exactly where `starts_with` is false. Takes no memory. As Rust's
+    /// `Path::strip_prefix`; `base` is a `Path`.
+    ///
+    /// `/a//b/` by `/a` gives `b`.
+    #[inline]
+    pub fn strip_prefix(&self, base: Path<'_>) -> Result<Path<'a>, StripPrefixError>
+        ensures ok { IsOk result ↔ StartsWithValues self.now.bytes.now base.entry.bytes.now }
+        ensures value { IfOk result (λ left.
+            left.bytes.now ≡ stripped_of self.now.bytes.now base.entry.bytes.now) }
+    {
+        match after_prefix(self.bytes, base.bytes) {
+            Some(left) => Ok(left.as_path()),
+            None => Err(StripPrefixError(())),
+        }
+    }
+
+    /// Whether `base`'s parts begin this path's. Every path begins with the empty one. Takes no
+    /// memory. As Rust's `Path::starts_with`; `base` is a `Path`.
+    ///
+    /// `/etc/passwd` starts with `/etc/`, and not with `/e`.
+    #[inline]
+    pub fn starts_with(&self, base: Path<'_>) -> bool
+        ensures { IsTrue result ↔ StartsWithValues self.now.bytes.now base.entry.bytes.now }
+    {
+        after_prefix(self.bytes, base.bytes).is_some()
+    }
+
+    /// Whether `child`'s parts end this path's. Takes no memory. As Rust's `Path::ends_with`;
+    /// `child` is a `Path`.
+    ///
+    /// `a/b` ends with `b`, and with neither `./b` nor `/b`.
+    #[inline]
+    pub fn ends_with(&self, child: Path<'_>) -> bool
+        ensures { IsTrue result ↔ EndsWithValues self.now.bytes.now child.entry.bytes.now }
+    {
+        ends_with_parts(self.bytes, child.bytes)
+    }
+
+    // What stands before the file name, or all of the path where there is none.
+    #[inline]
+    pub(crate) fn before_name(&self) -> Path<'a>
+        ensures value { result.bytes.now ≡ before_name_of self.now.bytes.now }
+        ensures front { take (length result.bytes.now) self.now.bytes.now ≡ result.bytes.now }
+    {
+        let mut left = self.components();
+        let Some(last) = left.next_back() else {
+            return *self;
+        };
+        match last {
+            Component::Normal(_) => left.as_path(),
+            _ => *self,
+        }
+    }
+
+    // Where the stem of the file name ends.
+    #[inline]
+    pub(crate) fn stem_end(&self) -> Option<usize>
+        ensures value { result ≡ stem_end_of self.now.bytes.now }
+        ensures in_range { IfSome result (λ end. end ≤ length self.now.bytes.now) }
+    {
+        let mut left = self.components();
+        let name_end = left.as_path().bytes.len();
+        let Some(last) = left.next_back() else {
+            return None;
+        };
+        match last {
+            Component::Normal(name) => {
+                Some(name_end - name.bytes.len() + split_name(name.bytes).0.len())
+            }
+            _ => None,
         }
     }
 }

@@ -1,0 +1,32 @@
+-- The last element of a list.
+use Rattle.std.proofs.Common.{◌≡◌, ◌+◌, ◌-◌, List, [], ◌∷◌, ◌++◌, length, take, Some, refl, ap, ◌∙◌}
+use Rattle.std.proofs.Common.{arith, take_all, length-append}
+use Rattle.std.proofs.lemmas.List.{take-append-le}
+use Rattle.unix_path.specs.Names.{last_of}
+use Rattle.unix_path.proofs.MiddleLemmas.{middle}
+
+-- a list, by what stands last
+pub data Snoc {X : Type 0} (xs : List X) : Type 0 where
+  Empty : xs ≡ [] → Snoc xs
+  Pushed : (ys : List X) (y : X) → xs ≡ ys ++ y ∷ [] → Snoc xs
+
+snoc-cons : {X : Type 0} (x : X) (xs : List X) → Snoc xs → Snoc (x ∷ xs)
+snoc-cons x xs (Empty e) = Pushed [] x (ap (λ ys. x ∷ ys) e)
+snoc-cons x xs (Pushed ys y e) = Pushed (x ∷ ys) y (ap (λ ys. x ∷ ys) e)
+
+pub snoc : {X : Type 0} (xs : List X) → Snoc xs
+snoc [] = Empty refl
+snoc (x ∷ xs) = snoc-cons x xs (snoc xs)
+
+pub last_of-push : {X : Type 0} (xs : List X) (y : X) → last_of (xs ++ y ∷ []) ≡ Some y
+last_of-push [] y = refl
+last_of-push (x ∷ []) y = refl
+last_of-push (x ∷ z ∷ zs) y = last_of-push (z ∷ zs) y
+
+pub middle-push : {X : Type 0} (xs : List X) (y : X) → middle 0 1 (xs ++ y ∷ []) ≡ xs
+middle-push xs y =
+    let n : length (xs ++ y ∷ []) - (0 + 1) ≡ length xs =
+    omega (arith, length-append xs (y ∷ [])) in
+    ap (λ k. take k (xs ++ y ∷ [])) n
+    ∙ take-append-le (length xs) xs (y ∷ []) (omega arith)
+    ∙ take_all (length xs) xs (omega arith)

@@ -1,0 +1,27 @@
+-- Joins, case by case.
+use Rattle.std.proofs.Common.{◌≡◌, ℕ, suc, ◌-◌, true, false, eqb, List, [], ◌∷◌, ◌++◌, length}
+use Rattle.std.proofs.Common.{get_or, refl, sym, ap, ◌∙◌, arith, append_assoc}
+use Rattle.unix_path.specs.Parts.{is_rooted}
+use Rattle.unix_path.specs.Joins.{is_open, join_of}
+
+-- the last byte, where there is one
+pub is_open-at : (s : List ℕ) → is_open s ≡ eqb (get_or s (length s - 1) 47) 47
+is_open-at [] = refl
+is_open-at (b ∷ []) = refl
+is_open-at (b ∷ c ∷ s) =
+    is_open-at (c ∷ s)
+    ∙ ap (λ k. eqb (get_or (b ∷ c ∷ s) k 47) 47) {x = suc (length (c ∷ s) - 1)}
+    {y = length (b ∷ c ∷ s) - 1} (omega arith)
+
+pub join_of_rooted : (a b : List ℕ) → is_rooted b ≡ true → join_of a b ≡ b
+unfolding join_of
+join_of_rooted a b r = rw r refl
+
+pub join_of_open : (a b : List ℕ) → is_rooted b ≡ false → is_open a ≡ true → join_of a b ≡ a ++ b
+unfolding join_of
+join_of_open a b r o = rw (r, o) refl
+
+pub join_of_closed : (a b : List ℕ) → is_rooted b ≡ false → is_open a ≡ false
+    → join_of a b ≡ (a ++ 47 ∷ []) ++ b
+unfolding join_of
+join_of_closed a b r o = rw (r, o) (sym (append_assoc a (47 ∷ []) b))

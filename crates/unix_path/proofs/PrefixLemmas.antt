@@ -1,0 +1,79 @@
+-- Two walks side by side from in front: whether one path's values begin the other's.
+use Rattle.std.proofs.Common.{◌≡◌, ℕ, ◌+◌, List, [], ◌∷◌, ◌++◌, length, sym, ap, subst, ◌∙◌, arith}
+use Rattle.unix_path.specs.Parts.{Value, values}
+use Rattle.unix_path.specs.Rest.{rest}
+use Rattle.unix_path.specs.Names.{Begins, StartsWithValues, stripped_of}
+use Rattle.unix_path.proofs.RestLemmas.{rest-rest}
+use Rattle.unix_path.proofs.ParentLemmas.{values-whole}
+
+-- u is what is left of s after as many values of base as aren't in `left`, and those were alike
+pub record StripsOn (s base u : List ℕ) (left : List Value) : Type 0 where
+  pub count : ℕ
+  pub rest_is : u ≡ rest s count 0
+  pub counts : count + length left ≡ length (values base)
+  pub onward : Begins left (values u) → StartsWithValues s base
+  pub back : StartsWithValues s base → Begins left (values u)
+
+pub strips_start : (s base u b : List ℕ) → u ≡ rest s 0 0 → b ≡ rest base 0 0
+    → StripsOn s base u (values b)
+strips_start s base u b e f =
+    let wanted : values b ≡ values base = values-whole base b f in
+    let whole : values u ≡ values s = values-whole s u e in
+    record {
+      count = 0;
+      rest_is = e;
+      counts = omega (arith, ap length wanted);
+      onward = λ h. subst (λ v. Begins v (values s)) wanted (subst (Begins (values b)) whole h);
+      back = λ h. subst (Begins (values b)) (sym whole)
+          (subst (λ v. Begins v (values s)) (sym wanted) h);
+    }
+
+begins_tail : (x y : Value) (v w : List Value) → Begins (x ∷ v) (y ∷ w) → (x ≡ y) × Begins v w
+begins_tail x y v w h =
+    let e : x ∷ (v ++ h.0) ≡ y ∷ w = h.1 in
+    (cc, (h.0, cc))
+
+begins_more : (x : Value) (v w : List Value) → Begins v w → Begins (x ∷ v) (x ∷ w)
+begins_more x v w h = (h.0, ap (λ z. x ∷ z) h.1)
+
+pub strips_step : (s base u t : List ℕ) (x y : Value) (left more : List Value)
+    → StripsOn s base u left → left ≡ x ∷ more → values u ≡ y ∷ values t → t ≡ rest u 1 0
+    → y ≡ x → StripsOn s base t more
+strips_step s base u t x y left more h l e r same =
+    let first : values u ≡ x ∷ values t = e ∙ ap (λ v. v ∷ values t) same in
+    let size = ap length l in
+    let counts = h.counts in
+    record {
+      count = h.count + 1;
+      rest_is = r ∙ ap (λ u. rest u 1 0) h.rest_is ∙ rest-rest s h.count 0 1 0;
+      counts = omega arith;
+      onward = λ b. h.onward (subst (λ l. Begins l (values u)) (sym l)
+          (subst (Begins (x ∷ more)) (sym first) (begins_more x more (values t) b)));
+      back = λ b. (begins_tail x x more (values t) (subst (Begins (x ∷ more)) first
+          (subst (λ l. Begins l (values u)) l (h.back b)))).1;
+    }
+
+pub strips_end : (s base u : List ℕ) (left : List Value) → StripsOn s base u left → left ≡ []
+    → StartsWithValues s base × (u ≡ stripped_of s base)
+strips_end s base u left h l =
+    let size = ap length l in
+    let counts = h.counts in
+    let whole : h.count ≡ length (values base) = omega arith in (
+      h.onward (values u, ap (λ l. l ++ values u) l),
+      h.rest_is ∙ ap (λ k. rest s k 0) whole,
+    )
+
+pub strips_short : (s base u : List ℕ) (x : Value) (left more : List Value)
+    → StripsOn s base u left → left ≡ x ∷ more → values u ≡ [] → StartsWithValues s base → ⊥
+strips_short s base u x left more h l e b =
+    let k = h.back b in
+    let none : x ∷ (more ++ k.0) ≡ [] = sym (ap (λ l. l ++ k.0) l) ∙ k.1 ∙ e in
+    cc
+
+pub strips_differs : (s base u t : List ℕ) (x y : Value) (left more : List Value)
+    → StripsOn s base u left → left ≡ x ∷ more → values u ≡ y ∷ values t → (y ≡ x → ⊥)
+    → StartsWithValues s base → ⊥
+strips_differs s base u t x y left more h l e differs b =
+    let k = h.back b in
+    let both : x ∷ (more ++ k.0) ≡ y ∷ values t = sym (ap (λ l. l ++ k.0) l) ∙ k.1 ∙ e in
+    differs (cc)

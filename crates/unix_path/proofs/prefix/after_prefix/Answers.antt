@@ -1,0 +1,37 @@
+use Rattle.std.proofs.Common.{◌∙◌, ap, refl}
+use Rattle.unix_path.specs.Views.{value_of}
+use Rattle.unix_path.specs.Cursor.{cursor_rest, cursor_values}
+use Rattle.unix_path.proofs.PrefixLemmas.{strips_start, strips_step, strips_end}
+use Rattle.unix_path.proofs.prefix.after_prefix.Goals as goal
+
+pub loop-part-init : goal.loop-part-init
+loop-part-init c = record {
+  can = tt;
+  finite = tt;
+  so_far = strips_start c.args.path.now c.args.base.now (cursor_rest c.new-left.result)
+      (cursor_rest c.into_iter-part-iterator.result) c.new-left.ensures
+      (ap cursor_rest c.into_iter-part-iterator.ensures.into_iter_gives
+      ∙ c.new-part-items.ensures);
+}
+
+pub loop-part-preserved : goal.loop-part-preserved
+loop-part-preserved c =
+    let own = c.in-Some-next.ensures.steps in
+    record {
+      can = tt;
+      finite = tt;
+      so_far = strips_step c.args.path.now c.args.base.now (cursor_rest c.loop-part.left)
+          (cursor_rest c.next-in-loop-part.new.self) (value_of c.in-Some.part)
+          (value_of c.in-Some-next.own) (cursor_values c.loop-part.part-iterator)
+          (cursor_values c.next.new.self) c.loop-part.invariant.so_far
+          c.in-Some.ensures.steps.item_is own.item_is own.rest_is
+          (c.if-not-same_value.ensures.0 refl);
+    }
+
+pub returns-clause-ok : goal.returns-clause-ok
+returns-clause-ok c = (
+  λ _. (strips_end c.args.path.now c.args.base.now (cursor_rest c.loop-part.left)
+      (cursor_values c.loop-part.part-iterator) c.loop-part.invariant.so_far
+      c.in-None.ensures.steps.item_is.0).0,
+  λ _. refl,
+)

@@ -1,0 +1,45 @@
+-- What the clauses on an owned path speak of.
+use Rattle.std.specs.Prelude.{◌≡◌, ◌<◌, ℕ, ◌+◌, ◌-◌, List, [], ◌∷◌, length, map, Option, Some, None}
+use Rattle.std.specs.Prelude.{vec_len, vec_capacity}
+use Rattle.std.specs.Iterator.{Drains, YieldsThen}
+use Rattle.unix_path.specs.Joins.{join_of, join_all_of}
+use Rattle.unix_path.specs.declared.buf.PathBuf.{PathBuf}
+use Rattle.unix_path.specs.declared.path.Path.{Path}
+
+-- the bytes that it holds
+abbrev pub path_bytes : PathBuf → List ℕ
+path_bytes p = p.bytes.items
+
+-- how many more bytes it takes without a growth
+abbrev pub room : PathBuf → ℕ
+room p = vec_capacity p.bytes - vec_len p.bytes
+
+-- how many bytes it may hold without a growth
+abbrev pub capacity : PathBuf → ℕ
+capacity p = length (path_bytes p) + room p
+
+-- the bytes of these paths
+abbrev pub texts : List Path → List (List ℕ)
+texts paths = map (λ path. path.bytes.now) paths
+
+-- these were all items, and each was joined to what those before it made of the bytes
+pub record JoinsAll {S : Type 0} (steps : S → Option Path → S → Type 0) (items : S)
+    (old new : List ℕ) : Type 0 where
+  pub paths : List Path
+  pub drained : Drains steps items paths
+  pub bytes : new ≡ join_all_of old (texts paths)
+
+-- the items before one were joined, and the join with that one is longer than `most`
+pub record JoinsFront {S : Type 0} (steps : S → Option Path → S → Type 0) (items : S)
+    (old new : List ℕ) (most : ℕ) : Type 0 where
+  pub paths : List Path
+  pub next : Path
+  pub left : S
+  pub given : YieldsThen steps items paths (Some next) left
+  pub bytes : new ≡ join_all_of old (texts paths)
+  pub longer : most < length (join_of new next.bytes.now)
+
+-- the byte between what is kept and what is added, where there is one
+abbrev pub gap_bytes : Option ℕ → List ℕ
+gap_bytes None = []
+gap_bytes (Some b) = b ∷ []

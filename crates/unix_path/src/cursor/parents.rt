@@ -1,0 +1,38 @@
+//! The walk over a path and its parents.
+ghost use Rattle.std.specs.Prelude.{◌≡◌};
+
+use crate::path::Path;
+use std::iter::FusedIterator;
+
+/// A walk over a path, its parent, the parent of that, and so on.
+///
+/// It takes no memory, and copying it copies a view. An ended walk stays ended. As Rust's
+/// `Ancestors`.
+///
+/// That of `/foo` gives `/foo` and `/`.
+#[derive(Clone, Copy, Debug)]
+pub struct Ancestors<'a> {
+    pub(crate) next: Option<Path<'a>>,
+}
+
+impl<'a> Iterator for Ancestors<'a> {
+    ghost use Rattle.std.specs.Iterator.{YieldsFirstBy, item_count};
+    ghost use Rattle.unix_path.specs.Ancestors.{ancestors_left};
+
+    type Item = Path<'a>;
+
+    ghost next_gives = { YieldsFirstBy (λ path. path.bytes.now) ancestors_left };
+
+    ghost remaining = { item_count ancestors_left };
+
+    #[inline]
+    fn next(&mut self) -> Option<Path<'a>> {
+        let Some(path) = self.next else {
+            return None;
+        };
+        self.next = path.parent();
+        Some(path)
+    }
+}
+
+impl FusedIterator for Ancestors<'_> {}

@@ -1,0 +1,97 @@
+//! Paths as text.
+ghost use Rattle.std.specs.Prelude.{◌≡◌, ◌↔◌, IsOk, IsSome, IfOk, IfSome, Some, if◌then◌else◌};
+ghost use Rattle.std.specs.Fmt.{padded};
+ghost use Rattle.unix_bytes.specs.Utf8.{IsText};
+ghost use Rattle.unix_bytes.specs.Lossy.{is_text, lossy_of};
+ghost use Rattle.unix_bytes.specs.Texts.{text_bytes, IsBorrowed};
+
+use crate::path::Path;
+use std::alloc::{AllocError, Global};
+use std::fmt;
+use unix_bytes::bytes::{LossyText, UnixStr};
+use unix_bytes::lossy::Utf8Lossy;
+
+/// Bytes that are printed as their lossy text.
+///
+/// It takes no memory, and copying it copies a view. As Rust's `std::path::Display`.
+///
+/// Those of `tmp` are printed as `tmp`.
+#[derive(Clone, Copy)]
+pub struct Display<'a> {
+    /// The bytes.
+    pub bytes: &'a [u8],
+}
+
+impl<'a> Display<'a> {
+    /// The bytes, to be printed. Takes no memory. Own.
+    ///
+    /// `Display::from_bytes(b"a\xff")` is printed as `a` and U+FFFD.
+    #[inline]
+    pub fn from_bytes(bytes: &'a [u8]) -> Display<'a>
+        ensures { result.bytes.now ≡ bytes.now }
+    {
+        Display { bytes }
+    }
+}
+
+/// The lossy text: well-formed UTF-8 as it is (RFC 3629 section 4), and U+FFFD for each broken
+/// front.
+///
+/// Bytes that are wholly UTF-8 are padded as a text is, by width, precision, fill and alignment;
+/// any others ignore them. It takes no memory, and fails only where the writer does.
+impl fmt::Display for Display<'_> {
+    ghost output = { λ d. Some (lossy_of d.bytes.now) };
+
+    ghost styled_output = { λ d spec.
+        let s = d.bytes.now in
+        Some (if is_text s then padded spec s else lossy_of s) };
+
+    fn fmt<W: fmt::Write>(&self, f: &mut fmt::Formatter<W>) -> fmt::Result {
+        fmt::Display::fmt(&Utf8Lossy::from_bytes(self.bytes), f)
+    }
+}
+
+/// The debug form of the lossy text. Takes no memory.
+impl fmt::Debug for Display<'_> {
+    fn fmt<W: fmt::Write>(&self, f: &mut fmt::Formatter<W>) -> fmt::Result {
+        fmt::Debug::fmt(&UnixStr::from_bytes(self.bytes), f)
+    }
+}
+
+impl<'a> Path<'a> {
+    /// The path as text, where its bytes are UTF-8 (RFC 3629 section 4). Takes no memory. As Rust's
+    /// `Path::to_str`.
+    ///
+    /// That of `/tmp` is `/tmp`, and the bytes 61 FF have none.
+    #[inline]
+    pub fn to_str(&self) -> Option<&'a str>
+        ensures value { IsSome result ↔ IsText self.now.bytes.now }
+        ensures bytes { IfSome result (λ text. text.now ≡ self.now.bytes.now) }
+    {
+        self.as_unix_str().to_str()
+    }
+
+    /// The path as text, with U+FFFD for each broken front.
+    ///
+    /// Where the bytes are UTF-8 the text is borrowed, and no memory is taken; otherwise it is
+    /// refused where memory isn't had. As Rust's `Path::to_string_lossy`.
+    ///
+    /// That of the bytes 61 FF is `a` and U+FFFD.
+    pub fn to_string_lossy(&self, alloc: Global) -> Result<LossyText<'a>, AllocError>
+        ensures value { IfOk result (λ text. text_bytes text ≡ lossy_of self.now.bytes.now) }
+        ensures borrowed { IfOk result (λ text. IsBorrowed text ↔ IsText self.now.bytes.now) }
+        ensures succeeds { IsText self.now.bytes.now → IsOk result }
+    {
+        self.as_unix_str().to_string_lossy(alloc)
+    }
+
+    /// What prints the path as its lossy text. Takes no memory. As Rust's `Path::display`.
+    ///
+    /// That of `/tmp` is printed as `/tmp`.
+    #[inline]
+    pub fn display(&self) -> Display<'a>
+        ensures { result.bytes.now ≡ self.now.bytes.now }
+    {
+        Display::from_bytes(self.bytes)
+    }
+}

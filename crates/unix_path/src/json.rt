@@ -1,0 +1,86 @@
+//! Paths as JSON strings.
+ghost use Rattle.std.specs.Prelude.{◌≡◌, ◌≢◌, ◌↔◌, ℕ, List, None, Some, IfOk, IfErr, IsErrOf};
+ghost use Rattle.serde_json.specs.Find.{as_str};
+ghost use Rattle.serde_json.specs.View.{view};
+ghost use Rattle.unix_bytes.specs.Utf8.{IsText};
+ghost use Rattle.unix_path.specs.Buffers.{path_bytes};
+ghost use Rattle.unix_path.specs.Json.{IsString};
+
+use crate::buf::PathBuf;
+use crate::path::Path;
+use serde_json::Value;
+use std::alloc::{AllocError, Global};
+use std::error::Error;
+use std::fmt;
+
+/// Why a path couldn't be written as JSON, or a JSON value read as a path.
+///
+/// Its text is padded like any text. Own.
+#[derive(Debug, Drop)]
+pub enum JsonError {
+    /// The path's bytes aren't UTF-8: `path contains invalid UTF-8 characters`.
+    NotUtf8,
+    /// The value isn't a string: `expected path string`.
+    NotString,
+    /// Memory wasn't had: `out of memory`.
+    Memory(AllocError),
+}
+
+impl fmt::Display for JsonError {
+    ghost use Rattle.unix_path.specs.Json.{error_text};
+
+    ghost output = { λ error. Some (error_text error) };
+
+    fn fmt<W: fmt::Write>(&self, f: &mut fmt::Formatter<W>) -> fmt::Result {
+        f.pad(match self {
+            JsonError::NotUtf8 => "path contains invalid UTF-8 characters",
+            JsonError::NotString => "expected path string",
+            JsonError::Memory(_) => "out of memory",
+        })
+    }
+}
+
+impl Error for JsonError {}
+
+/// The path's text, as a JSON string.
+///
+/// The error is `NotUtf8` exactly where the bytes aren't UTF-8, before memory is asked for; it is
+/// `Memory` where none is had for the copy. Own, for serde's `Serialize`; UTF-8 is that of RFC
+/// 3629, section 4.
+///
+/// That of `a//b` is the string `a//b`.
+pub fn to_json(alloc: Global, path: Path<'_>) -> Result<Value, JsonError>
+    ensures value { IfOk result (λ value. IsString value path.entry.bytes.now) }
+    ensures refused { IsErrOf result JsonError.NotUtf8 ↔ ¬ (IsText path.entry.bytes.now) }
+    ensures err { IfErr result (λ error. error ≢ JsonError.NotString) }
+{
+    let Some(text) = path.as_unix_str().to_str() else {
+        return Err(JsonError::NotUtf8);
+    };
+    match String::from_str(alloc, text) {
+        Ok(text) => Ok(Value::String(text)),
+        Err(error) => Err(JsonError::Memory(error)),
+    }
+}
+
+/// The path that a JSON string holds.
+///
+/// The error is `NotString` exactly for a value that isn't a string, before memory is asked for; a
+/// number isn't one. It is `Memory` where none is had for the copy. Own, for serde's `Deserialize`.
+///
+/// That of the string `a//b` is the path `a//b`, and what `to_json` wrote has the same bytes again.
+pub fn from_json(alloc: Global, value: &Value) -> Result<PathBuf, JsonError>
+    ensures value { IfOk result (λ path. IsString value.now (path_bytes path)) }
+    ensures bytes { IfOk result
+        (λ path. (bytes : List ℕ) → IsString value.now bytes → path_bytes path ≡ bytes) }
+    ensures refused { IsErrOf result JsonError.NotString ↔ (as_str (view value.now) ≡ None) }
+    ensures err { IfErr result (λ error. error ≢ JsonError.NotUtf8) }
+{
+    let Value::String(text) = value else {
+        return Err(JsonError::NotString);
+    };
+    match PathBuf::from_text(alloc, text.as_str()) {
+        Ok(path) => Ok(path),
+        Err(error) => Err(JsonError::Memory(error)),
+    }
+}

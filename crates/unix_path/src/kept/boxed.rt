@@ -1,0 +1,194 @@
+//! Boxed paths.
+ghost use Rattle.std.specs.Prelude.{◌≡◌, ◌↔◌, IsTrue, Some, IsOk, IfOk};
+ghost use Rattle.std.specs.Ordering.{is_eq};
+ghost use Rattle.std.specs.Cmp;
+ghost use Rattle.std.specs.Cmp.{eq_by_cmp_equiv, partial_order_from_total};
+ghost use Rattle.std.specs.Cmp.Rules.{comparing};
+ghost use Rattle.std.proofs.Common.{rules, ap};
+ghost use Rattle.unix_path.specs.Buffers.{path_bytes, room};
+ghost use Rattle.unix_path.specs.Hashed.{hash_input_of};
+ghost use Rattle.unix_path.specs.Kept.{boxed_bytes, cow_bytes};
+ghost use Rattle.unix_path.specs.Order.{values_cmp};
+ghost use Rattle.unix_path.specs.OrderLaws.{values_cmp-total, is_eq-values_cmp};
+ghost use Rattle.unix_path.specs.Parts.{values, SameValues};
+
+use crate::buf::PathBuf;
+use crate::kept::CowPath;
+use crate::path::Path;
+use std::alloc::{AllocError, Global};
+use std::boxed::BoxedSlice;
+use std::cmp::Ordering;
+use std::fmt;
+use std::hash::{Hash, Hasher};
+use unix_bytes::bytes::UnixString;
+
+/// An owned path that isn't edited any more: its bytes, and no room behind them.
+///
+/// It is compared and hashed by its values, as `Path` is. As Rust's `Box<Path>` on Unix.
+#[derive(Drop)]
+pub struct BoxedPath {
+    bytes: BoxedSlice<u8>,
+}
+
+impl BoxedPath {
+    /// A copy of the path.
+    ///
+    /// Asks for memory once, and is refused where it isn't had. As Rust's `Box::<Path>::from` a
+    /// reference.
+    ///
+    /// That of `foo/` is another `foo/`.
+    pub fn from_path(alloc: Global, path: Path<'_>) -> Result<BoxedPath, AllocError>
+        ensures { IfOk result (λ p. boxed_bytes p ≡ path.entry.bytes.now) }
+    {
+        let bytes = BoxedSlice::from_slice(alloc, path.bytes)?;
+        Ok(BoxedPath { bytes })
+    }
+
+    /// The bytes of the buffer, without its room.
+    ///
+    /// Moving the bytes to less memory can be refused, and then the buffer is given up; where it
+    /// has no room, no memory is taken. As Rust's `Box::<Path>::from` a `PathBuf`.
+    ///
+    /// `foo/` in 10 bytes then stands in 4.
+    pub fn from_path_buf(path: PathBuf) -> Result<BoxedPath, AllocError>
+        ensures bytes { IfOk result (λ p. boxed_bytes p ≡ path_bytes path) }
+        ensures succeeds { room path ≡ 0 → IsOk result }
+    {
+        let mut path = path;
+        path.shrink_to_fit()?;
+        let bytes = path.into_unix_string().into_bytes().into_boxed_slice();
+        Ok(BoxedPath { bytes })
+    }
+
+    /// A copy of a borrowed path, or the bytes of an owned one.
+    ///
+    /// Refused as `from_path` or `from_path_buf` is, and then an owned path is given up.
+    /// As Rust's `Box::<Path>::from` a `Cow<Path>`.
+    ///
+    /// That of a borrowed `foo/` is an owned `foo/`.
+    pub fn from_cow(alloc: Global, path: CowPath<'_>) -> Result<BoxedPath, AllocError>
+        ensures { IfOk result (λ p. boxed_bytes p ≡ cow_bytes path.entry) }
+    {
+        match path {
+            CowPath::Borrowed(path) => BoxedPath::from_path(alloc, path),
+            CowPath::Owned(path) => BoxedPath::from_path_buf(path),
+        }
+    }
+
+    /// The path as a view of all its bytes. Takes no memory. As Rust's `&**path`.
+    ///
+    /// That of a boxed `foo/` is `foo/`.
+    #[inline]
+    pub fn as_path(&self) -> Path<'_>
+        ensures { result.bytes.now ≡ boxed_bytes self.now }
+    {
+        Path {
+            bytes: self.bytes.as_slice(),
+        }
+    }
+
+    /// A copy of the path, under the same allocator.
+    ///
+    /// Asks for memory once, and is refused where it isn't had. As `Clone` of Rust's `Box<Path>`.
+    ///
+    /// A clone of `foo/` is another `foo/`.
+    pub fn clone(&self) -> Result<BoxedPath, AllocError>
+        ensures { IfOk result (λ p. boxed_bytes p ≡ boxed_bytes self.now) }
+    {
+        let bytes = self.bytes.clone()?;
+        Ok(BoxedPath { bytes })
+    }
+
+    /// The path as a buffer, in the memory where it stands.
+    ///
+    /// Takes no memory, and so is never refused. As Rust's `Path::into_path_buf`.
+    ///
+    /// That of a boxed `foo/` is `foo/`.
+    pub fn into_path_buf(self, _alloc: Global) -> Result<PathBuf, AllocError>
+        ensures bytes { IfOk result (λ p. path_bytes p ≡ boxed_bytes self) }
+        ensures succeeds { IsOk result }
+    {
+        Ok(PathBuf::from(UnixString::from(self.bytes.into_vec())))
+    }
+}
+
+impl PathBuf {
+    /// The path without its room, for keeping.
+    ///
+    /// Moving the bytes to less memory can be refused, and then the path is given up; where it has
+    /// no room, no memory is taken. As Rust's `PathBuf::into_boxed_path`.
+    ///
+    /// `foo/` in 10 bytes then stands in 4.
+    pub fn into_boxed_path(self) -> Result<BoxedPath, AllocError>
+        ensures bytes { IfOk result (λ p. boxed_bytes p ≡ path_bytes self) }
+        ensures succeeds { room self ≡ 0 → IsOk result }
+    {
+        BoxedPath::from_path_buf(self)
+    }
+}
+
+/// Two boxed paths are equal if their values are, as `Path` has it.
+impl PartialEq for BoxedPath {
+    ghost eq = { λ x y. is_eq (values_cmp (values (boxed_bytes x)) (values (boxed_bytes y))) };
+
+    ghost laws = { Cmp.partial_equiv_from_equiv
+        (eq_by_cmp_equiv (Cmp.on_total (λ path. values (boxed_bytes path)) values_cmp-total)) };
+
+    fn eq(&self, other: &Self) -> bool
+        ensures value { result
+            ≡ is_eq (values_cmp (values (boxed_bytes self.now)) (values (boxed_bytes other.now))) }
+        ensures same { IsTrue result ↔ SameValues (boxed_bytes self.now) (boxed_bytes other.now) }
+    {
+        self.as_path() == other.as_path()
+    }
+}
+
+impl Eq for BoxedPath {
+    ghost laws = { eq_by_cmp_equiv
+        (Cmp.on_total (λ path. values (boxed_bytes path)) values_cmp-total) };
+}
+
+impl PartialOrd for BoxedPath {
+    ghost partial_cmp = { λ x y. Some
+        (values_cmp (values (boxed_bytes x)) (values (boxed_bytes y))) };
+
+    ghost laws = { partial_order_from_total
+        (Cmp.on_total (λ path. values (boxed_bytes path)) values_cmp-total) };
+
+    fn partial_cmp(&self, other: &Self) -> Option<Ordering> {
+        Some(self.cmp(other))
+    }
+}
+
+/// Boxed paths go by their values, as `Path` has it.
+impl Ord for BoxedPath {
+    ghost cmp = { λ x y. values_cmp (values (boxed_bytes x)) (values (boxed_bytes y)) };
+
+    ghost total = { Cmp.on_total (λ path. values (boxed_bytes path)) values_cmp-total };
+
+    ghost matches_partial_cmp = { Prim.search (comparing, rules) };
+
+    ghost matches_eq = { Prim.search (comparing, rules) };
+
+    fn cmp(&self, other: &Self) -> Ordering {
+        self.as_path().cmp(&other.as_path())
+    }
+}
+
+/// The hash of `as_path`.
+impl Hash for BoxedPath {
+    ghost hash_input = { λ path. hash_input_of (values (boxed_bytes path)) };
+
+    ghost respects_eq = { λ x y e. ap hash_input_of (is_eq-values_cmp _ _ e) };
+
+    fn hash<H: Hasher>(&self, state: &mut H) {
+        self.as_path().hash(state);
+    }
+}
+
+/// The debug form of `as_path`.
+impl fmt::Debug for BoxedPath {
+    fn fmt<W: fmt::Write>(&self, f: &mut fmt::Formatter<W>) -> fmt::Result {
+        fmt::Debug::fmt(&self.as_path(), f)
+    }
+}

@@ -1,0 +1,176 @@
+//! Paths that are borrowed or owned.
+ghost use Rattle.std.specs.Prelude.{◌≡◌, ◌↔◌, IsTrue, Some, IsOk, IfOk};
+ghost use Rattle.std.specs.Ordering.{is_eq};
+ghost use Rattle.std.specs.Cmp;
+ghost use Rattle.std.specs.Cmp.{eq_by_cmp_equiv, partial_order_from_total};
+ghost use Rattle.std.specs.Cmp.Rules.{comparing};
+ghost use Rattle.std.proofs.Common.{rules, ap};
+ghost use Rattle.unix_path.specs.Buffers.{path_bytes};
+ghost use Rattle.unix_path.specs.Hashed.{hash_input_of};
+ghost use Rattle.unix_path.specs.Kept.{cow_bytes, IsBorrowed, IsOwned};
+ghost use Rattle.unix_path.specs.Order.{values_cmp};
+ghost use Rattle.unix_path.specs.OrderLaws.{values_cmp-total, is_eq-values_cmp};
+ghost use Rattle.unix_path.specs.Parts.{values, SameValues};
+
+use crate::buf::PathBuf;
+use crate::path::Path;
+use std::alloc::{AllocError, Global};
+use std::cmp::Ordering;
+use std::fmt;
+use std::hash::{Hash, Hasher};
+
+/// A path that is borrowed, until its holder has to own it.
+///
+/// It is compared and hashed by its values, as `Path` is, whichever of the two it is. As Rust's
+/// `Cow<Path>` on Unix.
+#[derive(Drop)]
+pub enum CowPath<'a> {
+    /// A view of a path that stands elsewhere.
+    Borrowed(Path<'a>),
+    /// A path of its own.
+    Owned(PathBuf),
+}
+
+impl<'a> CowPath<'a> {
+    /// The path as a view of all its bytes. Takes no memory. As Rust's `&*path`.
+    ///
+    /// That of a borrowed `foo/` is `foo/`.
+    #[inline]
+    pub fn as_path(&self) -> Path<'_>
+        ensures { result.bytes.now ≡ cow_bytes self.now }
+    {
+        match self {
+            CowPath::Borrowed(path) => *path,
+            CowPath::Owned(path) => path.as_path(),
+        }
+    }
+
+    /// The path as a buffer: a copy where it is borrowed, and the buffer itself where it is owned.
+    ///
+    /// Asks for memory once where it is borrowed, and is refused where that isn't had; takes none
+    /// where it is owned. As Rust's `Cow::into_owned`.
+    ///
+    /// That of a borrowed `foo/` is another `foo/`.
+    pub fn into_owned(self, alloc: Global) -> Result<PathBuf, AllocError>
+        ensures bytes { IfOk result (λ p. path_bytes p ≡ cow_bytes self.entry) }
+        ensures succeeds { IsOwned self.entry → IsOk result }
+    {
+        match self {
+            CowPath::Borrowed(path) => path.to_path_buf(alloc),
+            CowPath::Owned(path) => Ok(path),
+        }
+    }
+
+    /// The same view where the path is borrowed, and a copy where it is owned.
+    ///
+    /// Asks for memory once where it is owned, and is refused where that isn't had; takes none
+    /// where it is borrowed. As `Clone` of Rust's `Cow<Path>`.
+    ///
+    /// A clone of a borrowed `foo/` is borrowed from the same place.
+    pub fn clone(&self) -> Result<CowPath<'a>, AllocError>
+        ensures bytes { IfOk result (λ p. cow_bytes p ≡ cow_bytes self.now) }
+        ensures borrowed { IfOk result (λ p. IsBorrowed p ↔ IsBorrowed self.now) }
+        ensures succeeds { IsBorrowed self.now → IsOk result }
+    {
+        match self {
+            CowPath::Borrowed(path) => Ok(CowPath::Borrowed(*path)),
+            CowPath::Owned(path) => Ok(CowPath::Owned(path.clone()?)),
+        }
+    }
+}
+
+/// The path, borrowed. Takes no memory. As Rust's `Cow::<Path>::from` a reference to a path.
+impl<'a> From<Path<'a>> for CowPath<'a> {
+    ghost from_gives = { λ path cow. (cow_bytes cow ≡ path.bytes.now) × IsBorrowed cow };
+
+    #[inline]
+    fn from(path: Path<'a>) -> CowPath<'a> {
+        CowPath::Borrowed(path)
+    }
+}
+
+/// The path, owned. Takes no memory. As Rust's `Cow::<Path>::from` a `PathBuf`.
+impl<'a> From<PathBuf> for CowPath<'a> {
+    ghost from_gives = { λ path cow. (cow_bytes cow ≡ path_bytes path) × IsOwned cow };
+
+    #[inline]
+    fn from(path: PathBuf) -> CowPath<'a> {
+        CowPath::Owned(path)
+    }
+}
+
+/// The path, borrowed. Takes no memory. As Rust's `Cow::<Path>::from` a reference to a `PathBuf`.
+impl<'a> From<&'a PathBuf> for CowPath<'a> {
+    ghost from_gives = { λ path cow. (cow_bytes cow ≡ path_bytes path.now) × IsBorrowed cow };
+
+    #[inline]
+    fn from(path: &'a PathBuf) -> CowPath<'a> {
+        CowPath::Borrowed(path.as_path())
+    }
+}
+
+/// Two paths are equal if their values are, as `Path` has it, whichever of the two each is.
+impl PartialEq for CowPath<'_> {
+    ghost eq = { λ x y. is_eq (values_cmp (values (cow_bytes x)) (values (cow_bytes y))) };
+
+    ghost laws = { Cmp.partial_equiv_from_equiv
+        (eq_by_cmp_equiv (Cmp.on_total (λ path. values (cow_bytes path)) values_cmp-total)) };
+
+    fn eq(&self, other: &Self) -> bool
+        ensures value { result
+            ≡ is_eq (values_cmp (values (cow_bytes self.now)) (values (cow_bytes other.now))) }
+        ensures same { IsTrue result ↔ SameValues (cow_bytes self.now) (cow_bytes other.now) }
+    {
+        self.as_path() == other.as_path()
+    }
+}
+
+impl Eq for CowPath<'_> {
+    ghost laws = { eq_by_cmp_equiv
+        (Cmp.on_total (λ path. values (cow_bytes path)) values_cmp-total) };
+}
+
+impl PartialOrd for CowPath<'_> {
+    ghost partial_cmp = { λ x y. Some
+        (values_cmp (values (cow_bytes x)) (values (cow_bytes y))) };
+
+    ghost laws = { partial_order_from_total
+        (Cmp.on_total (λ path. values (cow_bytes path)) values_cmp-total) };
+
+    fn partial_cmp(&self, other: &Self) -> Option<Ordering> {
+        Some(self.cmp(other))
+    }
+}
+
+/// They go by their values, as `Path` has it.
+impl Ord for CowPath<'_> {
+    ghost cmp = { λ x y. values_cmp (values (cow_bytes x)) (values (cow_bytes y)) };
+
+    ghost total = { Cmp.on_total (λ path. values (cow_bytes path)) values_cmp-total };
+
+    ghost matches_partial_cmp = { Prim.search (comparing, rules) };
+
+    ghost matches_eq = { Prim.search (comparing, rules) };
+
+    fn cmp(&self, other: &Self) -> Ordering {
+        self.as_path().cmp(&other.as_path())
+    }
+}
+
+/// The hash of `as_path`.
+impl Hash for CowPath<'_> {
+    ghost hash_input = { λ path. hash_input_of (values (cow_bytes path)) };
+
+    ghost respects_eq = { λ x y e. ap hash_input_of (is_eq-values_cmp _ _ e) };
+
+    fn hash<H: Hasher>(&self, state: &mut H) {
+        self.as_path().hash(state);
+    }
+}
+
+/// The debug form of `as_path`.
+impl fmt::Debug for CowPath<'_> {
+    fn fmt<W: fmt::Write>(&self, f: &mut fmt::Formatter<W>) -> fmt::Result {
+        fmt::Debug::fmt(&self.as_path(), f)
+    }
+}

@@ -1,0 +1,30 @@
+//! The cut of a file name at its last dot.
+ghost use Rattle.std.specs.Prelude.{◌≡◌, ◌≤◌, ◌==◌, length, option_map};
+ghost use Rattle.unix_path.specs.Names.{past_last, split_name};
+
+// The place just after the last such byte, or 0 where there is none.
+#[inline]
+pub(crate) fn past_last(bytes: &[u8], byte: u8) -> usize
+    ensures value { result ≡ past_last (λ b. b == byte) bytes.now }
+    ensures in_range { result ≤ length bytes.now }
+{
+    let mut end = bytes.len();
+    while end > 0 && bytes[end - 1] != byte {
+        end -= 1;
+    }
+    end
+}
+
+// The stem and the extension of a file name.
+#[inline]
+pub(crate) fn split_name(name: &[u8]) -> (&[u8], Option<&[u8]>)
+    ensures stem { result.0.now ≡ (split_name name.now).0 }
+    ensures extension { option_map (λ x. x.now) result.1 ≡ (split_name name.now).1 }
+    ensures in_range { length result.0.now ≤ length name.now }
+{
+    let after = past_last(name, b'.');
+    if after <= 1 {
+        return (name, None);
+    }
+    (&name[..after - 1], Some(&name[after..]))
+}

@@ -1,0 +1,144 @@
+//! Equality, order and hash by values.
+ghost use Rattle.std.specs.Prelude.{◌≡◌, ◌↔◌, IsTrue, Some, fold};
+ghost use Rattle.std.specs.Ordering.{is_eq};
+ghost use Rattle.std.specs.Cmp;
+ghost use Rattle.std.specs.Cmp.{eq_by_cmp_equiv, partial_order_from_total};
+ghost use Rattle.std.specs.Cmp.Rules.{comparing};
+ghost use Rattle.std.proofs.Common.{rules, ap};
+ghost use Rattle.unix_path.specs.Parts.{values, SameValues};
+ghost use Rattle.unix_path.specs.Cursor.{cursor_values};
+ghost use Rattle.unix_path.specs.Order.{values_cmp};
+ghost use Rattle.unix_path.specs.OrderLaws.{values_cmp-total, is_eq-values_cmp};
+ghost use Rattle.unix_path.specs.Hashed.{hash_input_of};
+
+use crate::cursor::Components;
+use crate::path::Path;
+use std::cmp::Ordering;
+use std::hash::{Hash, Hasher};
+
+// By the first values that differ; a walk with none left comes first.
+fn compare_parts<'a>(a: Components<'a>, b: Components<'a>) -> Ordering
+    ensures { result ≡ values_cmp (cursor_values a.entry) (cursor_values b.entry) }
+{
+    Iterator::cmp(a, b)
+}
+
+// By their values, as `compare_parts` has it.
+fn compare_paths<'a>(a: Path<'a>, b: Path<'a>) -> Ordering
+    ensures { result ≡ values_cmp (values a.entry.bytes.now) (values b.entry.bytes.now) }
+{
+    compare_parts(a.components(), b.components())
+}
+
+// Feeds the hasher the parts that are left, one after the other.
+fn feed_parts<H: Hasher>(parts: Components<'_>, state: &mut H)
+    ensures { state.new ≡ fold H.write state.old (hash_input_of (cursor_values parts.entry)) }
+{
+    for part in parts {
+        part.hash(state);
+    }
+}
+
+/// Two walks are equal if the values that are left are.
+impl PartialEq for Components<'_> {
+    ghost eq = { λ x y. is_eq (values_cmp (cursor_values x) (cursor_values y)) };
+
+    ghost laws = { Cmp.partial_equiv_from_equiv
+        (eq_by_cmp_equiv (Cmp.on_total cursor_values values_cmp-total)) };
+
+    fn eq(&self, other: &Self) -> bool
+        ensures value { result
+            ≡ is_eq (values_cmp (cursor_values self.now) (cursor_values other.now)) }
+        ensures same { IsTrue result ↔ (cursor_values self.now ≡ cursor_values other.now) }
+    {
+        compare_parts(*self, *other).is_eq()
+    }
+}
+
+impl Eq for Components<'_> {
+    ghost laws = { eq_by_cmp_equiv (Cmp.on_total cursor_values values_cmp-total) };
+}
+
+impl PartialOrd for Components<'_> {
+    ghost partial_cmp = { λ x y. Some (values_cmp (cursor_values x) (cursor_values y)) };
+
+    ghost laws = { partial_order_from_total (Cmp.on_total cursor_values values_cmp-total) };
+
+    fn partial_cmp(&self, other: &Self) -> Option<Ordering> {
+        Some(compare_parts(*self, *other))
+    }
+}
+
+/// Walks go by the values that are left, as `Component` orders them: the first that differ, and a
+/// proper beginning is the lesser.
+impl Ord for Components<'_> {
+    ghost cmp = { λ x y. values_cmp (cursor_values x) (cursor_values y) };
+
+    ghost total = { Cmp.on_total cursor_values values_cmp-total };
+
+    ghost matches_partial_cmp = { Prim.search (comparing, rules) };
+
+    ghost matches_eq = { Prim.search (comparing, rules) };
+
+    fn cmp(&self, other: &Self) -> Ordering {
+        compare_parts(*self, *other)
+    }
+}
+
+/// Two paths are equal if their values are: `a//b` equals `a/b/.`, and `./a` doesn't equal `a`.
+impl PartialEq for Path<'_> {
+    ghost eq = { λ x y. is_eq (values_cmp (values x.bytes.now) (values y.bytes.now)) };
+
+    ghost laws = { Cmp.partial_equiv_from_equiv
+        (eq_by_cmp_equiv (Cmp.on_total (λ path. values path.bytes.now) values_cmp-total)) };
+
+    fn eq(&self, other: &Self) -> bool
+        ensures value { result
+            ≡ is_eq (values_cmp (values self.now.bytes.now) (values other.now.bytes.now)) }
+        ensures same { IsTrue result ↔ SameValues self.now.bytes.now other.now.bytes.now }
+    {
+        compare_paths(*self, *other).is_eq()
+    }
+}
+
+impl Eq for Path<'_> {
+    ghost laws = { eq_by_cmp_equiv
+        (Cmp.on_total (λ path. values path.bytes.now) values_cmp-total) };
+}
+
+impl PartialOrd for Path<'_> {
+    ghost partial_cmp = { λ x y. Some (values_cmp (values x.bytes.now) (values y.bytes.now)) };
+
+    ghost laws = { partial_order_from_total
+        (Cmp.on_total (λ path. values path.bytes.now) values_cmp-total) };
+
+    fn partial_cmp(&self, other: &Self) -> Option<Ordering> {
+        Some(compare_paths(*self, *other))
+    }
+}
+
+/// Paths go by their values: `a/b` comes before `a.b`, and `./a` before `a`.
+impl Ord for Path<'_> {
+    ghost cmp = { λ x y. values_cmp (values x.bytes.now) (values y.bytes.now) };
+
+    ghost total = { Cmp.on_total (λ path. values path.bytes.now) values_cmp-total };
+
+    ghost matches_partial_cmp = { Prim.search (comparing, rules) };
+
+    ghost matches_eq = { Prim.search (comparing, rules) };
+
+    fn cmp(&self, other: &Self) -> Ordering {
+        compare_paths(*self, *other)
+    }
+}
+
+/// A path feeds a hasher its values one after the other, each as `Component` does.
+impl Hash for Path<'_> {
+    ghost hash_input = { λ path. hash_input_of (values path.bytes.now) };
+
+    ghost respects_eq = { λ x y e. ap hash_input_of (is_eq-values_cmp _ _ e) };
+
+    fn hash<H: Hasher>(&self, state: &mut H) {
+        feed_parts(self.components(), state);
+    }
+}

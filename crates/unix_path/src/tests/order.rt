@@ -1,0 +1,209 @@
+//! Rows of equality, order and hash, and what a caller proves of them.
+ghost use Rattle.std.specs.Prelude.{◌≡◌, ◌↔◌, IsTrue, fold};
+ghost use Rattle.std.specs.Ordering.{nat_cmp};
+ghost use Rattle.std.specs.Cmp.Lexicographic.{slice_cmp};
+ghost use Rattle.unix_bytes.specs.Hashed.{name_input};
+ghost use Rattle.unix_path.specs.Parts.{values, SameValues};
+ghost use Rattle.unix_path.specs.Cursor.{cursor_values};
+ghost use Rattle.unix_path.specs.Order.{value_cmp, values_cmp};
+ghost use Rattle.unix_path.specs.Hashed.{value_input, hash_input_of};
+ghost use Rattle.unix_path.specs.Views.{value_of};
+
+use super::kept::Kept;
+use crate::bytes::UnixStr;
+use crate::{Component, Components, Path};
+use std::cmp::Ordering;
+use std::collections::{BTreeMap, HashMap};
+use std::hash::{Hash, Hasher};
+use std::test::Fail;
+
+fn path(text: &str) -> Path<'_> {
+    Path::new(UnixStr::new(text))
+}
+
+fn same_names<'a>(a: UnixStr<'a>, b: UnixStr<'a>) -> bool
+    ensures { IsTrue result ↔ (a.entry.bytes.now ≡ b.entry.bytes.now) }
+{
+    a == b
+}
+
+fn order_names<'a>(a: UnixStr<'a>, b: UnixStr<'a>) -> Ordering
+    ensures { result ≡ slice_cmp nat_cmp a.entry.bytes.now b.entry.bytes.now }
+{
+    a.cmp(&b)
+}
+
+fn feed_name<H: Hasher>(a: UnixStr<'_>, state: &mut H)
+    ensures { state.new ≡ fold H.write state.old (name_input a.entry.bytes.now) }
+{
+    a.hash(state);
+}
+
+fn same_components<'a>(a: Component<'a>, b: Component<'a>) -> bool
+    ensures { IsTrue result ↔ (value_of a.entry ≡ value_of b.entry) }
+{
+    a == b
+}
+
+fn order_components<'a>(a: Component<'a>, b: Component<'a>) -> Ordering
+    ensures { result ≡ value_cmp (value_of a.entry) (value_of b.entry) }
+{
+    a.cmp(&b)
+}
+
+fn feed_component<H: Hasher>(a: Component<'_>, state: &mut H)
+    ensures { state.new ≡ fold H.write state.old (value_input (value_of a.entry)) }
+{
+    a.hash(state);
+}
+
+fn same_walks<'a>(a: Components<'a>, b: Components<'a>) -> bool
+    ensures { IsTrue result ↔ (cursor_values a.entry ≡ cursor_values b.entry) }
+{
+    a == b
+}
+
+fn order_walks<'a>(a: Components<'a>, b: Components<'a>) -> Ordering
+    ensures { result ≡ values_cmp (cursor_values a.entry) (cursor_values b.entry) }
+{
+    Ord::cmp(&a, &b)
+}
+
+fn same_paths<'a>(a: Path<'a>, b: Path<'a>) -> bool
+    ensures { IsTrue result ↔ SameValues a.entry.bytes.now b.entry.bytes.now }
+{
+    a == b
+}
+
+fn order_paths<'a>(a: Path<'a>, b: Path<'a>) -> Ordering
+    ensures { result ≡ values_cmp (values a.entry.bytes.now) (values b.entry.bytes.now) }
+{
+    a.cmp(&b)
+}
+
+fn feed_path<H: Hasher>(a: Path<'_>, state: &mut H)
+    ensures { state.new ≡ fold H.write state.old (hash_input_of (values a.entry.bytes.now)) }
+{
+    a.hash(state);
+}
+
+fn fed(text: &str) -> Kept {
+    let mut state = Kept::new();
+    feed_path(path(text), &mut state);
+    state
+}
+
+static ORDERED: [(&str, &str, Ordering); 18] = [
+    ("a/./b", "a/b", Ordering::Equal),
+    ("foo", "foo", Ordering::Equal),
+    ("a/b", "a.b", Ordering::Less),
+    ("./a", "a", Ordering::Less),
+    ("a/./b//", "a/b", Ordering::Equal),
+    ("..", "+", Ordering::Less),
+    ("/", ".", Ordering::Less),
+    ("a", "", Ordering::Greater),
+    ("./.", ".", Ordering::Equal),
+    ("", "", Ordering::Equal),
+    ("foo", "", Ordering::Greater),
+    ("foo/", "foo", Ordering::Equal),
+    ("foo/bar", "foo/bar/baz", Ordering::Less),
+    ("a/b/", "a/b", Ordering::Equal),
+    ("a/b/.", "a/b", Ordering::Equal),
+    ("./a/b", "a/b", Ordering::Less),
+    ("a/c", "a/b/../c", Ordering::Greater),
+    (".", "..", Ordering::Less),
+];
+
+fn is_ordered(a: &str, b: &str, order: Ordering) -> bool {
+    let (p, q) = (path(a), path(b));
+    let (walk, other) = (p.components(), q.components());
+    order_paths(p, q) == order
+        && order_paths(q, p) == order.reverse()
+        && p.partial_cmp(&q) == Some(order)
+        && same_paths(p, q) == order.is_eq()
+        && order_walks(walk, other) == order
+        && PartialOrd::partial_cmp(&walk, &other) == Some(order)
+        && same_walks(walk, other) == order.is_eq()
+        && (!order.is_eq() || fed(a) == fed(b))
+}
+
+#[test]
+fn rows_of_the_order(rt: HostRuntime) {
+    for row in ORDERED.iter() {
+        assert!(rt; is_ordered(row.0, row.1, row.2), "{} {}", row.0, row.1);
+    }
+}
+
+#[test]
+fn walks_are_equal_by_what_is_left(rt: HostRuntime) {
+    let mut walk = path("x/a/b").components();
+    assert!(rt; !same_walks(walk, path("a//b").components()));
+    assert!(rt; walk.next() == Some(Component::Normal(UnixStr::new("x"))));
+    assert!(rt; same_walks(walk, path("a//b").components()));
+}
+
+fn components_go_by(kinds: &[Component<'_>]) -> bool {
+    for (i, x) in kinds.iter().enumerate() {
+        for (j, y) in kinds.iter().enumerate() {
+            let same = same_components(*x, *y) == (i == j);
+            if order_components(*x, *y) != i.cmp(&j) || !same {
+                return false;
+            }
+        }
+    }
+    true
+}
+
+#[test]
+fn components_and_names(rt: HostRuntime) {
+    let (a, b) = (UnixStr::new("a"), UnixStr::new("a."));
+    let plus = Component::Normal(UnixStr::new("+"));
+    let names = (Component::Normal(a), Component::Normal(b));
+    let kinds = [
+        Component::RootDir,
+        Component::CurDir,
+        Component::ParentDir,
+        plus,
+        names.0,
+        names.1,
+    ];
+    assert!(rt; components_go_by(&kinds));
+    assert!(rt; order_names(a, b) == Ordering::Less && order_names(b, a) == Ordering::Greater);
+    assert!(rt; same_names(a, a) && !same_names(a, b));
+}
+
+fn feed_differently(texts: &[&str]) -> bool {
+    for (i, a) in texts.iter().enumerate() {
+        for (j, b) in texts.iter().enumerate() {
+            if (fed(a) == fed(b)) != (i == j) {
+                return false;
+            }
+        }
+    }
+    true
+}
+
+#[test]
+fn paths_feed_their_components(rt: HostRuntime) {
+    assert!(rt; feed_differently(&["a", "b", "/a", "./a", ".."]));
+    let mut parts = Kept::new();
+    feed_component(Component::Normal(UnixStr::new("a")), &mut parts);
+    feed_component(Component::Normal(UnixStr::new("b")), &mut parts);
+    assert!(rt; fed("a//b") == parts && parts.len > 0);
+    let mut name = Kept::new();
+    feed_name(UnixStr::new("a"), &mut name);
+    assert!(rt; name.len > 0 && name.len < fed("a").len);
+}
+
+#[test]
+fn maps_find_equal_paths(rt: HostRuntime) -> Result<(), Fail> {
+    let mut hashed = HashMap::new(rt.alloc());
+    hashed.insert(path("a//b"), 1)?;
+    assert!(rt; hashed.get(&path("a/b/.")) == Some(&1));
+    assert!(rt; hashed.get(&path("./a/b")).is_none());
+    let mut ordered = BTreeMap::new(rt.alloc());
+    ordered.insert(path("a//b"), 1)?;
+    assert!(rt; ordered.get(&path("a/b/.")) == Some(&1));
+    assert!(rt; ordered.get(&path("./a/b")).is_none());
+    Ok(())
+}

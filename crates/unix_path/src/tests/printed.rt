@@ -1,0 +1,69 @@
+//! The debug and display texts.
+use crate::bytes::UnixStr;
+use crate::path::StripPrefixError;
+use crate::{Component, Path};
+use std::alloc::{AllocError, Global};
+use std::fmt;
+use std::test::Fail;
+
+fn has_debug_text<T: fmt::Debug>(alloc: Global, value: &T, text: &str) -> Result<bool, AllocError> {
+    Ok(format!(in alloc; "{value:?}")?.as_str() == text)
+}
+
+#[test]
+fn debug_texts(rt: HostRuntime) -> Result<(), Fail> {
+    let alloc = rt.alloc();
+    let path = Path::new(UnixStr::new("/tmp"));
+    let mut parts = path.components();
+    assert!(rt; has_debug_text(alloc, &parts, "Components([RootDir, Normal(\"tmp\")])")?);
+    let _ = parts.next();
+    assert!(rt; has_debug_text(alloc, &parts, "Components([Normal(\"tmp\")])")?);
+    let _ = parts.next();
+    assert!(rt; has_debug_text(alloc, &parts, "Components([])")?);
+    let mut texts = path.iter();
+    assert!(rt; has_debug_text(alloc, &texts, "Iter([\"/\", \"tmp\"])")?);
+    let _ = texts.next();
+    assert!(rt; has_debug_text(alloc, &texts, "Iter([\"tmp\"])")?);
+    let _ = texts.next();
+    assert!(rt; has_debug_text(alloc, &texts, "Iter([])")?);
+    let mut ancestors = path.ancestors();
+    assert!(rt; has_debug_text(alloc, &ancestors, "Ancestors { next: Some(\"/tmp\") }")?);
+    let _ = ancestors.next();
+    assert!(rt; has_debug_text(alloc, &ancestors, "Ancestors { next: Some(\"/\") }")?);
+    let _ = ancestors.next();
+    assert!(rt; has_debug_text(alloc, &ancestors, "Ancestors { next: None }")?);
+    assert!(rt; has_debug_text(alloc, &path, "\"/tmp\"")?);
+    assert!(rt; has_debug_text(alloc, &path.as_unix_str(), "\"/tmp\"")?);
+    Ok(())
+}
+
+#[test]
+fn debug_texts_of_components(rt: HostRuntime) -> Result<(), Fail> {
+    let alloc = rt.alloc();
+    assert!(rt; has_debug_text(alloc, &Component::RootDir, "RootDir")?);
+    assert!(rt; has_debug_text(alloc, &Component::CurDir, "CurDir")?);
+    assert!(rt; has_debug_text(alloc, &Component::ParentDir, "ParentDir")?);
+    let name = Component::Normal(UnixStr::new("tmp"));
+    assert!(rt; has_debug_text(alloc, &name, "Normal(\"tmp\")")?);
+    Ok(())
+}
+
+fn refusal(path: &str, base: &str) -> Option<StripPrefixError> {
+    match Path::new(UnixStr::new(path)).strip_prefix(Path::new(UnixStr::new(base))) {
+        Ok(_) => None,
+        Err(error) => Some(error),
+    }
+}
+
+#[test]
+fn texts_of_the_refusal(rt: HostRuntime) -> Result<(), Fail> {
+    let alloc = rt.alloc();
+    let Some(error) = refusal("foo/bar", "foo/bar/baz") else {
+        return Err(Fail::new("no refusal"));
+    };
+    assert!(rt; has_debug_text(alloc, &error, "StripPrefixError(())")?);
+    let text = format!(in alloc; "{error}|{error:>18}")?;
+    assert_eq!(rt; text.as_str(), "prefix not found|  prefix not found");
+    assert!(rt; refusal("foo", "bar") == Some(error));
+    Ok(())
+}
