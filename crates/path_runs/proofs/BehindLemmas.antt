@@ -1,0 +1,92 @@
+-- A last part behind an open front, taken off again.
+use Rattle.std.proofs.Common.{◌≡◌, ℕ, ◌+◌, ◌≤◌, true, List, [], ◌∷◌, ◌++◌, length, take, map}
+use Rattle.std.proofs.Common.{refl, sym, ap, ap₂, ◌∙◌, arith, append_assoc, append-nil}
+use Rattle.std.proofs.lemmas.List.{map-append, take-append-le, append_cancel_left}
+use Rattle.unix_path.specs.Parts.{slash, Part, Value, counted, leading_part, parts, values}
+use Rattle.unix_path.specs.Rest.{rest}
+use Rattle.unix_path.specs.Steps.{parts_end}
+use Rattle.unix_path.specs.Joins.{is_open}
+use Rattle.unix_path.proofs.CaseLemmas.{by_test}
+use Rattle.unix_path.proofs.CutLemmas.{counted-append}
+use Rattle.unix_path.proofs.PartLemmas.{parts-nil}
+use Rattle.unix_path.proofs.PieceLemmas.{counted-nil}
+use Rattle.unix_path.proofs.SpanLemmas.{length-rest_whole, rest-whole, span-parts}
+use Rattle.unix_path.proofs.StemLemmas.{length-rest_front}
+use Rattle.unix_path.proofs.StepLemmas.{rest-last}
+use Rattle.unix_path.proofs.TrimLemmas.{leading_past_slash, parts-slash}
+use Rattle.path_runs.proofs.AssociativeLemmas.{sep}
+use Rattle.path_runs.proofs.ValueLemmas.{ends_open, not_open}
+
+abbrev value_of_part : Part → Value
+value_of_part p = p.value
+
+parts-past_slash : (f b : List ℕ)
+    → parts (f ++ slash ∷ b) ≡ parts (f ++ slash ∷ []) ++ counted (0 + length f + 1) b
+unfolding parts
+parts-past_slash f b =
+    let k = 0 + length f + 1 in
+    let lead = leading_part (f ++ slash ∷ []) in
+    ap₂ ◌++◌ (leading_past_slash f b []) (counted-append 0 f b)
+    ∙ sym (append_assoc lead (counted 0 f) (counted k b))
+    ∙ ap (λ ps. (lead ++ ps) ++ counted k b)
+    (sym (counted-append 0 f [] ∙ ap (λ ps. counted 0 f ++ ps) (counted-nil k)
+    ∙ append-nil (counted 0 f)))
+
+-- behind an open front the parts are those of the front, and more
+parts-open : (u b : List ℕ) → is_open u ≡ true
+    → (more : List Part) × (parts (u ++ b) ≡ parts u ++ more)
+parts-open [] b o = (parts b, sym (ap (λ ps. ps ++ parts b) parts-nil))
+parts-open (x ∷ u) b o =
+    let cut = ends_open (x ∷ u) o (omega arith) in (
+      counted (0 + length cut.0 + 1) b,
+      ap (λ u. parts (u ++ b)) (sym cut.1)
+          ∙ ap parts (append_assoc cut.0 (slash ∷ []) b) ∙ parts-past_slash cut.0 b
+          ∙ ap (λ u. parts u ++ counted (0 + length cut.0 + 1) b) cut.1,
+    )
+
+single : (ps : List Part) (v : Value) → map value_of_part ps ≡ v ∷ []
+    → (p : Part) × (ps ≡ p ∷ [])
+single [] v e = absurd (let no : [] ≡ v ∷ [] = e in cc)
+single (p ∷ []) v e = (p, refl)
+single (p ∷ q ∷ ps) v e =
+    absurd (let no : p.value ∷ q.value ∷ map value_of_part ps ≡ v ∷ [] = e in cc)
+
+-- where the values are those of the front and one more, so are the parts
+last_behind : (u b : List ℕ) (v : Value) → is_open u ≡ true
+    → values (u ++ b) ≡ values u ++ v ∷ []
+    → (p : Part) × (parts (u ++ b) ≡ parts u ++ p ∷ [])
+unfolding values
+last_behind u b v o e =
+    let behind = parts-open u b o in
+    let more = behind.0 in
+    let one = single more v (append_cancel_left (map value_of_part (parts u))
+    (map value_of_part more) (v ∷ [])
+    (sym (map-append value_of_part (parts u) more) ∙ ap (map value_of_part) (sym behind.1) ∙ e)) in
+    (one.0, behind.1 ∙ ap (λ ps. parts u ++ ps) one.1)
+
+parts_end-le : (s : List ℕ) → parts_end (parts s) ≤ length s
+parts_end-le s = omega (arith, length-rest_whole s, length-rest_front s)
+
+-- a rest is read from a front alone
+rest-of_front : (u b : List ℕ) → take (parts_end (parts u)) (u ++ b) ≡ rest u 0 0
+rest-of_front u b =
+    take-append-le (parts_end (parts u)) u b (parts_end-le u) ∙ sym (rest-whole u)
+
+-- without its last part, a path with an open front is that front's rest
+pub rest-behind : (u b : List ℕ) (v : Value) → is_open u ≡ true
+    → values (u ++ b) ≡ values u ++ v ∷ [] → rest (u ++ b) 0 1 ≡ rest u 0 0
+rest-behind u b v o e =
+    let last = last_behind u b v o e in
+    rest-last (u ++ b) (parts u) last.0 last.1 ∙ span-parts (u ++ b) u ∙ rest-of_front u b
+
+parts-sep : (r : List ℕ) → parts (r ++ sep r) ≡ parts r
+parts-sep r = by_test (is_open r) (λ o. rw o (ap parts (append-nil r)))
+    (λ o. rw o (parts-slash r (not_open r o)))
+
+pub values-sep : (r : List ℕ) → values (r ++ sep r) ≡ values r
+unfolding values
+values-sep r = ap (map value_of_part) (parts-sep r)
+
+pub rest-sep : (r : List ℕ) → rest (r ++ sep r) 0 0 ≡ rest r 0 0
+rest-sep r = rest-whole (r ++ sep r)
+    ∙ ap (λ ps. take (parts_end ps) (r ++ sep r)) (parts-sep r) ∙ rest-of_front r (sep r)

@@ -1,0 +1,112 @@
+-- A path with a plain extension set.
+use Rattle.std.proofs.Common.{◌≡◌, ℕ, ◌<◌, true, List, [], ◌∷◌, ◌++◌, length, Option}
+use Rattle.std.proofs.Common.{Some, None, is_some, option_map, refl, sym, ap, subst, ◌∙◌, arith}
+use Rattle.std.proofs.Common.{append_assoc, length-append}
+use Rattle.unix_path.specs.Parts.{Value, Normal, values}
+use Rattle.unix_path.specs.Rest.{rest}
+use Rattle.unix_path.specs.Names.{parent_of, file_name_of, split_name, stem_of, extension_by}
+use Rattle.unix_path.specs.Names.{extension_of}
+use Rattle.unix_path.specs.Edits.{with_extension_of}
+use Rattle.unix_path.specs.Joins.{is_open}
+use Rattle.path_runs.specs.declared.edits.Answer.TheVariants.{Flag}
+use Rattle.path_runs.specs.JoinLaws.{unled}
+use Rattle.path_runs.specs.EditLaws.{HasNone, IsPlainExtension}
+use Rattle.path_runs.proofs.BehindLemmas.{rest-behind}
+use Rattle.path_runs.proofs.CongruenceLemmas.{with_extension_of-cut}
+use Rattle.path_runs.proofs.DotLemmas.{SplitCase, Whole, Cut, split_case, split_name-dot}
+use Rattle.path_runs.proofs.DotLemmas.{stem_front}
+use Rattle.path_runs.proofs.LeadLemmas.{unled-values}
+use Rattle.path_runs.proofs.NamedLemmas.{IsName, NamedCut, named_cut}
+use Rattle.path_runs.proofs.PieceNameLemmas.{IsPiece, piece-front, piece-append, piece-none}
+use Rattle.path_runs.proofs.PieceNameLemmas.{long-name, values-name}
+use Rattle.path_runs.proofs.SiblingLemmas.{parent_of-named, file_name_of-named}
+use Rattle.path_runs.proofs.ValueLemmas.{added, added-open}
+
+some_stem : (name : List ℕ) → 0 < length name → 0 < length (split_name name).0
+some_stem name l = by (split_case name)
+  where
+    by : SplitCase name → 0 < length (split_name name).0
+    by (Whole e) = subst (λ c. 0 < length c.0) (sym e) l
+    by (Cut b f x w e) = subst (λ c. 0 < length c.0) (sym e) (omega arith)
+
+-- the new name, and what stands before it
+pub record NewExtension (s t stem x : List ℕ) : Type 0 where
+  pub name : List ℕ
+  pub named : file_name_of t ≡ Some name
+  pub split : split_name name ≡ (stem, Some x)
+  pub parent : parent_of t ≡ parent_of s
+
+stem_piece : (name : List ℕ) → IsPiece name → IsPiece (split_name name).0
+stem_piece name h =
+    let front = stem_front name in
+    piece-front (split_name name).0 front.0 (subst IsPiece front.1 h)
+
+-- the stem with such an extension behind
+new_name : (name : List ℕ) (b : ℕ) (x : List ℕ) → IsName name → HasNone 47 (b ∷ x)
+    → IsName ((split_name name).0 ++ 46 ∷ b ∷ x)
+new_name name b x h k =
+    let stem = (split_name name).0 in
+    let some = some_stem name h.some in
+    long-name (stem ++ 46 ∷ b ∷ x) (omega (arith, length-append stem (46 ∷ b ∷ x)))
+    (piece-append stem (46 ∷ b ∷ x) (stem_piece name h.no_slash)
+    (piece-append (46 ∷ []) (b ∷ x) refl (piece-none (b ∷ x) k)))
+
+values-open_name : (u name : List ℕ) → values name ≡ Normal name ∷ []
+    → added (values u) name ≡ values u ++ Normal name ∷ []
+values-open_name u name e = by (values u)
+  where
+    by : (vs : List Value) → added vs name ≡ vs ++ Normal name ∷ []
+    by [] = e
+    by (v ∷ vs) = ap (λ ws. v ∷ vs ++ ws)
+        (sym (unled-values name) ∙ ap unled e)
+
+-- a path behind an open front has that front's rest as its parent
+parent_of-open : (s u b name : List ℕ) → s ≡ u ++ b → is_open u ≡ true
+    → values s ≡ values u ++ Normal name ∷ [] → parent_of s ≡ Some (rest u 0 0)
+parent_of-open s u b name is o e =
+    parent_of-named s name (values u) e
+    ∙ ap Some (ap (λ s. rest s 0 1) is
+    ∙ rest-behind u b (Normal name) o (ap values (sym is) ∙ e))
+
+set_from : (s name : List ℕ) (b : ℕ) (x : List ℕ) → file_name_of s ≡ Some name
+    → NamedCut s name → HasNone 46 (b ∷ x) → HasNone 47 (b ∷ x)
+    → NewExtension s (with_extension_of s (b ∷ x)) (split_name name).0 (b ∷ x)
+set_from s name b x e c dot slash =
+    let stem = (split_name name).0 in
+    let new = stem ++ 46 ∷ b ∷ x in
+    let t = with_extension_of s (b ∷ x) in
+    let is : t ≡ c.front ++ new = with_extension_of-cut s name (b ∷ x) e c in
+    let all : values t ≡ values c.front ++ Normal new ∷ [] =
+    ap values is ∙ added-open c.front new c.ends
+    ∙ values-open_name c.front new (values-name new (new_name name b x c.is_name slash)) in
+    record {
+      name = new;
+      named = file_name_of-named t new (values c.front) all;
+      split = split_name-dot stem (b ∷ x) (some_stem name c.is_name.some) dot;
+      parent = parent_of-open t c.front new new is c.ends all
+          ∙ sym (parent_of-open s c.front (name ++ c.back) name
+          (c.whole ∙ append_assoc c.front name c.back) c.ends c.before);
+    }
+
+pub set_extension : (s name x : List ℕ) → file_name_of s ≡ Some name → IsPlainExtension x
+    → NewExtension s (with_extension_of s x) (split_name name).0 x
+set_extension s name [] e h = absurd (h.some refl)
+set_extension s name (b ∷ x) e h = set_from s name b x e (named_cut s name e) h.no_dot h.no_slash
+
+pub some_name : (s : List ℕ) → Flag (is_some (file_name_of s)) ≡ Flag true
+    → (name : List ℕ) × (file_name_of s ≡ Some name)
+some_name s e = by (file_name_of s) refl e
+  where
+    by : (o : Option (List ℕ)) → file_name_of s ≡ o → Flag (is_some o) ≡ Flag true
+        → (name : List ℕ) × (file_name_of s ≡ Some name)
+    by None is e = absurd (cc)
+    by (Some name) is e = (name, is)
+
+pub stem_of-new : (s t name x : List ℕ) → file_name_of s ≡ Some name
+    → NewExtension s t (split_name name).0 x → stem_of t ≡ stem_of s
+stem_of-new s t name x e h =
+    ap (option_map (λ name. (split_name name).0)) h.named ∙ ap (λ c. Some c.0) h.split
+    ∙ sym (ap (option_map (λ name. (split_name name).0)) e)
+
+pub extension_of-new : (s t stem x : List ℕ) → NewExtension s t stem x → extension_of t ≡ Some x
+extension_of-new s t stem x h = ap extension_by h.named ∙ ap (λ c. c.1) h.split

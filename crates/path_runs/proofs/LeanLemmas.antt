@@ -1,0 +1,115 @@
+-- No path with these values is shorter than their spelling.
+use Rattle.std.proofs.Common.{◌≡◌, ℕ, ◌≤◌, ◌<◌, Bool, true, false, cond, List, [], ◌∷◌, ◌++◌}
+use Rattle.std.proofs.Common.{length, filter, refl, sym, ap, subst, ◌⊎◌, inl, inr, arith}
+use Rattle.std.proofs.Common.{append_assoc, length-append}
+use Rattle.std.specs.List.{slice_split, join_with_byte}
+use Rattle.std.specs.Str.{bytes_eq}
+use Rattle.std.proofs.lemmas.List.Splits.{join_with_byte-slice_split}
+use Rattle.std.proofs.lemmas.Slice.Eq.{bytes_eq-Decides}
+use Rattle.unix_path.specs.Parts.{is_slash, slash, cur_dir, is_rooted, values}
+use Rattle.unix_path.proofs.CaseLemmas.{by_test}
+use Rattle.path_runs.specs.Spelling.{spelling_of}
+use Rattle.path_runs.proofs.PieceValueLemmas.{is_named, rooted_is}
+use Rattle.path_runs.proofs.SpellLemmas.{kept_of, spelling_of-rooted, spelling_of-rootless}
+
+-- the same bytes, or fewer
+abbrev pub Leaner : List ℕ → List ℕ → Type 0
+Leaner u s = (u ≡ s) ⊎ (length u < length s)
+
+Leaner-append : (p u s : List ℕ) → Leaner u s → Leaner (p ++ u) (p ++ s)
+Leaner-append p u s (inl e) = inl (ap (λ z. p ++ z) e)
+Leaner-append p u s (inr h) = inr (omega (arith, length-append p u, length-append p s))
+
+Leaner-longer : (u s t : List ℕ) → Leaner u s → length s < length t → Leaner u t
+Leaner-longer u s t (inl e) l = inr (omega (arith, ap length e))
+Leaner-longer u s t (inr h) l = inr (omega arith)
+
+-- a piece less is a byte less, at least
+row_less : (p q : List ℕ) (qs : List (List ℕ))
+    → length (join_with_byte slash (p ∷ qs)) < length (join_with_byte slash (p ∷ q ∷ qs))
+row_less p q [] = omega (arith, length-append p (slash ∷ q))
+row_less p q (r ∷ qs) =
+    let u = join_with_byte slash (r ∷ qs) in
+    omega (
+      arith,
+      length-append p (slash ∷ u),
+      length-append p (slash ∷ (q ++ slash ∷ u)),
+      length-append q (slash ∷ u),
+    )
+
+lean_after : (p : List ℕ) (qs : List (List ℕ))
+    → Leaner (join_with_byte slash (p ∷ filter is_named qs)) (join_with_byte slash (p ∷ qs))
+lean_after p [] = inl refl
+lean_after p (q ∷ qs) = by_test (is_named q)
+    (λ e. rw e (subst (λ z. Leaner z (p ++ slash ∷ join_with_byte slash (q ∷ qs)))
+    (append_assoc p (slash ∷ []) (join_with_byte slash (q ∷ filter is_named qs)))
+    (subst (Leaner ((p ++ slash ∷ []) ++ join_with_byte slash (q ∷ filter is_named qs)))
+    (append_assoc p (slash ∷ []) (join_with_byte slash (q ∷ qs)))
+    (Leaner-append (p ++ slash ∷ []) (join_with_byte slash (q ∷ filter is_named qs))
+    (join_with_byte slash (q ∷ qs)) (lean_after q qs)))))
+    (λ e. rw e (Leaner-longer (join_with_byte slash (p ∷ filter is_named qs))
+    (join_with_byte slash (p ∷ qs)) (join_with_byte slash (p ∷ q ∷ qs)) (lean_after p qs)
+    (row_less p q qs)))
+
+lean_first : (q : List ℕ) (qs : List (List ℕ))
+    → Leaner (join_with_byte slash (filter is_named qs)) (join_with_byte slash qs)
+    → Leaner (join_with_byte slash (filter is_named qs)) (join_with_byte slash (q ∷ qs))
+lean_first [] [] h = inl refl
+lean_first (x ∷ q) [] h = inr (omega arith)
+lean_first q (r ∷ qs) h =
+    Leaner-longer (join_with_byte slash (filter is_named (r ∷ qs))) (join_with_byte slash (r ∷ qs))
+    (q ++ slash ∷ join_with_byte slash (r ∷ qs)) h
+    (omega (arith, length-append q (slash ∷ join_with_byte slash (r ∷ qs))))
+
+-- dropping pieces leaves fewer bytes
+lean_row : (qs : List (List ℕ))
+    → Leaner (join_with_byte slash (filter is_named qs)) (join_with_byte slash qs)
+lean_row [] = inl refl
+lean_row (q ∷ qs) = by_test (is_named q) (λ e. rw e (lean_after q qs))
+    (λ e. rw e (lean_first q qs (lean_row qs)))
+
+-- a string is its pieces, joined
+pieces_joined : (s : List ℕ) → join_with_byte slash (slice_split is_slash s) ≡ s
+pieces_joined s = join_with_byte-slice_split 47 s
+
+lean_rooted : (t : List ℕ) → Leaner (spelling_of (values (slash ∷ t))) (slash ∷ t)
+lean_rooted t =
+    let ps = slice_split is_slash t in
+    subst (λ u. Leaner u (slash ∷ t)) (sym (spelling_of-rooted t))
+    (Leaner-append (slash ∷ []) (join_with_byte slash (filter is_named ps)) t
+    (subst (Leaner (join_with_byte slash (filter is_named ps))) (pieces_joined t)
+    (lean_row ps)))
+
+lean_kept : (ps : List (List ℕ))
+    → Leaner (join_with_byte slash (kept_of ps)) (join_with_byte slash ps)
+lean_kept [] = inl refl
+lean_kept (p ∷ qs) = by (bytes_eq p cur_dir) refl
+  where
+    by : (c : Bool) → bytes_eq p cur_dir ≡ c
+        → Leaner (join_with_byte slash (kept_of (p ∷ qs))) (join_with_byte slash (p ∷ qs))
+    by true d = subst (λ p. Leaner (join_with_byte slash (kept_of (p ∷ qs)))
+        (join_with_byte slash (p ∷ qs))) (sym ((bytes_eq-Decides p cur_dir).0 d))
+        (lean_after cur_dir qs)
+    by false d = subst (λ c. Leaner
+        (join_with_byte slash (cond c (cur_dir ∷ filter is_named qs) (filter is_named (p ∷ qs))))
+        (join_with_byte slash (p ∷ qs))) (sym d) (lean_row (p ∷ qs))
+
+-- the spelling is the path itself, or has fewer bytes
+spelling_of-lean : (s : List ℕ) → Leaner (spelling_of (values s)) s
+spelling_of-lean s = by_test (is_rooted s)
+    (λ r. let t = rooted_is s r in
+    subst (λ s. Leaner (spelling_of (values s)) s) (sym t.1) (lean_rooted t.0))
+    (λ r. subst (λ u. Leaner u s) (sym (spelling_of-rootless s (slice_split is_slash s) r refl))
+    (subst (Leaner (join_with_byte slash (kept_of (slice_split is_slash s)))) (pieces_joined s)
+    (lean_kept (slice_split is_slash s))))
+
+-- each path with these values is at least as long as the spelling, and one as long is the spelling
+pub spelling_of-shortest : (s t : List ℕ) → values t ≡ values s
+    → (length (spelling_of (values s)) ≤ length t)
+    × (length t ≡ length (spelling_of (values s)) → t ≡ spelling_of (values s))
+spelling_of-shortest s t e =
+    by (spelling_of (values s)) (subst (λ z. Leaner (spelling_of z) t) e (spelling_of-lean t))
+  where
+    by : (u : List ℕ) → Leaner u t → (length u ≤ length t) × (length t ≡ length u → t ≡ u)
+    by u (inl h) = (omega (arith, ap length h), λ k. sym h)
+    by u (inr h) = (omega arith, λ k. absurd (omega arith))

@@ -1,0 +1,138 @@
+-- A path cut at its file name.
+use Rattle.std.proofs.Common.{◌≡◌, ℕ, zero, suc, ◌+◌, ◌-◌, ◌≤◌, ◌<◌, Bool, true, false, cond, eqb}
+use Rattle.std.proofs.Common.{ltb}
+use Rattle.std.proofs.Common.{List, [], ◌∷◌, ◌++◌, length, take, drop, get_or, map, Some, refl, sym}
+use Rattle.std.proofs.Common.{ap}
+use Rattle.std.proofs.Common.{subst, ◌∙◌, arith, length-append, length-take-le, take-append-drop}
+use Rattle.std.proofs.Common.{get_or-take, eq-eqb, ltb-true, ltb-false, length-drop}
+use Rattle.std.specs.List.{position_or_len}
+use Rattle.std.specs.Str.{bytes_eq}
+use Rattle.std.proofs.lemmas.List.{map-append, get_or_default}
+use Rattle.std.proofs.lemmas.Option.{none-some}
+use Rattle.unix_path.specs.Parts.{is_slash, cur_dir, parent_dir, Part, Value, RootDir, CurDir}
+use Rattle.unix_path.specs.Parts.{ParentDir, Normal, parts, values}
+use Rattle.unix_path.specs.Rest.{rest}
+use Rattle.unix_path.specs.Steps.{IsLastStart, first_value, parts_end}
+use Rattle.unix_path.specs.Joins.{is_open}
+use Rattle.unix_path.specs.Names.{last_of, name_by, file_name_of}
+use Rattle.unix_path.specs.Edits.{last_start_of}
+use Rattle.unix_path.proofs.CaseLemmas.{by_test, is_nil}
+use Rattle.unix_path.proofs.EndLemmas.{last_of-push}
+use Rattle.unix_path.proofs.JoinLemmas.{is_open-at}
+use Rattle.unix_path.proofs.LastLemmas.{last_part, last_start, root_alone}
+use Rattle.unix_path.proofs.PartLemmas.{values-nil}
+use Rattle.unix_path.proofs.SpanLemmas.{Trimmed, trimmed, length-rest_whole, parts_end-whole}
+use Rattle.unix_path.proofs.StemLemmas.{name_by-some, last_start_of-name}
+
+-- one piece that stands for a name wherever it stands
+pub record IsName (name : List ℕ) : Type 0 where
+  pub some : 0 < length name
+  pub no_slash : position_or_len is_slash name ≡ length name
+  pub no_dot : bytes_eq name cur_dir ≡ false
+  pub no_dots : bytes_eq name parent_dir ≡ false
+
+-- s is an open front, the name, and what doesn't count behind it
+pub record NamedCut (s name : List ℕ) : Type 0 where
+  pub front : List ℕ
+  pub back : List ℕ
+  pub whole : s ≡ (front ++ name) ++ back
+  pub ends : is_open front ≡ true
+  pub start : last_start_of (parts s) ≡ length front
+  pub before : values s ≡ values front ++ Normal name ∷ []
+  pub is_name : IsName name
+
+pub name_of_push : (s name : List ℕ) (vs : List Value) (v : Value) → values s ≡ vs ++ v ∷ []
+    → file_name_of s ≡ Some name → v ≡ Normal name
+unfolding file_name_of
+name_of_push s name vs v is e = name_by-some v name
+    (sym (ap (λ vs. name_by (last_of vs)) is ∙ ap name_by (last_of-push vs v)) ∙ e)
+
+pub no_name : (s name : List ℕ) → values s ≡ [] → file_name_of s ≡ Some name → ⊥
+unfolding file_name_of
+no_name s name is e = none-some name (sym (ap (λ vs. name_by (last_of vs)) is) ∙ e)
+
+record IsNamePiece (y name : List ℕ) : Type 0 where
+  same : y ≡ name
+  no_dot : bytes_eq y cur_dir ≡ false
+  no_dots : bytes_eq y parent_dir ≡ false
+
+name_piece : (y name : List ℕ) → first_value y ≡ Normal name → IsNamePiece y name
+name_piece y name h = by (bytes_eq y cur_dir) refl (bytes_eq y parent_dir) refl h
+  where
+    by : (c : Bool) → bytes_eq y cur_dir ≡ c → (d : Bool) → bytes_eq y parent_dir ≡ d
+        → cond c CurDir (cond d ParentDir (Normal y)) ≡ Normal name → IsNamePiece y name
+    by true e d k h = absurd (let no : CurDir ≡ Normal name = h in cc)
+    by false e true k h = absurd (let no : ParentDir ≡ Normal name = h in cc)
+    by false e false k h = record { same = cc; no_dot = e; no_dots = k }
+
+open_front : (t : List ℕ) (a : ℕ) → a ≤ length t → (0 < a → get_or t (a - 1) 0 ≡ 47)
+    → is_open (take a t) ≡ true
+open_front t zero l h = refl
+open_front t (suc k) l h =
+    is_open-at (take (suc k) t)
+    ∙ ap (λ j. eqb (get_or (take (suc k) t) (j - 1) 47) 47) (length-take-le (suc k) t l)
+    ∙ eq-eqb _ 47 (get_or-take (suc k) t (suc k - 1) 47 (omega arith)
+    ∙ get_or_default t (suc k - 1) 47 0 (omega arith) ∙ h (omega arith))
+
+cut_at : (s name : List ℕ) (trim : Trimmed s) (a : ℕ) → file_name_of s ≡ Some name
+    → IsLastStart (take trim.len s) a → a < length (take trim.len s) → NamedCut s name
+unfolding values
+cut_at s name trim a e h l =
+    let t = take trim.len s in
+    let last = last_part t a h l trim.ends in
+    let y = drop a t in
+    let v = first_value y in
+    let front = take a t in
+    let all : values s ≡ values front ++ v ∷ [] =
+    ap (map (λ (p : Part). p.value)) (sym trim.same ∙ last.1)
+    ∙ map-append (λ (p : Part). p.value) (parts front)
+    (record { start = last.0; end = length t; value = v } ∷ []) in
+    let named = name_of_push s name (values front) v all e in
+    let piece = name_piece y name named in
+    let same = piece.same in
+    let t_is : front ++ name ≡ t = ap (λ y. front ++ y) (sym same) ∙ take-append-drop a t in
+    let size : length t ≡ length front + length name =
+    sym (ap length t_is) ∙ length-append front name in
+    let end : length (rest s 0 0) ≡ length t = length-rest_whole s
+    ∙ ap parts_end (sym trim.same) ∙ parts_end-whole t trim.ends in
+    record {
+      front = front;
+      back = drop trim.len s;
+      whole = sym (ap (λ t. t ++ drop trim.len s) t_is ∙ take-append-drop trim.len s);
+      ends = open_front t a h.in_range h.after_slash;
+      start = omega (arith, last_start_of-name s name (sym e));
+      before = all ∙ ap (λ v. values front ++ v ∷ []) named;
+      is_name = record {
+        some = omega (arith, length-drop a t, ap length same);
+        no_slash = subst (λ y. position_or_len is_slash y ≡ length y) same h.no_slash;
+        no_dot = subst (λ y. bytes_eq y cur_dir ≡ false) same piece.no_dot;
+        no_dots = subst (λ y. bytes_eq y parent_dir ≡ false) same piece.no_dots;
+      };
+    }
+
+no_cut : (s name : List ℕ) (trim : Trimmed s) (a : ℕ) → file_name_of s ≡ Some name
+    → IsLastStart (take trim.len s) a → length (take trim.len s) ≤ a → ⊥
+unfolding values
+no_cut s name trim a e h l =
+    let t = take trim.len s in
+    let m = h.in_range in
+    let here : a ≡ length t = omega arith in
+    by_test (ltb 0 (length t))
+    (λ some.
+    let root = root_alone t (ltb-true _ _ some) trim.ends
+    (ap (λ k. get_or t (k - 1) 0) (sym here) ∙ h.after_slash (omega (arith, ltb-true _ _ some))) in
+    let all : values s ≡ RootDir ∷ [] =
+    ap (map (λ (p : Part). p.value)) (sym trim.same ∙ root) in
+    absurd (let no : RootDir ≡ Normal name = name_of_push s name [] RootDir all e in cc))
+    (λ none.
+    let nil : t ≡ [] = is_nil t (omega (arith, ltb-false _ _ none)) in
+    no_name s name (ap (map (λ (p : Part). p.value)) (sym trim.same) ∙ ap values nil ∙ values-nil)
+    e)
+
+pub named_cut : (s name : List ℕ) → file_name_of s ≡ Some name → NamedCut s name
+named_cut s name e =
+    let trim = trimmed s in
+    let at = last_start (take trim.len s) in
+    by_test (ltb at.0 (length (take trim.len s)))
+    (λ l. cut_at s name trim at.0 e at.1 (ltb-true _ _ l))
+    (λ l. absurd (no_cut s name trim at.0 e at.1 (ltb-false _ _ l)))

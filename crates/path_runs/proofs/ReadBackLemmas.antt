@@ -1,0 +1,123 @@
+-- The spelling of a path's values has these values.
+use Rattle.std.proofs.Common.{◌≡◌, ℕ, Bool, true, false, cond, not, ◌||◌, List, [], ◌∷◌, ◌++◌, map}
+use Rattle.std.proofs.Common.{filter, refl, sym, ap, subst, ◌∙◌}
+use Rattle.std.specs.List.{AllByRecursion, slice_split, join_with_byte}
+use Rattle.std.specs.Str.{bytes_eq}
+use Rattle.std.proofs.lemmas.List.Elements.{All-from_recursion}
+use Rattle.std.proofs.lemmas.List.Splits.{slice_split_none, slice_split_at}
+use Rattle.std.proofs.lemmas.Slice.Eq.{bytes_eq-Decides}
+use Rattle.unix_path.specs.Parts.{is_slash, slash, cur_dir, RootDir, CurDir, value_of_piece}
+use Rattle.unix_path.specs.Parts.{is_rooted, first_is_cur_dir, values}
+use Rattle.unix_path.proofs.CaseLemmas.{by_test}
+use Rattle.path_runs.specs.Spelling.{spelling_of}
+use Rattle.path_runs.proofs.PieceValueLemmas.{is_named, names_of, values-rooted, values-rootless}
+use Rattle.path_runs.proofs.PieceValueLemmas.{rooted_is, NoSlash, slice_split-no_slash}
+use Rattle.path_runs.proofs.SpellLemmas.{kept_of, spelling_of-rooted, spelling_of-rootless}
+
+abbrev AllNamed : List (List ℕ) → Type 0
+AllNamed ps = AllByRecursion (λ p. is_named p ≡ true) ps
+
+slice_split-row : (p : List ℕ) (ps : List (List ℕ)) → AllByRecursion NoSlash (p ∷ ps)
+    → slice_split is_slash (join_with_byte slash (p ∷ ps)) ≡ p ∷ ps
+slice_split-row p [] h =
+    slice_split_none is_slash p (All-from_recursion (λ b. is_slash b ≡ false) p h.0)
+slice_split-row p (q ∷ ps) h =
+    slice_split_at is_slash p slash (join_with_byte slash (q ∷ ps))
+    (All-from_recursion (λ b. is_slash b ≡ false) p h.0) refl
+    ∙ ap (λ qs. p ∷ qs) (slice_split-row q ps h.1)
+
+filter-no_slash : (ps : List (List ℕ)) → AllByRecursion NoSlash ps
+    → AllByRecursion NoSlash (filter is_named ps)
+filter-no_slash [] h = tt
+filter-no_slash (p ∷ ps) h =
+    by_test (is_named p) (λ e. rw e (h.0, filter-no_slash ps h.1))
+    (λ e. rw e (filter-no_slash ps h.1))
+
+filter-named : (ps : List (List ℕ)) → AllNamed (filter is_named ps)
+filter-named [] = tt
+filter-named (p ∷ ps) =
+    by_test (is_named p) (λ e. rw e (e, filter-named ps)) (λ e. rw e (filter-named ps))
+
+names_of-named : (ps : List (List ℕ)) → AllNamed ps → names_of ps ≡ map value_of_piece ps
+names_of-named [] h = refl
+names_of-named (p ∷ ps) h = rw h.0 (ap (λ vs. value_of_piece p ∷ vs) (names_of-named ps h.1))
+
+names_of-row : (ps : List (List ℕ)) → AllByRecursion NoSlash ps → AllNamed ps
+    → names_of (slice_split is_slash (join_with_byte slash ps)) ≡ map value_of_piece ps
+names_of-row [] h k = refl
+names_of-row (p ∷ ps) h k = ap names_of (slice_split-row p ps h) ∙ names_of-named (p ∷ ps) k
+
+-- a row that begins with a name has no root
+row_rootless : (p : List ℕ) (ps : List (List ℕ)) → NoSlash p → is_named p ≡ true
+    → is_rooted (join_with_byte slash (p ∷ ps)) ≡ false
+row_rootless [] ps h e = absurd (let d : false ≡ true = e in cc)
+row_rootless (x ∷ p) [] h e = h.0
+row_rootless (x ∷ p) (q ∷ ps) h e = h.0
+
+named_no_dot : (p : List ℕ) → is_named p ≡ true → bytes_eq p cur_dir ≡ false
+named_no_dot p e = by (bytes_eq p []) (bytes_eq p cur_dir) refl refl e
+  where
+    by : (c d : Bool) → bytes_eq p [] ≡ c → bytes_eq p cur_dir ≡ d
+        → not (bytes_eq p [] || bytes_eq p cur_dir) ≡ true → bytes_eq p cur_dir ≡ false
+    by c false f g h = g
+    by true true f g h = absurd (let k : false ≡ true = rw f at h in cc)
+    by false true f g h = absurd (let k : false ≡ true = rw (f, g) at h in cc)
+
+values-spelling_rooted : (t : List ℕ)
+    → values (spelling_of (values (slash ∷ t))) ≡ values (slash ∷ t)
+values-spelling_rooted t =
+    let ps = slice_split is_slash t in
+    let kept = filter is_named ps in
+    ap values (spelling_of-rooted t) ∙ values-rooted (join_with_byte slash kept)
+    ∙ ap (λ vs. RootDir ∷ vs)
+    (names_of-row kept (filter-no_slash ps (slice_split-no_slash t)) (filter-named ps))
+    ∙ sym (values-rooted t)
+
+values-row : (ps : List (List ℕ)) → AllByRecursion NoSlash ps → AllNamed ps
+    → values (join_with_byte slash ps) ≡ map value_of_piece ps
+values-row [] h k = values-rootless [] ([] ∷ []) refl refl
+values-row (p ∷ ps) h k =
+    values-rootless (join_with_byte slash (p ∷ ps)) (p ∷ ps) (row_rootless p ps h.0 k.0)
+    (slice_split-row p ps h)
+    ∙ ap (λ c. cond c (CurDir ∷ []) [] ++ names_of (p ∷ ps)) (named_no_dot p k.0)
+    ∙ names_of-named (p ∷ ps) k
+
+dot_rootless : (ps : List (List ℕ)) → is_rooted (join_with_byte slash (cur_dir ∷ ps)) ≡ false
+dot_rootless [] = refl
+dot_rootless (p ∷ ps) = refl
+
+values-dot_row : (ps : List (List ℕ)) → AllByRecursion NoSlash ps → AllNamed ps
+    → values (join_with_byte slash (cur_dir ∷ ps)) ≡ CurDir ∷ map value_of_piece ps
+values-dot_row ps h k =
+    values-rootless (join_with_byte slash (cur_dir ∷ ps)) (cur_dir ∷ ps) (dot_rootless ps)
+    (slice_split-row cur_dir ps ((refl, (tt)), h)) ∙ ap (λ vs. CurDir ∷ vs) (names_of-named ps k)
+
+values-kept_of : (ps : List (List ℕ)) → AllByRecursion NoSlash ps
+    → values (join_with_byte slash (kept_of ps)) ≡ cond (first_is_cur_dir ps)
+    (CurDir ∷ []) [] ++ names_of ps
+values-kept_of [] h = values-rootless [] ([] ∷ []) refl refl
+values-kept_of (p ∷ qs) h = by (bytes_eq p cur_dir) refl
+  where
+    by : (c : Bool) → bytes_eq p cur_dir ≡ c
+        → values (join_with_byte slash (kept_of (p ∷ qs))) ≡ cond (bytes_eq p cur_dir)
+        (CurDir ∷ []) [] ++ names_of (p ∷ qs)
+    by true d = rw ((bytes_eq-Decides p cur_dir).0 d)
+        (values-dot_row (filter is_named qs) (filter-no_slash qs h.1) (filter-named qs))
+    by false d = subst (λ c. values
+        (join_with_byte slash (cond c (cur_dir ∷ filter is_named qs) (filter is_named (p ∷ qs))))
+        ≡ cond c (CurDir ∷ []) [] ++ names_of (p ∷ qs)) (sym d)
+        (values-row (filter is_named (p ∷ qs)) (filter-no_slash (p ∷ qs) h) (filter-named (p ∷ qs)))
+
+pub values-spelling_of : (s : List ℕ) → values (spelling_of (values s)) ≡ values s
+values-spelling_of s = by_test (is_rooted s)
+    (λ r. let t = rooted_is s r in
+    subst (λ s. values (spelling_of (values s)) ≡ values s) (sym t.1)
+    (values-spelling_rooted t.0))
+    (λ r. ap values (spelling_of-rootless s (slice_split is_slash s) r refl)
+    ∙ values-kept_of (slice_split is_slash s) (slice_split-no_slash s)
+    ∙ sym (values-rootless s (slice_split is_slash s) r refl))
+
+-- equal spellings come from equal values
+pub spelling_of-same : (s t : List ℕ) → spelling_of (values s) ≡ spelling_of (values t)
+    → values s ≡ values t
+spelling_of-same s t e = sym (values-spelling_of s) ∙ ap values e ∙ values-spelling_of t

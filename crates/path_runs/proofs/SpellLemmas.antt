@@ -1,0 +1,88 @@
+-- The spelling of a path's values is the row of the pieces that are kept.
+use Rattle.std.proofs.Common.{◌≡◌, ℕ, Bool, true, false, cond, List, [], ◌∷◌, ◌++◌, map, filter}
+use Rattle.std.proofs.Common.{refl, sym, ap, ap₂, subst, ◌∙◌}
+use Rattle.std.specs.List.{slice_split, join_with_byte}
+use Rattle.std.specs.Str.{bytes_eq}
+use Rattle.std.proofs.lemmas.Slice.Eq.{bytes_eq-Decides}
+use Rattle.unix_path.specs.Parts.{is_slash, slash, cur_dir, parent_dir, Value, RootDir, CurDir}
+use Rattle.unix_path.specs.Parts.{ParentDir, Normal, value_of_piece, value_bytes, is_rooted}
+use Rattle.unix_path.specs.Parts.{values}
+use Rattle.unix_path.proofs.CaseLemmas.{by_test}
+use Rattle.path_runs.specs.Spelling.{row_of, spelling_of}
+use Rattle.path_runs.proofs.PieceValueLemmas.{is_named, names_of, values-rooted, values-rootless}
+
+value_bytes-piece : (p : List ℕ) → value_bytes (value_of_piece p) ≡ p
+value_bytes-piece p =
+    by_test (bytes_eq p parent_dir) (λ e. rw e (sym ((bytes_eq-Decides p parent_dir).0 e)))
+    (λ e. rw e refl)
+
+bytes_of_pieces : (ps : List (List ℕ)) → map value_bytes (map value_of_piece ps) ≡ ps
+bytes_of_pieces [] = refl
+bytes_of_pieces (p ∷ ps) = ap₂ (λ q qs. q ∷ qs) (value_bytes-piece p) (bytes_of_pieces ps)
+
+row_of-names : (ps : List (List ℕ))
+    → row_of (names_of ps) ≡ join_with_byte slash (filter is_named ps)
+row_of-names ps = ap (join_with_byte slash) (bytes_of_pieces (filter is_named ps))
+
+pub spelling_of-root : (vs : List Value) → spelling_of (RootDir ∷ vs) ≡ slash ∷ row_of vs
+unfolding spelling_of
+spelling_of-root vs = refl
+
+spelling_of-dot : (vs : List Value) → spelling_of (CurDir ∷ vs) ≡ row_of (CurDir ∷ vs)
+unfolding spelling_of
+spelling_of-dot vs = refl
+
+spelling_of-cons : (v : Value) (vs : List Value) → (v ≡ RootDir → ⊥)
+    → spelling_of (v ∷ vs) ≡ row_of (v ∷ vs)
+unfolding spelling_of
+spelling_of-cons RootDir vs h = absurd (h refl)
+spelling_of-cons v vs h = refl
+
+spelling_of-nil : spelling_of [] ≡ []
+unfolding spelling_of
+spelling_of-nil = refl
+
+-- no piece is the root
+piece_no_root : (p : List ℕ) → value_of_piece p ≡ RootDir → ⊥
+piece_no_root p = by (bytes_eq p parent_dir) refl
+  where
+    by : (c : Bool) → bytes_eq p parent_dir ≡ c → cond c ParentDir (Normal p) ≡ RootDir → ⊥
+    by true e h = cc
+    by false e h = cc
+
+spelling_of-pieces : (ps : List (List ℕ))
+    → spelling_of (map value_of_piece ps) ≡ row_of (map value_of_piece ps)
+spelling_of-pieces [] = spelling_of-nil
+spelling_of-pieces (p ∷ ps) =
+    spelling_of-cons (value_of_piece p) (map value_of_piece ps) (piece_no_root p)
+
+pub spelling_of-rooted : (t : List ℕ)
+    → spelling_of (values (slash ∷ t)) ≡ slash ∷ join_with_byte slash
+    (filter is_named (slice_split is_slash t))
+spelling_of-rooted t =
+    let ps = slice_split is_slash t in
+    ap spelling_of (values-rooted t) ∙ spelling_of-root (names_of ps)
+    ∙ ap (λ r. slash ∷ r) (row_of-names ps)
+
+-- where no root stands: a first `.`, and the pieces that count
+abbrev pub kept_of : List (List ℕ) → List (List ℕ)
+kept_of [] = []
+kept_of (p ∷ ps) = cond (bytes_eq p cur_dir) (cur_dir ∷ filter is_named ps)
+    (filter is_named (p ∷ ps))
+
+pub spelling_of-rootless : (s : List ℕ) (ps : List (List ℕ)) → is_rooted s ≡ false
+    → slice_split is_slash s ≡ ps → spelling_of (values s) ≡ join_with_byte slash (kept_of ps)
+spelling_of-rootless s [] r e = ap spelling_of (values-rootless s [] r e) ∙ spelling_of-nil
+spelling_of-rootless s (p ∷ ps) r e = ap spelling_of (values-rootless s (p ∷ ps) r e)
+    ∙ by (bytes_eq p cur_dir) refl
+  where
+    by : (c : Bool) → bytes_eq p cur_dir ≡ c
+        → spelling_of (cond (bytes_eq p cur_dir) (CurDir ∷ []) [] ++ names_of (p ∷ ps))
+        ≡ join_with_byte slash (kept_of (p ∷ ps))
+    by true d = rw (((bytes_eq-Decides p cur_dir).0 d))
+        (spelling_of-dot (names_of ps)
+        ∙ ap (λ bs. join_with_byte slash (cur_dir ∷ bs)) (bytes_of_pieces (filter is_named ps)))
+    by false d = subst (λ c. spelling_of
+        (cond c (CurDir ∷ []) [] ++ names_of (p ∷ ps)) ≡ join_with_byte slash
+        (cond c (cur_dir ∷ filter is_named ps) (filter is_named (p ∷ ps)))) (sym d)
+        (spelling_of-pieces (filter is_named (p ∷ ps)) ∙ row_of-names (p ∷ ps))

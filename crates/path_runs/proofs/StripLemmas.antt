@@ -1,0 +1,58 @@
+-- What was stripped of its base, joined to that base.
+use Rattle.std.proofs.Common.{◌≡◌, ℕ, ◌+◌, ◌-◌, false, List, [], ◌∷◌, ◌++◌, length, take, refl}
+use Rattle.std.proofs.Common.{sym, ap, ap₂, ◌∙◌, arith, take_all, length-append}
+use Rattle.std.specs.List.{AllByRecursion}
+use Rattle.std.proofs.lemmas.List.{drop_at}
+use Rattle.unix_path.specs.Parts.{Value, is_rooted, values, begins_with_root}
+use Rattle.unix_path.specs.Joins.{join_of}
+use Rattle.unix_path.specs.Names.{stripped_of, StartsWithValues}
+use Rattle.unix_path.proofs.MiddleLemmas.{middle}
+use Rattle.unix_path.proofs.PartLemmas.{values-nil}
+use Rattle.unix_path.proofs.RestLemmas.{values-rest}
+use Rattle.path_runs.specs.JoinLaws.{unled}
+use Rattle.path_runs.proofs.AssociativeLemmas.{join_of-nil}
+use Rattle.path_runs.proofs.LeadLemmas.{IsInner, inner-unled, inner-behind}
+use Rattle.path_runs.proofs.LeadLemmas.{begins_with_root-is_rooted}
+use Rattle.path_runs.proofs.LeadLemmas.{unled-values}
+use Rattle.path_runs.proofs.ValueLemmas.{body, some_values, added, added-join_of}
+
+middle-append : (vs ws : List Value) → middle (length vs) 0 (vs ++ ws) ≡ ws
+middle-append vs ws =
+    let n = length vs in
+    let size : length (vs ++ ws) - (n + 0) ≡ length ws = omega (arith, length-append vs ws) in
+    ap₂ take size (drop_at vs ws n refl) ∙ take_all (length ws) ws (omega arith)
+
+pub values-stripped_of : (s base : List ℕ) (more : List Value) → values base ++ more ≡ values s
+    → values (stripped_of s base) ≡ more
+values-stripped_of s base more e =
+    values-rest s (length (values base)) 0 ∙ ap (middle (length (values base)) 0) (sym e)
+    ∙ middle-append (values base) more
+
+inner-end : (vs ws : List Value) → AllByRecursion IsInner (vs ++ ws) → AllByRecursion IsInner ws
+inner-end [] ws h = h
+inner-end (v ∷ vs) ws h = inner-end vs ws h.1
+
+join_behind : (s base r : List ℕ) (v : Value) (vs more : List Value)
+    → values base ≡ v ∷ vs → values r ≡ more → v ∷ vs ++ more ≡ values s
+    → values (join_of base r) ≡ values s
+join_behind s base r v vs more is left all =
+    let inner = inner-unled more (inner-end vs more (inner-behind s v (vs ++ more) (sym all))) in
+    let rootless : is_rooted r ≡ false =
+    sym (begins_with_root-is_rooted r) ∙ ap begins_with_root left ∙ inner.no_root in
+    let bodies : body r ≡ more = sym (unled-values r) ∙ ap unled left ∙ inner.no_lead in
+    added-join_of base r rootless ∙ ap (λ ws. added ws r) is
+    ∙ ap (λ ws. v ∷ vs ++ ws) bodies ∙ all
+
+strip_join : (s base : List ℕ) (more : List Value) → values base ++ more ≡ values s
+    → values (join_of base (stripped_of s base)) ≡ values s
+strip_join s [] more e =
+    ap values (join_of-nil (stripped_of s [])) ∙ values-stripped_of s [] more e
+    ∙ ap (λ vs. vs ++ more) (sym values-nil) ∙ e
+strip_join s (b ∷ base) more e =
+    let some = some_values (b ∷ base) (omega arith) in
+    join_behind s (b ∷ base) (stripped_of s (b ∷ base)) some.0 some.1 more some.2
+    (values-stripped_of s (b ∷ base) more e) (ap (λ vs. vs ++ more) (sym some.2) ∙ e)
+
+pub values-join_of_stripped : (s base : List ℕ) → StartsWithValues s base
+    → values (join_of base (stripped_of s base)) ≡ values s
+values-join_of_stripped s base h = strip_join s base h.0 h.1

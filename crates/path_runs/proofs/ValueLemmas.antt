@@ -1,0 +1,108 @@
+-- The values of what stands behind a slash, and of a join.
+use Rattle.std.proofs.Common.{◌≡◌, ℕ, ◌+◌, ◌<◌, true, false, eqb, List, [], ◌∷◌, ◌++◌, length}
+use Rattle.std.proofs.Common.{get_or, map, refl, sym, ap, ap₂, ◌∙◌, arith, append_assoc, append-nil}
+use Rattle.std.proofs.Common.{eqb-true}
+use Rattle.std.proofs.lemmas.List.{map-append}
+use Rattle.unix_path.specs.Parts.{slash, is_rooted, Part, Value, RootDir, counted, leading_part}
+use Rattle.unix_path.specs.Parts.{parts, values}
+use Rattle.unix_path.specs.Joins.{is_open, join_of}
+use Rattle.unix_path.proofs.CaseLemmas.{by_test}
+use Rattle.unix_path.proofs.CutLemmas.{counted-append, leading_part-append}
+use Rattle.unix_path.proofs.JoinLemmas.{join_of_open, join_of_closed}
+use Rattle.unix_path.proofs.PartLemmas.{parts-root, parts-name, values-nil}
+use Rattle.unix_path.proofs.PieceLemmas.{counted-nil}
+use Rattle.unix_path.proofs.PlaceLemmas.{values-counted}
+
+-- the values of the pieces that count, without a leading root or dot
+abbrev pub body : List ℕ → List Value
+body s = map (λ (p : Part). p.value) (counted 0 s)
+
+pub values-leading : (s : List ℕ)
+    → values s ≡ map (λ (p : Part). p.value) (leading_part s) ++ body s
+unfolding values parts
+values-leading s = map-append (λ (p : Part). p.value) (leading_part s) (counted 0 s)
+
+pub values-slash : (a b : List ℕ) → 0 < length a → values (a ++ slash ∷ b) ≡ values a ++ body b
+values-slash a b l =
+    let lead = map (λ (p : Part). p.value) (leading_part a) in
+    values-leading (a ++ slash ∷ b)
+    ∙ ap₂ (λ x y. map (λ (p : Part). p.value) x ++ y) (leading_part-append a b l)
+    (ap (map (λ (p : Part). p.value)) (counted-append 0 a b)
+    ∙ map-append (λ (p : Part). p.value) (counted 0 a) (counted (0 + length a + 1) b)
+    ∙ ap (λ vs. body a ++ vs) (values-counted (0 + length a + 1) b))
+    ∙ sym (append_assoc lead (body a) (body b))
+    ∙ ap (λ vs. vs ++ body b) (sym (values-leading a))
+
+pub values-root : (b : List ℕ) → values (slash ∷ b) ≡ RootDir ∷ body b
+unfolding values
+values-root b = ap (map (λ (p : Part). p.value)) (parts-root (slash ∷ b) refl)
+    ∙ ap (λ vs. RootDir ∷ vs) (values-counted 1 b)
+
+pub body-nil : body [] ≡ []
+body-nil = ap (map (λ (p : Part). p.value)) (counted-nil 0)
+
+-- behind a string that ends in a slash
+pub values-past_slash : (f b : List ℕ)
+    → values ((f ++ slash ∷ []) ++ b) ≡ values (f ++ slash ∷ []) ++ body b
+values-past_slash [] b = values-root b
+    ∙ sym (ap (λ vs. vs ++ body b) (values-root [] ∙ ap (λ vs. RootDir ∷ vs) body-nil))
+values-past_slash (x ∷ f) b =
+    ap values (append_assoc (x ∷ f) (slash ∷ []) b) ∙ values-slash (x ∷ f) b (omega arith)
+    ∙ sym (ap (λ vs. vs ++ body b) (values-slash (x ∷ f) [] (omega arith)
+    ∙ ap (λ vs. values (x ∷ f) ++ vs) body-nil ∙ append-nil (values (x ∷ f))))
+
+pub ends_open : (u : List ℕ) → is_open u ≡ true → 0 < length u
+    → (f : List ℕ) × (f ++ slash ∷ [] ≡ u)
+ends_open [] o l = absurd (omega arith)
+ends_open (x ∷ []) o l = ([], sym (ap (λ z. z ∷ []) (eqb-true x 47 o)))
+ends_open (x ∷ y ∷ u) o l =
+    let more = ends_open (y ∷ u) o (omega arith) in
+    (x ∷ more.0, ap (λ z. x ∷ z) more.1)
+
+pub values-open : (u b : List ℕ) → is_open u ≡ true → 0 < length u
+    → values (u ++ b) ≡ values u ++ body b
+values-open u b o l =
+    let cut = ends_open u o l in
+    ap (λ u. values (u ++ b)) (sym cut.1) ∙ values-past_slash cut.0 b
+    ∙ ap (λ u. values u ++ body b) cut.1
+
+pub not_open : (a : List ℕ) → is_open a ≡ false → 0 < length a
+not_open [] o = absurd (let d : true ≡ false = o in cc)
+not_open (x ∷ a) o = omega arith
+
+-- behind a path that isn't empty
+pub values-join_of : (a b : List ℕ) → 0 < length a → is_rooted b ≡ false
+    → values (join_of a b) ≡ values a ++ body b
+values-join_of a b l r = by_test (is_open a)
+    (λ o. ap values (join_of_open a b r o) ∙ values-open a b o l)
+    (λ o. ap values (join_of_closed a b r o ∙ append_assoc a (slash ∷ []) b)
+    ∙ values-slash a b l)
+
+-- no part no byte
+pub some_values : (s : List ℕ) → 0 < length s
+    → (v : Value) × (vs : List Value) × (values s ≡ v ∷ vs)
+unfolding values
+some_values s l = by_test (eqb (get_or s 0 0) 47)
+    (λ e. (_, _, ap (map (λ (p : Part). p.value)) (parts-root s (eqb-true _ 47 e))))
+    (λ e. (_, _, ap (map (λ (p : Part). p.value)) (parts-name s l e)))
+
+-- the values of these bytes behind those values
+abbrev pub added : List Value → List ℕ → List Value
+added [] b = values b
+added (v ∷ vs) b = (v ∷ vs) ++ body b
+
+added_some : (s b : List ℕ) → 0 < length s → values s ++ body b ≡ added (values s) b
+added_some s b l =
+    let some = some_values s l in
+    ap (λ vs. vs ++ body b) some.2 ∙ sym (ap (λ vs. added vs b) some.2)
+
+pub added-open : (u b : List ℕ) → is_open u ≡ true → values (u ++ b) ≡ added (values u) b
+added-open [] b o = sym (ap (λ vs. added vs b) values-nil)
+added-open (x ∷ u) b o = values-open (x ∷ u) b o (omega arith) ∙ added_some (x ∷ u) b (omega arith)
+
+pub added-join_of : (a b : List ℕ) → is_rooted b ≡ false
+    → values (join_of a b) ≡ added (values a) b
+added-join_of [] b r = ap values (join_of_open [] b r refl)
+    ∙ sym (ap (λ vs. added vs b) values-nil)
+added-join_of (x ∷ a) b r =
+    values-join_of (x ∷ a) b (omega arith) r ∙ added_some (x ∷ a) b (omega arith)

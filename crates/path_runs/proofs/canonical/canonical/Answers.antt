@@ -1,0 +1,35 @@
+use Rattle.std.proofs.Common.{◌≡◌, ◌∙◌, List, ℕ, [], Option, ap, map, rules, tests}
+use Rattle.std.specs.Iterator.{Drains}
+use Rattle.std.proofs.iter.Yields.{gives_Drains}
+use Rattle.std.proofs.lemmas.Iterator.{YieldsList, YieldsList-from_map_by}
+use Rattle.std.proofs.lemmas.Iterator.Consumers.{YieldsList-at}
+use Rattle.std.proofs.lemmas.Result.{IfOk-weaker}
+use Rattle.unix_path.specs.Buffers.{path_bytes}
+use Rattle.unix_path.specs.Joins.{join_all_of}
+use Rattle.unix_path.specs.Parts.{value_bytes, values}
+use Rattle.unix_path.specs.declared.path.Path.{Path}
+use Rattle.unix_path.proofs.CursorLemmas.{Components-yields}
+use Rattle.unix_path.proofs.ParentLemmas.{values-whole}
+use Rattle.path_runs.specs.Spelling.{spelling_of}
+use Rattle.path_runs.proofs.JoinAllLemmas.{join_all_of-values}
+use Rattle.path_runs.proofs.canonical.canonical.Goals as goal
+
+map-drained : {S A B : Type 0} {steps : S → Option A → S → Type 0} (v : A → B) (xs : List A)
+    (ys : List B) {s : S} → Drains steps s xs → YieldsList steps v s ys → map v xs ≡ ys
+map-drained {S} {A} {B} {steps} v xs ys {s} drains yields =
+    gives_Drains steps v xs ys s yields.runs drains
+
+pub returns : goal.returns
+returns c =
+    let s = c.args.path.bytes.now in
+    let bytes_of : Path → List ℕ = λ path. path.bytes.now in
+    IfOk-weaker c.from_iter.result _ (λ p. path_bytes p ≡ spelling_of (values s))
+    (λ p joins. joins.bytes
+    ∙ ap (join_all_of [])
+    (map-drained bytes_of joins.paths (map value_bytes (values _)) joins.drained
+    (YieldsList-from_map_by _ bytes_of value_bytes
+    (YieldsList-at c.map.ensures.source (Components-yields _)) c.map.ensures.closure
+    (λ x r q k. search (rules, tests)))
+    ∙ ap (map value_bytes) (values-whole s _ c.components.ensures))
+    ∙ join_all_of-values s)
+    c.from_iter.ensures.ok

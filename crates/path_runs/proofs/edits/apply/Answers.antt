@@ -1,0 +1,16 @@
+use Rattle.std.proofs.Common.{arith}
+use Rattle.path_runs.proofs.RunLemmas.{HasApplied-more}
+use Rattle.path_runs.proofs.edits.apply.Goals as goal
+
+pub loop-done-preserved : goal.loop-done-preserved
+loop-done-preserved c =
+    let h = c.loop-done.invariant in
+    let one = c.in-Ok-apply_one.ensures in
+    let pushed = c.push_reserved.ensures in
+    record {
+      applied = rw pushed.items
+          (HasApplied-more c.args.path.now.bytes.items c.args.edits.now c.loop-done.done _ _ _ _ _
+          h.applied c.loop-done-test.true one.ok one.value);
+      len = omega (arith, pushed.len, h.len);
+      capacity = omega (arith, pushed.capacity, h.capacity);
+    }

@@ -1,0 +1,12 @@
+use Rattle.std.proofs.Common.{◌≡◌, ◌≤◌, length, vec_len, vec_capacity}
+use Rattle.unix_path.specs.Buffers.{path_bytes}
+use Rattle.path_runs.proofs.RunLemmas.{HasApplied}
+use Rattle.path_runs.proofs.edits.apply.Given as goal
+
+abbrev pub invariant-loop-done : goal.invariant-loop-done
+invariant-loop-done l = record {
+  applied : HasApplied (path_bytes l.initial.path) l.edits l.done
+      (path_bytes l.path) l.answers.items;
+  len : vec_len l.answers ≡ l.done;
+  capacity : length l.edits ≤ vec_capacity l.answers;
+}

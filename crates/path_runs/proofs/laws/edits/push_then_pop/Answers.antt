@@ -1,0 +1,31 @@
+use Rattle.std.proofs.Common.{[], ◌∷◌, sym, ap, ◌∙◌}
+use Rattle.unix_path.specs.Parts.{Normal, values}
+use Rattle.unix_path.specs.Names.{last_of}
+use Rattle.unix_path.specs.Edits.{with_name_of}
+use Rattle.unix_path.specs.Rest.{rest}
+use Rattle.unix_path.proofs.EndLemmas.{last_of-push}
+use Rattle.path_runs.specs.declared.edits.Answer.TheVariants.{Plain, Flag}
+use Rattle.path_runs.proofs.NamedLemmas.{named_cut}
+use Rattle.path_runs.proofs.SiblingLemmas.{pop-answer, values-popped_of, parent_of-named}
+use Rattle.path_runs.proofs.SiblingLemmas.{values-with_name_of, rest-with_name_of}
+use Rattle.std.proofs.Common.{Some}
+use Rattle.path_runs.proofs.laws.edits.push_then_pop.Goals as goal
+
+pub returns-clause-answers : goal.returns-clause-answers
+returns-clause-answers c = λ s n name e. ap (λ b. Plain ∷ Flag b ∷ []) (pop-answer s n name e)
+
+pub returns-clause-values : goal.returns-clause-values
+returns-clause-values c = values-popped_of
+
+pub returns-clause-parent : goal.returns-clause-parent
+returns-clause-parent c = λ s old n name f e.
+    let t = with_name_of s n in
+    let cut = named_cut s old f in
+    parent_of-named t name (values (rest s 0 1)) (values-with_name_of s old n name f e)
+    ∙ ap Some (rest-with_name_of s old n name f e)
+    ∙ sym (parent_of-named s old (values cut.front) cut.before)
+
+pub returns-clause-last : goal.returns-clause-last
+returns-clause-last c = λ s old n name f e.
+    ap last_of (values-with_name_of s old n name f e)
+    ∙ last_of-push (values (rest s 0 1)) (Normal name)

@@ -1,0 +1,12 @@
+use Rattle.std.proofs.Common.{◌≡◌, ℕ, List, [], ◌∷◌, refl, ap, ◌∙◌, arith}
+use Rattle.unix_path.specs.Parts.{values}
+use Rattle.unix_path.proofs.PartLemmas.{values-nil}
+use Rattle.path_runs.proofs.ValueLemmas.{some_values}
+use Rattle.path_runs.proofs.laws.parts.no_part_no_byte.Goals as goal
+
+values-none : (s : List ℕ) → values s ≡ [] → s ≡ []
+values-none [] none = refl
+values-none (b ∷ s) none = let some = some_values (b ∷ s) (omega arith) in cc (some.2)
+
+pub returns : goal.returns
+returns c = λ s. (values-none s, λ e. ap values e ∙ values-nil)

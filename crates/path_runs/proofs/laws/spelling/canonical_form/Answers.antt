@@ -1,0 +1,17 @@
+use Rattle.std.proofs.Common.{ap}
+use Rattle.path_runs.specs.Spelling.{spelling_of}
+use Rattle.path_runs.proofs.LeanLemmas.{spelling_of-shortest}
+use Rattle.path_runs.proofs.ReadBackLemmas.{values-spelling_of, spelling_of-same}
+use Rattle.path_runs.proofs.laws.spelling.canonical_form.Goals as goal
+
+pub returns-clause-reads_back : goal.returns-clause-reads_back
+returns-clause-reads_back c = values-spelling_of
+
+pub returns-clause-shortest : goal.returns-clause-shortest
+returns-clause-shortest c = λ s t e. (spelling_of-shortest s t e).0
+
+pub returns-clause-the_one : goal.returns-clause-the_one
+returns-clause-the_one c = λ s t e. (spelling_of-shortest s t e).1
+
+pub returns-clause-tells : goal.returns-clause-tells
+returns-clause-tells c = λ s t. (λ e. ap spelling_of e, spelling_of-same s t)

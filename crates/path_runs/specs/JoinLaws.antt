@@ -1,0 +1,47 @@
+-- Laws of joins (Rust's `Path::join`).
+use Rattle.std.specs.Prelude.{◌≡◌, ◌≢◌, ℕ, false, List, [], ◌∷◌, ◌++◌}
+use Rattle.unix_path.specs.Parts.{Value, RootDir, CurDir, slash, is_rooted, values, SameValues}
+use Rattle.unix_path.specs.Joins.{join_of}
+use Rattle.unix_path.specs.Names.{StartsWithValues, stripped_of}
+
+-- of three paths it is the same, to the byte, which two are joined first
+abbrev pub JoinsAssociate : Type 0
+JoinsAssociate = (a b c : List ℕ) → join_of (join_of a b) c ≡ join_of a (join_of b c)
+
+-- the empty path joined with b is b
+abbrev pub EmptyJoins : Type 0
+EmptyJoins = (b : List ℕ) → join_of [] b ≡ b
+
+-- a joined with the empty path has a's values
+abbrev pub JoinsEmpty : Type 0
+JoinsEmpty = (a : List ℕ) → SameValues (join_of a []) a
+
+-- without a leading dot
+abbrev pub undotted : List Value → List Value
+undotted (CurDir ∷ vs) = vs
+undotted vs = vs
+
+-- without a leading root or dot
+abbrev pub unled : List Value → List Value
+unled (RootDir ∷ vs) = vs
+unled vs = undotted vs
+
+-- s ends in a slash
+abbrev pub EndsInSlash : List ℕ → Type 0
+EndsInSlash s = (front : List ℕ) × (front ++ slash ∷ [] ≡ s)
+
+-- a join with a rootless b has the values of a, and then those of b without a leading dot
+abbrev pub JoinAddsValues : Type 0
+JoinAddsValues =
+    (a b : List ℕ) → a ≢ [] → is_rooted b ≡ false
+    → values (join_of a b) ≡ values a ++ undotted (values b)
+
+-- what follows a slash adds its values without a leading root or dot
+abbrev pub SlashAddsValues : Type 0
+SlashAddsValues =
+    (a b : List ℕ) → EndsInSlash a → values (a ++ b) ≡ values a ++ unled (values b)
+
+-- what was stripped of its base, joined to that base, has the values of the path
+abbrev pub StripThenJoin : Type 0
+StripThenJoin =
+    (s base : List ℕ) → StartsWithValues s base → SameValues (join_of base (stripped_of s base)) s

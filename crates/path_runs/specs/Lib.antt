@@ -1,0 +1,11 @@
+pub mod Turns
+pub mod PartLaws
+pub mod OrderLaws
+pub mod Spelling
+pub mod SpellingLaws
+pub mod Runs
+pub mod EditViews
+pub mod JoinLaws
+pub mod EditLaws
+pub mod QueryLaws
+pub mod AlikeLaws

@@ -1,0 +1,40 @@
+-- Edits of a path and lists of them (Rust's `PathBuf::push`, `PathBuf::pop`,
+-- `PathBuf::set_file_name`, `PathBuf::set_extension`, `PathBuf::clear`).
+use Rattle.std.specs.Prelude.{ℕ, List, [], ◌∷◌, Bool, true, false, is_some}
+use Rattle.unix_path.specs.Joins.{join_of}
+use Rattle.unix_path.specs.Names.{parent_of, file_name_of}
+use Rattle.unix_path.specs.Edits.{popped_of, with_name_of, with_extension_of}
+use Rattle.path_runs.specs.declared.edits.Answer.{Answer}
+use Rattle.path_runs.specs.declared.edits.Answer.TheVariants.{Plain, Flag}
+
+-- an edit, with the bytes that it holds
+pub data EditValue : Type 0 where
+  Push : List ℕ → EditValue
+  Pop : EditValue
+  SetFileName : List ℕ → EditValue
+  SetExtension : List ℕ → EditValue
+  Clear : EditValue
+
+-- what an edit leaves of the path s, and what it answers
+abbrev pub edit_of : List ℕ → EditValue → List ℕ × Answer
+edit_of s (Push b) = (join_of s b, Plain)
+edit_of s Pop = (popped_of s, Flag (is_some (parent_of s)))
+edit_of s (SetFileName name) = (with_name_of s name, Plain)
+edit_of s (SetExtension extension) =
+    (with_extension_of s extension, Flag (is_some (file_name_of s)))
+edit_of s Clear = ([], Plain)
+
+-- what a list of edits leaves, each applied to what the one before it left, and all their answers
+abbrev pub edits_of : List ℕ → List EditValue → List ℕ × List Answer
+edits_of s [] = (s, [])
+edits_of s (e ∷ es) =
+    let one = edit_of s e in
+    let more = edits_of one.0 es in
+    (more.0, one.1 ∷ more.1)
+
+-- a push, a file name, or an extension that isn't empty: all others take no memory
+abbrev pub may_take_memory : EditValue → Bool
+may_take_memory (Push b) = true
+may_take_memory (SetFileName name) = true
+may_take_memory (SetExtension (b ∷ bs)) = true
+may_take_memory _ = false

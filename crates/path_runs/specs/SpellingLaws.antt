@@ -1,0 +1,24 @@
+-- Laws of the canonical spelling. Own.
+use Rattle.std.specs.Prelude.{◌≡◌, ◌↔◌, ◌≤◌, ℕ, List, length}
+use Rattle.unix_path.specs.Parts.{values, SameValues}
+use Rattle.path_runs.specs.Spelling.{spelling_of}
+
+-- the spelling of a path's values has these values
+abbrev pub SpellingReadsBack : Type 0
+SpellingReadsBack = (s : List ℕ) → SameValues (spelling_of (values s)) s
+
+-- each path with these values is at least as long
+abbrev pub SpellingIsShortest : Type 0
+SpellingIsShortest =
+    (s t : List ℕ) → SameValues t s → length (spelling_of (values s)) ≤ length t
+
+-- and one as long has the same bytes
+abbrev pub SpellingIsTheOne : Type 0
+SpellingIsTheOne =
+    (s t : List ℕ) → SameValues t s → length t ≡ length (spelling_of (values s))
+    → t ≡ spelling_of (values s)
+
+-- two paths have the same values exactly if their spellings have the same bytes
+abbrev pub SpellingsTell : Type 0
+SpellingsTell =
+    (s t : List ℕ) → SameValues s t ↔ (spelling_of (values s) ≡ spelling_of (values t))

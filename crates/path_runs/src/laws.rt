@@ -1,0 +1,16 @@
+//! Laws of paths, over the definitions alone.
+mod edits;
+mod joins;
+mod order;
+mod parts;
+mod queries;
+mod spelling;
+mod text;
+
+pub use edits::{edits_congruent, extension_set, push_then_pop};
+pub use joins::{join_associative, join_values, strip_then_join};
+pub use order::{order_total, prefix_both_ways};
+pub use parts::{no_part_no_byte, rest_reads_again};
+pub use queries::{ancestors_step, name_rejoined, parent_before, queries_congruent};
+pub use spelling::canonical_form;
+pub use text::lossy_of_text;

@@ -1,0 +1,5 @@
+//! Rows of walks, edits and canonical spellings, and callers of the iterators of walks.
+mod callers;
+mod canonical;
+mod edits;
+mod walks;

@@ -1,0 +1,144 @@
+//! Rows of lists of edits, and of paths joined again to a base.
+use crate::edits::{Answer, Edit, apply, rejoin};
+use std::alloc::Global;
+use std::process::Abort;
+use std::test::Fail;
+use unix_path::bytes::UnixStr;
+use unix_path::{Path, PathBuf};
+
+fn path(text: &str) -> Path<'_> {
+    Path::new(UnixStr::new(text))
+}
+
+fn push(text: &str) -> Edit<'_> {
+    Edit::Push(path(text))
+}
+
+fn name(text: &str) -> Edit<'_> {
+    Edit::SetFileName(UnixStr::new(text))
+}
+
+fn extension(text: &str) -> Edit<'_> {
+    Edit::SetExtension(UnixStr::new(text))
+}
+
+fn applied(
+    rt: &impl Abort,
+    alloc: Global,
+    text: &str,
+    edits: &[Edit<'_>],
+    want: &str,
+    answers: &[Answer],
+) -> Result<(), Fail> {
+    let mut buffer = PathBuf::from_text(alloc, text)?;
+    let given = apply(alloc, &mut buffer, edits)?;
+    assert_eq!(rt;
+        buffer.as_path().as_unix_str(),
+        UnixStr::new(want),
+        "{text}"
+    );
+    assert_eq!(rt; given.as_slice(), answers, "{text}");
+    Ok(())
+}
+
+#[test]
+fn rows_of_single_edits(rt: HostRuntime) -> Result<(), Fail> {
+    let alloc = rt.alloc();
+    let rows = [
+        ("a/..foo", extension(""), "a/.", Answer::Flag(true)),
+        ("a", push("b:c"), "a/b:c", Answer::Plain),
+        ("a", extension("x/y"), "a.x/y", Answer::Flag(true)),
+        ("foo/.", extension("bar"), "foo.bar", Answer::Flag(true)),
+        ("foo/..", extension("bar"), "foo/..", Answer::Flag(false)),
+        ("...", extension(""), "..", Answer::Flag(true)),
+        ("..foo", extension(""), ".", Answer::Flag(true)),
+        ("foo", name("/etc"), "/etc", Answer::Plain),
+        ("foo/..", name("bar"), "foo/../bar", Answer::Plain),
+        ("foo", name(""), "", Answer::Plain),
+        ("/a", name(".."), "/..", Answer::Plain),
+        ("foo", push(""), "foo/", Answer::Plain),
+        ("foo", push("/"), "/", Answer::Plain),
+        ("/foo/bar", push("./baz"), "/foo/bar/./baz", Answer::Plain),
+        ("foo//bar", Edit::Pop, "foo", Answer::Flag(true)),
+        ("/", Edit::Pop, "/", Answer::Flag(false)),
+    ];
+    for (text, edit, want, answer) in rows {
+        applied(
+            &rt,
+            alloc,
+            text,
+            [edit].as_slice(),
+            want,
+            [answer].as_slice(),
+        )?;
+    }
+    Ok(())
+}
+
+#[test]
+fn rows_of_lists_of_edits(rt: HostRuntime) -> Result<(), Fail> {
+    let alloc = rt.alloc();
+    let pop = Edit::Pop;
+    let long = [extension(""), push("b"), pop, pop, pop, pop];
+    let yes = Answer::Flag(true);
+    let no = Answer::Flag(false);
+    let plain = Answer::Plain;
+    let answers = [yes, plain, yes, yes, yes, no];
+    applied(
+        &rt,
+        alloc,
+        "/tmp/foo.txt",
+        long.as_slice(),
+        "/",
+        answers.as_slice(),
+    )?;
+    applied(
+        &rt,
+        alloc,
+        "foo/.",
+        [extension("bar"), pop, pop].as_slice(),
+        "",
+        [yes, yes, no].as_slice(),
+    )?;
+    applied(
+        &rt,
+        alloc,
+        "a",
+        [Edit::Clear, push("")].as_slice(),
+        "",
+        [plain, plain].as_slice(),
+    )?;
+    applied(&rt, alloc, "a", [].as_slice(), "a", [].as_slice())
+}
+
+#[test]
+fn rows_of_joins_to_a_base(rt: HostRuntime) -> Result<(), Fail> {
+    let alloc = rt.alloc();
+    let rows = [
+        ("/a//b/.", "/a/", Some("/a/b")),
+        ("a", "a", Some("a/")),
+        ("a", "b", None),
+        (
+            "/test/haha/foo.txt",
+            "/test/haha/foo.txt/",
+            Some("/test/haha/foo.txt/"),
+        ),
+        ("./foo/bar/", ".", Some("./foo/bar")),
+        ("foo/bar", "foo/bar/baz", None),
+    ];
+    for (text, base, want) in rows {
+        let joined = rejoin(alloc, path(text), path(base))?;
+        match want {
+            Some(want) => {
+                let joined = joined.ok_or("refused")?;
+                assert_eq!(rt;
+                    joined.as_path().as_unix_str(),
+                    UnixStr::new(want),
+                    "{text}"
+                );
+            }
+            None => assert!(rt; joined.is_none(), "{text}"),
+        }
+    }
+    Ok(())
+}
