@@ -1,0 +1,51 @@
+-- Lists of items with tabs between them.
+use Rattle.std.proofs.Common.{◌≡◌, ℕ, false, List, [], ◌∷◌, ◌++◌, map, Option, Result, Ok, Err, OnOk}
+use Rattle.std.proofs.Common.{refl, sym, ap, subst, ◌∙◌, append_assoc, if◌then◌else◌}
+use Rattle.std.proofs.lemmas.List.{map-append}
+use Rattle.std.specs.Iterator.{Drains}
+use Rattle.std.proofs.iter.Yields.{gives_Drains}
+use Rattle.std.proofs.lemmas.Iterator.{YieldsList}
+use Rattle.unix_bytes.specs.declared.bytes.UnixStr.{UnixStr}
+use Rattle.pathtool.specs.Answers.{tab, tabs}
+use Rattle.pathtool.specs.Texts.{has_none, texts}
+
+-- one more item behind some others
+pub tabs-snoc : (x : List ℕ) (xs : List (List ℕ)) (y : List ℕ)
+    → tabs ((x ∷ xs) ++ y ∷ []) ≡ tabs (x ∷ xs) ++ tab ∷ y
+tabs-snoc x [] y = refl
+tabs-snoc x (z ∷ xs) y = ap (λ more. x ++ tab ∷ more) (tabs-snoc z xs y)
+    ∙ sym (append_assoc x (tab ∷ tabs (z ∷ xs)) (tab ∷ y))
+
+-- what an iterator that yields a list gave up to its end is that list
+pub drained : {S A B : Type 0} {steps : S → Option A → S → Type 0} (v : A → B) (seen : List A)
+    (all : List B) {s : S} → Drains steps s seen → YieldsList steps v s all → map v seen ≡ all
+drained {S} {A} {B} {steps} v seen all {s} ran road = gives_Drains steps v seen all s road.runs ran
+
+-- one more name behind some others
+pub tabs-push : (names : List UnixStr) (name : UnixStr)
+    → tabs (texts (names ++ name ∷ [])) ≡ tabs (texts names)
+    ++ (if has_none names then name.bytes.now else tab ∷ name.bytes.now)
+tabs-push [] name = refl
+tabs-push (x ∷ names) name =
+    ap tabs (map-append (λ name. name.bytes.now) (x ∷ names) (name ∷ []))
+    ∙ tabs-snoc x.bytes.now (texts names) name.bytes.now
+
+pub is_not_first : (names : List UnixStr) (name : UnixStr)
+    → false ≡ has_none (names ++ name ∷ [])
+is_not_first [] name = refl
+is_not_first (x ∷ names) name = refl
+
+-- what was added is also spelled otherwise
+pub adds : {T E : Type 0} (r : Result T E) (new old : List ℕ) {said bytes : List ℕ} → said ≡ bytes
+    → OnOk r (new ≡ old ++ said) → OnOk r (new ≡ old ++ bytes)
+adds r new old e h = subst (λ bs. OnOk r (new ≡ old ++ bs)) e h
+
+-- the names that an iterator yields were added
+pub adds_list : {T E S : Type 0} (r : Result T E) (new old : List ℕ) {all : List (List ℕ)} {s : S}
+    {steps : S → Option UnixStr → S → Type 0} → YieldsList steps (λ name. name.bytes.now) s all
+    → OnOk r ((names : List UnixStr) × Drains steps s names
+    × (new ≡ old ++ tabs (texts names)))
+    → OnOk r (new ≡ old ++ tabs all)
+adds_list (Ok x) new old {all} road (names, ran, e) =
+    e ∙ ap (λ items. old ++ tabs items) (drained (λ name. name.bytes.now) names all ran road)
+adds_list (Err x) new old road h = tt

@@ -1,0 +1,20 @@
+use Rattle.std.proofs.Common.{ap, map-id, rules, tests}
+use Rattle.std.proofs.lemmas.Iterator.{YieldsList-from_map_by}
+use Rattle.std.proofs.lemmas.Iterator.Consumers.{YieldsList-at, YieldsList-from_first}
+use Rattle.unix_path.proofs.CursorLemmas.{name_bytes}
+use Rattle.unix_path.specs.Ancestors.{ancestors_left}
+use Rattle.unix_path.specs.Names.{ancestors_of}
+use Rattle.pathtool.proofs.ListLemmas.{adds, adds_list}
+use Rattle.pathtool.specs.Answers.{tabs}
+use Rattle.pathtool.proofs.commands.push_ancestors.Goals as goal
+
+pub returns : goal.returns
+returns c =
+    let all = ancestors_of c.args.path.bytes.now in
+    adds c.push_list.result _ c.args.answer.now.items (ap tabs (map-id all))
+    (adds_list c.push_list.result _ _
+    (YieldsList-from_map_by _ name_bytes (λ bytes. bytes)
+    (YieldsList-at c.map.ensures.source
+    (YieldsList-from_first (λ path. path.bytes.now) ancestors_left all c.ancestors.ensures))
+    c.map.ensures.closure (λ x r q k. search (rules, tests)))
+    c.push_list.ensures)

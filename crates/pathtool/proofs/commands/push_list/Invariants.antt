@@ -1,0 +1,9 @@
+use Rattle.std.proofs.Common.{◌≡◌, ◌++◌}
+use Rattle.pathtool.specs.Answers.{tabs}
+use Rattle.pathtool.specs.Texts.{has_none, texts}
+use Rattle.pathtool.proofs.commands.push_list.Given as goal
+
+abbrev pub invariant-loop-item : goal.invariant-loop-item
+invariant-loop-item g l =
+    (l.is_first ≡ has_none l.yielded)
+    × (l.answer.items ≡ l.initial.answer.items ++ tabs (texts l.yielded))

@@ -1,0 +1,19 @@
+use Rattle.std.proofs.Common.{ap, map, rules, tests}
+use Rattle.std.proofs.lemmas.Iterator.{YieldsList-from_map_by}
+use Rattle.std.proofs.lemmas.Iterator.Consumers.{YieldsList-at}
+use Rattle.unix_path.proofs.CursorLemmas.{Components-yields, name_bytes}
+use Rattle.unix_path.specs.Parts.{value_bytes}
+use Rattle.pathtool.proofs.ListLemmas.{adds, adds_list}
+use Rattle.unix_path.proofs.ParentLemmas.{values-whole}
+use Rattle.pathtool.specs.Answers.{tabs}
+use Rattle.pathtool.proofs.commands.push_parts.Goals as goal
+
+pub returns : goal.returns
+returns c =
+    let parts = values-whole c.args.path.bytes.now _ c.components.ensures in
+    adds _ _ _ (ap (λ values. tabs (map value_bytes values)) parts)
+    (adds_list c.push_list.result _ _
+    (YieldsList-from_map_by _ name_bytes value_bytes
+    (YieldsList-at c.map.ensures.source (Components-yields c.components.result))
+    c.map.ensures.closure (λ x r q k. search (rules, tests)))
+    c.push_list.ensures)

@@ -1,0 +1,123 @@
+-- What the program answers: lines of fields between tabs, of which the first names a command.
+use Rattle.std.specs.Prelude.{ℕ, ◌-◌, Bool, true, false, ◌==◌, List, [], ◌∷◌, ◌++◌, length, take}
+use Rattle.std.specs.Prelude.{drop, map, reverse, codes, Option, None, Some, unwrap_or}
+use Rattle.std.specs.Prelude.{if◌then◌else◌}
+use Rattle.std.specs.declared.cmp.Ordering.{Ordering}
+use Rattle.std.specs.declared.cmp.Ordering.TheVariants.{Less, Equal, Greater}
+use Rattle.std.specs.Ordering.{is_eq}
+use Rattle.std.specs.List.{slice_split, join_with_byte, flat_map}
+use Rattle.std.specs.Map.{lookup}
+use Rattle.std.specs.Str.{bytes_eq}
+use Rattle.unix_path.specs.Parts.{Value, values, value_bytes}
+use Rattle.unix_path.specs.Names.{parent_of, file_name_of, stem_of, extension_of, ancestors_of}
+use Rattle.unix_path.specs.Names.{stripped_of}
+use Rattle.unix_path.specs.Order.{values_cmp}
+
+-- the byte between two fields, and between two items of a list
+abbrev pub tab : ℕ
+tab = 9
+
+-- the byte that ends a line
+abbrev pub newline : ℕ
+newline = 10
+
+abbrev pub is_tab : ℕ → Bool
+is_tab b = b == tab
+
+abbrev pub is_newline : ℕ → Bool
+is_newline b = b == newline
+
+-- a list as it is answered, with a tab between two items
+abbrev pub tabs : List (List ℕ) → List ℕ
+tabs items = join_with_byte tab items
+
+-- the answer to what isn't understood
+abbrev pub bad_command : List ℕ
+bad_command = codes "bad command"
+
+-- `-` for nothing, and else `+` and the bytes
+abbrev pub optional : Option (List ℕ) → List ℕ
+optional None = codes "-"
+optional (Some bytes) = codes "+" ++ bytes
+
+abbrev pub truth : Bool → List ℕ
+truth true = codes "true"
+truth false = codes "false"
+
+abbrev pub order_text : Ordering → List ℕ
+order_text Less = codes "less"
+order_text Equal = codes "equal"
+order_text Greater = codes "greater"
+
+-- the bytes of a path's parts
+abbrev pub part_bytes : List ℕ → List (List ℕ)
+part_bytes path = map value_bytes (values path)
+
+-- the two lists are equal
+abbrev pub same : List Value → List Value → Bool
+same v w = is_eq (values_cmp v w)
+
+-- the first values of w, as many as v has, are v
+abbrev pub begins : List Value → List Value → Bool
+begins v w = same (take (length v) w) v
+
+-- the last values of w, as many as v has, are v
+abbrev pub ends : List Value → List Value → Bool
+ends v w = same (drop (length w - length v) w) v
+
+-- what is left of a path after the parts of `base`, if these are its first
+abbrev pub strip_answer : List ℕ → List ℕ → List ℕ
+strip_answer path base =
+    if begins (values base) (values path) then optional (Some (stripped_of path base))
+    else codes "prefix not found"
+
+-- the commands of one path, and what they answer
+abbrev pub path_commands : List (List ℕ × (List ℕ → List ℕ))
+path_commands =
+    (codes "parts", λ p. tabs (part_bytes p))
+    ∷ (codes "back", λ p. tabs (reverse (part_bytes p)))
+    ∷ (codes "parent", λ p. optional (parent_of p))
+    ∷ (codes "name", λ p. optional (file_name_of p))
+    ∷ (codes "stem", λ p. optional (stem_of p))
+    ∷ (codes "ext", λ p. optional (extension_of p))
+    ∷ (codes "ancestors", λ p. tabs (ancestors_of p))
+    ∷ []
+
+-- the commands of two paths, and what they answer
+abbrev pub pair_commands : List (List ℕ × (List ℕ → List ℕ → List ℕ))
+pair_commands =
+    (codes "strip", λ p base. strip_answer p base)
+    ∷ (codes "starts", λ p q. truth (begins (values q) (values p)))
+    ∷ (codes "ends", λ p q. truth (ends (values q) (values p)))
+    ∷ (codes "cmp", λ p q. order_text (values_cmp (values p) (values q)))
+    ∷ []
+
+-- the fields of a line: n tabs make n + 1 of them
+abbrev pub fields_of : List ℕ → List (List ℕ)
+fields_of line = slice_split is_tab line
+
+-- the answer to a line with these fields
+abbrev pub answer_to : List (List ℕ) → List ℕ
+answer_to (command ∷ p ∷ []) =
+    unwrap_or (lookup (bytes_eq command) path_commands) (λ _. bad_command) p
+answer_to (command ∷ p ∷ q ∷ []) =
+    unwrap_or (lookup (bytes_eq command) pair_commands) (λ _ _. bad_command) p q
+answer_to _ = bad_command
+
+-- the answer to a line
+unfoldable pub answer_of : List ℕ → List ℕ
+answer_of line = answer_to (fields_of line)
+
+-- these stretches without the last, where that is empty
+abbrev pub without_empty_last : List (List ℕ) → List (List ℕ)
+without_empty_last [] = []
+without_empty_last ([] ∷ []) = []
+without_empty_last (line ∷ lines) = line ∷ without_empty_last lines
+
+-- the lines of an input: each ends at a newline, and the last may lack it unless it is empty
+abbrev pub lines_of : List ℕ → List (List ℕ)
+lines_of input = without_empty_last (slice_split is_newline input)
+
+-- what is written for an input: the answer to each of its lines, and a newline
+unfoldable pub output_of : List ℕ → List ℕ
+output_of input = flat_map (λ line. answer_of line ++ newline ∷ []) (lines_of input)

@@ -1,0 +1,4 @@
+pub mod Watched
+pub mod Answers
+pub mod Texts
+pub mod RunError

@@ -1,0 +1,10 @@
+-- The text of the error of a run.
+use Rattle.std.specs.Prelude.{ℕ, List, codes}
+use Rattle.pathtool.specs.declared.run.RunError.{RunError}
+use Rattle.pathtool.specs.declared.run.RunError.TheVariants.{Read, Write, Memory}
+
+-- what it is displayed as
+abbrev pub error_text : RunError → List ℕ
+error_text Read = codes "read error"
+error_text Write = codes "write error"
+error_text Memory = codes "out of memory"

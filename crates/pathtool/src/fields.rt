@@ -1,0 +1,48 @@
+//! Cuts an input into lines, and a line into fields.
+ghost use Rattle.std.specs.Prelude.{◌≡◌, ◌<◌, ◌≤◌, ◌==◌, [], ◌∷◌, length, MatchOption, IfSome};
+ghost use Rattle.std.specs.List.{slice_split, position_or_len};
+ghost use Rattle.pathtool.specs.Answers.{lines_of};
+
+// Where the first `end` stands, or the length where there is none.
+fn first_place(bytes: &[u8], end: u8) -> usize
+    ensures value { result ≡ position_or_len (λ b. b == end) bytes.now }
+    ensures in_range { result ≤ length bytes.now }
+{
+    for (place, b) in bytes.iter().enumerate() {
+        if *b == end {
+            return place;
+        }
+    }
+    bytes.len()
+}
+
+/// The bytes before the first `end`, and those after it where there is one. Takes no memory. Own.
+///
+/// `cut(b"a:b:c", b':')` is `a` and `b:c`.
+pub fn cut(bytes: &[u8], end: u8) -> (&[u8], Option<&[u8]>)
+    ensures value { MatchOption result.1 (slice_split (λ b. b == end) bytes.now ≡ result.0.now ∷ [])
+        (λ rest. slice_split (λ b. b == end) bytes.now
+        ≡ result.0.now ∷ slice_split (λ b. b == end) rest.now) }
+    ensures shorter { IfSome result.1 (λ rest. length rest.now < length bytes.now) }
+{
+    let place = first_place(bytes, end);
+    if place == bytes.len() {
+        return (bytes, None);
+    }
+    (&bytes[..place], Some(&bytes[place + 1..]))
+}
+
+/// The first line of an input that isn't empty, and what follows it. Takes no memory. Own.
+///
+/// `first_line(b"a\nb")` is `a` and `b`.
+pub fn first_line(input: &[u8]) -> (&[u8], &[u8])
+    requires { 0 < length input.now }
+    ensures value { lines_of input.now ≡ result.0.now ∷ lines_of result.1.now }
+    ensures shorter { length result.1.now < length input.now }
+{
+    let (line, rest) = cut(input, b'\n');
+    match rest {
+        Some(rest) => (line, rest),
+        None => (line, b"".as_slice()),
+    }
+}

@@ -1,0 +1,34 @@
+//! Answers questions about paths, one a line, from standard input to standard output.
+#![tactic(auto)]
+
+mod commands;
+mod fields;
+mod run;
+#[cfg(test)]
+mod tests;
+mod watched;
+
+use run::{RunError, run};
+use std::io::BufWriter;
+use std::process::ExitCode;
+use watched::Watched;
+
+// Runs over standard input and output.
+fn answer(rt: &HostRuntime) -> Result<(), RunError> {
+    let Ok(output) = BufWriter::new(rt.alloc(), std::io::writer(rt)) else {
+        return Err(RunError::Memory);
+    };
+    let mut reader = Watched::new(rt.reader());
+    let mut writer = Watched::new(output);
+    run(rt.alloc(), &mut reader, &mut writer)
+}
+
+fn main(rt: HostRuntime) -> ExitCode {
+    match answer(&rt) {
+        Ok(()) => ExitCode::SUCCESS,
+        Err(error) => {
+            let _ = eprintln!(rt; "{error}");
+            ExitCode::FAILURE
+        }
+    }
+}

@@ -1,0 +1,169 @@
+//! Reads lines to the end of an input, and writes the answer to each.
+ghost use Rattle.std.specs.Prelude.{◌≡◌, ◌↔◌, false, IsTrue, IfOk, OnOk, OnErr, IfErr, IfSome, Some};
+ghost use Rattle.std.specs.Prelude.{IsErrOf, codes};
+ghost use Rattle.std.specs.Io.KnownBytes.{Appends, Consumes, IsAtEnd, Keeps};
+ghost use Rattle.pathtool.specs.Watched.{has_failed, has_ended, watched_inner, AppendsFront};
+ghost use Rattle.pathtool.specs.Answers.{output_of};
+ghost use Rattle.pathtool.specs.RunError.{error_text};
+ghost use Rattle.pathtool.specs.declared.run.RunError.TheVariants.{Memory};
+
+use crate::commands::push_answer_line;
+use crate::fields::first_line;
+use crate::watched::Watched;
+use std::alloc::{AllocError, Global};
+use std::error::Error;
+use std::fmt;
+use std::io::{Read, Write};
+
+/// Why a run gave up.
+///
+/// Displayed as `read error`, `write error` or `out of memory`, padded like a text. Own.
+///
+/// `RunError::Memory` is displayed as `out of memory`.
+#[derive(Clone, Copy, Debug, PartialEq, Eq)]
+pub enum RunError {
+    /// The reader failed.
+    Read,
+    /// The writer failed, or took none of some bytes.
+    Write,
+    /// There was no memory.
+    Memory,
+}
+
+/// The text of the error, padded like a text.
+impl fmt::Display for RunError {
+    ghost output = { λ error. Some (error_text error) };
+
+    fn fmt<W: fmt::Write>(&self, f: &mut fmt::Formatter<W>) -> fmt::Result {
+        f.pad(match self {
+            RunError::Read => "read error",
+            RunError::Write => "write error",
+            RunError::Memory => "out of memory",
+        })
+    }
+}
+
+impl Error for RunError {}
+
+/// Want of memory is `Memory`.
+impl From<AllocError> for RunError {
+    ghost from_gives = { λ error given. given ≡ Memory };
+
+    fn from(_: AllocError) -> RunError {
+        RunError::Memory
+    }
+}
+
+// Reads to the end.
+fn read_whole<R: Read>(alloc: Global, reader: &mut Watched<R>) -> Result<Vec<u8>, RunError>
+    requires failed { has_failed reader.old ≡ false }
+    requires ended { has_ended reader.old ≡ false }
+    ensures bytes { IfOk result (λ input. Consumes (R.remaining (watched_inner reader.old))
+        (R.remaining (watched_inner reader.new)) input.items) }
+    ensures at_end { OnOk result (IsAtEnd (R.remaining (watched_inner reader.new))) }
+    ensures ok { OnOk result (IsTrue (has_ended reader.new)) }
+    ensures err { OnErr result (has_ended reader.new ≡ false) }
+    ensures read { IsErrOf result RunError.Read ↔ IsTrue (has_failed reader.new) }
+    ensures no_write { IfErr result (λ error. (error ≡ RunError.Write) → ⊥) }
+{
+    let mut input = Vec::new(alloc);
+    let mut chunk = [0u8; 65536];
+    loop {
+        let count = match reader.read(&mut chunk) {
+            Ok(count) => count,
+            Err(_) => return Err(RunError::Read),
+        };
+        if count == 0 {
+            return Ok(input);
+        }
+        input.extend_from_slice(&chunk[..count])?;
+    }
+}
+
+// Writes every byte.
+fn write_whole<W: Write>(writer: &mut Watched<W>, bytes: &[u8]) -> Result<(), RunError>
+    requires { has_failed writer.old ≡ false }
+    ensures ok { OnOk result (Appends (W.contents (watched_inner writer.old))
+        (W.contents (watched_inner writer.new)) bytes.now) }
+    ensures err { OnErr result (AppendsFront (W.contents (watched_inner writer.old))
+        (W.contents (watched_inner writer.new)) bytes.now) }
+    ensures write { IsErrOf result RunError.Write ↔ IsTrue (has_failed writer.new) }
+    ensures only_write { IfErr result (λ error. error ≡ RunError.Write) }
+{
+    let mut at = 0;
+    while at < bytes.len() {
+        match writer.write(&bytes[at..]) {
+            Ok(0) => return Err(RunError::Write),
+            Ok(count) => at += count,
+            Err(_) => return Err(RunError::Write),
+        }
+    }
+    Ok(())
+}
+
+// Writes the answer to each line of the input.
+fn write_answers<W: Write>(
+    alloc: Global,
+    input: &[u8],
+    writer: &mut Watched<W>,
+) -> Result<(), RunError>
+    requires { has_failed writer.old ≡ false }
+    ensures ok { OnOk result (Appends (W.contents (watched_inner writer.old))
+        (W.contents (watched_inner writer.new)) (output_of input.now)) }
+    ensures err { OnErr result (AppendsFront (W.contents (watched_inner writer.old))
+        (W.contents (watched_inner writer.new)) (output_of input.now)) }
+    ensures write { IsErrOf result RunError.Write ↔ IsTrue (has_failed writer.new) }
+    ensures no_read { IfErr result (λ error. (error ≡ RunError.Read) → ⊥) }
+{
+    let mut answer = Vec::new(alloc);
+    let mut left = input;
+    while !left.is_empty() {
+        let (line, rest) = first_line(left);
+        answer.clear();
+        push_answer_line(line, &mut answer)?;
+        write_whole(writer, answer.as_slice())?;
+        left = rest;
+    }
+    Ok(())
+}
+
+/// Reads the input to its end, writes the answer to each of its lines and a newline, and flushes.
+///
+/// An input without lines is answered with nothing. Takes memory for the input and for one answer.
+/// A failed read is `Read`, and then nothing was written. A failed write or flush, or a write that
+/// takes none of some bytes, is `Write`. Own.
+///
+/// The input `parts`, a tab, `a//b` and a newline is answered `a`, a tab, `b` and a newline.
+pub fn run<R: Read, W: Write>(
+    alloc: Global,
+    reader: &mut Watched<R>,
+    writer: &mut Watched<W>,
+) -> Result<(), RunError>
+    requires reader { has_failed reader.old ≡ false }
+    requires ended { has_ended reader.old ≡ false }
+    requires writer { has_failed writer.old ≡ false }
+    ensures ok { OnOk result (IfSome (R.remaining (watched_inner reader.old)) (λ input.
+        Appends (W.contents (watched_inner writer.old))
+        (W.contents (watched_inner writer.new)) (output_of input))) }
+    ensures ended { OnOk result (IsTrue (has_ended reader.new)) }
+
+    // Each error comes exactly where its end has failed, and `Memory` in no such case.
+    ensures read { IsErrOf result RunError.Read ↔ IsTrue (has_failed reader.new) }
+    ensures write { IsErrOf result RunError.Write ↔ IsTrue (has_failed writer.new) }
+
+    // What was written by then.
+    ensures err { OnErr result (IfSome (R.remaining (watched_inner reader.old)) (λ input.
+        AppendsFront (W.contents (watched_inner writer.old))
+        (W.contents (watched_inner writer.new)) (output_of input))) }
+    ensures unread { has_ended reader.new ≡ false
+        → Keeps (W.contents (watched_inner writer.old)) (W.contents (watched_inner writer.new)) }
+    ensures refused { IsErrOf result RunError.Read
+        → Keeps (W.contents (watched_inner writer.old)) (W.contents (watched_inner writer.new)) }
+{
+    let input = read_whole(alloc, reader)?;
+    write_answers(alloc, input.as_slice(), writer)?;
+    if writer.flush().is_err() {
+        return Err(RunError::Write);
+    }
+    Ok(())
+}

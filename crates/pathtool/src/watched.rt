@@ -1,0 +1,134 @@
+//! Readers and writers that remember whether they have failed.
+ghost use Rattle.std.specs.Prelude.{◌≡◌, ◌||◌, false, length, is_err};
+ghost use Rattle.std.specs.Io.{ReadsAtMost, WritesAtMost};
+ghost use Rattle.std.specs.Io.KnownBytes.{ReadConsumes, WriteAppends, Keeps};
+ghost use Rattle.pathtool.specs.Watched.{has_failed, has_ended, watched_inner};
+ghost use Rattle.pathtool.specs.Watched.{gives_none, takes_none};
+
+use std::io;
+use std::io::{Read, Write};
+
+/// A reader or a writer, and whether it has failed or ended.
+///
+/// It has failed once a call has failed, or once a write of some bytes took none. It has ended once
+/// a read with room for a byte found none. Both stay true. Own.
+///
+/// `Watched::new(b"a".as_slice())` has ended after two reads.
+#[derive(Drop)]
+pub struct Watched<T> {
+    inner: T,
+    failed: bool,
+    ended: bool,
+}
+
+impl<T> Watched<T> {
+    /// Watches `inner`, which has neither failed nor ended. Takes no memory. Own.
+    ///
+    /// `Watched::new(reader).failed()` is false.
+    pub fn new(inner: T) -> Watched<T>
+        ensures inner { watched_inner result ≡ inner }
+        ensures failed { has_failed result ≡ false }
+        ensures ended { has_ended result ≡ false }
+    {
+        Watched {
+            inner,
+            failed: false,
+            ended: false,
+        }
+    }
+
+    /// Whether a call has failed, or a write of some bytes took none. Takes no memory. Own.
+    ///
+    /// It is true after a `flush` that failed.
+    pub fn failed(&self) -> bool
+        ensures { result ≡ has_failed self.now }
+    {
+        let Watched { failed, .. } = self;
+        *failed
+    }
+
+    /// Whether a read with room for a byte found none. Takes no memory. Own.
+    ///
+    /// It is false after a read into an empty slice.
+    pub fn ended(&self) -> bool
+        ensures { result ≡ has_ended self.now }
+    {
+        let Watched { ended, .. } = self;
+        *ended
+    }
+
+    /// The reader or the writer. Takes no memory. Own.
+    ///
+    /// `Watched::new(7).into_inner()` is 7.
+    pub fn into_inner(self) -> T
+        ensures { result ≡ watched_inner self }
+    {
+        let Watched { inner, .. } = self;
+        inner
+    }
+}
+
+/// Reads from the reader that is watched.
+impl<T: Read> Read for Watched<T> {
+    ghost remaining = { λ w. T.remaining (watched_inner w) };
+
+    fn read(&mut self, buf: &mut [u8]) -> io::Result<usize>
+        ensures bound { ReadsAtMost result buf.new }
+        ensures bytes { ReadConsumes (T.remaining (watched_inner self.old))
+            (T.remaining (watched_inner self.new)) result buf.new }
+        ensures failed { has_failed self.new ≡ (has_failed self.old || is_err result) }
+        ensures ended { has_ended self.new ≡ (has_ended self.old || gives_none result (length buf.old)) }
+    {
+        let has_room = !buf.is_empty();
+        match self.inner.read(buf) {
+            Ok(count) => {
+                if count == 0 && has_room {
+                    self.ended = true;
+                }
+                Ok(count)
+            }
+            Err(error) => {
+                self.failed = true;
+                Err(error)
+            }
+        }
+    }
+}
+
+/// Writes to the writer that is watched.
+impl<T: Write> Write for Watched<T> {
+    ghost contents = { λ w. T.contents (watched_inner w) };
+
+    fn write(&mut self, buf: &[u8]) -> io::Result<usize>
+        ensures bound { WritesAtMost result buf.now }
+        ensures bytes { WriteAppends (T.contents (watched_inner self.old))
+            (T.contents (watched_inner self.new)) result buf.now }
+        ensures failed { has_failed self.new ≡ (has_failed self.old || takes_none result (length buf.now)) }
+        ensures ended { has_ended self.new ≡ has_ended self.old }
+    {
+        match self.inner.write(buf) {
+            Ok(count) => {
+                if count == 0 && !buf.is_empty() {
+                    self.failed = true;
+                }
+                Ok(count)
+            }
+            Err(error) => {
+                self.failed = true;
+                Err(error)
+            }
+        }
+    }
+
+    fn flush(&mut self) -> io::Result<()>
+        ensures bytes { Keeps (T.contents (watched_inner self.old)) (T.contents (watched_inner self.new)) }
+        ensures failed { has_failed self.new ≡ (has_failed self.old || is_err result) }
+        ensures ended { has_ended self.new ≡ has_ended self.old }
+    {
+        let result = self.inner.flush();
+        if result.is_err() {
+            self.failed = true;
+        }
+        result
+    }
+}
