@@ -1,0 +1,5 @@
+//! Tests of the crates below where memory runs out.
+#![tactic(auto)]
+
+#[cfg(test)]
+mod tests;

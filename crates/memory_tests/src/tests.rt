@@ -1,0 +1,3 @@
+mod buffers;
+mod runs;
+mod strings;

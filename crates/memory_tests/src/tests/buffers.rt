@@ -1,0 +1,191 @@
+use memory_drought::Drought;
+use std::test::Fail;
+use unix_path::bytes::{UnixStr, UnixString};
+use unix_path::{Path, PathBuf};
+
+fn path(text: &str) -> Path<'_> {
+    Path::new(UnixStr::new(text))
+}
+
+#[test]
+fn after_reserve_pushes_take_no_memory(rt: HostRuntime) -> Result<(), Fail> {
+    let alloc = rt.alloc();
+    let mut pushed = PathBuf::from_text(alloc, "foo")?;
+    let mut extended = PathBuf::from_text(alloc, "foo")?;
+    pushed.reserve(6)?;
+    extended.reserve(6)?;
+    let parts = [path("a"), path("bc"), path("")];
+    if let Some(_drought) = Drought::begin(alloc)? {
+        for part in parts {
+            assert!(rt; pushed.push(part).is_ok());
+        }
+        assert!(rt; extended.extend(parts.iter().copied()).is_ok());
+    }
+    assert_eq!(rt; pushed.as_path().as_unix_str(), UnixStr::new("foo/a/bc/"));
+    assert_eq!(rt; extended.as_path().as_unix_str(), UnixStr::new("foo/a/bc/"));
+    Ok(())
+}
+
+#[test]
+fn a_path_longer_than_memory_is_refused(rt: HostRuntime) -> Result<(), Fail> {
+    let alloc = rt.alloc();
+    let mut buffer = PathBuf::from_text(alloc, "foo")?;
+    assert!(rt; buffer.reserve(usize::MAX).is_err());
+    assert!(rt; buffer.reserve_exact(usize::MAX).is_err());
+    assert_eq!(rt; buffer.as_path().as_unix_str(), UnixStr::new("foo"));
+    assert!(rt; PathBuf::with_capacity(alloc, usize::MAX).is_err());
+    Ok(())
+}
+
+#[test]
+fn within_the_capacity_nothing_is_asked(rt: HostRuntime) -> Result<(), Fail> {
+    let alloc = rt.alloc();
+    let mut buffer = PathBuf::with_capacity(alloc, 10)?;
+    let capacity = buffer.capacity();
+    if let Some(_drought) = Drought::begin(alloc)? {
+        assert!(rt; buffer.push(path("/")).is_ok());
+        assert_eq!(rt; buffer.capacity(), capacity);
+        assert!(rt; buffer.shrink_to(capacity).is_ok());
+        assert!(rt; buffer.set_file_name(UnixStr::new("foo")).is_ok());
+        assert!(rt; buffer.set_extension(UnixStr::new("rs")).is_ok());
+        assert_eq!(rt; buffer.as_path().as_unix_str(), UnixStr::new("/foo.rs"));
+        assert!(rt; buffer.reserve(3).is_ok());
+        assert!(rt; buffer.reserve_exact(3).is_ok());
+        assert_eq!(rt; buffer.capacity(), capacity);
+    }
+    Ok(())
+}
+
+#[test]
+fn a_refused_edit_keeps_the_bytes(rt: HostRuntime) -> Result<(), Fail> {
+    let alloc = rt.alloc();
+    let mut rooted = [b'x'; 4096];
+    rooted[0] = b'/';
+    let rooted = Path::new(UnixStr::from_bytes(rooted.as_slice()));
+    let long = [b'x'; 4096];
+    let name = UnixStr::from_bytes(long.as_slice());
+    let mut pushed = PathBuf::from_text(alloc, "ab")?;
+    let mut named = PathBuf::from_text(alloc, "a/bb")?;
+    let mut extended = PathBuf::from_text(alloc, "foo/.")?;
+    if let Some(_drought) = Drought::begin(alloc)? {
+        assert!(rt; pushed.push(rooted).is_err());
+        assert_eq!(rt; pushed.as_path().as_unix_str(), UnixStr::new("ab"));
+        assert!(rt; pushed.push(Path::new(name)).is_err());
+        assert!(rt; pushed.reserve(4096).is_err());
+        assert!(rt; pushed.reserve_exact(4096).is_err());
+        assert_eq!(rt; pushed.as_path().as_unix_str(), UnixStr::new("ab"));
+        assert!(rt; named.set_file_name(name).is_err());
+        assert_eq!(rt; named.as_path().as_unix_str(), UnixStr::new("a/bb"));
+        assert!(rt; extended.set_extension(name).is_err());
+        assert_eq!(rt; extended.as_path().as_unix_str(), UnixStr::new("foo/."));
+    }
+    pushed.push(rooted)?;
+    assert_eq!(rt; pushed.as_path().as_unix_str(), rooted.as_unix_str());
+    named.set_file_name(name)?;
+    assert_eq!(rt; named.as_path().as_unix_str().len(), 4098);
+    assert!(rt; extended.set_extension(name)?);
+    assert_eq!(rt; extended.as_path().as_unix_str().len(), 4100);
+    Ok(())
+}
+
+#[test]
+fn a_refused_copy_gives_no_path(rt: HostRuntime) -> Result<(), Fail> {
+    let alloc = rt.alloc();
+    let buffer = PathBuf::from_text(alloc, "foo")?;
+    let view = buffer.as_path();
+    let name = UnixStr::new("bar");
+    if let Some(_drought) = Drought::begin(alloc)? {
+        assert!(rt; buffer.clone().is_err());
+        assert!(rt; view.to_path_buf(alloc).is_err());
+        assert!(rt; view.join(alloc, path("bar")).is_err());
+        assert!(rt; view.with_file_name(alloc, name).is_err());
+        assert!(rt; view.with_extension(alloc, name).is_err());
+        assert!(rt; PathBuf::with_capacity(alloc, 3).is_err());
+        assert!(rt; PathBuf::from_unix_str(alloc, name).is_err());
+        assert!(rt; PathBuf::from_text(alloc, "bar").is_err());
+        assert!(rt; PathBuf::from_iter(alloc, [view].iter().copied()).is_err());
+    }
+    Ok(())
+}
+
+#[test]
+fn promised_calls_of_paths_take_no_memory(rt: HostRuntime) -> Result<(), Fail> {
+    let alloc = rt.alloc();
+    let text = UnixStr::new("/a/b.c").to_unix_string(alloc)?;
+    let word = String::from_str(alloc, "..")?;
+    let none: [Path<'_>; 0] = [];
+    if let Some(_drought) = Drought::begin(alloc)? {
+        assert!(rt; PathBuf::from_iter(alloc, none.iter().copied()).is_ok());
+        assert_eq!(rt; PathBuf::new(alloc).as_path(), path(""));
+        let mut buffer = PathBuf::from(text);
+        assert!(rt; buffer.extend(none.iter().copied()).is_ok());
+        let mut parts = (&buffer).into_iter();
+        assert_eq!(rt; parts.next(), Some(UnixStr::new("/")));
+        assert_eq!(rt; parts.next_back(), Some(UnixStr::new("b.c")));
+        assert_eq!(rt; buffer.set_extension(UnixStr::new("")).ok(), Some(true));
+        assert_eq!(rt; buffer.as_path().as_unix_str(), UnixStr::new("/a/b"));
+        assert!(rt; buffer.pop());
+        assert!(rt; buffer.pop());
+        assert!(rt; !buffer.pop());
+        assert_eq!(rt; buffer.as_path(), path("/"));
+        assert_eq!(rt; buffer.set_extension(UnixStr::new("d")).ok(), Some(false));
+        buffer.clear();
+        assert_eq!(rt; buffer.into_unix_string().as_unix_str(), UnixStr::new(""));
+        let mut up = PathBuf::from(word);
+        assert_eq!(rt; up.set_extension(UnixStr::new("d")).ok(), Some(false));
+        let back: UnixString = up.into();
+        assert_eq!(rt; back.as_unix_str(), UnixStr::new(".."));
+    }
+    Ok(())
+}
+
+// Each request of `extend` is refused in some run, and what was pushed before it stays.
+#[test]
+fn a_refused_extend_keeps_the_pushes_before(rt: HostRuntime) -> Result<(), Fail> {
+    let alloc = rt.alloc();
+    let Some(mut drought) = Drought::begin(alloc)? else {
+        return Ok(());
+    };
+    let long = [b'x'; 4096];
+    let long = Path::new(UnixStr::from_bytes(long.as_slice()));
+    let items = [path("c"), long, long];
+    let mut seen = [false; 4];
+    for _ in 0..200 {
+        let mut buffer = PathBuf::new(alloc);
+        let result = buffer.extend(items.iter().copied());
+        let pushed = match buffer.as_path().as_unix_str().len() {
+            0 => 0usize,
+            1 => 1,
+            4098 => 2,
+            8195 => 3,
+            _ => panic!(rt; "other bytes"),
+        };
+        assert_eq!(rt; result.is_ok(), pushed == 3);
+        seen[pushed] = true;
+        if result.is_ok() {
+            break;
+        }
+        assert!(rt; drought.ease());
+    }
+    drop(drought);
+    assert_eq!(rt; seen.as_slice(), [true; 4].as_slice());
+    Ok(())
+}
+
+// The second push is refused: the third isn't made, and the first stays.
+#[test]
+fn extend_stops_at_the_refused_push(rt: HostRuntime) -> Result<(), Fail> {
+    let alloc = rt.alloc();
+    let long = [b'x'; 4096];
+    let long = Path::new(UnixStr::from_bytes(long.as_slice()));
+    let items = [path("c"), long, path("d")];
+    let mut buffer = PathBuf::from_text(alloc, "ab")?;
+    buffer.reserve(4)?;
+    if let Some(_drought) = Drought::begin(alloc)? {
+        assert!(rt; buffer.extend(items.iter().copied()).is_err());
+        assert_eq!(rt; buffer.as_path().as_unix_str(), UnixStr::new("ab/c"));
+    }
+    buffer.extend(items.iter().copied())?;
+    assert_eq!(rt; buffer.as_path().as_unix_str().len(), 4105);
+    Ok(())
+}
