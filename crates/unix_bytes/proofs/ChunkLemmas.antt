@@ -4,7 +4,7 @@ use Rattle.std.proofs.Common.{drop, false, eqb, if◌then◌else◌, ⊎_elim, i
 use Rattle.std.proofs.Common.{subst, arith, le_refl, length-drop, length-take-le, take-append-drop}
 use Rattle.std.proofs.Common.{append_assoc}
 use Rattle.std.specs.List.{flat_map}
-use Rattle.std.specs.Str.{IsUtf8, IsValidUpTo}
+use Rattle.std.specs.Str.{IsUtf8}
 use Rattle.std.proofs.lemmas.Bool.{cases_lt, ne_eqb}
 use Rattle.std.proofs.lemmas.List.{take_all, drop-drop}
 use Rattle.std.proofs.lemmas.Str.{IsUtf8-append, IsUtf8-nil}
@@ -14,29 +14,20 @@ use Rattle.unix_bytes.specs.Lossy.{longest_len, is_text, broken_front_of, front_
 use Rattle.unix_bytes.specs.Lossy.{lossy_of}
 use Rattle.unix_bytes.specs.Chunks.{first_chunk_of, chunk_len, chunks_of, shown_chunk}
 use Rattle.unix_bytes.proofs.TextLemmas.{IsUtf8-sequence, IsUtf8-from_IsText, IsText-from_IsUtf8}
-use Rattle.unix_bytes.proofs.LongestLemmas.{not_true, longest_len-is, longest_len-longest}
-use Rattle.unix_bytes.proofs.LongestLemmas.{longest_len-least}
+use Rattle.unix_bytes.proofs.LongestLemmas.{longest_len-is, longest_len-longest, longest_len-least}
 use Rattle.unix_bytes.proofs.TurnLemmas.{in_turn-some}
 use Rattle.unix_bytes.proofs.FrontLemmas.{front_of-nil, front_of-none, front_of-broken_front_of}
 use Rattle.unix_bytes.proofs.FrontLemmas.{front_within}
 use Rattle.unix_bytes.proofs.LossyLemmas.{is_text-from_IsText, IsText-from_is_text, fewer}
 use Rattle.unix_bytes.proofs.LossyLemmas.{lossy_of-nil, lossy_of-append, lossy_of-none}
 
--- the longest text in front, by what the library says of where text ends
+-- the longest text in front
 pub whole_text : (s : List ℕ) → IsUtf8 s → longest_len is_text s ≡ length s
 whole_text s u =
     longest_len-is is_text s (length s) (le_refl (length s))
     (inr (ap is_text (take_all (length s) s (le_refl (length s)))
     ∙ is_text-from_IsText s (IsText-from_IsUtf8 s u)))
     (λ k p q. absurd (omega arith))
-
-pub text_up_to : (s : List ℕ) (n : ℕ) → IsValidUpTo s n → longest_len is_text s ≡ n
-text_up_to s n v =
-    let w = v.short in
-    longest_len-is is_text s n (omega arith)
-    (inr (is_text-from_IsText (take n s) (IsText-from_IsUtf8 (take n s) v.front)))
-    (λ k p q. not_true (is_text (take k s))
-    (λ t. v.longest k p (IsUtf8-from_IsText (take k s) (IsText-from_is_text (take k s) t))))
 
 pub text_front : (s : List ℕ) → IsText (take (longest_len is_text s) s)
 text_front s =

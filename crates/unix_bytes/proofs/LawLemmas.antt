@@ -1,7 +1,7 @@
 -- Laws of broken fronts and of the lossy text.
-use Rattle.std.proofs.Common.{◌≡◌, ℕ, ◌<◌, ◌≤◌, List, [], ◌∷◌, ◌++◌, length, take, drop}
-use Rattle.std.proofs.Common.{true, ⊎_elim, inl, inr, refl, sym, ap, ◌∙◌, subst, arith}
-use Rattle.std.proofs.Common.{length-take-le, length-append, take-append-drop, append-nil, map}
+use Rattle.std.proofs.Common.{◌≡◌, ℕ, ◌<◌, ◌≤◌, List, [], ◌∷◌, ◌++◌, length, take, drop, true}
+use Rattle.std.proofs.Common.{⊎_elim, inl, inr, refl, sym, ap, ◌∙◌, subst, arith, length-take-le}
+use Rattle.std.proofs.Common.{length-append, take-append-drop, append-nil, map}
 use Rattle.std.specs.Prelude.{max}
 use Rattle.std.specs.List.{concat, flat_map, list_all}
 use Rattle.std.proofs.lemmas.Bool.{cases_lt, cases_Bool, cond-true, cond-false}
@@ -117,4 +117,5 @@ pub lossy_is_text : LossyIsText
 unfolding lossy_of
 lossy_is_text s =
     let us = map shown_front (fronts_of s) in
-    (us, AllPass-from_list_all is_sequence us (shown_are_sequences (fronts_of s)), joined (fronts_of s))
+    let all = shown_are_sequences (fronts_of s) in
+    (us, AllPass-from_list_all is_sequence us all, joined (fronts_of s))

@@ -6,6 +6,9 @@ pub mod LongestLemmas
 pub mod TurnLemmas
 pub mod FrontLemmas
 pub mod BrokenLemmas
+pub mod StepLemmas
+pub mod LaneLemmas
+pub mod RunLemmas
 pub mod TextLemmas
 pub mod LossyLemmas
 pub mod ChunkLemmas

@@ -3,16 +3,15 @@ use Rattle.std.proofs.Common.{◌≡◌, ℕ, zero, suc, ◌≤◌, ◌<◌, Lis
 use Rattle.std.proofs.Common.{true, false, refl, sym, ap, ap₂, ◌∙◌, arith, le_refl, append_assoc}
 use Rattle.std.proofs.Common.{length-drop, length-take-le, take-append-drop, append-nil}
 use Rattle.std.specs.List.{concat, flat_map, list_all}
-use Rattle.std.specs.Str.{IsUtf8}
 use Rattle.std.proofs.lemmas.Bool.{and_parts, cond-true, cond-false}
 use Rattle.std.proofs.lemmas.List.{drop_at}
 use Rattle.std.proofs.lemmas.List.Concat.{flat_map-append}
+use Rattle.std.proofs.lemmas.List.Folds.{list_all-append}
 use Rattle.std.proofs.lemmas.List.Sums.{AllPass-from_list_all, list_all-from_AllPass}
 use Rattle.unix_bytes.specs.Utf8.{is_sequence, IsSequence, IsText}
 use Rattle.unix_bytes.specs.Lossy.{longest_len, broken_front_of, front_of, fronts_of, replacement}
 use Rattle.unix_bytes.specs.Lossy.{shown_front, lossy_of, is_text}
 use Rattle.unix_bytes.proofs.SequenceLemmas.{no_bytes, sequence_len}
-use Rattle.unix_bytes.proofs.TextLemmas.{IsText-from_IsUtf8, IsUtf8-from_IsText}
 use Rattle.unix_bytes.proofs.LongestLemmas.{not_true, longest_len-front}
 use Rattle.unix_bytes.proofs.TurnLemmas.{in_turn-some}
 use Rattle.unix_bytes.proofs.FrontLemmas.{front_of-sequence, front_of-none, front_of-take}
@@ -82,6 +81,16 @@ is_text-from_IsText s t =
     ap fronts_of (sym (append-nil s)) ∙ cut ∙ ap (λ fs. us ++ fs) fronts_of-nil ∙ append-nil us in
     ap (list_all is_sequence) same ∙ all
 
+-- what follows text in text is text
+pub text_rest : (t s : List ℕ) → IsText t → IsText (t ++ s) → IsText s
+unfolding is_text
+text_rest t s h k =
+    let (us, all, e, cut) = fronts_of-text t s h in
+    let both : list_all is_sequence (us ++ fronts_of s) ≡ true =
+    sym (ap (list_all is_sequence) cut) ∙ is_text-from_IsText (t ++ s) k in
+    IsText-from_is_text s
+    (and_parts _ _ (sym (list_all-append is_sequence us (fronts_of s)) ∙ both)).1
+
 shown-sequences : (us : List (List ℕ)) → list_all is_sequence us ≡ true
     → flat_map shown_front us ≡ concat us
 shown-sequences [] h = refl
@@ -147,15 +156,7 @@ first_sequence s k (us, h, e) some within z =
         ∙ append_assoc v (concat vs) (drop k s) in
         no_sequence s v (concat vs ++ drop k s) z front (and_parts _ _ all).0
 
--- the same by the library's UTF-8
-pub lossy_of-utf8 : (s : List ℕ) → IsUtf8 s → lossy_of s ≡ s
-lossy_of-utf8 s u = lossy_of-text s (IsText-from_IsUtf8 s u)
-
-pub is_text-utf8 : (s : List ℕ) → IsUtf8 s → is_text s ≡ true
-is_text-utf8 s u = is_text-from_IsText s (IsText-from_IsUtf8 s u)
-
-pub is_text-broken : (s : List ℕ) → (IsUtf8 s → ⊥) → is_text s ≡ false
-is_text-broken s broken =
-    not_true (is_text s) (λ t. broken (IsUtf8-from_IsText s (IsText-from_is_text s t)))
+pub is_text-not : (s : List ℕ) → (IsText s → ⊥) → is_text s ≡ false
+is_text-not s broken = not_true (is_text s) (λ t. broken (IsText-from_is_text s t))
 
 pub ruleset text_is_lossy = (lossy_of-text)

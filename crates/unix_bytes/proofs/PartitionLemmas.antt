@@ -1,6 +1,6 @@
 -- Chunks partition the bytes.
-use Rattle.std.proofs.Common.{◌≡◌, ℕ, zero, suc, ◌+◌, ◌≤◌, List, [], ◌∷◌, ◌++◌, length, take}
-use Rattle.std.proofs.Common.{drop, refl, sym, ap, ◌∙◌, subst, arith, le_refl, append_assoc}
+use Rattle.std.proofs.Common.{◌≡◌, ℕ, zero, suc, ◌+◌, ◌≤◌, List, [], ◌∷◌, ◌++◌, length, take, drop}
+use Rattle.std.proofs.Common.{refl, sym, ap, ◌∙◌, subst, arith, le_refl, append_assoc}
 use Rattle.std.proofs.Common.{length-take-le, take-append-drop}
 use Rattle.std.specs.Prelude.{max}
 use Rattle.std.specs.List.{All, flat_map}

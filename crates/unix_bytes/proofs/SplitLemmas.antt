@@ -2,8 +2,7 @@
 use Rattle.std.proofs.Common.{◌≡◌, ℕ, ◌+◌, ◌<◌, ◌≤◌, List, [], ◌∷◌, ◌++◌, length, take, drop}
 use Rattle.std.proofs.Common.{⊎_elim, inl, refl, sym, ap, ap₂, ◌∙◌, arith, take-append-drop}
 use Rattle.std.proofs.lemmas.Bool.{cases_Bool, cond-true, cond-false}
-use Rattle.std.proofs.lemmas.List.{drop-drop, drop_at, drop_all}
-use Rattle.std.specs.Str.{IsUtf8}
+use Rattle.std.proofs.lemmas.List.{drop-drop, drop_at}
 use Rattle.unix_bytes.specs.Utf8.{is_sequence}
 use Rattle.unix_bytes.specs.Lossy.{longest_len, is_text, broken_front_of, front_of, broken_len}
 use Rattle.unix_bytes.specs.Chunks.{Chunk, first_chunk_of, chunk_len, chunks_of}
@@ -11,11 +10,7 @@ use Rattle.unix_bytes.proofs.LongestLemmas.{not_true, longest_len-is, longest_le
 use Rattle.unix_bytes.proofs.FrontLemmas.{front_of-nil, front_of-none, front_of-take}
 use Rattle.unix_bytes.proofs.FrontLemmas.{front_of-sequence, front_within}
 use Rattle.unix_bytes.proofs.LossyLemmas.{is_sequence-front_of, first_sequence, IsText-from_is_text}
-use Rattle.unix_bytes.proofs.ChunkLemmas.{none_after_text, chunks_of-some, whole_text}
-
--- behind text to the end there is nothing
-pub nothing_behind : (s : List ℕ) → IsUtf8 s → drop (longest_len is_text s) s ≡ []
-nothing_behind s u = drop_all _ s (let e = whole_text s u in omega arith)
+use Rattle.unix_bytes.proofs.ChunkLemmas.{none_after_text, chunks_of-some}
 
 broken_len-none : (s : List ℕ) → longest_len is_sequence s ≡ 0
     → broken_len s ≡ length (front_of s)

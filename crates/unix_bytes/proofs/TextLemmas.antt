@@ -86,5 +86,3 @@ pub IsText-from_IsUtf8 : (s : List ℕ) → IsUtf8 s → IsText s
 IsText-from_IsUtf8 s (cs, (h, e)) =
     let j = sequences cs h in
     (map encode cs, AllPass-from_list_all is_sequence (map encode cs) j.0, j.1 ∙ e)
-
-pub ruleset text_is_utf8 = (IsUtf8-from_IsText, IsText-from_IsUtf8)

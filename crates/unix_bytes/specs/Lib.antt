@@ -4,4 +4,5 @@ pub mod Chunks
 pub mod Texts
 pub mod Hashed
 pub mod Owned
+pub mod Lanes
 pub mod Laws

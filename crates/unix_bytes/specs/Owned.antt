@@ -1,4 +1,4 @@
--- What the clauses on an owned byte string speak of.
+-- What the clauses on an owned byte string speak of (Rust's `OsString`).
 use Rattle.std.specs.Prelude.{ℕ, ◌+◌, ◌-◌, List, length, vec_len, vec_capacity}
 use Rattle.unix_bytes.specs.declared.bytes.owned.UnixString.{UnixString}
 

@@ -7,9 +7,10 @@ ghost use Rattle.unix_bytes.specs.Lossy.{lossy_of};
 ghost use Rattle.unix_bytes.specs.Chunks.{shown};
 
 use crate::lossy::{Utf8Lossy, Utf8LossyChunk};
+use crate::utf8::to_text;
 use std::alloc::{AllocError, Global};
+use std::fmt;
 use std::hash::{Hash, Hasher};
-use std::{fmt, str};
 
 mod owned;
 
@@ -87,15 +88,11 @@ impl<'a> UnixStr<'a> {
     ///
     /// `UnixStr::from_bytes(b"a\xFF").to_str()` is `None`.
     #[inline]
-    #[tactic(auto, using(crate::proofs::TextLemmas::text_is_utf8))]
     pub fn to_str(self) -> Option<&'a str>
         ensures value { IsSome result ↔ IsText self.entry.bytes.now }
         ensures bytes { IfSome result (λ text. text.now ≡ self.entry.bytes.now) }
     {
-        match str::from_utf8(self.bytes) {
-            Ok(text) => Some(text),
-            Err(_) => None,
-        }
+        to_text(self.bytes)
     }
 
     /// The bytes as text, with U+FFFD for each broken front.

@@ -6,3 +6,4 @@ pub mod laws;
 pub mod lossy;
 #[cfg(test)]
 mod tests;
+mod utf8;

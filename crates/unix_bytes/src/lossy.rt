@@ -3,13 +3,13 @@ ghost use Rattle.std.specs.Prelude.{◌≡◌, ◌↔◌, ◌<◌, ◌≤◌, �
 ghost use Rattle.std.specs.Prelude.{drop, take, if◌then◌else◌};
 ghost use Rattle.std.specs.Fmt.{WritesOnOk, WritesStyledOnOk, padded};
 ghost use Rattle.std.specs.Iterator.{YieldsFirstBy, item_count};
-ghost use Rattle.unix_bytes.specs.Utf8.{IsSequence, BeginsSequence, begins_sequence};
-ghost use Rattle.unix_bytes.specs.Lossy.{longest_len, is_text, front_of, HasBegun, broken_len};
-ghost use Rattle.unix_bytes.specs.Lossy.{lossy_of};
+ghost use Rattle.unix_bytes.specs.Utf8.{IsSequence, BeginsSequence};
+ghost use Rattle.unix_bytes.specs.Lossy.{is_text, lossy_of};
 ghost use Rattle.unix_bytes.specs.Chunks.{chunks_of, chunk_of, chunks_left, shown};
 
+use crate::utf8::{broken_front_len, split_text, to_text};
+use std::fmt;
 use std::iter::FusedIterator;
-use std::{fmt, str};
 
 /// How many bytes the well-formed sequences have that begin with `b`: 1 to 4, or 0 where no
 /// sequence begins with it.
@@ -82,116 +82,6 @@ pub struct Utf8LossyChunksIter<'a> {
     source: &'a [u8],
 }
 
-// The byte may stand behind the first two of a sequence.
-#[inline(always)]
-fn is_tail(b: u8) -> bool
-    ensures { IsTrue result ↔ (0x80 ≤ b) × (b ≤ 0xBF) }
-{
-    0x80 <= b && b <= 0xBF
-}
-
-// Some sequence begins with these two bytes.
-#[inline(always)]
-#[tactic(auto, unfolding(crate::specs::Utf8::begins_sequence))]
-fn may_follow(first: u8, second: u8) -> bool
-    ensures { result ≡ begins_sequence (first ∷ second ∷ []) }
-{
-    match first {
-        0xE0 => 0xA0 <= second && second <= 0xBF,
-        0xED => 0x80 <= second && second <= 0x9F,
-        0xF0 => 0x90 <= second && second <= 0xBF,
-        0xF4 => 0x80 <= second && second <= 0x8F,
-        0xC2..=0xF4 => 0x80 <= second && second <= 0xBF,
-        _ => false,
-    }
-}
-
-// The first two bytes are there, and begin some sequence.
-#[inline(always)]
-#[tactic(auto, using(crate::proofs::BegunLemmas::begun))]
-fn begins_two(source: &[u8]) -> bool
-    requires { 0 < length source.now }
-    ensures { IsTrue result ↔ HasBegun source.now 2 }
-{
-    1 < source.len() && may_follow(source[0], source[1])
-}
-
-// So do the first three.
-#[inline(always)]
-#[tactic(auto, using(crate::proofs::BegunLemmas::begun))]
-fn begins_three(source: &[u8]) -> bool
-    requires { HasBegun source.now 2 }
-    ensures { IsTrue result ↔ HasBegun source.now 3 }
-{
-    0xE0 <= source[0] && 2 < source.len() && is_tail(source[2])
-}
-
-// So do the first four.
-#[inline(always)]
-#[tactic(auto, using(crate::proofs::BegunLemmas::begun))]
-fn begins_four(source: &[u8]) -> bool
-    requires { HasBegun source.now 3 }
-    ensures { IsTrue result ↔ HasBegun source.now 4 }
-{
-    0xF0 <= source[0] && 3 < source.len() && is_tail(source[3])
-}
-
-// The length of the sequence in front, or else of the broken front.
-#[inline]
-#[tactic(auto, using(crate::proofs::FrontLemmas::front_lengths))]
-fn front_len(source: &[u8]) -> usize
-    requires { 0 < length source.now }
-    ensures { result ≡ length (front_of source.now) }
-{
-    if !begins_two(source) {
-        1
-    } else if !begins_three(source) {
-        2
-    } else if !begins_four(source) {
-        3
-    } else {
-        4
-    }
-}
-
-// The length of the broken front, or 0 where a sequence or nothing stands in front.
-#[inline]
-#[tactic(auto, using(crate::proofs::BrokenLemmas::broken_lengths))]
-fn broken_front_len(source: &[u8]) -> usize
-    ensures { result ≡ broken_len source.now }
-{
-    if source.is_empty() {
-        return 0;
-    }
-    let first = source[0];
-    if first < 0x80 {
-        return 0;
-    }
-    let size = front_len(source);
-    if size == utf8_char_width(first) {
-        0
-    } else {
-        size
-    }
-}
-
-// The longest front that is text, and the bytes after it.
-#[inline]
-#[tactic(auto, using(crate::proofs::SplitLemmas::nothing_behind))]
-fn split_text(source: &[u8]) -> (&str, &[u8])
-    ensures valid { result.0.now ≡ take (longest_len is_text source.now) source.now }
-    ensures rest { result.1.now ≡ drop (longest_len is_text source.now) source.now }
-{
-    match str::from_utf8(source) {
-        Ok(text) => (text, &[]),
-        Err(error) => {
-            let (front, rest) = source.split_at(error.valid_up_to());
-            // `from_utf8` found that this front is UTF-8.
-            (unsafe { str::from_utf8_unchecked(front) }, rest)
-        }
-    }
-}
-
 // The first chunk, and the bytes after it. What is broken is looked for first: a search for the
 // end of text costs more where none stands in front.
 #[inline]
@@ -254,7 +144,7 @@ impl fmt::Display for Utf8Lossy<'_> {
         Some (if is_text s then padded spec s else lossy_of s) };
 
     fn fmt<W: fmt::Write>(&self, f: &mut fmt::Formatter<W>) -> fmt::Result {
-        if let Ok(text) = str::from_utf8(self.bytes) {
+        if let Some(text) = to_text(self.bytes) {
             return f.pad(text);
         }
         for chunk in self.chunks() {

@@ -112,3 +112,24 @@ fn ended_iterators_stay_ended(rt: HostRuntime) {
     assert_eq!(rt; copy.count(), 1);
     assert!(rt; has_broken(b"a\xFF") && !has_broken(b"a"));
 }
+
+// Runs of ASCII that are longer than what is read at once, with FF, and with U+00E9, at each place.
+#[test]
+fn long_runs(rt: HostRuntime) {
+    for place in 0..40 {
+        let mut broken = [b'a'; 40];
+        broken[place] = 0xFF;
+        assert!(rt; UnixStr::from_bytes(&broken).to_str().is_none(), "{place}");
+        match Utf8Lossy::from_bytes(&broken).chunks().next() {
+            Some(chunk) => {
+                assert_eq!(rt; chunk.valid.as_bytes(), &broken[..place]);
+                assert_eq!(rt; chunk.broken, b"\xFF".as_slice());
+            }
+            None => assert!(rt; false, "{place}"),
+        }
+        let mut text = [b'a'; 41];
+        text[place] = 0xC3;
+        text[place + 1] = 0xA9;
+        assert!(rt; UnixStr::from_bytes(&text).to_str().is_some(), "{place}");
+    }
+}

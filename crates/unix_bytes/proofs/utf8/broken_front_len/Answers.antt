@@ -1,5 +1,5 @@
 use Rattle.unix_bytes.proofs.BrokenLemmas.{broken_cut}
-use Rattle.unix_bytes.proofs.lossy.broken_front_len.Goals as goal
+use Rattle.unix_bytes.proofs.utf8.broken_front_len.Goals as goal
 
 pub returns-else-size-utf8_char_width : goal.returns-else-size-utf8_char_width
 returns-else-size-utf8_char_width c =

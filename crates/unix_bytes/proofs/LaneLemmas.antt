@@ -1,0 +1,129 @@
+-- ASCII, sixteen bytes at a time.
+use Rattle.std.proofs.Common.{◌≡◌, ℕ, zero, suc, ◌+◌, ◌<◌, ◌≤◌, List, [], ◌∷◌, length, take, drop}
+use Rattle.std.proofs.Common.{Bool, true, cond, not, map, slice_index, add-zero, get_or-drop}
+use Rattle.std.proofs.Common.{nat_le, ◌%◌, ◌^◌, w8, get_or, refl, sym, ap, ◌∙◌, subst, arith}
+use Rattle.std.proofs.Common.{length-drop, length-take-le}
+use Rattle.std.specs.Prelude.{replicate}
+use Rattle.std.specs.Simd.Lanes.{zip2, mask_l, top}
+use Rattle.std.specs.List.{prefix_len}
+use Rattle.std.specs.Str.{IsAscii}
+use Rattle.std.specs.Int.Count.{count_trailing_zeros}
+use Rattle.std.proofs.lemmas.Bool.Decides.{nat_tests}
+use Rattle.std.proofs.lemmas.List.{take-take, get_or-take, length-map}
+use Rattle.std.proofs.lemmas.List.Sums.{prefix_len-le-length, prefix_len_passes}
+use Rattle.std.proofs.lemmas.List.Folds.{length-prefix_len}
+use Rattle.std.proofs.lemmas.Str.Ascii.{IsAscii-from_all}
+use Rattle.std.proofs.lemmas.Str.{IsAscii-append, IsAscii-take}
+use Rattle.std.proofs.lemmas.Str.Ascii.{IsAscii-nil}
+use Rattle.std.proofs.lemmas.Simd.{leading_from_mask_l, trailing_mask_l, tops_compared, mask_l-mod}
+use Rattle.std.proofs.Math.Seq.{take-add}
+use Rattle.unix_bytes.specs.Lanes.{is_wide, wide_mask}
+
+abbrev is_narrow : ℕ → Bool
+is_narrow b = not (is_wide b)
+
+narrow : (b : ℕ) → is_narrow b ≡ true → b < 128
+narrow b h = grind (arith, nat_tests)
+
+-- the bytes in front that pass are ASCII
+narrow_front : (xs : List ℕ) → IsAscii (take (prefix_len is_narrow xs) xs)
+narrow_front xs =
+    let n = prefix_len is_narrow xs in
+    IsAscii-from_all (take n xs) (λ k d l.
+    let few : k < n = omega (arith, length-prefix_len is_narrow xs) in
+    rw (get_or-take n xs k d few) (narrow (get_or xs k d) (prefix_len_passes is_narrow xs k d few)))
+
+-- ASCII up to i, and n more bytes of the window there
+more_ascii : (s : List ℕ) (i n : ℕ) → n ≤ 16 → IsAscii (take i s)
+    → IsAscii (take n (take 16 (drop i s))) → IsAscii (take (i + n) s)
+more_ascii s i n few before here =
+    subst IsAscii (sym (take-add i n s))
+    (IsAscii-append (take i s) (take n (drop i s)) before
+    (subst IsAscii (take-take n 16 (drop i s) few) here))
+
+pub window_len : (s : List ℕ) (i : ℕ) → i + 16 ≤ length s → length (take 16 (drop i s)) ≡ 16
+window_len s i l = length-take-le 16 (drop i s) (omega (arith, length-drop i s))
+
+-- fewer bytes than ASCII are ASCII
+pub fewer_ascii : (s : List ℕ) (i j : ℕ) → i ≤ j → IsAscii (take j s) → IsAscii (take i s)
+fewer_ascii s i j le h = subst IsAscii (take-take i j s le) (IsAscii-take (take j s) i h)
+
+-- no byte of the window is wide
+pub ascii_window : (s : List ℕ) (i m : ℕ) → i + 16 ≤ length s → IsAscii (take i s)
+    → m ≡ wide_mask (take 16 (drop i s)) → m ≡ 0 → IsAscii (take (i + 16) s)
+ascii_window s i m l before mask none =
+    let xs = take 16 (drop i s) in
+    let e : prefix_len is_narrow xs ≡ 16 =
+    leading_from_mask_l is_wide xs (sym mask ∙ none) ∙ window_len s i l in
+    more_ascii s i 16 (omega arith) before (subst (λ n. IsAscii (take n xs)) e (narrow_front xs))
+
+-- the lowest bit is that of the first wide byte
+pub ascii_front : (s : List ℕ) (i m : ℕ) → i + 16 ≤ length s → IsAscii (take i s)
+    → m ≡ wide_mask (take 16 (drop i s)) → (m ≡ 0 → ⊥)
+    → (i + count_trailing_zeros 64 m ≤ length s) × IsAscii (take (i + count_trailing_zeros 64 m) s)
+ascii_front s i m l before mask some =
+    let xs = take 16 (drop i s) in
+    let w = window_len s i l in
+    let nonzero : 0 < wide_mask xs = omega arith in
+    let e : count_trailing_zeros 64 m ≡ prefix_len is_narrow xs =
+    ap (count_trailing_zeros 64) mask ∙ trailing_mask_l is_wide 64 xs (omega arith) nonzero in
+    let few : count_trailing_zeros 64 m ≤ 16 = omega (arith, prefix_len-le-length is_narrow xs) in (
+      omega arith,
+      more_ascii s i _ few before (subst (λ n. IsAscii (take n xs)) (sym e) (narrow_front xs)),
+    )
+
+narrow_some : (s : List ℕ) → 0 < length s → slice_index s 0 < 128
+    → 0 < prefix_len is_narrow (take 16 (drop 0 s))
+narrow_some [] some h = absurd (omega arith)
+narrow_some (x ∷ s) some h =
+    let e : is_narrow x ≡ true = grind (arith, nat_tests) in
+    rw e (omega arith)
+
+-- where the first byte is ASCII, some are
+pub some_ascii : (s : List ℕ) (i m : ℕ) → i + 16 ≤ length s
+    → m ≡ wide_mask (take 16 (drop i s)) → (m ≡ 0 → ⊥) → slice_index s 0 < 128
+    → 0 < i + count_trailing_zeros 64 m
+some_ascii s zero m l mask some h =
+    let w = window_len s 0 l in
+    let nonzero : 0 < wide_mask (take 16 (drop 0 s)) = omega arith in
+    let e : count_trailing_zeros 64 m ≡ prefix_len is_narrow (take 16 (drop 0 s)) =
+    ap (count_trailing_zeros 64) mask
+    ∙ trailing_mask_l is_wide 64 (take 16 (drop 0 s)) (omega arith) nonzero in
+    let n = narrow_some s (omega arith) h in
+    omega arith
+some_ascii s (suc i) m l mask some h = omega arith
+
+single_ascii : (x : ℕ) → x < 128 → IsAscii (x ∷ [])
+single_ascii x h zero = h
+single_ascii x h (suc i) = omega arith
+
+first_ascii : (xs : List ℕ) → slice_index xs 0 < 128 → IsAscii (take 1 xs)
+first_ascii [] h = IsAscii-nil
+first_ascii (x ∷ xs) h = single_ascii x h
+
+-- one more byte
+pub one_more_ascii : (s : List ℕ) (i : ℕ) → IsAscii (take i s) → slice_index s i < 128
+    → IsAscii (take (i + 1) s)
+one_more_ascii s i before h =
+    let e : slice_index (drop i s) 0 ≡ slice_index s i =
+    get_or-drop i s 0 0 ∙ ap (slice_index s) (add-zero i) in
+    subst IsAscii (sym (take-add i 1 s))
+    (IsAscii-append (take i s) (take 1 (drop i s)) before
+    (first_ascii (drop i s) (subst (λ b. b < 128) (sym e) h)))
+
+-- a comparison with the same byte in each lane
+lanes_map : (xs : List ℕ) (n : ℕ) → length xs ≡ n
+    → zip2 nat_le (replicate n 0x80) xs ≡ map is_wide xs
+lanes_map [] n e = subst (λ k. zip2 nat_le (replicate k 0x80) [] ≡ []) e refl
+lanes_map (x ∷ xs) n e =
+    subst (λ k. zip2 nat_le (replicate k 0x80) (x ∷ xs) ≡ map is_wide (x ∷ xs)) e
+    (ap (λ l. is_wide x ∷ l) (lanes_map xs (length xs) refl))
+
+-- the bits that the code reads
+pub lanes_mask : (xs : List ℕ) → length xs ≡ 16
+    → mask_l (map (top 7) (zip2 (λ a b. cond (nat_le a b) 255 0) (replicate 16 0x80) xs)) % 2 ^ 64
+    ≡ wide_mask xs
+lanes_mask xs e =
+    let tops = tops_compared w8 nat_le (replicate 16 0x80) xs in
+    ap (λ ms. mask_l ms % 2 ^ 64) (tops ∙ lanes_map xs 16 e)
+    ∙ mask_l-mod (map is_wide xs) 64 (omega (arith, length-map xs is_wide))

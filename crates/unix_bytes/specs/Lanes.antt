@@ -1,0 +1,11 @@
+-- Bytes that are not ASCII, as bits.
+use Rattle.std.specs.Prelude.{ℕ, Bool, List, map, nat_le}
+use Rattle.std.specs.Simd.Lanes.{mask_l}
+
+-- the byte is not ASCII
+abbrev pub is_wide : ℕ → Bool
+is_wide b = nat_le 0x80 b
+
+-- a bit for each byte, the lowest for the first: set where the byte is not ASCII
+abbrev pub wide_mask : List ℕ → ℕ
+wide_mask bytes = mask_l (map is_wide bytes)
