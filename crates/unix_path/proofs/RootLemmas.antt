@@ -1,8 +1,7 @@
 -- The root stands first alone.
 use Rattle.std.proofs.Common.{◌≡◌, ℕ, ◌<◌, true, false, eqb, ltb, List, [], ◌∷◌, ◌++◌, length}
-use Rattle.std.proofs.Common.{get_or}
-use Rattle.std.proofs.Common.{drop, map, filter, cond, refl, sym, ap, subst, ◌∙◌, arith, eqb-true}
-use Rattle.std.proofs.Common.{length-append, ltb-true, ltb-false}
+use Rattle.std.proofs.Common.{get_or, drop, map, filter, cond, refl, sym, ap, subst, ◌∙◌, arith}
+use Rattle.std.proofs.Common.{eqb-true, length-append, ltb-true, ltb-false}
 use Rattle.std.specs.List.{position_or_len}
 use Rattle.std.specs.Str.{bytes_eq}
 use Rattle.unix_path.specs.Parts.{Piece, Value, RootDir, CurDir, ParentDir, Normal, is_slash}

@@ -1,4 +1,4 @@
--- What the clauses on an owned path speak of.
+-- What the clauses on an owned path speak of (Rust's `PathBuf`).
 use Rattle.std.specs.Prelude.{◌≡◌, ◌<◌, ℕ, ◌+◌, ◌-◌, List, [], ◌∷◌, length, map, Option, Some, None}
 use Rattle.std.specs.Prelude.{vec_len, vec_capacity}
 use Rattle.std.specs.Iterator.{Drains, YieldsThen}

@@ -54,7 +54,7 @@ pub fn to_json(alloc: Global, path: Path<'_>) -> Result<Value, JsonError>
     ensures refused { IsErrOf result JsonError.NotUtf8 ↔ ¬ (IsText path.entry.bytes.now) }
     ensures err { IfErr result (λ error. error ≢ JsonError.NotString) }
 {
-    let Some(text) = path.as_unix_str().to_str() else {
+    let Some(text) = path.to_str() else {
         return Err(JsonError::NotUtf8);
     };
     match String::from_str(alloc, text) {

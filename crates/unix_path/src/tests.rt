@@ -1,8 +1,11 @@
 //! Rows of the calls' answers, and what no clause says.
 mod buffers;
+mod display;
 mod json;
 mod kept;
 mod kept_paths;
 mod order;
 mod printed;
 mod queries;
+mod readme;
+mod rests;

@@ -1,0 +1,83 @@
+//! Rows of what is left of a walk, and the bytes of components.
+use crate::bytes::UnixStr;
+use crate::{Component, Path};
+
+fn path(text: &str) -> Path<'_> {
+    Path::new(UnixStr::new(text))
+}
+
+// A path, how many parts are taken in front and behind, and what is left.
+static RESTS: [(&str, usize, usize, &str); 20] = [
+    ("//", 0, 0, "/"),
+    ("//", 0, 1, ""),
+    ("//", 1, 0, ""),
+    ("///foo///bar", 0, 0, "///foo///bar"),
+    ("///foo///bar", 1, 0, "foo///bar"),
+    ("///foo///bar", 2, 0, "bar"),
+    ("///foo///bar", 0, 1, "///foo"),
+    ("///foo///bar", 0, 2, "/"),
+    ("/tmp/foo/bar.txt", 2, 0, "foo/bar.txt"),
+    ("/tmp//foo/", 1, 0, "tmp//foo"),
+    ("/a/./b/../c", 2, 2, "b"),
+    ("./a", 1, 0, "a"),
+    ("./a", 0, 1, "."),
+    ("./a", 1, 1, ""),
+    (".", 0, 0, "."),
+    (".", 0, 1, ""),
+    ("a/./b", 1, 0, "b"),
+    ("/foo/", 0, 0, "/foo"),
+    ("a//b/.", 0, 1, "a"),
+    ("", 0, 0, ""),
+];
+
+fn leaves(text: &str, front: usize, behind: usize, rest: &str) -> bool {
+    let mut parts = path(text).components();
+    let mut texts = path(text).iter();
+    for _ in 0..front {
+        if parts.next().is_none() || texts.next().is_none() {
+            return false;
+        }
+    }
+    for _ in 0..behind {
+        if parts.next_back().is_none() || texts.next_back().is_none() {
+            return false;
+        }
+    }
+    let want = UnixStr::new(rest);
+    parts.as_path().as_unix_str() == want && texts.as_path().as_unix_str() == want
+}
+
+#[test]
+fn rests(rt: HostRuntime) {
+    for row in RESTS.iter() {
+        assert!(rt;
+            leaves(row.0, row.1, row.2, row.3),
+            "{} {} {}",
+            row.0,
+            row.1,
+            row.2
+        );
+    }
+}
+
+#[test]
+fn a_root_is_given_from_behind(rt: HostRuntime) {
+    let p = path("//");
+    let mut parts = p.components();
+    assert!(rt; parts.next_back() == Some(Component::RootDir));
+    assert!(rt; parts.next().is_none() && parts.next_back().is_none());
+    assert!(rt; p.as_unix_str() == UnixStr::new("//"));
+}
+
+fn is_written(part: Component<'_>, text: &str) -> bool {
+    let want = UnixStr::new(text);
+    part.as_unix_str() == want && part.as_path().as_unix_str() == want
+}
+
+#[test]
+fn components_are_written(rt: HostRuntime) {
+    assert!(rt; is_written(Component::RootDir, "/"));
+    assert!(rt; is_written(Component::CurDir, "."));
+    assert!(rt; is_written(Component::ParentDir, ".."));
+    assert!(rt; is_written(Component::Normal(UnixStr::new("tmp")), "tmp"));
+}
