@@ -3,3 +3,10 @@ pub mod LineLemmas
 pub mod ListLemmas
 pub mod FrontLemmas
 pub mod BeginLemmas
+pub mod QuotedLemmas
+pub mod AddedLemmas
+pub mod FieldLemmas
+pub mod WordLemmas
+pub mod TurnLemmas
+pub mod TakenLemmas
+pub mod LaneLemmas

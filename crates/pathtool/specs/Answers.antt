@@ -5,35 +5,27 @@ use Rattle.std.specs.Prelude.{if◌then◌else◌}
 use Rattle.std.specs.declared.cmp.Ordering.{Ordering}
 use Rattle.std.specs.declared.cmp.Ordering.TheVariants.{Less, Equal, Greater}
 use Rattle.std.specs.Ordering.{is_eq}
-use Rattle.std.specs.List.{slice_split, join_with_byte, flat_map}
+use Rattle.std.specs.List.{slice_split, flat_map}
 use Rattle.std.specs.Map.{lookup}
 use Rattle.std.specs.Str.{bytes_eq}
 use Rattle.unix_path.specs.Parts.{Value, values, value_bytes}
 use Rattle.unix_path.specs.Names.{parent_of, file_name_of, stem_of, extension_of, ancestors_of}
 use Rattle.unix_path.specs.Names.{stripped_of}
 use Rattle.unix_path.specs.Order.{values_cmp}
-
--- the byte between two fields, and between two items of a list
-abbrev pub tab : ℕ
-tab = 9
+use Rattle.unix_bytes.specs.Lossy.{lossy_of}
+use Rattle.unix_path.specs.Joins.{join_of}
+use Rattle.path_runs.specs.Spelling.{spelling_of}
+use Rattle.pathtool.specs.EditFields.{edit_answer}
+use Rattle.pathtool.specs.Quoted.{json_of}
+use Rattle.pathtool.specs.Walks.{walk_answer}
+pub use Rattle.pathtool.specs.Fields.{tab, is_tab, fields_of, tabs, bad_command}
 
 -- the byte that ends a line
 abbrev pub newline : ℕ
 newline = 10
 
-abbrev pub is_tab : ℕ → Bool
-is_tab b = b == tab
-
 abbrev pub is_newline : ℕ → Bool
 is_newline b = b == newline
-
--- a list as it is answered, with a tab between two items
-abbrev pub tabs : List (List ℕ) → List ℕ
-tabs items = join_with_byte tab items
-
--- the answer to what isn't understood
-abbrev pub bad_command : List ℕ
-bad_command = codes "bad command"
 
 -- `-` for nothing, and else `+` and the bytes
 abbrev pub optional : Option (List ℕ) → List ℕ
@@ -81,27 +73,35 @@ path_commands =
     ∷ (codes "stem", λ p. optional (stem_of p))
     ∷ (codes "ext", λ p. optional (extension_of p))
     ∷ (codes "ancestors", λ p. tabs (ancestors_of p))
+    ∷ (codes "canon", λ p. spelling_of (values p))
+    ∷ (codes "show", λ p. lossy_of p)
+    ∷ (codes "json", λ p. json_of p)
     ∷ []
 
--- the commands of two paths, and what they answer
+-- the commands of a path and one more field, and what they answer
 abbrev pub pair_commands : List (List ℕ × (List ℕ → List ℕ → List ℕ))
 pair_commands =
-    (codes "strip", λ p base. strip_answer p base)
+    (codes "join", λ p q. join_of p q)
+    ∷ (codes "strip", λ p base. strip_answer p base)
     ∷ (codes "starts", λ p q. truth (begins (values q) (values p)))
     ∷ (codes "ends", λ p q. truth (ends (values q) (values p)))
     ∷ (codes "cmp", λ p q. order_text (values_cmp (values p) (values q)))
+    ∷ (codes "walk", λ p turns. walk_answer p turns)
     ∷ []
 
--- the fields of a line: n tabs make n + 1 of them
-abbrev pub fields_of : List ℕ → List (List ℕ)
-fields_of line = slice_split is_tab line
-
--- the answer to a line with these fields
-abbrev pub answer_to : List (List ℕ) → List ℕ
-answer_to (command ∷ p ∷ []) =
+-- the answer to a command of one field or two
+abbrev pub fixed_answer : List (List ℕ) → List ℕ
+fixed_answer (command ∷ p ∷ []) =
     unwrap_or (lookup (bytes_eq command) path_commands) (λ _. bad_command) p
-answer_to (command ∷ p ∷ q ∷ []) =
+fixed_answer (command ∷ p ∷ q ∷ []) =
     unwrap_or (lookup (bytes_eq command) pair_commands) (λ _ _. bad_command) p q
+fixed_answer _ = bad_command
+
+-- the answer to a line with these fields: behind a path there may be any number of edits
+abbrev pub answer_to : List (List ℕ) → List ℕ
+answer_to (command ∷ p ∷ fields) =
+    if bytes_eq command (codes "edit") then edit_answer p fields
+    else fixed_answer (command ∷ p ∷ fields)
 answer_to _ = bad_command
 
 -- the answer to a line

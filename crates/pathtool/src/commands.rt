@@ -9,10 +9,14 @@ ghost use Rattle.unix_path.specs.Names.{ancestors_of};
 ghost use Rattle.unix_path.specs.Order.{values_cmp};
 ghost use Rattle.pathtool.specs.Answers.{tab, newline, tabs, part_bytes, bad_command};
 ghost use Rattle.pathtool.specs.Answers.{optional, truth, order_text, begins, ends, strip_answer};
-ghost use Rattle.pathtool.specs.Answers.{fields_of, answer_to, answer_of};
+ghost use Rattle.pathtool.specs.Answers.{fields_of, fixed_answer, answer_to, answer_of};
 ghost use Rattle.pathtool.specs.Texts.{texts};
 
+use crate::edits::push_edit;
 use crate::fields::cut;
+use crate::paths::{push_canon, push_join};
+use crate::texts::{push_json, push_show};
+use crate::walks::push_walk;
 use std::alloc::AllocError;
 use std::cmp::Ordering;
 use unix_bytes::bytes::UnixStr;
@@ -174,7 +178,7 @@ fn push_bad_command(answer: &mut Vec<u8>) -> Result<(), AllocError>
 // Adds the answer of the command of that name to one path.
 fn push_path_answer(name: &[u8], path: Path<'_>, answer: &mut Vec<u8>) -> Result<(), AllocError>
     ensures { OnOk result (answer.new.items
-        ≡ answer.old.items ++ answer_to (name.now ∷ path.entry.bytes.now ∷ [])) }
+        ≡ answer.old.items ++ fixed_answer (name.now ∷ path.entry.bytes.now ∷ [])) }
 {
     if name == b"parts".as_slice() {
         push_parts(path, answer)
@@ -190,6 +194,12 @@ fn push_path_answer(name: &[u8], path: Path<'_>, answer: &mut Vec<u8>) -> Result
         push_extension(path, answer)
     } else if name == b"ancestors".as_slice() {
         push_ancestors(path, answer)
+    } else if name == b"canon".as_slice() {
+        push_canon(path, answer)
+    } else if name == b"show".as_slice() {
+        push_show(path, answer)
+    } else if name == b"json".as_slice() {
+        push_json(path, answer)
     } else {
         push_bad_command(answer)
     }
@@ -202,10 +212,12 @@ fn push_pair_answer(
     other: Path<'_>,
     answer: &mut Vec<u8>,
 ) -> Result<(), AllocError>
-    ensures { OnOk result (answer.new.items ≡ answer.old.items ++ answer_to
+    ensures { OnOk result (answer.new.items ≡ answer.old.items ++ fixed_answer
         (name.now ∷ path.entry.bytes.now ∷ other.entry.bytes.now ∷ [])) }
 {
-    if name == b"strip".as_slice() {
+    if name == b"join".as_slice() {
+        push_join(path, other, answer)
+    } else if name == b"strip".as_slice() {
         push_stripped(path, other, answer)
     } else if name == b"starts".as_slice() {
         push_starts(path, other, answer)
@@ -213,6 +225,8 @@ fn push_pair_answer(
         push_ends(path, other, answer)
     } else if name == b"cmp".as_slice() {
         push_order(path, other, answer)
+    } else if name == b"walk".as_slice() {
+        push_walk(path, other.bytes, answer)
     } else {
         push_bad_command(answer)
     }
@@ -226,7 +240,7 @@ fn push_long_answer(
     answer: &mut Vec<u8>,
 ) -> Result<(), AllocError>
     ensures { OnOk result (answer.new.items ≡ answer.old.items
-        ++ answer_to (name.now ∷ path.entry.bytes.now ∷ fields_of fields.now)) }
+        ++ fixed_answer (name.now ∷ path.entry.bytes.now ∷ fields_of fields.now)) }
 {
     let (other, others) = cut(fields, b'\t');
     match others {
@@ -242,6 +256,9 @@ fn push_answer_to(name: &[u8], fields: &[u8], answer: &mut Vec<u8>) -> Result<()
 {
     let (path, others) = cut(fields, b'\t');
     let path = Path { bytes: path };
+    if name == b"edit".as_slice() {
+        return push_edit(path, others, answer);
+    }
     match others {
         None => push_path_answer(name, path, answer),
         Some(others) => push_long_answer(name, path, others, answer),
@@ -266,7 +283,8 @@ fn push_answer(line: &[u8], answer: &mut Vec<u8>) -> Result<(), AllocError>
 ///
 /// `parts`, a tab and `a//b` is answered `a`, a tab and `b`.
 pub fn push_answer_line(line: &[u8], answer: &mut Vec<u8>) -> Result<(), AllocError>
-    ensures { OnOk result (answer.new.items ≡ answer.old.items ++ (answer_of line.now ++ newline ∷ [])) }
+    ensures { OnOk result (answer.new.items
+        ≡ answer.old.items ++ (answer_of line.now ++ newline ∷ [])) }
 {
     push_answer(line, answer)?;
     answer.push(b'\n')?;

@@ -2,10 +2,14 @@
 #![tactic(auto)]
 
 mod commands;
+mod edits;
 mod fields;
+mod paths;
 mod run;
 #[cfg(test)]
 mod tests;
+mod texts;
+mod walks;
 mod watched;
 
 use run::{RunError, run};

@@ -1,6 +1,6 @@
 //! Reads lines to the end of an input, and writes the answer to each.
-ghost use Rattle.std.specs.Prelude.{◌≡◌, ◌↔◌, false, IsTrue, IfOk, OnOk, OnErr, IfErr, IfSome, Some};
-ghost use Rattle.std.specs.Prelude.{IsErrOf, codes};
+ghost use Rattle.std.specs.Prelude.{◌≡◌, ◌↔◌, false, IsTrue, IfOk, OnOk, OnErr, IfErr, IfSome};
+ghost use Rattle.std.specs.Prelude.{Some, IsErrOf, codes};
 ghost use Rattle.std.specs.Io.KnownBytes.{Appends, Consumes, IsAtEnd, Keeps};
 ghost use Rattle.pathtool.specs.Watched.{has_failed, has_ended, watched_inner, AppendsFront};
 ghost use Rattle.pathtool.specs.Answers.{output_of};

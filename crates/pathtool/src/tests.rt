@@ -1,3 +1,5 @@
+mod added;
+
 use crate::run::{RunError, run};
 use crate::watched::Watched;
 use std::alloc::Global;

@@ -77,7 +77,8 @@ impl<T: Read> Read for Watched<T> {
         ensures bytes { ReadConsumes (T.remaining (watched_inner self.old))
             (T.remaining (watched_inner self.new)) result buf.new }
         ensures failed { has_failed self.new ≡ (has_failed self.old || is_err result) }
-        ensures ended { has_ended self.new ≡ (has_ended self.old || gives_none result (length buf.old)) }
+        ensures ended { has_ended self.new
+            ≡ (has_ended self.old || gives_none result (length buf.old)) }
     {
         let has_room = !buf.is_empty();
         match self.inner.read(buf) {
@@ -103,7 +104,8 @@ impl<T: Write> Write for Watched<T> {
         ensures bound { WritesAtMost result buf.now }
         ensures bytes { WriteAppends (T.contents (watched_inner self.old))
             (T.contents (watched_inner self.new)) result buf.now }
-        ensures failed { has_failed self.new ≡ (has_failed self.old || takes_none result (length buf.now)) }
+        ensures failed { has_failed self.new
+            ≡ (has_failed self.old || takes_none result (length buf.now)) }
         ensures ended { has_ended self.new ≡ has_ended self.old }
     {
         match self.inner.write(buf) {
@@ -121,7 +123,8 @@ impl<T: Write> Write for Watched<T> {
     }
 
     fn flush(&mut self) -> io::Result<()>
-        ensures bytes { Keeps (T.contents (watched_inner self.old)) (T.contents (watched_inner self.new)) }
+        ensures bytes { Keeps (T.contents (watched_inner self.old))
+            (T.contents (watched_inner self.new)) }
         ensures failed { has_failed self.new ≡ (has_failed self.old || is_err result) }
         ensures ended { has_ended self.new ≡ has_ended self.old }
     {

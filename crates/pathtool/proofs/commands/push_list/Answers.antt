@@ -1,4 +1,5 @@
-use Rattle.std.proofs.Common.{◌≡◌, [], ap, ap₂, ◌∙◌, ◌++◌, ◌∷◌, Bool, List, ℕ, if◌then◌else◌, sym, append_assoc}
+use Rattle.std.proofs.Common.{◌≡◌, [], ap, ap₂, ◌∙◌, ◌++◌, ◌∷◌, Bool, List, ℕ, if◌then◌else◌, sym}
+use Rattle.std.proofs.Common.{append_assoc}
 use Rattle.pathtool.proofs.ListLemmas.{is_not_first, tabs-push}
 use Rattle.pathtool.specs.Answers.{tab, tabs}
 use Rattle.pathtool.specs.Texts.{has_none, texts}
@@ -13,7 +14,8 @@ extended : (names : List UnixStr) (name : UnixStr) (is_first : Bool) (old answer
 extended names name is_first old answer new item first so_far is e =
     e ∙ ap₂ (λ front more. front ++ more) so_far
     (ap₂ (λ (b : Bool) bytes. if b then bytes else tab ∷ bytes) first is)
-    ∙ append_assoc old (tabs (texts names)) _ ∙ sym (ap (λ more. old ++ more) (tabs-push names name))
+    ∙ append_assoc old (tabs (texts names)) _
+    ∙ sym (ap (λ more. old ++ more) (tabs-push names name))
 
 pub loop-item-preserved : goal.loop-item-preserved
 loop-item-preserved g c =

@@ -49,5 +49,6 @@ returns-clause-ok g c =
     let (done, h, e) = c.loop-left.invariant.1 in
     let none = is_nil _ (eqb-true _ 0 (search rules)) in
     subst (Appends _ _)
-    (sym (append-nil done) ∙ ap (λ more. done ++ more) (sym (ap output_of none ∙ output_of-nil)) ∙ e)
+    (sym (append-nil done) ∙ ap (λ more. done ++ more) (sym (ap output_of none ∙ output_of-nil))
+    ∙ e)
     h

@@ -1,0 +1,13 @@
+use Rattle.std.proofs.Common.{◌≡◌, length, drop}
+use Rattle.path_runs.specs.EditViews.{edit_values}
+use Rattle.pathtool.specs.Fields.{fields_of}
+use Rattle.pathtool.specs.EditFields.{edits_of_fields}
+use Rattle.pathtool.proofs.FieldLemmas.{edits_then}
+use Rattle.pathtool.proofs.edits.edits_from.Given as goal
+
+-- the edits so far, and then those that the fields left say, are all
+abbrev pub invariant-loop-field : goal.invariant-loop-field
+invariant-loop-field l =
+    let fields = fields_of l.fields in
+    edits_then (edit_values l.edits.items) (drop (length l.yielded) fields)
+    ≡ edits_of_fields fields

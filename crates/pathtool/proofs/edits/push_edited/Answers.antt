@@ -1,0 +1,23 @@
+use Rattle.std.proofs.Common.{◌++◌, ap, ap₂, sym, ◌∙◌}
+use Rattle.path_runs.specs.EditViews.{edit_values}
+use Rattle.path_runs.specs.Runs.{edits_of}
+use Rattle.pathtool.specs.EditFields.{words_of}
+use Rattle.pathtool.proofs.AddedLemmas.{added_behind}
+use Rattle.pathtool.proofs.WordLemmas.{tabs-words}
+use Rattle.pathtool.proofs.edits.push_edited.Goals as goal
+
+pub returns : goal.returns
+returns c =
+    let s = c.args.path.bytes.now in
+    let edits = edit_values c.args.edits.now in
+    let done = edits_of s edits in
+    let bytes = c.as_bytes.ensures ∙ c.as_unix_str.ensures ∙ c.as_path.ensures
+    ∙ c.in-Ok.ensures.ok in
+    let answers = c.as_slice.ensures.value ∙ c.in-Ok.ensures.value in
+    added_behind c.push_words.result _ _ _ c.as_bytes.result.now (words_of c.as_slice.result.now)
+    c.in_ok-extend_from_slice.ensures.items
+    (ap₂ (λ front answers. front ++ words_of answers) bytes answers
+    ∙ ap (λ path. (edits_of path edits).0 ++ words_of (edits_of path edits).1)
+    c.in_ok-edited.ensures
+    ∙ sym (tabs-words done.0 done.1))
+    c.push_words.ensures

@@ -1,0 +1,9 @@
+use Rattle.std.proofs.Common.{◌≡◌, ◌++◌, drop}
+use Rattle.pathtool.specs.EditFields.{words_of}
+use Rattle.pathtool.proofs.edits.push_words.Given as goal
+
+-- the words so far, and then those of the answers left, are all
+abbrev pub invariant-loop-given : goal.invariant-loop-given
+invariant-loop-given l =
+    l.answer.items ++ words_of (drop l.given-index l.answers)
+    ≡ l.initial.answer.items ++ words_of l.answers

@@ -1,0 +1,14 @@
+use Rattle.std.proofs.Common.{◌++◌, ap, ◌∙◌}
+use Rattle.std.specs.List.{flat_map}
+use Rattle.unix_bytes.specs.Chunks.{shown_chunk, chunks_of, chunks_left}
+use Rattle.unix_bytes.proofs.ChunkLemmas.{shown-chunks_of}
+use Rattle.pathtool.proofs.texts.push_show.Goals as goal
+
+pub loop-chunk-init : goal.loop-chunk-init
+loop-chunk-init c =
+    let bytes = c.from_bytes.ensures ∙ c.as_bytes.ensures ∙ c.as_unix_str.ensures in
+    ap (λ said. c.args.answer.now.items ++ said)
+    (ap (λ it. flat_map shown_chunk (chunks_left it))
+    c.into_iter-chunk-iterator.ensures.into_iter_gives
+    ∙ ap (flat_map shown_chunk) (c.chunks-chunk-items.ensures ∙ ap chunks_of bytes)
+    ∙ shown-chunks_of c.args.path.bytes.now)

@@ -1,0 +1,26 @@
+use Rattle.std.proofs.Common.{sym, ◌∙◌, ap, ◌++◌, OnOk, ◌≡◌, List, ℕ}
+use Rattle.pathtool.specs.Walks.{turns_of, walk_of}
+use Rattle.pathtool.proofs.AddedLemmas.{added}
+use Rattle.pathtool.proofs.ListLemmas.{adds}
+use Rattle.pathtool.proofs.TakenLemmas.{walked_text-walk_of, walk_answer-bad, walk_answer-turns}
+use Rattle.pathtool.proofs.walks.push_walk.Goals as goal
+
+pub returns-then-not-say_turns : goal.returns-then-not-say_turns
+returns-then-not-say_turns c =
+    added c.extend_from_slice.result _ _
+    (walk_answer-bad c.args.path.bytes.now c.args.letters.now
+    (sym c.say_turns.ensures ∙ c.if-not-say_turns.true))
+    c.extend_from_slice.ensures.items
+
+pub returns : goal.returns
+returns c =
+    let path = c.args.path.bytes.now in
+    let turns = c.as_slice.ensures.value ∙ c.in_ok-turns.ensures in
+    let walked = c.in_ok-walked.ensures in
+    adds c.push_walked.result _ _
+    (walked_text-walk_of path c.as_slice.result.now c.in_ok-walked.walked walked.front walked.rest
+    walked.behind
+    ∙ ap (walk_of path) turns
+    ∙ walk_answer-turns path c.args.letters.now
+    (sym c.say_turns.ensures ∙ c.if-not-say_turns.false))
+    c.push_walked.ensures

@@ -1,0 +1,99 @@
+//! Answers to walks by turns.
+ghost use Rattle.std.specs.Prelude.{◌≡◌, ◌++◌, OnOk, IfOk};
+ghost use Rattle.std.specs.Fmt.{decimal};
+ghost use Rattle.std.specs.List.{list_all};
+ghost use Rattle.pathtool.specs.Texts.{parts_behind, walked_text};
+ghost use Rattle.pathtool.specs.Walks.{is_turn, turn_of, turns_of, walk_of, walk_answer};
+
+use path_runs::walk::walk;
+use path_runs::{Turn, Walked};
+use std::alloc::{AllocError, Global};
+use unix_path::{Component, Path};
+
+// Whether the letter says a turn.
+fn is_turn(letter: u8) -> bool
+    ensures { result ≡ is_turn letter }
+{
+    letter == b'f' || letter == b'b'
+}
+
+// Whether each letter says a turn.
+fn say_turns(letters: &[u8]) -> bool
+    ensures { result ≡ list_all is_turn letters.now }
+{
+    letters.iter().all(|letter| is_turn(*letter))
+}
+
+// The turn that the letter says.
+fn turn_from(letter: u8) -> Turn
+    ensures { result ≡ turn_of letter }
+{
+    if letter == b'f' {
+        Turn::Front
+    } else {
+        Turn::Back
+    }
+}
+
+// The turns that the letters say.
+fn turns_from(alloc: Global, letters: &[u8]) -> Result<Vec<Turn>, AllocError>
+    ensures { IfOk result (λ turns. turns.items ≡ turns_of letters.now) }
+{
+    letters
+        .iter()
+        .map(|letter| turn_from(*letter))
+        .collect(alloc)
+}
+
+// Adds a count.
+fn push_count(count: usize, answer: &mut Vec<u8>) -> Result<(), AllocError>
+    ensures { OnOk result (answer.new.items ≡ answer.old.items ++ decimal count) }
+{
+    let text = format!(in *answer.allocator(); "{count}")?;
+    answer.extend_from_slice(text.as_bytes())
+}
+
+// Adds the bytes of each part, with a tab before it.
+fn push_parts(parts: &[Component<'_>], answer: &mut Vec<u8>) -> Result<(), AllocError>
+    ensures { OnOk result (answer.new.items ≡ answer.old.items ++ parts_behind parts.now) }
+{
+    for part in parts {
+        answer.push(b'\t')?;
+        answer.extend_from_slice(part.as_unix_str().as_bytes())?;
+    }
+    Ok(())
+}
+
+// Adds what a walk took, and what it left between.
+fn push_walked(walked: &Walked<'_>, answer: &mut Vec<u8>) -> Result<(), AllocError>
+    ensures { OnOk result (answer.new.items ≡ answer.old.items ++ walked_text walked.now) }
+{
+    push_count(walked.front.len(), answer)?;
+    answer.push(b'\t')?;
+    push_count(walked.behind.len(), answer)?;
+    push_parts(walked.front.as_slice(), answer)?;
+    answer.push(b'\t')?;
+    answer.extend_from_slice(walked.rest.as_unix_str().as_bytes())?;
+    push_parts(walked.behind.as_slice(), answer)
+}
+
+/// Adds what the turns take of the path to `answer`, as a list.
+///
+/// The letters are `f` for a part in front and `b` for one behind; others add `bad command`. The
+/// list has the counts of parts in front and behind, the parts in front, the rest, and the parts
+/// behind in the order of taking. Takes memory for the turns, the parts and for what it adds;
+/// refused, it leaves the answer in any state. Own.
+///
+/// `//` with `bf` adds `0`, `1`, the empty path and `/`, with tabs between them.
+pub fn push_walk(path: Path<'_>, letters: &[u8], answer: &mut Vec<u8>) -> Result<(), AllocError>
+    ensures { OnOk result (answer.new.items
+        ≡ answer.old.items ++ walk_answer path.entry.bytes.now letters.now) }
+{
+    if !say_turns(letters) {
+        return answer.extend_from_slice(b"bad command");
+    }
+    let alloc = *answer.allocator();
+    let turns = turns_from(alloc, letters)?;
+    let walked = walk(alloc, path, turns.as_slice())?;
+    push_walked(&walked, answer)
+}
