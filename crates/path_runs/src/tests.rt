@@ -3,4 +3,5 @@ mod callers;
 mod canonical;
 mod congruent;
 mod edits;
+mod fits;
 mod walks;
