@@ -13,7 +13,6 @@ use Rattle.unix_bytes.proofs.SequenceLemmas.{no_bytes, sequence_len}
 use Rattle.unix_bytes.proofs.WidthLemmas.{prefix_free}
 use Rattle.unix_bytes.proofs.BeginLemmas.{begins_sequence-from, BeginsSequence-from}
 use Rattle.unix_bytes.proofs.BeginLemmas.{BeginsSequence-take}
-use Rattle.unix_bytes.proofs.BegunLemmas.{fifth_begun}
 use Rattle.unix_bytes.proofs.LongestLemmas.{not_true, longest_len-is, longest_len-longest}
 use Rattle.unix_bytes.proofs.LongestLemmas.{longest_len-least}
 
@@ -140,8 +139,3 @@ two_byte_front s h end = length-front_of s 2 (omega arith) h.0 (inr h) end
 
 pub three_byte_front : (s : List ℕ) → HasBegun s 3 → (HasBegun s 4 → ⊥) → length (front_of s) ≡ 3
 three_byte_front s h end = length-front_of s 3 (omega arith) h.0 (inr h) end
-
-pub four_byte_front : (s : List ℕ) → HasBegun s 4 → length (front_of s) ≡ 4
-four_byte_front s h = length-front_of s 4 (omega arith) h.0 (inr h) (fifth_begun s)
-
-pub ruleset front_lengths = (one_byte_front, two_byte_front, three_byte_front, four_byte_front)

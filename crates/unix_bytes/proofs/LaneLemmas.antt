@@ -1,21 +1,19 @@
 -- ASCII, sixteen bytes at a time.
 use Rattle.std.proofs.Common.{◌≡◌, ℕ, zero, suc, ◌+◌, ◌<◌, ◌≤◌, List, [], ◌∷◌, length, take, drop}
-use Rattle.std.proofs.Common.{Bool, true, cond, not, map, slice_index, add-zero, get_or-drop}
-use Rattle.std.proofs.Common.{nat_le, ◌%◌, ◌^◌, w8, get_or, refl, sym, ap, ◌∙◌, subst, arith}
+use Rattle.std.proofs.Common.{Bool, true, not, slice_index, add-zero, get_or-drop}
+use Rattle.std.proofs.Common.{get_or, sym, ap, ◌∙◌, subst, arith}
 use Rattle.std.proofs.Common.{length-drop, length-take-le}
-use Rattle.std.specs.Prelude.{replicate}
-use Rattle.std.specs.Simd.Lanes.{zip2, mask_l, top}
 use Rattle.std.specs.List.{prefix_len}
 use Rattle.std.specs.Str.{IsAscii}
 use Rattle.std.specs.Int.Count.{count_trailing_zeros}
 use Rattle.std.proofs.lemmas.Bool.Decides.{nat_tests}
-use Rattle.std.proofs.lemmas.List.{take-take, get_or-take, length-map}
+use Rattle.std.proofs.lemmas.List.{take-take, take_all, get_or-take}
 use Rattle.std.proofs.lemmas.List.Sums.{prefix_len-le-length, prefix_len_passes}
 use Rattle.std.proofs.lemmas.List.Folds.{length-prefix_len}
 use Rattle.std.proofs.lemmas.Str.Ascii.{IsAscii-from_all}
 use Rattle.std.proofs.lemmas.Str.{IsAscii-append, IsAscii-take}
 use Rattle.std.proofs.lemmas.Str.Ascii.{IsAscii-nil}
-use Rattle.std.proofs.lemmas.Simd.{leading_from_mask_l, trailing_mask_l, tops_compared, mask_l-mod}
+use Rattle.std.proofs.lemmas.Simd.{leading_from_mask_l, trailing_mask_l}
 use Rattle.std.proofs.Math.Seq.{take-add}
 use Rattle.unix_bytes.specs.Lanes.{is_wide, wide_mask}
 
@@ -33,6 +31,12 @@ narrow_front xs =
     let few : k < n = omega (arith, length-prefix_len is_narrow xs) in
     rw (get_or-take n xs k d few) (narrow (get_or xs k d) (prefix_len_passes is_narrow xs k d few)))
 
+-- where no bit is set, all are
+pub ascii_from_mask : (xs : List ℕ) → wide_mask xs ≡ 0 → IsAscii xs
+ascii_from_mask xs none =
+    let e = leading_from_mask_l is_wide xs none in
+    subst IsAscii (take_all (prefix_len is_narrow xs) xs (omega arith)) (narrow_front xs)
+
 -- ASCII up to i, and n more bytes of the window there
 more_ascii : (s : List ℕ) (i n : ℕ) → n ≤ 16 → IsAscii (take i s)
     → IsAscii (take n (take 16 (drop i s))) → IsAscii (take (i + n) s)
@@ -47,6 +51,13 @@ window_len s i l = length-take-le 16 (drop i s) (omega (arith, length-drop i s))
 -- fewer bytes than ASCII are ASCII
 pub fewer_ascii : (s : List ℕ) (i j : ℕ) → i ≤ j → IsAscii (take j s) → IsAscii (take i s)
 fewer_ascii s i j le h = subst IsAscii (take-take i j s le) (IsAscii-take (take j s) i h)
+
+-- a block behind ASCII
+pub ascii_block : (s : List ℕ) (i : ℕ) → IsAscii (take i s) → IsAscii (take 64 (drop i s))
+    → IsAscii (take (i + 64) s)
+ascii_block s i before here =
+    subst IsAscii (sym (take-add i 64 s))
+    (IsAscii-append (take i s) (take 64 (drop i s)) before here)
 
 -- no byte of the window is wide
 pub ascii_window : (s : List ℕ) (i m : ℕ) → i + 16 ≤ length s → IsAscii (take i s)
@@ -110,20 +121,3 @@ one_more_ascii s i before h =
     subst IsAscii (sym (take-add i 1 s))
     (IsAscii-append (take i s) (take 1 (drop i s)) before
     (first_ascii (drop i s) (subst (λ b. b < 128) (sym e) h)))
-
--- a comparison with the same byte in each lane
-lanes_map : (xs : List ℕ) (n : ℕ) → length xs ≡ n
-    → zip2 nat_le (replicate n 0x80) xs ≡ map is_wide xs
-lanes_map [] n e = subst (λ k. zip2 nat_le (replicate k 0x80) [] ≡ []) e refl
-lanes_map (x ∷ xs) n e =
-    subst (λ k. zip2 nat_le (replicate k 0x80) (x ∷ xs) ≡ map is_wide (x ∷ xs)) e
-    (ap (λ l. is_wide x ∷ l) (lanes_map xs (length xs) refl))
-
--- the bits that the code reads
-pub lanes_mask : (xs : List ℕ) → length xs ≡ 16
-    → mask_l (map (top 7) (zip2 (λ a b. cond (nat_le a b) 255 0) (replicate 16 0x80) xs)) % 2 ^ 64
-    ≡ wide_mask xs
-lanes_mask xs e =
-    let tops = tops_compared w8 nat_le (replicate 16 0x80) xs in
-    ap (λ ms. mask_l ms % 2 ^ 64) (tops ∙ lanes_map xs 16 e)
-    ∙ mask_l-mod (map is_wide xs) 64 (omega (arith, length-map xs is_wide))

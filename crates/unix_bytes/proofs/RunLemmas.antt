@@ -1,35 +1,37 @@
 -- Text in front, a run at a time.
-use Rattle.std.proofs.Common.{◌≡◌, ℕ, ◌+◌, ◌-◌, ◌<◌, ◌≤◌, List, [], ◌++◌, length, take, drop}
+use Rattle.std.proofs.Common.{◌≡◌, ℕ, ◌+◌, ◌-◌, ◌<◌, ◌≤◌, List, ◌++◌, length, take, drop}
 use Rattle.std.proofs.Common.{⊎_elim, inr, sym, ap, ◌∙◌, subst, arith, length-drop}
 use Rattle.std.specs.Str.{IsAscii, IsUtf8}
 use Rattle.std.proofs.lemmas.List.{take_all}
-use Rattle.std.proofs.lemmas.Str.{IsUtf8-append, IsUtf8-from_ascii, IsUtf8-nil}
+use Rattle.std.proofs.lemmas.Str.{IsUtf8-append, IsUtf8-from_ascii}
 use Rattle.std.proofs.Math.Seq.{take-add}
-use Rattle.unix_bytes.specs.Utf8.{is_sequence, IsText}
-use Rattle.unix_bytes.specs.Lossy.{longest_len, is_text}
+use Rattle.unix_bytes.specs.Utf8.{is_sequence, IsSequence, IsText}
+use Rattle.unix_bytes.specs.Lossy.{longest_len, is_text, broken_len}
 use Rattle.unix_bytes.proofs.TextLemmas.{IsUtf8-sequence, IsUtf8-from_IsText, IsText-from_IsUtf8}
 use Rattle.unix_bytes.proofs.LongestLemmas.{not_true, longest_len-is, longest_len-longest}
 use Rattle.unix_bytes.proofs.LossyLemmas.{is_text-from_IsText, IsText-from_is_text, text_rest}
 use Rattle.unix_bytes.proofs.LossyLemmas.{first_sequence}
+use Rattle.unix_bytes.proofs.BrokenLemmas.{broken_len_within, broken_none, none_in_front}
 use Rattle.unix_bytes.proofs.ChunkLemmas.{whole_text, text_front}
 
 pub ascii_is_text : (s : List ℕ) → IsAscii s → IsText s
 ascii_is_text s h = IsText-from_IsUtf8 s (IsUtf8-from_ascii s h)
 
-IsText-append : (s t : List ℕ) → IsText s → IsText t → IsText (s ++ t)
+pub IsText-append : (s t : List ℕ) → IsText s → IsText t → IsText (s ++ t)
 IsText-append s t h k =
     IsText-from_IsUtf8 (s ++ t)
     (IsUtf8-append s t (IsUtf8-from_IsText s h) (IsUtf8-from_IsText t k))
 
--- the sequence in front is text, and so is nothing where none stands there
-pub sequence_is_text : (s : List ℕ) (n : ℕ) → n ≡ longest_len is_sequence s
+pub one_sequence : (u : List ℕ) → IsSequence u → IsText u
+one_sequence u h = IsText-from_IsUtf8 u (IsUtf8-sequence u h)
+
+-- a sequence in front is text
+pub sequence_is_text : (s : List ℕ) (n : ℕ) → 0 < n → n ≡ longest_len is_sequence s
     → IsText (take n s)
-sequence_is_text s n e =
-    let k = longest_len is_sequence s in
+sequence_is_text s n some e =
     subst (λ j. IsText (take j s)) (sym e)
-    (⊎_elim (λ z. subst (λ j. IsText (take j s)) (sym z) (IsText-from_IsUtf8 [] IsUtf8-nil))
-    (λ t. IsText-from_IsUtf8 (take k s) (IsUtf8-sequence (take k s) t))
-    (longest_len-longest is_sequence s).passes)
+    (one_sequence _ (⊎_elim (λ z. absurd (omega arith)) (λ t. t)
+    (longest_len-longest is_sequence s).passes))
 
 pub sequence_within : (s : List ℕ) → longest_len is_sequence s ≤ length s
 sequence_within s = (longest_len-longest is_sequence s).within
@@ -64,6 +66,35 @@ text_until s i le h z =
         (text_rest (take i s) (take j (drop i s)) h (subst IsText cut t))
         (omega arith) (omega (arith, length-drop i s)) z
 
+-- text so far, and at the place what is found in the rest
+module _ (s r : List ℕ) (i : ℕ) (rest : r ≡ drop i s) (before : IsText (take i s)) where
+  pub after_text : (n : ℕ) → i ≤ length s → n ≤ length r → IsText (take n r)
+      → (i + n ≤ length s) × IsText (take (i + n) s)
+  after_text n le bound here = (
+    omega (arith, bound, ap length rest, length-drop i s),
+    more_text s i n before (subst (λ t. IsText (take n t)) rest here),
+  )
+
+  pub after_ascii : (n : ℕ) → i ≤ length s → n ≤ length r → IsAscii (take n r)
+      → (i + n ≤ length s) × IsText (take (i + n) s)
+  after_ascii n le bound here = after_text n le bound (ascii_is_text (take n r) here)
+
+  pub after_sequence : (n : ℕ) → i ≤ length s → (0 < n) × (n ≡ longest_len is_sequence r)
+      → (i + n ≤ length s) × IsText (take (i + n) s)
+  after_sequence n le (some, is) =
+      after_text n le (omega (arith, is, sequence_within r)) (sequence_is_text r n some is)
+
+  -- behind text, what is broken ends it
+  pub before_broken : (n : ℕ) → i ≤ length s → (0 < n) × (n ≡ broken_len r)
+      → i ≡ longest_len is_text s
+  before_broken n le (some, is) =
+      text_until s i le before
+      (subst (λ t. longest_len is_sequence t ≡ 0) rest (none_in_front r (omega arith)))
+
+-- and at the end nothing is broken
+pub none_at_end : (s : List ℕ) (i : ℕ) → length s ≤ i → 0 ≡ broken_len (drop i s)
+none_at_end s i end = sym (broken_none (drop i s) (omega (arith, length-drop i s)))
+
 -- text goes to the end, and what goes to the end is text
 pub text_ends : (s : List ℕ) (n : ℕ) → n ≡ longest_len is_text s → IsText s → length s ≤ n
 text_ends s n e h =
@@ -80,4 +111,8 @@ whole_is_utf8 s n e le = subst IsUtf8 (take_all n s le) (front_is_utf8 s n e)
 pub whole_is_text : (s : List ℕ) (n : ℕ) → n ≡ longest_len is_text s → length s ≤ n → IsText s
 whole_is_text s n e le = IsText-from_IsUtf8 s (whole_is_utf8 s n e le)
 
-pub ruleset runs = (ascii_is_text, sequence_is_text, sequence_within)
+-- the front that is text, and what is broken behind it, are within the bytes
+pub text_within : (s : List ℕ) → longest_len is_text s ≤ length s
+text_within s = (longest_len-longest is_text s).within
+
+pub ruleset front_bounds = (text_within, broken_len_within)

@@ -5,7 +5,7 @@ use Rattle.std.proofs.Common.{length-append, length-take-le, take-append-drop}
 use Rattle.std.proofs.lemmas.Bool.{cases_lt}
 use Rattle.unix_bytes.specs.Utf8.{is_sequence, IsSequence, BeginsSequence}
 use Rattle.unix_bytes.specs.Lossy.{longest_len, HasBegun}
-use Rattle.unix_bytes.proofs.SequenceLemmas.{one_is, no_bytes, sequence_len}
+use Rattle.unix_bytes.proofs.SequenceLemmas.{no_bytes, sequence_len}
 use Rattle.unix_bytes.proofs.WidthLemmas.{HasWidth, has_width}
 use Rattle.unix_bytes.proofs.BeginLemmas.{begins_sequence-from, BeginsSequence-from}
 use Rattle.unix_bytes.proofs.BeginLemmas.{BeginsSequence-take}
@@ -75,11 +75,6 @@ front_width b bs zero within h = let z = no_bytes in cc
 front_width b bs (suc k) within h =
     subst (λ n. HasWidth b (suc n)) (length-take-le k bs (omega arith)) (has_width b (take k bs) h)
 
-pub one_byte_sequence : (s : List ℕ) → 0 < length s → slice_index s 0 < 0x80
-    → longest_len is_sequence s ≡ 1
-one_byte_sequence [] some l = absurd (omega arith)
-one_byte_sequence (b ∷ bs) some l = longest_len-sequence (b ∷ []) bs (one_is b (omega arith))
-
 pub two_byte_sequence : (s : List ℕ) → HasBegun s 2 → slice_index s 0 < 0xE0
     → longest_len is_sequence s ≡ 2
 two_byte_sequence [] h l = absurd (omega arith)
@@ -116,10 +111,4 @@ none_of_four [] never g = absurd (omega arith)
 none_of_four (b ∷ bs) never g =
     not_begun (b ∷ bs) 4 never (λ k within h. four_at_least b k (front_width b bs k within h) g)
 
-pub ruleset short_sequence = (one_byte_sequence, two_byte_sequence)
-
-pub ruleset long_sequence = (three_byte_sequence, four_byte_sequence)
-
-pub ruleset no_sequence = (none_of_two, none_of_three, none_of_four)
-
-pub ruleset sequence_lengths = (short_sequence, long_sequence, no_sequence)
+pub ruleset wide_sequences = (two_byte_sequence, three_byte_sequence, four_byte_sequence)

@@ -23,9 +23,13 @@ chunk_len c = length c.valid + length c.broken
 unfoldable pub chunks_of : List ℕ → List Chunk
 chunks_of s = in_turn first_chunk_of chunk_len s
 
+-- U+FFFD, unless nothing is broken
+abbrev pub shown_broken : List ℕ → List ℕ
+shown_broken broken = if length broken == 0 then [] else replacement
+
 -- a chunk's text, and U+FFFD for its broken front
 abbrev pub shown_chunk : Chunk → List ℕ
-shown_chunk c = c.valid ++ (if length c.broken == 0 then [] else replacement)
+shown_chunk c = c.valid ++ shown_broken c.broken
 
 -- a chunk by its bytes
 abbrev pub chunk_of : Utf8LossyChunk → Chunk

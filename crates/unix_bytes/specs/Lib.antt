@@ -5,4 +5,5 @@ pub mod Texts
 pub mod Hashed
 pub mod Owned
 pub mod Lanes
+pub mod Windows
 pub mod Laws

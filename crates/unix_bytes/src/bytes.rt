@@ -4,9 +4,10 @@ ghost use Rattle.std.specs.Prelude.{IfSome};
 ghost use Rattle.std.specs.String.{string_bytes};
 ghost use Rattle.unix_bytes.specs.Utf8.{IsText};
 ghost use Rattle.unix_bytes.specs.Lossy.{lossy_of};
-ghost use Rattle.unix_bytes.specs.Chunks.{shown};
+ghost use Rattle.std.specs.List.{flat_map};
+ghost use Rattle.unix_bytes.specs.Chunks.{chunks_left, shown, shown_chunk, shown_broken};
 
-use crate::lossy::{Utf8Lossy, Utf8LossyChunk};
+use crate::lossy::{Utf8Lossy, Utf8LossyChunk, Utf8LossyChunksIter};
 use crate::utf8::to_text;
 use std::alloc::{AllocError, Global};
 use std::fmt;
@@ -102,16 +103,20 @@ impl<'a> UnixStr<'a> {
     /// As Rust's `OsStr::to_string_lossy`.
     ///
     /// Of 61 FF it is `a` and U+FFFD.
-    #[tactic(auto, using(crate::proofs::LossyLemmas::text_is_lossy))]
     pub fn to_string_lossy(self, alloc: Global) -> Result<LossyText<'a>, AllocError>
         ensures value { IfOk result (λ text. text_bytes text ≡ lossy_of self.entry.bytes.now) }
         ensures borrowed { IfOk result (λ text. IsBorrowed text ↔ IsText self.entry.bytes.now) }
         ensures succeeds { IsText self.entry.bytes.now → IsOk result }
     {
-        match self.to_str() {
-            Some(text) => Ok(LossyText::Borrowed(text)),
-            None => Ok(LossyText::Owned(lossy_string(alloc, self.bytes)?)),
+        let mut chunks = Utf8Lossy::from_bytes(self.bytes).chunks();
+        let Some(first) = chunks.next() else {
+            return Ok(LossyText::Borrowed(""));
+        };
+        if first.broken.is_empty() {
+            return Ok(LossyText::Borrowed(first.valid));
         }
+        let text = lossy_string(alloc, self.bytes.len(), first, chunks)?;
+        Ok(LossyText::Owned(text))
     }
 }
 
@@ -166,23 +171,43 @@ impl LossyText<'_> {
     }
 }
 
-// The lossy text of the bytes, as a text of its own.
-fn lossy_string(alloc: Global, bytes: &[u8]) -> Result<String, AllocError>
-    ensures { IfOk result (λ text. string_bytes text ≡ lossy_of bytes.now) }
+// The chunk and those behind it, as they are shown, in a text with room for so many bytes.
+fn lossy_string(
+    alloc: Global,
+    room: usize,
+    first: Utf8LossyChunk<'_>,
+    rest: Utf8LossyChunksIter<'_>,
+) -> Result<String, AllocError>
+    ensures { let whole = shown first.entry ++ flat_map shown_chunk (chunks_left rest.entry) in
+        IfOk result (λ text. string_bytes text ≡ whole) }
 {
-    let mut text = String::with_capacity(alloc, bytes.len())?;
-    for chunk in Utf8Lossy::from_bytes(bytes).chunks() {
+    let mut text = String::with_capacity(alloc, room)?;
+    push_chunk(&mut text, first)?;
+    for chunk in rest {
         push_chunk(&mut text, chunk)?;
     }
     Ok(text)
 }
 
 // Adds the chunk's text, and U+FFFD for its broken front.
+#[inline(always)]
 fn push_chunk(text: &mut String, chunk: Utf8LossyChunk<'_>) -> Result<(), AllocError>
     ensures { OnOk result (string_bytes text.new ≡ string_bytes text.old ++ shown chunk.entry) }
 {
+    if chunk.valid.is_empty() {
+        return push_broken(text, chunk.broken);
+    }
     text.push_str(chunk.valid)?;
-    if chunk.broken.is_empty() {
+    push_broken(text, chunk.broken)
+}
+
+// Adds U+FFFD unless nothing is broken.
+#[inline(always)]
+fn push_broken(text: &mut String, broken: &[u8]) -> Result<(), AllocError>
+    ensures { let whole = string_bytes text.old ++ shown_broken broken.now in
+        OnOk result (string_bytes text.new ≡ whole) }
+{
+    if broken.is_empty() {
         return Ok(());
     }
     text.push_str("\u{FFFD}")

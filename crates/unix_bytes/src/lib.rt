@@ -7,3 +7,4 @@ pub mod lossy;
 #[cfg(test)]
 mod tests;
 mod utf8;
+mod windows;

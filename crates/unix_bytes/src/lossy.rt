@@ -7,7 +7,7 @@ ghost use Rattle.unix_bytes.specs.Utf8.{IsSequence, BeginsSequence};
 ghost use Rattle.unix_bytes.specs.Lossy.{is_text, lossy_of};
 ghost use Rattle.unix_bytes.specs.Chunks.{chunks_of, chunk_of, chunks_left, shown};
 
-use crate::utf8::{broken_front_len, split_text, to_text};
+use crate::utf8::split_front;
 use std::fmt;
 use std::iter::FusedIterator;
 
@@ -82,21 +82,14 @@ pub struct Utf8LossyChunksIter<'a> {
     source: &'a [u8],
 }
 
-// The first chunk, and the bytes after it. What is broken is looked for first: a search for the
-// end of text costs more where none stands in front.
+// The first chunk, and the bytes after it.
 #[inline]
 #[tactic(auto, using(crate::proofs::SplitLemmas::first_split))]
 fn split_chunk(source: &[u8]) -> (Utf8LossyChunk<'_>, &[u8])
     requires { 0 < length source.now }
     ensures { chunks_of source.now ≡ chunk_of result.0 ∷ chunks_of result.1.now }
 {
-    let size = broken_front_len(source);
-    if 0 < size {
-        let (broken, rest) = source.split_at(size);
-        return (Utf8LossyChunk { valid: "", broken }, rest);
-    }
-    let (valid, behind) = split_text(source);
-    let (broken, rest) = behind.split_at(broken_front_len(behind));
+    let (valid, broken, rest) = split_front(source);
     (Utf8LossyChunk { valid, broken }, rest)
 }
 
@@ -144,10 +137,15 @@ impl fmt::Display for Utf8Lossy<'_> {
         Some (if is_text s then padded spec s else lossy_of s) };
 
     fn fmt<W: fmt::Write>(&self, f: &mut fmt::Formatter<W>) -> fmt::Result {
-        if let Some(text) = to_text(self.bytes) {
-            return f.pad(text);
+        let mut chunks = self.chunks();
+        let Some(first) = chunks.next() else {
+            return f.pad("");
+        };
+        if first.broken.is_empty() {
+            return f.pad(first.valid);
         }
-        for chunk in self.chunks() {
+        write_chunk(first, f)?;
+        for chunk in chunks {
             write_chunk(chunk, f)?;
         }
         Ok(())

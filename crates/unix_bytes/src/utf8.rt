@@ -3,11 +3,12 @@ ghost use Rattle.std.specs.Prelude.{◌≡◌, ◌↔◌, ◌+◌, ◌<◌, ◌�
 ghost use Rattle.std.specs.Prelude.{length, drop, take, slice_index};
 ghost use Rattle.std.specs.Str.{IsAscii};
 ghost use Rattle.unix_bytes.specs.Utf8.{is_sequence, IsText, begins_sequence};
-ghost use Rattle.unix_bytes.specs.Lossy.{longest_len, is_text, front_of, HasBegun, broken_len};
+ghost use Rattle.unix_bytes.specs.Lossy.{longest_len, is_text, HasBegun, broken_len};
+ghost use Rattle.std.specs.Result.{IfOk, IfErr};
 ghost use Rattle.unix_bytes.specs.Lanes.{wide_mask};
 
-use crate::lossy::utf8_char_width;
-use std::simd::u8x16;
+use crate::windows::{at_least, window_len};
+use std::simd::{u8x16, u8x64};
 use std::str;
 
 // The byte may stand behind the first two of a sequence.
@@ -65,69 +66,29 @@ fn begins_four(source: &[u8]) -> bool
     0xF0 <= source[0] && 3 < source.len() && is_tail(source[3])
 }
 
-// The length of the sequence in front, or else of the broken front.
-#[inline]
-#[tactic(auto, using(crate::proofs::FrontLemmas::front_lengths))]
-fn front_len(source: &[u8]) -> usize
-    requires { 0 < length source.now }
-    ensures { result ≡ length (front_of source.now) }
-{
-    if !begins_two(source) {
-        1
-    } else if !begins_three(source) {
-        2
-    } else if !begins_four(source) {
-        3
-    } else {
-        4
-    }
-}
-
-// The length of the broken front, or 0 where a sequence or nothing stands in front.
-#[inline]
-#[tactic(auto, using(crate::proofs::BrokenLemmas::broken_lengths))]
-pub(crate) fn broken_front_len(source: &[u8]) -> usize
-    ensures { result ≡ broken_len source.now }
-{
-    if source.is_empty() {
-        return 0;
-    }
-    let first = source[0];
-    if first < 0x80 {
-        return 0;
-    }
-    let size = front_len(source);
-    if size == utf8_char_width(first) {
-        0
-    } else {
-        size
-    }
-}
-
-// The length of the sequence in front, or 0 where none stands there.
-#[inline]
-#[tactic(auto, using(crate::proofs::StepLemmas::sequence_lengths))]
-fn sequence_len(source: &[u8]) -> usize
-    requires { 0 < length source.now }
-    ensures { result ≡ longest_len is_sequence source.now }
+// The length of the sequence in front, or else that of the broken front.
+#[inline(always)]
+#[tactic(auto, using(crate::proofs::BrokenLemmas::wide_fronts))]
+fn wide_front(source: &[u8]) -> Result<usize, usize>
+    requires some { 0 < length source.now }
+    requires wide { 0x80 ≤ slice_index source.now 0 }
+    ensures sequence { IfOk result (λ n. (0 < n) × (n ≡ longest_len is_sequence source.now)) }
+    ensures broken { IfErr result (λ n. (0 < n) × (n ≡ broken_len source.now)) }
 {
     let first = source[0];
-    if first < 0x80 {
-        return 1;
-    }
     if !begins_two(source) {
-        return 0;
+        return Err(1);
     }
     if first < 0xE0 {
-        return 2;
+        return Ok(2);
     }
     if !begins_three(source) {
-        return 0;
+        return Err(2);
     }
     if first < 0xF0 {
-        return 3;
+        return Ok(3);
     }
-    if begins_four(source) { 4 } else { 0 }
+    if begins_four(source) { Ok(4) } else { Err(3) }
 }
 
 // A bit for each of the 16 bytes from the place on: set where the byte is not ASCII.
@@ -136,12 +97,33 @@ fn wide_lanes(source: &[u8], at: usize) -> u64
     requires { at + 16 ≤ length source.now }
     ensures { result ≡ wide_mask (take 16 (drop at source.now)) }
 {
-    u8x16::from_slice(&source[at..])
-        .simd_ge(u8x16::splat(0x80))
-        .to_bitmask()
+    at_least(u8x16::from_slice(&source[at..]), 0x80)
 }
 
-// How many bytes in front are ASCII, 16 at a time; the last 16 may overlap those before them.
+// The 64 bytes from the place on are ASCII.
+#[inline(always)]
+fn is_ascii_block(source: &[u8], at: usize) -> bool
+    requires { at + 64 ≤ length source.now }
+    ensures { IsTrue result → IsAscii (take 64 (drop at source.now)) }
+{
+    let block = u8x64::from_slice(&source[at..]);
+    block.simd_ge(u8x64::splat(0x80)).to_bitmask() == 0
+}
+
+// How many bytes in front are ASCII, as far as blocks of 64 say.
+fn ascii_blocks_len(source: &[u8]) -> usize
+    ensures bound { result ≤ length source.now }
+    ensures ascii { IsAscii (take result source.now) }
+{
+    let mut at = 0;
+    while 64 <= source.len() - at && is_ascii_block(source, at) {
+        at += 64;
+    }
+    at
+}
+
+// How many bytes in front are ASCII, in blocks and then 16 at a time; the last 16 may overlap those
+// before them.
 fn ascii_len(source: &[u8]) -> usize
     requires { 16 ≤ length source.now }
     ensures bound { result ≤ length source.now }
@@ -149,7 +131,7 @@ fn ascii_len(source: &[u8]) -> usize
     ensures some { slice_index source.now 0 < 128 → 0 < result }
 {
     let last = source.len() - 16;
-    let mut at = 0;
+    let mut at = ascii_blocks_len(source);
     while at < last {
         let wide = wide_lanes(source, at);
         if wide != 0 {
@@ -180,34 +162,84 @@ fn short_ascii_len(source: &[u8]) -> usize
     source.len()
 }
 
-// How many bytes of text are found in front at once: ASCII, or one sequence. It is 0 where no
-// sequence stands there.
-#[inline]
-#[tactic(auto, using(crate::proofs::RunLemmas::runs))]
-fn run_len(source: &[u8]) -> usize
-    requires { 0 < length source.now }
+// How many bytes of ASCII are found in front at once.
+#[inline(always)]
+fn ascii_run(source: &[u8]) -> usize
+    requires some { 0 < length source.now }
+    requires narrow { slice_index source.now 0 < 0x80 }
     ensures bound { result ≤ length source.now }
-    ensures text { IsText (take result source.now) }
-    ensures none { result ≡ 0 → longest_len is_sequence source.now ≡ 0 }
+    ensures ascii { IsAscii (take result source.now) }
+    ensures some { 0 < result }
 {
-    if source.len() < 2 || 0x80 <= source[0] || 0x80 <= source[1] {
-        return sequence_len(source);
-    }
-    if source.len() < 16 {
+    if source.len() < 2 || 0x80 <= source[1] {
+        1
+    } else if source.len() < 16 {
         short_ascii_len(source)
     } else {
         ascii_len(source)
     }
 }
 
-// The length of the longest front that is text.
-fn text_len(source: &[u8]) -> usize
-    ensures bound { result ≤ length source.now }
-    ensures value { result ≡ longest_len is_text source.now }
+// The lengths of the longest front that is text, and of the broken front behind it.
+#[tactic(auto, using(crate::proofs::RunLemmas::sequence_within))]
+fn scan(source: &[u8]) -> (usize, usize)
+    ensures text { result.0 ≡ longest_len is_text source.now }
+    ensures broken { result.1 ≡ broken_len (drop result.0 source.now) }
 {
     let mut at = 0;
     while at < source.len() {
-        let size = run_len(&source[at..]);
+        if source[at] < 0x80 {
+            at += ascii_run(&source[at..]);
+            continue;
+        }
+        match wide_front(&source[at..]) {
+            Ok(size) => at += size,
+            Err(size) => return (at, size),
+        }
+        if 3 <= at && 16 <= source.len() - at {
+            return scan_on(source, at);
+        }
+    }
+    (at, 0)
+}
+
+// The same, where text goes up to a place and more is likely to follow that is not ASCII.
+#[inline(never)]
+#[tactic(auto, using(crate::proofs::RunLemmas::sequence_within))]
+fn scan_on(source: &[u8], from: usize) -> (usize, usize)
+    requires some { 3 ≤ from }
+    requires bound { from ≤ length source.now }
+    requires so_far { IsText (take from source.now) }
+    ensures text { result.0 ≡ longest_len is_text source.now }
+    ensures broken { result.1 ≡ broken_len (drop result.0 source.now) }
+{
+    let mut at = text_end(source, from);
+    while at < source.len() {
+        if source[at] < 0x80 {
+            at += ascii_run(&source[at..]);
+            continue;
+        }
+        match wide_front(&source[at..]) {
+            Ok(size) => at = text_end(source, at + size),
+            Err(size) => return (at, size),
+        }
+    }
+    (at, 0)
+}
+
+// How far text goes that goes up to a place, as windows say that are not all ASCII.
+#[inline(always)]
+fn text_end(source: &[u8], from: usize) -> usize
+    requires some { 3 ≤ from }
+    requires bound { from ≤ length source.now }
+    requires so_far { IsText (take from source.now) }
+    ensures more { from ≤ result }
+    ensures bound { result ≤ length source.now }
+    ensures text { IsText (take result source.now) }
+{
+    let mut at = from;
+    while 16 <= source.len() - at && wide_lanes(source, at) != 0 {
+        let size = window_len(&source[at - 3..]);
         if size == 0 {
             return at;
         }
@@ -222,20 +254,27 @@ pub(crate) fn to_text(bytes: &[u8]) -> Option<&str>
     ensures value { IsSome result ↔ IsText bytes.now }
     ensures bytes { IfSome result (λ text. text.now ≡ bytes.now) }
 {
-    if text_len(bytes) < bytes.len() {
+    let (text, _) = scan(bytes);
+    if text < bytes.len() {
         return None;
     }
     // All of it is text.
     Some(unsafe { str::from_utf8_unchecked(bytes) })
 }
 
-// The longest front that is text, and the bytes after it.
+// The longest front that is text, the broken front behind it, and the bytes after that.
 #[inline]
-pub(crate) fn split_text(source: &[u8]) -> (&str, &[u8])
+#[tactic(auto, using(crate::proofs::RunLemmas::front_bounds))]
+pub(crate) fn split_front(source: &[u8]) -> (&str, &[u8], &[u8])
     ensures valid { result.0.now ≡ take (longest_len is_text source.now) source.now }
-    ensures rest { result.1.now ≡ drop (longest_len is_text source.now) source.now }
+    ensures broken { let behind = drop (longest_len is_text source.now) source.now in
+        result.1.now ≡ take (broken_len behind) behind }
+    ensures rest { let behind = drop (longest_len is_text source.now) source.now in
+        result.2.now ≡ drop (broken_len behind) behind }
 {
-    let (front, rest) = source.split_at(text_len(source));
+    let (text, size) = scan(source);
+    let (front, behind) = source.split_at(text);
+    let (broken, rest) = behind.split_at(size);
     // This front is text.
-    (unsafe { str::from_utf8_unchecked(front) }, rest)
+    (unsafe { str::from_utf8_unchecked(front) }, broken, rest)
 }

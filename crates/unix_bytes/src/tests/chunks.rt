@@ -133,3 +133,35 @@ fn long_runs(rt: HostRuntime) {
         assert!(rt; UnixStr::from_bytes(&text).to_str().is_some(), "{place}");
     }
 }
+
+// A text of each width, and where the sequence begins that a place is in.
+const WIDTHS: [u8; 10] = *b"a\xC3\xA9\xE7\x8E\xBB\xF0\x9F\xA6\x80";
+
+const STARTS: [usize; 10] = [0, 1, 1, 3, 3, 3, 6, 6, 6, 6];
+
+// Text of all widths that is longer than what is read at once, with FF at each place.
+#[test]
+fn long_mixed_runs(rt: HostRuntime) {
+    for place in 0..90 {
+        let mut bytes = [0; 90];
+        for i in 0..90 {
+            bytes[i] = WIDTHS[i % 10];
+        }
+        assert!(rt; UnixStr::from_bytes(&bytes).to_str().is_some());
+        bytes[place] = 0xFF;
+        assert!(rt; UnixStr::from_bytes(&bytes).to_str().is_none(), "{place}");
+        let start = place - place % 10 + STARTS[place % 10];
+        assert!(rt;
+            is_broken_at(&bytes, start, (place - start).max(1)),
+            "{place}"
+        );
+    }
+}
+
+// The first chunk has so many bytes of text and then so many that are broken.
+fn is_broken_at(bytes: &[u8], text: usize, broken: usize) -> bool {
+    match Utf8Lossy::from_bytes(bytes).chunks().next() {
+        Some(chunk) => chunk.valid.len() == text && chunk.broken.len() == broken,
+        None => false,
+    }
+}

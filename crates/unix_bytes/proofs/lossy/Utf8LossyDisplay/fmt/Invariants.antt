@@ -12,8 +12,8 @@ invariant-loop-chunk g l =
     bs ++ flat_map shown_chunk (chunks_left l.chunk-iterator) ≡ lossy_of l.self.bytes.now in
     let took = g.W.Write.write_str_gives in
     record {
-      plain : IsPlainFormatter l.initial.f → (bs : List ℕ)
-          × HasWritten {W = g.row.W.Denot} took l.initial.f bs l.f × said bs;
-      styled : IsFlush l.initial.f → (bs : List ℕ)
-          × HasWrittenStyled {W = g.row.W.Denot} took l.initial.f bs l.f × said bs;
+      plain : IsPlainFormatter l.fn.f → (bs : List ℕ)
+          × HasWritten {W = g.row.W.Denot} took l.fn.f bs l.f × said bs;
+      styled : IsFlush l.fn.f → (bs : List ℕ)
+          × HasWrittenStyled {W = g.row.W.Denot} took l.fn.f bs l.f × said bs;
     }

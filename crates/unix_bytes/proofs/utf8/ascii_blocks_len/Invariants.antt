@@ -1,12 +1,12 @@
 use Rattle.std.proofs.Common.{◌≤◌, ◌-◌, length, take}
-use Rattle.unix_bytes.specs.Utf8.{IsText}
-use Rattle.unix_bytes.proofs.utf8.text_len.Given as goal
+use Rattle.std.specs.Str.{IsAscii}
+use Rattle.unix_bytes.proofs.utf8.ascii_blocks_len.Given as goal
 
--- the bytes so far are text
+-- the bytes so far are ASCII
 abbrev pub invariant-loop-at : goal.invariant-loop-at
 invariant-loop-at l = record {
   within : l.at ≤ length l.source;
-  text : IsText (take l.at l.source);
+  ascii : IsAscii (take l.at l.source);
 }
 
 abbrev pub decreases-loop-at : goal.decreases-loop-at

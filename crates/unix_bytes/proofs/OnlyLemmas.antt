@@ -1,0 +1,68 @@
+-- The first of the chunks, and whether it is the only one.
+use Rattle.std.proofs.Common.{◌≡◌, ℕ, List, [], ◌∷◌, ◌++◌, refl, sym, ap, ◌∙◌}
+use Rattle.std.proofs.Common.{subst, arith, append-nil}
+use Rattle.std.specs.List.{flat_map}
+use Rattle.std.proofs.lemmas.List.{drop_all}
+use Rattle.std.proofs.lemmas.Str.{IsUtf8-nil}
+use Rattle.unix_bytes.specs.Utf8.{IsText}
+use Rattle.unix_bytes.specs.Lossy.{longest_len, is_text, broken_front_of, lossy_of}
+use Rattle.unix_bytes.specs.Chunks.{Chunk, first_chunk_of, chunks_of, shown_chunk}
+use Rattle.unix_bytes.proofs.TextLemmas.{IsUtf8-from_IsText, IsText-from_IsUtf8}
+use Rattle.unix_bytes.proofs.FrontLemmas.{front_of-nil, front_of-broken_front_of}
+use Rattle.unix_bytes.proofs.ChunkLemmas.{whole_text, chunks_of-nil, chunks_of-some}
+use Rattle.unix_bytes.proofs.ChunkLemmas.{first_chunk_of-text, shown-chunks_of}
+use Rattle.unix_bytes.proofs.LossyLemmas.{lossy_of-nil, lossy_of-text}
+use Rattle.unix_bytes.proofs.PartitionLemmas.{chunks_partition, whole_chunk_is_last}
+
+-- no chunk comes of no bytes
+pub no_chunk : (s : List ℕ) → chunks_of s ≡ [] → s ≡ []
+no_chunk [] e = refl
+no_chunk (b ∷ bs) e = let h = chunks_of-some b bs in cc
+
+pub nothing_is_text : (s : List ℕ) → chunks_of s ≡ [] → IsText s
+nothing_is_text s e = subst IsText (sym (no_chunk s e)) (IsText-from_IsUtf8 [] IsUtf8-nil)
+
+pub nothing_shown : (s : List ℕ) → chunks_of s ≡ [] → [] ≡ lossy_of s
+nothing_shown s e = sym (ap lossy_of (no_chunk s e) ∙ lossy_of-nil)
+
+first_is : (s : List ℕ) (c : Chunk) (cs : List Chunk) → chunks_of s ≡ c ∷ cs
+    → first_chunk_of s ≡ c
+first_is [] c cs e = let h = chunks_of-nil in cc
+first_is (b ∷ bs) c cs e = let h = chunks_of-some b bs in cc
+
+-- a chunk of which none is broken is all there is
+pub only_chunk : (s : List ℕ) (c : Chunk) (cs : List Chunk) → chunks_of s ≡ c ∷ cs
+    → c.broken ≡ [] → c.valid ≡ s
+only_chunk s c cs e z =
+    let none : cs ≡ [] = whole_chunk_is_last s [] cs c e z in
+    let bytes : Chunk → List ℕ = λ x. x.valid ++ x.broken in
+    sym (append-nil c.valid) ∙ ap (λ b. c.valid ++ b) (sym z) ∙ sym (append-nil (bytes c))
+    ∙ ap (flat_map bytes) (ap (λ t. c ∷ t) (sym none) ∙ sym e) ∙ chunks_partition s
+
+pub only_text : (s : List ℕ) (c : Chunk) (cs : List Chunk) → chunks_of s ≡ c ∷ cs
+    → c.broken ≡ [] → IsText s
+only_text s c cs e z =
+    subst IsText (ap (λ (x : Chunk). x.valid) (first_is s c cs e) ∙ only_chunk s c cs e z)
+    (first_chunk_of-text s)
+
+pub only_shown : (s : List ℕ) (c : Chunk) (cs : List Chunk) → chunks_of s ≡ c ∷ cs
+    → c.broken ≡ [] → c.valid ≡ lossy_of s
+only_shown s c cs e z = only_chunk s c cs e z ∙ sym (lossy_of-text s (only_text s c cs e z))
+
+-- others are shown with those behind them
+pub first_shown : (s : List ℕ) (c : Chunk) (cs : List Chunk) → chunks_of s ≡ c ∷ cs
+    → shown_chunk c ++ flat_map shown_chunk cs ≡ lossy_of s
+first_shown s c cs e = ap (flat_map shown_chunk) (sym e) ∙ shown-chunks_of s
+
+broken_front_of-nil : broken_front_of [] ≡ []
+broken_front_of-nil = sym (front_of-broken_front_of []) ∙ front_of-nil
+
+-- of text none is broken
+pub text_unbroken : (s : List ℕ) (c : Chunk) (cs : List Chunk) → chunks_of s ≡ c ∷ cs
+    → IsText s → c.broken ≡ []
+unfolding first_chunk_of
+text_unbroken s c cs e t =
+    let n = longest_len is_text s in
+    let all = whole_text s (IsUtf8-from_IsText s t) in
+    sym (ap (λ (x : Chunk). x.broken) (first_is s c cs e))
+    ∙ ap broken_front_of (drop_all n s (omega arith)) ∙ broken_front_of-nil

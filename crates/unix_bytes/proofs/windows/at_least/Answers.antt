@@ -1,0 +1,12 @@
+use Rattle.std.proofs.Common.{◌<◌, sym, subst, arith}
+use Rattle.unix_bytes.proofs.SelectLemmas.{least_mask, mask_bound}
+use Rattle.unix_bytes.proofs.windows.at_least.Goals as goal
+
+pub returns-clause-bits : goal.returns-clause-bits
+returns-clause-bits c = least_mask c.args.least 16 c.args.bytes c.fits-bytes.0 (omega arith)
+
+pub returns-clause-bound : goal.returns-clause-bound
+returns-clause-bound c =
+    subst (λ n. n < 0x10000)
+    (sym (least_mask c.args.least 16 c.args.bytes c.fits-bytes.0 (omega arith)))
+    (mask_bound c.args.least c.args.bytes c.fits-bytes.0)
