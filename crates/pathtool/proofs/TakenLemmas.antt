@@ -7,7 +7,7 @@ use Rattle.std.proofs.lemmas.List.{at_drop_more, length-map, length-take-le, len
 use Rattle.std.proofs.lemmas.List.{length-reverse}
 use Rattle.std.proofs.lemmas.List.Sums.{count_by-le-length}
 use Rattle.std.specs.Fmt.{decimal}
-use Rattle.std.specs.List.{flat_map, list_all}
+use Rattle.std.specs.List.{count_by, flat_map, list_all}
 use Rattle.unix_path.specs.Parts.{Value, values, value_bytes}
 use Rattle.unix_path.specs.Rest.{rest}
 use Rattle.unix_path.specs.Views.{value_of}

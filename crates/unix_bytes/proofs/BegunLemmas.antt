@@ -94,4 +94,15 @@ fourth_begun (x ∷ y ∷ z ∷ w ∷ s) h =
     let t = fourth_of x y z w u is in
     (t.0, omega arith, t.1)
 
+-- and five never
+pub fifth_begun : (s : List ℕ) → HasBegun s 5 → ⊥
+fifth_begun [] h = absurd (omega arith)
+fifth_begun (x ∷ []) h = absurd (omega arith)
+fifth_begun (x ∷ y ∷ []) h = absurd (omega arith)
+fifth_begun (x ∷ y ∷ z ∷ []) h = absurd (omega arith)
+fifth_begun (x ∷ y ∷ z ∷ w ∷ []) h = absurd (omega arith)
+fifth_begun (x ∷ y ∷ z ∷ w ∷ v ∷ s) h =
+    let (u, is) = BeginsSequence-from (x ∷ y ∷ z ∷ w ∷ v ∷ []) h.1 in
+    let p = more_bytes x y z w v u in cc
+
 pub ruleset begun = (begun_two, begun_three, third_begun, begun_four, fourth_begun)

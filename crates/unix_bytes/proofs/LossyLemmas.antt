@@ -158,3 +158,5 @@ first_sequence s k (us, h, e) some within z =
 
 pub is_text-not : (s : List ℕ) → (IsText s → ⊥) → is_text s ≡ false
 is_text-not s broken = not_true (is_text s) (λ t. broken (IsText-from_is_text s t))
+
+pub ruleset text_is_lossy = (lossy_of-text)
