@@ -4,7 +4,10 @@ use std::ffi::OsStr;
 use std::hint::black_box;
 use std::os::unix::ffi::OsStrExt;
 use std::path::Path;
+use std::slice;
 use std::time::Instant;
+
+type Call = unsafe extern "C" fn(*const u8, usize) -> usize;
 
 extern "C" {
     fn ours_to_str(bytes: *const u8, len: usize) -> usize;
@@ -12,69 +15,70 @@ extern "C" {
     fn ours_chunks(bytes: *const u8, len: usize) -> usize;
     fn ours_parts(bytes: *const u8, len: usize) -> usize;
     fn ours_parts_behind(bytes: *const u8, len: usize) -> usize;
-    fn ours_compare(first: *const u8, first_len: usize, second: *const u8, len: usize) -> usize;
+    fn ours_compare(bytes: *const u8, len: usize) -> usize;
 }
 
-type Call = fn(&[u8]) -> usize;
+// Rust's own are C functions too, so that both sides pay for the same call.
+#[inline(never)]
+unsafe extern "C" fn rusts_to_str(bytes: *const u8, len: usize) -> usize {
+    std::str::from_utf8(slice::from_raw_parts(bytes, len)).map_or(usize::MAX, str::len)
+}
+
+#[inline(never)]
+unsafe extern "C" fn rusts_to_string_lossy(bytes: *const u8, len: usize) -> usize {
+    String::from_utf8_lossy(slice::from_raw_parts(bytes, len)).len()
+}
+
+#[inline(never)]
+unsafe extern "C" fn rusts_chunks(bytes: *const u8, len: usize) -> usize {
+    let chunks = slice::from_raw_parts(bytes, len).utf8_chunks();
+    chunks.fold(0, |sum: usize, chunk| {
+        sum.wrapping_add(chunk.valid().len())
+            .wrapping_add(chunk.invalid().len() * 3)
+    })
+}
 
 fn path(bytes: &[u8]) -> &Path {
     Path::new(OsStr::from_bytes(bytes))
 }
 
-const PAIRS: [(&str, Call, Call); 3] = [
-    (
-        "to_str",
-        |s| unsafe { ours_to_str(s.as_ptr(), s.len()) },
-        |s| std::str::from_utf8(s).map_or(usize::MAX, str::len),
-    ),
+#[inline(never)]
+unsafe extern "C" fn rusts_parts(bytes: *const u8, len: usize) -> usize {
+    let parts = path(slice::from_raw_parts(bytes, len)).components();
+    parts.fold(0, |sum: usize, part| {
+        sum.wrapping_mul(3).wrapping_add(part.as_os_str().len())
+    })
+}
+
+#[inline(never)]
+unsafe extern "C" fn rusts_parts_behind(bytes: *const u8, len: usize) -> usize {
+    let parts = path(slice::from_raw_parts(bytes, len)).components();
+    parts.rev().fold(0, |sum: usize, part| {
+        sum.wrapping_mul(3).wrapping_add(part.as_os_str().len())
+    })
+}
+
+#[inline(never)]
+unsafe extern "C" fn rusts_compare(bytes: *const u8, len: usize) -> usize {
+    let (a, b) = slice::from_raw_parts(bytes, len).split_at(len / 2);
+    let less = path(a).cmp(path(b)) == Ordering::Less;
+    usize::from(path(a) == path(b)) * 2 + usize::from(less)
+}
+
+const TEXTS: [(&str, Call, Call); 3] = [
+    ("to_str", ours_to_str, rusts_to_str),
     (
         "to_string_lossy",
-        |s| unsafe { ours_to_string_lossy(s.as_ptr(), s.len()) },
-        |s| String::from_utf8_lossy(s).len(),
+        ours_to_string_lossy,
+        rusts_to_string_lossy,
     ),
-    (
-        "chunks",
-        |s| unsafe { ours_chunks(s.as_ptr(), s.len()) },
-        |s| {
-            s.utf8_chunks().fold(0, |sum: usize, chunk| {
-                sum.wrapping_add(chunk.valid().len())
-                    .wrapping_add(chunk.invalid().len() * 3)
-            })
-        },
-    ),
+    ("chunks", ours_chunks, rusts_chunks),
 ];
 
 const WALKS: [(&str, Call, Call); 3] = [
-    (
-        "parts",
-        |s| unsafe { ours_parts(s.as_ptr(), s.len()) },
-        |s| {
-            path(s).components().fold(0, |sum: usize, part| {
-                sum.wrapping_mul(3).wrapping_add(part.as_os_str().len())
-            })
-        },
-    ),
-    (
-        "parts from behind",
-        |s| unsafe { ours_parts_behind(s.as_ptr(), s.len()) },
-        |s| {
-            path(s).components().rev().fold(0, |sum: usize, part| {
-                sum.wrapping_mul(3).wrapping_add(part.as_os_str().len())
-            })
-        },
-    ),
-    (
-        "== and <",
-        |s| {
-            let (a, b) = s.split_at(s.len() / 2);
-            unsafe { ours_compare(a.as_ptr(), a.len(), b.as_ptr(), b.len()) }
-        },
-        |s| {
-            let (a, b) = s.split_at(s.len() / 2);
-            let less = path(a).cmp(path(b)) == Ordering::Less;
-            usize::from(path(a) == path(b)) * 2 + usize::from(less)
-        },
-    ),
+    ("parts", ours_parts, rusts_parts),
+    ("parts from behind", ours_parts_behind, rusts_parts_behind),
+    ("== and <", ours_compare, rusts_compare),
 ];
 
 // The least time of many rounds over the sources, in nanoseconds a byte, and the sum of answers.
@@ -82,13 +86,14 @@ fn least(call: Call, sources: &[Vec<u8>]) -> (f64, usize) {
     let bytes: usize = sources.iter().map(Vec::len).sum();
     let rounds = 400_000 / bytes + 1;
     let mut best = f64::MAX;
-    let mut sum = 0;
+    let mut sum: usize = 0;
     for _ in 0..40 {
         let start = Instant::now();
         sum = 0;
         for _ in 0..rounds {
             for source in sources {
-                sum = usize::wrapping_add(sum, call(black_box(source)));
+                let source = black_box(source);
+                sum = sum.wrapping_add(unsafe { call(source.as_ptr(), source.len()) });
             }
         }
         best = best.min(start.elapsed().as_secs_f64());
@@ -179,26 +184,26 @@ fn main() {
     println!(
         "nanoseconds a byte: ours / Rust's, and their ratio, of to_str, to_string_lossy, chunks"
     );
-    compare("ASCII, 8 bytes", &PAIRS, &vec![repeated(ascii, 8); 500]);
-    compare("ASCII, 25 bytes", &PAIRS, &vec![repeated(ascii, 25); 160]);
-    compare("ASCII, 50 bytes", &PAIRS, &vec![repeated(ascii, 50); 80]);
-    compare("ASCII, 4096 bytes", &PAIRS, &[repeated(ascii, 4096)]);
-    compare("French", &PAIRS, &[repeated(french, 4096)]);
-    compare("Greek, 40 bytes", &PAIRS, &vec![repeated(greek, 40); 100]);
-    compare("Greek", &PAIRS, &[repeated(greek, 4096)]);
-    compare(
-        "Chinese",
-        &PAIRS,
-        &[repeated("我能吞下玻璃而不伤身体", 4096)],
-    );
-    compare("emoji", &PAIRS, &[repeated("😀🎉🚀🌍🐍🦀🔥", 4096)]);
-    compare("all widths, mixed", &PAIRS, &[repeated(&widths, 4096)]);
-    compare("French in Latin-1", &PAIRS, &[latin]);
-    compare("FF at each 25th byte", &PAIRS, &[every(25)]);
-    compare("FF at each 4th byte", &PAIRS, &[every(4)]);
-    compare("FF at each 2nd byte", &PAIRS, &[every(2)]);
-    compare("FF alone", &PAIRS, &[vec![0xFF; 4096]]);
-    compare("any bytes", &PAIRS, &[noise]);
+    let texts = [
+        ("ASCII", ascii),
+        ("French", french),
+        ("Greek", greek),
+        ("Chinese", "我能吞下玻璃而不伤身体"),
+        ("emoji", "😀🎉🚀🌍🐍🦀🔥"),
+        ("all widths", &widths),
+    ];
+    for (name, text) in texts {
+        for len in [8, 16, 25, 50, 4096] {
+            let sources = vec![repeated(text, len); 4096 / len];
+            compare(&format!("{name}, {len} bytes"), &TEXTS, &sources);
+        }
+    }
+    compare("French in Latin-1", &TEXTS, &[latin]);
+    compare("FF at each 25th byte", &TEXTS, &[every(25)]);
+    compare("FF at each 4th byte", &TEXTS, &[every(4)]);
+    compare("FF at each 2nd byte", &TEXTS, &[every(2)]);
+    compare("FF alone", &TEXTS, &[vec![0xFF; 4096]]);
+    compare("any bytes", &TEXTS, &[noise]);
     println!("of parts, parts from behind, == and <");
     compare("made-up paths", &WALKS, &made_up_paths(&mut seed, 20_000));
 }

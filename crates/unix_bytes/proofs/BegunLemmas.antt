@@ -57,6 +57,24 @@ begun_two [] l = absurd (omega arith)
 begun_two (x ∷ []) l = absurd (omega arith)
 begun_two (x ∷ y ∷ s) l = refl
 
+-- what begins a sequence of two bytes or more
+pub first_begun : (s : List ℕ) → HasBegun s 2 → (0xC2 ≤ slice_index s 0) × (slice_index s 0 ≤ 0xF4)
+first_begun [] h = absurd (omega arith)
+first_begun (x ∷ []) h = absurd (omega arith)
+first_begun (x ∷ y ∷ s) h =
+    let (u, is) = BeginsSequence-from (x ∷ y ∷ []) h.1 in
+    let p = pair_of x y u is in
+    (p.0, p.1)
+
+pub pair_begun : (s : List ℕ) → HasBegun s 2 → (0xC2 ≤ slice_index s 0)
+    × (slice_index s 0 ≤ 0xF4) × (1 < length s) × IsTail (slice_index s 1)
+pair_begun [] h = absurd (omega arith)
+pair_begun (x ∷ []) h = absurd (omega arith)
+pair_begun (x ∷ y ∷ s) h =
+    let (u, is) = BeginsSequence-from (x ∷ y ∷ []) h.1 in
+    let p = pair_of x y u is in
+    (p.0, p.1, omega arith, (p.2, p.3))
+
 -- three bytes have begun a sequence where two have and the third goes on
 pub begun_three : (s : List ℕ) → HasBegun s 2 → 0xE0 ≤ slice_index s 0 → 2 < length s
     → IsTail (slice_index s 2) → HasBegun s 3
@@ -94,6 +112,24 @@ fourth_begun (x ∷ y ∷ z ∷ w ∷ s) h =
     let t = fourth_of x y z w u is in
     (t.0, omega arith, t.1)
 
+-- where more bytes have begun a sequence, fewer have
+pub third_of_fourth : (s : List ℕ) → HasBegun s 4 → HasBegun s 3
+third_of_fourth [] h = absurd (omega arith)
+third_of_fourth (x ∷ []) h = absurd (omega arith)
+third_of_fourth (x ∷ y ∷ []) h = absurd (omega arith)
+third_of_fourth (x ∷ y ∷ z ∷ []) h = absurd (omega arith)
+third_of_fourth (x ∷ y ∷ z ∷ w ∷ s) h =
+    let (u, is) = BeginsSequence-from (x ∷ y ∷ z ∷ w ∷ []) h.1 in
+    (omega arith, begins_sequence-from (x ∷ y ∷ z ∷ []) (w ∷ u, is))
+
+pub second_of_third : (s : List ℕ) → HasBegun s 3 → HasBegun s 2
+second_of_third [] h = absurd (omega arith)
+second_of_third (x ∷ []) h = absurd (omega arith)
+second_of_third (x ∷ y ∷ []) h = absurd (omega arith)
+second_of_third (x ∷ y ∷ z ∷ s) h =
+    let (u, is) = BeginsSequence-from (x ∷ y ∷ z ∷ []) h.1 in
+    (omega arith, begins_sequence-from (x ∷ y ∷ []) (z ∷ u, is))
+
 -- and five never
 pub fifth_begun : (s : List ℕ) → HasBegun s 5 → ⊥
 fifth_begun [] h = absurd (omega arith)
@@ -105,4 +141,7 @@ fifth_begun (x ∷ y ∷ z ∷ w ∷ v ∷ s) h =
     let (u, is) = BeginsSequence-from (x ∷ y ∷ z ∷ w ∷ v ∷ []) h.1 in
     let p = more_bytes x y z w v u in cc
 
-pub ruleset begun = (begun_two, begun_three, third_begun, begun_four, fourth_begun)
+pub ruleset begun = (begun_two, first_begun, begun_three, third_begun, begun_four, fourth_begun)
+
+-- the same, and that fewer bytes have begun a sequence where more have
+pub ruleset begun_all = (begun, second_of_third, third_of_fourth)

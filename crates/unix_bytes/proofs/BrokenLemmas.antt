@@ -1,10 +1,12 @@
 -- How many bytes stand broken in front.
 use Rattle.std.proofs.Common.{◌≡◌, ℕ, ◌<◌, ◌≤◌, List, [], ◌∷◌, length, take, drop, slice_index}
-use Rattle.std.proofs.Common.{⊎_elim, sym, ap, ◌∙◌, arith, take-append-drop}
+use Rattle.std.proofs.Common.{⊎_elim, sym, ap, ◌∙◌, arith, take-append-drop, length-drop}
+use Rattle.std.proofs.Common.{get_or-drop, add-zero}
 use Rattle.std.proofs.lemmas.Bool.{cases_Bool, cond-true, cond-false}
 use Rattle.unix_bytes.specs.Utf8.{is_sequence}
 use Rattle.unix_bytes.specs.Lossy.{longest_len, broken_front_of, front_of, broken_len, HasBegun}
 use Rattle.unix_bytes.proofs.SequenceLemmas.{no_bytes}
+use Rattle.unix_bytes.proofs.BegunLemmas.{first_begun}
 use Rattle.unix_bytes.proofs.LongestLemmas.{longest_len-longest}
 use Rattle.unix_bytes.proofs.FrontLemmas.{front_of-nil, front_of-none, front_of-take}
 use Rattle.unix_bytes.proofs.FrontLemmas.{front_of-sequence, front_within}
@@ -59,11 +61,27 @@ pub two_byte_broken : (s : List ℕ) → HasBegun s 2 → (HasBegun s 3 → ⊥)
 two_byte_broken s h end wide =
     broken_len-none s (none_of_three s end wide) ∙ two_byte_front s h end
 
+-- one byte is broken at a place, where no sequence of two or more may stand there
+pub broken_at : (s r : List ℕ) (i : ℕ) → r ≡ drop i s → i < length s → 0x80 ≤ slice_index s i
+    → (HasBegun r 2 → ⊥) → 1 ≡ broken_len r
+broken_at s r i rest some wide end =
+    let first : slice_index r 0 ≡ slice_index s i =
+    ap (λ t. slice_index t 0) rest ∙ get_or-drop i s 0 0 ∙ ap (slice_index s) (add-zero i) in
+    sym (one_byte_broken r (omega (arith, ap length rest, length-drop i s)) end (omega arith))
+
 pub three_byte_broken : (s : List ℕ) → HasBegun s 3 → (HasBegun s 4 → ⊥) → 0xF0 ≤ slice_index s 0
     → broken_len s ≡ 3
 three_byte_broken s h end wide =
     broken_len-none s (none_of_four s end wide) ∙ three_byte_front s h end
 
-pub ruleset broken_fronts = (one_byte_broken, two_byte_broken, three_byte_broken)
+-- a byte that begins no sequence is broken alone
+pub lone_byte_broken : (s : List ℕ) → 0 < length s → 0x80 ≤ slice_index s 0
+    → ((0xC2 ≤ slice_index s 0) × (slice_index s 0 ≤ 0xDF) → ⊥)
+    → ((0xE0 ≤ slice_index s 0) × (slice_index s 0 ≤ 0xEF) → ⊥)
+    → ((0xF0 ≤ slice_index s 0) × (slice_index s 0 ≤ 0xF4) → ⊥) → broken_len s ≡ 1
+lone_byte_broken s some wide two three four =
+    one_byte_broken s some (λ h. let lead = first_begun s h in grind arith) wide
+
+pub ruleset broken_fronts = (one_byte_broken, two_byte_broken, three_byte_broken, lone_byte_broken)
 
 pub ruleset wide_fronts = (wide_sequences, broken_fronts)

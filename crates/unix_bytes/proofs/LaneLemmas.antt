@@ -1,6 +1,6 @@
 -- ASCII, sixteen bytes at a time.
-use Rattle.std.proofs.Common.{◌≡◌, ℕ, zero, suc, ◌+◌, ◌<◌, ◌≤◌, List, [], ◌∷◌, length, take, drop}
-use Rattle.std.proofs.Common.{Bool, true, not, slice_index, add-zero, get_or-drop}
+use Rattle.std.proofs.Common.{◌≡◌, ℕ, zero, suc, ◌+◌, ◌-◌, ◌<◌, ◌≤◌, List, [], ◌∷◌, length, take}
+use Rattle.std.proofs.Common.{drop, Bool, true, not, slice_index, add-zero, get_or-drop}
 use Rattle.std.proofs.Common.{get_or, sym, ap, ◌∙◌, subst, arith}
 use Rattle.std.proofs.Common.{length-drop, length-take-le}
 use Rattle.std.specs.List.{prefix_len}
@@ -52,12 +52,33 @@ window_len s i l = length-take-le 16 (drop i s) (omega (arith, length-drop i s))
 pub fewer_ascii : (s : List ℕ) (i j : ℕ) → i ≤ j → IsAscii (take j s) → IsAscii (take i s)
 fewer_ascii s i j le h = subst IsAscii (take-take i j s le) (IsAscii-take (take j s) i h)
 
+-- what is ASCII of the first bytes is ASCII of all
+pub fewer_first : (s t : List ℕ) (i n : ℕ) → t ≡ take n s → n ≤ length s → i ≤ length t
+    → IsAscii (take i t) → (i ≤ length s) × IsAscii (take i s)
+fewer_first s t i n e within few h =
+    let l : i ≤ n = omega (arith, ap length e, length-take-le n s within) in (
+      omega arith,
+      subst IsAscii (ap (take i) e ∙ take-take i n s l) h,
+    )
+
 -- a block behind ASCII
+block_behind : (s : List ℕ) (i n : ℕ) → IsAscii (take i s) → IsAscii (take n (drop i s))
+    → IsAscii (take (i + n) s)
+block_behind s i n before here =
+    subst IsAscii (sym (take-add i n s))
+    (IsAscii-append (take i s) (take n (drop i s)) before here)
+
 pub ascii_block : (s : List ℕ) (i : ℕ) → IsAscii (take i s) → IsAscii (take 64 (drop i s))
     → IsAscii (take (i + 64) s)
-ascii_block s i before here =
-    subst IsAscii (sym (take-add i 64 s))
-    (IsAscii-append (take i s) (take 64 (drop i s)) before here)
+ascii_block s i before here = block_behind s i 64 before here
+
+-- the first 8 and the last 8 of at most 16 bytes
+pub eight_and_eight : (s : List ℕ) (i : ℕ) → i ≡ length s - 8 → 8 ≤ length s → length s ≤ 16
+    → IsAscii (take 8 (drop 0 s)) → IsAscii (take 8 (drop i s)) → IsAscii s
+eight_and_eight s i e long short first last =
+    let all : i + 8 ≡ length s = omega arith in
+    subst IsAscii (take_all (i + 8) s (omega arith))
+    (block_behind s i 8 (fewer_ascii s i 8 (omega arith) first) last)
 
 -- no byte of the window is wide
 pub ascii_window : (s : List ℕ) (i m : ℕ) → i + 16 ≤ length s → IsAscii (take i s)

@@ -60,7 +60,7 @@ IsText-sequence u h = IsText-from_IsUtf8 u (IsUtf8-sequence u h)
 pub lossy_of_broken : LossyOfBroken
 lossy_of_broken b bs none = lossy_of-none b bs (none_longest (b ∷ bs) none)
 
-replacement_is_sequence : is_sequence replacement ≡ true
+pub replacement_is_sequence : is_sequence replacement ≡ true
 unfolding is_sequence
 replacement_is_sequence = refl
 

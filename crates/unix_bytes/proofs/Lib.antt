@@ -19,3 +19,4 @@ pub mod WriteLemmas
 pub mod LawLemmas
 pub mod PartitionLemmas
 pub mod OnlyLemmas
+pub mod PushLemmas

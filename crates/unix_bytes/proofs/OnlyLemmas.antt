@@ -25,7 +25,7 @@ nothing_is_text s e = subst IsText (sym (no_chunk s e)) (IsText-from_IsUtf8 [] I
 pub nothing_shown : (s : List ℕ) → chunks_of s ≡ [] → [] ≡ lossy_of s
 nothing_shown s e = sym (ap lossy_of (no_chunk s e) ∙ lossy_of-nil)
 
-first_is : (s : List ℕ) (c : Chunk) (cs : List Chunk) → chunks_of s ≡ c ∷ cs
+pub first_is : (s : List ℕ) (c : Chunk) (cs : List Chunk) → chunks_of s ≡ c ∷ cs
     → first_chunk_of s ≡ c
 first_is [] c cs e = let h = chunks_of-nil in cc
 first_is (b ∷ bs) c cs e = let h = chunks_of-some b bs in cc

@@ -1,13 +1,16 @@
 -- Text in front, a run at a time.
-use Rattle.std.proofs.Common.{◌≡◌, ℕ, ◌+◌, ◌-◌, ◌<◌, ◌≤◌, List, ◌++◌, length, take, drop}
-use Rattle.std.proofs.Common.{⊎_elim, inr, sym, ap, ◌∙◌, subst, arith, length-drop}
+use Rattle.std.proofs.Common.{◌≡◌, ℕ, ◌+◌, ◌-◌, ◌<◌, ◌≤◌, List, [], ◌++◌, length, take, drop}
+use Rattle.std.proofs.Common.{slice_index, get_or-drop, add-zero, ⊎_elim, inr, sym, ap, ◌∙◌, subst}
+use Rattle.std.proofs.Common.{arith, length-drop}
 use Rattle.std.specs.Str.{IsAscii, IsUtf8}
-use Rattle.std.proofs.lemmas.List.{take_all}
-use Rattle.std.proofs.lemmas.Str.{IsUtf8-append, IsUtf8-from_ascii}
+use Rattle.std.proofs.lemmas.List.{take_all, drop-drop}
+use Rattle.std.proofs.lemmas.Str.{IsUtf8-append, IsUtf8-from_ascii, IsUtf8-nil}
 use Rattle.std.proofs.Math.Seq.{take-add}
 use Rattle.unix_bytes.specs.Utf8.{is_sequence, IsSequence, IsText}
 use Rattle.unix_bytes.specs.Lossy.{longest_len, is_text, broken_len}
 use Rattle.unix_bytes.proofs.TextLemmas.{IsUtf8-sequence, IsUtf8-from_IsText, IsText-from_IsUtf8}
+use Rattle.unix_bytes.proofs.SequenceLemmas.{two_is}
+use Rattle.unix_bytes.proofs.BegunLemmas.{begun_two}
 use Rattle.unix_bytes.proofs.LongestLemmas.{not_true, longest_len-is, longest_len-longest}
 use Rattle.unix_bytes.proofs.LossyLemmas.{is_text-from_IsText, IsText-from_is_text, text_rest}
 use Rattle.unix_bytes.proofs.LossyLemmas.{first_sequence}
@@ -21,6 +24,10 @@ pub IsText-append : (s t : List ℕ) → IsText s → IsText t → IsText (s ++ 
 IsText-append s t h k =
     IsText-from_IsUtf8 (s ++ t)
     (IsUtf8-append s t (IsUtf8-from_IsText s h) (IsUtf8-from_IsText t k))
+
+-- no bytes are text
+pub none_is_text : (s : List ℕ) → IsText (take 0 s)
+none_is_text s = IsText-from_IsUtf8 [] IsUtf8-nil
 
 pub one_sequence : (u : List ℕ) → IsSequence u → IsText u
 one_sequence u h = IsText-from_IsUtf8 u (IsUtf8-sequence u h)
@@ -41,6 +48,21 @@ pub more_text : (s : List ℕ) (i n : ℕ) → IsText (take i s) → IsText (tak
     → IsText (take (i + n) s)
 more_text s i n before here =
     subst IsText (sym (take-add i n s)) (IsText-append (take i s) (take n (drop i s)) before here)
+
+-- text, and a sequence of two bytes behind it
+pub pair_at : (s : List ℕ) (i : ℕ) → i + 2 ≤ length s
+    → (0xC2 ≤ slice_index s i) × (slice_index s i ≤ 0xDF)
+    → (0x80 ≤ slice_index s (i + 1)) × (slice_index s (i + 1) ≤ 0xBF)
+    → IsText (take i s) → IsText (take (i + 2) s)
+pair_at s i l lead tail before =
+    let r = drop i s in
+    let first : slice_index r 0 ≡ slice_index s i =
+    get_or-drop i s 0 0 ∙ ap (slice_index s) (add-zero i) in
+    let second : slice_index r 1 ≡ slice_index s (i + 1) = get_or-drop i s 1 0 in
+    let pair = two_is (slice_index r 0) (slice_index r 1)
+    (rw (first, second) (lead.0, lead.1, tail.0, tail.1)) in
+    let two = begun_two r (omega (arith, length-drop i s)) in
+    more_text s i 2 before (one_sequence (take 2 r) (subst IsSequence (sym two) pair))
 
 -- text to the end
 pub text_to_end : (s : List ℕ) (i : ℕ) → length s ≤ i → i ≤ length s → IsText (take i s)
@@ -90,6 +112,31 @@ module _ (s r : List ℕ) (i : ℕ) (rest : r ≡ drop i s) (before : IsText (ta
   before_broken n le (some, is) =
       text_until s i le before
       (subst (λ t. longest_len is_sequence t ≡ 0) rest (none_in_front r (omega arith)))
+
+-- how far the rest is from the front
+abbrev pub place_of : List ℕ → List ℕ → ℕ
+place_of s r = length s - length r
+
+-- the rest stands where it should, and what stands before it is text
+pub record TextBefore (s r : List ℕ) : Type 0 where
+  pub within : length r ≤ length s
+  pub rest : r ≡ drop (place_of s r) s
+  pub text : IsText (take (place_of s r) s)
+
+-- it stands there still behind a run of text
+pub text_before : (s r t : List ℕ) (n : ℕ) → TextBefore s r → n ≤ length r → IsText (take n r)
+    → t ≡ drop n r → TextBefore s t
+text_before s r t n h bound here e =
+    let w = h.within in
+    let i = place_of s r in
+    let l = ap length e ∙ length-drop n r in
+    let place : place_of s t ≡ i + n = omega (arith, l) in
+    let more = after_text s r i h.rest h.text n (omega arith) bound here in
+    record {
+      within = omega (arith, l);
+      rest = e ∙ ap (drop n) h.rest ∙ drop-drop n i s ∙ ap (λ k. drop k s) (sym place);
+      text = subst (λ k. IsText (take k s)) (sym place) more.1;
+    }
 
 -- and at the end nothing is broken
 pub none_at_end : (s : List ℕ) (i : ℕ) → length s ≤ i → 0 ≡ broken_len (drop i s)

@@ -1,14 +1,13 @@
 //! Byte strings as Unix has them in paths and names.
-ghost use Rattle.std.specs.Prelude.{◌≡◌, ◌↔◌, ◌++◌, [], length, IsTrue, IfOk, IsOk, OnOk, IsSome};
-ghost use Rattle.std.specs.Prelude.{IfSome};
+ghost use Rattle.std.specs.Prelude.{◌≡◌, ◌↔◌, ◌++◌, ◌≤◌, [], length, take, IsTrue, IfOk, IsOk};
+ghost use Rattle.std.specs.Prelude.{OnOk, IsSome, IfSome};
 ghost use Rattle.std.specs.String.{string_bytes};
 ghost use Rattle.unix_bytes.specs.Utf8.{IsText};
 ghost use Rattle.unix_bytes.specs.Lossy.{lossy_of};
-ghost use Rattle.std.specs.List.{flat_map};
-ghost use Rattle.unix_bytes.specs.Chunks.{chunks_left, shown, shown_chunk, shown_broken};
+ghost use Rattle.unix_bytes.specs.Chunks.{shown_broken};
 
-use crate::lossy::{Utf8Lossy, Utf8LossyChunk, Utf8LossyChunksIter};
-use crate::utf8::to_text;
+use crate::lossy::Utf8Lossy;
+use crate::utf8::{split_front, to_text};
 use std::alloc::{AllocError, Global};
 use std::fmt;
 use std::hash::{Hash, Hasher};
@@ -108,15 +107,12 @@ impl<'a> UnixStr<'a> {
         ensures borrowed { IfOk result (λ text. IsBorrowed text ↔ IsText self.entry.bytes.now) }
         ensures succeeds { IsText self.entry.bytes.now → IsOk result }
     {
-        let mut chunks = Utf8Lossy::from_bytes(self.bytes).chunks();
-        let Some(first) = chunks.next() else {
-            return Ok(LossyText::Borrowed(""));
-        };
-        if first.broken.is_empty() {
-            return Ok(LossyText::Borrowed(first.valid));
+        let (text, broken, rest) = split_front(self.bytes);
+        if broken.is_empty() {
+            return Ok(LossyText::Borrowed(text));
         }
-        let text = lossy_string(alloc, self.bytes.len(), first, chunks)?;
-        Ok(LossyText::Owned(text))
+        let lossy = lossy_string(alloc, self.bytes.len(), text, broken, rest)?;
+        Ok(LossyText::Owned(lossy))
     }
 }
 
@@ -171,44 +167,66 @@ impl LossyText<'_> {
     }
 }
 
-// The chunk and those behind it, as they are shown, in a text with room for so many bytes.
+// The text, U+FFFD unless nothing is broken, and the lossy text of the rest, where at first there
+// is room for so many bytes.
 fn lossy_string(
     alloc: Global,
     room: usize,
-    first: Utf8LossyChunk<'_>,
-    rest: Utf8LossyChunksIter<'_>,
+    text: &str,
+    broken: &[u8],
+    rest: &[u8],
 ) -> Result<String, AllocError>
-    ensures { let whole = shown first.entry ++ flat_map shown_chunk (chunks_left rest.entry) in
-        IfOk result (λ text. string_bytes text ≡ whole) }
+    ensures { let whole = (text.now ++ shown_broken broken.now) ++ lossy_of rest.now in
+        IfOk result (λ lossy. string_bytes lossy ≡ whole) }
 {
-    let mut text = String::with_capacity(alloc, room)?;
-    push_chunk(&mut text, first)?;
-    for chunk in rest {
-        push_chunk(&mut text, chunk)?;
-    }
-    Ok(text)
+    let mut bytes = Vec::with_capacity(alloc, room)?;
+    bytes.extend_from_slice(text.as_bytes())?;
+    push_broken(&mut bytes, broken)?;
+    push_lossy(&mut bytes, rest)?;
+    // All that was pushed is text.
+    Ok(unsafe { String::from_utf8_unchecked(bytes) })
 }
 
-// Adds the chunk's text, and U+FFFD for its broken front.
-#[inline(always)]
-fn push_chunk(text: &mut String, chunk: Utf8LossyChunk<'_>) -> Result<(), AllocError>
-    ensures { OnOk result (string_bytes text.new ≡ string_bytes text.old ++ shown chunk.entry) }
+// Adds the lossy text of the source.
+fn push_lossy(bytes: &mut Vec<u8>, source: &[u8]) -> Result<(), AllocError>
+    ensures { OnOk result (bytes.new.items ≡ bytes.old.items ++ lossy_of source.now) }
 {
-    if chunk.valid.is_empty() {
-        return push_broken(text, chunk.broken);
+    let mut left = source;
+    while !left.is_empty() {
+        let (text, broken, rest) = split_front(left);
+        push_front(bytes, left, text.len())?;
+        push_broken(bytes, broken)?;
+        left = rest;
     }
-    text.push_str(chunk.valid)?;
-    push_broken(text, chunk.broken)
+    Ok(())
+}
+
+// Adds the first bytes of the source. Where few are wanted, sixteen are copied, which takes one
+// move, and those too many are dropped again.
+#[inline(always)]
+fn push_front(bytes: &mut Vec<u8>, source: &[u8], len: usize) -> Result<(), AllocError>
+    requires { len ≤ length source.now }
+    ensures { OnOk result (bytes.new.items ≡ bytes.old.items ++ take len source.now) }
+{
+    if len == 0 {
+        return Ok(());
+    }
+    if 16 < len || source.len() < 16 {
+        return bytes.extend_from_slice(&source[..len]);
+    }
+    let wanted = bytes.len() + len;
+    bytes.extend_from_slice(&source[..16])?;
+    bytes.truncate(wanted);
+    Ok(())
 }
 
 // Adds U+FFFD unless nothing is broken.
 #[inline(always)]
-fn push_broken(text: &mut String, broken: &[u8]) -> Result<(), AllocError>
-    ensures { let whole = string_bytes text.old ++ shown_broken broken.now in
-        OnOk result (string_bytes text.new ≡ whole) }
+fn push_broken(bytes: &mut Vec<u8>, broken: &[u8]) -> Result<(), AllocError>
+    ensures { OnOk result (bytes.new.items ≡ bytes.old.items ++ shown_broken broken.now) }
 {
     if broken.is_empty() {
         return Ok(());
     }
-    text.push_str("\u{FFFD}")
+    bytes.extend_from_slice("\u{FFFD}".as_bytes())
 }

@@ -14,7 +14,7 @@ window_len-size-requires-clause-closed c =
     let so_far = c.loop-at.invariant in
     subst (λ w. IsClosed (slice_index w 0) (slice_index w 1) (slice_index w 2))
     (sym (take_rest s (at - 3)))
-    (closed_before s at (omega (arith, so_far.more, c.requires.some)) so_far.within so_far.text)
+    (closed_before s at (omega (arith, so_far.more, c.if-from-lt3.false)) so_far.within so_far.text)
 
 pub loop-at-preserved : goal.loop-at-preserved
 loop-at-preserved c =
@@ -22,7 +22,7 @@ loop-at-preserved c =
     let at = c.loop-at.at in
     let size = c.window_len-size.result in
     let so_far = c.loop-at.invariant in
-    let three : at - 3 + 3 ≡ at = omega (arith, so_far.more, c.requires.some) in
+    let three : at - 3 + 3 ≡ at = omega (arith, so_far.more, c.if-from-lt3.false) in
     let behind = drop-drop 3 (at - 3) s ∙ ap (λ n. drop n s) three in
     let here : IsText (take size (drop at s)) =
     subst (λ r. IsText (take size r)) (ap (drop 3) (take_rest s (at - 3)) ∙ behind)

@@ -1,64 +1,41 @@
-use Rattle.std.proofs.Common.{length, sym, ap, ◌∙◌, eq-eqb}
+use Rattle.std.proofs.Common.{sym, ◌∙◌, eq-eqb}
 use Rattle.std.proofs.lemmas.Bool.{eqb-true, true≢false}
-use Rattle.std.proofs.lemmas.List.{nil_from_length}
-use Rattle.unix_bytes.specs.Chunks.{chunks_of}
-use Rattle.unix_bytes.proofs.OnlyLemmas.{nothing_is_text, nothing_shown, only_text, only_shown}
-use Rattle.unix_bytes.proofs.OnlyLemmas.{first_shown, text_unbroken}
+use Rattle.unix_bytes.proofs.LossyLemmas.{lossy_of-text}
+use Rattle.unix_bytes.proofs.PushLemmas.{split_only, split_text, lossy_of-split}
 use Rattle.unix_bytes.proofs.bytes.UnixStr.to_string_lossy.Goals as goal
-
-pub returns-in_default-clause-value : goal.returns-in_default-clause-value
-returns-in_default-clause-value c =
-    let chunks = sym (c.chunks-chunks.ensures ∙ ap chunks_of c.from_bytes.ensures)
-    ∙ c.in_default.ensures.steps.0 in
-    nothing_shown c.args.self.bytes.now chunks
-
-pub returns-in_default-clause-borrowed : goal.returns-in_default-clause-borrowed
-returns-in_default-clause-borrowed c =
-    let chunks = sym (c.chunks-chunks.ensures ∙ ap chunks_of c.from_bytes.ensures)
-    ∙ c.in_default.ensures.steps.0 in
-    (λ _. nothing_is_text c.args.self.bytes.now chunks, λ _. tt)
 
 pub returns-then-is_empty-clause-value : goal.returns-then-is_empty-clause-value
 returns-then-is_empty-clause-value c =
-    let chunks = sym (c.chunks-chunks.ensures ∙ ap chunks_of c.from_bytes.ensures)
-    ∙ c.in-Some.ensures.steps in
-    let broken = c.in-Some.first.broken.now in
-    let none = nil_from_length broken
-    (eqb-true (length broken) 0 (sym c.is_empty.ensures ∙ c.if-is_empty.true)) in
-    only_shown c.args.self.bytes.now _ _ chunks none
+    let s = c.args.self.bytes.now in
+    let split = c.split_front.ensures in
+    let none = eqb-true _ 0 (sym c.is_empty.ensures ∙ c.if-is_empty.true) in
+    let only = split_only s _ _ _ split.valid split.broken split.rest none in
+    only.0 ∙ sym (lossy_of-text s only.1)
 
 pub returns-then-is_empty-clause-borrowed : goal.returns-then-is_empty-clause-borrowed
 returns-then-is_empty-clause-borrowed c =
-    let chunks = sym (c.chunks-chunks.ensures ∙ ap chunks_of c.from_bytes.ensures)
-    ∙ c.in-Some.ensures.steps in
-    let broken = c.in-Some.first.broken.now in
-    let none = nil_from_length broken
-    (eqb-true (length broken) 0 (sym c.is_empty.ensures ∙ c.if-is_empty.true)) in
-    (λ _. only_text c.args.self.bytes.now _ _ chunks none, λ _. tt)
+    let split = c.split_front.ensures in
+    let none = eqb-true _ 0 (sym c.is_empty.ensures ∙ c.if-is_empty.true) in
+    let only = split_only _ _ _ _ split.valid split.broken split.rest none in
+    (λ _. only.1, λ _. tt)
 
-pub returns-in_err-text-clause-succeeds : goal.returns-in_err-text-clause-succeeds
-returns-in_err-text-clause-succeeds c = λ text.
-    let chunks = sym (c.chunks-chunks.ensures ∙ ap chunks_of c.from_bytes.ensures)
-    ∙ c.in-Some.ensures.steps in
-    let broken = c.in-Some.first.broken.now in
-    let none = ap length (text_unbroken c.args.self.bytes.now _ _ chunks text) in
-    absurd (true≢false (sym (eq-eqb (length broken) 0 none) ∙ sym c.is_empty.ensures
-    ∙ c.if-is_empty.false))
+pub returns-in_err-lossy-clause-succeeds : goal.returns-in_err-lossy-clause-succeeds
+returns-in_err-lossy-clause-succeeds c = λ text.
+    let split = c.split_front.ensures in
+    let none = split_text _ _ _ _ split.valid split.broken split.rest text in
+    absurd (true≢false (sym (eq-eqb _ 0 none) ∙ sym c.is_empty.ensures ∙ c.if-is_empty.false))
 
 pub returns-clause-value : goal.returns-clause-value
 returns-clause-value c =
-    let chunks = sym (c.chunks-chunks.ensures ∙ ap chunks_of c.from_bytes.ensures)
-    ∙ c.in-Some.ensures.steps in
-    c.in_ok-text.ensures ∙ first_shown c.args.self.bytes.now _ _ chunks
+    let split = c.split_front.ensures in
+    c.in_ok-lossy.ensures
+    ∙ lossy_of-split c.args.self.bytes.now _ _ _ split.valid split.broken split.rest
 
 pub returns-clause-borrowed : goal.returns-clause-borrowed
 returns-clause-borrowed c =
-    let chunks = sym (c.chunks-chunks.ensures ∙ ap chunks_of c.from_bytes.ensures)
-    ∙ c.in-Some.ensures.steps in
-    let broken = c.in-Some.first.broken.now in (
+    let split = c.split_front.ensures in (
       λ none. absurd none,
       λ text.
-          let none = ap length (text_unbroken c.args.self.bytes.now _ _ chunks text) in
-          true≢false (sym (eq-eqb (length broken) 0 none) ∙ sym c.is_empty.ensures
-          ∙ c.if-is_empty.false),
+          let none = split_text _ _ _ _ split.valid split.broken split.rest text in
+          true≢false (sym (eq-eqb _ 0 none) ∙ sym c.is_empty.ensures ∙ c.if-is_empty.false),
     )

@@ -1,8 +1,7 @@
 use Rattle.std.proofs.lemmas.List.{take_rest}
 use Rattle.unix_bytes.proofs.RunLemmas.{after_ascii, after_sequence, before_broken}
 use Rattle.unix_bytes.proofs.RunLemmas.{none_at_end, text_to_end}
-use Rattle.unix_bytes.proofs.utf8.scan_on.Goals as goal
-use Rattle.std.proofs.Common.{arith}
+use Rattle.unix_bytes.proofs.utf8.scan_many.Goals as goal
 
 pub loop-at-preserved-then-source-at-lt128 : goal.loop-at-preserved-then-source-at-lt128
 loop-at-preserved-then-source-at-lt128 c =
@@ -12,10 +11,10 @@ loop-at-preserved-then-source-at-lt128 c =
     let run = c.ascii_run-at.ensures in
     let more = after_ascii s _ at (take_rest s at) so_far.text c.ascii_run-at.result so_far.within
     run.bound run.ascii in
-    record { some = omega (arith, so_far.some); within = more.0; text = more.1 }
+    record { within = more.0; text = more.1 }
 
-pub text_end-at-requires-in-Ok-clause-so_far : goal.text_end-at-requires-in-Ok-clause-so_far
-text_end-at-requires-in-Ok-clause-so_far c =
+pub text_end-at-requires-clause-so_far : goal.text_end-at-requires-clause-so_far
+text_end-at-requires-clause-so_far c =
     let s = c.args.source.now in
     let at = c.loop-at.at in
     let so_far = c.loop-at.invariant in

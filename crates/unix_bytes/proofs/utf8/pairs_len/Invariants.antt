@@ -1,6 +1,6 @@
 use Rattle.std.proofs.Common.{◌≤◌, ◌-◌, length, take}
 use Rattle.unix_bytes.specs.Utf8.{IsText}
-use Rattle.unix_bytes.proofs.utf8.scan.Given as goal
+use Rattle.unix_bytes.proofs.utf8.pairs_len.Given as goal
 
 -- the bytes so far are text
 abbrev pub invariant-loop-at : goal.invariant-loop-at

@@ -1,11 +1,10 @@
 use Rattle.std.proofs.Common.{◌≤◌, ◌-◌, length, take}
 use Rattle.unix_bytes.specs.Utf8.{IsText}
-use Rattle.unix_bytes.proofs.utf8.scan_on.Given as goal
+use Rattle.unix_bytes.proofs.utf8.scan_many.Given as goal
 
 -- the bytes so far are text
 abbrev pub invariant-loop-at : goal.invariant-loop-at
 invariant-loop-at l = record {
-  some : 3 ≤ l.at;
   within : l.at ≤ length l.source;
   text : IsText (take l.at l.source);
 }

@@ -1,0 +1,142 @@
+-- The lossy text, built of what is split off in front.
+use Rattle.std.proofs.Common.{◌≡◌, ℕ, ◌+◌, ◌<◌, ◌≤◌, List, [], ◌∷◌, ◌++◌, length, take, drop, refl}
+use Rattle.std.proofs.Common.{sym, ap, ◌∙◌, subst, arith, eqb, false, append_assoc, length-drop}
+use Rattle.std.proofs.Common.{length-take-le}
+use Rattle.std.specs.Str.{IsUtf8}
+use Rattle.std.proofs.lemmas.Bool.{ne_eqb, cond-false, true≢false}
+use Rattle.std.proofs.lemmas.List.{nil_from_length, take_all, drop_all, take-take}
+use Rattle.std.proofs.Math.Seq.{take-append-add}
+use Rattle.std.proofs.lemmas.Str.{IsUtf8-append, IsUtf8-nil}
+use Rattle.unix_bytes.specs.Utf8.{IsText}
+use Rattle.unix_bytes.specs.Lossy.{longest_len, is_text, broken_len, lossy_of, replacement}
+use Rattle.unix_bytes.specs.Chunks.{Chunk, chunk_len, chunks_of, shown_chunk, shown_broken}
+use Rattle.unix_bytes.proofs.TextLemmas.{IsUtf8-sequence, IsUtf8-from_IsText, IsText-from_IsUtf8}
+use Rattle.unix_bytes.proofs.BrokenLemmas.{broken_len_within}
+use Rattle.unix_bytes.proofs.RunLemmas.{text_within}
+use Rattle.unix_bytes.proofs.ChunkLemmas.{chunk_some, shown-chunks_of}
+use Rattle.unix_bytes.proofs.SplitLemmas.{first_split}
+use Rattle.unix_bytes.proofs.LawLemmas.{replacement_is_sequence, lossy_is_text}
+use Rattle.unix_bytes.proofs.OnlyLemmas.{first_is, only_chunk, only_text, first_shown}
+use Rattle.unix_bytes.proofs.OnlyLemmas.{text_unbroken}
+
+-- a byte or more is split off
+pub split_smaller : (s valid broken rest : List ℕ) → eqb (length s) 0 ≡ false
+    → valid ≡ take (longest_len is_text s) s
+    → broken ≡ take (broken_len (drop (longest_len is_text s) s)) (drop (longest_len is_text s) s)
+    → rest ≡ drop (broken_len (drop (longest_len is_text s) s)) (drop (longest_len is_text s) s)
+    → length rest < length s
+split_smaller [] valid broken rest some v b r = absurd (true≢false some)
+split_smaller (x ∷ xs) valid broken rest some v b r =
+    let s = x ∷ xs in
+    let n = longest_len is_text s in
+    let k = broken_len (drop n s) in
+    let c : Chunk = record { valid = valid; broken = broken } in
+    let e = ap chunk_len (first_is s c (chunks_of rest)
+    (first_split s valid broken rest (omega arith) v b r)) in
+    let l = broken_len_within (drop n s) in
+    omega (
+      arith,
+      e,
+      chunk_some x xs,
+      ap length v,
+      ap length b,
+      ap length r,
+      length-take-le n s (text_within s),
+      length-take-le k (drop n s) l,
+      length-drop n s,
+      length-drop k (drop n s),
+    )
+
+-- where nothing is broken, all is text
+pub split_only : (s valid broken rest : List ℕ)
+    → valid ≡ take (longest_len is_text s) s
+    → broken ≡ take (broken_len (drop (longest_len is_text s) s)) (drop (longest_len is_text s) s)
+    → rest ≡ drop (broken_len (drop (longest_len is_text s) s)) (drop (longest_len is_text s) s)
+    → length broken ≡ 0 → (valid ≡ s) × IsText s
+split_only [] valid broken rest v b r none =
+    (v ∙ take_all (longest_len is_text []) [] (omega arith), IsText-from_IsUtf8 [] IsUtf8-nil)
+split_only (x ∷ xs) valid broken rest v b r none =
+    let s = x ∷ xs in
+    let c : Chunk = record { valid = valid; broken = broken } in
+    let e = first_split s valid broken rest (omega arith) v b r in
+    let z = nil_from_length broken none in
+    (only_chunk s c (chunks_of rest) e z, only_text s c (chunks_of rest) e z)
+
+-- and of text nothing is broken
+pub split_text : (s valid broken rest : List ℕ)
+    → valid ≡ take (longest_len is_text s) s
+    → broken ≡ take (broken_len (drop (longest_len is_text s) s)) (drop (longest_len is_text s) s)
+    → rest ≡ drop (broken_len (drop (longest_len is_text s) s)) (drop (longest_len is_text s) s)
+    → IsText s → length broken ≡ 0
+split_text [] valid broken rest v b r t =
+    let n = longest_len is_text [] in
+    let k = broken_len (drop n []) in
+    let l = broken_len_within (drop n []) in
+    omega (arith, ap length b, length-take-le k (drop n []) l, length-drop {A = ℕ} n [])
+split_text (x ∷ xs) valid broken rest v b r t =
+    let s = x ∷ xs in
+    let c : Chunk = record { valid = valid; broken = broken } in
+    ap length (text_unbroken s c (chunks_of rest)
+    (first_split s valid broken rest (omega arith) v b r) t)
+
+-- what is split off, and what follows it, is shown in turn
+pub lossy_of-split : (s valid broken rest : List ℕ)
+    → valid ≡ take (longest_len is_text s) s
+    → broken ≡ take (broken_len (drop (longest_len is_text s) s)) (drop (longest_len is_text s) s)
+    → rest ≡ drop (broken_len (drop (longest_len is_text s) s)) (drop (longest_len is_text s) s)
+    → (valid ++ shown_broken broken) ++ lossy_of rest ≡ lossy_of s
+lossy_of-split [] valid broken rest v b r =
+    let none = nil_from_length broken
+    (split_text [] valid broken rest v b r (IsText-from_IsUtf8 [] IsUtf8-nil)) in
+    let n = longest_len is_text [] in
+    let k = broken_len (drop n []) in
+    let no_rest : rest ≡ [] =
+    r ∙ drop_all k (drop n []) (omega (arith, length-drop {A = ℕ} n [])) in
+    let no_text : valid ≡ [] = v ∙ take_all n [] (omega arith) in
+    rw (no_text, none, no_rest) refl
+lossy_of-split (x ∷ xs) valid broken rest v b r =
+    let s = x ∷ xs in
+    let c : Chunk = record { valid = valid; broken = broken } in
+    ap (λ t. shown_chunk c ++ t) (sym (shown-chunks_of rest))
+    ∙ first_shown s c (chunks_of rest) (first_split s valid broken rest (omega arith) v b r)
+
+-- what was pushed before, what is split off, and what follows it
+pub pushed_more : (items s valid broken rest : List ℕ)
+    → valid ≡ take (longest_len is_text s) s
+    → broken ≡ take (broken_len (drop (longest_len is_text s) s)) (drop (longest_len is_text s) s)
+    → rest ≡ drop (broken_len (drop (longest_len is_text s) s)) (drop (longest_len is_text s) s)
+    → ((items ++ take (length valid) s) ++ shown_broken broken) ++ lossy_of rest
+    ≡ items ++ lossy_of s
+pushed_more items s valid broken rest v b r =
+    let n = longest_len is_text s in
+    let text : take (length valid) s ≡ valid =
+    ap (λ k. take k s) (ap length v ∙ length-take-le n s (text_within s)) ∙ sym v in
+    let mark = shown_broken broken in
+    ap (λ t. ((items ++ t) ++ mark) ++ lossy_of rest) text
+    ∙ ap (λ t. t ++ lossy_of rest) (append_assoc items valid mark)
+    ∙ append_assoc items (valid ++ mark) (lossy_of rest)
+    ∙ ap (λ t. items ++ t) (lossy_of-split s valid broken rest v b r)
+
+replacement_is_utf8 : IsUtf8 replacement
+replacement_is_utf8 = IsUtf8-sequence replacement replacement_is_sequence
+
+shown_is_utf8 : (broken : List ℕ) → IsUtf8 (shown_broken broken)
+shown_is_utf8 [] = IsUtf8-nil
+shown_is_utf8 (b ∷ bs) =
+    let some = ne_eqb (length (b ∷ bs)) 0 (omega arith) in
+    subst IsUtf8 (sym (cond-false _ _ _ some)) replacement_is_utf8
+
+-- text, what stands for a broken front, and lossy text, one after the other
+pub pushed_is_utf8 : (text broken rest : List ℕ) → IsUtf8 text
+    → IsUtf8 ((text ++ shown_broken broken) ++ lossy_of rest)
+pushed_is_utf8 text broken rest h =
+    IsUtf8-append (text ++ shown_broken broken) (lossy_of rest)
+    (IsUtf8-append text (shown_broken broken) h (shown_is_utf8 broken))
+    (IsUtf8-from_IsText (lossy_of rest) (lossy_is_text rest))
+
+-- the first of sixteen bytes that were added
+pub first_of_sixteen : (items s : List ℕ) (k n : ℕ) → k ≡ length items → n ≤ 16
+    → take (k + n) (items ++ take 16 s) ≡ items ++ take n s
+first_of_sixteen items s k n e few =
+    ap (λ j. take (j + n) (items ++ take 16 s)) e ∙ take-append-add items (take 16 s) n
+    ∙ ap (λ t. items ++ t) (take-take n 16 s few)

@@ -1,0 +1,29 @@
+use Rattle.std.proofs.Common.{◌++◌, sym, ap, ◌∙◌, append-nil}
+use Rattle.std.proofs.lemmas.Bool.{eqb-true}
+use Rattle.std.proofs.lemmas.List.{nil_from_length}
+use Rattle.unix_bytes.specs.Lossy.{lossy_of}
+use Rattle.unix_bytes.proofs.LossyLemmas.{lossy_of-nil}
+use Rattle.unix_bytes.proofs.PushLemmas.{pushed_more, split_smaller}
+use Rattle.unix_bytes.proofs.bytes.push_lossy.Goals as goal
+
+pub loop-left-smaller : goal.loop-left-smaller
+loop-left-smaller c =
+    let split = c.split_front.ensures in
+    let some = sym c.is_empty.ensures ∙ c.loop-left-test.true in
+    split_smaller c.loop-left.left.now _ _ _ some split.valid split.broken split.rest
+
+pub loop-left-preserved : goal.loop-left-preserved
+loop-left-preserved c =
+    let split = c.split_front.ensures in
+    let more = pushed_more c.loop-left.bytes.items c.loop-left.left.now _ _ _ split.valid
+    split.broken split.rest in
+    rw (c.in_ok-push_broken.ensures, c.in_ok-push_front.ensures) (more ∙ c.loop-left.invariant)
+
+pub returns : goal.returns
+returns c =
+    let items = c.loop-left.bytes.items in
+    let left = c.loop-left.left.now in
+    let empty = eqb-true _ 0 (sym c.is_empty.ensures ∙ c.loop-left-test.false) in
+    let none = nil_from_length left empty in
+    sym (append-nil items) ∙ ap (λ t. items ++ t) (sym lossy_of-nil)
+    ∙ ap (λ t. items ++ lossy_of t) (sym none) ∙ c.loop-left.invariant
