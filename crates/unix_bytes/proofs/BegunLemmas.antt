@@ -3,7 +3,7 @@ use Rattle.std.proofs.Common.{◌≡◌, ℕ, ◌<◌, ◌≤◌, List, [], ◌�
 use Rattle.std.proofs.Common.{refl, slice_index}
 use Rattle.std.proofs.lemmas.Bool.{cases_lt}
 use Rattle.unix_bytes.specs.Utf8.{IsSequence, begins_sequence}
-use Rattle.unix_bytes.specs.Lossy.{HasBegun}
+use Rattle.unix_bytes.specs.Steps.{HasBegun}
 use Rattle.unix_bytes.proofs.SequenceLemmas.{two_bytes, three_bytes, four_bytes, more_bytes}
 use Rattle.unix_bytes.proofs.SequenceLemmas.{three_is, four_is}
 use Rattle.unix_bytes.proofs.BeginLemmas.{begins_sequence-from, BeginsSequence-from}

@@ -4,29 +4,30 @@ use Rattle.std.proofs.Common.{⊎_elim, sym, ap, ◌∙◌, arith, take-append-d
 use Rattle.std.proofs.Common.{get_or-drop, add-zero}
 use Rattle.std.proofs.lemmas.Bool.{cases_Bool, cond-true, cond-false}
 use Rattle.unix_bytes.specs.Utf8.{is_sequence}
-use Rattle.unix_bytes.specs.Lossy.{longest_len, broken_front_of, front_of, broken_len, HasBegun}
+use Rattle.unix_bytes.specs.Steps.{longest_len, longest_front_of, broken_len, HasBegun}
 use Rattle.unix_bytes.proofs.SequenceLemmas.{no_bytes}
 use Rattle.unix_bytes.proofs.BegunLemmas.{first_begun}
 use Rattle.unix_bytes.proofs.LongestLemmas.{longest_len-longest}
-use Rattle.unix_bytes.proofs.FrontLemmas.{front_of-nil, front_of-none, front_of-take}
-use Rattle.unix_bytes.proofs.FrontLemmas.{front_of-sequence, front_within}
+use Rattle.unix_bytes.proofs.FrontLemmas.{longest_front_of-nil, longest_front_of-take}
+use Rattle.unix_bytes.proofs.FrontLemmas.{longest_front_of-sequence, front_within}
 use Rattle.unix_bytes.proofs.FrontLemmas.{one_byte_front, two_byte_front, three_byte_front}
 use Rattle.unix_bytes.proofs.StepLemmas.{none_of_two, none_of_three, none_of_four, wide_sequences}
-use Rattle.unix_bytes.proofs.LossyLemmas.{is_sequence-front_of}
+use Rattle.unix_bytes.proofs.LossyLemmas.{is_sequence-longest_front_of}
 
 pub broken_none : (s : List ℕ) → length s ≡ 0 → broken_len s ≡ 0
 broken_none [] e =
-    cond-false _ _ _ (ap is_sequence front_of-nil ∙ no_bytes) ∙ ap length front_of-nil
+    cond-false _ _ _ (ap is_sequence longest_front_of-nil ∙ no_bytes)
+    ∙ ap length longest_front_of-nil
 broken_none (b ∷ bs) e = absurd (omega arith)
 
 broken_len-none : (s : List ℕ) → longest_len is_sequence s ≡ 0
-    → broken_len s ≡ length (front_of s)
-broken_len-none s z = cond-false _ _ _ (is_sequence-front_of s z)
+    → broken_len s ≡ length (longest_front_of s)
+broken_len-none s z = cond-false _ _ _ (is_sequence-longest_front_of s z)
 
-pub broken_front_of-none : (s : List ℕ) → longest_len is_sequence s ≡ 0
-    → broken_front_of s ≡ take (broken_len s) s
-broken_front_of-none s z =
-    sym (front_of-none s z) ∙ front_of-take s ∙ ap (λ k. take k s) (sym (broken_len-none s z))
+pub longest_front_of-none : (s : List ℕ) → longest_len is_sequence s ≡ 0
+    → longest_front_of s ≡ take (broken_len s) s
+longest_front_of-none s z =
+    longest_front_of-take s ∙ ap (λ k. take k s) (sym (broken_len-none s z))
 
 -- where bytes are broken in front, no sequence stands there
 pub none_in_front : (s : List ℕ) → 0 < broken_len s → longest_len is_sequence s ≡ 0
@@ -34,21 +35,22 @@ none_in_front s some =
     let k = longest_len is_sequence s in
     ⊎_elim (λ z. z)
     (λ h.
-    let e : front_of s ≡ take k s =
-    ap front_of (sym (take-append-drop k s)) ∙ front_of-sequence (take k s) (drop k s) h in
+    let e : longest_front_of s ≡ take k s =
+    ap longest_front_of (sym (take-append-drop k s))
+    ∙ longest_front_of-sequence (take k s) (drop k s) h in
     let z : broken_len s ≡ 0 = cond-true _ _ _ (ap is_sequence e ∙ h) in
     absurd (omega arith)) (longest_len-longest is_sequence s).passes
 
-front_of_within : (s : List ℕ) → length (front_of s) ≤ length s
-front_of_within [] = let e = ap length front_of-nil in omega arith
+front_of_within : (s : List ℕ) → length (longest_front_of s) ≤ length s
+front_of_within [] = let e = ap length longest_front_of-nil in omega arith
 front_of_within (b ∷ bs) = (front_within b bs).1
 
 pub broken_len_within : (s : List ℕ) → broken_len s ≤ length s
 broken_len_within s =
     ⊎_elim (λ t. let e : broken_len s ≡ 0 = cond-true _ _ _ t in omega arith)
     (λ f.
-    let e : broken_len s ≡ length (front_of s) = cond-false _ _ _ f in
-    omega (arith, front_of_within s)) (cases_Bool (is_sequence (front_of s)))
+    let e : broken_len s ≡ length (longest_front_of s) = cond-false _ _ _ f in
+    omega (arith, front_of_within s)) (cases_Bool (is_sequence (longest_front_of s)))
 
 -- the broken front, by how far a sequence has begun
 pub one_byte_broken : (s : List ℕ) → 0 < length s → (HasBegun s 2 → ⊥) → 0x80 ≤ slice_index s 0

@@ -2,23 +2,24 @@
 use Rattle.std.proofs.Common.{◌≡◌, ℕ, zero, suc, ◌+◌, ◌<◌, ◌≤◌, List, [], ◌∷◌, ◌++◌, length, take}
 use Rattle.std.proofs.Common.{drop, false, eqb, if◌then◌else◌, ⊎_elim, inr, refl, sym, ap, ◌∙◌}
 use Rattle.std.proofs.Common.{subst, arith, le_refl, length-drop, length-take-le, take-append-drop}
-use Rattle.std.proofs.Common.{append_assoc}
-use Rattle.std.specs.List.{flat_map}
+use Rattle.std.proofs.Common.{append_assoc, append-nil, length-append, true}
+use Rattle.std.specs.List.{concat, flat_map, list_all}
 use Rattle.std.specs.Str.{IsUtf8}
-use Rattle.std.proofs.lemmas.Bool.{cases_lt, ne_eqb}
+use Rattle.std.proofs.lemmas.Bool.{and_parts, cases_lt, cond-true, cond-false, ne_eqb}
 use Rattle.std.proofs.lemmas.List.{take_all, drop-drop}
 use Rattle.std.proofs.lemmas.Str.{IsUtf8-append, IsUtf8-nil}
 use Rattle.std.proofs.Math.Seq.{take-add}
-use Rattle.unix_bytes.specs.Utf8.{is_sequence, IsText}
-use Rattle.unix_bytes.specs.Lossy.{longest_len, is_text, broken_front_of, front_of, replacement}
-use Rattle.unix_bytes.specs.Lossy.{lossy_of}
-use Rattle.unix_bytes.specs.Chunks.{first_chunk_of, chunk_len, chunks_of, shown_chunk}
+use Rattle.unix_bytes.specs.Utf8.{is_sequence, IsSequence, IsText}
+use Rattle.unix_bytes.specs.Lossy.{fronts_of, is_text, replacement, lossy_of}
+use Rattle.unix_bytes.specs.Chunks.{chunks_from, chunks_of, shown_chunk}
+use Rattle.unix_bytes.specs.Steps.{longest_len, longest_front_of, first_chunk_of, chunk_len}
 use Rattle.unix_bytes.proofs.TextLemmas.{IsUtf8-sequence, IsUtf8-from_IsText, IsText-from_IsUtf8}
 use Rattle.unix_bytes.proofs.LongestLemmas.{longest_len-is, longest_len-longest, longest_len-least}
-use Rattle.unix_bytes.proofs.TurnLemmas.{in_turn-some}
-use Rattle.unix_bytes.proofs.FrontLemmas.{front_of-nil, front_of-none, front_of-broken_front_of}
+use Rattle.unix_bytes.proofs.FrontLemmas.{longest_front_of-nil}
 use Rattle.unix_bytes.proofs.FrontLemmas.{front_within}
+use Rattle.unix_bytes.proofs.GrowLemmas.{fronts_of-nil, fronts_of-some}
 use Rattle.unix_bytes.proofs.LossyLemmas.{is_text-from_IsText, IsText-from_is_text, fewer}
+use Rattle.unix_bytes.proofs.LossyLemmas.{fronts_of-text, is_sequence-longest_front_of}
 use Rattle.unix_bytes.proofs.LossyLemmas.{lossy_of-nil, lossy_of-append, lossy_of-none}
 
 -- the longest text in front
@@ -71,35 +72,79 @@ chunk_some b bs =
     ⊎_elim (λ (some : 0 < n). omega (arith, length-take-le n s w))
     (λ (none : n ≤ 0).
     let z : n ≡ 0 = omega arith in
-    let e : length (broken_front_of (drop n s)) ≡ length (front_of s) =
-    ap (λ k. length (broken_front_of (drop k s))) z
-    ∙ ap length (sym (front_of-broken_front_of s)) in
+    let e : length (longest_front_of (drop n s)) ≡ length (longest_front_of s) =
+    ap (λ k. length (longest_front_of (drop k s))) z in
     omega (arith, e, (front_within b bs).0))
     (cases_lt 0 n)
 
 pub chunks_of-nil : chunks_of [] ≡ []
 unfolding chunks_of
-chunks_of-nil = refl
+chunks_of-nil = ap (chunks_from []) fronts_of-nil
 
 pub chunks_of-empty : (s : List ℕ) → length s ≡ 0 → chunks_of s ≡ []
 chunks_of-empty [] e = chunks_of-nil
 chunks_of-empty (b ∷ bs) e = absurd (omega arith)
 
+-- sequences are gathered
+chunks_from-sequences : (us : List (List ℕ)) (text : List ℕ) (rest : List (List ℕ))
+    → list_all is_sequence us ≡ true
+    → chunks_from text (us ++ rest) ≡ chunks_from (text ++ concat us) rest
+chunks_from-sequences [] text rest h =
+    ap (λ t. chunks_from t rest) (sym (append-nil text))
+chunks_from-sequences (u ∷ us) text rest h =
+    let k : IsSequence u × (list_all is_sequence us ≡ true) = and_parts _ _ h in
+    cond-true _ _ _ k.0 ∙ chunks_from-sequences us (text ++ u) rest k.1
+    ∙ ap (λ t. chunks_from t rest) (append_assoc text u (concat us))
+
+-- and a broken front, or the end, ends a chunk
+chunks_from-rest : (text t : List ℕ) → longest_len is_sequence t ≡ 0 → 0 < length (text ++ t)
+    → chunks_from text (fronts_of t) ≡ record { valid = text; broken = longest_front_of t }
+    ∷ chunks_from [] (fronts_of (drop (length (longest_front_of t)) t))
+chunks_from-rest text [] z some =
+    let e : eqb (length text) 0 ≡ false =
+    ne_eqb (length text) 0 (omega (arith, length-append text [])) in
+    ap (chunks_from text) fronts_of-nil ∙ cond-false _ _ _ e
+    ∙ sym (rw (longest_front_of-nil, fronts_of-nil) refl)
+chunks_from-rest text (b ∷ bs) z some =
+    ap (chunks_from text) (fronts_of-some b bs)
+    ∙ cond-false _ _ _ (is_sequence-longest_front_of (b ∷ bs) z)
+
+-- text, and what follows it where no sequence stands there
+pub chunks_of-append : (v t : List ℕ) → IsText v → longest_len is_sequence t ≡ 0
+    → 0 < length (v ++ t)
+    → chunks_of (v ++ t) ≡ record { valid = v; broken = longest_front_of t }
+    ∷ chunks_of (drop (length (longest_front_of t)) t)
+unfolding chunks_of
+chunks_of-append v t h z some =
+    let (us, all, e, cut) = fronts_of-text v t h in
+    ap (chunks_from []) cut ∙ chunks_from-sequences us [] (fronts_of t) all
+    ∙ ap (λ x. chunks_from x (fronts_of t)) e ∙ chunks_from-rest v t z some
+
 pub chunks_of-some : (b : ℕ) (bs : List ℕ) → chunks_of (b ∷ bs) ≡ first_chunk_of (b ∷ bs)
     ∷ chunks_of (drop (chunk_len (first_chunk_of (b ∷ bs))) (b ∷ bs))
-unfolding chunks_of
+unfolding first_chunk_of
 chunks_of-some b bs =
-    in_turn-some first_chunk_of chunk_len (b ∷ bs) (omega arith) (chunk_some b bs)
+    let s = b ∷ bs in
+    let n = longest_len is_text s in
+    let t = drop n s in
+    let k = length (longest_front_of t) in
+    let e : length (take n s) ≡ n =
+    length-take-le n s (longest_len-longest is_text s).within in
+    ap chunks_of (sym (take-append-drop n s))
+    ∙ chunks_of-append (take n s) t (text_front s) (none_after_text s)
+    (omega (arith, ap length (take-append-drop n s)))
+    ∙ ap (λ x. first_chunk_of s ∷ chunks_of x)
+    (drop-drop k n s ∙ ap (λ j. drop (j + k) s) (sym e))
 
 -- lossy text, a chunk at a time
 lossy_of-rest : (t : List ℕ) → longest_len is_sequence t ≡ 0
-    → lossy_of t ≡ (if eqb (length (broken_front_of t)) 0 then [] else replacement)
-    ++ lossy_of (drop (length (broken_front_of t)) t)
-lossy_of-rest [] z = rw (ap length (sym (front_of-none [] z) ∙ front_of-nil)) refl
+    → lossy_of t ≡ (if eqb (length (longest_front_of t)) 0 then [] else replacement)
+    ++ lossy_of (drop (length (longest_front_of t)) t)
+lossy_of-rest [] z = rw (ap length longest_front_of-nil) refl
 lossy_of-rest (b ∷ bs) z =
     let s = b ∷ bs in
-    let k = length (broken_front_of s) in
-    let some : 1 ≤ k = omega (arith, (front_within b bs).0, ap length (front_of-none s z)) in
+    let k = length (longest_front_of s) in
+    let some : 1 ≤ k = (front_within b bs).0 in
     let e : eqb k 0 ≡ false = ne_eqb k 0 (omega arith) in
     lossy_of-none b bs z
     ∙ ap (λ c. (if c then [] else replacement) ++ lossy_of (drop k s)) (sym e)
@@ -111,7 +156,7 @@ lossy_of-chunk s =
     let n = longest_len is_text s in
     let v = take n s in
     let t = drop n s in
-    let b = broken_front_of t in
+    let b = longest_front_of t in
     let mark : List ℕ = if eqb (length b) 0 then [] else replacement in
     let e : length v ≡ n = length-take-le n s (longest_len-longest is_text s).within in
     ap lossy_of (sym (take-append-drop n s)) ∙ lossy_of-append v t (text_front s)

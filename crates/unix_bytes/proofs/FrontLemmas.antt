@@ -1,15 +1,14 @@
--- The front of bytes: a sequence, or else the broken front.
+-- The longest front that begins a sequence: a whole one, or else a broken front.
 use Rattle.std.proofs.Common.{◌≡◌, ℕ, suc, ◌-◌, ◌+◌, ◌<◌, ◌≤◌, List, [], ◌∷◌, ◌++◌, length, take}
-use Rattle.std.proofs.Common.{drop, ◌⊎◌, ⊎_elim, inl, inr, refl, sym, ap, ◌∙◌, subst, arith}
+use Rattle.std.proofs.Common.{◌⊎◌, ⊎_elim, inl, inr, refl, sym, ap, ◌∙◌, subst, arith}
 use Rattle.std.proofs.Common.{append_assoc, append-nil, length-append, length-take-le}
-use Rattle.std.proofs.Common.{take-append-drop}
 use Rattle.std.specs.Prelude.{max}
-use Rattle.std.proofs.lemmas.Bool.{cases_lt, cond-true, cond-false}
+use Rattle.std.proofs.lemmas.Bool.{cases_lt}
 use Rattle.std.proofs.lemmas.List.{take_at, take_all}
 use Rattle.std.proofs.Math.Seq.{take-append-add}
 use Rattle.unix_bytes.specs.Utf8.{is_sequence, IsSequence, BeginsSequence, begins_sequence}
-use Rattle.unix_bytes.specs.Lossy.{longest_len, broken_front_of, front_of, HasBegun}
-use Rattle.unix_bytes.proofs.SequenceLemmas.{no_bytes, sequence_len}
+use Rattle.unix_bytes.specs.Steps.{longest_len, longest_front_of, HasBegun}
+use Rattle.unix_bytes.proofs.SequenceLemmas.{sequence_len}
 use Rattle.unix_bytes.proofs.WidthLemmas.{prefix_free}
 use Rattle.unix_bytes.proofs.BeginLemmas.{begins_sequence-from, BeginsSequence-from}
 use Rattle.unix_bytes.proofs.BeginLemmas.{BeginsSequence-take}
@@ -50,41 +49,19 @@ longest_len-begun u s h =
     (λ k p q. not_true (begins_sequence (take k (u ++ s)))
     (λ t. none_longer u s k h p q (BeginsSequence-from (take k (u ++ s)) t)))
 
-pub front_of-sequence : (u s : List ℕ) → IsSequence u → front_of (u ++ s) ≡ u
-unfolding front_of
-front_of-sequence u s h =
-    let e : take (longest_len is_sequence (u ++ s)) (u ++ s) ≡ u =
-    ap (λ k. take k (u ++ s)) (longest_len-sequence u s h) ∙ take_at u s (length u) refl in
-    cond-true _ _ _ (ap is_sequence e ∙ h) ∙ e
-
-broken_front_of-sequence : (u s : List ℕ) → IsSequence u → broken_front_of (u ++ s) ≡ u
-unfolding broken_front_of
-broken_front_of-sequence u s h =
+pub longest_front_of-sequence : (u s : List ℕ) → IsSequence u → longest_front_of (u ++ s) ≡ u
+unfolding longest_front_of
+longest_front_of-sequence u s h =
     let k = sequence_len u h in
     let e : max 1 (longest_len begins_sequence (u ++ s)) ≡ length u =
     omega (arith, longest_len-begun u s h) in
     ap (λ n. take n (u ++ s)) e ∙ take_at u s (length u) refl
 
-pub front_of-none : (s : List ℕ) → longest_len is_sequence s ≡ 0 → front_of s ≡ broken_front_of s
-unfolding front_of
-front_of-none s z =
-    cond-false _ _ _ (ap (λ n. is_sequence (take n s)) z ∙ no_bytes)
-
--- a sequence in front is also the longest front that begins one
-pub front_of-broken_front_of : (s : List ℕ) → front_of s ≡ broken_front_of s
-front_of-broken_front_of s =
-    let n = longest_len is_sequence s in
-    ⊎_elim (λ z. front_of-none s z)
-    (λ t. subst (λ x. front_of x ≡ broken_front_of x) (take-append-drop n s)
-    (front_of-sequence (take n s) (drop n s) t
-    ∙ sym (broken_front_of-sequence (take n s) (drop n s) t)))
-    (longest_len-longest is_sequence s).passes
-
 -- how many bytes the front has
-pub length-front_of : (s : List ℕ) (n : ℕ) → 1 ≤ n → n ≤ length s → (n ≡ 1) ⊎ HasBegun s n
-    → (HasBegun s (suc n) → ⊥) → length (front_of s) ≡ n
-unfolding broken_front_of
-length-front_of s n some within at above =
+pub length-longest_front_of : (s : List ℕ) (n : ℕ) → 1 ≤ n → n ≤ length s → (n ≡ 1) ⊎ HasBegun s n
+    → (HasBegun s (suc n) → ⊥) → length (longest_front_of s) ≡ n
+unfolding longest_front_of
+length-longest_front_of s n some within at above =
     let l = longest_len begins_sequence s in
     let h = longest_len-longest begins_sequence s in
     let w = h.within in
@@ -100,42 +77,43 @@ length-front_of s n some within at above =
     let high : n ≤ max 1 l = ⊎_elim (λ e. omega arith)
     (λ b. let k = longest_len-least begins_sequence s n within b.1 in omega arith) at in
     let e : max 1 l ≡ n = omega arith in
-    ap length (front_of-broken_front_of s) ∙ ap (λ k. length (take k s)) e
-    ∙ length-take-le n s within
+    ap (λ k. length (take k s)) e ∙ length-take-le n s within
 
 -- a byte or more, and no more than there are
 pub front_within : (b : ℕ) (bs : List ℕ)
-    → (1 ≤ length (front_of (b ∷ bs))) × (length (front_of (b ∷ bs)) ≤ length (b ∷ bs))
-unfolding broken_front_of
+    → (1 ≤ length (longest_front_of (b ∷ bs)))
+    × (length (longest_front_of (b ∷ bs)) ≤ length (b ∷ bs))
+unfolding longest_front_of
 front_within b bs =
     let l = longest_len begins_sequence (b ∷ bs) in
     let w = (longest_len-longest begins_sequence (b ∷ bs)).within in
-    let e : length (front_of (b ∷ bs)) ≡ max 1 l =
-    ap length (front_of-broken_front_of (b ∷ bs))
-    ∙ length-take-le (max 1 l) (b ∷ bs) (omega arith) in
+    let e : length (longest_front_of (b ∷ bs)) ≡ max 1 l =
+    length-take-le (max 1 l) (b ∷ bs) (omega arith) in
     (omega (arith, e), omega (arith, e))
 
-pub front_of-nil : front_of [] ≡ []
-unfolding broken_front_of
-front_of-nil = front_of-broken_front_of [] ∙ take_all _ [] (omega arith)
+pub longest_front_of-nil : longest_front_of [] ≡ []
+unfolding longest_front_of
+longest_front_of-nil = take_all _ [] (omega arith)
 
 -- the front is a front
-pub front_of-take : (s : List ℕ) → front_of s ≡ take (length (front_of s)) s
-unfolding broken_front_of
-front_of-take [] = front_of-nil ∙ sym (take_all _ [] (omega arith))
-front_of-take (b ∷ bs) =
+pub longest_front_of-take : (s : List ℕ) → longest_front_of s ≡ take (length (longest_front_of s)) s
+unfolding longest_front_of
+longest_front_of-take [] = longest_front_of-nil ∙ sym (take_all _ [] (omega arith))
+longest_front_of-take (b ∷ bs) =
     let l = longest_len begins_sequence (b ∷ bs) in
     let w = (longest_len-longest begins_sequence (b ∷ bs)).within in
-    let e = front_of-broken_front_of (b ∷ bs) in
     let k = length-take-le (max 1 l) (b ∷ bs) (omega arith) in
-    e ∙ ap (λ n. take n (b ∷ bs)) (sym (ap length e ∙ k))
+    ap (λ n. take n (b ∷ bs)) (sym k)
 
 -- how many bytes the front has, by how far a sequence has begun
-pub one_byte_front : (s : List ℕ) → 0 < length s → (HasBegun s 2 → ⊥) → length (front_of s) ≡ 1
-one_byte_front s some end = length-front_of s 1 (omega arith) (omega arith) (inl refl) end
+pub one_byte_front : (s : List ℕ) → 0 < length s → (HasBegun s 2 → ⊥)
+    → length (longest_front_of s) ≡ 1
+one_byte_front s some end = length-longest_front_of s 1 (omega arith) (omega arith) (inl refl) end
 
-pub two_byte_front : (s : List ℕ) → HasBegun s 2 → (HasBegun s 3 → ⊥) → length (front_of s) ≡ 2
-two_byte_front s h end = length-front_of s 2 (omega arith) h.0 (inr h) end
+pub two_byte_front : (s : List ℕ) → HasBegun s 2 → (HasBegun s 3 → ⊥)
+    → length (longest_front_of s) ≡ 2
+two_byte_front s h end = length-longest_front_of s 2 (omega arith) h.0 (inr h) end
 
-pub three_byte_front : (s : List ℕ) → HasBegun s 3 → (HasBegun s 4 → ⊥) → length (front_of s) ≡ 3
-three_byte_front s h end = length-front_of s 3 (omega arith) h.0 (inr h) end
+pub three_byte_front : (s : List ℕ) → HasBegun s 3 → (HasBegun s 4 → ⊥)
+    → length (longest_front_of s) ≡ 3
+three_byte_front s h end = length-longest_front_of s 3 (omega arith) h.0 (inr h) end

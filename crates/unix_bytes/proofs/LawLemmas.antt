@@ -1,31 +1,32 @@
 -- Laws of broken fronts and of the lossy text.
 use Rattle.std.proofs.Common.{◌≡◌, ℕ, ◌<◌, ◌≤◌, List, [], ◌∷◌, ◌++◌, length, take, drop, true}
 use Rattle.std.proofs.Common.{⊎_elim, inl, inr, refl, sym, ap, ◌∙◌, subst, arith, length-take-le}
-use Rattle.std.proofs.Common.{length-append, take-append-drop, append-nil, map}
+use Rattle.std.proofs.Common.{length-append, take-append-drop, append-nil, map, zero, suc, ◌⊎◌}
+use Rattle.std.proofs.Common.{le_refl}
 use Rattle.std.specs.Prelude.{max}
-use Rattle.std.specs.List.{concat, flat_map, list_all}
+use Rattle.std.specs.List.{All, concat, flat_map, list_all}
 use Rattle.std.proofs.lemmas.Bool.{cases_lt, cases_Bool, cond-true, cond-false}
 use Rattle.std.proofs.lemmas.List.{take_all}
+use Rattle.std.proofs.lemmas.List.Elements.{All-nil, All-cons}
 use Rattle.std.proofs.lemmas.List.Sums.{AllPass-from_list_all}
 use Rattle.unix_bytes.specs.Utf8.{is_sequence, IsSequence, IsText, BeginsSequence, begins_sequence}
-use Rattle.unix_bytes.specs.Lossy.{longest_len, broken_front_of, fronts_of, replacement}
-use Rattle.unix_bytes.specs.Lossy.{shown_front, lossy_of}
-use Rattle.unix_bytes.specs.Laws.{NoneInFront, BrokenBegins, BrokenIsFront, BrokenIsLongest}
+use Rattle.unix_bytes.specs.Lossy.{fronts_of, replacement, lossy_of}
+use Rattle.unix_bytes.specs.Steps.{longest_len, longest_front_of}
+use Rattle.unix_bytes.specs.Begins.{IsLongest}
+use Rattle.unix_bytes.specs.Laws.{FrontsBegin, FrontsInTurn, FrontIsLongest, NoneInFront}
 use Rattle.unix_bytes.specs.Laws.{BrokenIsShort, LossyOfBroken, LossyIsText}
 use Rattle.unix_bytes.proofs.BeginLemmas.{begins_sequence-from, BeginsSequence-from}
 use Rattle.unix_bytes.proofs.SequenceLemmas.{sequence_len}
 use Rattle.unix_bytes.proofs.TextLemmas.{IsUtf8-sequence, IsText-from_IsUtf8}
 use Rattle.unix_bytes.proofs.LongestLemmas.{longest_len-longest, longest_len-front}
-use Rattle.unix_bytes.proofs.LossyLemmas.{no_sequence, lossy_of-none}
+use Rattle.unix_bytes.proofs.FrontLemmas.{front_within}
+use Rattle.unix_bytes.proofs.GrowLemmas.{fronts_of-nil, fronts_of-some, front_of-longest}
+use Rattle.unix_bytes.proofs.LossyLemmas.{no_sequence, lossy_of-none, shown_front, fewer}
 
-pub broken_is_front : BrokenIsFront
-unfolding broken_front_of
-broken_is_front s =
-    let k = max 1 (longest_len begins_sequence s) in (drop k s, sym (take-append-drop k s))
-
-pub broken_begins : BrokenBegins
-unfolding broken_front_of
-broken_begins b bs =
+longest_front_begins : (b : ℕ) (bs : List ℕ)
+    → BeginsSequence (longest_front_of (b ∷ bs)) ⊎ (length (longest_front_of (b ∷ bs)) ≡ 1)
+unfolding longest_front_of
+longest_front_begins b bs =
     let s = b ∷ bs in
     let n = longest_len begins_sequence s in
     ⊎_elim
@@ -34,23 +35,56 @@ broken_begins b bs =
     ⊎_elim (λ z. absurd (omega arith))
     (λ t. inl (subst (λ k. BeginsSequence (take k s)) (sym e) (BeginsSequence-from (take n s) t)))
     (longest_len-longest begins_sequence s).passes)
-    (λ (none : n ≤ 0). let e : max 1 n ≡ 1 = omega arith in inr (ap (λ k. take k s) e))
+    (λ (none : n ≤ 0).
+    let e : max 1 n ≡ 1 = omega arith in inr (ap (λ k. length (take k s)) e))
     (cases_lt 0 n)
 
-pub broken_is_longest : BrokenIsLongest
-unfolding broken_front_of
-broken_is_longest s u v b e =
+-- it begins a sequence, or is one byte
+abbrev MayStand : List ℕ → Type 0
+MayStand u = BeginsSequence u ⊎ (length u ≡ 1)
+
+may_stand_within : (n : ℕ) (s : List ℕ) → length s ≤ n → All MayStand (fronts_of s)
+may_stand_within n [] le = subst (All MayStand) (sym fronts_of-nil) (All-nil MayStand)
+may_stand_within zero (b ∷ bs) le = absurd (omega arith)
+may_stand_within (suc n) (b ∷ bs) le =
+    let s = b ∷ bs in
+    let k = length (longest_front_of s) in
+    subst (All MayStand) (sym (fronts_of-some b bs))
+    (All-cons MayStand (longest_front_of s) (fronts_of (drop k s)) (longest_front_begins b bs)
+    (may_stand_within n (drop k s) (fewer n k b bs (front_within b bs).0 le)))
+
+pub fronts_begin : FrontsBegin
+fronts_begin s = may_stand_within (length s) s (le_refl (length s))
+
+pub fronts_in_turn : FrontsInTurn
+unfolding fronts_of
+fronts_in_turn [] = refl
+fronts_in_turn (b ∷ bs) =
+    ap (drop 1) (fronts_of-some b bs)
+    ∙ ap (λ u. fronts_of (drop (length u) (b ∷ bs))) (sym (front_of-longest (b ∷ bs)))
+
+longest_front_is_longest : (s : List ℕ) → IsLongest BeginsSequence (longest_front_of s) s
+unfolding longest_front_of
+longest_front_is_longest s =
     let n = longest_len begins_sequence s in
-    let few = longest_len-front begins_sequence s u v (begins_sequence-from u b) e in
-    let within = (longest_len-longest begins_sequence s).within in
-    ⊎_elim (λ (some : 0 < length s). omega (arith, length-take-le (max 1 n) s (omega arith)))
-    (λ (none : length s ≤ 0). omega arith) (cases_lt 0 (length s))
+    let within = (longest_len-longest begins_sequence s).within in (
+      (drop (max 1 n) s, take-append-drop (max 1 n) s),
+      λ t b (v, e).
+          let few = longest_len-front begins_sequence s t v (begins_sequence-from t b) (sym e) in
+          ⊎_elim
+          (λ (some : 0 < length s). omega (arith, length-take-le (max 1 n) s (omega arith)))
+          (λ (none : length s ≤ 0). omega arith) (cases_lt 0 (length s)),
+    )
+
+pub front_is_longest : FrontIsLongest
+front_is_longest s =
+    subst (λ u. IsLongest BeginsSequence u s) (sym (front_of-longest s))
+    (longest_front_is_longest s)
 
 none_longest : (s : List ℕ) → NoneInFront s → longest_len is_sequence s ≡ 0
 none_longest s none =
     let n = longest_len is_sequence s in
-    ⊎_elim (λ z. z)
-    (λ t. absurd (none (take n s) (drop n s) t (sym (take-append-drop n s))))
+    ⊎_elim (λ z. z) (λ t. absurd (none (take n s) t (drop n s, take-append-drop n s)))
     (longest_len-longest is_sequence s).passes
 
 -- one sequence is text
@@ -58,7 +92,11 @@ pub IsText-sequence : (u : List ℕ) → IsSequence u → IsText u
 IsText-sequence u h = IsText-from_IsUtf8 u (IsUtf8-sequence u h)
 
 pub lossy_of_broken : LossyOfBroken
-lossy_of_broken b bs none = lossy_of-none b bs (none_longest (b ∷ bs) none)
+lossy_of_broken [] some none = absurd (omega arith)
+lossy_of_broken (b ∷ bs) some none =
+    lossy_of-none b bs (none_longest (b ∷ bs) none)
+    ∙ ap (λ u. replacement ++ lossy_of (drop (length u) (b ∷ bs)))
+    (sym (front_of-longest (b ∷ bs)))
 
 pub replacement_is_sequence : is_sequence replacement ≡ true
 unfolding is_sequence
@@ -92,8 +130,8 @@ begun_is_short s z =
         omega (arith, length-append (take n s) (x ∷ u))
 
 pub short_in_front : (s : List ℕ) → longest_len is_sequence s ≡ 0
-    → length (broken_front_of s) ≤ 3
-unfolding broken_front_of
+    → length (longest_front_of s) ≤ 3
+unfolding longest_front_of
 short_in_front s z =
     let few = begun_is_short s z in
     let k = max 1 (longest_len begins_sequence s) in
@@ -101,7 +139,8 @@ short_in_front s z =
     (λ (g : k ≤ length s). omega (arith, length-take-le k s g)) (cases_lt (length s) k)
 
 pub broken_is_short : BrokenIsShort
-broken_is_short s none = short_in_front s (none_longest s none)
+broken_is_short s none =
+    subst (λ u. length u ≤ 3) (sym (front_of-longest s)) (short_in_front s (none_longest s none))
 
 shown_are_sequences : (us : List (List ℕ))
     → list_all is_sequence (map shown_front us) ≡ true

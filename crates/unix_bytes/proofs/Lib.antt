@@ -3,8 +3,8 @@ pub mod WidthLemmas
 pub mod BeginLemmas
 pub mod BegunLemmas
 pub mod LongestLemmas
-pub mod TurnLemmas
 pub mod FrontLemmas
+pub mod GrowLemmas
 pub mod StepLemmas
 pub mod LaneLemmas
 pub mod SelectLemmas

@@ -4,7 +4,7 @@ use Rattle.std.proofs.Common.{false, cond, ◌⊎◌, ⊎_elim, inl, inr, refl, 
 use Rattle.std.proofs.Common.{length-append}
 use Rattle.std.proofs.lemmas.Bool.{cases_lt, cond-true, cond-false, true≢false}
 use Rattle.std.proofs.lemmas.List.{take_at}
-use Rattle.unix_bytes.specs.Lossy.{longest_len_to, longest_len}
+use Rattle.unix_bytes.specs.Steps.{longest_len_to, longest_len}
 
 pub not_true : (b : Bool) → (b ≡ true → ⊥) → b ≡ false
 not_true true h = absurd (h refl)

@@ -2,6 +2,7 @@
 use Rattle.std.proofs.Common.{◌≡◌, ℕ, zero, suc, ◌≤◌, ◌<◌, List, [], ◌∷◌, ◌++◌, length, take, drop}
 use Rattle.std.proofs.Common.{true, false, refl, sym, ap, ap₂, ◌∙◌, arith, le_refl, append_assoc}
 use Rattle.std.proofs.Common.{length-drop, length-take-le, take-append-drop, append-nil}
+use Rattle.std.proofs.Common.{if◌then◌else◌}
 use Rattle.std.specs.List.{concat, flat_map, list_all}
 use Rattle.std.proofs.lemmas.Bool.{and_parts, cond-true, cond-false}
 use Rattle.std.proofs.lemmas.List.{drop_at}
@@ -9,27 +10,22 @@ use Rattle.std.proofs.lemmas.List.Concat.{flat_map-append}
 use Rattle.std.proofs.lemmas.List.Folds.{list_all-append}
 use Rattle.std.proofs.lemmas.List.Sums.{AllPass-from_list_all, list_all-from_AllPass}
 use Rattle.unix_bytes.specs.Utf8.{is_sequence, IsSequence, IsText}
-use Rattle.unix_bytes.specs.Lossy.{longest_len, broken_front_of, front_of, fronts_of, replacement}
-use Rattle.unix_bytes.specs.Lossy.{shown_front, lossy_of, is_text}
+use Rattle.unix_bytes.specs.Lossy.{fronts_of, replacement, lossy_of, is_text}
+use Rattle.unix_bytes.specs.Steps.{longest_len, longest_front_of}
 use Rattle.unix_bytes.proofs.SequenceLemmas.{no_bytes, sequence_len}
 use Rattle.unix_bytes.proofs.LongestLemmas.{not_true, longest_len-front}
-use Rattle.unix_bytes.proofs.TurnLemmas.{in_turn-some}
-use Rattle.unix_bytes.proofs.FrontLemmas.{front_of-sequence, front_of-none, front_of-take}
+use Rattle.unix_bytes.proofs.FrontLemmas.{longest_front_of-sequence, longest_front_of-take}
 use Rattle.unix_bytes.proofs.FrontLemmas.{front_within}
+use Rattle.unix_bytes.proofs.GrowLemmas.{fronts_of-nil, fronts_of-some}
 
-fronts_of-nil : fronts_of [] ≡ []
-unfolding fronts_of
-fronts_of-nil = refl
-
-fronts_of-some : (b : ℕ) (bs : List ℕ) → fronts_of (b ∷ bs)
-    ≡ front_of (b ∷ bs) ∷ fronts_of (drop (length (front_of (b ∷ bs))) (b ∷ bs))
-unfolding fronts_of
-fronts_of-some b bs = in_turn-some front_of length (b ∷ bs) (omega arith) (front_within b bs).0
+-- a sequence as it is, and U+FFFD for a broken front
+abbrev pub shown_front : List ℕ → List ℕ
+shown_front u = if is_sequence u then u else replacement
 
 fronts_of-sequence : (u s : List ℕ) → IsSequence u → fronts_of (u ++ s) ≡ u ∷ fronts_of s
 fronts_of-sequence [] s h = let k = no_bytes in cc
 fronts_of-sequence (b ∷ u) s h =
-    let e = front_of-sequence (b ∷ u) s h in
+    let e = longest_front_of-sequence (b ∷ u) s h in
     fronts_of-some b (u ++ s)
     ∙ ap (λ f. f ∷ fronts_of (drop (length f) (b ∷ u ++ s))) e
     ∙ ap (λ t. (b ∷ u) ∷ fronts_of t) (drop_at (b ∷ u) s (length (b ∷ u)) refl)
@@ -51,9 +47,9 @@ concat-fronts_within n [] le = ap concat fronts_of-nil
 concat-fronts_within zero (b ∷ bs) le = absurd (omega arith)
 concat-fronts_within (suc n) (b ∷ bs) le =
     let s = b ∷ bs in
-    let k = length (front_of s) in
+    let k = length (longest_front_of s) in
     ap concat (fronts_of-some b bs)
-    ∙ ap₂ (λ f t. f ++ t) (front_of-take s)
+    ∙ ap₂ (λ f t. f ++ t) (longest_front_of-take s)
     (concat-fronts_within n (drop k s) (fewer n k b bs (front_within b bs).0 le))
     ∙ take-append-drop k s
 
@@ -67,7 +63,7 @@ IsText-from_is_text s h =
     (fronts_of s, AllPass-from_list_all is_sequence (fronts_of s) h, concat-fronts_of s)
 
 -- text in front is cut into its sequences
-fronts_of-text : (t s : List ℕ) → IsText t → (us : List (List ℕ))
+pub fronts_of-text : (t s : List ℕ) → IsText t → (us : List (List ℕ))
     × (list_all is_sequence us ≡ true) × (concat us ≡ t) × (fronts_of (t ++ s) ≡ us ++ fronts_of s)
 fronts_of-text t s (us, h, e) =
     let all = list_all-from_AllPass is_sequence us h in
@@ -122,25 +118,23 @@ no_sequence s u v z e h =
     let few = longest_len-front is_sequence s u v h e in
     absurd (omega arith)
 
-pub is_sequence-front_of : (s : List ℕ) → longest_len is_sequence s ≡ 0
-    → is_sequence (front_of s) ≡ false
-is_sequence-front_of s z =
-    let k = length (front_of s) in
-    let e : s ≡ front_of s ++ drop k s =
-    sym (take-append-drop k s) ∙ ap (λ f. f ++ drop k s) (sym (front_of-take s)) in
-    not_true (is_sequence (front_of s)) (no_sequence s (front_of s) (drop k s) z e)
+pub is_sequence-longest_front_of : (s : List ℕ) → longest_len is_sequence s ≡ 0
+    → is_sequence (longest_front_of s) ≡ false
+is_sequence-longest_front_of s z =
+    let k = length (longest_front_of s) in
+    let e : s ≡ longest_front_of s ++ drop k s =
+    sym (take-append-drop k s) ∙ ap (λ f. f ++ drop k s) (sym (longest_front_of-take s)) in
+    not_true (is_sequence (longest_front_of s)) (no_sequence s (longest_front_of s) (drop k s) z e)
 
 pub lossy_of-none : (b : ℕ) (bs : List ℕ) → longest_len is_sequence (b ∷ bs) ≡ 0
     → lossy_of (b ∷ bs)
-    ≡ replacement ++ lossy_of (drop (length (broken_front_of (b ∷ bs))) (b ∷ bs))
+    ≡ replacement ++ lossy_of (drop (length (longest_front_of (b ∷ bs))) (b ∷ bs))
 unfolding lossy_of
 lossy_of-none b bs z =
     let s = b ∷ bs in
     ap (flat_map shown_front) (fronts_of-some b bs)
-    ∙ ap (λ f. f ++ flat_map shown_front (fronts_of (drop (length (front_of s)) s)))
-    (cond-false _ _ _ (is_sequence-front_of s z))
-    ∙ ap (λ f. replacement ++ flat_map shown_front (fronts_of (drop (length f) s)))
-    (front_of-none s z)
+    ∙ ap (λ f. f ++ flat_map shown_front (fronts_of (drop (length (longest_front_of s)) s)))
+    (cond-false _ _ _ (is_sequence-longest_front_of s z))
 
 -- where no sequence stands in front, no text does
 pub first_sequence : (s : List ℕ) (k : ℕ) → IsText (take k s) → 0 < k → k ≤ length s

@@ -5,10 +5,11 @@ use Rattle.std.specs.List.{flat_map}
 use Rattle.std.proofs.lemmas.List.{drop_all}
 use Rattle.std.proofs.lemmas.Str.{IsUtf8-nil}
 use Rattle.unix_bytes.specs.Utf8.{IsText}
-use Rattle.unix_bytes.specs.Lossy.{longest_len, is_text, broken_front_of, lossy_of}
-use Rattle.unix_bytes.specs.Chunks.{Chunk, first_chunk_of, chunks_of, shown_chunk}
+use Rattle.unix_bytes.specs.Lossy.{is_text, lossy_of}
+use Rattle.unix_bytes.specs.Chunks.{Chunk, chunks_of, shown_chunk}
+use Rattle.unix_bytes.specs.Steps.{longest_len, longest_front_of, first_chunk_of}
 use Rattle.unix_bytes.proofs.TextLemmas.{IsUtf8-from_IsText, IsText-from_IsUtf8}
-use Rattle.unix_bytes.proofs.FrontLemmas.{front_of-nil, front_of-broken_front_of}
+use Rattle.unix_bytes.proofs.FrontLemmas.{longest_front_of-nil}
 use Rattle.unix_bytes.proofs.ChunkLemmas.{whole_text, chunks_of-nil, chunks_of-some}
 use Rattle.unix_bytes.proofs.ChunkLemmas.{first_chunk_of-text, shown-chunks_of}
 use Rattle.unix_bytes.proofs.LossyLemmas.{lossy_of-nil, lossy_of-text}
@@ -54,9 +55,6 @@ pub first_shown : (s : List ℕ) (c : Chunk) (cs : List Chunk) → chunks_of s �
     → shown_chunk c ++ flat_map shown_chunk cs ≡ lossy_of s
 first_shown s c cs e = ap (flat_map shown_chunk) (sym e) ∙ shown-chunks_of s
 
-broken_front_of-nil : broken_front_of [] ≡ []
-broken_front_of-nil = sym (front_of-broken_front_of []) ∙ front_of-nil
-
 -- of text none is broken
 pub text_unbroken : (s : List ℕ) (c : Chunk) (cs : List Chunk) → chunks_of s ≡ c ∷ cs
     → IsText s → c.broken ≡ []
@@ -65,4 +63,4 @@ text_unbroken s c cs e t =
     let n = longest_len is_text s in
     let all = whole_text s (IsUtf8-from_IsText s t) in
     sym (ap (λ (x : Chunk). x.broken) (first_is s c cs e))
-    ∙ ap broken_front_of (drop_all n s (omega arith)) ∙ broken_front_of-nil
+    ∙ ap longest_front_of (drop_all n s (omega arith)) ∙ longest_front_of-nil

@@ -1,28 +1,54 @@
 -- Chunks partition the bytes.
 use Rattle.std.proofs.Common.{◌≡◌, ℕ, zero, suc, ◌+◌, ◌≤◌, List, [], ◌∷◌, ◌++◌, length, take, drop}
 use Rattle.std.proofs.Common.{refl, sym, ap, ◌∙◌, subst, arith, le_refl, append_assoc}
-use Rattle.std.proofs.Common.{length-take-le, take-append-drop}
+use Rattle.std.proofs.Common.{length-append, length-take-le, take-append-drop}
 use Rattle.std.specs.Prelude.{max}
 use Rattle.std.specs.List.{All, flat_map}
 use Rattle.std.proofs.lemmas.List.{drop_at, drop-drop}
 use Rattle.std.proofs.lemmas.List.Elements.{All-nil, All-cons}
 use Rattle.unix_bytes.specs.Utf8.{begins_sequence}
-use Rattle.unix_bytes.specs.Lossy.{longest_len, is_text, broken_front_of}
-use Rattle.unix_bytes.specs.Chunks.{Chunk, first_chunk_of, chunk_len, chunks_of}
-use Rattle.unix_bytes.specs.Laws.{ValidIsLongest, ChunksPartition, ChunksAreShort, WholeChunkIsLast}
+use Rattle.unix_bytes.specs.Lossy.{front_of, is_text}
+use Rattle.unix_bytes.specs.Chunks.{Chunk, chunks_of}
+use Rattle.unix_bytes.specs.Steps.{longest_len, longest_front_of, first_chunk_of, chunk_len}
+use Rattle.unix_bytes.specs.Laws.{FollowFirst, ChunksOfSome, ChunksPartition, ChunksAreShort}
+use Rattle.unix_bytes.specs.Laws.{WholeChunkIsLast}
 use Rattle.unix_bytes.proofs.LongestLemmas.{longest_len-longest, longest_len-front}
-use Rattle.unix_bytes.proofs.FrontLemmas.{front_of-broken_front_of, front_within}
+use Rattle.unix_bytes.proofs.FrontLemmas.{front_within}
+use Rattle.unix_bytes.proofs.GrowLemmas.{front_of-longest}
 use Rattle.unix_bytes.proofs.LossyLemmas.{is_text-from_IsText, fewer}
-use Rattle.unix_bytes.proofs.ChunkLemmas.{none_after_text, chunk_some, chunks_of-nil}
+use Rattle.unix_bytes.proofs.ChunkLemmas.{text_front, none_after_text, chunk_some, chunks_of-nil}
 use Rattle.unix_bytes.proofs.ChunkLemmas.{chunks_of-some}
 use Rattle.unix_bytes.proofs.LawLemmas.{short_in_front}
 
-pub valid_is_longest : ValidIsLongest
+-- the first chunk, and those of what follows it
+follow_first : (s : List ℕ)
+    → FollowFirst s (first_chunk_of s) (chunks_of (drop (chunk_len (first_chunk_of s)) s))
 unfolding first_chunk_of
-valid_is_longest s u v t e =
+follow_first s =
     let n = longest_len is_text s in
-    let few = longest_len-front is_text s u v (is_text-from_IsText u t) e in
-    omega (arith, length-take-le n s (longest_len-longest is_text s).within)
+    let v = take n s in
+    let e : length v ≡ n = length-take-le n s (longest_len-longest is_text s).within in
+    record {
+      text = text_front s;
+      longest = (
+        (drop n s, take-append-drop n s),
+        λ t h (w, f).
+            let few = longest_len-front is_text s t w (is_text-from_IsText t h) (sym f) in
+            omega (arith, e),
+      );
+      broken = sym (front_of-longest (drop n s)) ∙ ap (λ j. front_of (drop j s)) (sym e);
+      rest = ap (λ j. chunks_of (drop j s)) (sym (length-append v (longest_front_of (drop n s))));
+    }
+
+pub chunks_of_some : ChunksOfSome
+chunks_of_some [] c cs e = let h = chunks_of-nil in cc
+chunks_of_some (b ∷ bs) c cs e =
+    let s = b ∷ bs in
+    let h = chunks_of-some b bs in
+    let first : first_chunk_of s ≡ c = cc in
+    let rest : chunks_of (drop (chunk_len (first_chunk_of s)) s) ≡ cs = cc in
+    subst (λ x. FollowFirst s x cs) first
+    (subst (λ xs. FollowFirst s (first_chunk_of s) xs) rest (follow_first s))
 
 -- a front, a front of what follows, and the rest
 cut_twice : (s : List ℕ) (n k : ℕ) → n ≤ length s
@@ -40,7 +66,7 @@ cut_twice s n k w =
 
 first_chunk_of-drop : (s : List ℕ) → (first_chunk_of s).valid ++ (first_chunk_of s).broken
     ++ drop (chunk_len (first_chunk_of s)) s ≡ s
-unfolding first_chunk_of broken_front_of
+unfolding first_chunk_of longest_front_of
 first_chunk_of-drop s =
     let n = longest_len is_text s in
     let k = max 1 (longest_len begins_sequence (drop n s)) in
@@ -82,12 +108,12 @@ short_within (suc n) (b ∷ bs) l =
 pub chunks_are_short : ChunksAreShort
 chunks_are_short s = short_within (length s) s (le_refl (length s))
 
-broken_front_of-empty : (s : List ℕ) → broken_front_of s ≡ [] → s ≡ []
-broken_front_of-empty [] e = refl
-broken_front_of-empty (b ∷ bs) e =
+longest_front_of-empty : (s : List ℕ) → longest_front_of s ≡ [] → s ≡ []
+longest_front_of-empty [] e = refl
+longest_front_of-empty (b ∷ bs) e =
     let some = (front_within b bs).0 in
-    let none : length (broken_front_of (b ∷ bs)) ≡ 0 = ap length e in
-    absurd (omega (arith, ap length (front_of-broken_front_of (b ∷ bs))))
+    let none : length (longest_front_of (b ∷ bs)) ≡ 0 = ap length e in
+    absurd (omega arith)
 
 -- where none of the first chunk is broken, nothing follows
 nothing_follows : (s : List ℕ) → (first_chunk_of s).broken ≡ []
@@ -96,9 +122,9 @@ unfolding first_chunk_of
 nothing_follows s e =
     let n = longest_len is_text s in
     let v = length-take-le n s (longest_len-longest is_text s).within in
-    let k : length (take n s) + length (broken_front_of (drop n s)) ≡ n =
+    let k : length (take n s) + length (longest_front_of (drop n s)) ≡ n =
     omega (arith, v, ap length e) in
-    ap (λ j. drop j s) k ∙ broken_front_of-empty (drop n s) e
+    ap (λ j. drop j s) k ∙ longest_front_of-empty (drop n s) e
 
 last_within : (n : ℕ) (s : List ℕ) (before after : List Chunk) (c : Chunk) → length s ≤ n
     → chunks_of s ≡ before ++ c ∷ after → c.broken ≡ [] → after ≡ []

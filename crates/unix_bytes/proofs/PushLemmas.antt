@@ -8,8 +8,9 @@ use Rattle.std.proofs.lemmas.List.{nil_from_length, take_all, drop_all, take-tak
 use Rattle.std.proofs.Math.Seq.{take-append-add}
 use Rattle.std.proofs.lemmas.Str.{IsUtf8-append, IsUtf8-nil}
 use Rattle.unix_bytes.specs.Utf8.{IsText}
-use Rattle.unix_bytes.specs.Lossy.{longest_len, is_text, broken_len, lossy_of, replacement}
-use Rattle.unix_bytes.specs.Chunks.{Chunk, chunk_len, chunks_of, shown_chunk, shown_broken}
+use Rattle.unix_bytes.specs.Lossy.{is_text, lossy_of, replacement}
+use Rattle.unix_bytes.specs.Chunks.{Chunk, chunks_of, shown_chunk, shown_broken}
+use Rattle.unix_bytes.specs.Steps.{longest_len, broken_len, chunk_len}
 use Rattle.unix_bytes.proofs.TextLemmas.{IsUtf8-sequence, IsUtf8-from_IsText, IsText-from_IsUtf8}
 use Rattle.unix_bytes.proofs.BrokenLemmas.{broken_len_within}
 use Rattle.unix_bytes.proofs.RunLemmas.{text_within}

@@ -7,7 +7,8 @@ use Rattle.std.proofs.lemmas.List.{take_all, drop-drop}
 use Rattle.std.proofs.lemmas.Str.{IsUtf8-append, IsUtf8-from_ascii, IsUtf8-nil}
 use Rattle.std.proofs.Math.Seq.{take-add}
 use Rattle.unix_bytes.specs.Utf8.{is_sequence, IsSequence, IsText}
-use Rattle.unix_bytes.specs.Lossy.{longest_len, is_text, broken_len}
+use Rattle.unix_bytes.specs.Lossy.{is_text}
+use Rattle.unix_bytes.specs.Steps.{longest_len, broken_len}
 use Rattle.unix_bytes.proofs.TextLemmas.{IsUtf8-sequence, IsUtf8-from_IsText, IsText-from_IsUtf8}
 use Rattle.unix_bytes.proofs.SequenceLemmas.{two_is}
 use Rattle.unix_bytes.proofs.BegunLemmas.{begun_two}

@@ -2,9 +2,11 @@
 use Rattle.std.proofs.Common.{◌≡◌, ℕ, ◌+◌, ◌<◌, List, [], ◌∷◌, ◌++◌, length, take, drop}
 use Rattle.std.proofs.Common.{refl, sym, ap, ap₂, ◌∙◌, arith, take-append-drop}
 use Rattle.std.proofs.lemmas.List.{drop-drop, drop_at}
-use Rattle.unix_bytes.specs.Lossy.{longest_len, is_text, broken_front_of, broken_len}
-use Rattle.unix_bytes.specs.Chunks.{Chunk, first_chunk_of, chunk_len, chunks_of}
-use Rattle.unix_bytes.proofs.BrokenLemmas.{broken_front_of-none}
+use Rattle.unix_bytes.specs.Lossy.{is_text}
+use Rattle.unix_bytes.specs.Chunks.{Chunk, chunks_of}
+use Rattle.unix_bytes.specs.Steps.{longest_len, longest_front_of, broken_len, first_chunk_of}
+use Rattle.unix_bytes.specs.Steps.{chunk_len}
+use Rattle.unix_bytes.proofs.BrokenLemmas.{longest_front_of-none}
 use Rattle.unix_bytes.proofs.ChunkLemmas.{none_after_text, chunks_of-some}
 
 -- what the code knows: the chunk's two parts, and what follows them
@@ -33,8 +35,8 @@ first_split s valid broken rest some v b r =
     let n = longest_len is_text s in
     let behind = drop n s in
     let k = broken_len behind in
-    let e : broken_front_of behind ≡ broken =
-    broken_front_of-none behind (none_after_text s) ∙ sym b in
+    let e : longest_front_of behind ≡ broken =
+    longest_front_of-none behind (none_after_text s) ∙ sym b in
     let f : first_chunk_of s ≡ record { valid = valid; broken = broken } =
     ap₂ (λ x y. let c : Chunk = record { valid = x; broken = y } in c) (sym v) e in
     let rest_is : behind ≡ broken ++ rest =

@@ -4,7 +4,7 @@ use Rattle.std.proofs.Common.{⊎_elim, sym, ap, ◌∙◌, subst, arith, append
 use Rattle.std.proofs.Common.{length-append, length-take-le, take-append-drop}
 use Rattle.std.proofs.lemmas.Bool.{cases_lt}
 use Rattle.unix_bytes.specs.Utf8.{is_sequence, IsSequence, BeginsSequence}
-use Rattle.unix_bytes.specs.Lossy.{longest_len, HasBegun}
+use Rattle.unix_bytes.specs.Steps.{longest_len, HasBegun}
 use Rattle.unix_bytes.proofs.SequenceLemmas.{no_bytes, sequence_len}
 use Rattle.unix_bytes.proofs.WidthLemmas.{HasWidth, has_width}
 use Rattle.unix_bytes.proofs.BeginLemmas.{begins_sequence-from, BeginsSequence-from}

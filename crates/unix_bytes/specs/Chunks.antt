@@ -1,6 +1,7 @@
 -- Chunks: runs of well-formed sequences, each with the broken front behind it.
-use Rattle.std.specs.Prelude.{ℕ, ◌+◌, ◌==◌, List, [], ◌++◌, length, take, drop, if◌then◌else◌}
-use Rattle.unix_bytes.specs.Lossy.{longest_len, is_text, broken_front_of, in_turn, replacement}
+use Rattle.std.specs.Prelude.{ℕ, ◌==◌, List, [], ◌∷◌, ◌++◌, length, if◌then◌else◌}
+use Rattle.unix_bytes.specs.Utf8.{is_sequence}
+use Rattle.unix_bytes.specs.Lossy.{fronts_of, replacement}
 use Rattle.unix_bytes.specs.declared.lossy.Utf8LossyChunk.{Utf8LossyChunk}
 use Rattle.unix_bytes.specs.declared.lossy.Utf8LossyChunksIter.{Utf8LossyChunksIter}
 
@@ -9,19 +10,16 @@ pub record Chunk : Type 0 where
   pub valid : List ℕ
   pub broken : List ℕ
 
--- the longest front that is text, and the broken front of what follows
-unfoldable pub first_chunk_of : List ℕ → Chunk
-first_chunk_of s =
-    let n = longest_len is_text s in
-    record { valid = take n s; broken = broken_front_of (drop n s) }
+-- text and then fronts, in chunks: a sequence joins the text, and a broken front ends the chunk
+abbrev pub chunks_from : List ℕ → List (List ℕ) → List Chunk
+chunks_from text [] = if length text == 0 then [] else record { valid = text; broken = [] } ∷ []
+chunks_from text (u ∷ us) =
+    if is_sequence u then chunks_from (text ++ u) us
+    else record { valid = text; broken = u } ∷ chunks_from [] us
 
--- how many bytes a chunk has
-abbrev pub chunk_len : Chunk → ℕ
-chunk_len c = length c.valid + length c.broken
-
--- the bytes, cut into chunks
+-- the fronts of the bytes, gathered in chunks
 unfoldable pub chunks_of : List ℕ → List Chunk
-chunks_of s = in_turn first_chunk_of chunk_len s
+chunks_of s = chunks_from [] (fronts_of s)
 
 -- U+FFFD, unless nothing is broken
 abbrev pub shown_broken : List ℕ → List ℕ
@@ -34,10 +32,6 @@ shown_chunk c = c.valid ++ shown_broken c.broken
 -- a chunk by its bytes
 abbrev pub chunk_of : Utf8LossyChunk → Chunk
 chunk_of x = record { valid = x.valid.now; broken = x.broken.now }
-
--- what is shown of a chunk
-abbrev pub shown : Utf8LossyChunk → List ℕ
-shown x = shown_chunk (chunk_of x)
 
 -- the chunks that are still to come
 abbrev pub chunks_left : Utf8LossyChunksIter → List Chunk

@@ -1,10 +1,11 @@
 -- Laws of text and of lossy text, each carried by a function of the module `laws`.
-use Rattle.std.specs.Prelude.{◌≡◌, ◌≢◌, ◌↔◌, ◌⊎◌, ℕ, ◌≤◌, List, [], ◌∷◌, ◌++◌, true, length, drop}
+use Rattle.std.specs.Prelude.{◌≡◌, ◌↔◌, ◌⊎◌, ℕ, ◌<◌, ◌≤◌, List, [], ◌∷◌, ◌++◌, true, length, drop}
 use Rattle.std.specs.List.{All, concat, flat_map}
 use Rattle.std.specs.Str.{IsUtf8}
+use Rattle.unix_bytes.specs.Begins.{Begins, IsLongest}
 use Rattle.unix_bytes.specs.Utf8.{IsSequence, IsText, BeginsSequence, begins_sequence}
-use Rattle.unix_bytes.specs.Lossy.{broken_front_of, fronts_of, is_text, lossy_of, replacement}
-use Rattle.unix_bytes.specs.Chunks.{Chunk, first_chunk_of, chunk_len, chunks_of, shown_chunk}
+use Rattle.unix_bytes.specs.Lossy.{fronts_of, front_of, is_text, lossy_of, replacement}
+use Rattle.unix_bytes.specs.Chunks.{Chunk, chunks_of, shown_chunk}
 
 -- text by the table is what the library means by UTF-8
 abbrev pub TextIsUtf8 : Type 0
@@ -22,42 +23,39 @@ BeginningIsTested = (t : List ℕ) → (begins_sequence t ≡ true) ↔ BeginsSe
 abbrev pub TextIsTested : Type 0
 TextIsTested = (s : List ℕ) → (is_text s ≡ true) ↔ IsText s
 
--- the broken front of one byte or more begins some sequence, or is the first byte
-abbrev pub BrokenBegins : Type 0
-BrokenBegins =
-    (b : ℕ) (bs : List ℕ)
-    → BeginsSequence (broken_front_of (b ∷ bs)) ⊎ (broken_front_of (b ∷ bs) ≡ b ∷ [])
-
--- it is a front, and no front that begins a sequence is longer
-abbrev pub BrokenIsLongest : Type 0
-BrokenIsLongest =
-    (s u v : List ℕ) → BeginsSequence u → s ≡ u ++ v
-    → length u ≤ length (broken_front_of s)
-
-abbrev pub BrokenIsFront : Type 0
-BrokenIsFront = (s : List ℕ) → (rest : List ℕ) × (s ≡ broken_front_of s ++ rest)
-
--- no front is a sequence
-abbrev pub NoneInFront : List ℕ → Type 0
-NoneInFront s = (u v : List ℕ) → IsSequence u → s ≢ u ++ v
-
--- where no front is a sequence, the broken front has three bytes at most
-abbrev pub BrokenIsShort : Type 0
-BrokenIsShort = (s : List ℕ) → NoneInFront s → length (broken_front_of s) ≤ 3
-
 -- the fronts, one after the other, are the bytes
 abbrev pub FrontsPartition : Type 0
 FrontsPartition = (s : List ℕ) → concat (fronts_of s) ≡ s
+
+-- behind the first front stand the fronts of what follows it
+abbrev pub FrontsInTurn : Type 0
+FrontsInTurn = (s : List ℕ) → drop 1 (fronts_of s) ≡ fronts_of (drop (length (front_of s)) s)
+
+-- each front begins some sequence, or is one byte
+abbrev pub FrontsBegin : Type 0
+FrontsBegin = (s : List ℕ) → All (λ u. BeginsSequence u ⊎ (length u ≡ 1)) (fronts_of s)
+
+-- no front is longer that begins a sequence
+abbrev pub FrontIsLongest : Type 0
+FrontIsLongest = (s : List ℕ) → IsLongest BeginsSequence (front_of s) s
+
+-- no sequence stands in front
+abbrev pub NoneInFront : List ℕ → Type 0
+NoneInFront s = (u : List ℕ) → IsSequence u → ¬ (Begins u s)
+
+-- the front has three bytes at most, where no sequence stands there
+abbrev pub BrokenIsShort : Type 0
+BrokenIsShort = (s : List ℕ) → NoneInFront s → length (front_of s) ≤ 3
 
 -- a sequence in front is copied
 abbrev pub LossyOfSequence : Type 0
 LossyOfSequence = (u s : List ℕ) → IsSequence u → lossy_of (u ++ s) ≡ u ++ lossy_of s
 
--- where no front is one, U+FFFD stands for the broken front
+-- where no sequence stands in front, U+FFFD stands for the front
 abbrev pub LossyOfBroken : Type 0
 LossyOfBroken =
-    (b : ℕ) (bs : List ℕ) → NoneInFront (b ∷ bs) → lossy_of (b ∷ bs)
-    ≡ replacement ++ lossy_of (drop (length (broken_front_of (b ∷ bs))) (b ∷ bs))
+    (s : List ℕ) → 0 < length s → NoneInFront s
+    → lossy_of s ≡ replacement ++ lossy_of (drop (length (front_of s)) s)
 
 -- text is its own lossy text
 abbrev pub LossyOfText : Type 0
@@ -71,20 +69,17 @@ LossyIsText = (s : List ℕ) → IsText (lossy_of s)
 abbrev pub ChunksOfNothing : Type 0
 ChunksOfNothing = chunks_of [] ≡ []
 
--- others have their first chunk, and then the chunks of what follows it
+-- c has the longest text in front of s and the front behind it, and cs are the rest's chunks
+pub record FollowFirst (s : List ℕ) (c : Chunk) (cs : List Chunk) : Type 0 where
+  pub text : IsText c.valid
+  pub longest : IsLongest IsText c.valid s
+  pub broken : c.broken ≡ front_of (drop (length c.valid) s)
+  pub rest : cs ≡ chunks_of (drop (length (c.valid ++ c.broken)) s)
+
+-- so are the first chunk and those behind it
 abbrev pub ChunksOfSome : Type 0
 ChunksOfSome =
-    (b : ℕ) (bs : List ℕ) → chunks_of (b ∷ bs)
-    ≡ first_chunk_of (b ∷ bs) ∷ chunks_of (drop (chunk_len (first_chunk_of (b ∷ bs))) (b ∷ bs))
-
--- the first chunk begins with text
-abbrev pub ValidIsText : Type 0
-ValidIsText = (s : List ℕ) → IsText (first_chunk_of s).valid
-
--- and no longer front is text
-abbrev pub ValidIsLongest : Type 0
-ValidIsLongest =
-    (s u v : List ℕ) → IsText u → s ≡ u ++ v → length u ≤ length (first_chunk_of s).valid
+    (s : List ℕ) (c : Chunk) (cs : List Chunk) → chunks_of s ≡ c ∷ cs → FollowFirst s c cs
 
 -- the chunks, one after the other, are the bytes
 abbrev pub ChunksPartition : Type 0

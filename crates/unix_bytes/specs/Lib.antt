@@ -1,9 +1,11 @@
+pub mod Begins
 pub mod Utf8
 pub mod Lossy
 pub mod Chunks
 pub mod Texts
 pub mod Hashed
 pub mod Owned
+pub mod Steps
 pub mod Lanes
 pub mod Windows
 pub mod Laws

@@ -1,8 +1,8 @@
 -- What a lossy text holds.
 use Rattle.std.specs.Prelude.{ℕ, List, ⊤}
 use Rattle.std.specs.String.{string_bytes}
-use Rattle.unix_bytes.specs.declared.bytes.LossyText.{LossyText}
-use Rattle.unix_bytes.specs.declared.bytes.LossyText.TheVariants.{Borrowed, Owned}
+use Rattle.unix_bytes.specs.declared.bytes.text.LossyText.{LossyText}
+use Rattle.unix_bytes.specs.declared.bytes.text.LossyText.TheVariants.{Borrowed, Owned}
 
 -- its bytes
 abbrev pub text_bytes : LossyText → List ℕ

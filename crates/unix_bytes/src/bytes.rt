@@ -13,8 +13,10 @@ use std::fmt;
 use std::hash::{Hash, Hasher};
 
 mod owned;
+mod text;
 
 pub use owned::UnixString;
+pub use text::LossyText;
 
 /// A borrowed byte string: a path or a name as Unix keeps it, in whatever encoding.
 ///
@@ -137,33 +139,6 @@ impl Hash for UnixStr<'_> {
 impl fmt::Debug for UnixStr<'_> {
     fn fmt<W: fmt::Write>(&self, f: &mut fmt::Formatter<W>) -> fmt::Result {
         fmt::Debug::fmt(&Utf8Lossy::from_bytes(self.bytes), f)
-    }
-}
-
-/// Text that was read from bytes: borrowed from them where they are UTF-8, and new otherwise.
-///
-/// It stands for Rust's `Cow<str>`.
-#[derive(Debug, Drop)]
-pub enum LossyText<'a> {
-    /// The bytes themselves.
-    Borrowed(&'a str),
-    /// A text of its own.
-    Owned(String),
-}
-
-impl LossyText<'_> {
-    ghost use Rattle.unix_bytes.specs.Texts.{text_bytes};
-
-    /// The text, wherever it stands. Takes no memory. As a `Cow<str>` is a `str` in Rust.
-    ///
-    /// Of what was read from 61 FF it is `a` and U+FFFD.
-    pub fn as_str(&self) -> &str
-        ensures { result.now ≡ text_bytes self.now }
-    {
-        match self {
-            LossyText::Borrowed(text) => text,
-            LossyText::Owned(text) => text.as_str(),
-        }
     }
 }
 

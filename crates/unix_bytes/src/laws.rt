@@ -1,10 +1,10 @@
 //! Laws of text and of lossy text: each function does nothing, and its contract is the law.
 ghost use Rattle.unix_bytes.specs.Laws.{TextIsUtf8, SequencesStandAlone, BeginningIsTested};
-ghost use Rattle.unix_bytes.specs.Laws.{TextIsTested, BrokenBegins, BrokenIsLongest, BrokenIsFront};
-ghost use Rattle.unix_bytes.specs.Laws.{BrokenIsShort, FrontsPartition, LossyOfSequence};
+ghost use Rattle.unix_bytes.specs.Laws.{TextIsTested, FrontsPartition, FrontsInTurn, FrontsBegin};
+ghost use Rattle.unix_bytes.specs.Laws.{FrontIsLongest, BrokenIsShort, LossyOfSequence};
 ghost use Rattle.unix_bytes.specs.Laws.{LossyOfBroken, LossyOfText, LossyIsText, ChunksOfNothing};
-ghost use Rattle.unix_bytes.specs.Laws.{ChunksOfSome, ValidIsText, ValidIsLongest, ChunksPartition};
-ghost use Rattle.unix_bytes.specs.Laws.{ChunksAreShort, WholeChunkIsLast, ChunksShowLossy};
+ghost use Rattle.unix_bytes.specs.Laws.{ChunksOfSome, ChunksPartition, ChunksAreShort};
+ghost use Rattle.unix_bytes.specs.Laws.{WholeChunkIsLast, ChunksShowLossy};
 
 /// Text by the table of RFC 3629, section 4, is what the library means by UTF-8.
 pub fn text_is_utf8()
@@ -22,18 +22,22 @@ pub fn tests_are_right()
     ensures text { TextIsTested }
 {}
 
-/// What is broken in front is the longest front that begins some sequence, or one byte: three
-/// bytes at most, where no sequence stands there.
+/// The fronts partition the bytes: the first, and then those of what follows it.
+pub fn fronts_in_turn()
+    ensures partition { FrontsPartition }
+    ensures turn { FrontsInTurn }
+{}
+
+/// A front is the longest that begins some sequence, or one byte: three bytes at most, where no
+/// sequence stands there.
 pub fn broken_front()
-    ensures front { BrokenIsFront }
-    ensures begins { BrokenBegins }
-    ensures longest { BrokenIsLongest }
+    ensures begins { FrontsBegin }
+    ensures longest { FrontIsLongest }
     ensures short { BrokenIsShort }
 {}
 
 /// The lossy text copies sequences, and has U+FFFD for each broken front.
 pub fn lossy_in_turn()
-    ensures partition { FrontsPartition }
     ensures sequence { LossyOfSequence }
     ensures broken { LossyOfBroken }
 {}
@@ -48,16 +52,11 @@ pub fn lossy_is_text()
     ensures { LossyIsText }
 {}
 
-/// The chunks of bytes are the first chunk, and then those of what follows it.
+/// The chunks of bytes are the longest front that is text with the front behind it, and then those
+/// of what follows it.
 pub fn chunks_in_turn()
     ensures nothing { ChunksOfNothing }
     ensures some { ChunksOfSome }
-{}
-
-/// A chunk's text is the longest front that is text.
-pub fn valid_is_longest()
-    ensures text { ValidIsText }
-    ensures longest { ValidIsLongest }
 {}
 
 /// The chunks partition the bytes; at most three bytes of each are broken, and none only in the

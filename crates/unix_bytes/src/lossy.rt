@@ -5,7 +5,7 @@ ghost use Rattle.std.specs.Fmt.{WritesOnOk, WritesStyledOnOk, padded};
 ghost use Rattle.std.specs.Iterator.{YieldsFirstBy, item_count};
 ghost use Rattle.unix_bytes.specs.Utf8.{IsSequence, BeginsSequence};
 ghost use Rattle.unix_bytes.specs.Lossy.{is_text, lossy_of};
-ghost use Rattle.unix_bytes.specs.Chunks.{chunks_of, chunk_of, chunks_left, shown};
+ghost use Rattle.unix_bytes.specs.Chunks.{chunks_of, chunk_of, chunks_left, shown_chunk};
 
 use crate::utf8::split_front;
 use std::fmt;
@@ -115,8 +115,10 @@ impl FusedIterator for Utf8LossyChunksIter<'_> {}
 
 // The chunk's text, and U+FFFD for its broken front.
 fn write_chunk<W: fmt::Write>(chunk: Utf8LossyChunk<'_>, f: &mut fmt::Formatter<W>) -> fmt::Result
-    ensures writes { WritesOnOk W.write_str_gives f.old result (shown chunk.entry) f.new }
-    ensures styled { WritesStyledOnOk W.write_str_gives f.old result (shown chunk.entry) f.new }
+    ensures writes { WritesOnOk W.write_str_gives f.old result
+        (shown_chunk (chunk_of chunk.entry)) f.new }
+    ensures styled { WritesStyledOnOk W.write_str_gives f.old result
+        (shown_chunk (chunk_of chunk.entry)) f.new }
 {
     f.write_str(chunk.valid)?;
     if chunk.broken.is_empty() {

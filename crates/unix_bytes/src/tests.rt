@@ -2,3 +2,4 @@
 mod bytes;
 mod chunks;
 mod formats;
+mod text;

@@ -3,7 +3,8 @@ ghost use Rattle.std.specs.Prelude.{◌≡◌, ◌↔◌, ◌+◌, ◌<◌, ◌�
 ghost use Rattle.std.specs.Prelude.{length, drop, take, slice_index};
 ghost use Rattle.std.specs.Str.{IsAscii};
 ghost use Rattle.unix_bytes.specs.Utf8.{is_sequence, IsText, begins_sequence};
-ghost use Rattle.unix_bytes.specs.Lossy.{longest_len, is_text, HasBegun, broken_len};
+ghost use Rattle.unix_bytes.specs.Lossy.{is_text};
+ghost use Rattle.unix_bytes.specs.Steps.{longest_len, HasBegun, broken_len};
 ghost use Rattle.std.specs.Result.{IfOk, IfErr};
 ghost use Rattle.unix_bytes.specs.Lanes.{wide_mask};
 

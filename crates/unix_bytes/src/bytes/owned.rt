@@ -58,7 +58,8 @@ impl UnixString {
 
     /// A copy of the bytes, under the same allocator.
     ///
-    /// Asks for memory once, and is refused where it isn't had. As `Clone` of Rust's `OsString`.
+    /// Asks for memory once, for as much as the bytes take, and is refused where it isn't had; no
+    /// bytes ask for none. As `Clone` of Rust's `OsString`.
     ///
     /// A clone of `tmp` is another `tmp`.
     pub fn clone(&self) -> Result<UnixString, AllocError>
@@ -70,8 +71,8 @@ impl UnixString {
 
     /// Appends the bytes.
     ///
-    /// Takes memory only where `more` is longer than the room; refused, it leaves the bytes.
-    /// As Rust's `OsString::push`.
+    /// Takes memory only where `more` is longer than the room; refused, it leaves the bytes, and
+    /// gives up no room. As Rust's `OsString::push`.
     ///
     /// `foo` after a push of `bar` is `foobar`.
     #[inline]
@@ -80,7 +81,7 @@ impl UnixString {
             (owned_bytes self.new ≡ owned_bytes self.old ++ more.entry.bytes.now) }
         ensures err { OnErr result (owned_bytes self.new ≡ owned_bytes self.old) }
         ensures succeeds { length more.entry.bytes.now ≤ owned_room self.old → IsOk result }
-        ensures room { owned_room self.old ≤ owned_room self.new + length more.entry.bytes.now }
+        ensures room { owned_capacity self.old ≤ owned_capacity self.new }
     {
         self.bytes.extend_from_slice(more.as_bytes())
     }
@@ -147,6 +148,7 @@ impl UnixString {
         ensures bytes { owned_bytes self.new ≡ owned_bytes self.old }
         ensures ok { OnOk result (owned_room self.new ≡ 0) }
         ensures succeeds { owned_room self.old ≡ 0 → IsOk result }
+        ensures shrinks { owned_capacity self.new ≤ owned_capacity self.old }
     {
         self.shrink_to(0)
     }
@@ -164,6 +166,7 @@ impl UnixString {
         ensures succeeds { owned_capacity self.old ≤ max least (length (owned_bytes self.old))
             → IsOk result }
         ensures room { min least (owned_capacity self.old) ≤ owned_capacity self.new }
+        ensures shrinks { owned_capacity self.new ≤ owned_capacity self.old }
     {
         self.bytes.shrink_to(least);
         if least.max(self.bytes.len()) < self.bytes.capacity() {
@@ -187,7 +190,8 @@ impl UnixString {
 impl<'a> UnixStr<'a> {
     /// A copy of the bytes that owns them.
     ///
-    /// Asks for memory once, and is refused where it isn't had. As Rust's `OsStr::to_os_string`.
+    /// Asks for memory once, for as much as the bytes take, and is refused where it isn't had; no
+    /// bytes ask for none. As Rust's `OsStr::to_os_string`.
     ///
     /// That of `tmp` is another `tmp`.
     pub fn to_unix_string(self, alloc: Global) -> Result<UnixString, AllocError>

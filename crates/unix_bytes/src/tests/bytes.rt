@@ -1,4 +1,4 @@
-use crate::bytes::{LossyText, UnixStr};
+use crate::bytes::{LossyText, UnixStr, UnixString};
 use std::cmp::Ordering;
 use std::hash::{DefaultHasher, Hash, Hasher};
 use std::test::Fail;
@@ -93,4 +93,15 @@ fn hash_of(first: &str, second: &str) -> u64 {
     UnixStr::new(first).hash(&mut state);
     UnixStr::from_bytes(second.as_bytes()).hash(&mut state);
     state.finish()
+}
+
+#[test]
+fn a_shrink_to_more_leaves_the_capacity(rt: HostRuntime) -> Result<(), Fail> {
+    let mut name = UnixString::with_capacity(rt.alloc(), 10)?;
+    name.push(UnixStr::new("foo"))?;
+    let before = name.capacity();
+    name.shrink_to(1000)?;
+    assert_eq!(rt; name.capacity(), before);
+    assert_eq!(rt; name.as_unix_str(), UnixStr::new("foo"));
+    Ok(())
 }

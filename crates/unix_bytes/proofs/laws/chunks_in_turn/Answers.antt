@@ -1,8 +1,9 @@
-use Rattle.unix_bytes.proofs.ChunkLemmas.{chunks_of-nil, chunks_of-some}
+use Rattle.unix_bytes.proofs.ChunkLemmas.{chunks_of-nil}
+use Rattle.unix_bytes.proofs.PartitionLemmas.{chunks_of_some}
 use Rattle.unix_bytes.proofs.laws.chunks_in_turn.Goals as goal
 
 pub returns-clause-nothing : goal.returns-clause-nothing
 returns-clause-nothing c = chunks_of-nil
 
 pub returns-clause-some : goal.returns-clause-some
-returns-clause-some c = chunks_of-some
+returns-clause-some c = chunks_of_some

@@ -1,9 +1,6 @@
-use Rattle.unix_bytes.proofs.LossyLemmas.{concat-fronts_of, lossy_of-append}
+use Rattle.unix_bytes.proofs.LossyLemmas.{lossy_of-append}
 use Rattle.unix_bytes.proofs.LawLemmas.{IsText-sequence, lossy_of_broken}
 use Rattle.unix_bytes.proofs.laws.lossy_in_turn.Goals as goal
-
-pub returns-clause-partition : goal.returns-clause-partition
-returns-clause-partition c = concat-fronts_of
 
 pub returns-clause-sequence : goal.returns-clause-sequence
 returns-clause-sequence c = λ u s h. lossy_of-append u s (IsText-sequence u h)

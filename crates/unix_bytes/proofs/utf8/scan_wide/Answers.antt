@@ -1,7 +1,7 @@
 use Rattle.std.proofs.Common.{sym, ap, ◌∙◌, arith}
 use Rattle.std.proofs.lemmas.Bool.{true≢false}
 use Rattle.std.proofs.lemmas.List.{take_rest}
-use Rattle.unix_bytes.specs.Lossy.{broken_len}
+use Rattle.unix_bytes.specs.Steps.{broken_len}
 use Rattle.unix_bytes.proofs.RunLemmas.{before_broken}
 use Rattle.unix_bytes.proofs.BrokenLemmas.{broken_at}
 use Rattle.unix_bytes.proofs.utf8.scan_wide.Goals as goal

@@ -1,0 +1,37 @@
+-- Words of private steps. No public clause cites them.
+use Rattle.std.specs.Prelude.{ℕ, zero, suc, ◌+◌, ◌≤◌, ◌≡◌, Bool, true, List, length, take, drop}
+use Rattle.std.specs.Prelude.{max, if◌then◌else◌}
+use Rattle.unix_bytes.specs.Utf8.{is_sequence, begins_sequence}
+use Rattle.unix_bytes.specs.Lossy.{is_text}
+use Rattle.unix_bytes.specs.Chunks.{Chunk}
+
+-- the greatest n up to m for which the first n bytes pass the test, or 0
+abbrev pub longest_len_to : ℕ → (List ℕ → Bool) → List ℕ → ℕ
+longest_len_to zero test s = 0
+longest_len_to (suc m) test s = if test (take (suc m) s) then suc m else longest_len_to m test s
+
+-- the length of the longest front that passes the test, or 0
+unfoldable pub longest_len : (List ℕ → Bool) → List ℕ → ℕ
+longest_len test s = longest_len_to (length s) test s
+
+-- the longest front that begins some sequence, or one byte where none does
+unfoldable pub longest_front_of : List ℕ → List ℕ
+longest_front_of s = take (max 1 (longest_len begins_sequence s)) s
+
+-- the first n bytes are there, and begin some sequence
+abbrev pub HasBegun : List ℕ → ℕ → Type 0
+HasBegun s n = (n ≤ length s) × (begins_sequence (take n s) ≡ true)
+
+-- how many bytes stand broken in front: none before a sequence and at the end
+abbrev pub broken_len : List ℕ → ℕ
+broken_len s = let u = longest_front_of s in if is_sequence u then 0 else length u
+
+-- the longest front that is text, and the front of what follows
+unfoldable pub first_chunk_of : List ℕ → Chunk
+first_chunk_of s =
+    let n = longest_len is_text s in
+    record { valid = take n s; broken = longest_front_of (drop n s) }
+
+-- how many bytes a chunk has
+abbrev pub chunk_len : Chunk → ℕ
+chunk_len c = length c.valid + length c.broken
