@@ -1,5 +1,5 @@
 -- What chains over a cursor give: its values in order, or backwards behind `rev`.
-use Rattle.std.proofs.Common.{ap, ◌∙◌, ◌∷◌, [], length, List, ℕ, reverse, subst, ◌≡◌}
+use Rattle.std.proofs.Common.{ap, ◌∙◌, ◌∷◌, [], length, List, ℕ, Option, reverse, subst, ◌≡◌}
 use Rattle.std.specs.Iterator.Adapters.{rev_source, rev_steps}
 use Rattle.std.specs.declared.iter.Rev.{Rev}
 use Rattle.std.proofs.lemmas.List.{reverse-append}
@@ -7,50 +7,65 @@ use Rattle.std.proofs.lemmas.Iterator.{YieldsList}
 use Rattle.std.proofs.lemmas.Iterator.Consumers.{YieldsList-from_shown}
 use Rattle.unix_bytes.specs.declared.bytes.UnixStr.{UnixStr}
 use Rattle.unix_path.specs.Views.{value_of}
-use Rattle.unix_path.specs.Cursor.{cursor_values, GivesFirst, GivesLast, iter_bytes, IterGivesFirst}
-use Rattle.unix_path.specs.Cursor.{IterGivesLast}
+use Rattle.unix_path.specs.Cursor.{cursor_rest, cursor_source, cursor_values, iter_rest, iter_source}
+use Rattle.unix_path.specs.Cursor.{iter_bytes, GivesFirst, GivesLast}
+use Rattle.unix_path.specs.declared.cursor.Component.{Component}
 use Rattle.unix_path.specs.declared.cursor.Components.{Components}
 use Rattle.unix_path.specs.declared.cursor.Iter.{Iter}
 
-pub Components-yields : (s : Components) → YieldsList GivesFirst value_of s (cursor_values s)
+-- what a call of `next` gives and leaves, and a call of `next_back`
+abbrev pub part_given : Components → Option Component → Components → Type 0
+part_given = GivesFirst value_of cursor_values cursor_rest cursor_source
+
+abbrev pub part_given_back : Components → Option Component → Components → Type 0
+part_given_back = GivesLast value_of cursor_values cursor_rest cursor_source
+
+pub Components-yields : (s : Components) → YieldsList part_given value_of s (cursor_values s)
 Components-yields s =
-    YieldsList-from_shown GivesFirst value_of cursor_values (λ s t h. ap length h.item_is.0)
+    YieldsList-from_shown part_given value_of cursor_values (λ s t h. ap length h.item_is.0)
     (λ s x t h. h.item_is) s
 
 yields_back : (s : Rev Components)
-    → YieldsList (rev_steps GivesLast) value_of s (reverse (cursor_values (rev_source s)))
+    → YieldsList (rev_steps part_given_back) value_of s (reverse (cursor_values (rev_source s)))
 yields_back s =
-    YieldsList-from_shown (rev_steps GivesLast) value_of
+    YieldsList-from_shown (rev_steps part_given_back) value_of
     (λ s. reverse (cursor_values (rev_source s)))
     (λ s t h. ap (λ vs. length (reverse vs)) h.item_is.0)
     (λ s x t h. ap reverse h.item_is
     ∙ reverse-append (cursor_values (rev_source t)) (value_of x ∷ [])) s
 
 pub Components-yields_back : {s : Rev Components} {c : Components} → rev_source s ≡ c
-    → YieldsList (rev_steps GivesLast) value_of s (reverse (cursor_values c))
+    → YieldsList (rev_steps part_given_back) value_of s (reverse (cursor_values c))
 Components-yields_back {s} e =
-    subst (λ c. YieldsList (rev_steps GivesLast) value_of s (reverse (cursor_values c))) e
+    subst (λ c. YieldsList (rev_steps part_given_back) value_of s (reverse (cursor_values c))) e
     (yields_back s)
 
 -- the bytes of a name
 abbrev pub name_bytes : UnixStr → List ℕ
 name_bytes name = name.bytes.now
 
-pub Iter-yields : (s : Iter) → YieldsList IterGivesFirst name_bytes s (iter_bytes s)
-Iter-yields s = YieldsList-from_shown IterGivesFirst name_bytes iter_bytes
+-- what a call of `next` gives and leaves, and a call of `next_back`
+abbrev pub name_given : Iter → Option UnixStr → Iter → Type 0
+name_given = GivesFirst name_bytes iter_bytes iter_rest iter_source
+
+abbrev pub name_given_back : Iter → Option UnixStr → Iter → Type 0
+name_given_back = GivesLast name_bytes iter_bytes iter_rest iter_source
+
+pub Iter-yields : (s : Iter) → YieldsList name_given name_bytes s (iter_bytes s)
+Iter-yields s = YieldsList-from_shown name_given name_bytes iter_bytes
     (λ s t h. ap length h.item_is.0) (λ s x t h. h.item_is) s
 
 iter_yields_back : (s : Rev Iter)
-    → YieldsList (rev_steps IterGivesLast) name_bytes s (reverse (iter_bytes (rev_source s)))
+    → YieldsList (rev_steps name_given_back) name_bytes s (reverse (iter_bytes (rev_source s)))
 iter_yields_back s =
-    YieldsList-from_shown (rev_steps IterGivesLast) name_bytes
+    YieldsList-from_shown (rev_steps name_given_back) name_bytes
     (λ s. reverse (iter_bytes (rev_source s)))
     (λ s t h. ap (λ vs. length (reverse vs)) h.item_is.0)
     (λ s x t h. ap reverse h.item_is
     ∙ reverse-append (iter_bytes (rev_source t)) (name_bytes x ∷ [])) s
 
 pub Iter-yields_back : {s : Rev Iter} {c : Iter} → rev_source s ≡ c
-    → YieldsList (rev_steps IterGivesLast) name_bytes s (reverse (iter_bytes c))
+    → YieldsList (rev_steps name_given_back) name_bytes s (reverse (iter_bytes c))
 Iter-yields_back {s} e =
-    subst (λ c. YieldsList (rev_steps IterGivesLast) name_bytes s (reverse (iter_bytes c))) e
+    subst (λ c. YieldsList (rev_steps name_given_back) name_bytes s (reverse (iter_bytes c))) e
     (iter_yields_back s)

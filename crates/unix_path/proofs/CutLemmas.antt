@@ -1,33 +1,31 @@
 -- A string cut at any of its slashes.
-use Rattle.std.proofs.Common.{◌≡◌, ℕ, ◌+◌, ◌<◌, cond, eqb, List, [], ◌∷◌, ◌++◌, length, map, filter}
+use Rattle.std.proofs.Common.{◌≡◌, ℕ, ◌+◌, ◌<◌, cond, eqb, List, [], ◌∷◌, ◌++◌, length}
 use Rattle.std.proofs.Common.{refl, sym, ap, ◌∙◌, arith, append_assoc}
 use Rattle.std.specs.List.{slice_split, onto_first}
+use Rattle.std.specs.Str.{bytes_eq}
 use Rattle.std.proofs.lemmas.List.Splits.{slice_split-cons_yes, slice_split-cons_no}
 use Rattle.std.proofs.lemmas.List.Splits.{length-slice_split}
 use Rattle.unix_path.proofs.CaseLemmas.{by_test}
-use Rattle.unix_path.proofs.PieceLemmas.{first_cons, first_counted}
-use Rattle.unix_path.specs.Parts.{CurDir, RootDir, counted, counts, first_is_cur_dir, is_slash}
-use Rattle.unix_path.specs.Parts.{leading_part, part_of, placed}
+use Rattle.unix_path.proofs.PieceLemmas.{first_counted, first_piece, slice_split-first}
+use Rattle.unix_path.specs.Parts.{CurDir, RootDir, counted, cur_dir, is_slash, leading_part}
+use Rattle.unix_path.specs.Parts.{parts_of_pieces}
 
 width : List (List ℕ) → ℕ
 width [] = 0
 width (p ∷ ps) = length p + 1 + width ps
 
-of_pieces-append : (at : ℕ) (ps qs : List (List ℕ))
-    → map part_of (filter counts (placed at (ps ++ qs))) ≡ map part_of
-    (filter counts (placed at ps)) ++ map part_of (filter counts (placed (at + width ps) qs))
+parts_of_pieces-append : (at : ℕ) (ps qs : List (List ℕ))
+    → parts_of_pieces at (ps ++ qs)
+    ≡ parts_of_pieces at ps ++ parts_of_pieces (at + width ps) qs
 unfolding width
-of_pieces-append at [] qs =
-    ap (λ n. map part_of (filter counts (placed n qs))) {x = at} {y = at + 0} (omega arith)
-of_pieces-append at (p ∷ ps) qs =
-    let next = of_pieces-append (at + length p + 1) ps qs
-    ∙ ap (λ n. map part_of (filter counts (placed (at + length p + 1) ps)) ++ map part_of
-    (filter counts (placed n qs))) {x = at + length p + 1 + width ps}
-    {y = at + (length p + 1 + width ps)} (omega arith) in
-    first_cons at p (ps ++ qs) ∙ ap (λ r. first_counted at p ++ r) next
+parts_of_pieces-append at [] qs =
+    ap (λ n. parts_of_pieces n qs) {x = at} {y = at + 0} (omega arith)
+parts_of_pieces-append at (p ∷ ps) qs =
+    let next = at + length p + 1 in
+    ap (λ r. first_counted at p ++ r) (parts_of_pieces-append next ps qs
+    ∙ ap (λ n. parts_of_pieces next ps ++ parts_of_pieces n qs) {x = next + width ps}
+    {y = at + (length p + 1 + width ps)} (omega arith))
     ∙ sym (append_assoc (first_counted at p) _ _)
-    ∙ ap (λ l. l ++ map part_of (filter counts (placed (at + (length p + 1 + width ps)) qs)))
-    (sym (first_cons at p ps))
 
 width-onto_first : (x : ℕ) (ps : List (List ℕ)) → 0 < length ps
     → width (onto_first x ps) ≡ 1 + width ps
@@ -73,23 +71,22 @@ pub counted-append : (at : ℕ) (x y : List ℕ)
     → counted at (x ++ 47 ∷ y) ≡ counted at x ++ counted (at + length x + 1) y
 unfolding counted
 counted-append at x y =
-    ap (λ ps. map part_of (filter counts (placed at ps))) (slice_split-append x y)
-    ∙ of_pieces-append at (slice_split is_slash x) (slice_split is_slash y)
+    ap (parts_of_pieces at) (slice_split-append x y)
+    ∙ parts_of_pieces-append at (slice_split is_slash x) (slice_split is_slash y)
     ∙ ap (λ n. counted at x ++ counted n y) {x = at + width (slice_split is_slash x)}
     {y = at + length x + 1} (omega (arith, width-slice_split x))
 
-first_is_cur_dir-append : (ps qs : List (List ℕ)) → 0 < length ps
-    → first_is_cur_dir (ps ++ qs) ≡ first_is_cur_dir ps
-first_is_cur_dir-append [] qs l = absurd (omega arith)
-first_is_cur_dir-append (p ∷ ps) qs l = refl
+first_piece-append : (x y : List ℕ) → first_piece (x ++ 47 ∷ y) ≡ first_piece x
+first_piece-append x y =
+    let cut = sym (slice_split-first (x ++ 47 ∷ y)) ∙ slice_split-append x y
+    ∙ ap (λ ps. ps ++ slice_split is_slash y) (slice_split-first x) in
+    cc
 
 pub leading_part-append : (x y : List ℕ) → 0 < length x
     → leading_part (x ++ 47 ∷ y) ≡ leading_part x
 unfolding leading_part
 leading_part-append [] y l = absurd (omega arith)
 leading_part-append (b ∷ x) y l =
-    ap (λ t. cond (eqb b 47) (record { start = 0; end = 1; value = RootDir } ∷ [])
-    (cond t (record { start = 0; end = 1; value = CurDir } ∷ []) []))
-    (ap first_is_cur_dir (slice_split-append (b ∷ x) y)
-    ∙ first_is_cur_dir-append (slice_split is_slash (b ∷ x)) (slice_split is_slash y)
-    (some_piece (b ∷ x)))
+    ap (λ p. cond (eqb b 47) (record { start = 0; end = 1; value = RootDir } ∷ [])
+    (cond (bytes_eq p cur_dir) (record { start = 0; end = 1; value = CurDir } ∷ []) []))
+    (first_piece-append (b ∷ x) y)

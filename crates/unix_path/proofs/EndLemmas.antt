@@ -1,8 +1,8 @@
 -- The last element of a list.
 use Rattle.std.proofs.Common.{◌≡◌, ◌+◌, ◌-◌, List, [], ◌∷◌, ◌++◌, length, take, Some, refl, ap, ◌∙◌}
-use Rattle.std.proofs.Common.{arith, take_all, length-append}
+use Rattle.std.proofs.Common.{Option, arith, take_all, length-append}
+use Rattle.std.specs.List.{last_or}
 use Rattle.std.proofs.lemmas.List.{take-append-le}
-use Rattle.unix_path.specs.Names.{last_of}
 use Rattle.unix_path.proofs.MiddleLemmas.{middle}
 
 -- a list, by what stands last
@@ -18,10 +18,10 @@ pub snoc : {X : Type 0} (xs : List X) → Snoc xs
 snoc [] = Empty refl
 snoc (x ∷ xs) = snoc-cons x xs (snoc xs)
 
-pub last_of-push : {X : Type 0} (xs : List X) (y : X) → last_of (xs ++ y ∷ []) ≡ Some y
-last_of-push [] y = refl
-last_of-push (x ∷ []) y = refl
-last_of-push (x ∷ z ∷ zs) y = last_of-push (z ∷ zs) y
+pub last_or-push : {X : Type 0} (o : Option X) (xs : List X) (y : X)
+    → last_or o (xs ++ y ∷ []) ≡ Some y
+last_or-push o [] y = refl
+last_or-push o (x ∷ xs) y = last_or-push (Some x) xs y
 
 pub middle-push : {X : Type 0} (xs : List X) (y : X) → middle 0 1 (xs ++ y ∷ []) ≡ xs
 middle-push xs y =

@@ -1,17 +1,11 @@
 -- What a join keeps of its base, and what it adds.
 use Rattle.std.proofs.Common.{◌≡◌, ℕ, suc, ◌-◌, ◌<◌, ◌≤◌, eqb, List, [], ◌∷◌, ◌++◌, length, take}
 use Rattle.std.proofs.Common.{get_or, take_all, refl, sym, ap, ◌∙◌, arith}
-use Rattle.unix_path.specs.Parts.{is_rooted, values, begins_with_root}
 use Rattle.unix_path.specs.Joins.{is_open, join_of, join_all_of}
 use Rattle.unix_path.specs.Buffers.{texts}
 use Rattle.unix_path.specs.declared.path.Path.{Path}
 use Rattle.unix_path.proofs.CaseLemmas.{take-take-of}
-use Rattle.unix_path.proofs.PartLemmas.{begins_with_root-values, is_rooted-at}
 use Rattle.unix_path.proofs.JoinLemmas.{join_of_rooted, join_of_open, join_of_closed}
-
--- the values begin with the root exactly where byte 0 is a slash
-pub begins_with_root-rooted : (s : List ℕ) → begins_with_root (values s) ≡ is_rooted s
-begins_with_root-rooted s = begins_with_root-values s ∙ sym (is_rooted-at s)
 
 -- the last byte, where there is one
 pub is_open-last : (d : ℕ) (s : List ℕ) → 0 < length s
@@ -32,7 +26,7 @@ pub take-front : (s u : List ℕ) (n : ℕ) → take (length u) s ≡ u → n �
 take-front s u n e l = ap (take n) (sym e) ∙ take-take-of n (length u) s l
 
 pub ruleset join_cases =
-    (begins_with_root-rooted, join_of_rooted, join_of_open, join_of_closed, take-whole)
+    (join_of_rooted, join_of_open, join_of_closed, take-whole)
 
 pub ruleset fronts = (take-front, take-whole)
 

@@ -1,8 +1,12 @@
 -- The last dot of a file name.
-use Rattle.std.proofs.Common.{◌≡◌, ℕ, ◌-◌, ◌≤◌, ◌<◌, Bool, true, false, not, List, length, take}
+use Rattle.std.proofs.Common.{◌≡◌, ◌==◌, ℕ, ◌-◌, ◌≤◌, ◌<◌, Bool, true, false, not, List, length, take}
 use Rattle.std.proofs.Common.{drop, get_or, Some, None, refl, sym, ap, arith, le-ltb, lt-ltb}
 use Rattle.std.proofs.lemmas.List.Sums.{suffix_len_is}
-use Rattle.unix_path.specs.Names.{past_last, is_dot, split_name}
+use Rattle.unix_path.specs.Parts.{dot}
+use Rattle.unix_path.specs.Names.{past_last, split_name}
+
+abbrev pub is_dot : ℕ → Bool
+is_dot b = b == dot
 
 -- none passes from n on, and the byte before n does
 pub past_last-is : (p : ℕ → Bool) (s : List ℕ) (n : ℕ) → n ≤ length s

@@ -1,12 +1,17 @@
 -- What the last part says: the parent, the file name and what stands before it.
-use Rattle.std.proofs.Common.{◌≡◌, ℕ, ◌+◌, ◌-◌, List, [], ◌∷◌, ◌++◌, length, Some, None, sym, ap}
-use Rattle.std.proofs.Common.{◌∙◌, arith, take_all}
-use Rattle.unix_path.specs.Parts.{Value, values}
+use Rattle.std.proofs.Common.{◌≡◌, ℕ, suc, ◌+◌, ◌-◌, Bool, true, false, cond, eqb, List, [], ◌∷◌}
+use Rattle.std.proofs.Common.{◌++◌, length, Some, None, is_some, refl, sym, ap, ◌∙◌}
+use Rattle.std.proofs.Common.{arith, take_all}
+use Rattle.std.proofs.Math.Dec.{eqb-suc-zero}
+use Rattle.std.specs.Option.{option_and_then}
+use Rattle.std.proofs.lemmas.Option.{same_Some, none-some}
+use Rattle.unix_path.specs.Parts.{Value, RootDir, values}
 use Rattle.unix_path.specs.Rest.{rest}
-use Rattle.unix_path.specs.Names.{last_of, parent_by, parent_of, name_by, file_name_of}
-use Rattle.unix_path.specs.Edits.{without_name, before_name_of}
+use Rattle.unix_path.specs.Names.{depth_of, parent_of, name_of, file_name_of}
+use Rattle.unix_path.specs.Edits.{before_name_of}
 use Rattle.unix_path.proofs.RestLemmas.{values-rest, rest-rest}
-use Rattle.unix_path.proofs.EndLemmas.{last_of-push}
+use Rattle.unix_path.proofs.EndLemmas.{last_or-push}
+use Rattle.unix_path.proofs.DepthLemmas.{depth_of-none, depth_of-root, depth_of-push}
 
 -- where nothing was taken, all values are left
 pub values-whole : (s u : List ℕ) → u ≡ rest s 0 0 → values u ≡ values s
@@ -16,38 +21,60 @@ values-whole s u e = ap values e ∙ values-rest s 0 0
 pub rest-whole_last : (s u w : List ℕ) → u ≡ rest s 0 0 → w ≡ rest u 0 1 → w ≡ rest s 0 1
 rest-whole_last s u w e r = r ∙ ap (λ u. rest u 0 1) e ∙ rest-rest s 0 0 0 1
 
-pub last_of-values : (s u : List ℕ) (vs : List Value) (v : Value) → u ≡ rest s 0 0
-    → values u ≡ vs ++ v ∷ [] → last_of (values s) ≡ Some v
-last_of-values s u vs v e is =
-    ap last_of (sym (values-whole s u e) ∙ is) ∙ last_of-push vs v
+-- the values of s, by those of its fresh walk
+values-by_whole : (s u : List ℕ) (vs : List Value) → u ≡ rest s 0 0 → values u ≡ vs → values s ≡ vs
+values-by_whole s u vs e is = sym (values-whole s u e) ∙ is
+
+pub parent_of-alone : (s : List ℕ) → depth_of s ≡ 0 → parent_of s ≡ None
+unfolding parent_of
+parent_of-alone s e = ap (λ n. cond (eqb n 0) None (Some (rest s 0 1))) e
+
+pub parent_of-deep : (s : List ℕ) (n : ℕ) → depth_of s ≡ suc n → parent_of s ≡ Some (rest s 0 1)
+unfolding parent_of
+parent_of-deep s n e = rw (e, eqb-suc-zero n) refl
+
+-- a parent is what is left before the last part
+pub parent_of-some : (s parent : List ℕ) → parent_of s ≡ Some parent → parent ≡ rest s 0 1
+unfolding parent_of
+parent_of-some s parent e = by (eqb (depth_of s) 0) e
+  where
+    by : (c : Bool) → cond c None (Some (rest s 0 1)) ≡ Some parent → parent ≡ rest s 0 1
+    by true h = absurd (none-some parent h)
+    by false h = sym (same_Some (rest s 0 1) parent h)
 
 pub parent_of-none : (s u : List ℕ) → u ≡ rest s 0 0 → values u ≡ [] → None ≡ parent_of s
-unfolding parent_of
-parent_of-none s u e is =
-    sym (ap (λ vs. parent_by (last_of vs) (rest s 0 1)) (sym (values-whole s u e) ∙ is))
+parent_of-none s u e is = sym (parent_of-alone s (depth_of-none s (values-by_whole s u [] e is)))
+
+pub parent_of-root : (s u w : List ℕ) → u ≡ rest s 0 0 → values u ≡ values w ++ RootDir ∷ []
+    → None ≡ parent_of s
+parent_of-root s u w e is =
+    sym (parent_of-alone s (depth_of-root s (values w) (values-by_whole s u _ e is)))
 
 pub parent_of-push : (s u w : List ℕ) (v : Value) → u ≡ rest s 0 0
-    → values u ≡ values w ++ v ∷ [] → w ≡ rest u 0 1 → parent_by (Some v) w ≡ parent_of s
-unfolding parent_of
-parent_of-push s u w v e is r =
-    ap (parent_by (Some v)) (rest-whole_last s u w e r)
-    ∙ sym (ap (λ o. parent_by o (rest s 0 1)) (last_of-values s u (values w) v e is))
+    → values u ≡ values w ++ v ∷ [] → w ≡ rest u 0 1 → (v ≡ RootDir → ⊥) → Some w ≡ parent_of s
+parent_of-push s u w v e is r differs =
+    ap Some (rest-whole_last s u w e r)
+    ∙ sym (parent_of-deep s _ (depth_of-push s (values w) v (values-by_whole s u _ e is) differs))
 
-pub file_name_of-none : (s u : List ℕ) → u ≡ rest s 0 0 → values u ≡ [] → None ≡ file_name_of s
+pub file_name_of-none : (s u : List ℕ) → u ≡ rest s 0 0 → values u ≡ []
+    → None ≡ file_name_of (values s)
 unfolding file_name_of
-file_name_of-none s u e is =
-    sym (ap (λ vs. name_by (last_of vs)) (sym (values-whole s u e) ∙ is))
+file_name_of-none s u e is = sym (ap file_name_of (values-by_whole s u [] e is))
+
+pub file_name_of-last : (vs : List Value) (v : Value) → file_name_of (vs ++ v ∷ []) ≡ name_of v
+unfolding file_name_of
+file_name_of-last vs v = ap (option_and_then name_of) (last_or-push None vs v)
 
 pub file_name_of-push : (s u w : List ℕ) (v : Value) → u ≡ rest s 0 0
-    → values u ≡ values w ++ v ∷ [] → name_by (Some v) ≡ file_name_of s
-unfolding file_name_of
-file_name_of-push s u w v e is = sym (ap name_by (last_of-values s u (values w) v e is))
+    → values u ≡ values w ++ v ∷ [] → name_of v ≡ file_name_of (values s)
+file_name_of-push s u w v e is =
+    sym (ap file_name_of (values-by_whole s u _ e is) ∙ file_name_of-last (values w) v)
 
-pub before_name_of-none : (s : List ℕ) → None ≡ file_name_of s → s ≡ before_name_of s
+pub before_name_of-none : (s : List ℕ) → None ≡ file_name_of (values s) → s ≡ before_name_of s
 unfolding before_name_of
-before_name_of-none s e = sym (ap (without_name s) (sym e))
+before_name_of-none s e = ap (λ o. cond (is_some o) (rest s 0 1) s) e
 
-pub before_name_of-some : (s name : List ℕ) → Some name ≡ file_name_of s
+pub before_name_of-some : (s name : List ℕ) → Some name ≡ file_name_of (values s)
     → rest s 0 1 ≡ before_name_of s
 unfolding before_name_of
-before_name_of-some s name e = sym (ap (without_name s) (sym e))
+before_name_of-some s name e = ap (λ o. cond (is_some o) (rest s 0 1) s) e

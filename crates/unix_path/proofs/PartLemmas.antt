@@ -1,7 +1,7 @@
 -- The parts of a whole string, by what stands first.
-use Rattle.std.proofs.Common.{◌≡◌, ℕ, ◌+◌, ◌-◌, ◌<◌, false, cond, eqb, List, [], ◌∷◌, ◌++◌, length}
-use Rattle.std.proofs.Common.{get_or, take, drop, map, eqb-true, refl, sym, ap, ap₂, ◌∙◌, arith}
-use Rattle.std.proofs.Common.{take_all, zero-add}
+use Rattle.std.proofs.Common.{◌≡◌, ℕ, ◌+◌, ◌-◌, ◌<◌, Bool, true, false, cond, eqb, List, [], ◌∷◌}
+use Rattle.std.proofs.Common.{◌++◌, length, get_or, take, drop, map, eqb-true, refl, sym, ap, ap₂}
+use Rattle.std.proofs.Common.{◌∙◌, arith, take_all, zero-add}
 use Rattle.std.specs.List.{position_or_len}
 use Rattle.std.specs.Str.{bytes_eq}
 use Rattle.std.proofs.lemmas.Slice.Eq.{bytes_eq-Decides}
@@ -9,9 +9,8 @@ use Rattle.std.proofs.lemmas.List.{drop_all}
 use Rattle.unix_path.proofs.CaseLemmas.{by_test, take-suc_cons}
 use Rattle.unix_path.proofs.PieceLemmas.{counted-first, counted-slash, first_counted, first_piece}
 use Rattle.unix_path.proofs.PieceLemmas.{length-first_piece, position_or_len-other}
-use Rattle.unix_path.proofs.PieceLemmas.{slice_split-first}
-use Rattle.unix_path.specs.Parts.{begins_with_root, Value, parent_dir, is_rooted, CurDir, Part}
-use Rattle.unix_path.specs.Parts.{RootDir, counted, cur_dir, first_is_cur_dir, is_slash}
+use Rattle.unix_path.specs.Parts.{Value, parent_dir, is_rooted, CurDir, Part}
+use Rattle.unix_path.specs.Parts.{RootDir, counted, cur_dir, is_slash}
 use Rattle.unix_path.specs.Parts.{leading_part, parts, value_of_piece, values}
 use Rattle.unix_path.specs.Rest.{rest, span_of}
 use Rattle.unix_path.specs.Steps.{first_value}
@@ -36,9 +35,7 @@ pub leading_part-name : (s : List ℕ) → eqb (get_or s 0 0) 47 ≡ false
     (record { start = 0; end = 1; value = CurDir } ∷ []) []
 unfolding leading_part
 leading_part-name s e =
-    rw (is_rooted-at s ∙ e)
-    (ap (λ ps. cond (first_is_cur_dir ps)
-    (record { start = 0; end = 1; value = CurDir } ∷ []) []) (slice_split-first s))
+    rw (is_rooted-at s ∙ e) refl
 
 pub nonempty_first_piece : (s : List ℕ) → 0 < length s → eqb (get_or s 0 0) 47 ≡ false
     → bytes_eq (first_piece s) [] ≡ false
@@ -85,15 +82,21 @@ pub parts-nil : parts [] ≡ []
 unfolding parts leading_part counted
 parts-nil = refl
 
--- the values begin with the root exactly where byte 0 is a slash
-pub begins_with_root-values : (s : List ℕ) → begins_with_root (values s) ≡ eqb (get_or s 0 0) 47
+-- whether the first value is the root
+abbrev pub root_first : List Value → Bool
+root_first [] = false
+root_first (RootDir ∷ vs) = true
+root_first (_ ∷ vs) = false
+
+-- the first value is the root exactly where byte 0 is a slash
+pub root_first-values : (s : List ℕ) → root_first (values s) ≡ is_rooted s
 unfolding values
-begins_with_root-values [] = ap (λ ps. begins_with_root (map (λ p. p.value) ps)) parts-nil
-begins_with_root-values (b ∷ s) = by_test (eqb b 47)
+root_first-values [] = ap (λ ps. root_first (map (λ p. p.value) ps)) parts-nil
+root_first-values (b ∷ s) = by_test (eqb b 47)
     (λ e. rw (parts-root (b ∷ s) (eqb-true b 47 e)) (sym e))
     (λ e. rw (parts-name (b ∷ s) (omega arith) e) (no_root (first_piece (b ∷ s)) _ ∙ sym e))
   where
-    no_root : (p : List ℕ) (vs : List Value) → begins_with_root (first_value p ∷ vs) ≡ false
+    no_root : (p : List ℕ) (vs : List Value) → root_first (first_value p ∷ vs) ≡ false
     no_root p vs = by_test (bytes_eq p cur_dir)
         (λ e. rw e refl)
         (λ e. by_test (bytes_eq p parent_dir) (λ f. rw (e, f) refl) (λ f. rw (e, f) refl))

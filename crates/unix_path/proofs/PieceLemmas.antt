@@ -1,16 +1,12 @@
 -- The first piece of a string, and what stands after it.
-use Rattle.std.proofs.Common.{◌≡◌, ℕ, ◌+◌, true, false, not, ◌||◌, eqb, List, [], ◌∷◌, ◌++◌, length}
-use Rattle.std.proofs.Common.{take, drop, map, filter, refl, sym, ap, ap₂, subst, ◌∙◌, arith}
+use Rattle.std.proofs.Common.{◌≡◌, ℕ, ◌+◌, true, false, cond, eqb, List, [], ◌∷◌, ◌++◌, length}
+use Rattle.std.proofs.Common.{take, drop, refl, sym, ap, ap₂, subst, ◌∙◌, arith}
 use Rattle.std.proofs.Common.{eqb-true}
-use Rattle.std.specs.List.{slice_split, onto_first, position_or_len}
-use Rattle.std.specs.Str.{bytes_eq}
+use Rattle.std.specs.List.{before_first, slice_split, onto_first, position_or_len}
 use Rattle.std.proofs.lemmas.List.Splits.{slice_split-cons_yes, slice_split-cons_no}
 use Rattle.unix_path.proofs.CaseLemmas.{by_test, drop-suc_cons, take-suc_cons}
-use Rattle.unix_path.specs.Parts.{Part, counted, counts, cur_dir, is_slash, part_of, placed}
-
--- the parts of these pieces, the first of which stands at `at`
-pub of_pieces : ℕ → List (List ℕ) → List Part
-of_pieces at ps = map part_of (filter counts (placed at ps))
+use Rattle.unix_path.specs.Parts.{Part, counted, counts, is_slash, parts_of_pieces}
+use Rattle.unix_path.specs.Parts.{value_of_piece}
 
 pub counted-nil : (at : ℕ) → counted at [] ≡ []
 unfolding counted
@@ -20,7 +16,7 @@ counted-nil at = refl
 pub counted-slash : (at : ℕ) (s : List ℕ) → counted at (47 ∷ s) ≡ counted (at + 1) s
 unfolding counted
 counted-slash at s = ap
-    (λ n. map part_of (filter counts (placed n (slice_split is_slash s)))) {x = at + 0 + 1}
+    (λ n. parts_of_pieces n (slice_split is_slash s)) {x = at + 0 + 1}
     {y = at + 1} (omega arith)
 
 -- nor does a `.`
@@ -31,11 +27,11 @@ counted-dot at = refl
 pub counted-dot_slash : (at : ℕ) (s : List ℕ) → counted at (46 ∷ 47 ∷ s) ≡ counted (at + 1) (47 ∷ s)
 unfolding counted
 counted-dot_slash at s =
-    ap (λ n. map part_of (filter counts (placed n (slice_split is_slash s)))) {x = at + 1 + 1}
+    ap (λ n. parts_of_pieces n (slice_split is_slash s)) {x = at + 1 + 1}
     {y = at + 1 + 0 + 1} (omega arith)
 
 abbrev pub first_piece : List ℕ → List ℕ
-first_piece s = take (position_or_len is_slash s) s
+first_piece = before_first is_slash
 
 -- the pieces after the first, from the slash on
 abbrev after_cut : List ℕ → List (List ℕ)
@@ -86,17 +82,11 @@ length-first_piece (x ∷ xs) = by_test (eqb x 47)
 
 -- the first piece, read alone
 abbrev pub first_counted : ℕ → List ℕ → List Part
-first_counted at p = map part_of
-    (filter counts (record { start = at; end = at + length p; bytes = p } ∷ []))
-
-pub first_cons : (at : ℕ) (p : List ℕ) (ps : List (List ℕ))
-    → map part_of (filter counts (placed at (p ∷ ps))) ≡ first_counted at p ++ map part_of
-    (filter counts (placed (at + length p + 1) ps))
-first_cons at p ps = by_test (not (bytes_eq p [] || bytes_eq p cur_dir)) (λ e. rw e refl)
-    (λ e. rw e refl)
+first_counted at p = cond (counts p)
+    (record { start = at; end = at + length p; value = value_of_piece p } ∷ []) []
 
 counted-after_cut : (at : ℕ) (s : List ℕ) → IsCut s
-    → map part_of (filter counts (placed (at + 1) (after_cut s))) ≡ counted at s
+    → parts_of_pieces (at + 1) (after_cut s) ≡ counted at s
 unfolding counted
 counted-after_cut at [] h = refl
 counted-after_cut at (b ∷ s) h = sym (ap (λ b. counted at (b ∷ s)) h ∙ counted-slash at s)
@@ -107,9 +97,8 @@ pub counted-first : (at : ℕ) (s : List ℕ)
 unfolding counted
 counted-first at s =
     let n = position_or_len is_slash s in
-    ap (λ ps. map part_of (filter counts (placed at ps))) (slice_split-first s)
-    ∙ first_cons at (first_piece s) (after_cut (drop n s))
-    ∙ ap (λ k. first_counted at (first_piece s) ++ map part_of
-    (filter counts (placed (at + k + 1) (after_cut (drop n s))))) (length-first_piece s)
+    ap (parts_of_pieces at) (slice_split-first s)
+    ∙ ap (λ k. first_counted at (first_piece s) ++ parts_of_pieces (at + k + 1)
+    (after_cut (drop n s))) (length-first_piece s)
     ∙ ap (λ ps. first_counted at (first_piece s) ++ ps)
     (counted-after_cut (at + n) (drop n s) (IsCut-drop s))

@@ -1,10 +1,9 @@
 -- Places move with the string, and values stay.
-use Rattle.std.proofs.Common.{◌≡◌, ℕ, ◌+◌, ◌<◌, not, ◌||◌, List, [], ◌∷◌, length, map, filter, refl}
+use Rattle.std.proofs.Common.{◌≡◌, ℕ, ◌+◌, ◌<◌, List, [], ◌∷◌, length, map, refl}
 use Rattle.std.proofs.Common.{ap, ap₂, ◌∙◌, arith}
 use Rattle.std.specs.List.{slice_split}
-use Rattle.std.specs.Str.{bytes_eq}
 use Rattle.unix_path.proofs.CaseLemmas.{by_test}
-use Rattle.unix_path.specs.Parts.{Part, counted, counts, cur_dir, is_slash, part_of, placed}
+use Rattle.unix_path.specs.Parts.{Part, counted, counts, is_slash, parts_of_pieces}
 use Rattle.unix_path.specs.Parts.{value_of_piece}
 use Rattle.unix_path.specs.Rest.{last_end}
 use Rattle.unix_path.specs.Steps.{parts_end}
@@ -14,14 +13,13 @@ abbrev pub moved : ℕ → Part → Part
 moved d p = record { start = p.start + d; end = p.end + d; value = p.value }
 
 moved_pieces : (at d : ℕ) (ps : List (List ℕ))
-    → map part_of (filter counts (placed (at + d) ps)) ≡ map (moved d)
-    (map part_of (filter counts (placed at ps)))
+    → parts_of_pieces (at + d) ps ≡ map (moved d) (parts_of_pieces at ps)
 moved_pieces at d [] = refl
 moved_pieces at d (p ∷ ps) =
-    let next = ap (λ n. map part_of (filter counts (placed n ps))) {x = at + d + length p + 1}
+    let next = ap (λ n. parts_of_pieces n ps) {x = at + d + length p + 1}
     {y = (at + length p + 1) + d} (omega arith) ∙ moved_pieces (at + length p + 1) d ps in
     let first : at + d + length p ≡ (at + length p) + d = omega arith in
-    by_test (not (bytes_eq p [] || bytes_eq p cur_dir))
+    by_test (counts p)
     (λ e. rw e (ap₂ (λ n ps. record { start = at + d; end = n; value = value_of_piece p } ∷ ps)
     first next))
     (λ e. rw e next)

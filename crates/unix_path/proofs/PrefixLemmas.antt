@@ -2,7 +2,7 @@
 use Rattle.std.proofs.Common.{◌≡◌, ℕ, ◌+◌, List, [], ◌∷◌, ◌++◌, length, sym, ap, subst, ◌∙◌, arith}
 use Rattle.unix_path.specs.Parts.{Value, values}
 use Rattle.unix_path.specs.Rest.{rest}
-use Rattle.unix_path.specs.Names.{Begins, StartsWithValues, stripped_of}
+use Rattle.unix_path.specs.Names.{Begins, stripped_of}
 use Rattle.unix_path.proofs.RestLemmas.{rest-rest}
 use Rattle.unix_path.proofs.ParentLemmas.{values-whole}
 
@@ -11,8 +11,8 @@ pub record StripsOn (s base u : List ℕ) (left : List Value) : Type 0 where
   pub count : ℕ
   pub rest_is : u ≡ rest s count 0
   pub counts : count + length left ≡ length (values base)
-  pub onward : Begins left (values u) → StartsWithValues s base
-  pub back : StartsWithValues s base → Begins left (values u)
+  pub onward : Begins left (values u) → Begins (values base) (values s)
+  pub back : Begins (values base) (values s) → Begins left (values u)
 
 pub strips_start : (s base u b : List ℕ) → u ≡ rest s 0 0 → b ≡ rest base 0 0
     → StripsOn s base u (values b)
@@ -54,7 +54,7 @@ strips_step s base u t x y left more h l e r same =
     }
 
 pub strips_end : (s base u : List ℕ) (left : List Value) → StripsOn s base u left → left ≡ []
-    → StartsWithValues s base × (u ≡ stripped_of s base)
+    → Begins (values base) (values s) × (u ≡ stripped_of s base)
 strips_end s base u left h l =
     let size = ap length l in
     let counts = h.counts in
@@ -64,7 +64,7 @@ strips_end s base u left h l =
     )
 
 pub strips_short : (s base u : List ℕ) (x : Value) (left more : List Value)
-    → StripsOn s base u left → left ≡ x ∷ more → values u ≡ [] → StartsWithValues s base → ⊥
+    → StripsOn s base u left → left ≡ x ∷ more → values u ≡ [] → Begins (values base) (values s) → ⊥
 strips_short s base u x left more h l e b =
     let k = h.back b in
     let none : x ∷ (more ++ k.0) ≡ [] = sym (ap (λ l. l ++ k.0) l) ∙ k.1 ∙ e in
@@ -72,7 +72,7 @@ strips_short s base u x left more h l e b =
 
 pub strips_differs : (s base u t : List ℕ) (x y : Value) (left more : List Value)
     → StripsOn s base u left → left ≡ x ∷ more → values u ≡ y ∷ values t → (y ≡ x → ⊥)
-    → StartsWithValues s base → ⊥
+    → Begins (values base) (values s) → ⊥
 strips_differs s base u t x y left more h l e differs b =
     let k = h.back b in
     let both : x ∷ (more ++ k.0) ≡ y ∷ values t = sym (ap (λ l. l ++ k.0) l) ∙ k.1 ∙ e in

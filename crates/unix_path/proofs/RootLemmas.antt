@@ -1,16 +1,18 @@
 -- The root stands first alone.
-use Rattle.std.proofs.Common.{◌≡◌, ℕ, ◌<◌, true, false, eqb, ltb, List, [], ◌∷◌, ◌++◌, length}
-use Rattle.std.proofs.Common.{get_or, drop, map, filter, cond, refl, sym, ap, subst, ◌∙◌, arith}
-use Rattle.std.proofs.Common.{eqb-true, length-append, ltb-true, ltb-false}
-use Rattle.std.specs.List.{position_or_len}
+use Rattle.std.proofs.Common.{◌≡◌, ◌↔◌, ℕ, ◌+◌, ◌<◌, Bool, true, false, eqb, ltb, List, [], ◌∷◌}
+use Rattle.std.proofs.Common.{◌++◌, length, get_or, drop, map, cond, refl, sym, ap, subst, ◌∙◌}
+use Rattle.std.proofs.Common.{arith, eqb-true, length-append, ltb-true, ltb-false}
+use Rattle.std.specs.List.{position_or_len, slice_split}
 use Rattle.std.specs.Str.{bytes_eq}
-use Rattle.unix_path.specs.Parts.{Piece, Value, RootDir, CurDir, ParentDir, Normal, is_slash}
-use Rattle.unix_path.specs.Parts.{cur_dir, parent_dir, pieces_at, counts, part_of, value_of_piece}
+use Rattle.unix_path.specs.Parts.{Value, RootDir, is_slash}
+use Rattle.unix_path.specs.Parts.{cur_dir, parent_dir, counts, parts_of_pieces, value_of_piece}
 use Rattle.unix_path.specs.Parts.{counted, values, is_rooted}
+use Rattle.unix_path.specs.Names.{Begins}
 use Rattle.unix_path.specs.Steps.{first_value}
 use Rattle.unix_path.proofs.CaseLemmas.{by_test, is_nil}
 use Rattle.unix_path.proofs.PieceLemmas.{first_piece}
-use Rattle.unix_path.proofs.PartLemmas.{values-nil, parts-root, parts-name}
+use Rattle.unix_path.proofs.PartLemmas.{values-nil, parts-root, parts-name, root_first}
+use Rattle.unix_path.proofs.PartLemmas.{root_first-values}
 
 -- none of the values is the root
 abbrev pub NoRoot : List Value → Type 0
@@ -21,13 +23,15 @@ no_root_piece : (p : List ℕ) → value_of_piece p ≡ RootDir → ⊥
 no_root_piece p =
     by_test (bytes_eq p parent_dir) (λ e. rw e (λ h. cc)) (λ e. rw e (λ h. cc))
 
-no_root_pieces : (ps : List Piece) → NoRoot (map (λ p. p.value) (map part_of ps))
-no_root_pieces [] = tt
-no_root_pieces (p ∷ ps) = (no_root_piece p.bytes, no_root_pieces ps)
+no_root_pieces : (at : ℕ) (ps : List (List ℕ)) → NoRoot (map (λ p. p.value) (parts_of_pieces at ps))
+no_root_pieces at [] = tt
+no_root_pieces at (p ∷ ps) =
+    let next = no_root_pieces (at + length p + 1) ps in
+    by_test (counts p) (λ e. rw e (no_root_piece p, next)) (λ e. rw e next)
 
 pub no_root_counted : (at : ℕ) (s : List ℕ) → NoRoot (map (λ p. p.value) (counted at s))
 unfolding counted
-no_root_counted at s = no_root_pieces (filter counts (pieces_at at s))
+no_root_counted at s = no_root_pieces at (slice_split is_slash s)
 
 -- the first value is v, and no other is the root
 pub record BeginsBy (s : List ℕ) (v : Value) : Type 0 where
@@ -58,28 +62,25 @@ first_value-no_root : (p : List ℕ) → first_value p ≡ RootDir → ⊥
 first_value-no_root p =
     by_test (bytes_eq p cur_dir) (λ e. rw e (λ h. cc)) (λ e. rw e (no_root_piece p))
 
+Begins-root : (vs : List Value) → root_first vs ≡ true → Begins (RootDir ∷ []) vs
+Begins-root [] e = absurd (let d : false ≡ true = e in cc)
+Begins-root (RootDir ∷ vs) e = (vs, refl)
+Begins-root (v ∷ vs) e = absurd (let d : false ≡ true = e in cc)
+
+-- a path with a root is one whose values begin with the root
+pub rooted-Begins : (s : List ℕ) (r : Bool) → r ≡ is_rooted s
+    → r ≡ true ↔ Begins (RootDir ∷ []) (values s)
+rooted-Begins s r e = (
+  λ rooted. Begins-root (values s) (root_first-values s ∙ sym e ∙ rooted),
+  λ h. e ∙ sym (root_first-values s) ∙ sym (ap root_first h.1),
+)
+
 -- 1 where the first value is the root, else 0
 abbrev pub root_count : List Value → ℕ
-root_count [] = 0
-root_count (RootDir ∷ vs) = 1
-root_count (CurDir ∷ vs) = 0
-root_count (ParentDir ∷ vs) = 0
-root_count (Normal name ∷ vs) = 0
-
-root_count-none : (v : Value) (vs : List Value) → (v ≡ RootDir → ⊥) → root_count (v ∷ vs) ≡ 0
-root_count-none RootDir vs differs = absurd (differs refl)
-root_count-none CurDir vs differs = refl
-root_count-none ParentDir vs differs = refl
-root_count-none (Normal name) vs differs = refl
+root_count vs = cond (root_first vs) 1 0
 
 pub root_count-values : (s : List ℕ) → cond (is_rooted s) 1 0 ≡ root_count (values s)
-root_count-values [] = sym (ap root_count values-nil)
-root_count-values (b ∷ s) = by_test (eqb b 47)
-    (λ e. rw e (sym (ap root_count (begins_by_root (b ∷ s) e).is)))
-    (λ e.
-    let h = begins_by_name (b ∷ s) (omega arith) e in
-    let first = first_value-no_root (first_piece (b ∷ s)) in
-    rw e (sym (ap root_count h.is ∙ root_count-none _ h.more first)))
+root_count-values s = ap (λ c. cond c 1 0) (sym (root_first-values s))
 
 no_root_last : (vs : List Value) (v : Value) → NoRoot (vs ++ v ∷ []) → v ≡ RootDir → ⊥
 no_root_last [] v h = h.0

@@ -1,21 +1,24 @@
 -- Where the stem of a file name ends.
-use Rattle.std.proofs.Common.{◌≡◌, ℕ, ◌+◌, ◌-◌, ◌≤◌, not, ◌||◌, List, [], ◌∷◌, ◌++◌}
-use Rattle.std.proofs.Common.{length, map, filter, Some, None, refl, sym, ap, subst, ◌∙◌, arith}
-use Rattle.std.specs.List.{AllByRecursion, slice_split}
+use Rattle.std.proofs.Common.{◌≡◌, ℕ, ◌+◌, ◌-◌, ◌≤◌, List, [], ◌∷◌, ◌++◌}
+use Rattle.std.proofs.Common.{length, map, Option, Some, None, option_map, refl, sym, ap}
+use Rattle.std.proofs.Common.{subst, ◌∙◌, arith}
+use Rattle.std.specs.Option.{option_map_or}
+use Rattle.std.specs.List.{AllByRecursion, before_first, slice_split}
 use Rattle.std.specs.Str.{bytes_eq}
 use Rattle.std.proofs.lemmas.List.{map-append, length-take}
 use Rattle.std.proofs.lemmas.Option.{same_Some, none-some}
 use Rattle.std.proofs.lemmas.Slice.Eq.{bytes_eq-Decides}
 use Rattle.unix_path.specs.Parts.{Part, Value, RootDir, CurDir, ParentDir, Normal, value_bytes}
-use Rattle.unix_path.specs.Parts.{is_slash, cur_dir, parent_dir, placed, counts, part_of}
-use Rattle.unix_path.specs.Parts.{value_of_piece, counted, first_is_cur_dir, leading_part, parts}
+use Rattle.unix_path.specs.Parts.{is_slash, cur_dir, parent_dir, counts, parts_of_pieces}
+use Rattle.unix_path.specs.Parts.{value_of_piece, counted, leading_part, parts}
 use Rattle.unix_path.specs.Parts.{values, is_rooted}
 use Rattle.unix_path.specs.Rest.{rest, last_end}
 use Rattle.unix_path.specs.Steps.{parts_end}
-use Rattle.unix_path.specs.Names.{last_of, name_by, file_name_of, split_name}
-use Rattle.unix_path.specs.Edits.{last_start_of, stem_end_by, stem_end_of}
+use Rattle.unix_path.specs.Names.{name_of, file_name_of, split_name}
+use Rattle.unix_path.specs.Edits.{last_start_of, stem_end_of}
 use Rattle.unix_path.proofs.CaseLemmas.{by_test}
-use Rattle.unix_path.proofs.EndLemmas.{Snoc, Empty, Pushed, snoc, last_of-push}
+use Rattle.unix_path.proofs.EndLemmas.{Snoc, Empty, Pushed, snoc, last_or-push}
+use Rattle.unix_path.proofs.ParentLemmas.{file_name_of-last}
 use Rattle.unix_path.proofs.RestLemmas.{rest-front}
 use Rattle.unix_path.proofs.SpanLemmas.{length-rest_whole}
 
@@ -28,11 +31,11 @@ value_bytes-piece p = by_test (bytes_eq p parent_dir)
     (λ e. rw e (sym ((bytes_eq-Decides p parent_dir).0 e))) (λ e. rw e refl)
 
 sized_pieces : (at : ℕ) (ps : List (List ℕ))
-    → AllByRecursion IsSized (map part_of (filter counts (placed at ps)))
+    → AllByRecursion IsSized (parts_of_pieces at ps)
 sized_pieces at [] = tt
 sized_pieces at (p ∷ ps) =
     let next = sized_pieces (at + length p + 1) ps in
-    by_test (not (bytes_eq p [] || bytes_eq p cur_dir))
+    by_test (counts p)
     (λ e. rw e (ap (λ b. at + length b) (sym (value_bytes-piece p)), next))
     (λ e. rw e next)
 
@@ -44,7 +47,7 @@ sized_append (p ∷ ps) qs h k = (h.0, sized_append ps qs h.1 k)
 sized_leading : (s : List ℕ) → AllByRecursion IsSized (leading_part s)
 unfolding leading_part
 sized_leading s = by_test (is_rooted s) (λ e. rw e (refl, tt))
-    (λ e. rw e (by_test (first_is_cur_dir (slice_split is_slash s)) (λ d. rw d (refl, tt))
+    (λ e. rw e (by_test (bytes_eq (before_first is_slash s) cur_dir) (λ d. rw d (refl, tt))
     (λ d. rw d tt)))
 
 sized_parts : (s : List ℕ) → AllByRecursion IsSized (parts s)
@@ -57,9 +60,7 @@ sized_last [] p h = h.0
 sized_last (q ∷ ps) p h = sized_last ps p h.1
 
 last_start_of-push : (ps : List Part) (p : Part) → last_start_of (ps ++ p ∷ []) ≡ p.start
-last_start_of-push [] p = refl
-last_start_of-push (q ∷ []) p = refl
-last_start_of-push (q ∷ r ∷ rs) p = last_start_of-push (r ∷ rs) p
+last_start_of-push ps p = ap (λ o. option_map_or (λ p. p.start) o 0) (last_or-push None ps p)
 
 last_end-push : (p : Part) (ps : List Part) (q : Part) → last_end p (ps ++ q ∷ []) ≡ q.end
 last_end-push p [] q = refl
@@ -69,30 +70,29 @@ parts_end-push : (ps : List Part) (q : Part) → parts_end (ps ++ q ∷ []) ≡ 
 parts_end-push [] q = refl
 parts_end-push (p ∷ ps) q = last_end-push p ps q
 
-pub name_by-some : (v : Value) (name : List ℕ) → name_by (Some v) ≡ Some name → v ≡ Normal name
-name_by-some RootDir name e = absurd (none-some name e)
-name_by-some CurDir name e = absurd (none-some name e)
-name_by-some ParentDir name e = absurd (none-some name e)
-name_by-some (Normal bytes) name e = ap Normal (same_Some bytes name e)
+pub name_of-some : (v : Value) (name : List ℕ) → name_of v ≡ Some name → v ≡ Normal name
+name_of-some RootDir name e = absurd (none-some name e)
+name_of-some CurDir name e = absurd (none-some name e)
+name_of-some ParentDir name e = absurd (none-some name e)
+name_of-some (Normal bytes) name e = ap Normal (same_Some bytes name e)
 
 -- the file name ends where a fresh cursor's rest ends
-pub last_start_of-name : (s name : List ℕ) → Some name ≡ file_name_of s
+pub last_start_of-name : (s name : List ℕ) → Some name ≡ file_name_of (values s)
     → last_start_of (parts s) + length name ≡ length (rest s 0 0)
 unfolding file_name_of values
 last_start_of-name s name e = by_last (snoc (parts s))
   where
     by_last : Snoc (parts s) → last_start_of (parts s) + length name ≡ length (rest s 0 0)
     by_last (Empty n) =
-        let none : name_by (last_of (map (λ (p : Part). p.value) [])) ≡ Some name =
-        sym (ap (λ ps. name_by (last_of (map (λ p. p.value) ps))) n) ∙ sym e in
-        absurd (none-some name none)
+        let none : Some name ≡ None =
+        e ∙ ap (λ ps. file_name_of (map (λ p. p.value) ps)) n in
+        absurd (none-some name (sym none))
     by_last (Pushed ps p n) =
-        let last : last_of (map (λ p. p.value) (parts s)) ≡ Some p.value =
-        ap (λ ps. last_of (map (λ p. p.value) ps)) n
-        ∙ ap last_of (map-append (λ p. p.value) ps (p ∷ []))
-        ∙ last_of-push (map (λ p. p.value) ps) p.value in
-        let v : p.value ≡ Normal name =
-        name_by-some p.value name (sym (ap name_by last) ∙ sym e) in
+        let last : file_name_of (map (λ p. p.value) (parts s)) ≡ name_of p.value =
+        ap (λ ps. file_name_of (map (λ p. p.value) ps)) n
+        ∙ ap file_name_of (map-append (λ p. p.value) ps (p ∷ []))
+        ∙ file_name_of-last (map (λ p. p.value) ps) p.value in
+        let v : p.value ≡ Normal name = name_of-some p.value name (sym last ∙ sym e) in
         let size : p.end ≡ p.start + length (value_bytes p.value) =
         sized_last ps p (subst (AllByRecursion IsSized) n (sized_parts s)) in
         let bytes : length (value_bytes p.value) ≡ length name =
@@ -102,15 +102,20 @@ last_start_of-name s name e = by_last (snoc (parts s))
         let to : parts_end (parts s) ≡ p.end = ap parts_end n ∙ parts_end-push ps p in
         omega (arith, length-rest_whole s)
 
-pub length-name : (s name : List ℕ) → Some name ≡ file_name_of s
+pub length-name : (s name : List ℕ) → Some name ≡ file_name_of (values s)
     → length name ≤ length (rest s 0 0)
 length-name s name e = omega (arith, last_start_of-name s name e)
 
-pub stem_end_of-none : (s : List ℕ) → None ≡ file_name_of s → None ≡ stem_end_of s
-unfolding stem_end_of
-stem_end_of-none s e = sym (ap (stem_end_by s) (sym e))
+-- where the stem of this name ends in s
+abbrev pub stem_end_by : List ℕ → Option (List ℕ) → Option ℕ
+stem_end_by s name = option_map (λ stem. last_start_of (parts s) + length stem)
+    (option_map (λ name. (split_name name).0) name)
 
-pub stem_end_of-some : (s name : List ℕ) (n : ℕ) → Some name ≡ file_name_of s
+pub stem_end_of-none : (s : List ℕ) → None ≡ file_name_of (values s) → None ≡ stem_end_of s
+unfolding stem_end_of
+stem_end_of-none s e = ap (stem_end_by s) e
+
+pub stem_end_of-some : (s name : List ℕ) (n : ℕ) → Some name ≡ file_name_of (values s)
     → n ≡ length (rest s 0 0) - length name + length (split_name name).0
     → Some n ≡ stem_end_of s
 unfolding stem_end_of

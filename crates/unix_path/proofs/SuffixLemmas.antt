@@ -4,13 +4,13 @@ use Rattle.std.proofs.Common.{append-nil}
 use Rattle.std.proofs.lemmas.List.{same_from_push}
 use Rattle.unix_path.specs.Parts.{Value, values}
 use Rattle.unix_path.specs.Rest.{rest}
-use Rattle.unix_path.specs.Names.{Ends, EndsWithValues}
+use Rattle.unix_path.specs.Names.{Ends}
 use Rattle.unix_path.proofs.ParentLemmas.{values-whole}
 
 -- the values of child that aren't in `left` end those of s, and u has those before them
 pub record EndsOn (s child u : List ℕ) (left : List Value) : Type 0 where
-  pub onward : Ends left (values u) → EndsWithValues s child
-  pub back : EndsWithValues s child → Ends left (values u)
+  pub onward : Ends left (values u) → Ends (values child) (values s)
+  pub back : Ends (values child) (values s) → Ends left (values u)
 
 pub ends_start : (s child u b : List ℕ) → u ≡ rest s 0 0 → b ≡ rest child 0 0
     → EndsOn s child u (values b)
@@ -46,12 +46,13 @@ ends_step s child u t x y left more h l e same =
     }
 
 pub ends_end : (s child u : List ℕ) (left : List Value) → EndsOn s child u left → left ≡ []
-    → EndsWithValues s child
+    → Ends (values child) (values s)
 ends_end s child u left h l =
     h.onward (values u, ap (λ l. values u ++ l) l ∙ append-nil (values u))
 
 pub ends_short : (s child u : List ℕ) (x : Value) (left more : List Value)
-    → EndsOn s child u left → left ≡ more ++ x ∷ [] → values u ≡ [] → EndsWithValues s child → ⊥
+    → EndsOn s child u left → left ≡ more ++ x ∷ [] → values u ≡ []
+    → Ends (values child) (values s) → ⊥
 ends_short s child u x left more h l e b =
     let k = h.back b in
     let none : k.0 ++ (more ++ x ∷ []) ≡ [] = sym (ap (λ l. k.0 ++ l) l) ∙ k.1 ∙ e in
@@ -63,7 +64,7 @@ ends_short s child u x left more h l e b =
 
 pub ends_differs : (s child u t : List ℕ) (x y : Value) (left more : List Value)
     → EndsOn s child u left → left ≡ more ++ x ∷ [] → values u ≡ values t ++ y ∷ []
-    → (y ≡ x → ⊥) → EndsWithValues s child → ⊥
+    → (y ≡ x → ⊥) → Ends (values child) (values s) → ⊥
 ends_differs s child u t x y left more h l e differs b =
     let k = subst (Ends (more ++ x ∷ [])) e (subst (λ l. Ends l (values u)) l (h.back b)) in
     differs (sym (ends_before x y more (values t) k).0)

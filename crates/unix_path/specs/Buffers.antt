@@ -1,5 +1,5 @@
 -- What the clauses on an owned path speak of (Rust's `PathBuf`).
-use Rattle.std.specs.Prelude.{◌≡◌, ◌<◌, ℕ, ◌+◌, ◌-◌, List, [], ◌∷◌, length, map, Option, Some, None}
+use Rattle.std.specs.Prelude.{◌≡◌, ◌<◌, ℕ, ◌+◌, ◌-◌, List, length, map, Option, Some}
 use Rattle.std.specs.Prelude.{vec_len, vec_capacity}
 use Rattle.std.specs.Iterator.{Drains, YieldsThen}
 use Rattle.unix_path.specs.Joins.{join_of, join_all_of}
@@ -38,8 +38,3 @@ pub record JoinsFront {S : Type 0} (steps : S → Option Path → S → Type 0) 
   pub given : YieldsThen steps items paths (Some next) left
   pub bytes : new ≡ join_all_of old (texts paths)
   pub longer : most < length (join_of new next.bytes.now)
-
--- the byte between what is kept and what is added, where there is one
-abbrev pub gap_bytes : Option ℕ → List ℕ
-gap_bytes None = []
-gap_bytes (Some b) = b ∷ []

@@ -1,11 +1,10 @@
 -- What a cursor stands for, and what each of its calls gives and leaves.
 use Rattle.std.specs.Prelude.{List, ℕ, ◌≡◌, Option, map}
+use Rattle.std.specs.Borrow.{Bor}
 use Rattle.std.specs.Iterator.{YieldsFirstBy, YieldsLastBy}
 use Rattle.unix_path.specs.Parts.{Value, values, value_bytes}
 use Rattle.unix_path.specs.Rest.{rest}
-use Rattle.unix_path.specs.Views.{value_of}
-use Rattle.unix_bytes.specs.declared.bytes.UnixStr.{UnixStr}
-use Rattle.unix_path.specs.declared.cursor.Component.{Component}
+use Rattle.unix_path.specs.Places.{LiesIn}
 use Rattle.unix_path.specs.declared.cursor.Components.{Components}
 use Rattle.unix_path.specs.declared.cursor.Iter.{Iter}
 
@@ -13,34 +12,38 @@ use Rattle.unix_path.specs.declared.cursor.Iter.{Iter}
 abbrev pub cursor_rest : Components → List ℕ
 cursor_rest c = c.path.now
 
+-- the slice that a cursor goes over, in which that string lies
+abbrev pub cursor_source : Components → Bor (List ℕ)
+cursor_source c = c.path
+
 -- the values that a cursor still gives
 abbrev pub cursor_values : Components → List Value
 cursor_values c = values (cursor_rest c)
-
--- the first value was given, and the others are left
-pub record GivesFirst (old : Components) (item : Option Component) (new : Components) : Type 0 where
-  pub item_is : YieldsFirstBy value_of cursor_values old item new
-  pub rest_is : cursor_rest new ≡ rest (cursor_rest old) 1 0
-
--- the last value was given, and those before it are left
-pub record GivesLast (old : Components) (item : Option Component) (new : Components) : Type 0 where
-  pub item_is : YieldsLastBy value_of cursor_values old item new
-  pub rest_is : cursor_rest new ≡ rest (cursor_rest old) 0 1
 
 -- the string that an `Iter` stands for
 abbrev pub iter_rest : Iter → List ℕ
 iter_rest it = cursor_rest it.components
 
+-- the slice that an `Iter` goes over
+abbrev pub iter_source : Iter → Bor (List ℕ)
+iter_source it = cursor_source it.components
+
 -- the bytes of the values that an `Iter` still gives
 abbrev pub iter_bytes : Iter → List (List ℕ)
 iter_bytes it = map value_bytes (cursor_values it.components)
 
--- the first value's bytes were given, and the other values are left
-pub record IterGivesFirst (old : Iter) (item : Option UnixStr) (new : Iter) : Type 0 where
-  pub item_is : YieldsFirstBy (λ name. name.bytes.now) iter_bytes old item new
-  pub rest_is : iter_rest new ≡ rest (iter_rest old) 1 0
+-- the first of `left` was given, as `shows` sees it, and what follows the first part is left, in
+-- the same memory
+pub record GivesFirst {S A V : Type 0} (shows : A → V) (left : S → List V) (bytes : S → List ℕ)
+    (source : S → Bor (List ℕ)) (old : S) (item : Option A) (new : S) : Type 0 where
+  pub item_is : YieldsFirstBy shows left old item new
+  pub rest_is : bytes new ≡ rest (bytes old) 1 0
+  pub place_is : LiesIn (source new) (source old)
 
--- the last value's bytes were given, and the values before it are left
-pub record IterGivesLast (old : Iter) (item : Option UnixStr) (new : Iter) : Type 0 where
-  pub item_is : YieldsLastBy (λ name. name.bytes.now) iter_bytes old item new
-  pub rest_is : iter_rest new ≡ rest (iter_rest old) 0 1
+-- the last of `left` was given, as `shows` sees it, and what stands before the last part is left,
+-- in the same memory
+pub record GivesLast {S A V : Type 0} (shows : A → V) (left : S → List V) (bytes : S → List ℕ)
+    (source : S → Bor (List ℕ)) (old : S) (item : Option A) (new : S) : Type 0 where
+  pub item_is : YieldsLastBy shows left old item new
+  pub rest_is : bytes new ≡ rest (bytes old) 0 1
+  pub place_is : LiesIn (source new) (source old)

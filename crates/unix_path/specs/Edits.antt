@@ -1,26 +1,21 @@
 -- What each edit leaves of a path (Rust's `PathBuf::pop`, `PathBuf::set_file_name`,
 -- `PathBuf::set_extension`).
-use Rattle.std.specs.Prelude.{ℕ, ◌+◌, List, [], ◌∷◌, ◌++◌, length, take, Option, Some, None}
-use Rattle.unix_path.specs.Parts.{Part, parts}
+use Rattle.std.specs.Prelude.{ℕ, ◌+◌, ◌==◌, List, [], ◌∷◌, ◌++◌, length, take, Option, None}
+use Rattle.std.specs.Prelude.{unwrap_or, is_some, option_map, if◌then◌else◌}
+use Rattle.std.specs.Option.{option_map_or}
+use Rattle.std.specs.List.{last_or}
+use Rattle.unix_path.specs.Parts.{dot, Part, parts, values}
 use Rattle.unix_path.specs.Rest.{rest}
 use Rattle.unix_path.specs.Joins.{join_of}
-use Rattle.unix_path.specs.Names.{parent_of, file_name_of, split_name}
-
-abbrev pub popped_by : List ℕ → Option (List ℕ) → List ℕ
-popped_by s None = s
-popped_by s (Some parent) = parent
+use Rattle.unix_path.specs.Names.{parent_of, file_name_of, stem_of}
 
 -- the parent, or all of the path where there is none
 unfoldable pub popped_of : List ℕ → List ℕ
-popped_of s = popped_by s (parent_of s)
-
-abbrev pub without_name : List ℕ → Option (List ℕ) → List ℕ
-without_name s None = s
-without_name s (Some name) = rest s 0 1
+popped_of s = unwrap_or (parent_of s) s
 
 -- what stands before the file name, or all of the path where there is none
 unfoldable pub before_name_of : List ℕ → List ℕ
-before_name_of s = without_name s (file_name_of s)
+before_name_of s = if is_some (file_name_of (values s)) then rest s 0 1 else s
 
 -- the name, joined to what stands before the file name
 abbrev pub with_name_of : List ℕ → List ℕ → List ℕ
@@ -28,27 +23,17 @@ with_name_of s name = join_of (before_name_of s) name
 
 -- where the last of these parts starts, or 0 where there is none
 abbrev pub last_start_of : List Part → ℕ
-last_start_of [] = 0
-last_start_of (p ∷ []) = p.start
-last_start_of (p ∷ q ∷ qs) = last_start_of (q ∷ qs)
-
-abbrev pub stem_end_by : List ℕ → Option (List ℕ) → Option ℕ
-stem_end_by s None = None
-stem_end_by s (Some name) = Some (last_start_of (parts s) + length (split_name name).0)
+last_start_of ps = option_map_or (λ p. p.start) (last_or None ps) 0
 
 -- the place where the stem of the file name ends
 unfoldable pub stem_end_of : List ℕ → Option ℕ
-stem_end_of s = stem_end_by s (file_name_of s)
+stem_end_of s = option_map (λ stem. last_start_of (parts s) + length stem) (stem_of (values s))
 
--- a dot and the extension, or nothing where it is empty
-abbrev pub dotted : List ℕ → List ℕ
-dotted [] = []
-dotted (b ∷ bs) = 46 ∷ b ∷ bs
+-- a dot, or nothing where the extension is empty
+abbrev pub dot_before : List ℕ → List ℕ
+dot_before extension = if length extension == 0 then [] else dot ∷ []
 
-abbrev pub extended_by : List ℕ → List ℕ → Option ℕ → List ℕ
-extended_by s extension None = s
-extended_by s extension (Some end) = take end s ++ dotted extension
-
--- the path up to the end of its stem, and then the extension; all of it where there is no file name
+-- the path up to its stem's end, then the dot and the extension; all of it without a file name
 unfoldable pub with_extension_of : List ℕ → List ℕ → List ℕ
-with_extension_of s extension = extended_by s extension (stem_end_of s)
+with_extension_of s extension =
+    option_map_or (λ end. (take end s ++ dot_before extension) ++ extension) (stem_end_of s) s

@@ -1,12 +1,12 @@
 -- One path joined to another (Rust's `Path::join`).
-use Rattle.std.specs.Prelude.{ℕ, Bool, true, List, [], ◌∷◌, ◌++◌, if◌then◌else◌}
+use Rattle.std.specs.Prelude.{ℕ, Bool, true, List, [], ◌∷◌, ◌++◌, None, if◌then◌else◌}
+use Rattle.std.specs.Option.{option_map_or}
+use Rattle.std.specs.List.{last_or}
 use Rattle.unix_path.specs.Parts.{slash, is_slash, is_rooted}
 
--- there is no byte, or the last is a slash
+-- the last byte is a slash, or there is none
 abbrev pub is_open : List ℕ → Bool
-is_open [] = true
-is_open (b ∷ []) = is_slash b
-is_open (b ∷ c ∷ s) = is_open (c ∷ s)
+is_open s = option_map_or is_slash (last_or None s) true
 
 -- a rooted b alone; else a, then b, with a slash between them unless a is empty or ends in one
 unfoldable pub join_of : List ℕ → List ℕ → List ℕ

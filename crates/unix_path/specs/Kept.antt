@@ -25,8 +25,3 @@ cow_bytes (Owned path) = path_bytes path
 abbrev pub IsBorrowed : CowPath → Type 0
 IsBorrowed (Borrowed path) = ⊤
 IsBorrowed (Owned path) = ⊥
-
--- it owns its bytes
-abbrev pub IsOwned : CowPath → Type 0
-IsOwned (Borrowed path) = ⊥
-IsOwned (Owned path) = ⊤

@@ -13,3 +13,4 @@ pub mod Cursor
 pub mod Ancestors
 pub mod Hashed
 pub mod OrderLaws
+pub mod Places

@@ -1,10 +1,10 @@
 -- The order of values and of value lists (Rust's order of `Component` and `Path`).
-use Rattle.std.specs.Prelude.{◌≡◌, ℕ, List, []}
+use Rattle.std.specs.Prelude.{◌≡◌, ℕ, List}
 use Rattle.std.specs.declared.cmp.Ordering.{Ordering}
 use Rattle.std.specs.declared.cmp.Ordering.TheVariants.{Less}
 use Rattle.std.specs.Ordering.{nat_cmp, then_cmp, on}
 use Rattle.std.specs.Cmp.Lexicographic.{slice_cmp}
-use Rattle.unix_path.specs.Parts.{Value, RootDir, CurDir, ParentDir, Normal}
+use Rattle.unix_path.specs.Parts.{Value, RootDir, CurDir, ParentDir, Normal, value_bytes}
 
 -- the place of a value's kind in the order
 abbrev pub rank : Value → ℕ
@@ -13,14 +13,9 @@ rank CurDir = 1
 rank ParentDir = 2
 rank (Normal name) = 3
 
--- the bytes of a name, and nothing for the other kinds
-abbrev pub name_of : Value → List ℕ
-name_of (Normal name) = name
-name_of _ = []
-
--- the root, `.`, `..`, and then the names by their bytes
+-- by their kind, and two names by their bytes
 abbrev pub value_cmp : Value → Value → Ordering
-value_cmp = then_cmp (on rank nat_cmp) (on name_of (slice_cmp nat_cmp))
+value_cmp = then_cmp (on rank nat_cmp) (on value_bytes (slice_cmp nat_cmp))
 
 -- by the first values that differ; a list comes before those that it begins
 abbrev pub values_cmp : List Value → List Value → Ordering

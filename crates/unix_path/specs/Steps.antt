@@ -1,11 +1,12 @@
--- Words of the cursor's private steps. No public clause cites them.
+-- Words of private steps. No public clause cites them.
 use Rattle.std.specs.Prelude.{◌≡◌, ◌<◌, ◌≤◌, nat_lt, ℕ, ◌+◌, ◌-◌, ◌==◌, Bool, false, ◌||◌, ◌&&◌}
 use Rattle.std.specs.Prelude.{List, [], ◌∷◌, ◌++◌, length, drop, slice_index, slice_index_or}
+use Rattle.std.specs.Prelude.{Option, Some, None}
 use Rattle.std.specs.Prelude.{if◌then◌else◌}
 use Rattle.std.specs.List.{position_or_len}
 use Rattle.std.specs.Str.{bytes_eq}
-use Rattle.unix_path.specs.Parts.{parts, counted, slash, is_slash, cur_dir, Part, Value, CurDir}
-use Rattle.unix_path.specs.Parts.{value_of_piece}
+use Rattle.unix_path.specs.Parts.{parts, counted, slash, is_slash, dot, cur_dir, Part, Value}
+use Rattle.unix_path.specs.Parts.{CurDir, value_of_piece}
 use Rattle.unix_path.specs.Parts.{values}
 use Rattle.unix_path.specs.Rest.{last_end, rest}
 
@@ -13,13 +14,13 @@ use Rattle.unix_path.specs.Rest.{last_end, rest}
 abbrev pub is_idle : List ℕ → ℕ → Bool
 is_idle s i =
     slice_index s i == slash
-    || (slice_index s i == 46 && slice_index_or s (i + 1) slash == slash)
+    || (slice_index s i == dot && slice_index_or s (i + 1) slash == slash)
 
 -- i is not 0, and the byte at i is a slash, or a `.` after a slash
 abbrev pub is_trailing : List ℕ → ℕ → Bool
 is_trailing s i =
     nat_lt 0 i
-    && (slice_index s i == slash || (slice_index s i == 46 && slice_index s (i - 1) == slash))
+    && (slice_index s i == slash || (slice_index s i == dot && slice_index s (i - 1) == slash))
 
 -- the string is empty or ends where its last part ends
 abbrev pub EndsInPart : List ℕ → Type 0
@@ -56,3 +57,8 @@ pub record TakesLast (s t : List ℕ) (v : Value) : Type 0 where
   pub value : values s ≡ values t ++ v ∷ []
   pub rest : rest s 0 1 ≡ t
   pub ends : EndsInPart t
+
+-- the byte between what is kept and what is added, where there is one
+abbrev pub gap_bytes : Option ℕ → List ℕ
+gap_bytes None = []
+gap_bytes (Some b) = b ∷ []

@@ -2,12 +2,14 @@
 ghost use Rattle.std.specs.Prelude.{◌≡◌, ◌+◌, ◌^◌, ◌<◌, ◌≤◌, [], ◌++◌, length, take};
 ghost use Rattle.std.specs.Prelude.{max, min, None, IfOk, OnOk, OnErr, IsOk, is_some, string_bytes};
 ghost use Rattle.unix_bytes.specs.Owned.{owned_bytes};
-ghost use Rattle.unix_path.specs.Buffers.{path_bytes, room, capacity, gap_bytes};
+ghost use Rattle.unix_path.specs.Buffers.{path_bytes, room, capacity};
 ghost use Rattle.unix_path.specs.Cursor.{iter_rest};
-ghost use Rattle.unix_path.specs.Edits.{popped_of, with_name_of, dotted, with_extension_of};
+ghost use Rattle.unix_path.specs.Edits.{popped_of, with_name_of, dot_before, with_extension_of};
 ghost use Rattle.unix_path.specs.Joins.{is_open, join_of};
 ghost use Rattle.unix_path.specs.Names.{parent_of, file_name_of};
+ghost use Rattle.unix_path.specs.Parts.{values};
 ghost use Rattle.unix_path.specs.Rest.{rest};
+ghost use Rattle.unix_path.specs.Steps.{gap_bytes};
 
 mod many;
 mod order;
@@ -20,8 +22,10 @@ use unix_bytes::bytes::{UnixStr, UnixString};
 
 /// An owned path: bytes, which slashes cut into parts, and which edits change.
 ///
-/// It keeps its allocator. A call that was refused memory leaves its bytes: each edit makes its
-/// whole growth, by one request at most, before it cuts anything. As Rust's `PathBuf` on Unix.
+/// It keeps its allocator. An edit makes its whole growth, by one request at most, before it cuts
+/// anything, so one that was refused memory leaves the bytes. `extend` makes an edit for each item
+/// and keeps those before the refused one; a refused `into_boxed_path` gives the path up.
+/// As Rust's `PathBuf` on Unix.
 #[derive(Drop)]
 pub struct PathBuf {
     bytes: Vec<u8>,
@@ -55,7 +59,7 @@ fn join_cut(base: &[u8], path: Path<'_>) -> (usize, Option<u8>)
 // The dot before an extension, unless that is empty.
 #[inline]
 fn dot_before(extension: &[u8]) -> Option<u8>
-    ensures { gap_bytes result ++ extension.now ≡ dotted extension.now }
+    ensures { gap_bytes result ≡ dot_before extension.now }
 {
     if extension.is_empty() {
         return None;
@@ -75,7 +79,7 @@ fn total_len(keep: usize, gap: Option<u8>, more: &[u8]) -> usize
     }
 }
 
-// A copy of the three, by one request for memory.
+// A copy of the three, by one request for memory, or by none where they have no bytes.
 fn copied(alloc: Global, front: &[u8], gap: Option<u8>, more: &[u8]) -> Result<PathBuf, AllocError>
     ensures { IfOk result (λ p. path_bytes p ≡ (front.now ++ gap_bytes gap) ++ more.now) }
 {
@@ -100,6 +104,7 @@ impl PathBuf {
     /// The empty path. Takes no memory. As Rust's `PathBuf::new`.
     ///
     /// `PathBuf::new(alloc)` has no part.
+    #[must_use]
     #[inline]
     pub fn new(alloc: Global) -> PathBuf
         ensures { path_bytes result ≡ [] }
@@ -115,6 +120,7 @@ impl PathBuf {
     /// As Rust's `PathBuf::with_capacity`.
     ///
     /// `PathBuf::with_capacity(alloc, 10)?` takes 10 bytes before it grows.
+    #[must_use]
     pub fn with_capacity(alloc: Global, count: usize) -> Result<PathBuf, AllocError>
         ensures bytes { IfOk result (λ p. path_bytes p ≡ []) }
         ensures room { IfOk result (λ p. count ≤ room p) }
@@ -126,8 +132,8 @@ impl PathBuf {
 
     /// A copy of the bytes.
     ///
-    /// Asks for memory once, and is refused where it isn't had. As Rust's `PathBuf::from` a
-    /// reference.
+    /// Asks for memory once, or not at all where there are no bytes; refused where it isn't had. As
+    /// Rust's `PathBuf::from` a reference.
     ///
     /// That of `tmp/` is the path `tmp/`.
     pub fn from_unix_str(alloc: Global, text: UnixStr<'_>) -> Result<PathBuf, AllocError>
@@ -139,8 +145,8 @@ impl PathBuf {
 
     /// A copy of the text's bytes, in UTF-8.
     ///
-    /// Asks for memory once, and is refused where it isn't had. As Rust's `PathBuf::from` a
-    /// `&str`.
+    /// Asks for memory once, or not at all where there are no bytes; refused where it isn't had. As
+    /// Rust's `PathBuf::from` a `&str`.
     ///
     /// `PathBuf::from_text(alloc, "/tmp")?` is the path `/tmp`.
     pub fn from_text(alloc: Global, text: &str) -> Result<PathBuf, AllocError>
@@ -152,6 +158,7 @@ impl PathBuf {
     /// The path as a view of all its bytes. Takes no memory. As Rust's `PathBuf::as_path`.
     ///
     /// After a push of `foo/` onto the empty path, that is `foo/`.
+    #[must_use]
     #[inline]
     pub fn as_path(&self) -> Path<'_>
         ensures { result.bytes.now ≡ path_bytes self.now }
@@ -164,6 +171,7 @@ impl PathBuf {
     /// How many bytes it may hold without a growth. Takes no memory. As Rust's `PathBuf::capacity`.
     ///
     /// After `with_capacity(alloc, 10)` it is at least 10.
+    #[must_use]
     #[inline]
     pub fn capacity(&self) -> usize
         ensures { result ≡ capacity self.now }
@@ -187,6 +195,7 @@ impl PathBuf {
     /// `PathBuf::into_os_string`.
     ///
     /// That of the path `foo/` is `foo/`.
+    #[must_use]
     #[inline]
     pub fn into_unix_string(self) -> UnixString
         ensures { owned_bytes result ≡ path_bytes self }
@@ -196,9 +205,11 @@ impl PathBuf {
 
     /// A copy of the path, under the same allocator.
     ///
-    /// Asks for memory once, and is refused where it isn't had. As `Clone` of Rust's `PathBuf`.
+    /// Asks for memory once, or not at all where there are no bytes; refused where it isn't had. As
+    /// `Clone` of Rust's `PathBuf`.
     ///
     /// A clone of `foo/` is another `foo/`.
+    #[must_use]
     pub fn clone(&self) -> Result<PathBuf, AllocError>
         ensures { IfOk result (λ p. path_bytes p ≡ path_bytes self.now) }
     {
@@ -238,30 +249,33 @@ impl PathBuf {
 
     /// Gives back the room.
     ///
-    /// Moving the bytes to less memory can be refused, and then bytes and room stay; where there is
-    /// no room it takes no memory. As Rust's `PathBuf::shrink_to_fit`.
+    /// The capacity never grows. Moving the bytes to less memory can be refused, and then bytes and
+    /// room stay; where there is no room it takes no memory. As Rust's `PathBuf::shrink_to_fit`.
     ///
     /// `foo` in 10 bytes then stands in 3.
     pub fn shrink_to_fit(&mut self) -> Result<(), AllocError>
         ensures bytes { path_bytes self.new ≡ path_bytes self.old }
         ensures ok { OnOk result (room self.new ≡ 0) }
         ensures succeeds { room self.old ≡ 0 → IsOk result }
+        ensures shrinks { capacity self.new ≤ capacity self.old }
     {
         self.shrink_to(0)
     }
 
     /// Gives back the room past `least` bytes in all, or past the bytes where they are more.
     ///
-    /// Moving the bytes to less memory can be refused, and then bytes and room stay; where the
-    /// capacity is no more than `least` it takes no memory. As Rust's `PathBuf::shrink_to`.
+    /// The capacity never grows, and stays where it is no more than `least`; no memory is taken
+    /// there. Moving the bytes to less memory can be refused, and then bytes and room stay. As
+    /// Rust's `PathBuf::shrink_to`.
     ///
-    /// `foo` in 10 bytes, shrunk to 5, stands in 5, and shrunk to 0 in 3.
+    /// `foo` in 10 bytes, shrunk to 5, stands in 5, shrunk to 0 in 3, and shrunk to 20 in 10.
     pub fn shrink_to(&mut self, least: usize) -> Result<(), AllocError>
         ensures bytes { path_bytes self.new ≡ path_bytes self.old }
         ensures ok { OnOk result (capacity self.new ≤ max least (length (path_bytes self.old))) }
         ensures succeeds { capacity self.old ≤ max least (length (path_bytes self.old))
             → IsOk result }
         ensures room { min least (capacity self.old) ≤ capacity self.new }
+        ensures shrinks { capacity self.new ≤ capacity self.old }
     {
         self.bytes.shrink_to(least);
         if least.max(self.bytes.len()) < self.bytes.capacity() {
@@ -342,14 +356,15 @@ impl PathBuf {
     #[tactic(auto, using(crate::proofs::EditLemmas::extension_cases))]
     pub fn set_extension(&mut self, extension: UnixStr<'_>) -> Result<bool, AllocError>
         ensures value { IfOk result
-            (λ answer. answer ≡ is_some (file_name_of (path_bytes self.old))) }
+            (λ answer. answer ≡ is_some (file_name_of (values (path_bytes self.old)))) }
         ensures ok { OnOk result
             (path_bytes self.new
             ≡ with_extension_of (path_bytes self.old) extension.entry.bytes.now) }
         ensures err { OnErr result (path_bytes self.new ≡ path_bytes self.old) }
         ensures succeeds { length (with_extension_of
             (path_bytes self.old) extension.entry.bytes.now) ≤ capacity self.old → IsOk result }
-        ensures succeeds_nameless { file_name_of (path_bytes self.old) ≡ None → IsOk result }
+        ensures succeeds_nameless { file_name_of (values (path_bytes self.old)) ≡ None
+            → IsOk result }
         ensures succeeds_empty { extension.entry.bytes.now ≡ [] → IsOk result }
         ensures room { capacity self.old ≤ capacity self.new }
     {
@@ -384,9 +399,11 @@ impl PathBuf {
 impl<'a> Path<'a> {
     /// A copy of the path that owns its bytes.
     ///
-    /// Asks for memory once, and is refused where it isn't had. As Rust's `Path::to_path_buf`.
+    /// Asks for memory once, or not at all where there are no bytes; refused where it isn't had. As
+    /// Rust's `Path::to_path_buf`.
     ///
     /// That of `foo/` is another `foo/`.
+    #[must_use]
     pub fn to_path_buf(&self, alloc: Global) -> Result<PathBuf, AllocError>
         ensures { IfOk result (λ p. path_bytes p ≡ self.now.bytes.now) }
     {
@@ -395,10 +412,11 @@ impl<'a> Path<'a> {
 
     /// A copy of the path, with another pushed onto it.
     ///
-    /// Asks for memory once, for as much as the answer has; refused where it isn't had. As Rust's
-    /// `Path::join`.
+    /// Asks for memory once, for as much as the answer has, or not at all where that is empty;
+    /// refused where it isn't had. As Rust's `Path::join`.
     ///
     /// `/etc` joined with `passwd` is `/etc/passwd`, and `a` with the empty path is `a/`.
+    #[must_use]
     pub fn join(&self, alloc: Global, path: Path<'_>) -> Result<PathBuf, AllocError>
         ensures { IfOk result
             (λ p. path_bytes p ≡ join_of self.now.bytes.now path.entry.bytes.now) }
@@ -408,10 +426,11 @@ impl<'a> Path<'a> {
 
     /// A copy of the path, with this file name as `PathBuf::set_file_name` sets it.
     ///
-    /// Asks for memory once, for as much as the answer has; refused where it isn't had. As Rust's
-    /// `Path::with_file_name`.
+    /// Asks for memory once, for as much as the answer has, or not at all where that is empty;
+    /// refused where it isn't had. As Rust's `Path::with_file_name`.
     ///
     /// `/tmp/foo.txt` with the file name `bar.txt` is `/tmp/bar.txt`.
+    #[must_use]
     pub fn with_file_name(&self, alloc: Global, name: UnixStr<'_>) -> Result<PathBuf, AllocError>
         ensures { IfOk result
             (λ p. path_bytes p ≡ with_name_of self.now.bytes.now name.entry.bytes.now) }
@@ -421,8 +440,8 @@ impl<'a> Path<'a> {
 
     /// A copy of the path, with this extension as `PathBuf::set_extension` sets it.
     ///
-    /// Asks for memory once, for as much as the answer has; refused where it isn't had. As Rust's
-    /// `Path::with_extension`.
+    /// Asks for memory once, for as much as the answer has, or not at all where that is empty;
+    /// refused where it isn't had. As Rust's `Path::with_extension`.
     ///
     /// `foo.rs` with the extension `txt` is `foo.txt`, and `..` stays `..`.
     #[tactic(auto, using(crate::proofs::EditLemmas::extension_cases))]

@@ -8,6 +8,7 @@ ghost use Rattle.unix_path.specs.Steps.{HasFirst, is_idle, is_trailing, first_va
 ghost use Rattle.unix_path.specs.Steps.{IsLastStart};
 ghost use Rattle.unix_path.specs.Steps.{TakesFirst, TakesLast};
 ghost use Rattle.unix_path.specs.Views.{value_of};
+ghost use Rattle.unix_path.specs.Places.{LiesIn};
 
 mod parents;
 
@@ -40,6 +41,7 @@ impl<'a> Component<'a> {
     /// As Rust's `Component::as_os_str`.
     ///
     /// `Component::ParentDir.as_unix_str()` is `..`.
+    #[must_use]
     #[inline]
     pub fn as_unix_str(self) -> UnixStr<'a>
         ensures { result.bytes.now ≡ value_bytes (value_of self.entry) }
@@ -69,6 +71,7 @@ impl<'a> Component<'a> {
 /// It stands for the bytes that are left, from the first part not yet taken to the end of the last.
 /// It takes no memory, and copying it copies a view. An ended walk stays ended at both ends.
 /// As Rust's `Components`.
+#[must_use]
 #[derive(Clone, Copy)]
 pub struct Components<'a> {
     // What is left: empty, or beginning and ending with a part.
@@ -202,27 +205,29 @@ fn last_step(path: &[u8]) -> (usize, Component<'_>)
 }
 
 impl<'a> Components<'a> {
-    ghost use Rattle.unix_path.specs.Cursor.{cursor_rest};
+    ghost use Rattle.unix_path.specs.Cursor.{cursor_rest, cursor_source};
 
-    /// The walk over the parts of these bytes. Takes no memory.
-    ///
-    /// The bytes that don't count after the last part are left out at once: `foo/` gives `foo`.
+    // The walk over the parts of these bytes. Those that don't count after the last part are left
+    // out at once: `foo/` gives `foo`.
     #[inline]
-    pub fn new(path: &'a [u8]) -> Components<'a>
-        ensures { cursor_rest result ≡ rest path.now 0 0 }
+    pub(crate) fn new(path: &'a [u8]) -> Components<'a>
+        ensures rest { cursor_rest result ≡ rest path.now 0 0 }
+        ensures place { LiesIn (cursor_source result) path.entry }
     {
         let end = trimmed_len(path, path.len());
         Components { path: &path[..end] }
     }
 
     /// The bytes that are left, as a slice of the source, from the first part not yet taken to the
-    /// end of the last; empty where none is left. Takes no memory.
-    /// As Rust's `Components::as_path`.
+    /// end of the last; empty where none is left. Takes no memory. As Rust's
+    /// `Components::as_path`.
     ///
     /// After one `next`, that of `/tmp//foo/` is `tmp//foo`.
+    #[must_use]
     #[inline]
     pub fn as_path(&self) -> Path<'a>
-        ensures { result.bytes.now ≡ cursor_rest self.now }
+        ensures bytes { result.bytes.now ≡ cursor_rest self.now }
+        ensures place { LiesIn result.bytes (cursor_source self.now) }
     {
         Path { bytes: self.path }
     }
@@ -230,11 +235,12 @@ impl<'a> Components<'a> {
 
 impl<'a> Iterator for Components<'a> {
     ghost use Rattle.std.specs.Iterator.{item_count};
-    ghost use Rattle.unix_path.specs.Cursor.{cursor_values, GivesFirst};
+    ghost use Rattle.unix_path.specs.Cursor.{cursor_rest, cursor_source, cursor_values};
+    ghost use Rattle.unix_path.specs.Cursor.{GivesFirst};
 
     type Item = Component<'a>;
 
-    ghost next_gives = { GivesFirst };
+    ghost next_gives = { GivesFirst value_of cursor_values cursor_rest cursor_source };
 
     ghost remaining = { item_count cursor_values };
 
@@ -250,9 +256,10 @@ impl<'a> Iterator for Components<'a> {
 }
 
 impl<'a> DoubleEndedIterator for Components<'a> {
+    ghost use Rattle.unix_path.specs.Cursor.{cursor_rest, cursor_source, cursor_values};
     ghost use Rattle.unix_path.specs.Cursor.{GivesLast};
 
-    ghost next_back_gives = { GivesLast };
+    ghost next_back_gives = { GivesLast value_of cursor_values cursor_rest cursor_source };
 
     #[inline]
     fn next_back(&mut self) -> Option<Component<'a>> {
@@ -270,20 +277,23 @@ impl FusedIterator for Components<'_> {}
 /// A walk over the bytes of a path's parts, from both ends.
 ///
 /// It takes no memory, and copying it copies a view. As Rust's `std::path::Iter`.
+#[must_use]
 #[derive(Clone, Copy)]
 pub struct Iter<'a> {
     pub(crate) components: Components<'a>,
 }
 
 impl<'a> Iter<'a> {
-    ghost use Rattle.unix_path.specs.Cursor.{iter_rest};
+    ghost use Rattle.unix_path.specs.Cursor.{iter_rest, iter_source};
 
     /// The bytes that are left, as `Components::as_path` gives them. Takes no memory.
     ///
     /// After one `next`, that of `/tmp/foo` is `tmp/foo`.
+    #[must_use]
     #[inline]
     pub fn as_path(&self) -> Path<'a>
-        ensures { result.bytes.now ≡ iter_rest self.now }
+        ensures bytes { result.bytes.now ≡ iter_rest self.now }
+        ensures place { LiesIn result.bytes (iter_source self.now) }
     {
         self.components.as_path()
     }
@@ -291,11 +301,11 @@ impl<'a> Iter<'a> {
 
 impl<'a> Iterator for Iter<'a> {
     ghost use Rattle.std.specs.Iterator.{item_count};
-    ghost use Rattle.unix_path.specs.Cursor.{iter_bytes, IterGivesFirst};
+    ghost use Rattle.unix_path.specs.Cursor.{iter_rest, iter_source, iter_bytes, GivesFirst};
 
     type Item = UnixStr<'a>;
 
-    ghost next_gives = { IterGivesFirst };
+    ghost next_gives = { GivesFirst (λ name. name.bytes.now) iter_bytes iter_rest iter_source };
 
     ghost remaining = { item_count iter_bytes };
 
@@ -306,9 +316,9 @@ impl<'a> Iterator for Iter<'a> {
 }
 
 impl<'a> DoubleEndedIterator for Iter<'a> {
-    ghost use Rattle.unix_path.specs.Cursor.{IterGivesLast};
+    ghost use Rattle.unix_path.specs.Cursor.{iter_rest, iter_source, iter_bytes, GivesLast};
 
-    ghost next_back_gives = { IterGivesLast };
+    ghost next_back_gives = { GivesLast (λ name. name.bytes.now) iter_bytes iter_rest iter_source };
 
     #[inline]
     fn next_back(&mut self) -> Option<UnixStr<'a>> {

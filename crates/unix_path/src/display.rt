@@ -63,6 +63,7 @@ impl<'a> Path<'a> {
     /// `Path::to_str`.
     ///
     /// That of `/tmp` is `/tmp`, and the bytes 61 FF have none.
+    #[must_use]
     #[inline]
     pub fn to_str(&self) -> Option<&'a str>
         ensures value { IsSome result ↔ IsText self.now.bytes.now }
@@ -77,6 +78,7 @@ impl<'a> Path<'a> {
     /// refused where memory isn't had. As Rust's `Path::to_string_lossy`.
     ///
     /// That of the bytes 61 FF is `a` and U+FFFD.
+    #[must_use]
     pub fn to_string_lossy(&self, alloc: Global) -> Result<LossyText<'a>, AllocError>
         ensures value { IfOk result (λ text. text_bytes text ≡ lossy_of self.now.bytes.now) }
         ensures borrowed { IfOk result (λ text. IsBorrowed text ↔ IsText self.now.bytes.now) }
@@ -88,6 +90,7 @@ impl<'a> Path<'a> {
     /// What prints the path as its lossy text. Takes no memory. As Rust's `Path::display`.
     ///
     /// That of `/tmp` is printed as `/tmp`.
+    #[must_use]
     #[inline]
     pub fn display(&self) -> Display<'a>
         ensures { result.bytes.now ≡ self.now.bytes.now }

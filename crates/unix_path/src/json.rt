@@ -1,5 +1,6 @@
 //! Paths as JSON strings.
 ghost use Rattle.std.specs.Prelude.{◌≡◌, ◌≢◌, ◌↔◌, ℕ, List, None, Some, IfOk, IfErr, IsErrOf};
+ghost use Rattle.std.specs.Fmt.{padded};
 ghost use Rattle.serde_json.specs.Find.{as_str};
 ghost use Rattle.serde_json.specs.View.{view};
 ghost use Rattle.unix_bytes.specs.Utf8.{IsText};
@@ -30,6 +31,8 @@ impl fmt::Display for JsonError {
     ghost use Rattle.unix_path.specs.Json.{error_text};
 
     ghost output = { λ error. Some (error_text error) };
+
+    ghost styled_output = { λ error spec. Some (padded spec (error_text error)) };
 
     fn fmt<W: fmt::Write>(&self, f: &mut fmt::Formatter<W>) -> fmt::Result {
         f.pad(match self {

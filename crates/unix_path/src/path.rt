@@ -1,13 +1,14 @@
 //! The view of a path.
-ghost use Rattle.std.specs.Prelude.{◌≡◌, ◌↔◌, ◌≤◌, not, length, take, option_map, IfSome};
-ghost use Rattle.std.specs.Prelude.{IsTrue, IsOk, IfOk, Some, codes};
-ghost use Rattle.unix_path.specs.Parts.{values, begins_with_root};
+ghost use Rattle.std.specs.Prelude.{◌≡◌, ◌↔◌, ◌≤◌, not, [], ◌∷◌, length, take, option_map, IfSome};
+ghost use Rattle.std.specs.Prelude.{IsTrue, IsFalse, IsOk, IfOk, Some, codes};
+ghost use Rattle.std.specs.Fmt.{padded};
+ghost use Rattle.unix_path.specs.Parts.{RootDir, slash, values, is_rooted};
 ghost use Rattle.unix_path.specs.Rest.{rest};
-ghost use Rattle.unix_path.specs.Cursor.{cursor_rest, iter_rest};
+ghost use Rattle.unix_path.specs.Cursor.{cursor_rest, cursor_source, iter_rest, iter_source};
 ghost use Rattle.unix_path.specs.Names.{parent_of, ancestors_of, file_name_of, stem_of};
-ghost use Rattle.unix_path.specs.Names.{extension_of, StartsWithValues, EndsWithValues};
-ghost use Rattle.unix_path.specs.Names.{stripped_of};
+ghost use Rattle.unix_path.specs.Names.{extension_of, Begins, Ends, stripped_of};
 ghost use Rattle.unix_path.specs.Edits.{before_name_of, stem_end_of};
+ghost use Rattle.unix_path.specs.Places.{LiesIn};
 
 use crate::cursor::{Ancestors, Component, Components, Iter};
 use crate::names::split_name;
@@ -32,13 +33,16 @@ pub struct Path<'a> {
 /// It is `/`.
 pub const MAIN_SEPARATOR: char = '/';
 
+const _: () = prove!(MAIN_SEPARATOR == '/');
+
 /// Whether the character stands between two parts of a path: `/` alone does. Takes no memory. As
 /// Rust's `std::path::is_separator` on Unix.
 ///
 /// `is_separator('/')` is true, and `is_separator('\\')` is false.
+#[must_use]
 #[inline]
 pub fn is_separator(c: char) -> bool
-    ensures { IsTrue result ↔ (c ≡ 47) }
+    ensures { IsTrue result ↔ (c ≡ slash) }
 {
     c == MAIN_SEPARATOR
 }
@@ -53,6 +57,8 @@ pub struct StripPrefixError(());
 
 impl fmt::Display for StripPrefixError {
     ghost output = { λ _. Some (codes "prefix not found") };
+
+    ghost styled_output = { λ _ spec. Some (padded spec (codes "prefix not found")) };
 
     fn fmt<W: fmt::Write>(&self, f: &mut fmt::Formatter<W>) -> fmt::Result {
         f.pad("prefix not found")
@@ -77,6 +83,7 @@ impl<'a> Path<'a> {
     /// All bytes of the path. Takes no memory. As Rust's `Path::as_os_str`.
     ///
     /// That of the path `a//b/` is `a//b/`.
+    #[must_use]
     #[inline]
     pub fn as_unix_str(&self) -> UnixStr<'a>
         ensures { result.bytes.now ≡ self.now.bytes.now }
@@ -88,9 +95,11 @@ impl<'a> Path<'a> {
     /// Unix.
     ///
     /// `/tmp` is absolute, and `tmp` isn't.
+    #[must_use]
     #[inline]
     pub fn is_absolute(&self) -> bool
-        ensures { result ≡ begins_with_root (values self.now.bytes.now) }
+        ensures value { result ≡ is_rooted self.now.bytes.now }
+        ensures root { IsTrue result ↔ Begins (RootDir ∷ []) (values self.now.bytes.now) }
     {
         self.has_root()
     }
@@ -99,9 +108,11 @@ impl<'a> Path<'a> {
     /// `Path::is_relative`.
     ///
     /// `./tmp` is relative, and so is the empty path.
+    #[must_use]
     #[inline]
     pub fn is_relative(&self) -> bool
-        ensures { result ≡ not (begins_with_root (values self.now.bytes.now)) }
+        ensures value { result ≡ not (is_rooted self.now.bytes.now) }
+        ensures root { IsFalse result ↔ Begins (RootDir ∷ []) (values self.now.bytes.now) }
     {
         !self.is_absolute()
     }
@@ -109,9 +120,11 @@ impl<'a> Path<'a> {
     /// Whether the path begins with the root. Takes no memory. As Rust's `Path::has_root`.
     ///
     /// `//tmp` has a root, and `tmp/` has none.
+    #[must_use]
     #[inline]
     pub fn has_root(&self) -> bool
-        ensures { result ≡ begins_with_root (values self.now.bytes.now) }
+        ensures value { result ≡ is_rooted self.now.bytes.now }
+        ensures root { IsTrue result ↔ Begins (RootDir ∷ []) (values self.now.bytes.now) }
     {
         !self.bytes.is_empty() && self.bytes[0] == b'/'
     }
@@ -121,7 +134,8 @@ impl<'a> Path<'a> {
     /// That of `/tmp/./foo` gives the root, `tmp` and `foo`.
     #[inline]
     pub fn components(&self) -> Components<'a>
-        ensures { cursor_rest result ≡ rest self.now.bytes.now 0 0 }
+        ensures rest { cursor_rest result ≡ rest self.now.bytes.now 0 0 }
+        ensures place { LiesIn (cursor_source result) self.now.bytes }
     {
         Components::new(self.bytes)
     }
@@ -131,23 +145,26 @@ impl<'a> Path<'a> {
     /// That of `/tmp/./foo` gives `/`, `tmp` and `foo`.
     #[inline]
     pub fn iter(&self) -> Iter<'a>
-        ensures { iter_rest result ≡ rest self.now.bytes.now 0 0 }
+        ensures rest { iter_rest result ≡ rest self.now.bytes.now 0 0 }
+        ensures place { LiesIn (iter_source result) self.now.bytes }
     {
         Iter {
             components: self.components(),
         }
     }
 
-    /// The path without its last part, as a slice of this path's bytes. `None` where there is no
-    /// part or the last is the root.
+    /// The path without its last part, as a slice of this path's bytes, in the same memory. `None`
+    /// where there is no part or the last is the root.
     ///
     /// The parent of a single name is the empty path, which has no parent. Takes no memory. As
     /// Rust's `Path::parent`, whose words name the root alone.
     ///
     /// That of `/tmp//foo/.` is `/tmp`.
+    #[must_use]
     #[inline]
     pub fn parent(&self) -> Option<Path<'a>>
-        ensures { option_map (λ path. path.bytes.now) result ≡ parent_of self.now.bytes.now }
+        ensures value { option_map (λ path. path.bytes.now) result ≡ parent_of self.now.bytes.now }
+        ensures place { IfSome result (λ path. LiesIn path.bytes self.now.bytes) }
     {
         let mut left = self.components();
         let Some(last) = left.next_back() else {
@@ -174,9 +191,11 @@ impl<'a> Path<'a> {
     /// `.` or `..`. Takes no memory. As Rust's `Path::file_name`, whose words name `..` alone.
     ///
     /// That of `foo.txt/.//` is `foo.txt`.
+    #[must_use]
     #[inline]
     pub fn file_name(&self) -> Option<UnixStr<'a>>
-        ensures { option_map (λ name. name.bytes.now) result ≡ file_name_of self.now.bytes.now }
+        ensures { option_map (λ name. name.bytes.now) result
+            ≡ file_name_of (values self.now.bytes.now) }
     {
         let Some(last) = self.components().next_back() else {
             return None;
@@ -191,9 +210,10 @@ impl<'a> Path<'a> {
     /// `None` where there is no file name. Takes no memory. As Rust's `Path::file_stem`.
     ///
     /// That of `foo.tar.gz` is `foo.tar`, and that of `.foo` is `.foo`.
+    #[must_use]
     #[inline]
     pub fn file_stem(&self) -> Option<UnixStr<'a>>
-        ensures { option_map (λ stem. stem.bytes.now) result ≡ stem_of self.now.bytes.now }
+        ensures { option_map (λ stem. stem.bytes.now) result ≡ stem_of (values self.now.bytes.now) }
     {
         match self.file_name() {
             Some(name) => Some(UnixStr {
@@ -207,9 +227,11 @@ impl<'a> Path<'a> {
     /// byte, or there is no dot or no file name. Takes no memory. As Rust's `Path::extension`.
     ///
     /// That of `foo.tar.gz` is `gz`, and that of `foo.` is empty.
+    #[must_use]
     #[inline]
     pub fn extension(&self) -> Option<UnixStr<'a>>
-        ensures { option_map (λ part. part.bytes.now) result ≡ extension_of self.now.bytes.now }
+        ensures { option_map (λ part. part.bytes.now) result
+            ≡ extension_of (values self.now.bytes.now) }
     {
         let Some(name) = self.file_name() else {
             return None;
@@ -220,8 +242,8 @@ impl<'a> Path<'a> {
         }
     }
 
-    /// What follows `base`, as a slice of this path's bytes, where `base`'s parts begin this
-    /// path's.
+    /// What follows `base`, as a slice of this path's bytes, in the same memory, where `base`'s
+    /// parts begin this path's.
     ///
     /// Whole parts count: `foo/bar` has no prefix `foo/ba`. No bytes are left where all parts
     /// match. Refused exactly where `starts_with` is false. Takes no memory. As Rust's
@@ -230,9 +252,11 @@ impl<'a> Path<'a> {
     /// `/a//b/` by `/a` gives `b`.
     #[inline]
     pub fn strip_prefix(&self, base: Path<'_>) -> Result<Path<'a>, StripPrefixError>
-        ensures ok { IsOk result ↔ StartsWithValues self.now.bytes.now base.entry.bytes.now }
+        ensures ok { IsOk result
+            ↔ Begins (values base.entry.bytes.now) (values self.now.bytes.now) }
         ensures value { IfOk result (λ left.
             left.bytes.now ≡ stripped_of self.now.bytes.now base.entry.bytes.now) }
+        ensures place { IfOk result (λ left. LiesIn left.bytes self.now.bytes) }
     {
         match after_prefix(self.bytes, base.bytes) {
             Some(left) => Ok(left.as_path()),
@@ -244,9 +268,11 @@ impl<'a> Path<'a> {
     /// memory. As Rust's `Path::starts_with`; `base` is a `Path`.
     ///
     /// `/etc/passwd` starts with `/etc/`, and not with `/e`.
+    #[must_use]
     #[inline]
     pub fn starts_with(&self, base: Path<'_>) -> bool
-        ensures { IsTrue result ↔ StartsWithValues self.now.bytes.now base.entry.bytes.now }
+        ensures { IsTrue result
+            ↔ Begins (values base.entry.bytes.now) (values self.now.bytes.now) }
     {
         after_prefix(self.bytes, base.bytes).is_some()
     }
@@ -255,9 +281,11 @@ impl<'a> Path<'a> {
     /// `child` is a `Path`.
     ///
     /// `a/b` ends with `b`, and with neither `./b` nor `/b`.
+    #[must_use]
     #[inline]
     pub fn ends_with(&self, child: Path<'_>) -> bool
-        ensures { IsTrue result ↔ EndsWithValues self.now.bytes.now child.entry.bytes.now }
+        ensures { IsTrue result
+            ↔ Ends (values child.entry.bytes.now) (values self.now.bytes.now) }
     {
         ends_with_parts(self.bytes, child.bytes)
     }

@@ -1,8 +1,10 @@
 //! Whether the parts of one path begin or end those of another.
 ghost use Rattle.std.specs.Prelude.{◌≡◌, ◌↔◌, IsTrue, IsSome, IfSome};
-ghost use Rattle.unix_path.specs.Cursor.{cursor_rest};
-ghost use Rattle.unix_path.specs.Names.{StartsWithValues, EndsWithValues, stripped_of};
+ghost use Rattle.unix_path.specs.Cursor.{cursor_rest, cursor_source};
+ghost use Rattle.unix_path.specs.Names.{Begins, Ends, stripped_of};
+ghost use Rattle.unix_path.specs.Parts.{values};
 ghost use Rattle.unix_path.specs.Views.{value_of};
+ghost use Rattle.unix_path.specs.Places.{LiesIn};
 
 use crate::cursor::{Component, Components};
 
@@ -17,8 +19,9 @@ fn same_value(a: Component<'_>, b: Component<'_>) -> bool
 // The walk over what follows `base`, where its parts begin the path's.
 #[inline]
 pub(crate) fn after_prefix<'a>(path: &'a [u8], base: &[u8]) -> Option<Components<'a>>
-    ensures ok { IsSome result ↔ StartsWithValues path.now base.now }
+    ensures ok { IsSome result ↔ Begins (values base.now) (values path.now) }
     ensures value { IfSome result (λ left. cursor_rest left ≡ stripped_of path.now base.now) }
+    ensures place { IfSome result (λ left. LiesIn (cursor_source left) path.entry) }
 {
     let mut left = Components::new(path);
     for part in Components::new(base) {
@@ -35,7 +38,7 @@ pub(crate) fn after_prefix<'a>(path: &'a [u8], base: &[u8]) -> Option<Components
 // Whether the parts of `child` end the path's.
 #[inline]
 pub(crate) fn ends_with_parts(path: &[u8], child: &[u8]) -> bool
-    ensures { IsTrue result ↔ EndsWithValues path.now child.now }
+    ensures { IsTrue result ↔ Ends (values child.now) (values path.now) }
 {
     let mut left = Components::new(path);
     let mut wanted = Components::new(child);

@@ -5,6 +5,7 @@ mod json;
 mod kept;
 mod kept_paths;
 mod order;
+mod places;
 mod printed;
 mod queries;
 mod readme;

@@ -10,6 +10,7 @@ use std::iter::FusedIterator;
 /// `Ancestors`.
 ///
 /// That of `/foo` gives `/foo` and `/`.
+#[must_use]
 #[derive(Clone, Copy, Debug)]
 pub struct Ancestors<'a> {
     pub(crate) next: Option<Path<'a>>,

@@ -33,8 +33,8 @@ pub struct BoxedPath {
 impl BoxedPath {
     /// A copy of the path.
     ///
-    /// Asks for memory once, and is refused where it isn't had. As Rust's `Box::<Path>::from` a
-    /// reference.
+    /// Asks for memory once, or not at all where there are no bytes; refused where it isn't had. As
+    /// Rust's `Box::<Path>::from` a reference.
     ///
     /// That of `foo/` is another `foo/`.
     pub fn from_path(alloc: Global, path: Path<'_>) -> Result<BoxedPath, AllocError>
@@ -62,12 +62,13 @@ impl BoxedPath {
 
     /// A copy of a borrowed path, or the bytes of an owned one.
     ///
-    /// Refused as `from_path` or `from_path_buf` is, and then an owned path is given up.
-    /// As Rust's `Box::<Path>::from` a `Cow<Path>`.
+    /// Refused as `from_path` or `from_path_buf` is, and then an owned path is given up; where that
+    /// has no room, no memory is taken. As Rust's `Box::<Path>::from` a `Cow<Path>`.
     ///
     /// That of a borrowed `foo/` is an owned `foo/`.
     pub fn from_cow(alloc: Global, path: CowPath<'_>) -> Result<BoxedPath, AllocError>
-        ensures { IfOk result (λ p. boxed_bytes p ≡ cow_bytes path.entry) }
+        ensures bytes { IfOk result (λ p. boxed_bytes p ≡ cow_bytes path.entry) }
+        ensures succeeds { (p : PathBuf) → path.entry ≡ CowPath.Owned p → room p ≡ 0 → IsOk result }
     {
         match path {
             CowPath::Borrowed(path) => BoxedPath::from_path(alloc, path),
@@ -89,9 +90,11 @@ impl BoxedPath {
 
     /// A copy of the path, under the same allocator.
     ///
-    /// Asks for memory once, and is refused where it isn't had. As `Clone` of Rust's `Box<Path>`.
+    /// Asks for memory once, or not at all where there are no bytes; refused where it isn't had. As
+    /// `Clone` of Rust's `Box<Path>`.
     ///
     /// A clone of `foo/` is another `foo/`.
+    #[must_use]
     pub fn clone(&self) -> Result<BoxedPath, AllocError>
         ensures { IfOk result (λ p. boxed_bytes p ≡ boxed_bytes self.now) }
     {
@@ -104,6 +107,7 @@ impl BoxedPath {
     /// Takes no memory, and so is never refused. As Rust's `Path::into_path_buf`.
     ///
     /// That of a boxed `foo/` is `foo/`.
+    #[must_use]
     pub fn into_path_buf(self, _alloc: Global) -> Result<PathBuf, AllocError>
         ensures bytes { IfOk result (λ p. path_bytes p ≡ boxed_bytes self) }
         ensures succeeds { IsOk result }
@@ -119,6 +123,7 @@ impl PathBuf {
     /// no room, no memory is taken. As Rust's `PathBuf::into_boxed_path`.
     ///
     /// `foo/` in 10 bytes then stands in 4.
+    #[must_use]
     pub fn into_boxed_path(self) -> Result<BoxedPath, AllocError>
         ensures bytes { IfOk result (λ p. boxed_bytes p ≡ path_bytes self) }
         ensures succeeds { room self ≡ 0 → IsOk result }

@@ -7,7 +7,7 @@ ghost use Rattle.std.specs.Cmp.Rules.{comparing};
 ghost use Rattle.std.proofs.Common.{rules, ap};
 ghost use Rattle.unix_path.specs.Buffers.{path_bytes};
 ghost use Rattle.unix_path.specs.Hashed.{hash_input_of};
-ghost use Rattle.unix_path.specs.Kept.{cow_bytes, IsBorrowed, IsOwned};
+ghost use Rattle.unix_path.specs.Kept.{cow_bytes, IsBorrowed};
 ghost use Rattle.unix_path.specs.Order.{values_cmp};
 ghost use Rattle.unix_path.specs.OrderLaws.{values_cmp-total, is_eq-values_cmp};
 ghost use Rattle.unix_path.specs.Parts.{values, SameValues};
@@ -47,13 +47,13 @@ impl<'a> CowPath<'a> {
 
     /// The path as a buffer: a copy where it is borrowed, and the buffer itself where it is owned.
     ///
-    /// Asks for memory once where it is borrowed, and is refused where that isn't had; takes none
-    /// where it is owned. As Rust's `Cow::into_owned`.
+    /// Asks for memory once where it is borrowed and has bytes, and is refused where that isn't
+    /// had; takes none where it is owned. As Rust's `Cow::into_owned`.
     ///
     /// That of a borrowed `foo/` is another `foo/`.
     pub fn into_owned(self, alloc: Global) -> Result<PathBuf, AllocError>
         ensures bytes { IfOk result (λ p. path_bytes p ≡ cow_bytes self.entry) }
-        ensures succeeds { IsOwned self.entry → IsOk result }
+        ensures succeeds { ¬ (IsBorrowed self.entry) → IsOk result }
     {
         match self {
             CowPath::Borrowed(path) => path.to_path_buf(alloc),
@@ -63,10 +63,11 @@ impl<'a> CowPath<'a> {
 
     /// The same view where the path is borrowed, and a copy where it is owned.
     ///
-    /// Asks for memory once where it is owned, and is refused where that isn't had; takes none
-    /// where it is borrowed. As `Clone` of Rust's `Cow<Path>`.
+    /// Asks for memory once where it is owned and has bytes, and is refused where that isn't had;
+    /// takes none where it is borrowed. As `Clone` of Rust's `Cow<Path>`.
     ///
     /// A clone of a borrowed `foo/` is borrowed from the same place.
+    #[must_use]
     pub fn clone(&self) -> Result<CowPath<'a>, AllocError>
         ensures bytes { IfOk result (λ p. cow_bytes p ≡ cow_bytes self.now) }
         ensures borrowed { IfOk result (λ p. IsBorrowed p ↔ IsBorrowed self.now) }
@@ -91,7 +92,7 @@ impl<'a> From<Path<'a>> for CowPath<'a> {
 
 /// The path, owned. Takes no memory. As Rust's `Cow::<Path>::from` a `PathBuf`.
 impl<'a> From<PathBuf> for CowPath<'a> {
-    ghost from_gives = { λ path cow. (cow_bytes cow ≡ path_bytes path) × IsOwned cow };
+    ghost from_gives = { λ path cow. (cow_bytes cow ≡ path_bytes path) × ¬ (IsBorrowed cow) };
 
     #[inline]
     fn from(path: PathBuf) -> CowPath<'a> {

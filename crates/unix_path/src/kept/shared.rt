@@ -31,8 +31,8 @@ pub struct RcPath {
 impl RcPath {
     /// A copy of the path, with one owner.
     ///
-    /// Asks for memory twice at most, and is refused where it isn't had. As Rust's
-    /// `Rc::<Path>::from` a reference.
+    /// Asks for memory once for the count of owners, and once for the bytes where there are any;
+    /// refused where it isn't had. As Rust's `Rc::<Path>::from` a reference.
     ///
     /// That of `foo/` is another `foo/`.
     pub fn from_path(alloc: Global, path: Path<'_>) -> Result<RcPath, AllocError>
@@ -44,8 +44,8 @@ impl RcPath {
 
     /// A copy of the buffer's bytes, with one owner; the buffer is given up.
     ///
-    /// Asks for memory twice at most, and is refused where it isn't had. As Rust's
-    /// `Rc::<Path>::from` a `PathBuf`.
+    /// Asks for memory once for the count of owners, and once for the bytes where there are any;
+    /// refused where it isn't had. As Rust's `Rc::<Path>::from` a `PathBuf`.
     ///
     /// That of `foo/` is another `foo/`.
     pub fn from_path_buf(alloc: Global, path: PathBuf) -> Result<RcPath, AllocError>
@@ -72,6 +72,7 @@ impl RcPath {
     /// process there.
     ///
     /// A clone of `foo/` is `foo/`.
+    #[must_use]
     pub fn clone(&self) -> Result<RcPath, AllocError>
         ensures { IfOk result (λ p. rc_bytes p ≡ rc_bytes self.now) }
     {

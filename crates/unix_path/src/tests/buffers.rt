@@ -29,6 +29,9 @@ fn a_push_joins(rt: HostRuntime) -> Result<(), Fail> {
         ("/foo/bar", "/baz", "/baz"),
         ("/foo/bar", "./baz", "/foo/bar/./baz"),
         ("/etc", "passwd", "/etc/passwd"),
+        ("/tmp", "file.bk", "/tmp/file.bk"),
+        ("/tmp/file.bk", "/etc", "/etc"),
+        ("/tmp", "/etc", "/etc"),
         ("a", "", "a/"),
     ] {
         let mut buffer = PathBuf::from_text(alloc, old)?;
@@ -188,6 +191,11 @@ fn conversions_keep_the_bytes(rt: HostRuntime) -> Result<(), Fail> {
     let text: UnixString = third.into();
     let fourth = PathBuf::from(text);
     assert_eq!(rt; fourth.into_unix_string().as_unix_str(), bytes);
+    let head = PathBuf::from_text(alloc, "/the/head")?;
+    assert_eq!(rt;
+        head.into_unix_string().as_unix_str(),
+        UnixStr::new("/the/head")
+    );
     let owned = PathBuf::from(String::from_str(alloc, "/tmp/")?);
     assert_bytes(&rt, &owned, "/tmp/");
     let mut parts = (&owned).into_iter();
@@ -214,6 +222,17 @@ fn room_is_made_and_given_back(rt: HostRuntime) -> Result<(), Fail> {
     assert!(rt; buffer.capacity() >= 53);
     buffer.shrink_to_fit()?;
     assert!(rt; buffer.capacity() < 53);
+    assert_bytes(&rt, &buffer, "foo");
+    Ok(())
+}
+
+#[test]
+fn a_shrink_to_more_leaves_the_capacity(rt: HostRuntime) -> Result<(), Fail> {
+    let mut buffer = PathBuf::with_capacity(rt.alloc(), 10)?;
+    buffer.push(path("foo"))?;
+    let before = buffer.capacity();
+    buffer.shrink_to(1000)?;
+    assert_eq!(rt; buffer.capacity(), before);
     assert_bytes(&rt, &buffer, "foo");
     Ok(())
 }

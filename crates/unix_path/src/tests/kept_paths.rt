@@ -221,6 +221,30 @@ fn conversions_keep_the_bytes(rt: HostRuntime) -> Result<(), Fail> {
     Ok(())
 }
 
+#[test]
+fn each_conversion_keeps_a_name(rt: HostRuntime) -> Result<(), Fail> {
+    let alloc = rt.alloc();
+    let name = UnixStr::new("foo.txt");
+    let view = Path::new(name);
+    let buffer = PathBuf::from_unix_str(alloc, name)?;
+    assert_eq!(rt; buffer.as_path().as_unix_str(), name);
+    let from_text = PathBuf::from_text(alloc, "foo.txt")?;
+    assert_eq!(rt; from_text.as_path().as_unix_str(), name);
+    let from_string = PathBuf::from(String::from_str(alloc, "foo.txt")?);
+    assert_eq!(rt; from_string.as_path().as_unix_str(), name);
+    let from_unix_string = PathBuf::from(name.to_unix_string(alloc)?);
+    assert_eq!(rt; from_unix_string.as_path().as_unix_str(), name);
+    assert_eq!(rt; view.to_path_buf(alloc)?.as_path().as_unix_str(), name);
+    let boxed = BoxedPath::from_path(alloc, view)?;
+    assert_eq!(rt; boxed.as_path().as_unix_str(), name);
+    let shared = RcPath::from_path(alloc, view)?;
+    assert_eq!(rt; shared.as_path().as_unix_str(), name);
+    assert_eq!(rt; CowPath::from(view).as_path().as_unix_str(), name);
+    assert_eq!(rt; CowPath::from(&buffer).as_path().as_unix_str(), name);
+    assert_eq!(rt; CowPath::from(buffer).as_path().as_unix_str(), name);
+    Ok(())
+}
+
 fn shows(rt: &impl Abort, alloc: Global, value: &impl fmt::Debug) -> Result<(), AllocError> {
     assert_eq!(rt; format!(in alloc; "{value:?}")?.as_str(), "\"/tmp\"");
     Ok(())

@@ -34,6 +34,7 @@ fn debug_texts(rt: HostRuntime) -> Result<(), Fail> {
     assert!(rt; has_debug_text(alloc, &ancestors, "Ancestors { next: None }")?);
     assert!(rt; has_debug_text(alloc, &path, "\"/tmp\"")?);
     assert!(rt; has_debug_text(alloc, &path.as_unix_str(), "\"/tmp\"")?);
+    assert!(rt; has_debug_text(alloc, &path.display(), "\"/tmp\"")?);
     Ok(())
 }
 

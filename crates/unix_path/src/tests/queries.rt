@@ -33,7 +33,7 @@ type Parts = (
     Option<&'static str>,
 );
 
-static DECOMPOSED: [Parts; 27] = [
+static DECOMPOSED: [Parts; 28] = [
     ("", &[], None, None),
     ("foo", &["foo"], Some(""), Some("foo")),
     ("/", &["/"], None, None),
@@ -71,6 +71,12 @@ static DECOMPOSED: [Parts; 27] = [
     ("a/./b", &["a", "b"], Some("a"), Some("b")),
     ("a/b/c", &["a", "b", "c"], Some("a/b"), Some("c")),
     (".foo", &[".foo"], Some(""), Some(".foo")),
+    (
+        "/etc/passwd",
+        &["/", "etc", "passwd"],
+        Some("/etc"),
+        Some("passwd"),
+    ),
 ];
 
 fn gives(text: &str, parts: &[&str]) -> bool {
@@ -115,8 +121,50 @@ fn decompositions(rt: HostRuntime) {
     }
 }
 
+// A path, and the bytes of its parts.
+static LISTED: [(&str, &[&str]); 3] = [
+    ("/tmp/foo/bar.txt", &["/", "tmp", "foo", "bar.txt"]),
+    ("./tmp/foo/bar.txt", &[".", "tmp", "foo", "bar.txt"]),
+    ("/tmp/foo.txt", &["/", "tmp", "foo.txt"]),
+];
+
+fn component(text: &str) -> Component<'_> {
+    if text == "/" {
+        return Component::RootDir;
+    }
+    if text == "." {
+        return Component::CurDir;
+    }
+    Component::Normal(UnixStr::new(text))
+}
+
+fn has_components(text: &str, parts: &[&str]) -> bool {
+    let mut walk = path(text).components();
+    for part in parts {
+        let Some(found) = walk.next() else {
+            return false;
+        };
+        if found != component(part) || found.as_unix_str() != UnixStr::new(part) {
+            return false;
+        }
+    }
+    walk.next().is_none()
+}
+
+#[test]
+fn lists_of_parts(rt: HostRuntime) {
+    for row in LISTED.iter() {
+        assert!(rt; has_components(row.0, row.1), "{}", row.0);
+        assert!(rt;
+            gives(row.0, row.1) && gives_back(row.0, row.1),
+            "{}",
+            row.0
+        );
+    }
+}
+
 // A path, its stem and its extension.
-static STEMS: [(&str, Option<&str>, Option<&str>); 15] = [
+static STEMS: [(&str, Option<&str>, Option<&str>); 16] = [
     ("foo", Some("foo"), None),
     ("foo.", Some("foo"), Some("")),
     (".foo", Some(".foo"), None),
@@ -130,6 +178,7 @@ static STEMS: [(&str, Option<&str>, Option<&str>); 15] = [
     ("..foo", Some("."), Some("foo")),
     ("a/..foo", Some("."), Some("foo")),
     ("./foo/bar.txt", Some("bar"), Some("txt")),
+    ("/tmp/foo/bar.txt", Some("bar"), Some("txt")),
     ("foo.tar.gz", Some("foo.tar"), Some("gz")),
     ("/", None, None),
 ];
@@ -216,7 +265,7 @@ type Compared = (
     Option<&'static str>,
 );
 
-static COMPARED: [Compared; 24] = [
+static COMPARED: [Compared; 26] = [
     ("", "", true, true, true, Some("")),
     ("foo", "", false, true, true, Some("foo")),
     ("", "foo", false, false, false, None),
@@ -269,6 +318,8 @@ static COMPARED: [Compared; 24] = [
     ("/test/haha/foo.txt", "test", false, false, false, None),
     ("/test/haha/foo.txt", "/haha", false, false, false, None),
     ("/etc/passwd", "/etc/", false, true, false, Some("passwd")),
+    ("/etc/passwd", "/etc", false, true, false, Some("passwd")),
+    ("/etc/passwd", "/etc/passwd", true, true, true, Some("")),
     ("/etc/passwd", "/etc/passwd/", true, true, true, Some("")),
     ("/etc/passwd", "/e", false, false, false, None),
     ("/etc/passwd", "passwd", false, false, true, None),
@@ -305,6 +356,7 @@ fn comparisons(rt: HostRuntime) {
 fn separators(rt: HostRuntime) {
     assert!(rt; crate::MAIN_SEPARATOR == '/' && is_separator('/'));
     assert!(rt; !is_separator('\\') && !is_separator('\u{2215}') && !is_separator('a'));
+    assert!(rt; !is_separator('❤'));
 }
 
 // Each answer outlives the view that gave it, and the view that it was asked with.

@@ -7,5 +7,5 @@ use Rattle.unix_path.proofs.order.compare_paths.Goals as goal
 pub returns : goal.returns
 returns c =
     c.compare_parts.ensures ∙ ap₂ values_cmp
-    (values-whole c.args.a.bytes.now (cursor_rest c.components.result) c.components.ensures)
-    (values-whole c.args.b.bytes.now (cursor_rest c.components-2.result) c.components-2.ensures)
+    (values-whole c.args.a.bytes.now (cursor_rest c.components.result) c.components.ensures.rest)
+    (values-whole c.args.b.bytes.now (cursor_rest c.components-2.result) c.components-2.ensures.rest)

@@ -1,7 +1,8 @@
 use Rattle.std.proofs.Common.{◌∙◌, ap, refl}
 use Rattle.unix_path.specs.Views.{value_of}
-use Rattle.unix_path.specs.Cursor.{cursor_rest, cursor_values}
+use Rattle.unix_path.specs.Cursor.{cursor_rest, cursor_source, cursor_values}
 use Rattle.unix_path.proofs.PrefixLemmas.{strips_start, strips_step, strips_end}
+use Rattle.unix_path.proofs.SourceLemmas.{LiesIn-itself, LiesIn-trans}
 use Rattle.unix_path.proofs.prefix.after_prefix.Goals as goal
 
 pub loop-part-init : goal.loop-part-init
@@ -9,9 +10,10 @@ loop-part-init c = record {
   can = tt;
   finite = tt;
   so_far = strips_start c.args.path.now c.args.base.now (cursor_rest c.new-left.result)
-      (cursor_rest c.into_iter-part-iterator.result) c.new-left.ensures
+      (cursor_rest c.into_iter-part-iterator.result) c.new-left.ensures.rest
       (ap cursor_rest c.into_iter-part-iterator.ensures.into_iter_gives
-      ∙ c.new-part-items.ensures);
+      ∙ c.new-part-items.ensures.rest);
+  place = LiesIn-itself (cursor_source c.new-left.result);
 }
 
 pub loop-part-preserved : goal.loop-part-preserved
@@ -26,6 +28,7 @@ loop-part-preserved c =
           (cursor_values c.next.new.self) c.loop-part.invariant.so_far
           c.in-Some.ensures.steps.item_is own.item_is own.rest_is
           (c.if-not-same_value.ensures.0 refl);
+      place = LiesIn-trans _ _ _ own.place_is c.loop-part.invariant.place;
     }
 
 pub returns-clause-ok : goal.returns-clause-ok

@@ -7,7 +7,7 @@ use Rattle.unix_path.proofs.prefix.ends_with_parts.Goals as goal
 
 pub loop-part-init : goal.loop-part-init
 loop-part-init c = ends_start c.args.path.now c.args.child.now (cursor_rest c.new-left.result)
-    (cursor_rest c.new-wanted.result) c.new-left.ensures c.new-wanted.ensures
+    (cursor_rest c.new-wanted.result) c.new-left.ensures.rest c.new-wanted.ensures.rest
 
 pub returns-in_default-next_back : goal.returns-in_default-next_back
 returns-in_default-next_back c = (

@@ -4,8 +4,8 @@ use Rattle.unix_path.proofs.SpanLemmas.{rest-trimmed}
 use Rattle.unix_path.proofs.TrimLemmas.{EndsInPart-take}
 use Rattle.unix_path.proofs.cursor.Components.new.Goals as goal
 
-pub returns : goal.returns
-returns c =
+pub returns-clause-rest : goal.returns-clause-rest
+returns-clause-rest c =
     let path = c.args.path.now in
     let end = c.trimmed_len-end in
     sym (rest-trimmed path end.result end.ensures.in_range

@@ -1,8 +1,10 @@
 use Rattle.std.proofs.Common.{ap, ◌∙◌, sym, eqb-true}
 use Rattle.unix_path.specs.Parts.{values}
 use Rattle.unix_path.specs.Rest.{rest}
+use Rattle.unix_path.specs.Cursor.{cursor_source}
 use Rattle.unix_path.proofs.PartLemmas.{values-nil}
 use Rattle.unix_path.proofs.CaseLemmas.{is_nil}
+use Rattle.unix_path.proofs.SourceLemmas.{LiesIn-itself}
 use Rattle.unix_path.proofs.PartLemmas.{rest-nil}
 use Rattle.unix_path.proofs.cursor.ComponentsDoubleEndedIterator.next_back.Goals as goal
 
@@ -14,4 +16,5 @@ returns-then-is_empty-clause-steps c =
       item_is = (no_value, no_value);
       rest_is = none
           ∙ sym (ap (λ s. rest s 0 1) none ∙ rest-nil 0 1);
+      place_is = LiesIn-itself (cursor_source c.args.self.now);
     }

@@ -1,6 +1,7 @@
 use Rattle.std.proofs.Common.{sym, ap, ◌∙◌}
 use Rattle.std.specs.Ordering.{is_eq}
-use Rattle.unix_path.specs.OrderLaws.{is_eq-values_cmp, values_cmp-same}
+use Rattle.unix_path.specs.OrderLaws.{is_eq-values_cmp}
+use Rattle.unix_path.proofs.TieLemmas.{values_cmp-same}
 use Rattle.unix_path.proofs.order.ComponentsPartialEq.eq.Goals as goal
 
 pub returns-clause-same : goal.returns-clause-same

@@ -1,28 +1,28 @@
-use Rattle.std.proofs.Common.{Some, sym, ap, ◌∙◌}
+use Rattle.std.proofs.Common.{Some, [], ◌∷◌, ◌++◌, ap, ◌∙◌}
+use Rattle.unix_path.specs.Parts.{values}
 use Rattle.unix_path.specs.Views.{value_of}
 use Rattle.unix_path.specs.Cursor.{cursor_rest}
-use Rattle.unix_path.specs.Names.{parent_by}
-use Rattle.unix_path.proofs.ParentLemmas.{parent_of-none, parent_of-push}
-use Rattle.unix_path.proofs.ComponentLemmas.{parent_by-other}
+use Rattle.unix_path.proofs.ParentLemmas.{parent_of-none, parent_of-root, parent_of-push}
+use Rattle.unix_path.proofs.ComponentLemmas.{value_of-other}
 use Rattle.unix_path.proofs.path.Path.parent.Goals as goal
 
-pub returns-in_default : goal.returns-in_default
-returns-in_default c =
+pub returns-in_default-clause-value : goal.returns-in_default-clause-value
+returns-in_default-clause-value c =
     parent_of-none c.args.self.now.bytes.now (cursor_rest c.components-left.result)
-    c.components-left.ensures c.in_default.ensures.steps.item_is.0
+    c.components-left.ensures.rest c.in_default.ensures.steps.item_is.0
 
-pub returns-in-RootDir : goal.returns-in-RootDir
-returns-in-RootDir c =
+pub returns-in-RootDir-clause-value : goal.returns-in-RootDir-clause-value
+returns-in-RootDir-clause-value c =
+    let left = cursor_rest c.next_back.new.self in
+    parent_of-root c.args.self.now.bytes.now (cursor_rest c.components-left.result) left
+    c.components-left.ensures.rest (c.in-Some.ensures.steps.item_is
+    ∙ ap (λ last. values left ++ value_of last ∷ []) c.in-RootDir.is)
+
+pub returns-in_default-last-clause-value : goal.returns-in_default-last-clause-value
+returns-in_default-last-clause-value c =
     let left = cursor_rest c.next_back.new.self in
     let step = c.in-Some.ensures.steps in
-    ap (λ last. parent_by (Some (value_of last)) left) (sym c.in-RootDir.is)
+    ap Some c.as_path.ensures.bytes
     ∙ parent_of-push c.args.self.now.bytes.now (cursor_rest c.components-left.result) left
-    (value_of c.in-Some.last) c.components-left.ensures step.item_is step.rest_is
-
-pub returns-in_default-last : goal.returns-in_default-last
-returns-in_default-last c =
-    let left = cursor_rest c.next_back.new.self in
-    let step = c.in-Some.ensures.steps in
-    ap Some c.as_path.ensures ∙ parent_by-other c.in-Some.last left c.in_default-last.not-RootDir
-    ∙ parent_of-push c.args.self.now.bytes.now (cursor_rest c.components-left.result) left
-    (value_of c.in-Some.last) c.components-left.ensures step.item_is step.rest_is
+    (value_of c.in-Some.last) c.components-left.ensures.rest step.item_is step.rest_is
+    (value_of-other c.in-Some.last c.in_default-last.not-RootDir)
