@@ -4,10 +4,9 @@ use Rattle.std.proofs.Common.{None, sym, ap, ◌∙◌, append-nil, take-append-
 use Rattle.std.specs.List.{All, AllByRecursion, range_with_len}
 use Rattle.std.proofs.lemmas.List.Elements.{All-from_recursion}
 use Rattle.unix_path.specs.Rest.{rest}
-use Rattle.unix_path.specs.Names.{parent_of, depth_of, ancestors_of}
+use Rattle.unix_path.specs.Names.{parent_of, depth_of, ancestors_of, Begins}
 use Rattle.unix_path.proofs.AncestorLemmas.{ancestors_by, ancestors_of-parent}
 use Rattle.unix_path.proofs.RestLemmas.{rest-front}
-use Rattle.path_runs.specs.QueryLaws.{IsFrontOf}
 
 pub ancestors_of-alone : (s : List ℕ) → parent_of s ≡ None → ancestors_of s ≡ s ∷ []
 ancestors_of-alone s e = ancestors_of-parent s ∙ ap (λ o. s ∷ ancestors_by o) e
@@ -15,6 +14,10 @@ ancestors_of-alone s e = ancestors_of-parent s ∙ ap (λ o. s ∷ ancestors_by 
 pub ancestors_of-above : (s parent : List ℕ) → parent_of s ≡ Some parent
     → ancestors_of s ≡ s ∷ ancestors_of parent
 ancestors_of-above s parent e = ancestors_of-parent s ∙ ap (λ o. s ∷ ancestors_by o) e
+
+-- `front` begins s
+abbrev IsFrontOf : List ℕ → List ℕ → Type 0
+IsFrontOf s front = Begins front s
 
 front : (s : List ℕ) (m : ℕ) → IsFrontOf s (rest s 0 m)
 front s m =
@@ -30,5 +33,5 @@ ancestors-recursion : (s : List ℕ) → AllByRecursion (IsFrontOf s) (ancestors
 unfolding ancestors_of
 ancestors-recursion s = (([], append-nil s), fronts s 1 (depth_of s))
 
-pub ancestors_of-fronts : (s : List ℕ) → All (IsFrontOf s) (ancestors_of s)
+pub ancestors_of-fronts : (s : List ℕ) → All (λ front. Begins front s) (ancestors_of s)
 ancestors_of-fronts s = All-from_recursion (IsFrontOf s) (ancestors_of s) (ancestors-recursion s)

@@ -1,24 +1,25 @@
 -- What an edit leaves and answers depends on the path's values alone.
-use Rattle.std.proofs.Common.{◌≡◌, ℕ, ◌+◌, List, [], ◌∷◌, ◌++◌, length, take, Option, Some, None}
-use Rattle.std.proofs.Common.{is_some}
+use Rattle.std.proofs.Common.{◌≡◌, ℕ, ◌+◌, ◌-◌, Bool, true, false, cond, eqb, List, [], ◌∷◌, ◌++◌}
+use Rattle.std.proofs.Common.{length, take, Option, Some, None, is_some, unwrap_or}
 use Rattle.std.proofs.Common.{refl, sym, ap, ap₂, subst, ◌∙◌, append_assoc, length-append}
+use Rattle.std.specs.List.{AllZip}
 use Rattle.std.proofs.lemmas.List.{take_at, same_from_push}
-use Rattle.unix_path.specs.Parts.{Value, RootDir, CurDir, ParentDir, Normal, parts, values}
-use Rattle.unix_path.specs.Parts.{SameValues}
+use Rattle.unix_path.specs.Parts.{Normal, parts, values, SameValues}
 use Rattle.unix_path.specs.Rest.{rest}
-use Rattle.unix_path.specs.Names.{last_of, parent_by, parent_of, name_by, file_name_of, split_name}
-use Rattle.unix_path.specs.Edits.{popped_by, popped_of, without_name, before_name_of, with_name_of}
-use Rattle.unix_path.specs.Edits.{last_start_of, stem_end_by, stem_end_of, dotted, extended_by}
-use Rattle.unix_path.specs.Edits.{with_extension_of}
+use Rattle.unix_path.specs.Names.{depth_of, parent_of, file_name_of, split_name}
+use Rattle.unix_path.specs.Edits.{popped_of, before_name_of, with_name_of, last_start_of}
+use Rattle.unix_path.specs.Edits.{stem_end_of, dot_before, with_extension_of}
+use Rattle.unix_path.proofs.EditLemmas.{extended}
 use Rattle.unix_path.proofs.MiddleLemmas.{middle}
 use Rattle.unix_path.proofs.RestLemmas.{values-rest}
+use Rattle.unix_path.proofs.StemLemmas.{stem_end_by}
 use Rattle.path_runs.specs.declared.edits.Answer.{Answer}
 use Rattle.path_runs.specs.declared.edits.Answer.TheVariants.{Flag}
 use Rattle.path_runs.specs.Runs.{EditValue, Push, Pop, SetFileName, SetExtension, Clear, edit_of}
 use Rattle.path_runs.specs.Runs.{edits_of}
-use Rattle.path_runs.specs.EditLaws.{SameEdit, SameEdits}
+use Rattle.path_runs.specs.EditLaws.{SameEdit}
 use Rattle.path_runs.proofs.DotLemmas.{stem_front}
-use Rattle.path_runs.proofs.LeadLemmas.{joins_same}
+use Rattle.path_runs.proofs.LeadLemmas.{joins_same, roots_same}
 use Rattle.path_runs.proofs.NamedLemmas.{NamedCut, named_cut}
 use Rattle.path_runs.proofs.ValueLemmas.{added, added-open}
 
@@ -38,28 +39,33 @@ stem_kept s name c =
     regroup f a b c = simp append_assoc
 
 -- the bytes with an extension set
-pub with_extension_of-cut : (s name x : List ℕ) → file_name_of s ≡ Some name
+pub with_extension_of-cut : (s name x : List ℕ) → file_name_of (values s) ≡ Some name
     → (c : NamedCut s name)
-    → with_extension_of s x ≡ c.front ++ ((split_name name).0 ++ dotted x)
+    → with_extension_of s x ≡ c.front ++ ((split_name name).0 ++ (dot_before x ++ x))
 unfolding with_extension_of stem_end_of
 with_extension_of-cut s name x e c =
-    ap (λ o. extended_by s x (stem_end_by s o)) e ∙ ap (λ z. z ++ dotted x) (stem_kept s name c)
-    ∙ append_assoc c.front (split_name name).0 (dotted x)
+    ap (λ o. extended s x (stem_end_by s o)) e
+    ∙ ap (λ z. (z ++ dot_before x) ++ x) (stem_kept s name c)
+    ∙ regroup c.front (split_name name).0 (dot_before x) x
+  where
+    regroup : (f a b c : List ℕ) → ((f ++ a) ++ b) ++ c ≡ f ++ (a ++ (b ++ c))
+    regroup f a b c = simp append_assoc
 
-values-with_extension_of : (s name x : List ℕ) → file_name_of s ≡ Some name
+values-with_extension_of : (s name x : List ℕ) → file_name_of (values s) ≡ Some name
     → (c : NamedCut s name)
-    → values (with_extension_of s x) ≡ added (values c.front) ((split_name name).0 ++ dotted x)
+    → values (with_extension_of s x)
+    ≡ added (values c.front) ((split_name name).0 ++ (dot_before x ++ x))
 values-with_extension_of s name x e c =
     ap values (with_extension_of-cut s name x e c)
-    ∙ added-open c.front ((split_name name).0 ++ dotted x) c.ends
+    ∙ added-open c.front ((split_name name).0 ++ (dot_before x ++ x)) c.ends
 
-pub with_extension_of-none : (s x : List ℕ) → file_name_of s ≡ None → with_extension_of s x ≡ s
+pub with_extension_of-none : (s x : List ℕ) → file_name_of (values s) ≡ None
+    → with_extension_of s x ≡ s
 unfolding with_extension_of stem_end_of
-with_extension_of-none s x e = ap (λ o. extended_by s x (stem_end_by s o)) e
+with_extension_of-none s x e = ap (λ o. extended s x (stem_end_by s o)) e
 
-pub names_same : (s t : List ℕ) → SameValues s t → file_name_of s ≡ file_name_of t
-unfolding file_name_of
-names_same s t e = ap (λ vs. name_by (last_of vs)) e
+pub depths_same : (s t : List ℕ) → SameValues s t → depth_of s ≡ depth_of t
+depths_same s t e = ap₂ (λ n rooted. n - cond rooted 1 0) (ap length e) (roots_same s t e)
 
 pub rests_same : (s t : List ℕ) (k m : ℕ) → SameValues s t → SameValues (rest s k m) (rest t k m)
 rests_same s t k m e = values-rest s k m ∙ ap (middle k m) e ∙ sym (values-rest t k m)
@@ -70,40 +76,39 @@ Alike p q = SameValues p.0 q.0 × (p.1 ≡ q.1)
 
 abbrev PoppedAlike : List ℕ → List ℕ → Option (List ℕ) → Option (List ℕ) → Type 0
 PoppedAlike s t q r =
-    SameValues (popped_by s q) (popped_by t r) × (Flag (is_some q) ≡ Flag (is_some r))
+    SameValues (unwrap_or q s) (unwrap_or r t) × (Flag (is_some q) ≡ Flag (is_some r))
 
-popped_same : (o : Option Value) (s t q r : List ℕ) → SameValues s t → SameValues q r
-    → PoppedAlike s t (parent_by o q) (parent_by o r)
-popped_same None s t q r e f = (e, refl)
-popped_same (Some RootDir) s t q r e f = (e, refl)
-popped_same (Some CurDir) s t q r e f = (f, refl)
-popped_same (Some ParentDir) s t q r e f = (f, refl)
-popped_same (Some (Normal name)) s t q r e f = (f, refl)
+popped_same : (c : Bool) (s t q r : List ℕ) → SameValues s t → SameValues q r
+    → PoppedAlike s t (cond c None (Some q)) (cond c None (Some r))
+popped_same true s t q r e f = (e, refl)
+popped_same false s t q r e f = (f, refl)
 
 pop_same : (s t : List ℕ) → SameValues s t → Alike (edit_of s Pop) (edit_of t Pop)
 unfolding popped_of parent_of
 pop_same s t e =
-    subst (λ vs. PoppedAlike s t (parent_by (last_of (values s)) (rest s 0 1))
-    (parent_by (last_of vs) (rest t 0 1))) e
-    (popped_same (last_of (values s)) s t (rest s 0 1) (rest t 0 1) e (rests_same s t 0 1 e))
+    subst (λ n. PoppedAlike s t (parent_of s) (cond (eqb n 0) None (Some (rest t 0 1))))
+    (depths_same s t e)
+    (popped_same (eqb (depth_of s) 0) s t (rest s 0 1) (rest t 0 1) e (rests_same s t 0 1 e))
 
-without_same : (s t : List ℕ) (o : Option (List ℕ)) → SameValues s t
-    → SameValues (without_name s o) (without_name t o)
-without_same s t None e = e
-without_same s t (Some name) e = rests_same s t 0 1 e
+without_same : (s t : List ℕ) (named : Bool) → SameValues s t
+    → SameValues (cond named (rest s 0 1) s) (cond named (rest t 0 1) t)
+without_same s t true e = rests_same s t 0 1 e
+without_same s t false e = e
 
 before_same : (s t : List ℕ) → SameValues s t → SameValues (before_name_of s) (before_name_of t)
 unfolding before_name_of
-before_same s t e = ap (λ o. values (without_name s o)) (names_same s t e)
-    ∙ without_same s t (file_name_of t) e
+before_same s t e =
+    ap (λ vs. values (cond (is_some (file_name_of vs)) (rest s 0 1) s)) e
+    ∙ without_same s t (is_some (file_name_of (values t))) e
 
 pub with_name_same : (s t n : List ℕ) → SameValues s t
     → SameValues (with_name_of s n) (with_name_of t n)
 with_name_same s t n e =
     joins_same (before_name_of s) (before_name_of t) n n (before_same s t e) refl
 
-extended_same : (s t x : List ℕ) (o : Option (List ℕ)) → file_name_of s ≡ o → file_name_of t ≡ o
-    → SameValues s t → SameValues (with_extension_of s x) (with_extension_of t x)
+extended_same : (s t x : List ℕ) (o : Option (List ℕ)) → file_name_of (values s) ≡ o
+    → file_name_of (values t) ≡ o → SameValues s t
+    → SameValues (with_extension_of s x) (with_extension_of t x)
 extended_same s t x None n m e = ap values (with_extension_of-none s x n) ∙ e
     ∙ sym (ap values (with_extension_of-none t x m))
 extended_same s t x (Some name) n m e =
@@ -112,27 +117,28 @@ extended_same s t x (Some name) n m e =
     let fronts = same_from_push (values c.front) (values d.front) (Normal name) (Normal name)
     (sym c.before ∙ e ∙ d.before) in
     values-with_extension_of s name x n c
-    ∙ ap (λ vs. added vs ((split_name name).0 ++ dotted x)) fronts.0
+    ∙ ap (λ vs. added vs ((split_name name).0 ++ (dot_before x ++ x))) fronts.0
     ∙ sym (values-with_extension_of t name x m d)
 
 pub with_extension_same : (s t x : List ℕ) → SameValues s t
     → SameValues (with_extension_of s x) (with_extension_of t x)
-with_extension_same s t x e = extended_same s t x (file_name_of t) (names_same s t e) refl e
+with_extension_same s t x e =
+    extended_same s t x (file_name_of (values t)) (ap file_name_of e) refl e
+
+one_same : (s t : List ℕ) (e : EditValue) → SameValues s t → Alike (edit_of s e) (edit_of t e)
+one_same s t (Push b) k = (joins_same s t b b k refl, refl)
+one_same s t Pop k = pop_same s t k
+one_same s t (SetFileName n) k = (with_name_same s t n k, refl)
+one_same s t (SetExtension x) k =
+    (with_extension_same s t x k, ap (λ vs. Flag (is_some (file_name_of vs))) k)
+one_same s t Clear k = (refl, refl)
 
 pub edit_same : (s t : List ℕ) (d e : EditValue) → SameValues s t → SameEdit d e
     → Alike (edit_of s d) (edit_of t e)
 edit_same s t (Push b) (Push c) k h = (joins_same s t b c k h, refl)
-edit_same s t Pop Pop k h = pop_same s t k
-edit_same s t (SetFileName m) (SetFileName n) k h =
-    (ap (λ m. values (with_name_of s m)) h ∙ with_name_same s t n k, refl)
-edit_same s t (SetExtension x) (SetExtension y) k h = (
-  ap (λ x. values (with_extension_of s x)) h ∙ with_extension_same s t y k,
-  ap (λ o. Flag (is_some o)) (names_same s t k),
-)
-edit_same s t Clear Clear k h = (refl, refl)
-edit_same s t d e k h = absurd h
+edit_same s t d e k h = subst (λ e. Alike (edit_of s d) (edit_of t e)) h (one_same s t d k)
 
-pub edits_same : (s t : List ℕ) (ds es : List EditValue) → SameValues s t → SameEdits ds es
+pub edits_same : (s t : List ℕ) (ds es : List EditValue) → SameValues s t → AllZip SameEdit ds es
     → SameValues (edits_of s ds).0 (edits_of t es).0 × ((edits_of s ds).1 ≡ (edits_of t es).1)
 edits_same s t [] [] k h = (k, refl)
 edits_same s t (d ∷ ds) (e ∷ es) k h =

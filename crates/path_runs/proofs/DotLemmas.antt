@@ -7,9 +7,9 @@ use Rattle.std.proofs.Math.Seq.{get_or-append_seam}
 use Rattle.std.proofs.lemmas.Bool.{both_ways}
 use Rattle.std.proofs.lemmas.List.{get_or-append_right, take_at, drop_at}
 use Rattle.std.proofs.lemmas.List.Elements.{All-nil, All-cons}
-use Rattle.unix_path.specs.Names.{is_dot, past_last, split_name}
+use Rattle.unix_path.specs.Names.{past_last, split_name}
 use Rattle.unix_path.proofs.CaseLemmas.{by_test}
-use Rattle.unix_path.proofs.NameLemmas.{past_last-is, split_name-whole, split_name-cut}
+use Rattle.unix_path.proofs.NameLemmas.{is_dot, past_last-is, split_name-whole, split_name-cut}
 use Rattle.path_runs.specs.EditLaws.{HasNone}
 
 none_at : (s : List ℕ) (b k : ℕ) → HasNone b s → k < length s → eqb (get_or s k 0) b ≡ false

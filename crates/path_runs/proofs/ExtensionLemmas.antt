@@ -2,15 +2,16 @@
 use Rattle.std.proofs.Common.{◌≡◌, ℕ, ◌<◌, true, List, [], ◌∷◌, ◌++◌, length, Option}
 use Rattle.std.proofs.Common.{Some, None, is_some, option_map, refl, sym, ap, subst, ◌∙◌, arith}
 use Rattle.std.proofs.Common.{append_assoc, length-append}
+use Rattle.std.specs.Option.{option_and_then}
 use Rattle.unix_path.specs.Parts.{Value, Normal, values}
 use Rattle.unix_path.specs.Rest.{rest}
-use Rattle.unix_path.specs.Names.{parent_of, file_name_of, split_name, stem_of, extension_by}
-use Rattle.unix_path.specs.Names.{extension_of}
+use Rattle.unix_path.specs.Names.{parent_of, file_name_of, split_name, stem_of, extension_of}
 use Rattle.unix_path.specs.Edits.{with_extension_of}
 use Rattle.unix_path.specs.Joins.{is_open}
+use Rattle.unix_path.proofs.EditLemmas.{dot_before-some}
 use Rattle.path_runs.specs.declared.edits.Answer.TheVariants.{Flag}
 use Rattle.path_runs.specs.JoinLaws.{unled}
-use Rattle.path_runs.specs.EditLaws.{HasNone, IsPlainExtension}
+use Rattle.path_runs.specs.EditLaws.{HasNone, IsPlainExtension, TakesExtension}
 use Rattle.path_runs.proofs.BehindLemmas.{rest-behind}
 use Rattle.path_runs.proofs.CongruenceLemmas.{with_extension_of-cut}
 use Rattle.path_runs.proofs.DotLemmas.{SplitCase, Whole, Cut, split_case, split_name-dot}
@@ -32,7 +33,7 @@ some_stem name l = by (split_case name)
 -- the new name, and what stands before it
 pub record NewExtension (s t stem x : List ℕ) : Type 0 where
   pub name : List ℕ
-  pub named : file_name_of t ≡ Some name
+  pub named : file_name_of (values t) ≡ Some name
   pub split : split_name name ≡ (stem, Some x)
   pub parent : parent_of t ≡ parent_of s
 
@@ -68,14 +69,15 @@ parent_of-open s u b name is o e =
     ∙ ap Some (ap (λ s. rest s 0 1) is
     ∙ rest-behind u b (Normal name) o (ap values (sym is) ∙ e))
 
-set_from : (s name : List ℕ) (b : ℕ) (x : List ℕ) → file_name_of s ≡ Some name
+set_from : (s name : List ℕ) (b : ℕ) (x : List ℕ) → file_name_of (values s) ≡ Some name
     → NamedCut s name → HasNone 46 (b ∷ x) → HasNone 47 (b ∷ x)
     → NewExtension s (with_extension_of s (b ∷ x)) (split_name name).0 (b ∷ x)
 set_from s name b x e c dot slash =
     let stem = (split_name name).0 in
     let new = stem ++ 46 ∷ b ∷ x in
     let t = with_extension_of s (b ∷ x) in
-    let is : t ≡ c.front ++ new = with_extension_of-cut s name (b ∷ x) e c in
+    let is : t ≡ c.front ++ new = with_extension_of-cut s name (b ∷ x) e c
+    ∙ ap (λ gap. c.front ++ (stem ++ (gap ++ b ∷ x))) (dot_before-some b x) in
     let all : values t ≡ values c.front ++ Normal new ∷ [] =
     ap values is ∙ added-open c.front new c.ends
     ∙ values-open_name c.front new (values-name new (new_name name b x c.is_name slash)) in
@@ -88,25 +90,44 @@ set_from s name b x e c dot slash =
           (c.whole ∙ append_assoc c.front name c.back) c.ends c.before);
     }
 
-pub set_extension : (s name x : List ℕ) → file_name_of s ≡ Some name → IsPlainExtension x
+pub set_extension : (s name x : List ℕ) → file_name_of (values s) ≡ Some name
+    → IsPlainExtension x
     → NewExtension s (with_extension_of s x) (split_name name).0 x
 set_extension s name [] e h = absurd (h.some refl)
 set_extension s name (b ∷ x) e h = set_from s name b x e (named_cut s name e) h.no_dot h.no_slash
 
-pub some_name : (s : List ℕ) → Flag (is_some (file_name_of s)) ≡ Flag true
-    → (name : List ℕ) × (file_name_of s ≡ Some name)
-some_name s e = by (file_name_of s) refl e
+pub some_name : (s : List ℕ) → Flag (is_some (file_name_of (values s))) ≡ Flag true
+    → (name : List ℕ) × (file_name_of (values s) ≡ Some name)
+some_name s e = by (file_name_of (values s)) refl e
   where
-    by : (o : Option (List ℕ)) → file_name_of s ≡ o → Flag (is_some o) ≡ Flag true
-        → (name : List ℕ) × (file_name_of s ≡ Some name)
+    by : (o : Option (List ℕ)) → file_name_of (values s) ≡ o → Flag (is_some o) ≡ Flag true
+        → (name : List ℕ) × (file_name_of (values s) ≡ Some name)
     by None is e = absurd (cc)
     by (Some name) is e = (name, is)
 
-pub stem_of-new : (s t name x : List ℕ) → file_name_of s ≡ Some name
-    → NewExtension s t (split_name name).0 x → stem_of t ≡ stem_of s
-stem_of-new s t name x e h =
-    ap (option_map (λ name. (split_name name).0)) h.named ∙ ap (λ c. Some c.0) h.split
-    ∙ sym (ap (option_map (λ name. (split_name name).0)) e)
+-- what a path is after it took an extension
+taken : (s x t : List ℕ) → TakesExtension s x t
+    → (name : List ℕ) × (file_name_of (values s) ≡ Some name) × NewExtension s t (split_name name).0 x
+taken s x t h =
+    let name = some_name s (ap (λ p. p.1) h.1) in (
+      name.0,
+      name.1,
+      subst (λ u. NewExtension s u (split_name name.0).0 x) (ap (λ p. p.0) h.1)
+          (set_extension s name.0 x name.1 h.0),
+    )
 
-pub extension_of-new : (s t stem x : List ℕ) → NewExtension s t stem x → extension_of t ≡ Some x
-extension_of-new s t stem x h = ap extension_by h.named ∙ ap (λ c. c.1) h.split
+pub stem_of-taken : (s x t : List ℕ) → TakesExtension s x t
+    → stem_of (values t) ≡ stem_of (values s)
+stem_of-taken s x t h =
+    let new = taken s x t h in
+    ap (option_map (λ name. (split_name name).0)) new.2.named ∙ ap (λ c. Some c.0) new.2.split
+    ∙ sym (ap (option_map (λ name. (split_name name).0)) new.1)
+
+pub extension_of-taken : (s x t : List ℕ) → TakesExtension s x t
+    → extension_of (values t) ≡ Some x
+extension_of-taken s x t h =
+    let new = taken s x t h in
+    ap (option_and_then (λ name. (split_name name).1)) new.2.named ∙ ap (λ c. c.1) new.2.split
+
+pub parent_of-taken : (s x t : List ℕ) → TakesExtension s x t → parent_of t ≡ parent_of s
+parent_of-taken s x t h = (taken s x t h).2.parent

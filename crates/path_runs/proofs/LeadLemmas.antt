@@ -1,15 +1,16 @@
 -- A leading root or dot, and the values behind it.
-use Rattle.std.proofs.Common.{◌≡◌, ℕ, Bool, true, false, cond, List, [], ◌∷◌, ◌++◌}
-use Rattle.std.proofs.Common.{map, filter, refl, sym, ap, subst, ◌∙◌, append-nil}
+use Rattle.std.proofs.Common.{◌≡◌, ℕ, ◌+◌, Bool, true, false, cond, List, [], ◌∷◌, ◌++◌}
+use Rattle.std.proofs.Common.{length, map, refl, sym, ap, subst, ◌∙◌, append-nil}
 use Rattle.std.specs.List.{AllByRecursion, slice_split}
 use Rattle.std.specs.Str.{bytes_eq}
-use Rattle.unix_path.specs.Parts.{Piece, Part, Value, RootDir, CurDir, ParentDir, Normal, is_slash}
-use Rattle.unix_path.specs.Parts.{parent_dir, is_rooted, first_is_cur_dir, part_of, counts}
-use Rattle.unix_path.specs.Parts.{pieces_at, counted, leading_part, values, begins_with_root}
+use Rattle.unix_path.specs.Parts.{Part, Value, RootDir, CurDir, ParentDir, Normal, is_slash}
+use Rattle.unix_path.specs.Parts.{cur_dir, parent_dir, is_rooted, counts, parts_of_pieces}
+use Rattle.unix_path.specs.Parts.{counted, leading_part, values}
 use Rattle.unix_path.specs.Joins.{join_of}
 use Rattle.unix_path.proofs.CaseLemmas.{by_test}
 use Rattle.unix_path.proofs.JoinLemmas.{join_of_rooted}
-use Rattle.unix_path.proofs.PartLemmas.{begins_with_root-values, is_rooted-at, values-nil}
+use Rattle.unix_path.proofs.PartLemmas.{root_first, root_first-values, values-nil}
+use Rattle.unix_path.proofs.PieceLemmas.{first_piece, slice_split-first}
 use Rattle.path_runs.specs.JoinLaws.{undotted, unled}
 use Rattle.path_runs.proofs.ValueLemmas.{body, body-nil, values-leading, added, added-join_of}
 
@@ -20,24 +21,26 @@ IsInner CurDir = ⊥
 IsInner ParentDir = Unit {0}
 IsInner (Normal name) = Unit {0}
 
-inner_pieces : (ps : List Piece)
-    → AllByRecursion IsInner (map (λ p. p.value) (map part_of ps))
-inner_pieces [] = tt
-inner_pieces (p ∷ ps) = (by_value (bytes_eq p.bytes parent_dir), inner_pieces ps)
+inner_pieces : (at : ℕ) (ps : List (List ℕ))
+    → AllByRecursion IsInner (map (λ p. p.value) (parts_of_pieces at ps))
+inner_pieces at [] = tt
+inner_pieces at (p ∷ ps) =
+    let next = inner_pieces (at + length p + 1) ps in
+    by_test (counts p) (λ e. rw e (by_value (bytes_eq p parent_dir), next)) (λ e. rw e next)
   where
-    by_value : (c : Bool) → IsInner (cond c ParentDir (Normal p.bytes))
+    by_value : (c : Bool) → IsInner (cond c ParentDir (Normal p))
     by_value true = tt
     by_value false = tt
 
 pub body-inner : (s : List ℕ) → AllByRecursion IsInner (body s)
 unfolding counted
-body-inner s = inner_pieces (filter counts (pieces_at 0 s))
+body-inner s = inner_pieces 0 (slice_split is_slash s)
 
 -- neither the root nor a dot stands first
 pub record IsUnled (vs : List Value) : Type 0 where
   pub no_lead : unled vs ≡ vs
   pub no_dot : undotted vs ≡ vs
-  pub no_root : begins_with_root vs ≡ false
+  pub no_root : root_first vs ≡ false
 
 pub inner-unled : (vs : List Value) → AllByRecursion IsInner vs → IsUnled vs
 inner-unled [] h = record { no_lead = refl; no_dot = refl; no_root = refl }
@@ -49,19 +52,24 @@ inner-unled (Normal name ∷ vs) h = record { no_lead = refl; no_dot = refl; no_
 body-unled : (s : List ℕ) → IsUnled (body s)
 body-unled s = inner-unled (body s) (body-inner s)
 
+-- the first piece is `.`
+abbrev pub dot_first : List (List ℕ) → Bool
+dot_first [] = false
+dot_first (p ∷ ps) = bytes_eq p cur_dir
+
 abbrev pub lead_by : Bool → Bool → List Value
 lead_by rooted dotted = cond rooted (RootDir ∷ []) (cond dotted (CurDir ∷ []) [])
 
 leading_values : (s : List ℕ)
     → map (λ (p : Part). p.value) (leading_part s) ≡ lead_by (is_rooted s)
-    (first_is_cur_dir (slice_split is_slash s))
+    (dot_first (slice_split is_slash s))
 unfolding leading_part
 leading_values s = by_test (is_rooted s) (λ e. rw e refl)
-    (λ e. rw e (by_test (first_is_cur_dir (slice_split is_slash s)) (λ d. rw d refl)
-    (λ d. rw d refl)))
+    (λ e. rw (e, slice_split-first s) (by_test (bytes_eq (first_piece s) cur_dir)
+    (λ d. rw d refl) (λ d. rw d refl)))
 
 pub values-lead : (s : List ℕ)
-    → values s ≡ lead_by (is_rooted s) (first_is_cur_dir (slice_split is_slash s)) ++ body s
+    → values s ≡ lead_by (is_rooted s) (dot_first (slice_split is_slash s)) ++ body s
 values-lead s = values-leading s ∙ ap (λ vs. vs ++ body s) (leading_values s)
 
 unled_lead : (c d : Bool) (vs : List Value) → IsUnled vs → unled (lead_by c d ++ vs) ≡ vs
@@ -95,15 +103,11 @@ undotted_lead false vs h = h.no_dot
 pub undotted-values : (s : List ℕ) → is_rooted s ≡ false → undotted (values s) ≡ body s
 undotted-values s r =
     ap undotted (values-lead s
-    ∙ ap (λ c. lead_by c (first_is_cur_dir (slice_split is_slash s)) ++ body s) r)
-    ∙ undotted_lead (first_is_cur_dir (slice_split is_slash s)) (body s) (body-unled s)
-
-pub begins_with_root-is_rooted : (s : List ℕ) → begins_with_root (values s) ≡ is_rooted s
-begins_with_root-is_rooted s = begins_with_root-values s ∙ sym (is_rooted-at s)
+    ∙ ap (λ c. lead_by c (dot_first (slice_split is_slash s)) ++ body s) r)
+    ∙ undotted_lead (dot_first (slice_split is_slash s)) (body s) (body-unled s)
 
 pub roots_same : (s t : List ℕ) → values s ≡ values t → is_rooted s ≡ is_rooted t
-roots_same s t e = sym (begins_with_root-is_rooted s) ∙ ap begins_with_root e
-    ∙ begins_with_root-is_rooted t
+roots_same s t e = sym (root_first-values s) ∙ ap root_first e ∙ root_first-values t
 
 -- only the values of what is joined count
 pub joins_same : (a b c d : List ℕ) → values a ≡ values b → values c ≡ values d

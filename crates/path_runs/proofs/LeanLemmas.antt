@@ -1,15 +1,15 @@
 -- No path with these values is shorter than their spelling.
-use Rattle.std.proofs.Common.{◌≡◌, ℕ, ◌≤◌, ◌<◌, Bool, true, false, cond, List, [], ◌∷◌, ◌++◌}
+use Rattle.std.proofs.Common.{◌≡◌, ℕ, ◌<◌, Bool, true, false, cond, List, [], ◌∷◌, ◌++◌}
 use Rattle.std.proofs.Common.{length, filter, refl, sym, ap, subst, ◌⊎◌, inl, inr, arith}
 use Rattle.std.proofs.Common.{append_assoc, length-append}
 use Rattle.std.specs.List.{slice_split, join_with_byte}
 use Rattle.std.specs.Str.{bytes_eq}
 use Rattle.std.proofs.lemmas.List.Splits.{join_with_byte-slice_split}
 use Rattle.std.proofs.lemmas.Slice.Eq.{bytes_eq-Decides}
-use Rattle.unix_path.specs.Parts.{is_slash, slash, cur_dir, is_rooted, values}
+use Rattle.unix_path.specs.Parts.{is_slash, slash, cur_dir, counts, is_rooted, values}
 use Rattle.unix_path.proofs.CaseLemmas.{by_test}
 use Rattle.path_runs.specs.Spelling.{spelling_of}
-use Rattle.path_runs.proofs.PieceValueLemmas.{is_named, rooted_is}
+use Rattle.path_runs.proofs.PieceValueLemmas.{rooted_is}
 use Rattle.path_runs.proofs.SpellLemmas.{kept_of, spelling_of-rooted, spelling_of-rootless}
 
 -- the same bytes, or fewer
@@ -38,34 +38,34 @@ row_less p q (r ∷ qs) =
     )
 
 lean_after : (p : List ℕ) (qs : List (List ℕ))
-    → Leaner (join_with_byte slash (p ∷ filter is_named qs)) (join_with_byte slash (p ∷ qs))
+    → Leaner (join_with_byte slash (p ∷ filter counts qs)) (join_with_byte slash (p ∷ qs))
 lean_after p [] = inl refl
-lean_after p (q ∷ qs) = by_test (is_named q)
+lean_after p (q ∷ qs) = by_test (counts q)
     (λ e. rw e (subst (λ z. Leaner z (p ++ slash ∷ join_with_byte slash (q ∷ qs)))
-    (append_assoc p (slash ∷ []) (join_with_byte slash (q ∷ filter is_named qs)))
-    (subst (Leaner ((p ++ slash ∷ []) ++ join_with_byte slash (q ∷ filter is_named qs)))
+    (append_assoc p (slash ∷ []) (join_with_byte slash (q ∷ filter counts qs)))
+    (subst (Leaner ((p ++ slash ∷ []) ++ join_with_byte slash (q ∷ filter counts qs)))
     (append_assoc p (slash ∷ []) (join_with_byte slash (q ∷ qs)))
-    (Leaner-append (p ++ slash ∷ []) (join_with_byte slash (q ∷ filter is_named qs))
+    (Leaner-append (p ++ slash ∷ []) (join_with_byte slash (q ∷ filter counts qs))
     (join_with_byte slash (q ∷ qs)) (lean_after q qs)))))
-    (λ e. rw e (Leaner-longer (join_with_byte slash (p ∷ filter is_named qs))
+    (λ e. rw e (Leaner-longer (join_with_byte slash (p ∷ filter counts qs))
     (join_with_byte slash (p ∷ qs)) (join_with_byte slash (p ∷ q ∷ qs)) (lean_after p qs)
     (row_less p q qs)))
 
 lean_first : (q : List ℕ) (qs : List (List ℕ))
-    → Leaner (join_with_byte slash (filter is_named qs)) (join_with_byte slash qs)
-    → Leaner (join_with_byte slash (filter is_named qs)) (join_with_byte slash (q ∷ qs))
+    → Leaner (join_with_byte slash (filter counts qs)) (join_with_byte slash qs)
+    → Leaner (join_with_byte slash (filter counts qs)) (join_with_byte slash (q ∷ qs))
 lean_first [] [] h = inl refl
 lean_first (x ∷ q) [] h = inr (omega arith)
 lean_first q (r ∷ qs) h =
-    Leaner-longer (join_with_byte slash (filter is_named (r ∷ qs))) (join_with_byte slash (r ∷ qs))
+    Leaner-longer (join_with_byte slash (filter counts (r ∷ qs))) (join_with_byte slash (r ∷ qs))
     (q ++ slash ∷ join_with_byte slash (r ∷ qs)) h
     (omega (arith, length-append q (slash ∷ join_with_byte slash (r ∷ qs))))
 
 -- dropping pieces leaves fewer bytes
 lean_row : (qs : List (List ℕ))
-    → Leaner (join_with_byte slash (filter is_named qs)) (join_with_byte slash qs)
+    → Leaner (join_with_byte slash (filter counts qs)) (join_with_byte slash qs)
 lean_row [] = inl refl
-lean_row (q ∷ qs) = by_test (is_named q) (λ e. rw e (lean_after q qs))
+lean_row (q ∷ qs) = by_test (counts q) (λ e. rw e (lean_after q qs))
     (λ e. rw e (lean_first q qs (lean_row qs)))
 
 -- a string is its pieces, joined
@@ -76,8 +76,8 @@ lean_rooted : (t : List ℕ) → Leaner (spelling_of (values (slash ∷ t))) (sl
 lean_rooted t =
     let ps = slice_split is_slash t in
     subst (λ u. Leaner u (slash ∷ t)) (sym (spelling_of-rooted t))
-    (Leaner-append (slash ∷ []) (join_with_byte slash (filter is_named ps)) t
-    (subst (Leaner (join_with_byte slash (filter is_named ps))) (pieces_joined t)
+    (Leaner-append (slash ∷ []) (join_with_byte slash (filter counts ps)) t
+    (subst (Leaner (join_with_byte slash (filter counts ps))) (pieces_joined t)
     (lean_row ps)))
 
 lean_kept : (ps : List (List ℕ))
@@ -91,7 +91,7 @@ lean_kept (p ∷ qs) = by (bytes_eq p cur_dir) refl
         (join_with_byte slash (p ∷ qs))) (sym ((bytes_eq-Decides p cur_dir).0 d))
         (lean_after cur_dir qs)
     by false d = subst (λ c. Leaner
-        (join_with_byte slash (cond c (cur_dir ∷ filter is_named qs) (filter is_named (p ∷ qs))))
+        (join_with_byte slash (cond c (cur_dir ∷ filter counts qs) (filter counts (p ∷ qs))))
         (join_with_byte slash (p ∷ qs))) (sym d) (lean_row (p ∷ qs))
 
 -- the spelling is the path itself, or has fewer bytes
@@ -103,13 +103,13 @@ spelling_of-lean s = by_test (is_rooted s)
     (subst (Leaner (join_with_byte slash (kept_of (slice_split is_slash s)))) (pieces_joined s)
     (lean_kept (slice_split is_slash s))))
 
--- each path with these values is at least as long as the spelling, and one as long is the spelling
+-- each path with these values is the spelling, or longer
 pub spelling_of-shortest : (s t : List ℕ) → values t ≡ values s
-    → (length (spelling_of (values s)) ≤ length t)
-    × (length t ≡ length (spelling_of (values s)) → t ≡ spelling_of (values s))
+    → (t ≡ spelling_of (values s)) ⊎ (length (spelling_of (values s)) < length t)
 spelling_of-shortest s t e =
-    by (spelling_of (values s)) (subst (λ z. Leaner (spelling_of z) t) e (spelling_of-lean t))
+    by (subst (λ z. Leaner (spelling_of z) t) e (spelling_of-lean t))
   where
-    by : (u : List ℕ) → Leaner u t → (length u ≤ length t) × (length t ≡ length u → t ≡ u)
-    by u (inl h) = (omega (arith, ap length h), λ k. sym h)
-    by u (inr h) = (omega arith, λ k. absurd (omega arith))
+    by : Leaner (spelling_of (values s)) t
+        → (t ≡ spelling_of (values s)) ⊎ (length (spelling_of (values s)) < length t)
+    by (inl h) = inl (sym h)
+    by (inr h) = inr h

@@ -1,3 +1,4 @@
+pub mod TogetherLemmas
 pub mod WalkLemmas
 pub mod OrderLemmas
 pub mod AssociativeLemmas

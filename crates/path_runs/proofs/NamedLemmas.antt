@@ -14,15 +14,15 @@ use Rattle.unix_path.specs.Parts.{ParentDir, Normal, parts, values}
 use Rattle.unix_path.specs.Rest.{rest}
 use Rattle.unix_path.specs.Steps.{IsLastStart, first_value, parts_end}
 use Rattle.unix_path.specs.Joins.{is_open}
-use Rattle.unix_path.specs.Names.{last_of, name_by, file_name_of}
+use Rattle.unix_path.specs.Names.{file_name_of}
 use Rattle.unix_path.specs.Edits.{last_start_of}
 use Rattle.unix_path.proofs.CaseLemmas.{by_test, is_nil}
-use Rattle.unix_path.proofs.EndLemmas.{last_of-push}
 use Rattle.unix_path.proofs.JoinLemmas.{is_open-at}
 use Rattle.unix_path.proofs.LastLemmas.{last_part, last_start, root_alone}
+use Rattle.unix_path.proofs.ParentLemmas.{file_name_of-last}
 use Rattle.unix_path.proofs.PartLemmas.{values-nil}
 use Rattle.unix_path.proofs.SpanLemmas.{Trimmed, trimmed, length-rest_whole, parts_end-whole}
-use Rattle.unix_path.proofs.StemLemmas.{name_by-some, last_start_of-name}
+use Rattle.unix_path.proofs.StemLemmas.{name_of-some, last_start_of-name}
 
 -- one piece that stands for a name wherever it stands
 pub record IsName (name : List ℕ) : Type 0 where
@@ -42,14 +42,13 @@ pub record NamedCut (s name : List ℕ) : Type 0 where
   pub is_name : IsName name
 
 pub name_of_push : (s name : List ℕ) (vs : List Value) (v : Value) → values s ≡ vs ++ v ∷ []
-    → file_name_of s ≡ Some name → v ≡ Normal name
-unfolding file_name_of
-name_of_push s name vs v is e = name_by-some v name
-    (sym (ap (λ vs. name_by (last_of vs)) is ∙ ap name_by (last_of-push vs v)) ∙ e)
+    → file_name_of (values s) ≡ Some name → v ≡ Normal name
+name_of_push s name vs v is e =
+    name_of-some v name (sym (ap file_name_of is ∙ file_name_of-last vs v) ∙ e)
 
-pub no_name : (s name : List ℕ) → values s ≡ [] → file_name_of s ≡ Some name → ⊥
+pub no_name : (s name : List ℕ) → values s ≡ [] → file_name_of (values s) ≡ Some name → ⊥
 unfolding file_name_of
-no_name s name is e = none-some name (sym (ap (λ vs. name_by (last_of vs)) is) ∙ e)
+no_name s name is e = none-some name (sym (ap file_name_of is) ∙ e)
 
 record IsNamePiece (y name : List ℕ) : Type 0 where
   same : y ≡ name
@@ -74,7 +73,7 @@ open_front t (suc k) l h =
     ∙ eq-eqb _ 47 (get_or-take (suc k) t (suc k - 1) 47 (omega arith)
     ∙ get_or_default t (suc k - 1) 47 0 (omega arith) ∙ h (omega arith))
 
-cut_at : (s name : List ℕ) (trim : Trimmed s) (a : ℕ) → file_name_of s ≡ Some name
+cut_at : (s name : List ℕ) (trim : Trimmed s) (a : ℕ) → file_name_of (values s) ≡ Some name
     → IsLastStart (take trim.len s) a → a < length (take trim.len s) → NamedCut s name
 unfolding values
 cut_at s name trim a e h l =
@@ -110,7 +109,7 @@ cut_at s name trim a e h l =
       };
     }
 
-no_cut : (s name : List ℕ) (trim : Trimmed s) (a : ℕ) → file_name_of s ≡ Some name
+no_cut : (s name : List ℕ) (trim : Trimmed s) (a : ℕ) → file_name_of (values s) ≡ Some name
     → IsLastStart (take trim.len s) a → length (take trim.len s) ≤ a → ⊥
 unfolding values
 no_cut s name trim a e h l =
@@ -129,7 +128,7 @@ no_cut s name trim a e h l =
     no_name s name (ap (map (λ (p : Part). p.value)) (sym trim.same) ∙ ap values nil ∙ values-nil)
     e)
 
-pub named_cut : (s name : List ℕ) → file_name_of s ≡ Some name → NamedCut s name
+pub named_cut : (s name : List ℕ) → file_name_of (values s) ≡ Some name → NamedCut s name
 named_cut s name e =
     let trim = trimmed s in
     let at = last_start (take trim.len s) in

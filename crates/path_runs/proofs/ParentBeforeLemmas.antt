@@ -1,15 +1,16 @@
 -- The parent of a path: before it in the order, and the path again with its name.
-use Rattle.std.proofs.Common.{◌≡◌, ℕ, List, [], ◌∷◌, ◌++◌, Option, Some, None, refl, sym, ap, ap₂}
-use Rattle.std.proofs.Common.{◌∙◌}
+use Rattle.std.proofs.Common.{◌≡◌, ℕ, List, [], ◌∷◌, ◌++◌, Some, refl, sym, ap, ap₂, ◌∙◌}
 use Rattle.std.specs.Ordering.{ordering_then}
 use Rattle.std.proofs.lemmas.Cmp.{tied_itself}
-use Rattle.unix_path.specs.Parts.{Value, RootDir, CurDir, ParentDir, Normal, values}
-use Rattle.unix_path.specs.Rest.{rest}
+use Rattle.std.proofs.lemmas.Option.{none-some}
+use Rattle.unix_path.specs.Parts.{Value, Normal, values}
 use Rattle.unix_path.specs.Joins.{join_of}
-use Rattle.unix_path.specs.Names.{last_of, parent_by, parent_of, file_name_of}
+use Rattle.unix_path.specs.Names.{parent_of, file_name_of}
 use Rattle.unix_path.specs.Order.{values_cmp, IsBefore}
 use Rattle.unix_path.specs.OrderLaws.{value_cmp-total}
+use Rattle.unix_path.proofs.DepthLemmas.{depth_of-none}
 use Rattle.unix_path.proofs.EndLemmas.{Snoc, Empty, Pushed, snoc}
+use Rattle.unix_path.proofs.ParentLemmas.{parent_of-alone, parent_of-some}
 use Rattle.path_runs.proofs.NamedLemmas.{named_cut}
 use Rattle.path_runs.proofs.PieceNameLemmas.{values-name}
 use Rattle.path_runs.proofs.SiblingLemmas.{values-rest_push, values-join_of_one}
@@ -20,24 +21,8 @@ before_push (w ∷ vs) v =
     ap (λ o. ordering_then o (values_cmp vs (vs ++ v ∷ []))) (tied_itself value_cmp-total w)
     ∙ before_push vs v
 
-parent_by-some : (o : Option Value) (front parent : List ℕ) → parent_by o front ≡ Some parent
-    → parent ≡ front
-parent_by-some None front parent e = absurd (cc)
-parent_by-some (Some RootDir) front parent e = absurd (cc)
-parent_by-some (Some CurDir) front parent e = cc
-parent_by-some (Some ParentDir) front parent e = cc
-parent_by-some (Some (Normal name)) front parent e = cc
-
-pub parent_of-some : (s parent : List ℕ) → parent_of s ≡ Some parent → parent ≡ rest s 0 1
-unfolding parent_of
-parent_of-some s parent e = parent_by-some (last_of (values s)) (rest s 0 1) parent e
-
 no_parent : (s parent : List ℕ) → values s ≡ [] → parent_of s ≡ Some parent → ⊥
-unfolding parent_of
-no_parent s parent is e =
-    let none : None ≡ Some parent =
-    sym (ap (λ vs. parent_by (last_of vs) (rest s 0 1)) is) ∙ e in
-    absurd (cc)
+no_parent s parent is e = none-some parent (sym (parent_of-alone s (depth_of-none s is)) ∙ e)
 
 pub parent-before : (s parent : List ℕ) → parent_of s ≡ Some parent
     → IsBefore (values parent) (values s)
@@ -50,7 +35,7 @@ parent-before s parent e = by (snoc (values s))
         ∙ before_push vs v
 
 pub parent-join_name : (s parent name : List ℕ) → parent_of s ≡ Some parent
-    → file_name_of s ≡ Some name → values (join_of parent name) ≡ values s
+    → file_name_of (values s) ≡ Some name → values (join_of parent name) ≡ values s
 parent-join_name s parent name e f =
     let cut = named_cut s name f in
     values-join_of_one parent name name (values-name name cut.is_name)

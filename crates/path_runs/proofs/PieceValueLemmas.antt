@@ -1,40 +1,34 @@
 -- The values of a path, by the pieces between its slashes.
-use Rattle.std.proofs.Common.{◌≡◌, ℕ, ◌+◌, Bool, true, false, cond, not, ◌||◌, eqb, List, [], ◌∷◌}
+use Rattle.std.proofs.Common.{◌≡◌, ℕ, ◌+◌, true, false, cond, eqb, List, [], ◌∷◌}
 use Rattle.std.proofs.Common.{◌++◌, length, map, filter, refl, sym, ap, subst, ◌∙◌, eqb-true}
 use Rattle.std.specs.List.{AllByRecursion, slice_split, onto_first}
-use Rattle.std.specs.Str.{bytes_eq}
 use Rattle.std.proofs.lemmas.List.Splits.{slice_split-cons_yes, slice_split-cons_no}
-use Rattle.unix_path.specs.Parts.{is_slash, slash, cur_dir, Part, Value, RootDir, CurDir, placed}
-use Rattle.unix_path.specs.Parts.{counts, value_of_piece, part_of, counted, is_rooted}
-use Rattle.unix_path.specs.Parts.{first_is_cur_dir, values}
+use Rattle.unix_path.specs.Parts.{is_slash, slash, Part, Value, RootDir, CurDir, parts_of_pieces}
+use Rattle.unix_path.specs.Parts.{counts, value_of_piece, counted, is_rooted, values}
 use Rattle.unix_path.proofs.CaseLemmas.{by_test}
-use Rattle.path_runs.proofs.LeadLemmas.{lead_by, values-lead}
+use Rattle.path_runs.proofs.LeadLemmas.{dot_first, lead_by, values-lead}
 use Rattle.path_runs.proofs.ValueLemmas.{body}
-
--- the piece is neither empty nor `.`
-abbrev pub is_named : List ℕ → Bool
-is_named p = not (bytes_eq p [] || bytes_eq p cur_dir)
 
 -- the values of the pieces that count
 abbrev pub names_of : List (List ℕ) → List Value
-names_of ps = map value_of_piece (filter is_named ps)
+names_of ps = map value_of_piece (filter counts ps)
 
-names_placed : (at : ℕ) (ps : List (List ℕ))
-    → map (λ (p : Part). p.value) (map part_of (filter counts (placed at ps))) ≡ names_of ps
-names_placed at [] = refl
-names_placed at (p ∷ ps) =
-    let next = names_placed (at + length p + 1) ps in
-    by_test (is_named p) (λ e. rw e (ap (λ vs. value_of_piece p ∷ vs) next)) (λ e. rw e next)
+names_of-parts : (at : ℕ) (ps : List (List ℕ))
+    → map (λ (p : Part). p.value) (parts_of_pieces at ps) ≡ names_of ps
+names_of-parts at [] = refl
+names_of-parts at (p ∷ ps) =
+    let next = names_of-parts (at + length p + 1) ps in
+    by_test (counts p) (λ e. rw e (ap (λ vs. value_of_piece p ∷ vs) next)) (λ e. rw e next)
 
 body-pieces : (s : List ℕ) → body s ≡ names_of (slice_split is_slash s)
 unfolding counted
-body-pieces s = names_placed 0 (slice_split is_slash s)
+body-pieces s = names_of-parts 0 (slice_split is_slash s)
 
 pub values-pieces : (s : List ℕ)
-    → values s ≡ lead_by (is_rooted s) (first_is_cur_dir (slice_split is_slash s)) ++ names_of
+    → values s ≡ lead_by (is_rooted s) (dot_first (slice_split is_slash s)) ++ names_of
     (slice_split is_slash s)
 values-pieces s = values-lead s
-    ∙ ap (λ vs. lead_by (is_rooted s) (first_is_cur_dir (slice_split is_slash s)) ++ vs)
+    ∙ ap (λ vs. lead_by (is_rooted s) (dot_first (slice_split is_slash s)) ++ vs)
     (body-pieces s)
 
 -- behind the root
@@ -44,10 +38,10 @@ values-rooted t = values-pieces (slash ∷ t)
 -- where no root stands
 pub values-rootless : (s : List ℕ) (ps : List (List ℕ)) → is_rooted s ≡ false
     → slice_split is_slash s ≡ ps
-    → values s ≡ cond (first_is_cur_dir ps) (CurDir ∷ []) [] ++ names_of ps
+    → values s ≡ cond (dot_first ps) (CurDir ∷ []) [] ++ names_of ps
 values-rootless s ps r e =
-    values-pieces s ∙ ap (λ ps. lead_by (is_rooted s) (first_is_cur_dir ps) ++ names_of ps) e
-    ∙ ap (λ c. lead_by c (first_is_cur_dir ps) ++ names_of ps) r
+    values-pieces s ∙ ap (λ ps. lead_by (is_rooted s) (dot_first ps) ++ names_of ps) e
+    ∙ ap (λ c. lead_by c (dot_first ps) ++ names_of ps) r
 
 pub rooted_is : (s : List ℕ) → is_rooted s ≡ true → (t : List ℕ) × (s ≡ slash ∷ t)
 rooted_is [] e = absurd (let d : false ≡ true = e in cc)

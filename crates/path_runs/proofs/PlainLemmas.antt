@@ -5,9 +5,10 @@ use Rattle.std.specs.List.{AllByRecursion, slice_split}
 use Rattle.std.specs.Str.{bytes_eq}
 use Rattle.unix_path.specs.Parts.{is_slash, cur_dir, parent_dir, Value, RootDir, CurDir}
 use Rattle.unix_path.specs.Parts.{value_of_piece, value_bytes, is_rooted}
-use Rattle.unix_path.specs.Parts.{first_is_cur_dir, values}
+use Rattle.unix_path.specs.Parts.{values}
 use Rattle.unix_path.specs.Joins.{is_open}
 use Rattle.unix_path.proofs.CaseLemmas.{by_test}
+use Rattle.path_runs.proofs.LeadLemmas.{dot_first}
 use Rattle.path_runs.proofs.PieceValueLemmas.{names_of, values-rooted, values-rootless}
 use Rattle.path_runs.proofs.PieceValueLemmas.{rooted_is, NoSlash, slice_split-no_slash}
 
@@ -65,5 +66,5 @@ values-shape s = by_test (is_rooted s)
     (names_of-plain (slice_split is_slash t.0) (slice_split-no_slash t.0)))
     (λ r. let ps = slice_split is_slash s in
     Rootless (subst (AllByRecursion IsPlainValue) (sym (values-rootless s ps r refl))
-    (dotted_plain (first_is_cur_dir ps) (names_of ps)
+    (dotted_plain (dot_first ps) (names_of ps)
     (names_of-plain ps (slice_split-no_slash s)))))

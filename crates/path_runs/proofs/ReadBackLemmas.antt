@@ -7,15 +7,16 @@ use Rattle.std.proofs.lemmas.List.Elements.{All-from_recursion}
 use Rattle.std.proofs.lemmas.List.Splits.{slice_split_none, slice_split_at}
 use Rattle.std.proofs.lemmas.Slice.Eq.{bytes_eq-Decides}
 use Rattle.unix_path.specs.Parts.{is_slash, slash, cur_dir, RootDir, CurDir, value_of_piece}
-use Rattle.unix_path.specs.Parts.{is_rooted, first_is_cur_dir, values}
+use Rattle.unix_path.specs.Parts.{is_rooted, counts, values}
 use Rattle.unix_path.proofs.CaseLemmas.{by_test}
 use Rattle.path_runs.specs.Spelling.{spelling_of}
-use Rattle.path_runs.proofs.PieceValueLemmas.{is_named, names_of, values-rooted, values-rootless}
+use Rattle.path_runs.proofs.LeadLemmas.{dot_first}
+use Rattle.path_runs.proofs.PieceValueLemmas.{names_of, values-rooted, values-rootless}
 use Rattle.path_runs.proofs.PieceValueLemmas.{rooted_is, NoSlash, slice_split-no_slash}
 use Rattle.path_runs.proofs.SpellLemmas.{kept_of, spelling_of-rooted, spelling_of-rootless}
 
 abbrev AllNamed : List (List ℕ) → Type 0
-AllNamed ps = AllByRecursion (λ p. is_named p ≡ true) ps
+AllNamed ps = AllByRecursion (λ p. counts p ≡ true) ps
 
 slice_split-row : (p : List ℕ) (ps : List (List ℕ)) → AllByRecursion NoSlash (p ∷ ps)
     → slice_split is_slash (join_with_byte slash (p ∷ ps)) ≡ p ∷ ps
@@ -27,16 +28,16 @@ slice_split-row p (q ∷ ps) h =
     ∙ ap (λ qs. p ∷ qs) (slice_split-row q ps h.1)
 
 filter-no_slash : (ps : List (List ℕ)) → AllByRecursion NoSlash ps
-    → AllByRecursion NoSlash (filter is_named ps)
+    → AllByRecursion NoSlash (filter counts ps)
 filter-no_slash [] h = tt
 filter-no_slash (p ∷ ps) h =
-    by_test (is_named p) (λ e. rw e (h.0, filter-no_slash ps h.1))
+    by_test (counts p) (λ e. rw e (h.0, filter-no_slash ps h.1))
     (λ e. rw e (filter-no_slash ps h.1))
 
-filter-named : (ps : List (List ℕ)) → AllNamed (filter is_named ps)
+filter-named : (ps : List (List ℕ)) → AllNamed (filter counts ps)
 filter-named [] = tt
 filter-named (p ∷ ps) =
-    by_test (is_named p) (λ e. rw e (e, filter-named ps)) (λ e. rw e (filter-named ps))
+    by_test (counts p) (λ e. rw e (e, filter-named ps)) (λ e. rw e (filter-named ps))
 
 names_of-named : (ps : List (List ℕ)) → AllNamed ps → names_of ps ≡ map value_of_piece ps
 names_of-named [] h = refl
@@ -48,13 +49,13 @@ names_of-row [] h k = refl
 names_of-row (p ∷ ps) h k = ap names_of (slice_split-row p ps h) ∙ names_of-named (p ∷ ps) k
 
 -- a row that begins with a name has no root
-row_rootless : (p : List ℕ) (ps : List (List ℕ)) → NoSlash p → is_named p ≡ true
+row_rootless : (p : List ℕ) (ps : List (List ℕ)) → NoSlash p → counts p ≡ true
     → is_rooted (join_with_byte slash (p ∷ ps)) ≡ false
 row_rootless [] ps h e = absurd (let d : false ≡ true = e in cc)
 row_rootless (x ∷ p) [] h e = h.0
 row_rootless (x ∷ p) (q ∷ ps) h e = h.0
 
-named_no_dot : (p : List ℕ) → is_named p ≡ true → bytes_eq p cur_dir ≡ false
+named_no_dot : (p : List ℕ) → counts p ≡ true → bytes_eq p cur_dir ≡ false
 named_no_dot p e = by (bytes_eq p []) (bytes_eq p cur_dir) refl refl e
   where
     by : (c d : Bool) → bytes_eq p [] ≡ c → bytes_eq p cur_dir ≡ d
@@ -67,7 +68,7 @@ values-spelling_rooted : (t : List ℕ)
     → values (spelling_of (values (slash ∷ t))) ≡ values (slash ∷ t)
 values-spelling_rooted t =
     let ps = slice_split is_slash t in
-    let kept = filter is_named ps in
+    let kept = filter counts ps in
     ap values (spelling_of-rooted t) ∙ values-rooted (join_with_byte slash kept)
     ∙ ap (λ vs. RootDir ∷ vs)
     (names_of-row kept (filter-no_slash ps (slice_split-no_slash t)) (filter-named ps))
@@ -93,7 +94,7 @@ values-dot_row ps h k =
     (slice_split-row cur_dir ps ((refl, (tt)), h)) ∙ ap (λ vs. CurDir ∷ vs) (names_of-named ps k)
 
 values-kept_of : (ps : List (List ℕ)) → AllByRecursion NoSlash ps
-    → values (join_with_byte slash (kept_of ps)) ≡ cond (first_is_cur_dir ps)
+    → values (join_with_byte slash (kept_of ps)) ≡ cond (dot_first ps)
     (CurDir ∷ []) [] ++ names_of ps
 values-kept_of [] h = values-rootless [] ([] ∷ []) refl refl
 values-kept_of (p ∷ qs) h = by (bytes_eq p cur_dir) refl
@@ -102,11 +103,11 @@ values-kept_of (p ∷ qs) h = by (bytes_eq p cur_dir) refl
         → values (join_with_byte slash (kept_of (p ∷ qs))) ≡ cond (bytes_eq p cur_dir)
         (CurDir ∷ []) [] ++ names_of (p ∷ qs)
     by true d = rw ((bytes_eq-Decides p cur_dir).0 d)
-        (values-dot_row (filter is_named qs) (filter-no_slash qs h.1) (filter-named qs))
+        (values-dot_row (filter counts qs) (filter-no_slash qs h.1) (filter-named qs))
     by false d = subst (λ c. values
-        (join_with_byte slash (cond c (cur_dir ∷ filter is_named qs) (filter is_named (p ∷ qs))))
+        (join_with_byte slash (cond c (cur_dir ∷ filter counts qs) (filter counts (p ∷ qs))))
         ≡ cond c (CurDir ∷ []) [] ++ names_of (p ∷ qs)) (sym d)
-        (values-row (filter is_named (p ∷ qs)) (filter-no_slash (p ∷ qs) h) (filter-named (p ∷ qs)))
+        (values-row (filter counts (p ∷ qs)) (filter-no_slash (p ∷ qs) h) (filter-named (p ∷ qs)))
 
 pub values-spelling_of : (s : List ℕ) → values (spelling_of (values s)) ≡ values s
 values-spelling_of s = by_test (is_rooted s)

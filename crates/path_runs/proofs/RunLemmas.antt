@@ -1,11 +1,11 @@
 -- A list of edits, with one more at its end.
 use Rattle.std.proofs.Common.{◌≡◌, ℕ, ◌+◌, ◌<◌, List, [], ◌∷◌, ◌++◌, length, take, get_or, refl}
-use Rattle.std.proofs.Common.{sym, ap, ap₂, ◌∙◌}
+use Rattle.std.proofs.Common.{map, sym, ap, ap₂, ◌∙◌}
 use Rattle.std.proofs.lemmas.List.{map_more}
 use Rattle.path_runs.specs.declared.edits.Answer.{Answer}
 use Rattle.path_runs.specs.declared.edits.Edit.{Edit}
 use Rattle.path_runs.specs.Runs.{EditValue, edit_of, edits_of}
-use Rattle.path_runs.specs.EditViews.{edit_value, edit_values}
+use Rattle.path_runs.specs.EditViews.{edit_value}
 
 -- the bytes that these edits leave
 abbrev left_of : List ℕ → List EditValue → List ℕ
@@ -25,8 +25,8 @@ answers-append s (d ∷ es) e =
 -- what the first i edits of s leave, and what they answer
 pub record HasApplied (s : List ℕ) (edits : List Edit) (i : ℕ) (bytes : List ℕ)
     (answers : List Answer) : Type 0 where
-  pub bytes_are : bytes ≡ (edits_of s (edit_values (take i edits))).0
-  pub answers_are : answers ≡ (edits_of s (edit_values (take i edits))).1
+  pub bytes_are : bytes ≡ (edits_of s (map edit_value (take i edits))).0
+  pub answers_are : answers ≡ (edits_of s (map edit_value (take i edits))).1
 
 -- and one edit more
 pub HasApplied-more : (s : List ℕ) (es : List Edit) (i : ℕ) (d : Edit) (t u : List ℕ)
@@ -38,8 +38,8 @@ HasApplied-more s es i d t u answers a h l bytes answer =
     let more = map_more edit_value es i d l in
     record {
       bytes_are = bytes ∙ ap (λ t. (edit_of t e).0) h.bytes_are
-          ∙ sym (ap (left_of s) more ∙ left_of-append s (edit_values (take i es)) e);
+          ∙ sym (ap (left_of s) more ∙ left_of-append s (map edit_value (take i es)) e);
       answers_are = ap₂ (λ bs a. bs ++ a ∷ []) h.answers_are
           (answer ∙ ap (λ t. (edit_of t e).1) h.bytes_are)
-          ∙ sym (ap (λ es. (edits_of s es).1) more ∙ answers-append s (edit_values (take i es)) e);
+          ∙ sym (ap (λ es. (edits_of s es).1) more ∙ answers-append s (map edit_value (take i es)) e);
     }

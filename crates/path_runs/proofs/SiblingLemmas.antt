@@ -1,32 +1,32 @@
 -- One name behind a path: pushed and popped, or set in place of the file name.
-use Rattle.std.proofs.Common.{◌≡◌, ℕ, true, false, List, [], ◌∷◌, ◌++◌, Some, is_some, sym, ap}
-use Rattle.std.proofs.Common.{◌∙◌}
-use Rattle.unix_path.specs.Parts.{Value, Normal, is_rooted, values, begins_with_root, SameValues}
+use Rattle.std.proofs.Common.{◌≡◌, ℕ, true, false, List, [], ◌∷◌, ◌++◌, Some, is_some, unwrap_or}
+use Rattle.std.proofs.Common.{sym, ap, ◌∙◌}
+use Rattle.unix_path.specs.Parts.{Value, Normal, is_rooted, values, SameValues}
 use Rattle.unix_path.specs.Rest.{rest}
 use Rattle.unix_path.specs.Joins.{join_of}
-use Rattle.unix_path.specs.Names.{last_of, parent_by, parent_of, name_by, file_name_of}
-use Rattle.unix_path.specs.Edits.{popped_by, popped_of, with_name_of}
-use Rattle.unix_path.proofs.EndLemmas.{last_of-push, middle-push}
+use Rattle.unix_path.specs.Names.{parent_of, file_name_of}
+use Rattle.unix_path.specs.Edits.{popped_of, with_name_of}
+use Rattle.unix_path.proofs.DepthLemmas.{depth_of-push}
+use Rattle.unix_path.proofs.EndLemmas.{middle-push}
 use Rattle.unix_path.proofs.MiddleLemmas.{middle}
-use Rattle.unix_path.proofs.ParentLemmas.{before_name_of-some}
+use Rattle.unix_path.proofs.ParentLemmas.{before_name_of-some, parent_of-deep, file_name_of-last}
+use Rattle.unix_path.proofs.PartLemmas.{root_first, root_first-values}
 use Rattle.unix_path.proofs.RestLemmas.{rest-rest, values-rest}
 use Rattle.path_runs.specs.JoinLaws.{unled}
 use Rattle.path_runs.specs.EditLaws.{IsOneName}
 use Rattle.path_runs.proofs.AssociativeLemmas.{sep, is_open-sep, join_of-sep}
 use Rattle.path_runs.proofs.BehindLemmas.{rest-behind, rest-sep, values-sep}
-use Rattle.path_runs.proofs.LeadLemmas.{begins_with_root-is_rooted, unled-values}
+use Rattle.path_runs.proofs.LeadLemmas.{unled-values}
 use Rattle.path_runs.proofs.ValueLemmas.{body, added, added-join_of}
 
 pub parent_of-named : (s name : List ℕ) (vs : List Value) → values s ≡ vs ++ Normal name ∷ []
     → parent_of s ≡ Some (rest s 0 1)
-unfolding parent_of
 parent_of-named s name vs e =
-    ap (λ o. parent_by o (rest s 0 1)) (ap last_of e ∙ last_of-push vs (Normal name))
+    parent_of-deep s _ (depth_of-push s vs (Normal name) e (λ h. cc))
 
 pub file_name_of-named : (s name : List ℕ) (vs : List Value) → values s ≡ vs ++ Normal name ∷ []
-    → file_name_of s ≡ Some name
-unfolding file_name_of
-file_name_of-named s name vs e = ap name_by (ap last_of e ∙ last_of-push vs (Normal name))
+    → file_name_of (values s) ≡ Some name
+file_name_of-named s name vs e = ap file_name_of e ∙ file_name_of-last vs (Normal name)
 
 -- the values without the last
 pub values-rest_push : (s : List ℕ) (vs : List Value) (v : Value) → values s ≡ vs ++ v ∷ []
@@ -34,7 +34,7 @@ pub values-rest_push : (s : List ℕ) (vs : List Value) (v : Value) → values s
 values-rest_push s vs v e = values-rest s 0 1 ∙ ap (middle 0 1) e ∙ middle-push vs v
 
 one_rootless : (n name : List ℕ) → IsOneName n name → is_rooted n ≡ false
-one_rootless n name e = sym (begins_with_root-is_rooted n) ∙ ap begins_with_root e
+one_rootless n name e = sym (root_first-values n) ∙ ap root_first e
 
 pub values-join_of_one : (s n name : List ℕ) → IsOneName n name
     → values (join_of s n) ≡ values s ++ Normal name ∷ []
@@ -60,7 +60,7 @@ unfolding popped_of
 values-popped_of s n name e =
     let t = join_of s n in
     let all = values-join_of_one s n name e in
-    ap (λ o. values (popped_by t o)) (parent_of-named t name (values s) all)
+    ap (λ o. values (unwrap_or o t)) (parent_of-named t name (values s) all)
     ∙ values-rest_push t (values s) (Normal name) all
 
 -- ---- set in place of the file name
@@ -75,17 +75,17 @@ rest-join_of_one r n name e =
     ∙ ap (λ vs. vs ++ Normal name ∷ []) (sym (values-sep r)) in
     ap (λ t. rest t 0 1) is ∙ rest-behind u n (Normal name) (is_open-sep r) all ∙ rest-sep r
 
-with_name_of-join : (s old n : List ℕ) → file_name_of s ≡ Some old
+with_name_of-join : (s old n : List ℕ) → file_name_of (values s) ≡ Some old
     → with_name_of s n ≡ join_of (rest s 0 1) n
 with_name_of-join s old n f = ap (λ r. join_of r n) (sym (before_name_of-some s old (sym f)))
 
-pub values-with_name_of : (s old n name : List ℕ) → file_name_of s ≡ Some old → IsOneName n name
-    → values (with_name_of s n) ≡ values (rest s 0 1) ++ Normal name ∷ []
+pub values-with_name_of : (s old n name : List ℕ) → file_name_of (values s) ≡ Some old
+    → IsOneName n name → values (with_name_of s n) ≡ values (rest s 0 1) ++ Normal name ∷ []
 values-with_name_of s old n name f e =
     ap values (with_name_of-join s old n f) ∙ values-join_of_one (rest s 0 1) n name e
 
-pub rest-with_name_of : (s old n name : List ℕ) → file_name_of s ≡ Some old → IsOneName n name
-    → rest (with_name_of s n) 0 1 ≡ rest s 0 1
+pub rest-with_name_of : (s old n name : List ℕ) → file_name_of (values s) ≡ Some old
+    → IsOneName n name → rest (with_name_of s n) 0 1 ≡ rest s 0 1
 rest-with_name_of s old n name f e =
     ap (λ t. rest t 0 1) (with_name_of-join s old n f) ∙ rest-join_of_one (rest s 0 1) n name e
     ∙ rest-rest s 0 1 0 0

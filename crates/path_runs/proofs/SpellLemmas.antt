@@ -6,10 +6,10 @@ use Rattle.std.specs.Str.{bytes_eq}
 use Rattle.std.proofs.lemmas.Slice.Eq.{bytes_eq-Decides}
 use Rattle.unix_path.specs.Parts.{is_slash, slash, cur_dir, parent_dir, Value, RootDir, CurDir}
 use Rattle.unix_path.specs.Parts.{ParentDir, Normal, value_of_piece, value_bytes, is_rooted}
-use Rattle.unix_path.specs.Parts.{values}
+use Rattle.unix_path.specs.Parts.{counts, values}
 use Rattle.unix_path.proofs.CaseLemmas.{by_test}
 use Rattle.path_runs.specs.Spelling.{row_of, spelling_of}
-use Rattle.path_runs.proofs.PieceValueLemmas.{is_named, names_of, values-rooted, values-rootless}
+use Rattle.path_runs.proofs.PieceValueLemmas.{names_of, values-rooted, values-rootless}
 
 value_bytes-piece : (p : List ℕ) → value_bytes (value_of_piece p) ≡ p
 value_bytes-piece p =
@@ -21,8 +21,8 @@ bytes_of_pieces [] = refl
 bytes_of_pieces (p ∷ ps) = ap₂ (λ q qs. q ∷ qs) (value_bytes-piece p) (bytes_of_pieces ps)
 
 row_of-names : (ps : List (List ℕ))
-    → row_of (names_of ps) ≡ join_with_byte slash (filter is_named ps)
-row_of-names ps = ap (join_with_byte slash) (bytes_of_pieces (filter is_named ps))
+    → row_of (names_of ps) ≡ join_with_byte slash (filter counts ps)
+row_of-names ps = ap (join_with_byte slash) (bytes_of_pieces (filter counts ps))
 
 pub spelling_of-root : (vs : List Value) → spelling_of (RootDir ∷ vs) ≡ slash ∷ row_of vs
 unfolding spelling_of
@@ -58,7 +58,7 @@ spelling_of-pieces (p ∷ ps) =
 
 pub spelling_of-rooted : (t : List ℕ)
     → spelling_of (values (slash ∷ t)) ≡ slash ∷ join_with_byte slash
-    (filter is_named (slice_split is_slash t))
+    (filter counts (slice_split is_slash t))
 spelling_of-rooted t =
     let ps = slice_split is_slash t in
     ap spelling_of (values-rooted t) ∙ spelling_of-root (names_of ps)
@@ -67,8 +67,8 @@ spelling_of-rooted t =
 -- where no root stands: a first `.`, and the pieces that count
 abbrev pub kept_of : List (List ℕ) → List (List ℕ)
 kept_of [] = []
-kept_of (p ∷ ps) = cond (bytes_eq p cur_dir) (cur_dir ∷ filter is_named ps)
-    (filter is_named (p ∷ ps))
+kept_of (p ∷ ps) = cond (bytes_eq p cur_dir) (cur_dir ∷ filter counts ps)
+    (filter counts (p ∷ ps))
 
 pub spelling_of-rootless : (s : List ℕ) (ps : List (List ℕ)) → is_rooted s ≡ false
     → slice_split is_slash s ≡ ps → spelling_of (values s) ≡ join_with_byte slash (kept_of ps)
@@ -81,8 +81,8 @@ spelling_of-rootless s (p ∷ ps) r e = ap spelling_of (values-rootless s (p ∷
         ≡ join_with_byte slash (kept_of (p ∷ ps))
     by true d = rw (((bytes_eq-Decides p cur_dir).0 d))
         (spelling_of-dot (names_of ps)
-        ∙ ap (λ bs. join_with_byte slash (cur_dir ∷ bs)) (bytes_of_pieces (filter is_named ps)))
+        ∙ ap (λ bs. join_with_byte slash (cur_dir ∷ bs)) (bytes_of_pieces (filter counts ps)))
     by false d = subst (λ c. spelling_of
         (cond c (CurDir ∷ []) [] ++ names_of (p ∷ ps)) ≡ join_with_byte slash
-        (cond c (cur_dir ∷ filter is_named ps) (filter is_named (p ∷ ps)))) (sym d)
-        (spelling_of-pieces (filter is_named (p ∷ ps)) ∙ row_of-names (p ∷ ps))
+        (cond c (cur_dir ∷ filter counts ps) (filter counts (p ∷ ps)))) (sym d)
+        (spelling_of-pieces (filter counts (p ∷ ps)) ∙ row_of-names (p ∷ ps))

@@ -3,16 +3,15 @@ use Rattle.std.proofs.Common.{◌≡◌, ℕ, ◌+◌, ◌-◌, false, List, [],
 use Rattle.std.proofs.Common.{sym, ap, ap₂, ◌∙◌, arith, take_all, length-append}
 use Rattle.std.specs.List.{AllByRecursion}
 use Rattle.std.proofs.lemmas.List.{drop_at}
-use Rattle.unix_path.specs.Parts.{Value, is_rooted, values, begins_with_root}
+use Rattle.unix_path.specs.Parts.{Value, is_rooted, values}
 use Rattle.unix_path.specs.Joins.{join_of}
-use Rattle.unix_path.specs.Names.{stripped_of, StartsWithValues}
+use Rattle.unix_path.specs.Names.{stripped_of, Begins}
 use Rattle.unix_path.proofs.MiddleLemmas.{middle}
-use Rattle.unix_path.proofs.PartLemmas.{values-nil}
+use Rattle.unix_path.proofs.PartLemmas.{root_first, root_first-values, values-nil}
 use Rattle.unix_path.proofs.RestLemmas.{values-rest}
 use Rattle.path_runs.specs.JoinLaws.{unled}
 use Rattle.path_runs.proofs.AssociativeLemmas.{join_of-nil}
 use Rattle.path_runs.proofs.LeadLemmas.{IsInner, inner-unled, inner-behind}
-use Rattle.path_runs.proofs.LeadLemmas.{begins_with_root-is_rooted}
 use Rattle.path_runs.proofs.LeadLemmas.{unled-values}
 use Rattle.path_runs.proofs.ValueLemmas.{body, some_values, added, added-join_of}
 
@@ -38,7 +37,7 @@ join_behind : (s base r : List ℕ) (v : Value) (vs more : List Value)
 join_behind s base r v vs more is left all =
     let inner = inner-unled more (inner-end vs more (inner-behind s v (vs ++ more) (sym all))) in
     let rootless : is_rooted r ≡ false =
-    sym (begins_with_root-is_rooted r) ∙ ap begins_with_root left ∙ inner.no_root in
+    sym (root_first-values r) ∙ ap root_first left ∙ inner.no_root in
     let bodies : body r ≡ more = sym (unled-values r) ∙ ap unled left ∙ inner.no_lead in
     added-join_of base r rootless ∙ ap (λ ws. added ws r) is
     ∙ ap (λ ws. v ∷ vs ++ ws) bodies ∙ all
@@ -53,6 +52,11 @@ strip_join s (b ∷ base) more e =
     join_behind s (b ∷ base) (stripped_of s (b ∷ base)) some.0 some.1 more some.2
     (values-stripped_of s (b ∷ base) more e) (ap (λ vs. vs ++ more) (sym some.2) ∙ e)
 
-pub values-join_of_stripped : (s base : List ℕ) → StartsWithValues s base
+pub values-join_of_stripped : (s base : List ℕ) → Begins (values base) (values s)
     → values (join_of base (stripped_of s base)) ≡ values s
 values-join_of_stripped s base h = strip_join s base h.0 h.1
+
+-- what was stripped, joined to its base, has the values of the path
+pub stripped_joined : (s base joined : List ℕ) → Begins (values base) (values s)
+    → joined ≡ join_of base (stripped_of s base) → values joined ≡ values s
+stripped_joined s base joined h e = ap values e ∙ values-join_of_stripped s base h

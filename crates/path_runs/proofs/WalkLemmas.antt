@@ -2,7 +2,7 @@
 use Rattle.std.proofs.Common.{◌≡◌, ℕ, ◌+◌, ◌-◌, ◌≤◌, ◌<◌, cond, ltb, length, List, [], ◌∷◌, ◌++◌}
 use Rattle.std.proofs.Common.{take, drop, get_or, reverse, refl, sym, ap, ap₂, ◌∙◌, arith, take_all}
 use Rattle.std.proofs.Common.{length-drop, get_or-drop, length-append, ltb-true, ltb-false}
-use Rattle.std.proofs.Common.{add-zero}
+use Rattle.std.proofs.Common.{Bool, add-zero, not}
 use Rattle.std.proofs.Math.Seq.{get_or-append_seam}
 use Rattle.std.specs.List.{count_by}
 use Rattle.std.proofs.lemmas.List.{length-take, get_or-take, get_or-reverse, length-reverse}
@@ -13,9 +13,14 @@ use Rattle.unix_path.specs.Rest.{rest}
 use Rattle.unix_path.proofs.CaseLemmas.{by_test, take-take-of}
 use Rattle.unix_path.proofs.MiddleLemmas.{middle}
 use Rattle.unix_path.proofs.RestLemmas.{values-rest, rest-rest, rest-none}
-use Rattle.path_runs.specs.Turns.{is_front, is_back, front_turns, back_turns}
+use Rattle.path_runs.proofs.TogetherLemmas.{take-middle-reverse}
+use Rattle.path_runs.specs.Turns.{is_front, front_turns, back_turns}
 use Rattle.path_runs.specs.declared.walk.Turn.{Turn}
 use Rattle.path_runs.specs.declared.walk.Turn.TheVariants.{Front, Back}
+
+-- the turn is behind
+abbrev pub is_back : Turn → Bool
+is_back turn = not (is_front turn)
 
 -- what the first i turns have taken from s in front, have left, and have taken behind
 pub record HasWalked (s : List ℕ) (turns : List Turn) (i : ℕ) (front : List Value) (left : List ℕ)
@@ -26,24 +31,16 @@ pub record HasWalked (s : List ℕ) (turns : List Turn) (i : ℕ) (front : List 
   pub behind_is : behind ≡ take (back_turns (length (values s)) (take i turns)) (reverse (values s))
 
 -- each turn is in front or behind
+one_turn : (t : Turn) → cond (is_front t) 1 0 + cond (is_back t) 1 0 ≡ 1
+one_turn Front = refl
+one_turn Back = refl
+
 turns_total : (ts : List Turn) → count_by is_front ts + count_by is_back ts ≡ length ts
 turns_total [] = refl
-turns_total (Front ∷ ts) =
-    omega (
-      arith,
-      turns_total ts,
-      sum_by-cons (λ t. cond (is_front t) 1 0) Front ts,
-      sum_by-cons
-          (λ t. cond (is_back t) 1 0) Front ts,
-    )
-turns_total (Back ∷ ts) =
-    omega (
-      arith,
-      turns_total ts,
-      sum_by-cons (λ t. cond (is_front t) 1 0) Back ts,
-      sum_by-cons
-          (λ t. cond (is_back t) 1 0) Back ts,
-    )
+turns_total (t ∷ ts) =
+    let fronts = sum_by-cons (λ t. cond (is_front t) 1 0) t ts in
+    let backs = sum_by-cons (λ t. cond (is_back t) 1 0) t ts in
+    omega (arith, one_turn t, turns_total ts, fronts, backs)
 
 -- where as many turns as parts have been made, another counts for nothing
 take-take_late : (n i : ℕ) (ts : List Turn) → n ≤ i → take n (take (i + 1) ts) ≡ take n (take i ts)
@@ -184,3 +181,16 @@ HasWalked-none s ts i front left behind after a b h none leaves =
           ∙ ap₂ (rest s) (ap (count_by is_front) (sym same)) (ap (count_by is_back) (sym same));
       behind_is = h.behind_is ∙ ap (λ us. take (count_by is_back us) (reverse vs)) (sym same);
     }
+
+-- what was taken in front, what is left and what was taken behind are all the values
+pub walked_whole : (s : List ℕ) (ts : List Turn) (i : ℕ) (front : List Value) (left : List ℕ)
+    (behind : List Value) → HasWalked s ts i front left behind
+    → front ++ values left ++ reverse behind ≡ values s
+walked_whole s ts i front left behind h =
+    let n = length (values s) in
+    let now = take i ts in
+    ap₂ (λ f b. f ++ values left ++ reverse b) h.front_is h.behind_is
+    ∙ ap (λ l. take (front_turns n now) (values s) ++ l
+    ++ reverse (take (back_turns n now) (reverse (values s)))) (values-left h)
+    ∙ take-middle-reverse (front_turns n now) (back_turns n now) (values s)
+    (omega (arith, turns_total (take n now), length-take n now))

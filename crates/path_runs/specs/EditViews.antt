@@ -1,5 +1,4 @@
 -- The values that edits stand for.
-use Rattle.std.specs.Prelude.{List, map}
 use Rattle.path_runs.specs.Runs.{EditValue}
 use Rattle.path_runs.specs.Runs as runs
 use Rattle.path_runs.specs.declared.edits.Edit.{Edit}
@@ -13,7 +12,3 @@ edit_value Pop = runs.Pop
 edit_value (SetFileName name) = runs.SetFileName name.bytes.now
 edit_value (SetExtension extension) = runs.SetExtension extension.bytes.now
 edit_value Clear = runs.Clear
-
--- the values of a list of edits
-abbrev pub edit_values : List Edit → List EditValue
-edit_values es = map edit_value es

@@ -2,7 +2,7 @@
 use Rattle.std.specs.Prelude.{◌≡◌, ◌≢◌, ℕ, false, List, [], ◌∷◌, ◌++◌}
 use Rattle.unix_path.specs.Parts.{Value, RootDir, CurDir, slash, is_rooted, values, SameValues}
 use Rattle.unix_path.specs.Joins.{join_of}
-use Rattle.unix_path.specs.Names.{StartsWithValues, stripped_of}
+use Rattle.unix_path.specs.Names.{Begins, stripped_of}
 
 -- of three paths it is the same, to the byte, which two are joined first
 abbrev pub JoinsAssociate : Type 0
@@ -26,10 +26,6 @@ abbrev pub unled : List Value → List Value
 unled (RootDir ∷ vs) = vs
 unled vs = undotted vs
 
--- s ends in a slash
-abbrev pub EndsInSlash : List ℕ → Type 0
-EndsInSlash s = (front : List ℕ) × (front ++ slash ∷ [] ≡ s)
-
 -- a join with a rootless b has the values of a, and then those of b without a leading dot
 abbrev pub JoinAddsValues : Type 0
 JoinAddsValues =
@@ -39,9 +35,10 @@ JoinAddsValues =
 -- what follows a slash adds its values without a leading root or dot
 abbrev pub SlashAddsValues : Type 0
 SlashAddsValues =
-    (a b : List ℕ) → EndsInSlash a → values (a ++ b) ≡ values a ++ unled (values b)
+    (a b : List ℕ) → values (a ++ slash ∷ b) ≡ values (a ++ slash ∷ []) ++ unled (values b)
 
 -- what was stripped of its base, joined to that base, has the values of the path
 abbrev pub StripThenJoin : Type 0
 StripThenJoin =
-    (s base : List ℕ) → StartsWithValues s base → SameValues (join_of base (stripped_of s base)) s
+    (s base : List ℕ) → Begins (values base) (values s)
+    → SameValues (join_of base (stripped_of s base)) s

@@ -1,6 +1,7 @@
 -- Edits of a path and lists of them (Rust's `PathBuf::push`, `PathBuf::pop`,
 -- `PathBuf::set_file_name`, `PathBuf::set_extension`, `PathBuf::clear`).
 use Rattle.std.specs.Prelude.{ℕ, List, [], ◌∷◌, Bool, true, false, is_some}
+use Rattle.unix_path.specs.Parts.{values}
 use Rattle.unix_path.specs.Joins.{join_of}
 use Rattle.unix_path.specs.Names.{parent_of, file_name_of}
 use Rattle.unix_path.specs.Edits.{popped_of, with_name_of, with_extension_of}
@@ -21,7 +22,7 @@ edit_of s (Push b) = (join_of s b, Plain)
 edit_of s Pop = (popped_of s, Flag (is_some (parent_of s)))
 edit_of s (SetFileName name) = (with_name_of s name, Plain)
 edit_of s (SetExtension extension) =
-    (with_extension_of s extension, Flag (is_some (file_name_of s)))
+    (with_extension_of s extension, Flag (is_some (file_name_of (values s))))
 edit_of s Clear = ([], Plain)
 
 -- what a list of edits leaves, each applied to what the one before it left, and all their answers

@@ -1,5 +1,5 @@
 -- Laws of the canonical spelling. Own.
-use Rattle.std.specs.Prelude.{◌≡◌, ◌↔◌, ◌≤◌, ℕ, List, length}
+use Rattle.std.specs.Prelude.{◌≡◌, ◌↔◌, ◌⊎◌, ◌<◌, ℕ, List, length}
 use Rattle.unix_path.specs.Parts.{values, SameValues}
 use Rattle.path_runs.specs.Spelling.{spelling_of}
 
@@ -7,16 +7,11 @@ use Rattle.path_runs.specs.Spelling.{spelling_of}
 abbrev pub SpellingReadsBack : Type 0
 SpellingReadsBack = (s : List ℕ) → SameValues (spelling_of (values s)) s
 
--- each path with these values is at least as long
+-- each path with these values is that spelling, or longer
 abbrev pub SpellingIsShortest : Type 0
 SpellingIsShortest =
-    (s t : List ℕ) → SameValues t s → length (spelling_of (values s)) ≤ length t
-
--- and one as long has the same bytes
-abbrev pub SpellingIsTheOne : Type 0
-SpellingIsTheOne =
-    (s t : List ℕ) → SameValues t s → length t ≡ length (spelling_of (values s))
-    → t ≡ spelling_of (values s)
+    (s t : List ℕ) → SameValues t s
+    → (t ≡ spelling_of (values s)) ⊎ (length (spelling_of (values s)) < length t)
 
 -- two paths have the same values exactly if their spellings have the same bytes
 abbrev pub SpellingsTell : Type 0

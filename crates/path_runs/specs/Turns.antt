@@ -1,15 +1,12 @@
 -- How many parts a list of turns takes from each end of a path. Own.
-use Rattle.std.specs.Prelude.{ℕ, List, Bool, true, false, take, count_by}
+use Rattle.std.specs.Prelude.{ℕ, List, Bool, true, false, not, take, count_by}
 use Rattle.path_runs.specs.declared.walk.Turn.{Turn}
 use Rattle.path_runs.specs.declared.walk.Turn.TheVariants.{Front, Back}
 
+-- the turn is in front
 abbrev pub is_front : Turn → Bool
 is_front Front = true
 is_front Back = false
-
-abbrev pub is_back : Turn → Bool
-is_back Front = false
-is_back Back = true
 
 -- how many of the first n turns, or of all where there are fewer, are in front
 abbrev pub front_turns : ℕ → List Turn → ℕ
@@ -17,4 +14,4 @@ front_turns n turns = count_by is_front (take n turns)
 
 -- how many of the first n turns, or of all where there are fewer, are behind
 abbrev pub back_turns : ℕ → List Turn → ℕ
-back_turns n turns = count_by is_back (take n turns)
+back_turns n turns = count_by (λ turn. not (is_front turn)) (take n turns)

@@ -1,11 +1,11 @@
 //! Edits of a path, as values, and lists of them applied.
 ghost use Rattle.std.specs.Prelude.{◌≡◌, ◌↔◌, ◌<◌, [], true, length, take, slice_get, MatchOption};
-ghost use Rattle.std.specs.Prelude.{IsSome, IsOk, IfOk, IfErr, IfSome, OnOk, OnErr};
+ghost use Rattle.std.specs.Prelude.{map, IsSome, IsOk, IfOk, IfErr, IfSome, OnOk, OnErr};
 ghost use Rattle.unix_path.specs.Buffers.{path_bytes};
 ghost use Rattle.unix_path.specs.Joins.{join_of};
-ghost use Rattle.unix_path.specs.Names.{StartsWithValues, stripped_of};
-ghost use Rattle.unix_path.specs.Parts.{SameValues};
-ghost use Rattle.path_runs.specs.EditViews.{edit_value, edit_values};
+ghost use Rattle.unix_path.specs.Names.{Begins, stripped_of};
+ghost use Rattle.unix_path.specs.Parts.{values, SameValues};
+ghost use Rattle.path_runs.specs.EditViews.{edit_value};
 ghost use Rattle.path_runs.specs.Runs.{edit_of, edits_of, may_take_memory};
 
 use std::alloc::{AllocError, Global};
@@ -97,12 +97,12 @@ pub fn apply(
     edits: &[Edit<'_>],
 ) -> Result<Vec<Answer>, ApplyError>
     ensures ok { OnOk result
-        (path_bytes path.new ≡ (edits_of (path_bytes path.old) (edit_values edits.now)).0) }
+        (path_bytes path.new ≡ (edits_of (path_bytes path.old) (map edit_value edits.now)).0) }
     ensures value { IfOk result
-        (λ answers. answers.items ≡ (edits_of (path_bytes path.old) (edit_values edits.now)).1) }
+        (λ answers. answers.items ≡ (edits_of (path_bytes path.old) (map edit_value edits.now)).1) }
     ensures err { IfErr result
         (λ e. path_bytes path.new
-        ≡ (edits_of (path_bytes path.old) (edit_values (take e.done edits.now))).0) }
+        ≡ (edits_of (path_bytes path.old) (map edit_value (take e.done edits.now))).0) }
     ensures done { IfErr result (λ e. e.done < length edits.now) }
     ensures succeeds { edits.now ≡ [] → IsOk result }
     ensures refused { IfErr result
@@ -128,15 +128,16 @@ pub fn apply(
 /// it asks for none. Own; by Rust's `Path::strip_prefix` and `Path::join`.
 ///
 /// That of `/a//b/.` and `/a/` is `/a/b`, and that of `a` and `a` is `a/`.
+#[tactic(auto, using(crate::proofs::StripLemmas::stripped_joined))]
 pub fn rejoin(alloc: Global, path: Path<'_>, base: Path<'_>) -> Result<Option<PathBuf>, AllocError>
     ensures ok { IfOk result (λ found. IsSome found
-        ↔ StartsWithValues path.entry.bytes.now base.entry.bytes.now) }
+        ↔ Begins (values base.entry.bytes.now) (values path.entry.bytes.now)) }
     ensures value { IfOk result (λ found. IfSome found
         (λ p. path_bytes p ≡ join_of base.entry.bytes.now
         (stripped_of path.entry.bytes.now base.entry.bytes.now))) }
     ensures same { IfOk result (λ found. IfSome found
         (λ p. SameValues (path_bytes p) path.entry.bytes.now)) }
-    ensures succeeds { ¬ StartsWithValues path.entry.bytes.now base.entry.bytes.now
+    ensures succeeds { ¬ Begins (values base.entry.bytes.now) (values path.entry.bytes.now)
         → IsOk result }
 {
     let Ok(rest) = path.strip_prefix(base) else {

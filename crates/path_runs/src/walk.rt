@@ -1,5 +1,5 @@
 //! A walk over a path's parts by a list of turns.
-ghost use Rattle.std.specs.Prelude.{◌≡◌, IfOk, length, map, reverse, take};
+ghost use Rattle.std.specs.Prelude.{◌≡◌, ◌++◌, IfOk, length, map, reverse, take};
 ghost use Rattle.unix_path.specs.Parts.{values};
 ghost use Rattle.unix_path.specs.Rest.{rest};
 ghost use Rattle.unix_path.specs.Views.{value_of};
@@ -30,11 +30,13 @@ pub struct Walked<'a> {
 
 /// The parts that these turns take from the two ends of a path, and what they leave between.
 ///
-/// Each turn takes one part, or nothing where none is left. With no turn `foo/` leaves `foo`. Takes
-/// memory for the two lists of parts; where that is refused, no part of the answer is kept. Own;
-/// each turn is a `next` or `next_back` of Rust's `Components`.
+/// Each turn takes one part, or nothing where none is left. The parts in front, those of what is
+/// left, and those behind, turned round, are the path's parts. With no turn `foo/` leaves `foo`.
+/// Takes memory for the two lists of parts; where that is refused, no part of the answer is kept.
+/// Own; each turn is a `next` or `next_back` of Rust's `Components`.
 ///
 /// `/a/./b/../c` by front, back, front, back gives `/` and `a`, leaves `b`, and gives `c` and `..`.
+#[tactic(auto, using(crate::proofs::WalkLemmas::walked_whole))]
 pub fn walk<'a>(alloc: Global, path: Path<'a>, turns: &[Turn]) -> Result<Walked<'a>, AllocError>
     ensures front { let all = values path.entry.bytes.now in
         IfOk result (λ w. map value_of w.front.items ≡
@@ -45,6 +47,9 @@ pub fn walk<'a>(alloc: Global, path: Path<'a>, turns: &[Turn]) -> Result<Walked<
     ensures behind { let all = values path.entry.bytes.now in
         IfOk result (λ w. map value_of w.behind.items ≡
         take (back_turns (length all) turns.now) (reverse all)) }
+    ensures whole { IfOk result (λ w. map value_of w.front.items
+        ++ values w.rest.bytes.now ++ reverse (map value_of w.behind.items)
+        ≡ values path.entry.bytes.now) }
 {
     let mut left = path.components();
     let mut front = Vec::new(alloc);

@@ -1,14 +1,17 @@
 //! Laws of the order.
-ghost use Rattle.path_runs.specs.OrderLaws.{OrderIsTotal, OrderIsTransitive, PrefixBothWays};
+ghost use Rattle.std.specs.Cmp.{IsTotalOrder};
+ghost use Rattle.unix_path.specs.Order.{values_cmp};
+ghost use Rattle.path_runs.specs.OrderLaws.{TiesAreEqual, PrefixBothWays};
 
-/// Two paths have the same values, or the one is less, or the other is, and no two of these hold.
+/// The order of lists of values is total, and only equal lists tie in it.
 ///
-/// What is less than a lesser one is less. This holds of all lists of values. Takes no memory. Own.
+/// So two paths have the same values, or the one is less, or the other is, and no two of these
+/// hold; and what is less than a lesser one is less. Takes no memory. Own.
 ///
 /// `a` is less than `a/b`, and that than `b`; so `a` is less than `b`.
 pub fn order_total()
-    ensures one { OrderIsTotal }
-    ensures transitive { OrderIsTransitive }
+    ensures total { IsTotalOrder values_cmp }
+    ensures equal { TiesAreEqual }
 {}
 
 /// Two lists of values that begin each other are equal.

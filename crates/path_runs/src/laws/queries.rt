@@ -1,26 +1,27 @@
 //! Laws of what is asked of a path.
-ghost use Rattle.path_runs.specs.QueryLaws.{CutNameRejoined, WholeNameIsStem};
-ghost use Rattle.path_runs.specs.QueryLaws.{NameRejoined, StemIsName};
+ghost use Rattle.std.specs.Prelude.{List, map, option_map, ℕ};
+ghost use Rattle.unix_path.specs.Edits.{with_extension_of, with_name_of};
+ghost use Rattle.unix_path.specs.Hashed.{hash_input_of};
+ghost use Rattle.unix_path.specs.Joins.{join_of};
+ghost use Rattle.unix_path.specs.Names.{ancestors_of, extension_of, file_name_of, parent_of};
+ghost use Rattle.unix_path.specs.Names.{stem_of, stripped_of, Begins, Ends};
+ghost use Rattle.unix_path.specs.Order.{values_cmp};
+ghost use Rattle.unix_path.specs.Parts.{is_rooted, value_bytes, values, SameValues};
+ghost use Rattle.unix_path.specs.Rest.{rest};
+ghost use Rattle.path_runs.specs.QueryLaws.{NameRejoined, FileNameRejoined};
 ghost use Rattle.path_runs.specs.QueryLaws.{ParentIsBefore, ParentJoinsName};
 ghost use Rattle.path_runs.specs.QueryLaws.{AncestorsEnd, AncestorsStep, AncestorsAreFronts};
-ghost use Rattle.path_runs.specs.AlikeLaws.{RootsAlike, NamesAlike, StemsAlike, ExtensionsAlike};
-ghost use Rattle.path_runs.specs.AlikeLaws.{ItemsAlike, PrefixesAlike, SuffixesAlike};
-ghost use Rattle.path_runs.specs.AlikeLaws.{EqualityAlike, OrderAlike, HashesAlike};
-ghost use Rattle.path_runs.specs.AlikeLaws.{ParentsAlike, AncestorsAlike, RestsAlike};
-ghost use Rattle.path_runs.specs.AlikeLaws.{StrippedAlike, JoinsAlike, NewNamesAlike};
-ghost use Rattle.path_runs.specs.AlikeLaws.{NewExtensionsAlike};
+ghost use Rattle.path_runs.specs.AlikeLaws.{SameOnEqual, SameOnEqualPairs, HoldsOnEqualPairs};
 
 /// A stem, a dot and the extension are the file name; without an extension the stem is all of it.
 ///
-/// This holds of every name that is cut at its last dot, and of the file name of every path.
+/// This holds of every name, and of every path that has a stem, which then has a file name too.
 /// Calling it does nothing. Own.
 ///
 /// `a.tar.gz` is `a.tar`, a dot and `gz`; `.gz` is its own stem.
 pub fn name_rejoined()
-    ensures name_cut { CutNameRejoined }
-    ensures name_whole { WholeNameIsStem }
-    ensures path_cut { NameRejoined }
-    ensures path_whole { StemIsName }
+    ensures name { NameRejoined }
+    ensures file_name { FileNameRejoined }
 {}
 
 /// A path's parent comes before it in the order, and joined with its file name is the path again.
@@ -53,21 +54,22 @@ pub fn ancestors_step()
 ///
 /// `//a//b` and `/a/b` have the file name `b`, and the equal parents `//a` and `/a`.
 pub fn queries_congruent()
-    ensures has_root { RootsAlike }
-    ensures file_name { NamesAlike }
-    ensures file_stem { StemsAlike }
-    ensures extension { ExtensionsAlike }
-    ensures items { ItemsAlike }
-    ensures starts_with { PrefixesAlike }
-    ensures ends_with { SuffixesAlike }
-    ensures equality { EqualityAlike }
-    ensures order { OrderAlike }
-    ensures hash { HashesAlike }
-    ensures parent { ParentsAlike }
-    ensures ancestors { AncestorsAlike }
-    ensures rest { RestsAlike }
-    ensures strip_prefix { StrippedAlike }
-    ensures join { JoinsAlike }
-    ensures with_file_name { NewNamesAlike }
-    ensures with_extension { NewExtensionsAlike }
+    ensures has_root { SameOnEqual is_rooted }
+    ensures file_name { SameOnEqual (λ s. file_name_of (values s)) }
+    ensures file_stem { SameOnEqual (λ s. stem_of (values s)) }
+    ensures extension { SameOnEqual (λ s. extension_of (values s)) }
+    ensures items { SameOnEqual (λ s. map value_bytes (values s)) }
+    ensures starts_with { HoldsOnEqualPairs (λ s base. Begins (values base) (values s)) }
+    ensures ends_with { HoldsOnEqualPairs (λ s child. Ends (values child) (values s)) }
+    ensures equality { HoldsOnEqualPairs SameValues }
+    ensures order { SameOnEqualPairs (λ s u. values_cmp (values s) (values u)) }
+    ensures hash { SameOnEqual (λ s. hash_input_of (values s)) }
+    ensures parent { SameOnEqual (λ s. option_map values (parent_of s)) }
+    ensures ancestors { SameOnEqual (λ s. map values (ancestors_of s)) }
+    ensures rest { (k m : ℕ) → SameOnEqual (λ s. values (rest s k m)) }
+    ensures strip_prefix { SameOnEqualPairs (λ s base. values (stripped_of s base)) }
+    ensures join { SameOnEqualPairs (λ s u. values (join_of s u)) }
+    ensures with_file_name { (name : List ℕ) → SameOnEqual (λ s. values (with_name_of s name)) }
+    ensures with_extension { (extension : List ℕ)
+        → SameOnEqual (λ s. values (with_extension_of s extension)) }
 {}

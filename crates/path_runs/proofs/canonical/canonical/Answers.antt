@@ -30,6 +30,6 @@ returns c =
     (YieldsList-from_map_by _ bytes_of value_bytes
     (YieldsList-at c.map.ensures.source (Components-yields _)) c.map.ensures.closure
     (λ x r q k. search (rules, tests)))
-    ∙ ap (map value_bytes) (values-whole s _ c.components.ensures))
-    ∙ join_all_of-values s)
+    ∙ ap (map value_bytes) (values-whole s _ c.components.ensures.rest))
+    ∙ search join_all_of-values)
     c.from_iter.ensures.ok

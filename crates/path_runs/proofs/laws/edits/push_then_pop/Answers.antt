@@ -1,14 +1,14 @@
 use Rattle.std.proofs.Common.{[], ◌∷◌, sym, ap, ◌∙◌}
 use Rattle.unix_path.specs.Parts.{Normal, values}
-use Rattle.unix_path.specs.Names.{last_of}
+use Rattle.std.specs.List.{last_or}
 use Rattle.unix_path.specs.Edits.{with_name_of}
 use Rattle.unix_path.specs.Rest.{rest}
-use Rattle.unix_path.proofs.EndLemmas.{last_of-push}
+use Rattle.unix_path.proofs.EndLemmas.{last_or-push}
 use Rattle.path_runs.specs.declared.edits.Answer.TheVariants.{Plain, Flag}
 use Rattle.path_runs.proofs.NamedLemmas.{named_cut}
 use Rattle.path_runs.proofs.SiblingLemmas.{pop-answer, values-popped_of, parent_of-named}
 use Rattle.path_runs.proofs.SiblingLemmas.{values-with_name_of, rest-with_name_of}
-use Rattle.std.proofs.Common.{Some}
+use Rattle.std.proofs.Common.{Some, None}
 use Rattle.path_runs.proofs.laws.edits.push_then_pop.Goals as goal
 
 pub returns-clause-answers : goal.returns-clause-answers
@@ -27,5 +27,5 @@ returns-clause-parent c = λ s old n name f e.
 
 pub returns-clause-last : goal.returns-clause-last
 returns-clause-last c = λ s old n name f e.
-    ap last_of (values-with_name_of s old n name f e)
-    ∙ last_of-push (values (rest s 0 1)) (Normal name)
+    ap (last_or None) (values-with_name_of s old n name f e)
+    ∙ last_or-push None (values (rest s 0 1)) (Normal name)

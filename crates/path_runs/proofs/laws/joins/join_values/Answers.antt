@@ -1,6 +1,6 @@
-use Rattle.std.proofs.Common.{◌≢◌, List, ℕ, [], ◌∷◌, length, ◌<◌, ◌++◌, sym, ap, refl, ◌∙◌, arith}
-use Rattle.unix_path.specs.Parts.{values}
-use Rattle.path_runs.proofs.ValueLemmas.{body, values-past_slash, values-join_of}
+use Rattle.std.proofs.Common.{◌≢◌, List, ℕ, [], ◌∷◌, length, ◌<◌, ◌++◌, sym, ap, refl, ◌∙◌, arith, append_assoc}
+use Rattle.unix_path.specs.Parts.{slash, values}
+use Rattle.path_runs.proofs.ValueLemmas.{values-past_slash, values-join_of}
 use Rattle.path_runs.proofs.LeadLemmas.{undotted-values, unled-values}
 use Rattle.path_runs.proofs.laws.joins.join_values.Goals as goal
 
@@ -13,6 +13,5 @@ returns-clause-join c = λ a b some r. values-join_of a b (some_byte a some) r
     ∙ ap (λ vs. values a ++ vs) (sym (undotted-values b r))
 
 pub returns-clause-slash : goal.returns-clause-slash
-returns-clause-slash c = λ a b cut. ap (λ a. values (a ++ b)) (sym cut.1)
-    ∙ values-past_slash cut.0 b
-    ∙ ap (λ a. values a ++ body b) cut.1 ∙ ap (λ vs. values a ++ vs) (sym (unled-values b))
+returns-clause-slash c = λ a b. ap values (sym (append_assoc a (slash ∷ []) b))
+    ∙ values-past_slash a b ∙ ap (λ vs. values (a ++ slash ∷ []) ++ vs) (sym (unled-values b))

@@ -8,10 +8,7 @@ pub returns-clause-reads_back : goal.returns-clause-reads_back
 returns-clause-reads_back c = values-spelling_of
 
 pub returns-clause-shortest : goal.returns-clause-shortest
-returns-clause-shortest c = λ s t e. (spelling_of-shortest s t e).0
-
-pub returns-clause-the_one : goal.returns-clause-the_one
-returns-clause-the_one c = λ s t e. (spelling_of-shortest s t e).1
+returns-clause-shortest c = spelling_of-shortest
 
 pub returns-clause-tells : goal.returns-clause-tells
 returns-clause-tells c = λ s t. (λ e. ap spelling_of e, spelling_of-same s t)
