@@ -1,44 +1,52 @@
 -- Lists of values that begin or end with others, as tests.
-use Rattle.std.proofs.Common.{◌≡◌, ℕ, ◌-◌, List, ◌++◌, length, take, drop, sym, ap, ◌∙◌, arith}
-use Rattle.std.proofs.Common.{Some, Decides, codes, refl, take-append-drop, length-append}
-use Rattle.std.proofs.Math.Seq.{take-append_seam, drop-append_seam}
+use Rattle.std.proofs.Common.{◌≡◌, ℕ, ◌-◌, List, [], ◌∷◌, length, take, drop, get_or, sym, ap}
+use Rattle.std.proofs.Common.{◌∙◌, refl, Some, Decides, codes, Ordering, Less, Equal, Greater}
+use Rattle.std.specs.List.{starts_with, ends_with}
+use Rattle.std.specs.Ordering.{is_eq, ordering_then}
+use Rattle.std.proofs.lemmas.Slice.Eq.{starts_is, ends_is}
 use Rattle.unix_path.proofs.CaseLemmas.{by_test}
 use Rattle.unix_path.specs.Parts.{Value, values}
-use Rattle.unix_path.specs.Names.{Begins, Ends, StartsWithValues, stripped_of}
-use Rattle.unix_path.specs.OrderLaws.{is_eq-values_cmp, values_cmp-same}
-use Rattle.pathtool.specs.Answers.{begins, ends, optional, strip_answer}
+use Rattle.unix_path.specs.Names.{Begins, Ends, stripped_of}
+use Rattle.unix_path.specs.Order.{value_cmp, values_cmp}
+use Rattle.unix_path.specs.OrderLaws.{is_eq-values_cmp}
+use Rattle.unix_path.proofs.TieLemmas.{values_cmp-same}
+use Rattle.pathtool.specs.Answers.{optional, same, strip_answer}
 
-pub begins-Decides : (v w : List Value) → Decides (begins v w) (Begins v w)
-begins-Decides v w = (
-  λ e. (
-    drop (length v) w,
-    ap (λ front. front ++ drop (length v) w)
-        (sym (is_eq-values_cmp (take (length v) w) v e)) ∙ take-append-drop (length v) w,
-  ),
-  λ (more, e). values_cmp-same (take (length v) w) v
-      (ap (take (length v)) (sym e) ∙ take-append_seam v more),
+is_eq-then_equal : (o : Ordering) → is_eq (ordering_then o Equal) ≡ is_eq o
+is_eq-then_equal Less = refl
+is_eq-then_equal Equal = refl
+is_eq-then_equal Greater = refl
+
+-- the order of two lists of one value is that of the values
+is_eq-values_cmp-one : (v w : Value) → is_eq (values_cmp (v ∷ []) (w ∷ [])) ≡ same v w
+is_eq-values_cmp-one v w = is_eq-then_equal (value_cmp v w)
+
+pub same-Decides : (v w : Value) → Decides (same v w) (v ≡ w)
+same-Decides v w = (
+  λ e. ap (λ vs. get_or vs 0 v)
+      (is_eq-values_cmp (v ∷ []) (w ∷ []) (is_eq-values_cmp-one v w ∙ e)),
+  λ e. sym (is_eq-values_cmp-one v w) ∙ values_cmp-same (v ∷ []) (w ∷ []) (ap (λ u. u ∷ []) e),
 )
 
-pub ends-Decides : (v w : List Value) → Decides (ends v w) (Ends v w)
-ends-Decides v w =
-    let n = length w - length v in (
-      λ e. (
-        take n w,
-        ap (λ end. take n w ++ end) (sym (is_eq-values_cmp (drop n w) v e))
-            ∙ take-append-drop n w,
-      ),
-      λ (front, e). values_cmp-same (drop n w) v
-          (let m : n ≡ length front = omega (arith, ap length e, length-append front v) in
-          ap (λ k. drop k w) m ∙ ap (drop (length front)) (sym e) ∙ drop-append_seam front v),
-    )
+pub starts_with-Decides : (w v : List Value) → Decides (starts_with same w v) (Begins v w)
+starts_with-Decides w v = let (begins, begun) = starts_is same-Decides w v _ refl in (
+  λ e. (drop (length v) w, sym (begins e)),
+  λ (more, e). begun more (sym e),
+)
 
-pub strip_answer-ok : (path base left : List ℕ) → StartsWithValues path base
+pub ends_with-Decides : (w v : List Value) → Decides (ends_with same w v) (Ends v w)
+ends_with-Decides w v = let (ends, ended) = ends_is same-Decides w v _ refl in (
+  λ e. (take (length w - length v) w, sym (ends e)),
+  λ (front, e). ended front (sym e),
+)
+
+pub strip_answer-ok : (path base left : List ℕ) → Begins (values base) (values path)
     → left ≡ stripped_of path base → optional (Some left) ≡ strip_answer path base
 strip_answer-ok path base left h e =
-    let test = (begins-Decides (values base) (values path)).1 h in
+    let test = (starts_with-Decides (values path) (values base)).1 h in
     rw test (ap (λ bytes. optional (Some bytes)) e)
 
-pub strip_answer-refused : (path base : List ℕ) → (StartsWithValues path base → ⊥)
+pub strip_answer-refused : (path base : List ℕ) → (Begins (values base) (values path) → ⊥)
     → codes "prefix not found" ≡ strip_answer path base
-strip_answer-refused path base h = by_test (begins (values base) (values path))
-    (λ e. absurd (h ((begins-Decides (values base) (values path)).0 e))) (λ e. rw e refl)
+strip_answer-refused path base h = by_test (starts_with same (values path) (values base))
+    (λ e. absurd (h ((starts_with-Decides (values path) (values base)).0 e))) (λ e. rw e refl)

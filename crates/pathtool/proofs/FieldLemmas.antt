@@ -1,10 +1,14 @@
 -- Edits that fields say, one after the other.
 use Rattle.std.proofs.Common.{◌≡◌, ℕ, ◌+◌, ◌<◌, ◌≤◌, List, [], ◌∷◌, ◌++◌, length, get_or, drop}
-use Rattle.std.proofs.Common.{Option, Some, None, option_map, refl, sym, ap, ◌∙◌}
+use Rattle.std.proofs.Common.{Option, Some, None, option_map, is_some, refl, sym, ap, ◌∙◌}
+use Rattle.std.proofs.Common.{Bool, true, false, ◌&&◌, if◌then◌else◌}
+use Rattle.std.specs.List.{cons_option, filter_map, list_all}
 use Rattle.std.proofs.Common.{append-nil, append_assoc}
 use Rattle.std.proofs.lemmas.List.{at_drop_more, at_drop_all}
+use Rattle.unix_path.proofs.CaseLemmas.{by_test}
 use Rattle.path_runs.specs.Runs.{EditValue}
-use Rattle.pathtool.specs.EditFields.{edit_before, edit_of_field, edits_of_fields}
+use Rattle.pathtool.specs.EditFields.{edit_of_field, edit_answer}
+use Rattle.pathtool.specs.Texts.{edit_before, edits_of_fields, edited_answer}
 
 -- some edits, and then those that these fields say
 abbrev pub edits_then : List EditValue → List (List ℕ) → Option (List EditValue)
@@ -51,3 +55,29 @@ pub edits_then-all : (done : List EditValue) (fields : List (List ℕ)) (n : ℕ
     → edits_then done (drop n fields) ≡ Some done
 edits_then-all done fields n e =
     at_drop_all (edits_then done) fields n e ∙ ap Some (append-nil done)
+
+-- each of these fields says an edit
+abbrev say_edits : List (List ℕ) → Bool
+say_edits fields = list_all (λ field. is_some (edit_of_field field)) fields
+
+-- a field before others
+edit_before-known : (edit : Option EditValue) (known : Bool) (edits : List EditValue)
+    → edit_before edit (if known then Some edits else None)
+    ≡ (if is_some edit && known then Some (cons_option edit edits) else None)
+edit_before-known None known edits = refl
+edit_before-known (Some edit) true edits = refl
+edit_before-known (Some edit) false edits = refl
+
+edits_of_fields-known : (fields : List (List ℕ)) → edits_of_fields fields
+    ≡ (if say_edits fields then Some (filter_map edit_of_field fields) else None)
+edits_of_fields-known [] = refl
+edits_of_fields-known (field ∷ fields) =
+    ap (edit_before (edit_of_field field)) (edits_of_fields-known fields)
+    ∙ edit_before-known (edit_of_field field) (say_edits fields) (filter_map edit_of_field fields)
+
+-- the answer to the edits that these fields say
+pub edited_answer-fields : (path : List ℕ) (fields : List (List ℕ))
+    → edited_answer path (edits_of_fields fields) ≡ edit_answer path fields
+edited_answer-fields path fields =
+    ap (edited_answer path) (edits_of_fields-known fields)
+    ∙ by_test (say_edits fields) (λ e. rw e refl) (λ e. rw e refl)

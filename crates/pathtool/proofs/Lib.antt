@@ -4,6 +4,7 @@ pub mod ListLemmas
 pub mod FrontLemmas
 pub mod BeginLemmas
 pub mod QuotedLemmas
+pub mod SaidLemmas
 pub mod AddedLemmas
 pub mod FieldLemmas
 pub mod WordLemmas

@@ -1,8 +1,9 @@
 -- The lines of an input, one after the other.
 use Rattle.std.proofs.Common.{◌≡◌, ℕ, ◌<◌, List, [], ◌∷◌, ◌++◌, length, refl, sym, ap, ◌∙◌, arith}
 use Rattle.std.specs.List.{slice_split, flat_map}
-use Rattle.pathtool.proofs.SplitLemmas.{slice_split-cons, slice_split-one}
-use Rattle.pathtool.specs.Answers.{answer_of, is_newline, lines_of, newline, output_of}
+use Rattle.pathtool.proofs.SplitLemmas.{is_newline, slice_split-cons, slice_split-one}
+use Rattle.pathtool.specs.Answers.{answer_of, lines_of, output_of}
+use Rattle.pathtool.specs.Texts.{newline}
 use Rattle.pathtool.specs.Answers.{without_empty_last}
 
 without_empty_last-cons : (line x : List ℕ) (xs : List (List ℕ))
@@ -11,20 +12,25 @@ without_empty_last-cons [] x xs = refl
 without_empty_last-cons (b ∷ line) x xs = refl
 
 -- the first line ends at a newline
-pub lines_of-cut : (s line rest : List ℕ)
+pub cut_lines : (s line rest : List ℕ)
     → slice_split is_newline s ≡ line ∷ slice_split is_newline rest
     → lines_of s ≡ line ∷ lines_of rest
-lines_of-cut s line rest e =
+cut_lines s line rest e =
     let (x, xs, more) = slice_split-cons is_newline rest in
     ap without_empty_last (e ∙ ap (λ parts. line ∷ parts) more)
     ∙ without_empty_last-cons line x xs
     ∙ ap (λ parts. line ∷ without_empty_last parts) (sym more)
 
--- there is no newline
-pub lines_of-last : (s line : List ℕ) → 0 < length s → slice_split is_newline s ≡ line ∷ []
-    → lines_of s ≡ line ∷ lines_of []
-lines_of-last s [] l e = absurd (omega (arith, ap length (slice_split-one newline s [] e)))
-lines_of-last s (b ∷ line) l e = ap without_empty_last e
+one_line : (s line : List ℕ) → 0 < length s → slice_split is_newline s ≡ line ∷ []
+    → lines_of s ≡ line ∷ []
+one_line s [] l e = absurd (omega (arith, ap length (slice_split-one newline s [] e)))
+one_line s (b ∷ line) l e = ap without_empty_last e
+
+-- there is no newline, and nothing is left
+pub only_line : (s line rest : List ℕ) → 0 < length s → slice_split is_newline s ≡ line ∷ []
+    → rest ≡ [] → lines_of s ≡ line ∷ lines_of rest
+only_line s line rest l e none =
+    one_line s line l e ∙ ap (λ rest. line ∷ lines_of rest) (sym none)
 
 -- the first line is answered first
 pub output_of-cons : (s line rest : List ℕ) → lines_of s ≡ line ∷ lines_of rest

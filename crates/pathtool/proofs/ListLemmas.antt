@@ -7,7 +7,8 @@ use Rattle.std.specs.Iterator.{Drains}
 use Rattle.std.proofs.iter.Yields.{gives_Drains}
 use Rattle.std.proofs.lemmas.Iterator.{YieldsList}
 use Rattle.unix_bytes.specs.declared.bytes.UnixStr.{UnixStr}
-use Rattle.pathtool.specs.Answers.{tab, tabs}
+use Rattle.pathtool.specs.Fields.{tabs}
+use Rattle.pathtool.specs.Texts.{tab}
 use Rattle.pathtool.specs.Texts.{has_none, texts}
 
 -- one more item behind some others

@@ -5,6 +5,14 @@ use Rattle.std.specs.List.{slice_split, position_or_len, join_with_byte}
 use Rattle.std.proofs.lemmas.List.Splits.{slice_split_none, length-slice_split}
 use Rattle.std.proofs.lemmas.List.Splits.{join_with_byte-slice_split}
 use Rattle.std.proofs.lemmas.List.Sums.{fails_before_first}
+use Rattle.pathtool.specs.Texts.{tab}
+use Rattle.pathtool.specs.Texts.{newline}
+
+abbrev pub is_tab : ℕ → Bool
+is_tab b = b == tab
+
+abbrev pub is_newline : ℕ → Bool
+is_newline b = b == newline
 
 -- no byte passes
 pub slice_split-whole : (p : ℕ → Bool) (s : List ℕ) → position_or_len p s ≡ length s

@@ -2,22 +2,25 @@
 use Rattle.std.proofs.Common.{◌≡◌, ℕ, false, true, ◌+◌, ◌<◌, ◌≤◌, List, [], ◌∷◌, ◌++◌, map, length}
 use Rattle.std.proofs.Common.{get_or, drop}
 use Rattle.std.proofs.Common.{refl, sym, ap, ap₂, ◌∙◌, append-nil, append_assoc, take, reverse}
-use Rattle.std.proofs.Common.{arith}
+use Rattle.std.proofs.Common.{arith, is_some}
 use Rattle.std.proofs.lemmas.List.{at_drop_more, length-map, length-take-le, length-take}
+use Rattle.std.proofs.lemmas.List.{take-map, map-append, reverse-append}
 use Rattle.std.proofs.lemmas.List.{length-reverse}
 use Rattle.std.proofs.lemmas.List.Sums.{count_by-le-length}
 use Rattle.std.specs.Fmt.{decimal}
-use Rattle.std.specs.List.{count_by, flat_map, list_all}
+use Rattle.std.specs.List.{filter_map, flat_map, list_all}
 use Rattle.unix_path.specs.Parts.{Value, values, value_bytes}
 use Rattle.unix_path.specs.Rest.{rest}
 use Rattle.unix_path.specs.Views.{value_of}
 use Rattle.unix_path.specs.declared.cursor.Component.{Component}
-use Rattle.path_runs.specs.Turns.{is_front, is_back, front_turns, back_turns}
+use Rattle.path_runs.specs.Turns.{is_front, front_turns, back_turns}
+use Rattle.path_runs.proofs.WalkLemmas.{is_back}
 use Rattle.path_runs.specs.declared.walk.Turn.{Turn}
 use Rattle.path_runs.specs.declared.walk.Walked.{Walked}
-use Rattle.pathtool.specs.Fields.{tab, tabs, bad_command}
-use Rattle.pathtool.specs.Texts.{parts_behind, walked_text}
-use Rattle.pathtool.specs.Walks.{walked_items, walk_of, is_turn, turns_of, walk_answer}
+use Rattle.pathtool.specs.Fields.{tabs, bad_command}
+use Rattle.pathtool.specs.Texts.{tab}
+use Rattle.pathtool.specs.Texts.{parts_behind, walked_text, walk_of}
+use Rattle.pathtool.specs.Walks.{part_bytes, turn_of, walk_answer}
 
 -- one more part
 pub parts_behind-push : (bytes : List ℕ) (parts : List Component) (n : ℕ) (d : Component)
@@ -65,6 +68,18 @@ regrouped : (a b front rest behind : List ℕ)
     ≡ a ++ ((tab ∷ b) ++ (front ++ ((tab ∷ rest) ++ behind)))
 regrouped a b front rest behind = simp append_assoc
 
+reverse-map : {X Y : Type 0} (f : X → Y) (xs : List X) → reverse (map f xs) ≡ map f (reverse xs)
+reverse-map f [] = refl
+reverse-map f (x ∷ xs) =
+    reverse-append (f x ∷ []) (map f xs) ∙ ap (λ front. front ++ f x ∷ []) (reverse-map f xs)
+    ∙ sym (ap (map f) (reverse-append (x ∷ []) xs) ∙ map-append f (reverse xs) (x ∷ []))
+
+-- the items of the answer
+abbrev walked_items : List ℕ → ℕ → ℕ → List (List ℕ)
+walked_items path k m =
+    decimal k ∷ decimal m
+    ∷ (take k (part_bytes path) ++ rest path k m ∷ take m (reverse (part_bytes path)))
+
 -- the list of what was taken, as it is written
 tabs-walked_items : (path : List ℕ) (k m : ℕ) (front behind_parts : List Component)
     → map value_of front ≡ take k (values path)
@@ -73,10 +88,14 @@ tabs-walked_items : (path : List ℕ) (k m : ℕ) (front behind_parts : List Com
     ++ parts_behind behind_parts
     ≡ tabs (walked_items path k m)
 tabs-walked_items path k m front behind_parts f b =
-    let first = map value_bytes (take k (values path)) in
-    let last = map value_bytes (take m (reverse (values path))) in
-    let fronts = behind-parts front ∙ ap (λ vs. behind (map value_bytes vs)) f in
-    let backs = behind-parts behind_parts ∙ ap (λ vs. behind (map value_bytes vs)) b in
+    let vs = values path in
+    let first = take k (part_bytes path) in
+    let last = take m (reverse (part_bytes path)) in
+    let fronts = behind-parts front ∙ ap (λ vs. behind (map value_bytes vs)) f
+    ∙ ap behind (sym (take-map value_bytes k vs)) in
+    let backs = behind-parts behind_parts ∙ ap (λ vs. behind (map value_bytes vs)) b
+    ∙ ap behind (sym (take-map value_bytes m (reverse vs))
+    ∙ ap (take m) (sym (reverse-map value_bytes vs))) in
     regrouped (decimal k) (decimal m) (parts_behind front) (rest path k m)
     (parts_behind behind_parts)
     ∙ ap₂ (λ front back. decimal k ++ ((tab ∷ decimal m)
@@ -113,11 +132,15 @@ walked_text-walk_of path turns walked f r b =
     ap₂ (λ counts rest. ((counts ++ parts_behind walked.front.items) ++ tab ∷ rest)
     ++ parts_behind walked.behind.items) counts r
     ∙ tabs-walked_items path k m walked.front.items walked.behind.items f b
+    ∙ ap (λ n. tabs (walked_items path (front_turns n turns) (back_turns n turns)))
+    (sym (length-map vs value_bytes))
 
-pub walk_answer-bad : (path letters : List ℕ) → list_all is_turn letters ≡ false
+pub walk_answer-bad : (path letters : List ℕ)
+    → list_all (λ letter. is_some (turn_of letter)) letters ≡ false
     → bad_command ≡ walk_answer path letters
 walk_answer-bad path letters e = rw e refl
 
-pub walk_answer-turns : (path letters : List ℕ) → list_all is_turn letters ≡ true
-    → walk_of path (turns_of letters) ≡ walk_answer path letters
+pub walk_answer-turns : (path letters : List ℕ)
+    → list_all (λ letter. is_some (turn_of letter)) letters ≡ true
+    → walk_of path (filter_map turn_of letters) ≡ walk_answer path letters
 walk_answer-turns path letters e = rw e refl

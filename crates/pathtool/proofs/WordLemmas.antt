@@ -3,8 +3,10 @@ use Rattle.std.proofs.Common.{◌≡◌, ℕ, ◌+◌, ◌<◌, List, [], ◌∷
 use Rattle.std.proofs.Common.{sym, ap, ◌∙◌, append-nil, append_assoc}
 use Rattle.std.proofs.lemmas.List.{at_drop_more}
 use Rattle.path_runs.specs.declared.edits.Answer.{Answer}
-use Rattle.pathtool.specs.Fields.{tab, tabs}
-use Rattle.pathtool.specs.EditFields.{answer_word, words_of}
+use Rattle.pathtool.specs.Fields.{tabs}
+use Rattle.pathtool.specs.Texts.{tab}
+use Rattle.pathtool.specs.EditFields.{answer_word}
+use Rattle.pathtool.specs.Texts.{words_of}
 
 -- a list of these bytes and the words
 pub tabs-words : (bytes : List ℕ) (answers : List Answer)

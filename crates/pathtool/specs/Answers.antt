@@ -1,66 +1,42 @@
 -- What the program answers: lines of fields between tabs, of which the first names a command.
-use Rattle.std.specs.Prelude.{ℕ, ◌-◌, Bool, true, false, ◌==◌, List, [], ◌∷◌, ◌++◌, length, take}
-use Rattle.std.specs.Prelude.{drop, map, reverse, codes, Option, None, Some, unwrap_or}
-use Rattle.std.specs.Prelude.{if◌then◌else◌}
+use Rattle.std.specs.Prelude.{ℕ, Bool, ◌==◌, List, [], ◌∷◌, ◌++◌, reverse, codes, Option, None}
+use Rattle.std.specs.Prelude.{Some, unwrap_or, if◌then◌else◌}
+use Rattle.std.specs.Option.{option_map_or}
 use Rattle.std.specs.declared.cmp.Ordering.{Ordering}
 use Rattle.std.specs.declared.cmp.Ordering.TheVariants.{Less, Equal, Greater}
 use Rattle.std.specs.Ordering.{is_eq}
-use Rattle.std.specs.List.{slice_split, flat_map}
+use Rattle.std.specs.List.{slice_split, flat_map, starts_with, ends_with}
 use Rattle.std.specs.Map.{lookup}
-use Rattle.std.specs.Str.{bytes_eq}
-use Rattle.unix_path.specs.Parts.{Value, values, value_bytes}
+use Rattle.std.specs.Str.{byte, bytes_eq}
+use Rattle.unix_path.specs.Parts.{Value, values}
 use Rattle.unix_path.specs.Names.{parent_of, file_name_of, stem_of, extension_of, ancestors_of}
 use Rattle.unix_path.specs.Names.{stripped_of}
-use Rattle.unix_path.specs.Order.{values_cmp}
+use Rattle.unix_path.specs.Order.{value_cmp, values_cmp}
 use Rattle.unix_bytes.specs.Lossy.{lossy_of}
 use Rattle.unix_path.specs.Joins.{join_of}
 use Rattle.path_runs.specs.Spelling.{spelling_of}
 use Rattle.pathtool.specs.EditFields.{edit_answer}
 use Rattle.pathtool.specs.Quoted.{json_of}
-use Rattle.pathtool.specs.Walks.{walk_answer}
-pub use Rattle.pathtool.specs.Fields.{tab, is_tab, fields_of, tabs, bad_command}
-
--- the byte that ends a line
-abbrev pub newline : ℕ
-newline = 10
-
-abbrev pub is_newline : ℕ → Bool
-is_newline b = b == newline
+use Rattle.pathtool.specs.Walks.{part_bytes, walk_answer}
+use Rattle.pathtool.specs.Fields.{fields_of, tabs, bad_command, truth}
 
 -- `-` for nothing, and else `+` and the bytes
 abbrev pub optional : Option (List ℕ) → List ℕ
-optional None = codes "-"
-optional (Some bytes) = codes "+" ++ bytes
-
-abbrev pub truth : Bool → List ℕ
-truth true = codes "true"
-truth false = codes "false"
+optional found = option_map_or (λ bytes. codes "+" ++ bytes) found (codes "-")
 
 abbrev pub order_text : Ordering → List ℕ
 order_text Less = codes "less"
 order_text Equal = codes "equal"
 order_text Greater = codes "greater"
 
--- the bytes of a path's parts
-abbrev pub part_bytes : List ℕ → List (List ℕ)
-part_bytes path = map value_bytes (values path)
-
--- the two lists are equal
-abbrev pub same : List Value → List Value → Bool
-same v w = is_eq (values_cmp v w)
-
--- the first values of w, as many as v has, are v
-abbrev pub begins : List Value → List Value → Bool
-begins v w = same (take (length v) w) v
-
--- the last values of w, as many as v has, are v
-abbrev pub ends : List Value → List Value → Bool
-ends v w = same (drop (length w - length v) w) v
+-- the two values are equal
+abbrev pub same : Value → Value → Bool
+same v w = is_eq (value_cmp v w)
 
 -- what is left of a path after the parts of `base`, if these are its first
 abbrev pub strip_answer : List ℕ → List ℕ → List ℕ
 strip_answer path base =
-    if begins (values base) (values path) then optional (Some (stripped_of path base))
+    if starts_with same (values path) (values base) then optional (Some (stripped_of path base))
     else codes "prefix not found"
 
 -- the commands of one path, and what they answer
@@ -69,25 +45,23 @@ path_commands =
     (codes "parts", λ p. tabs (part_bytes p))
     ∷ (codes "back", λ p. tabs (reverse (part_bytes p)))
     ∷ (codes "parent", λ p. optional (parent_of p))
-    ∷ (codes "name", λ p. optional (file_name_of p))
-    ∷ (codes "stem", λ p. optional (stem_of p))
-    ∷ (codes "ext", λ p. optional (extension_of p))
+    ∷ (codes "name", λ p. optional (file_name_of (values p)))
+    ∷ (codes "stem", λ p. optional (stem_of (values p)))
+    ∷ (codes "ext", λ p. optional (extension_of (values p)))
     ∷ (codes "ancestors", λ p. tabs (ancestors_of p))
     ∷ (codes "canon", λ p. spelling_of (values p))
-    ∷ (codes "show", λ p. lossy_of p)
-    ∷ (codes "json", λ p. json_of p)
-    ∷ []
+    ∷ (codes "show", lossy_of)
+    ∷ (codes "json", json_of) ∷ []
 
 -- the commands of a path and one more field, and what they answer
 abbrev pub pair_commands : List (List ℕ × (List ℕ → List ℕ → List ℕ))
 pair_commands =
-    (codes "join", λ p q. join_of p q)
-    ∷ (codes "strip", λ p base. strip_answer p base)
-    ∷ (codes "starts", λ p q. truth (begins (values q) (values p)))
-    ∷ (codes "ends", λ p q. truth (ends (values q) (values p)))
+    (codes "join", join_of)
+    ∷ (codes "strip", strip_answer)
+    ∷ (codes "starts", λ p q. truth (starts_with same (values p) (values q)))
+    ∷ (codes "ends", λ p q. truth (ends_with same (values p) (values q)))
     ∷ (codes "cmp", λ p q. order_text (values_cmp (values p) (values q)))
-    ∷ (codes "walk", λ p turns. walk_answer p turns)
-    ∷ []
+    ∷ (codes "walk", walk_answer) ∷ []
 
 -- the answer to a command of one field or two
 abbrev pub fixed_answer : List (List ℕ) → List ℕ
@@ -116,8 +90,8 @@ without_empty_last (line ∷ lines) = line ∷ without_empty_last lines
 
 -- the lines of an input: each ends at a newline, and the last may lack it unless it is empty
 abbrev pub lines_of : List ℕ → List (List ℕ)
-lines_of input = without_empty_last (slice_split is_newline input)
+lines_of input = without_empty_last (slice_split (λ b. b == byte "\n") input)
 
 -- what is written for an input: the answer to each of its lines, and a newline
 unfoldable pub output_of : List ℕ → List ℕ
-output_of input = flat_map (λ line. answer_of line ++ newline ∷ []) (lines_of input)
+output_of input = flat_map (λ line. answer_of line ++ byte "\n" ∷ []) (lines_of input)

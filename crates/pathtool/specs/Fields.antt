@@ -1,22 +1,20 @@
--- Lines as fields between tabs.
-use Rattle.std.specs.Prelude.{ℕ, Bool, ◌==◌, List, codes}
+-- Lines as fields between tabs, and what stands in several commands' answers.
+use Rattle.std.specs.Prelude.{ℕ, Bool, ◌==◌, List, codes, if◌then◌else◌}
 use Rattle.std.specs.List.{slice_split, join_with_byte}
-
--- the byte between two fields, and between two items of a list
-abbrev pub tab : ℕ
-tab = 9
-
-abbrev pub is_tab : ℕ → Bool
-is_tab b = b == tab
+use Rattle.std.specs.Str.{byte}
 
 -- the fields of a line: n tabs make n + 1 of them
 abbrev pub fields_of : List ℕ → List (List ℕ)
-fields_of line = slice_split is_tab line
+fields_of line = slice_split (λ b. b == byte "\t") line
 
 -- a list as it is answered, with a tab between two items
 abbrev pub tabs : List (List ℕ) → List ℕ
-tabs items = join_with_byte tab items
+tabs items = join_with_byte (byte "\t") items
 
 -- the answer to what isn't understood
 abbrev pub bad_command : List ℕ
 bad_command = codes "bad command"
+
+-- the answer to whether something is so
+abbrev pub truth : Bool → List ℕ
+truth is_so = if is_so then codes "true" else codes "false"

@@ -1,13 +1,30 @@
 -- Words of the program's private steps. No public clause cites them.
-use Rattle.std.specs.Prelude.{ℕ, Bool, true, false, List, [], ◌∷◌, ◌++◌, map, length}
+use Rattle.std.specs.Prelude.{ℕ, Bool, true, false, Option, Some, None, List, [], ◌∷◌, ◌++◌, map}
+use Rattle.std.specs.Prelude.{length, take, reverse}
 use Rattle.std.specs.Fmt.{decimal}
 use Rattle.std.specs.List.{flat_map}
+use Rattle.std.specs.Str.{byte}
 use Rattle.unix_bytes.specs.declared.bytes.UnixStr.{UnixStr}
 use Rattle.unix_path.specs.Parts.{value_bytes}
+use Rattle.unix_path.specs.Rest.{rest}
 use Rattle.unix_path.specs.Views.{value_of}
 use Rattle.unix_path.specs.declared.cursor.Component.{Component}
+use Rattle.path_runs.specs.Runs.{EditValue, edits_of}
+use Rattle.path_runs.specs.declared.edits.Answer.{Answer}
+use Rattle.path_runs.specs.Turns.{front_turns, back_turns}
+use Rattle.path_runs.specs.declared.walk.Turn.{Turn}
 use Rattle.path_runs.specs.declared.walk.Walked.{Walked}
-use Rattle.pathtool.specs.Fields.{tab}
+use Rattle.pathtool.specs.Walks.{part_bytes}
+use Rattle.pathtool.specs.EditFields.{edit_of_field, answer_word}
+use Rattle.pathtool.specs.Fields.{tabs, fields_of, bad_command}
+
+-- the byte between two fields, and between two items of a list
+abbrev pub tab : ℕ
+tab = byte "\t"
+
+-- the byte that ends a line
+abbrev pub newline : ℕ
+newline = byte "\n"
 
 -- the bytes of these names
 abbrev pub texts : List UnixStr → List (List ℕ)
@@ -28,3 +45,37 @@ walked_text walked =
     ((((decimal (length walked.front.items) ++ tab ∷ []) ++ decimal (length walked.behind.items))
     ++ parts_behind walked.front.items) ++ tab ∷ walked.rest.bytes.now)
     ++ parts_behind walked.behind.items
+
+-- the answer to these turns of a path
+abbrev pub walk_of : List ℕ → List Turn → List ℕ
+walk_of path turns =
+    let parts = part_bytes path in
+    let k = front_turns (length parts) turns in
+    let m = back_turns (length parts) turns in
+    tabs (decimal k ∷ decimal m ∷ (take k parts ++ rest path k m ∷ take m (reverse parts)))
+
+-- an edit before others, where both are known
+abbrev pub edit_before : Option EditValue → Option (List EditValue) → Option (List EditValue)
+edit_before (Some edit) (Some edits) = Some (edit ∷ edits)
+edit_before (Some edit) None = None
+edit_before None edits = None
+
+-- the edits that these fields say, unless there is a bad one
+abbrev pub edits_of_fields : List (List ℕ) → Option (List EditValue)
+edits_of_fields [] = Some []
+edits_of_fields (field ∷ fields) = edit_before (edit_of_field field) (edits_of_fields fields)
+
+-- the bytes after these edits, and then what each of them answers
+abbrev pub edited_answer : List ℕ → Option (List EditValue) → List ℕ
+edited_answer path None = bad_command
+edited_answer path (Some edits) =
+    let done = edits_of path edits in tabs (done.0 ∷ map answer_word done.1)
+
+-- the fields of what follows a path, if something does
+abbrev pub fields_behind : Option (List ℕ) → List (List ℕ)
+fields_behind None = []
+fields_behind (Some line) = fields_of line
+
+-- the words of these answers, with a tab before each
+abbrev pub words_of : List Answer → List ℕ
+words_of answers = flat_map (λ answer. tab ∷ answer_word answer) answers

@@ -1,8 +1,10 @@
 -- The answer to a walk by turns, whose letters are `f` for the front and `b` for behind. Own.
-use Rattle.std.specs.Prelude.{ℕ, Bool, ◌==◌, ◌||◌, List, ◌∷◌, ◌++◌, map, take, reverse, length}
-use Rattle.std.specs.Prelude.{if◌then◌else◌}
-use Rattle.std.specs.List.{list_all}
+use Rattle.std.specs.Prelude.{ℕ, ◌==◌, Option, is_some, List, [], ◌∷◌, ◌++◌, map, take, reverse}
+use Rattle.std.specs.Prelude.{length, if◌then◌else◌}
+use Rattle.std.specs.List.{filter_map, list_all}
+use Rattle.std.specs.Map.{lookup}
 use Rattle.std.specs.Fmt.{decimal}
+use Rattle.std.specs.Str.{byte}
 use Rattle.unix_path.specs.Parts.{values, value_bytes}
 use Rattle.unix_path.specs.Rest.{rest}
 use Rattle.path_runs.specs.Turns.{front_turns, back_turns}
@@ -10,40 +12,22 @@ use Rattle.path_runs.specs.declared.walk.Turn.{Turn}
 use Rattle.path_runs.specs.declared.walk.Turn.TheVariants.{Front, Back}
 use Rattle.pathtool.specs.Fields.{tabs, bad_command}
 
--- `b'f'`
-abbrev pub front_letter : ℕ
-front_letter = 102
+-- the turn that a letter says, unless it is a bad one
+abbrev pub turn_of : ℕ → Option Turn
+turn_of letter = lookup (λ key. key == letter) ((byte "f", Front) ∷ (byte "b", Back) ∷ [])
 
--- `b'b'`
-abbrev pub back_letter : ℕ
-back_letter = 98
+-- the bytes of a path's parts
+abbrev pub part_bytes : List ℕ → List (List ℕ)
+part_bytes path = map value_bytes (values path)
 
--- the letter says a turn
-abbrev pub is_turn : ℕ → Bool
-is_turn letter = letter == front_letter || letter == back_letter
-
--- the turn that the letter says
-abbrev pub turn_of : ℕ → Turn
-turn_of letter = if letter == front_letter then Front else Back
-
--- the turns that the letters say
-abbrev pub turns_of : List ℕ → List Turn
-turns_of letters = map turn_of letters
-
--- k and m, the first k parts, the rest, and the last m parts in the order of taking
-abbrev pub walked_items : List ℕ → ℕ → ℕ → List (List ℕ)
-walked_items path k m =
-    decimal k ∷ decimal m
-    ∷ (map value_bytes (take k (values path))
-    ++ rest path k m ∷ map value_bytes (take m (reverse (values path))))
-
--- the answer to these turns of a path
-abbrev pub walk_of : List ℕ → List Turn → List ℕ
-walk_of path turns =
-    let n = length (values path) in
-    tabs (walked_items path (front_turns n turns) (back_turns n turns))
-
--- the answer to the turns that these letters say
+-- how many parts the turns that these letters say take in front and behind; the parts in front, the
+-- rest, and those behind in the order of taking
 abbrev pub walk_answer : List ℕ → List ℕ → List ℕ
 walk_answer path letters =
-    if list_all is_turn letters then walk_of path (turns_of letters) else bad_command
+    let parts = part_bytes path in
+    let turns = filter_map turn_of letters in
+    let k = front_turns (length parts) turns in
+    let m = back_turns (length parts) turns in
+    if list_all (λ letter. is_some (turn_of letter)) letters
+    then tabs (decimal k ∷ decimal m ∷ (take k parts ++ rest path k m ∷ take m (reverse parts)))
+    else bad_command

@@ -1,5 +1,5 @@
 -- What is known of a watched reader or writer.
-use Rattle.std.specs.Prelude.{ℕ, Bool, true, false, ◌&&◌, ◌==◌, not, Result, Ok, Err, List, take}
+use Rattle.std.specs.Prelude.{ℕ, Bool, false, ◌&&◌, ◌==◌, not, Result, Ok, Err, List, take}
 use Rattle.std.specs.Prelude.{Option}
 use Rattle.std.specs.Io.KnownBytes.{Appends}
 use Rattle.pathtool.specs.declared.watched.Watched.{Watched}
@@ -16,15 +16,14 @@ has_failed w = w.failed
 abbrev pub has_ended : {T : Type 0} → Watched T → Bool
 has_ended w = w.ended
 
--- a read found no byte, and had room for one
-abbrev pub gives_none : {E : Type 0} → Result ℕ E → ℕ → Bool
-gives_none (Ok n) room = n == 0 && not (room == 0)
-gives_none (Err e) room = false
+-- a flush was Ok, and nothing was written or flushed since
+abbrev pub is_flushed : {T : Type 0} → Watched T → Bool
+is_flushed w = w.flushed
 
--- a write failed, or took no byte where there was one
-abbrev pub takes_none : {E : Type 0} → Result ℕ E → ℕ → Bool
-takes_none (Ok n) len = n == 0 && not (len == 0)
-takes_none (Err e) len = true
+-- a call was Ok and moved no byte, where there was room or a byte to move
+abbrev pub moves_none : {E : Type 0} → Result ℕ E → ℕ → Bool
+moves_none (Ok n) len = n == 0 && not (len == 0)
+moves_none (Err e) len = false
 
 -- known bytes grow by a beginning of bs
 abbrev pub AppendsFront : Option (List ℕ) → Option (List ℕ) → List ℕ → Type 0

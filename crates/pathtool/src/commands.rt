@@ -2,14 +2,18 @@
 ghost use Rattle.std.specs.Prelude.{◌≡◌, ◌++◌, ◌∷◌, [], OnOk};
 ghost use Rattle.std.specs.Prelude.{List, reverse, if◌then◌else◌, option_map};
 ghost use Rattle.std.specs.Iterator.{IsFinite, Drains};
+ghost use Rattle.std.specs.List.{starts_with, ends_with};
 ghost use Rattle.unix_bytes.specs.declared.bytes.UnixStr.{UnixStr};
 ghost use Rattle.unix_path.specs.Parts.{values};
 ghost use Rattle.unix_path.specs.Names.{parent_of, file_name_of, stem_of, extension_of};
 ghost use Rattle.unix_path.specs.Names.{ancestors_of};
 ghost use Rattle.unix_path.specs.Order.{values_cmp};
-ghost use Rattle.pathtool.specs.Answers.{tab, newline, tabs, part_bytes, bad_command};
-ghost use Rattle.pathtool.specs.Answers.{optional, truth, order_text, begins, ends, strip_answer};
-ghost use Rattle.pathtool.specs.Answers.{fields_of, fixed_answer, answer_to, answer_of};
+ghost use Rattle.pathtool.specs.Fields.{tabs, fields_of, bad_command, truth};
+ghost use Rattle.pathtool.specs.Texts.{tab};
+ghost use Rattle.pathtool.specs.Walks.{part_bytes};
+ghost use Rattle.pathtool.specs.Answers.{optional, order_text, same, strip_answer};
+ghost use Rattle.pathtool.specs.Texts.{newline};
+ghost use Rattle.pathtool.specs.Answers.{fixed_answer, answer_to, answer_of};
 ghost use Rattle.pathtool.specs.Texts.{texts};
 
 use crate::edits::push_edit;
@@ -89,6 +93,7 @@ fn push_optional(found: Option<UnixStr<'_>>, answer: &mut Vec<u8>) -> Result<(),
     }
 }
 
+#[tactic(auto, using(crate::proofs::SaidLemmas::adds_some, crate::proofs::SaidLemmas::adds_none))]
 fn push_parent(path: Path<'_>, answer: &mut Vec<u8>) -> Result<(), AllocError>
     ensures { OnOk result (answer.new.items
         ≡ answer.old.items ++ optional (parent_of path.entry.bytes.now)) }
@@ -99,28 +104,32 @@ fn push_parent(path: Path<'_>, answer: &mut Vec<u8>) -> Result<(), AllocError>
     }
 }
 
+#[tactic(auto, using(crate::proofs::SaidLemmas::adds_found))]
 fn push_name(path: Path<'_>, answer: &mut Vec<u8>) -> Result<(), AllocError>
     ensures { OnOk result (answer.new.items
-        ≡ answer.old.items ++ optional (file_name_of path.entry.bytes.now)) }
+        ≡ answer.old.items ++ optional (file_name_of (values path.entry.bytes.now))) }
 {
     push_optional(path.file_name(), answer)
 }
 
+#[tactic(auto, using(crate::proofs::SaidLemmas::adds_found))]
 fn push_stem(path: Path<'_>, answer: &mut Vec<u8>) -> Result<(), AllocError>
     ensures { OnOk result (answer.new.items
-        ≡ answer.old.items ++ optional (stem_of path.entry.bytes.now)) }
+        ≡ answer.old.items ++ optional (stem_of (values path.entry.bytes.now))) }
 {
     push_optional(path.file_stem(), answer)
 }
 
+#[tactic(auto, using(crate::proofs::SaidLemmas::adds_found))]
 fn push_extension(path: Path<'_>, answer: &mut Vec<u8>) -> Result<(), AllocError>
     ensures { OnOk result (answer.new.items
-        ≡ answer.old.items ++ optional (extension_of path.entry.bytes.now)) }
+        ≡ answer.old.items ++ optional (extension_of (values path.entry.bytes.now))) }
 {
     push_optional(path.extension(), answer)
 }
 
 // What follows the base.
+#[tactic(auto, using(crate::proofs::SaidLemmas::adds_stripped, crate::proofs::SaidLemmas::adds_unstripped))]
 fn push_stripped(path: Path<'_>, base: Path<'_>, answer: &mut Vec<u8>) -> Result<(), AllocError>
     ensures { OnOk result (answer.new.items ≡ answer.old.items
         ++ strip_answer path.entry.bytes.now base.entry.bytes.now) }
@@ -142,16 +151,20 @@ fn push_truth(is_so: bool, answer: &mut Vec<u8>) -> Result<(), AllocError>
     }
 }
 
+#[tactic(auto, using(crate::proofs::SaidLemmas::adds_starts))]
 fn push_starts(path: Path<'_>, base: Path<'_>, answer: &mut Vec<u8>) -> Result<(), AllocError>
     ensures { OnOk result (answer.new.items ≡ answer.old.items
-        ++ truth (begins (values base.entry.bytes.now) (values path.entry.bytes.now))) }
+        ++ truth (starts_with same (values path.entry.bytes.now)
+        (values base.entry.bytes.now))) }
 {
     push_truth(path.starts_with(base), answer)
 }
 
+#[tactic(auto, using(crate::proofs::SaidLemmas::adds_ends))]
 fn push_ends(path: Path<'_>, child: Path<'_>, answer: &mut Vec<u8>) -> Result<(), AllocError>
     ensures { OnOk result (answer.new.items ≡ answer.old.items
-        ++ truth (ends (values child.entry.bytes.now) (values path.entry.bytes.now))) }
+        ++ truth (ends_with same (values path.entry.bytes.now)
+        (values child.entry.bytes.now))) }
 {
     push_truth(path.ends_with(child), answer)
 }

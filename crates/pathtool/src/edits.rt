@@ -1,39 +1,32 @@
 //! Answers to lists of edits.
-ghost use Rattle.std.specs.Prelude.{◌≡◌, ◌++◌, IfOk, OnOk, Some, option_map};
+ghost use Rattle.std.specs.Prelude.{◌≡◌, ◌++◌, IfOk, OnOk, Some, map, option_map};
 ghost use Rattle.std.specs.Map.{lookup};
 ghost use Rattle.std.specs.Str.{bytes_eq};
-ghost use Rattle.path_runs.specs.EditViews.{edit_value, edit_values};
+ghost use Rattle.path_runs.specs.EditViews.{edit_value};
 ghost use Rattle.pathtool.specs.Fields.{fields_of};
-ghost use Rattle.pathtool.specs.EditFields.{bare_edits, holding_edit_of, edit_of_field};
-ghost use Rattle.pathtool.specs.EditFields.{edits_of_fields, answer_word, edited_answer};
-ghost use Rattle.pathtool.specs.EditFields.{edit_answer, fields_behind, words_of};
+ghost use Rattle.pathtool.specs.EditFields.{edits_by_front, edit_of_field, answer_word};
+ghost use Rattle.pathtool.specs.EditFields.{edit_answer};
+ghost use Rattle.pathtool.specs.Texts.{edits_of_fields, edited_answer, fields_behind, words_of};
 
+use crate::fields::first_place;
 use path_runs::edits::apply;
 use path_runs::{Answer, Edit};
 use std::alloc::{AllocError, Global};
 use unix_bytes::bytes::UnixStr;
 use unix_path::Path;
 
-// The edit of that name that holds nothing.
-fn bare_edit(name: &[u8]) -> Option<Edit<'_>>
-    ensures { option_map edit_value result ≡ lookup (bytes_eq name.now) bare_edits }
+// The edit whose field begins so, which holds these bytes if any.
+fn edit_by_front<'a>(front: &[u8], held: &'a [u8]) -> Option<Edit<'a>>
+    ensures { option_map edit_value result
+        ≡ option_map (λ edit. edit held.now) (lookup (bytes_eq front.now) edits_by_front) }
 {
-    match name {
+    let held = UnixStr::from_bytes(held);
+    match front {
+        b"push:" => Some(Edit::Push(Path::new(held))),
         b"pop" => Some(Edit::Pop),
+        b"name:" => Some(Edit::SetFileName(held)),
+        b"ext:" => Some(Edit::SetExtension(held)),
         b"clear" => Some(Edit::Clear),
-        _ => None,
-    }
-}
-
-// The edit of that name that holds these bytes.
-fn holding_edit<'a>(name: &[u8], bytes: &'a [u8]) -> Option<Edit<'a>>
-    ensures { option_map edit_value result ≡ holding_edit_of name.now bytes.now }
-{
-    let bytes = UnixStr::from_bytes(bytes);
-    match name {
-        b"push" => Some(Edit::Push(Path::new(bytes))),
-        b"name" => Some(Edit::SetFileName(bytes)),
-        b"ext" => Some(Edit::SetExtension(bytes)),
         _ => None,
     }
 }
@@ -42,15 +35,17 @@ fn holding_edit<'a>(name: &[u8], bytes: &'a [u8]) -> Option<Edit<'a>>
 fn edit_from(field: &[u8]) -> Option<Edit<'_>>
     ensures { option_map edit_value result ≡ edit_of_field field.now }
 {
-    match field.iter().position(|b| *b == b':') {
-        None => bare_edit(field),
-        Some(place) => holding_edit(&field[..place], &field[place + 1..]),
+    let place = first_place(field, b':');
+    if place == field.len() {
+        edit_by_front(field, &[])
+    } else {
+        edit_by_front(&field[..place + 1], &field[place + 1..])
     }
 }
 
 // The edits that these fields say, unless there is a bad one.
 fn edits_from(alloc: Global, fields: &[u8]) -> Result<Option<Vec<Edit<'_>>>, AllocError>
-    ensures { IfOk result (λ edits. option_map (λ es. edit_values es.items) edits
+    ensures { IfOk result (λ edits. option_map (λ es. map edit_value es.items) edits
         ≡ edits_of_fields (fields_of fields.now)) }
 {
     let mut edits = Vec::new(alloc);
@@ -88,7 +83,7 @@ fn push_words(answers: &[Answer], answer: &mut Vec<u8>) -> Result<(), AllocError
 // Adds the bytes after these edits, and then what each of them answers.
 fn push_edited(path: Path<'_>, edits: &[Edit<'_>], answer: &mut Vec<u8>) -> Result<(), AllocError>
     ensures { OnOk result (answer.new.items ≡ answer.old.items
-        ++ edited_answer path.entry.bytes.now (Some (edit_values edits.now))) }
+        ++ edited_answer path.entry.bytes.now (Some (map edit_value edits.now))) }
 {
     let alloc = *answer.allocator();
     let mut edited = path.to_path_buf(alloc)?;

@@ -36,8 +36,10 @@ fn place_in_lanes(bytes: &[u8], at: usize, end: u8) -> usize
     }
 }
 
-// Where the first `end` stands, or the length where there is none.
-fn first_place(bytes: &[u8], end: u8) -> usize
+/// Where the first `end` stands, or the length where there is none. Takes no memory. Own.
+///
+/// `first_place(b"a:b:c", b':')` is 1.
+pub fn first_place(bytes: &[u8], end: u8) -> usize
     ensures value { result ≡ position_or_len (λ b. b == end) bytes.now }
     ensures in_range { result ≤ length bytes.now }
 {
@@ -75,6 +77,7 @@ pub fn cut(bytes: &[u8], end: u8) -> (&[u8], Option<&[u8]>)
 /// The first line of an input that isn't empty, and what follows it. Takes no memory. Own.
 ///
 /// `first_line(b"a\nb")` is `a` and `b`.
+#[tactic(auto, using(crate::proofs::LineLemmas::cut_lines, crate::proofs::LineLemmas::only_line))]
 pub fn first_line(input: &[u8]) -> (&[u8], &[u8])
     requires { 0 < length input.now }
     ensures value { lines_of input.now ≡ result.0.now ∷ lines_of result.1.now }

@@ -2,7 +2,8 @@
 ghost use Rattle.std.specs.Prelude.{◌≡◌, ◌↔◌, false, IsTrue, IfOk, OnOk, OnErr, IfErr, IfSome};
 ghost use Rattle.std.specs.Prelude.{Some, IsErrOf, codes};
 ghost use Rattle.std.specs.Io.KnownBytes.{Appends, Consumes, IsAtEnd, Keeps};
-ghost use Rattle.pathtool.specs.Watched.{has_failed, has_ended, watched_inner, AppendsFront};
+ghost use Rattle.pathtool.specs.Watched.{has_failed, has_ended, is_flushed, watched_inner};
+ghost use Rattle.pathtool.specs.Watched.{AppendsFront};
 ghost use Rattle.pathtool.specs.Answers.{output_of};
 ghost use Rattle.pathtool.specs.RunError.{error_text};
 ghost use Rattle.pathtool.specs.declared.run.RunError.TheVariants.{Memory};
@@ -146,6 +147,7 @@ pub fn run<R: Read, W: Write>(
         Appends (W.contents (watched_inner writer.old))
         (W.contents (watched_inner writer.new)) (output_of input))) }
     ensures ended { OnOk result (IsTrue (has_ended reader.new)) }
+    ensures flushed { OnOk result (IsTrue (is_flushed writer.new)) }
 
     // Each error comes exactly where its end has failed, and `Memory` in no such case.
     ensures read { IsErrOf result RunError.Read ↔ IsTrue (has_failed reader.new) }

@@ -1,4 +1,6 @@
 mod added;
+mod faults;
+mod rows;
 
 use crate::run::{RunError, run};
 use crate::watched::Watched;

@@ -1,10 +1,11 @@
 //! Answers that are texts.
-ghost use Rattle.std.specs.Prelude.{◌≡◌, ◌↔◌, ◌++◌, IfOk, IsErrOf, OnOk};
+ghost use Rattle.std.specs.Prelude.{◌≡◌, ◌↔◌, ◌++◌, IfOk, IsErrOf, OnOk, codes};
 ghost use Rattle.unix_bytes.specs.Lossy.{lossy_of};
-ghost use Rattle.unix_bytes.specs.Chunks.{shown};
+ghost use Rattle.unix_bytes.specs.Chunks.{chunk_of, shown_chunk};
 ghost use Rattle.unix_bytes.specs.Utf8.{IsText};
 ghost use Rattle.std.specs.String.{string_bytes};
-ghost use Rattle.pathtool.specs.Quoted.{json_of, quoted_of};
+ghost use Rattle.json.specs.Print.{quoted};
+ghost use Rattle.pathtool.specs.Quoted.{json_of};
 
 use std::alloc::{AllocError, Global};
 use unix_bytes::lossy::{Utf8Lossy, Utf8LossyChunk};
@@ -13,7 +14,8 @@ use unix_path::json::{JsonError, to_json};
 
 // Adds the chunk's text, and U+FFFD for its broken front.
 fn push_chunk(chunk: Utf8LossyChunk<'_>, answer: &mut Vec<u8>) -> Result<(), AllocError>
-    ensures { OnOk result (answer.new.items ≡ answer.old.items ++ shown chunk.entry) }
+    ensures { OnOk result (answer.new.items
+        ≡ answer.old.items ++ shown_chunk (chunk_of chunk.entry)) }
 {
     answer.extend_from_slice(chunk.valid.as_bytes())?;
     if chunk.broken.is_empty() {
@@ -39,7 +41,7 @@ pub fn push_show(path: Path<'_>, answer: &mut Vec<u8>) -> Result<(), AllocError>
 
 // The compact text of the path as a JSON string.
 fn quoted(alloc: Global, path: Path<'_>) -> Result<String, JsonError>
-    ensures value { IfOk result (λ text. string_bytes text ≡ quoted_of path.entry.bytes.now) }
+    ensures value { IfOk result (λ text. string_bytes text ≡ quoted path.entry.bytes.now) }
     ensures refused { IsErrOf result JsonError.NotUtf8 ↔ ¬ (IsText path.entry.bytes.now) }
 {
     let value = to_json(alloc, path)?;
@@ -49,20 +51,27 @@ fn quoted(alloc: Global, path: Path<'_>) -> Result<String, JsonError>
     }
 }
 
+// Adds that the bytes aren't UTF-8.
+fn push_refusal(answer: &mut Vec<u8>) -> Result<(), AllocError>
+    ensures { OnOk result (answer.new.items
+        ≡ answer.old.items ++ codes "path contains invalid UTF-8 characters") }
+{
+    answer.extend_from_slice(b"path contains invalid UTF-8 characters")
+}
+
 /// Adds the path as a JSON string to `answer`, or that its bytes aren't UTF-8.
 ///
 /// The string is compact. Takes memory for the text and for what it adds; refused, it leaves the
 /// answer in any state. Own; the string is that of RFC 8259, section 7.
 ///
 /// `a"b` adds `"a\"b"`, and FF adds `path contains invalid UTF-8 characters`.
+#[tactic(auto, using(crate::proofs::SaidLemmas::adds_quoted))]
 pub fn push_json(path: Path<'_>, answer: &mut Vec<u8>) -> Result<(), AllocError>
     ensures { OnOk result (answer.new.items ≡ answer.old.items ++ json_of path.entry.bytes.now) }
 {
     match quoted(*answer.allocator(), path) {
         Ok(text) => answer.extend_from_slice(text.as_bytes()),
-        Err(JsonError::NotUtf8) => {
-            answer.extend_from_slice(b"path contains invalid UTF-8 characters")
-        }
+        Err(JsonError::NotUtf8) => push_refusal(answer),
         // `to_json` answers nothing else than want of memory.
         Err(_) => Err(AllocError),
     }

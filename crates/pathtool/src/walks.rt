@@ -1,47 +1,40 @@
 //! Answers to walks by turns.
-ghost use Rattle.std.specs.Prelude.{◌≡◌, ◌++◌, OnOk, IfOk};
+ghost use Rattle.std.specs.Prelude.{◌≡◌, ◌++◌, OnOk, IfOk, is_some};
 ghost use Rattle.std.specs.Fmt.{decimal};
-ghost use Rattle.std.specs.List.{list_all};
+ghost use Rattle.std.specs.List.{filter_map, list_all};
 ghost use Rattle.pathtool.specs.Texts.{parts_behind, walked_text};
-ghost use Rattle.pathtool.specs.Walks.{is_turn, turn_of, turns_of, walk_of, walk_answer};
+ghost use Rattle.pathtool.specs.Walks.{turn_of, walk_answer};
 
 use path_runs::walk::walk;
 use path_runs::{Turn, Walked};
 use std::alloc::{AllocError, Global};
 use unix_path::{Component, Path};
 
-// Whether the letter says a turn.
-fn is_turn(letter: u8) -> bool
-    ensures { result ≡ is_turn letter }
+// The turn that the letter says, unless it is a bad one.
+fn turn_from(letter: u8) -> Option<Turn>
+    ensures { result ≡ turn_of letter }
 {
-    letter == b'f' || letter == b'b'
+    match letter {
+        b'f' => Some(Turn::Front),
+        b'b' => Some(Turn::Back),
+        _ => None,
+    }
 }
 
 // Whether each letter says a turn.
 fn say_turns(letters: &[u8]) -> bool
-    ensures { result ≡ list_all is_turn letters.now }
+    ensures { result ≡ list_all (λ letter. is_some (turn_of letter)) letters.now }
 {
-    letters.iter().all(|letter| is_turn(*letter))
-}
-
-// The turn that the letter says.
-fn turn_from(letter: u8) -> Turn
-    ensures { result ≡ turn_of letter }
-{
-    if letter == b'f' {
-        Turn::Front
-    } else {
-        Turn::Back
-    }
+    letters.iter().all(|letter| turn_from(*letter).is_some())
 }
 
 // The turns that the letters say.
 fn turns_from(alloc: Global, letters: &[u8]) -> Result<Vec<Turn>, AllocError>
-    ensures { IfOk result (λ turns. turns.items ≡ turns_of letters.now) }
+    ensures { IfOk result (λ turns. turns.items ≡ filter_map turn_of letters.now) }
 {
     letters
         .iter()
-        .map(|letter| turn_from(*letter))
+        .filter_map(|letter| turn_from(*letter))
         .collect(alloc)
 }
 

@@ -1,17 +1,18 @@
 //! Readers and writers that remember whether they have failed.
-ghost use Rattle.std.specs.Prelude.{◌≡◌, ◌||◌, false, length, is_err};
+ghost use Rattle.std.specs.Prelude.{◌≡◌, ◌||◌, false, length, is_ok, is_err};
 ghost use Rattle.std.specs.Io.{ReadsAtMost, WritesAtMost};
 ghost use Rattle.std.specs.Io.KnownBytes.{ReadConsumes, WriteAppends, Keeps};
-ghost use Rattle.pathtool.specs.Watched.{has_failed, has_ended, watched_inner};
-ghost use Rattle.pathtool.specs.Watched.{gives_none, takes_none};
+ghost use Rattle.pathtool.specs.Watched.{has_failed, has_ended, is_flushed, watched_inner};
+ghost use Rattle.pathtool.specs.Watched.{moves_none};
 
 use std::io;
 use std::io::{Read, Write};
 
-/// A reader or a writer, and whether it has failed or ended.
+/// A reader or a writer, and whether it has failed, has ended or is flushed.
 ///
 /// It has failed once a call has failed, or once a write of some bytes took none. It has ended once
-/// a read with room for a byte found none. Both stay true. Own.
+/// a read with room for a byte found none. Both stay true. It is flushed from a flush that was Ok
+/// to the next write or flush. Own.
 ///
 /// `Watched::new(b"a".as_slice())` has ended after two reads.
 #[derive(Drop)]
@@ -19,21 +20,24 @@ pub struct Watched<T> {
     inner: T,
     failed: bool,
     ended: bool,
+    flushed: bool,
 }
 
 impl<T> Watched<T> {
-    /// Watches `inner`, which has neither failed nor ended. Takes no memory. Own.
+    /// Watches `inner`, which has neither failed nor ended, nor is flushed. Takes no memory. Own.
     ///
     /// `Watched::new(reader).failed()` is false.
     pub fn new(inner: T) -> Watched<T>
         ensures inner { watched_inner result ≡ inner }
         ensures failed { has_failed result ≡ false }
         ensures ended { has_ended result ≡ false }
+        ensures flushed { is_flushed result ≡ false }
     {
         Watched {
             inner,
             failed: false,
             ended: false,
+            flushed: false,
         }
     }
 
@@ -57,6 +61,16 @@ impl<T> Watched<T> {
         *ended
     }
 
+    /// Whether a flush was Ok, and nothing was written or flushed since. Takes no memory. Own.
+    ///
+    /// It is false after a `write`.
+    pub fn flushed(&self) -> bool
+        ensures { result ≡ is_flushed self.now }
+    {
+        let Watched { flushed, .. } = self;
+        *flushed
+    }
+
     /// The reader or the writer. Takes no memory. Own.
     ///
     /// `Watched::new(7).into_inner()` is 7.
@@ -78,7 +92,8 @@ impl<T: Read> Read for Watched<T> {
             (T.remaining (watched_inner self.new)) result buf.new }
         ensures failed { has_failed self.new ≡ (has_failed self.old || is_err result) }
         ensures ended { has_ended self.new
-            ≡ (has_ended self.old || gives_none result (length buf.old)) }
+            ≡ (has_ended self.old || moves_none result (length buf.old)) }
+        ensures flushed { is_flushed self.new ≡ is_flushed self.old }
     {
         let has_room = !buf.is_empty();
         match self.inner.read(buf) {
@@ -105,9 +120,11 @@ impl<T: Write> Write for Watched<T> {
         ensures bytes { WriteAppends (T.contents (watched_inner self.old))
             (T.contents (watched_inner self.new)) result buf.now }
         ensures failed { has_failed self.new
-            ≡ (has_failed self.old || takes_none result (length buf.now)) }
+            ≡ (has_failed self.old || is_err result || moves_none result (length buf.now)) }
         ensures ended { has_ended self.new ≡ has_ended self.old }
+        ensures flushed { is_flushed self.new ≡ false }
     {
+        self.flushed = false;
         match self.inner.write(buf) {
             Ok(count) => {
                 if count == 0 && !buf.is_empty() {
@@ -127,8 +144,10 @@ impl<T: Write> Write for Watched<T> {
             (T.contents (watched_inner self.new)) }
         ensures failed { has_failed self.new ≡ (has_failed self.old || is_err result) }
         ensures ended { has_ended self.new ≡ has_ended self.old }
+        ensures flushed { is_flushed self.new ≡ is_ok result }
     {
         let result = self.inner.flush();
+        self.flushed = result.is_ok();
         if result.is_err() {
             self.failed = true;
         }

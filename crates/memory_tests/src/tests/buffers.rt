@@ -1,7 +1,7 @@
 use memory_drought::Drought;
 use std::test::Fail;
-use unix_path::bytes::{UnixStr, UnixString};
-use unix_path::{Path, PathBuf};
+use unix_path::bytes::{LossyText, UnixStr, UnixString};
+use unix_path::{BoxedPath, CowPath, Path, PathBuf, RcPath};
 
 fn path(text: &str) -> Path<'_> {
     Path::new(UnixStr::new(text))
@@ -46,6 +46,8 @@ fn within_the_capacity_nothing_is_asked(rt: HostRuntime) -> Result<(), Fail> {
         assert!(rt; buffer.push(path("/")).is_ok());
         assert_eq!(rt; buffer.capacity(), capacity);
         assert!(rt; buffer.shrink_to(capacity).is_ok());
+        assert!(rt; buffer.shrink_to(1000).is_ok());
+        assert_eq!(rt; buffer.capacity(), capacity);
         assert!(rt; buffer.set_file_name(UnixStr::new("foo")).is_ok());
         assert!(rt; buffer.set_extension(UnixStr::new("rs")).is_ok());
         assert_eq!(rt; buffer.as_path().as_unix_str(), UnixStr::new("/foo.rs"));
@@ -135,6 +137,43 @@ fn promised_calls_of_paths_take_no_memory(rt: HostRuntime) -> Result<(), Fail> {
         assert_eq!(rt; up.set_extension(UnixStr::new("d")).ok(), Some(false));
         let back: UnixString = up.into();
         assert_eq!(rt; back.as_unix_str(), UnixStr::new(".."));
+    }
+    Ok(())
+}
+
+// No request is made for no bytes; only the count of a shared path's owners asks for one.
+#[test]
+fn copies_of_no_bytes_take_no_memory(rt: HostRuntime) -> Result<(), Fail> {
+    let alloc = rt.alloc();
+    let empty = path("");
+    let none = UnixStr::new("");
+    if let Some(_drought) = Drought::begin(alloc)? {
+        let buffer = PathBuf::from_unix_str(alloc, none)?;
+        assert!(rt; PathBuf::from_text(alloc, "").is_ok());
+        assert!(rt; buffer.clone().is_ok());
+        assert!(rt; empty.to_path_buf(alloc).is_ok());
+        assert!(rt; empty.join(alloc, empty).is_ok());
+        assert!(rt; path("a").with_file_name(alloc, none).is_ok());
+        assert!(rt; empty.with_extension(alloc, UnixStr::new("b")).is_ok());
+        let boxed = BoxedPath::from_path(alloc, empty)?;
+        assert!(rt; boxed.clone().is_ok());
+        let owned = CowPath::from(buffer);
+        assert!(rt; owned.clone().is_ok());
+        assert!(rt; BoxedPath::from_cow(alloc, owned).is_ok());
+        assert!(rt; CowPath::from(empty).into_owned(alloc).is_ok());
+        assert!(rt; RcPath::from_path(alloc, empty).is_err());
+    }
+    Ok(())
+}
+
+#[test]
+fn a_text_is_borrowed_without_memory(rt: HostRuntime) -> Result<(), Fail> {
+    let alloc = rt.alloc();
+    if let Some(_drought) = Drought::begin(alloc)? {
+        let Ok(LossyText::Borrowed(shown)) = path("ab").to_string_lossy(alloc) else {
+            panic!(rt; "the text isn't borrowed");
+        };
+        assert_eq!(rt; shown, "ab");
     }
     Ok(())
 }

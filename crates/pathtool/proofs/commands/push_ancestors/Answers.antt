@@ -5,7 +5,7 @@ use Rattle.unix_path.proofs.CursorLemmas.{name_bytes}
 use Rattle.unix_path.specs.Ancestors.{ancestors_left}
 use Rattle.unix_path.specs.Names.{ancestors_of}
 use Rattle.pathtool.proofs.ListLemmas.{adds, adds_list}
-use Rattle.pathtool.specs.Answers.{tabs}
+use Rattle.pathtool.specs.Fields.{tabs}
 use Rattle.pathtool.proofs.commands.push_ancestors.Goals as goal
 
 pub returns : goal.returns

@@ -1,7 +1,8 @@
 use Rattle.std.proofs.Common.{◌≡◌, [], ap, ap₂, ◌∙◌, ◌++◌, ◌∷◌, Bool, List, ℕ, if◌then◌else◌, sym}
 use Rattle.std.proofs.Common.{append_assoc}
 use Rattle.pathtool.proofs.ListLemmas.{is_not_first, tabs-push}
-use Rattle.pathtool.specs.Answers.{tab, tabs}
+use Rattle.pathtool.specs.Fields.{tabs}
+use Rattle.pathtool.specs.Texts.{tab}
 use Rattle.pathtool.specs.Texts.{has_none, texts}
 use Rattle.unix_bytes.specs.declared.bytes.UnixStr.{UnixStr}
 use Rattle.pathtool.proofs.commands.push_list.Goals as goal

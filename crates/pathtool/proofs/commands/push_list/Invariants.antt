@@ -1,5 +1,5 @@
 use Rattle.std.proofs.Common.{◌≡◌, ◌++◌}
-use Rattle.pathtool.specs.Answers.{tabs}
+use Rattle.pathtool.specs.Fields.{tabs}
 use Rattle.pathtool.specs.Texts.{has_none, texts}
 use Rattle.pathtool.proofs.commands.push_list.Given as goal
 

@@ -1,7 +1,7 @@
 use Rattle.std.proofs.Common.{◌∙◌, ◌∷◌, ap, sym}
 use Rattle.pathtool.proofs.ListLemmas.{adds}
-use Rattle.pathtool.proofs.SplitLemmas.{slice_split-cons}
-use Rattle.pathtool.specs.Answers.{fixed_answer, is_tab}
+use Rattle.pathtool.proofs.SplitLemmas.{is_tab, slice_split-cons}
+use Rattle.pathtool.specs.Answers.{fixed_answer}
 use Rattle.pathtool.proofs.commands.push_long_answer.Goals as goal
 
 pub returns-in-Some : goal.returns-in-Some

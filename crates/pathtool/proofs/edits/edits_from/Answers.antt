@@ -1,12 +1,13 @@
-use Rattle.std.proofs.Common.{◌≡◌, ◌∷◌, [], None, Some, option_map, drop, length}
+use Rattle.std.proofs.Common.{◌≡◌, ◌∷◌, [], None, Some, map, option_map, drop, length}
 use Rattle.std.proofs.Common.{ap, ap₂, sym, ◌∙◌, arith, rules, tests}
 use Rattle.std.proofs.lemmas.Iterator.Splits.{YieldsList-from_slice_split}
 use Rattle.std.proofs.lemmas.Iterator.Consumers.{YieldsList-at}
 use Rattle.std.proofs.lemmas.List.{length_push, map-append}
-use Rattle.path_runs.specs.EditViews.{edit_value, edit_values}
-use Rattle.pathtool.specs.Fields.{fields_of, is_tab}
+use Rattle.path_runs.specs.EditViews.{edit_value}
+use Rattle.pathtool.specs.Fields.{fields_of}
 use Rattle.pathtool.specs.EditFields.{edit_of_field}
 use Rattle.pathtool.proofs.FieldLemmas.{edits_then, edits_then-more, edits_then-bad, edits_then-all}
+use Rattle.pathtool.proofs.SplitLemmas.{is_tab}
 use Rattle.pathtool.proofs.TurnLemmas.{turn_of, end_of}
 use Rattle.pathtool.proofs.edits.edits_from.Goals as goal
 
@@ -23,7 +24,7 @@ returns-in_default c =
     let none : c.edit_from.result ≡ None = search rules in
     let bad : edit_of_field field ≡ None =
     sym c.edit_from.ensures ∙ ap (option_map edit_value) none in
-    sym (edits_then-bad (edit_values c.loop-field.edits.items) fields
+    sym (edits_then-bad (map edit_value c.loop-field.edits.items) fields
     (length c.loop-field.yielded) field turn bad) ∙ c.loop-field.invariant
 
 pub loop-field-preserved : goal.loop-field-preserved
@@ -41,9 +42,9 @@ loop-field-preserved c =
     let says : edit_of_field field ≡ Some (edit_value edit) =
     sym c.edit_from.ensures ∙ ap (option_map edit_value) c.in-Some-edit_from.is in
     ap₂ (λ done n. edits_then done (drop n fields))
-    (ap edit_values c.in_ok-push.ensures.items ∙ map-append edit_value items (edit ∷ []))
+    (ap (map edit_value) c.in_ok-push.ensures.items ∙ map-append edit_value items (edit ∷ []))
     (length_push c.loop-field.yielded c.in-Some.field)
-    ∙ sym (edits_then-more (edit_values items) (edit_value edit) fields
+    ∙ sym (edits_then-more (map edit_value items) (edit_value edit) fields
     (length c.loop-field.yielded) field turn says)
     ∙ c.loop-field.invariant
 
@@ -56,5 +57,5 @@ returns c =
     (YieldsList-from_slice_split _ is_tab c.args.fields.now c.split-field-items.ensures.rest
     c.split-field-items.ensures.done c.split-field-items.ensures.closure
     (λ x b q k. search (rules, tests)))) in
-    sym (edits_then-all (edit_values c.loop-field.edits.items) fields _ (omega (arith, all.1)))
+    sym (edits_then-all (map edit_value c.loop-field.edits.items) fields _ (omega (arith, all.1)))
     ∙ c.loop-field.invariant

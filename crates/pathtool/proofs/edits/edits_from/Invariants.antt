@@ -1,7 +1,7 @@
-use Rattle.std.proofs.Common.{◌≡◌, length, drop}
-use Rattle.path_runs.specs.EditViews.{edit_values}
+use Rattle.std.proofs.Common.{◌≡◌, map, length, drop}
+use Rattle.path_runs.specs.EditViews.{edit_value}
 use Rattle.pathtool.specs.Fields.{fields_of}
-use Rattle.pathtool.specs.EditFields.{edits_of_fields}
+use Rattle.pathtool.specs.Texts.{edits_of_fields}
 use Rattle.pathtool.proofs.FieldLemmas.{edits_then}
 use Rattle.pathtool.proofs.edits.edits_from.Given as goal
 
@@ -9,5 +9,5 @@ use Rattle.pathtool.proofs.edits.edits_from.Given as goal
 abbrev pub invariant-loop-field : goal.invariant-loop-field
 invariant-loop-field l =
     let fields = fields_of l.fields in
-    edits_then (edit_values l.edits.items) (drop (length l.yielded) fields)
+    edits_then (map edit_value l.edits.items) (drop (length l.yielded) fields)
     ≡ edits_of_fields fields

@@ -1,7 +1,7 @@
-use Rattle.std.proofs.Common.{◌++◌, ap, ap₂, sym, ◌∙◌}
-use Rattle.path_runs.specs.EditViews.{edit_values}
+use Rattle.std.proofs.Common.{map, ◌++◌, ap, ap₂, sym, ◌∙◌}
+use Rattle.path_runs.specs.EditViews.{edit_value}
 use Rattle.path_runs.specs.Runs.{edits_of}
-use Rattle.pathtool.specs.EditFields.{words_of}
+use Rattle.pathtool.specs.Texts.{words_of}
 use Rattle.pathtool.proofs.AddedLemmas.{added_behind}
 use Rattle.pathtool.proofs.WordLemmas.{tabs-words}
 use Rattle.pathtool.proofs.edits.push_edited.Goals as goal
@@ -9,7 +9,7 @@ use Rattle.pathtool.proofs.edits.push_edited.Goals as goal
 pub returns : goal.returns
 returns c =
     let s = c.args.path.bytes.now in
-    let edits = edit_values c.args.edits.now in
+    let edits = map edit_value c.args.edits.now in
     let done = edits_of s edits in
     let bytes = c.as_bytes.ensures ∙ c.as_unix_str.ensures ∙ c.as_path.ensures
     ∙ c.in-Ok.ensures.ok in

@@ -3,7 +3,8 @@ use Rattle.std.proofs.Common.{subst, rules, eqb-true}
 use Rattle.std.specs.Io.KnownBytes.{Appends}
 use Rattle.std.proofs.KnownBytes.{Appends-trans}
 use Rattle.unix_path.proofs.CaseLemmas.{is_nil}
-use Rattle.pathtool.specs.Answers.{answer_of, newline, output_of}
+use Rattle.pathtool.specs.Answers.{answer_of, output_of}
+use Rattle.pathtool.specs.Texts.{newline}
 use Rattle.pathtool.specs.Watched.{AppendsFront}
 use Rattle.pathtool.proofs.FrontLemmas.{AppendsFront-of, AppendsFront-then, OnErr-of}
 use Rattle.pathtool.proofs.LineLemmas.{output_of-cons, output_of-nil}

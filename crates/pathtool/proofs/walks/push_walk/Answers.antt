@@ -1,5 +1,5 @@
-use Rattle.std.proofs.Common.{sym, ◌∙◌, ap, ◌++◌, OnOk, ◌≡◌, List, ℕ}
-use Rattle.pathtool.specs.Walks.{turns_of, walk_of}
+use Rattle.std.proofs.Common.{sym, ◌∙◌, ap}
+use Rattle.pathtool.specs.Texts.{walk_of}
 use Rattle.pathtool.proofs.AddedLemmas.{added}
 use Rattle.pathtool.proofs.ListLemmas.{adds}
 use Rattle.pathtool.proofs.TakenLemmas.{walked_text-walk_of, walk_answer-bad, walk_answer-turns}

@@ -1,0 +1,74 @@
+-- What a step of a command added, as the command's answer says it.
+use Rattle.std.proofs.Common.{◌≡◌, ℕ, Bool, List, ◌++◌, Option, Some, None, option_map, Result}
+use Rattle.std.proofs.Common.{OnOk, Decides, codes, ap, sym, ◌∙◌}
+use Rattle.std.specs.List.{starts_with, ends_with}
+use Rattle.std.proofs.lemmas.Bool.Decides.{same_from_decides}
+use Rattle.unix_bytes.specs.declared.bytes.UnixStr.{UnixStr}
+use Rattle.unix_path.specs.Parts.{values}
+use Rattle.unix_path.specs.Names.{Begins, Ends, stripped_of}
+use Rattle.json.specs.Print.{quoted}
+use Rattle.unix_bytes.specs.Utf8.{IsText}
+use Rattle.pathtool.specs.Answers.{optional, same, strip_answer}
+use Rattle.pathtool.specs.Fields.{truth}
+use Rattle.pathtool.specs.Quoted.{json_of}
+use Rattle.pathtool.proofs.BeginLemmas.{starts_with-Decides, ends_with-Decides}
+use Rattle.pathtool.proofs.BeginLemmas.{strip_answer-ok, strip_answer-refused}
+use Rattle.pathtool.proofs.ListLemmas.{adds}
+use Rattle.pathtool.proofs.QuotedLemmas.{json_of-text}
+
+-- a name that was found, or none
+pub adds_found : {T E : Type 0} (r : Result T E) (new old : List ℕ) (found : Option UnixStr)
+    (bytes : Option (List ℕ)) → option_map (λ name. name.bytes.now) found ≡ bytes
+    → OnOk r (new ≡ old ++ optional (option_map (λ name. name.bytes.now) found))
+    → OnOk r (new ≡ old ++ optional bytes)
+adds_found r new old found bytes e h = adds r new old (ap optional e) h
+
+-- bytes that were found
+pub adds_some : {T E : Type 0} (r : Result T E) (new old found bytes : List ℕ)
+    (known : Option (List ℕ)) → found ≡ bytes → Some bytes ≡ known
+    → OnOk r (new ≡ old ++ optional (Some found)) → OnOk r (new ≡ old ++ optional known)
+adds_some r new old found bytes known e k h = adds r new old (ap optional (ap Some e ∙ k)) h
+
+-- nothing was found
+pub adds_none : {T E : Type 0} (r : Result T E) (new old : List ℕ) (known : Option (List ℕ))
+    → None ≡ known → OnOk r (new ≡ old ++ optional None) → OnOk r (new ≡ old ++ optional known)
+adds_none r new old known k h = adds r new old (ap optional k) h
+
+-- the parts of one path begin those of another, or don't
+pub adds_starts : {T E : Type 0} (r : Result T E) (new old : List ℕ) (is_so : Bool)
+    (path base : List ℕ) → Decides is_so (Begins (values base) (values path))
+    → OnOk r (new ≡ old ++ truth is_so)
+    → OnOk r (new ≡ old ++ truth (starts_with same (values path) (values base)))
+adds_starts r new old is_so path base d h = adds r new old
+    (ap truth (same_from_decides is_so (starts_with same (values path) (values base)) d
+    (starts_with-Decides (values path) (values base)))) h
+
+-- the parts of one path end those of another, or don't
+pub adds_ends : {T E : Type 0} (r : Result T E) (new old : List ℕ) (is_so : Bool)
+    (path child : List ℕ) → Decides is_so (Ends (values child) (values path))
+    → OnOk r (new ≡ old ++ truth is_so)
+    → OnOk r (new ≡ old ++ truth (ends_with same (values path) (values child)))
+adds_ends r new old is_so path child d h = adds r new old
+    (ap truth (same_from_decides is_so (ends_with same (values path) (values child)) d
+    (ends_with-Decides (values path) (values child)))) h
+
+-- what is left of a path whose first parts are those of the base
+pub adds_stripped : {T E : Type 0} (r : Result T E) (new old path base left found : List ℕ)
+    → Begins (values base) (values path) → left ≡ stripped_of path base → found ≡ left
+    → OnOk r (new ≡ old ++ optional (Some found)) → OnOk r (new ≡ old ++ strip_answer path base)
+adds_stripped r new old path base left found starts e is h =
+    adds r new old (strip_answer-ok path base found starts (is ∙ e)) h
+
+-- the first parts of the path aren't those of the base
+pub adds_unstripped : {T E : Type 0} (r : Result T E) (new old path base : List ℕ)
+    → (Begins (values base) (values path) → ⊥) → OnOk r (new ≡ old ++ codes "prefix not found")
+    → OnOk r (new ≡ old ++ strip_answer path base)
+adds_unstripped r new old path base h said =
+    adds r new old (strip_answer-refused path base h) said
+
+-- the text of a path that is text
+pub adds_quoted : {T E : Type 0} (r : Result T E) (new old path said : List ℕ)
+    → ((IsText path → ⊥) → ⊥) → said ≡ quoted path → OnOk r (new ≡ old ++ said)
+    → OnOk r (new ≡ old ++ json_of path)
+adds_quoted r new old path said is_text e h =
+    adds r new old (e ∙ sym (json_of-text path is_text)) h
