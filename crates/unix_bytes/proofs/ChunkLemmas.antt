@@ -136,6 +136,19 @@ chunks_of-some b bs =
     ∙ ap (λ x. first_chunk_of s ∷ chunks_of x)
     (drop-drop k n s ∙ ap (λ j. drop (j + k) s) (sym e))
 
+length_within : (n : ℕ) (s : List ℕ) → length s ≤ n → length (chunks_of s) ≤ length s
+length_within n [] le = omega (arith, ap length chunks_of-nil)
+length_within zero (b ∷ bs) le = absurd (omega arith)
+length_within (suc n) (b ∷ bs) le =
+    let k = chunk_len (first_chunk_of (b ∷ bs)) in
+    let some = chunk_some b bs in
+    let left = length_within n (drop k (b ∷ bs)) (fewer n k b bs some le) in
+    omega (arith, some, left, length-drop k (b ∷ bs), ap length (chunks_of-some b bs))
+
+-- each chunk has a byte or more
+pub length-chunks_of : (s : List ℕ) → length (chunks_of s) ≤ length s
+length-chunks_of s = length_within (length s) s (le_refl (length s))
+
 -- lossy text, a chunk at a time
 lossy_of-rest : (t : List ℕ) → longest_len is_sequence t ≡ 0
     → lossy_of t ≡ (if eqb (length (longest_front_of t)) 0 then [] else replacement)

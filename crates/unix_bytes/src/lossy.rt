@@ -1,8 +1,9 @@
 //! Bytes shown as text where they may not be UTF-8: U+FFFD stands for what is broken.
 ghost use Rattle.std.specs.Prelude.{◌≡◌, ◌↔◌, ◌<◌, ◌≤◌, ℕ, ◌∷◌, List, [], Some, IsTrue, length};
-ghost use Rattle.std.specs.Prelude.{drop, take, if◌then◌else◌};
+ghost use Rattle.std.specs.Prelude.{drop, take, ◌^◌, if◌then◌else◌};
 ghost use Rattle.std.specs.Fmt.{WritesOnOk, WritesStyledOnOk, padded};
 ghost use Rattle.std.specs.Iterator.{YieldsFirstBy, item_count};
+ghost use Rattle.std.specs.Iterator.Runs.{EveryRun, ItemsMapTo};
 ghost use Rattle.unix_bytes.specs.Utf8.{IsSequence, BeginsSequence};
 ghost use Rattle.unix_bytes.specs.Lossy.{is_text, lossy_of};
 ghost use Rattle.unix_bytes.specs.Chunks.{chunks_of, chunk_of, chunks_left, shown_chunk};
@@ -60,9 +61,15 @@ impl<'a> Utf8Lossy<'a> {
     /// Of 61 FF 62 there are two: `a` with FF, and `b` with nothing.
     #[inline]
     pub fn chunks(&self) -> Utf8LossyChunksIter<'a>
-        ensures { chunks_left result ≡ chunks_of self.now.bytes.now }
+        ensures left { chunks_left result ≡ chunks_of self.now.bytes.now }
+        ensures len { length (chunks_left result) < 2 ^ 64 }
+
+        // Calls of `next` give what is left, in order.
+        ensures runs { EveryRun (YieldsFirstBy chunk_of chunks_left)
+            (λ p. ItemsMapTo p chunk_of (chunks_left p.from)) }
     {
-        Utf8LossyChunksIter { source: self.bytes }
+        let source = self.bytes;
+        Utf8LossyChunksIter { source }
     }
 }
 

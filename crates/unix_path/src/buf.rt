@@ -3,11 +3,10 @@ ghost use Rattle.std.specs.Prelude.{◌≡◌, ◌+◌, ◌^◌, ◌<◌, ◌≤
 ghost use Rattle.std.specs.Prelude.{max, min, None, IfOk, OnOk, OnErr, IsOk, is_some, string_bytes};
 ghost use Rattle.unix_bytes.specs.Owned.{owned_bytes};
 ghost use Rattle.unix_path.specs.Buffers.{path_bytes, room, capacity};
-ghost use Rattle.unix_path.specs.Cursor.{iter_rest};
 ghost use Rattle.unix_path.specs.Edits.{popped_of, with_name_of, dot_before, with_extension_of};
 ghost use Rattle.unix_path.specs.Joins.{is_open, join_of};
 ghost use Rattle.unix_path.specs.Names.{parent_of, file_name_of};
-ghost use Rattle.unix_path.specs.Parts.{values};
+ghost use Rattle.unix_path.specs.Parts.{values, value_bytes};
 ghost use Rattle.unix_path.specs.Rest.{rest};
 ghost use Rattle.unix_path.specs.Steps.{gap_bytes};
 
@@ -499,11 +498,26 @@ impl From<PathBuf> for UnixString {
 
 /// The walk that `as_path().iter()` gives.
 impl<'a> IntoIterator for &'a PathBuf {
+    ghost use Rattle.std.specs.Prelude.{◌^◌, map};
+    ghost use Rattle.std.specs.Iterator.Runs.{EveryRun, ItemsMapTo, ItemsMapToReversed};
+    ghost use Rattle.unix_bytes.specs.declared.bytes.UnixStr.{UnixStr};
+    ghost use Rattle.unix_path.specs.Cursor.{iter_rest, iter_source, iter_bytes};
+    ghost use Rattle.unix_path.specs.Cursor.{GivesFirst, GivesLast};
+
     type Item = UnixStr<'a>;
 
     type IntoIter = Iter<'a>;
 
-    ghost into_iter_gives = { λ path walk. iter_rest walk ≡ rest (path_bytes path.now) 0 0 };
+    ghost into_iter_gives = { λ path walk.
+        (iter_rest walk ≡ rest (path_bytes path.now) 0 0)
+        × (iter_bytes walk ≡ map value_bytes (values (path_bytes path.now)))
+        × (length (iter_bytes walk) < 2 ^ 64)
+        × EveryRun {A = UnixStr}
+        (GivesFirst (λ name. name.bytes.now) iter_bytes iter_rest iter_source)
+        (λ run. ItemsMapTo run (λ name. name.bytes.now) (iter_bytes run.from))
+        × EveryRun {A = UnixStr}
+        (GivesLast (λ name. name.bytes.now) iter_bytes iter_rest iter_source)
+        (λ run. ItemsMapToReversed run (λ name. name.bytes.now) (iter_bytes run.from)) };
 
     #[inline]
     fn into_iter(self) -> Iter<'a> {

@@ -1,6 +1,6 @@
 //! Walks over the parts of a path, from both ends.
 ghost use Rattle.std.specs.Prelude.{◌≡◌, ℕ, ◌+◌, ◌-◌, ◌<◌, ◌≤◌, false, List, [], ◌∷◌, ◌++◌, length};
-ghost use Rattle.std.specs.Prelude.{take, drop};
+ghost use Rattle.std.specs.Prelude.{take, drop, ◌^◌};
 ghost use Rattle.std.specs.List.{position_or_len};
 ghost use Rattle.unix_path.specs.Parts.{is_slash, parts, counted, values, value_bytes};
 ghost use Rattle.unix_path.specs.Rest.{rest};
@@ -205,7 +205,9 @@ fn last_step(path: &[u8]) -> (usize, Component<'_>)
 }
 
 impl<'a> Components<'a> {
-    ghost use Rattle.unix_path.specs.Cursor.{cursor_rest, cursor_source};
+    ghost use Rattle.unix_path.specs.Cursor.{cursor_rest, cursor_source, cursor_values};
+    ghost use Rattle.unix_path.specs.Cursor.{GivesFirst, GivesLast};
+    ghost use Rattle.std.specs.Iterator.Runs.{EveryRun, ItemsMapTo, ItemsMapToReversed};
 
     // The walk over the parts of these bytes. Those that don't count after the last part are left
     // out at once: `foo/` gives `foo`.
@@ -213,6 +215,12 @@ impl<'a> Components<'a> {
     pub(crate) fn new(path: &'a [u8]) -> Components<'a>
         ensures rest { cursor_rest result ≡ rest path.now 0 0 }
         ensures place { LiesIn (cursor_source result) path.entry }
+        ensures values { cursor_values result ≡ values path.now }
+        ensures len { length (cursor_values result) < 2 ^ 64 }
+        ensures runs { EveryRun (GivesFirst value_of cursor_values cursor_rest cursor_source)
+            (λ run. ItemsMapTo run value_of (cursor_values run.from)) }
+        ensures runs_back { EveryRun (GivesLast value_of cursor_values cursor_rest cursor_source)
+            (λ run. ItemsMapToReversed run value_of (cursor_values run.from)) }
     {
         let end = trimmed_len(path, path.len());
         Components { path: &path[..end] }

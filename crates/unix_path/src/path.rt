@@ -1,10 +1,15 @@
 //! The view of a path.
-ghost use Rattle.std.specs.Prelude.{◌≡◌, ◌↔◌, ◌≤◌, not, [], ◌∷◌, length, take, option_map, IfSome};
-ghost use Rattle.std.specs.Prelude.{IsTrue, IsFalse, IsOk, IfOk, Some, codes};
+ghost use Rattle.std.specs.Prelude.{◌≡◌, ◌↔◌, ◌<◌, ◌≤◌, ◌^◌, not, [], ◌∷◌, length, take, map};
+ghost use Rattle.std.specs.Prelude.{option_map, IfSome, IsTrue, IsFalse, IsOk, IfOk, Some, codes};
 ghost use Rattle.std.specs.Fmt.{padded};
-ghost use Rattle.unix_path.specs.Parts.{RootDir, slash, values, is_rooted};
+ghost use Rattle.unix_path.specs.Parts.{RootDir, slash, values, value_bytes, is_rooted};
 ghost use Rattle.unix_path.specs.Rest.{rest};
-ghost use Rattle.unix_path.specs.Cursor.{cursor_rest, cursor_source, iter_rest, iter_source};
+ghost use Rattle.unix_path.specs.Cursor.{cursor_rest, cursor_source, cursor_values};
+ghost use Rattle.unix_path.specs.Cursor.{iter_rest, iter_source, iter_bytes};
+ghost use Rattle.unix_path.specs.Cursor.{GivesFirst, GivesLast};
+ghost use Rattle.unix_path.specs.Views.{value_of};
+ghost use Rattle.std.specs.Iterator.Runs.{EveryRun, ItemsMapTo, ItemsMapToReversed};
+ghost use Rattle.unix_bytes.specs.declared.bytes.UnixStr.{UnixStr};
 ghost use Rattle.unix_path.specs.Names.{parent_of, ancestors_of, file_name_of, stem_of};
 ghost use Rattle.unix_path.specs.Names.{extension_of, Begins, Ends, stripped_of};
 ghost use Rattle.unix_path.specs.Edits.{before_name_of, stem_end_of};
@@ -69,6 +74,8 @@ impl Error for StripPrefixError {}
 
 impl<'a> Path<'a> {
     ghost use Rattle.unix_path.specs.Ancestors.{ancestors_left};
+    ghost use Rattle.std.specs.Iterator.{YieldsFirstBy};
+    ghost use Rattle.unix_path.specs.declared.path.Path.{Path};
 
     /// The path with these bytes. Takes no memory. As Rust's `Path::new`.
     ///
@@ -78,6 +85,29 @@ impl<'a> Path<'a> {
         ensures { result.bytes.now ≡ text.entry.bytes.now }
     {
         Path { bytes: text.bytes }
+    }
+
+    /// The path with these bytes, whatever they are. Does not allocate. Not in Rust's std.
+    ///
+    /// `Path::from_bytes(b"/tmp")` is the path `/tmp`.
+    #[inline]
+    pub fn from_bytes(bytes: &'a [u8]) -> Path<'a>
+        ensures { result.bytes.now ≡ bytes.now }
+    {
+        Path { bytes }
+    }
+
+    /// The path with the bytes of the text, in UTF-8. Does not allocate. As Rust's `Path::new` of a
+    /// `&str`.
+    ///
+    /// `Path::from_text("/tmp")` is the path `/tmp`.
+    #[inline]
+    pub fn from_text(text: &'a str) -> Path<'a>
+        ensures { result.bytes.now ≡ text.now }
+    {
+        Path {
+            bytes: text.as_bytes(),
+        }
     }
 
     /// All bytes of the path. Takes no memory. As Rust's `Path::as_os_str`.
@@ -136,6 +166,12 @@ impl<'a> Path<'a> {
     pub fn components(&self) -> Components<'a>
         ensures rest { cursor_rest result ≡ rest self.now.bytes.now 0 0 }
         ensures place { LiesIn (cursor_source result) self.now.bytes }
+        ensures values { cursor_values result ≡ values self.now.bytes.now }
+        ensures len { length (cursor_values result) < 2 ^ 64 }
+        ensures runs { EveryRun (GivesFirst value_of cursor_values cursor_rest cursor_source)
+            (λ run. ItemsMapTo run value_of (cursor_values run.from)) }
+        ensures runs_back { EveryRun (GivesLast value_of cursor_values cursor_rest cursor_source)
+            (λ run. ItemsMapToReversed run value_of (cursor_values run.from)) }
     {
         Components::new(self.bytes)
     }
@@ -147,6 +183,14 @@ impl<'a> Path<'a> {
     pub fn iter(&self) -> Iter<'a>
         ensures rest { iter_rest result ≡ rest self.now.bytes.now 0 0 }
         ensures place { LiesIn (iter_source result) self.now.bytes }
+        ensures bytes { iter_bytes result ≡ map value_bytes (values self.now.bytes.now) }
+        ensures len { length (iter_bytes result) < 2 ^ 64 }
+        ensures runs { EveryRun {A = UnixStr}
+            (GivesFirst (λ name. name.bytes.now) iter_bytes iter_rest iter_source)
+            (λ run. ItemsMapTo run (λ name. name.bytes.now) (iter_bytes run.from)) }
+        ensures runs_back { EveryRun {A = UnixStr}
+            (GivesLast (λ name. name.bytes.now) iter_bytes iter_rest iter_source)
+            (λ run. ItemsMapToReversed run (λ name. name.bytes.now) (iter_bytes run.from)) }
     {
         Iter {
             components: self.components(),
@@ -182,9 +226,13 @@ impl<'a> Path<'a> {
     /// That of `../a` gives `../a`, `..` and the empty path.
     #[inline]
     pub fn ancestors(&self) -> Ancestors<'a>
-        ensures { ancestors_left result ≡ ancestors_of self.now.bytes.now }
+        ensures left { ancestors_left result ≡ ancestors_of self.now.bytes.now }
+        ensures len { length (ancestors_left result) < 2 ^ 64 }
+        ensures runs { EveryRun {A = Path} (YieldsFirstBy (λ path. path.bytes.now) ancestors_left)
+            (λ run. ItemsMapTo run (λ path. path.bytes.now) (ancestors_left run.from)) }
     {
-        Ancestors { next: Some(*self) }
+        let path = *self;
+        Ancestors { next: Some(path) }
     }
 
     /// The last part, where it is a name. `None` where there is no part, or the last is the root,
@@ -332,7 +380,16 @@ impl<'a> IntoIterator for Path<'a> {
 
     type IntoIter = Iter<'a>;
 
-    ghost into_iter_gives = { λ path walk. iter_rest walk ≡ rest path.bytes.now 0 0 };
+    ghost into_iter_gives = { λ path walk.
+        (iter_rest walk ≡ rest path.bytes.now 0 0)
+        × (iter_bytes walk ≡ map value_bytes (values path.bytes.now))
+        × (length (iter_bytes walk) < 2 ^ 64)
+        × EveryRun {A = UnixStr}
+        (GivesFirst (λ name. name.bytes.now) iter_bytes iter_rest iter_source)
+        (λ run. ItemsMapTo run (λ name. name.bytes.now) (iter_bytes run.from))
+        × EveryRun {A = UnixStr}
+        (GivesLast (λ name. name.bytes.now) iter_bytes iter_rest iter_source)
+        (λ run. ItemsMapToReversed run (λ name. name.bytes.now) (iter_bytes run.from)) };
 
     #[inline]
     fn into_iter(self) -> Iter<'a> {

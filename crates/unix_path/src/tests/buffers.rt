@@ -4,7 +4,7 @@ use std::test::Fail;
 use unix_bytes::bytes::{UnixStr, UnixString};
 
 fn path(text: &str) -> Path<'_> {
-    Path::new(UnixStr::new(text))
+    Path::from_text(text)
 }
 
 fn assert_bytes(rt: &impl Abort, found: &PathBuf, wanted: &str) {

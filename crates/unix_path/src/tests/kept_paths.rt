@@ -16,7 +16,7 @@ use std::process::Abort;
 use std::test::Fail;
 
 fn path(text: &str) -> Path<'_> {
-    Path::new(UnixStr::new(text))
+    Path::from_text(text)
 }
 
 fn same_boxed(a: &BoxedPath, b: &BoxedPath) -> bool

@@ -18,7 +18,7 @@ use std::hash::{Hash, Hasher};
 use std::test::Fail;
 
 fn path(text: &str) -> Path<'_> {
-    Path::new(UnixStr::new(text))
+    Path::from_text(text)
 }
 
 fn same_names<'a>(a: UnixStr<'a>, b: UnixStr<'a>) -> bool

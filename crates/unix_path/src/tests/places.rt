@@ -6,7 +6,7 @@ use crate::Path;
 use crate::bytes::UnixStr;
 
 fn path(text: &str) -> Path<'_> {
-    Path::new(UnixStr::new(text))
+    Path::from_text(text)
 }
 
 // The grandparent, in the path's own memory.

@@ -8,7 +8,7 @@ use std::alloc::{AllocError, Global};
 use std::test::Fail;
 
 fn path(text: &str) -> Path<'_> {
-    Path::new(UnixStr::new(text))
+    Path::from_text(text)
 }
 
 fn bytes<'a>(answer: Option<Path<'a>>) -> Option<UnixStr<'a>> {
@@ -112,6 +112,21 @@ fn decomposes(row: &Parts) -> bool {
         && p.file_name() == wanted(name)
         && p.file_stem() == wanted(name)
         && p.extension().is_none()
+}
+
+#[test]
+fn views_keep_all_bytes(rt: HostRuntime) {
+    let broken = b"./a//\xff/".as_slice();
+    assert_eq!(rt;
+        Path::from_bytes(broken).as_unix_str(),
+        UnixStr::from_bytes(broken)
+    );
+    assert_eq!(rt; Path::from_bytes(b"").as_unix_str(), UnixStr::new(""));
+    assert_eq!(rt;
+        Path::from_text("./a//b/").as_unix_str(),
+        UnixStr::new("./a//b/")
+    );
+    assert_eq!(rt; Path::from_text("").as_unix_str(), UnixStr::new(""));
 }
 
 #[test]

@@ -3,7 +3,7 @@ use crate::bytes::UnixStr;
 use crate::{Component, Path};
 
 fn path(text: &str) -> Path<'_> {
-    Path::new(UnixStr::new(text))
+    Path::from_text(text)
 }
 
 // A path, how many parts are taken in front and behind, and what is left.

@@ -13,14 +13,14 @@ use Rattle.unix_bytes.proofs.lossy.Utf8LossyDisplay.fmt.Goals as goal
 
 pub returns-in_default-clause-writes : goal.returns-in_default-clause-writes
 returns-in_default-clause-writes g c = λ p q.
-    let chunks = sym c.chunks-chunks.ensures ∙ c.in_default.ensures.steps.0 in
+    let chunks = sym c.chunks-chunks.ensures.left ∙ c.in_default.ensures.steps.0 in
     written_same g.W.Write.write_str_gives _ _ _ _ (nothing_shown c.args.self.now.bytes.now chunks)
     (c.pad.ensures.writes p q)
 
 pub returns-in_default-clause-styled : goal.returns-in_default-clause-styled
 returns-in_default-clause-styled g c = λ p q.
     let s = c.args.self.now.bytes.now in
-    let chunks = sym c.chunks-chunks.ensures ∙ c.in_default.ensures.steps.0 in
+    let chunks = sym c.chunks-chunks.ensures.left ∙ c.in_default.ensures.steps.0 in
     let text = is_text-from_IsText s (nothing_is_text s chunks) in
     styled_same g.W.Write.write_str_gives _ _ _ _
     (ap (padded _) (sym (no_chunk s chunks)) ∙ sym (cond-true _ _ _ text))
@@ -28,7 +28,7 @@ returns-in_default-clause-styled g c = λ p q.
 
 pub returns-then-is_empty-clause-writes : goal.returns-then-is_empty-clause-writes
 returns-then-is_empty-clause-writes g c = λ p q.
-    let chunks = sym c.chunks-chunks.ensures ∙ c.in-Some.ensures.steps in
+    let chunks = sym c.chunks-chunks.ensures.left ∙ c.in-Some.ensures.steps in
     let broken = c.in-Some.first.broken.now in
     let none = nil_from_length broken
     (eqb-true (length broken) 0 (sym c.is_empty.ensures ∙ c.if-is_empty.true)) in
@@ -38,7 +38,7 @@ returns-then-is_empty-clause-writes g c = λ p q.
 pub returns-then-is_empty-clause-styled : goal.returns-then-is_empty-clause-styled
 returns-then-is_empty-clause-styled g c = λ p q.
     let s = c.args.self.now.bytes.now in
-    let chunks = sym c.chunks-chunks.ensures ∙ c.in-Some.ensures.steps in
+    let chunks = sym c.chunks-chunks.ensures.left ∙ c.in-Some.ensures.steps in
     let broken = c.in-Some.first.broken.now in
     let none = nil_from_length broken
     (eqb-true (length broken) 0 (sym c.is_empty.ensures ∙ c.if-is_empty.true)) in
@@ -51,7 +51,7 @@ pub loop-chunk-init : goal.loop-chunk-init
 loop-chunk-init g c =
     let s = c.args.self.now.bytes.now in
     let shown = shown_chunk (chunk_of c.in-Some.first) in
-    let chunks = sym c.chunks-chunks.ensures ∙ c.in-Some.ensures.steps in
+    let chunks = sym c.chunks-chunks.ensures.left ∙ c.in-Some.ensures.steps in
     let all = ap (λ it. shown ++ flat_map shown_chunk (chunks_left it))
     c.into_iter-chunk-iterator.ensures.into_iter_gives ∙ first_shown s _ _ chunks in
     let wrote = c.in_ok-write_chunk.ensures in
@@ -93,7 +93,7 @@ returns-clause-styled g c = λ p q.
     let s = c.args.self.now.bytes.now in
     let (bs, h, e) = c.loop-chunk.invariant.styled p in
     let steps = sym c.in-None.ensures.steps.0 in
-    let chunks = sym c.chunks-chunks.ensures ∙ c.in-Some.ensures.steps in
+    let chunks = sym c.chunks-chunks.ensures.left ∙ c.in-Some.ensures.steps in
     let cut = c.in-Some.first.broken.now in
     let broken = is_text-not s (λ t.
     let none = ap length (text_unbroken s _ _ chunks t) in
