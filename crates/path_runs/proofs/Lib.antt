@@ -23,3 +23,5 @@ pub mod ExtensionLemmas
 pub mod ParentBeforeLemmas
 pub mod AncestorFrontLemmas
 pub mod AlikeLemmas
+pub mod FitLemmas
+pub mod TableLemmas

@@ -37,6 +37,11 @@ abbrev pub SlashAddsValues : Type 0
 SlashAddsValues =
     (a b : List ℕ) → values (a ++ slash ∷ b) ≡ values (a ++ slash ∷ []) ++ unled (values b)
 
+-- what b adds behind a's values: its own, without a leading dot unless a is empty
+abbrev pub values_added : List ℕ → List ℕ → List Value
+values_added [] b = values b
+values_added (x ∷ a) b = undotted (values b)
+
 -- what was stripped of its base, joined to that base, has the values of the path
 abbrev pub StripThenJoin : Type 0
 StripThenJoin =

@@ -9,3 +9,4 @@ pub mod JoinLaws
 pub mod EditLaws
 pub mod QueryLaws
 pub mod AlikeLaws
+pub mod TableLaws

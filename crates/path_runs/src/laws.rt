@@ -5,12 +5,16 @@ mod order;
 mod parts;
 mod queries;
 mod spelling;
+mod tables;
 mod text;
+mod walks;
 
 pub use edits::{edits_congruent, extension_set, push_then_pop};
-pub use joins::{join_associative, join_values, strip_then_join};
+pub use joins::{join_associative, join_starts_with, join_values, strip_then_join};
 pub use order::{order_total, prefix_both_ways};
-pub use parts::{no_part_no_byte, rest_reads_again};
+pub use parts::{no_part_no_byte, parts_fit, rest_reads_again};
 pub use queries::{ancestors_step, name_rejoined, parent_before, queries_congruent};
 pub use spelling::canonical_form;
+pub use tables::{insert_by_values, lookup_by_values, remove_by_values};
 pub use text::lossy_of_text;
+pub use walks::walks_in_order;

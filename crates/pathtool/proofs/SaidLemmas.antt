@@ -53,17 +53,17 @@ adds_ends r new old is_so path child d h = adds r new old
     (ends_with-Decides (values path) (values child)))) h
 
 -- what is left of a path whose first parts are those of the base
-pub adds_stripped : {T E : Type 0} (r : Result T E) (new old path base left found : List ℕ)
+pub adds_rest : {T E : Type 0} (r : Result T E) (new old path base left found : List ℕ)
     → Begins (values base) (values path) → left ≡ stripped_of path base → found ≡ left
     → OnOk r (new ≡ old ++ optional (Some found)) → OnOk r (new ≡ old ++ strip_answer path base)
-adds_stripped r new old path base left found starts e is h =
+adds_rest r new old path base left found starts e is h =
     adds r new old (strip_answer-ok path base found starts (is ∙ e)) h
 
 -- the first parts of the path aren't those of the base
-pub adds_unstripped : {T E : Type 0} (r : Result T E) (new old path base : List ℕ)
+pub adds_other : {T E : Type 0} (r : Result T E) (new old path base : List ℕ)
     → (Begins (values base) (values path) → ⊥) → OnOk r (new ≡ old ++ codes "prefix not found")
     → OnOk r (new ≡ old ++ strip_answer path base)
-adds_unstripped r new old path base h said =
+adds_other r new old path base h said =
     adds r new old (strip_answer-refused path base h) said
 
 -- the text of a path that is text

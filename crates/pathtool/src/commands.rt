@@ -129,7 +129,7 @@ fn push_extension(path: Path<'_>, answer: &mut Vec<u8>) -> Result<(), AllocError
 }
 
 // What follows the base.
-#[tactic(auto, using(crate::proofs::SaidLemmas::adds_stripped, crate::proofs::SaidLemmas::adds_unstripped))]
+#[tactic(auto, using(crate::proofs::SaidLemmas::adds_rest, crate::proofs::SaidLemmas::adds_other))]
 fn push_stripped(path: Path<'_>, base: Path<'_>, answer: &mut Vec<u8>) -> Result<(), AllocError>
     ensures { OnOk result (answer.new.items ≡ answer.old.items
         ++ strip_answer path.entry.bytes.now base.entry.bytes.now) }

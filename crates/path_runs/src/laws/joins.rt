@@ -1,6 +1,11 @@
 //! Laws of joins.
 ghost use Rattle.path_runs.specs.JoinLaws.{JoinsAssociate, EmptyJoins, JoinsEmpty};
 ghost use Rattle.path_runs.specs.JoinLaws.{JoinAddsValues, SlashAddsValues, StripThenJoin};
+ghost use Rattle.path_runs.specs.JoinLaws.{values_added};
+ghost use Rattle.std.specs.Prelude.{◌≡◌, ◌++◌, ℕ, List, false};
+ghost use Rattle.unix_path.specs.Joins.{join_of};
+ghost use Rattle.unix_path.specs.Names.{Begins};
+ghost use Rattle.unix_path.specs.Parts.{is_rooted, values};
 
 /// Joins are associative, byte for byte, and the empty path joined with any path is that path.
 ///
@@ -24,6 +29,18 @@ pub fn join_associative()
 pub fn join_values()
     ensures join { JoinAddsValues }
     ensures slash { SlashAddsValues }
+{}
+
+/// What a path and a rootless one join to starts with the path.
+///
+/// That holds of the empty path too. Calling it does nothing. Own.
+///
+/// `/srv` joined with `./a` is `/srv/./a`, which starts with `/srv`.
+pub fn join_starts_with()
+    ensures begins { (a b : List ℕ) → is_rooted b ≡ false
+        → Begins (values a) (values (join_of a b)) }
+    ensures values { (a b : List ℕ) → is_rooted b ≡ false
+        → values (join_of a b) ≡ values a ++ values_added a b }
 {}
 
 /// What was stripped of its base, joined to that base, is the path again.

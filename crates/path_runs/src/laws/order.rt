@@ -1,7 +1,10 @@
 //! Laws of the order.
+ghost use Rattle.std.specs.Prelude.{◌≡◌, ◌↔◌, List};
 ghost use Rattle.std.specs.Cmp.{IsTotalOrder};
+ghost use Rattle.std.specs.declared.cmp.Ordering.TheVariants.{Equal};
+ghost use Rattle.unix_path.specs.Parts.{Value};
 ghost use Rattle.unix_path.specs.Order.{values_cmp};
-ghost use Rattle.path_runs.specs.OrderLaws.{TiesAreEqual, PrefixBothWays};
+ghost use Rattle.path_runs.specs.OrderLaws.{PrefixBothWays};
 
 /// The order of lists of values is total, and only equal lists tie in it.
 ///
@@ -11,7 +14,7 @@ ghost use Rattle.path_runs.specs.OrderLaws.{TiesAreEqual, PrefixBothWays};
 /// `a` is less than `a/b`, and that than `b`; so `a` is less than `b`.
 pub fn order_total()
     ensures total { IsTotalOrder values_cmp }
-    ensures equal { TiesAreEqual }
+    ensures equal { (v w : List Value) → (values_cmp v w ≡ Equal) ↔ (v ≡ w) }
 {}
 
 /// Two lists of values that begin each other are equal.

@@ -1,9 +1,10 @@
-//! What a caller can prove of chains and loops over a path's parts, from both ends.
+//! What a caller can prove of chains and loops over a walk that was passed in.
 ghost use Rattle.std.specs.Prelude.{◌≡◌, IfOk, length, map, reverse};
 ghost use Rattle.unix_path.specs.Cursor.{cursor_values, iter_bytes};
 ghost use Rattle.unix_path.specs.Parts.{value_bytes};
 ghost use Rattle.unix_path.specs.Views.{value_of};
 
+use crate::laws;
 use std::alloc::{AllocError, Global};
 use std::test::Fail;
 use unix_path::bytes::UnixStr;
@@ -12,12 +13,14 @@ use unix_path::{Component, Components, Iter, Path};
 fn listed<'a>(alloc: Global, parts: Components<'a>) -> Result<Vec<Component<'a>>, AllocError>
     ensures { IfOk result (λ list. map value_of list.items ≡ cursor_values parts.entry) }
 {
+    laws::walks_in_order();
     parts.collect(alloc)
 }
 
 fn listed_back<'a>(alloc: Global, parts: Components<'a>) -> Result<Vec<Component<'a>>, AllocError>
     ensures { IfOk result (λ list. map value_of list.items ≡ reverse (cursor_values parts.entry)) }
 {
+    laws::walks_in_order();
     parts.rev().collect(alloc)
 }
 
@@ -25,6 +28,7 @@ fn lengths(alloc: Global, parts: Components<'_>) -> Result<Vec<usize>, AllocErro
     ensures { IfOk result (λ list. list.items ≡
         map (λ v. length (value_bytes v)) (cursor_values parts.entry)) }
 {
+    laws::walks_in_order();
     parts.map(|part| part.as_unix_str().len()).collect(alloc)
 }
 
@@ -32,6 +36,7 @@ fn lengths_back(alloc: Global, parts: Components<'_>) -> Result<Vec<usize>, Allo
     ensures { IfOk result (λ list. list.items ≡
         map (λ v. length (value_bytes v)) (reverse (cursor_values parts.entry))) }
 {
+    laws::walks_in_order();
     parts
         .rev()
         .map(|part| part.as_unix_str().len())
@@ -51,6 +56,7 @@ fn pushed<'a>(alloc: Global, parts: Components<'a>) -> Result<Vec<Component<'a>>
 fn count(parts: Components<'_>) -> usize
     ensures { result ≡ length (cursor_values parts.entry) }
 {
+    laws::walks_in_order();
     parts.count()
 }
 
@@ -58,6 +64,7 @@ fn names<'a>(alloc: Global, parts: Iter<'a>) -> Result<Vec<UnixStr<'a>>, AllocEr
     ensures { IfOk result (λ list. map (λ name. name.bytes.now) list.items ≡
         iter_bytes parts.entry) }
 {
+    laws::walks_in_order();
     parts.collect(alloc)
 }
 
@@ -65,6 +72,7 @@ fn names_back<'a>(alloc: Global, parts: Iter<'a>) -> Result<Vec<UnixStr<'a>>, Al
     ensures { IfOk result (λ list. map (λ name. name.bytes.now) list.items ≡
         reverse (iter_bytes parts.entry)) }
 {
+    laws::walks_in_order();
     parts.rev().collect(alloc)
 }
 

@@ -15,6 +15,6 @@ returns c =
     (adds_list c.push_list.result _ _
     (YieldsList-from_map_by _ name_bytes (λ bytes. bytes)
     (YieldsList-at c.map.ensures.source
-    (YieldsList-from_first (λ path. path.bytes.now) ancestors_left all c.ancestors.ensures))
+    (YieldsList-from_first (λ path. path.bytes.now) ancestors_left all c.ancestors.ensures.left))
     c.map.ensures.closure (λ x r q k. search (rules, tests)))
     c.push_list.ensures)

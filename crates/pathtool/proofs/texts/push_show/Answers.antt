@@ -10,5 +10,5 @@ loop-chunk-init c =
     ap (λ said. c.args.answer.now.items ++ said)
     (ap (λ it. flat_map shown_chunk (chunks_left it))
     c.into_iter-chunk-iterator.ensures.into_iter_gives
-    ∙ ap (flat_map shown_chunk) (c.chunks-chunk-items.ensures ∙ ap chunks_of bytes)
+    ∙ ap (flat_map shown_chunk) (c.chunks-chunk-items.ensures.left ∙ ap chunks_of bytes)
     ∙ shown-chunks_of c.args.path.bytes.now)

@@ -8,5 +8,8 @@ values-none : (s : List ℕ) → values s ≡ [] → s ≡ []
 values-none [] none = refl
 values-none (b ∷ s) none = let some = some_values (b ∷ s) (omega arith) in cc (some.2)
 
-pub returns : goal.returns
-returns c = λ s. (values-none s, λ e. ap values e ∙ values-nil)
+pub returns-clause-exactly : goal.returns-clause-exactly
+returns-clause-exactly c = λ s. (values-none s, λ e. ap values e ∙ values-nil)
+
+pub returns-clause-empty : goal.returns-clause-empty
+returns-clause-empty c = values-nil

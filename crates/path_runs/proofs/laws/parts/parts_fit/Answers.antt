@@ -1,0 +1,12 @@
+use Rattle.unix_path.proofs.RestLemmas.{length-values}
+use Rattle.path_runs.proofs.FitLemmas.{byte_count-values, sum_by-names}
+use Rattle.path_runs.proofs.laws.parts.parts_fit.Goals as goal
+
+pub returns-clause-count : goal.returns-clause-count
+returns-clause-count c = length-values
+
+pub returns-clause-bytes : goal.returns-clause-bytes
+returns-clause-bytes c = byte_count-values
+
+pub returns-clause-names : goal.returns-clause-names
+returns-clause-names c = sum_by-names

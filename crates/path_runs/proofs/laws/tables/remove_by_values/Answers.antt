@@ -1,0 +1,10 @@
+use Rattle.unix_path.specs.Buffers.{path_bytes}
+use Rattle.path_runs.specs.TableLaws.{view_bytes}
+use Rattle.path_runs.proofs.TableLemmas.{remove-rows_of}
+use Rattle.path_runs.proofs.laws.tables.remove_by_values.Goals as goal
+
+pub returns-clause-owned : goal.returns-clause-owned
+returns-clause-owned g c = remove-rows_of path_bytes
+
+pub returns-clause-view : goal.returns-clause-view
+returns-clause-view g c = remove-rows_of view_bytes

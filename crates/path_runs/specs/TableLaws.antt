@@ -1,0 +1,38 @@
+-- Laws of tables with paths as keys: each is a table by values (Rust's `BTreeMap`).
+use Rattle.std.specs.Prelude.{◌≡◌, ℕ, List, map}
+use Rattle.std.specs.BTreeMap.{insert_entry, is_at}
+use Rattle.std.specs.Map.{lookup, remove_entry}
+use Rattle.std.specs.Ordering.{on}
+use Rattle.unix_path.specs.Parts.{Value, values}
+use Rattle.unix_path.specs.Order.{values_cmp}
+use Rattle.unix_path.specs.declared.path.Path.{Path}
+
+-- the bytes of a view
+abbrev pub view_bytes : Path → List ℕ
+view_bytes path = path.bytes.now
+
+-- the entries, with the values of each key in its place
+abbrev pub rows_of : {K V : Type 0} → (K → List ℕ) → List (K × V) → List (List Value × V)
+rows_of bytes_of entries = map (λ e. (values (bytes_of e.0), e.1)) entries
+
+-- what is looked up by a path is what stands in the rows at its values
+abbrev pub LookupByValues : {K : Type 0} → (K → List ℕ) → Type 0 → Type 0
+LookupByValues {K} bytes_of V =
+    (w : List Value) (entries : List (K × V))
+    → lookup (is_at (λ k. values_cmp w (values (bytes_of k)))) entries
+    ≡ lookup (is_at (values_cmp w)) (rows_of bytes_of entries)
+
+-- putting in by a path is putting into the rows at its values
+abbrev pub InsertByValues : {K : Type 0} → (K → List ℕ) → Type 0 → Type 0
+InsertByValues {K} bytes_of V =
+    (entries : List (K × V)) (key : K) (value : V)
+    → rows_of bytes_of
+    (insert_entry (on (λ k. values (bytes_of k)) values_cmp) entries key value)
+    ≡ insert_entry values_cmp (rows_of bytes_of entries) (values (bytes_of key)) value
+
+-- taking out by a path is taking out of the rows at its values
+abbrev pub RemoveByValues : {K : Type 0} → (K → List ℕ) → Type 0 → Type 0
+RemoveByValues {K} bytes_of V =
+    (w : List Value) (entries : List (K × V))
+    → rows_of bytes_of (remove_entry (is_at (λ k. values_cmp w (values (bytes_of k)))) entries)
+    ≡ remove_entry (is_at (values_cmp w)) (rows_of bytes_of entries)

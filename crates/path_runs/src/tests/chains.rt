@@ -1,0 +1,269 @@
+//! What a caller can prove of chains over a path's parts, names and ancestors.
+ghost use Rattle.std.specs.Prelude.{◌≡◌, ◌≢◌, ◌↔◌, ◌<◌, ◌≤◌, ◌+◌, ◌-◌, ℕ, IfNone, IfOk, IfSome};
+ghost use Rattle.std.specs.Prelude.{IsSome, IsTrue, Some, count_by, drop, is_some, length, map};
+ghost use Rattle.std.specs.Prelude.{option_map, reverse, slice_get, slice_index_or, take};
+ghost use Rattle.std.specs.List.{All, Any};
+ghost use Rattle.unix_path.specs.Buffers.{path_bytes};
+ghost use Rattle.unix_path.specs.Names.{ancestors_of, name_of};
+ghost use Rattle.unix_path.specs.Parts.{Value, ParentDir, value_bytes, values};
+ghost use Rattle.unix_path.specs.Views.{value_of};
+
+use std::alloc::{AllocError, Global};
+use std::test::Fail;
+use unix_path::bytes::UnixStr;
+use unix_path::{Component, Path, PathBuf};
+
+fn is_name(part: Component<'_>) -> bool
+    ensures { result ≡ is_some (name_of (value_of part.entry)) }
+{
+    matches!(part, Component::Normal(_))
+}
+
+fn count(path: Path<'_>) -> usize
+    ensures { result ≡ length (values path.entry.bytes.now) }
+{
+    path.components().count()
+}
+
+fn nth<'a>(path: Path<'a>, n: usize) -> Option<Component<'a>>
+    ensures { option_map value_of result ≡ slice_get (values path.entry.bytes.now) n }
+{
+    path.components().nth(n)
+}
+
+fn last<'a>(path: Path<'a>) -> Option<Component<'a>>
+    ensures { let all = values path.entry.bytes.now in
+        option_map value_of result ≡ slice_get all (length all - 1) }
+{
+    path.components().last()
+}
+
+fn listed<'a>(alloc: Global, path: Path<'a>) -> Result<Vec<Component<'a>>, AllocError>
+    ensures { IfOk result (λ list. map value_of list.items ≡ values path.entry.bytes.now) }
+{
+    path.components().collect(alloc)
+}
+
+fn listed_back<'a>(alloc: Global, path: Path<'a>) -> Result<Vec<Component<'a>>, AllocError>
+    ensures { IfOk result (λ list. map value_of list.items
+        ≡ reverse (values path.entry.bytes.now)) }
+{
+    path.components().rev().collect(alloc)
+}
+
+// The walk after its first step.
+fn after_first<'a>(alloc: Global, path: Path<'a>) -> Result<Vec<Component<'a>>, AllocError>
+    ensures { IfOk result (λ list. map value_of list.items
+        ≡ drop 1 (values path.entry.bytes.now)) }
+{
+    let mut parts = path.components();
+    let _first = parts.next();
+    parts.collect(alloc)
+}
+
+fn all_but_first<'a>(alloc: Global, path: Path<'a>) -> Result<Vec<Component<'a>>, AllocError>
+    ensures { IfOk result (λ list. map value_of list.items
+        ≡ drop 1 (values path.entry.bytes.now)) }
+{
+    path.components().skip(1).collect(alloc)
+}
+
+fn skipped<'a>(alloc: Global, path: Path<'a>, n: usize) -> Result<Vec<Component<'a>>, AllocError>
+    ensures len { IfOk result (λ list.
+        length list.items ≡ length (values path.entry.bytes.now) - n) }
+    ensures parts { IfOk result (λ list. (k : ℕ) → option_map value_of (slice_get list.items k)
+        ≡ slice_get (values path.entry.bytes.now) (n + k)) }
+{
+    path.components().skip(n).collect(alloc)
+}
+
+fn lengths_back(alloc: Global, path: Path<'_>) -> Result<Vec<usize>, AllocError>
+    ensures { IfOk result (λ list. list.items
+        ≡ map (λ v. length (value_bytes v)) (reverse (values path.entry.bytes.now))) }
+{
+    path.components()
+        .rev()
+        .map(|part| part.as_unix_str().len())
+        .collect(alloc)
+}
+
+fn numbered<'a>(path: Path<'a>, n: usize) -> Option<(usize, Component<'a>)>
+    ensures number { IfSome result (λ x. x.0 ≡ n) }
+    ensures part { option_map (λ x. value_of x.1) result
+        ≡ slice_get (values path.entry.bytes.now) n }
+{
+    path.components().enumerate().nth(n)
+}
+
+fn shared_len(a: Path<'_>, b: Path<'_>) -> usize
+    ensures first { result ≤ length (values a.entry.bytes.now) }
+    ensures second { result ≤ length (values b.entry.bytes.now) }
+    ensures same { (k : ℕ) (d : Value) → k < result →
+        slice_index_or (values a.entry.bytes.now) k d
+        ≡ slice_index_or (values b.entry.bytes.now) k d }
+{
+    a.components()
+        .zip(b.components())
+        .take_while(|(x, y)| x == y)
+        .count()
+}
+
+fn all_names(path: Path<'_>) -> bool
+    ensures { IsTrue result
+        ↔ All (λ v. IsTrue (is_some (name_of v))) (values path.entry.bytes.now) }
+{
+    path.components().all(|part| is_name(part))
+}
+
+fn goes_up(path: Path<'_>) -> bool
+    ensures { IsTrue result ↔ Any (λ v. v ≡ ParentDir) (values path.entry.bytes.now) }
+{
+    path.components().any(|part| part == Component::ParentDir)
+}
+
+fn count_names(path: Path<'_>) -> usize
+    ensures { result
+        ≡ count_by (λ v. is_some (name_of v)) (values path.entry.bytes.now) }
+{
+    path.components().filter(|part| is_name(*part)).count()
+}
+
+fn names<'a>(alloc: Global, path: Path<'a>) -> Result<Vec<Component<'a>>, AllocError>
+    ensures names { IfOk result (λ list.
+        All (λ part. IsTrue (is_some (name_of (value_of part)))) list.items) }
+    ensures len { IfOk result (λ list. length list.items
+        ≡ count_by (λ v. is_some (name_of v)) (values path.entry.bytes.now)) }
+{
+    path.components()
+        .filter(|part| is_name(*part))
+        .collect(alloc)
+}
+
+fn first_up<'a>(path: Path<'a>) -> Option<Component<'a>>
+    ensures some { IsSome result ↔ Any (λ v. v ≡ ParentDir) (values path.entry.bytes.now) }
+    ensures part { IfSome result (λ part. value_of part ≡ ParentDir) }
+{
+    path.components().find(|part| *part == Component::ParentDir)
+}
+
+fn place_up(path: Path<'_>) -> Option<usize>
+    ensures none { IfNone result (All (λ v. v ≢ ParentDir) (values path.entry.bytes.now)) }
+    ensures there { IfSome result (λ i.
+        slice_get (values path.entry.bytes.now) i ≡ Some ParentDir) }
+    ensures first { IfSome result (λ i.
+        All (λ v. v ≢ ParentDir) (take i (values path.entry.bytes.now))) }
+{
+    path.components()
+        .position(|part| part == Component::ParentDir)
+}
+
+fn count_bytes(path: Path<'_>) -> usize
+    ensures { result ≡ length (values path.entry.bytes.now) }
+{
+    path.iter().count()
+}
+
+fn bytes_back<'a>(alloc: Global, path: Path<'a>) -> Result<Vec<UnixStr<'a>>, AllocError>
+    ensures { IfOk result (λ list. map (λ name. name.bytes.now) list.items
+        ≡ reverse (map value_bytes (values path.entry.bytes.now))) }
+{
+    path.iter().rev().collect(alloc)
+}
+
+fn nth_bytes<'a>(path: Path<'a>, n: usize) -> Option<UnixStr<'a>>
+    ensures { option_map (λ name. name.bytes.now) result
+        ≡ slice_get (map value_bytes (values path.entry.bytes.now)) n }
+{
+    path.into_iter().nth(n)
+}
+
+fn last_of_buffer<'a>(path: &'a PathBuf) -> Option<UnixStr<'a>>
+    ensures { let all = map value_bytes (values (path_bytes path.now)) in
+        option_map (λ name. name.bytes.now) result ≡ slice_get all (length all - 1) }
+{
+    path.into_iter().last()
+}
+
+fn count_ancestors(path: Path<'_>) -> usize
+    ensures { result ≡ length (ancestors_of path.entry.bytes.now) }
+{
+    path.ancestors().count()
+}
+
+fn parents<'a>(alloc: Global, path: Path<'a>) -> Result<Vec<Path<'a>>, AllocError>
+    ensures { IfOk result (λ list. map (λ parent. parent.bytes.now) list.items
+        ≡ drop 1 (ancestors_of path.entry.bytes.now)) }
+{
+    path.ancestors().skip(1).collect(alloc)
+}
+
+fn nth_ancestor<'a>(path: Path<'a>, n: usize) -> Option<(usize, Path<'a>)>
+    ensures { option_map (λ x. x.1.bytes.now) result
+        ≡ slice_get (ancestors_of path.entry.bytes.now) n }
+{
+    path.ancestors().enumerate().nth(n)
+}
+
+fn path(text: &str) -> Path<'_> {
+    Path::from_text(text)
+}
+
+fn name(text: &str) -> Component<'_> {
+    Component::Normal(UnixStr::new(text))
+}
+
+#[test]
+fn numbers_of_parts(rt: HostRuntime) {
+    let long = path("/a/../b//c/.");
+    assert_eq!(rt; count(long), 5);
+    assert_eq!(rt; count(path("")), 0);
+    assert_eq!(rt; nth(long, 3), Some(name("b")));
+    assert_eq!(rt; nth(long, 5), None);
+    assert_eq!(rt; last(long), Some(name("c")));
+    assert_eq!(rt; numbered(long, 2), Some((2, Component::ParentDir)));
+    assert_eq!(rt; shared_len(long, path("/a/./../c")), 3);
+    assert_eq!(rt; count_names(long), 3);
+    assert_eq!(rt; first_up(long), Some(Component::ParentDir));
+    assert_eq!(rt; place_up(long), Some(2));
+    assert_eq!(rt; place_up(path("a/b")), None);
+    assert!(rt; goes_up(long));
+    assert!(rt; !goes_up(path("a/..b")));
+    assert!(rt; all_names(path("a/b")));
+    assert!(rt; !all_names(path("./a")));
+    assert_eq!(rt; count_bytes(long), 5);
+    assert_eq!(rt; nth_bytes(long, 0), Some(UnixStr::new("/")));
+    assert_eq!(rt; count_ancestors(path("../a")), 3);
+}
+
+#[test]
+fn lists_of_parts(rt: HostRuntime) -> Result<(), Fail> {
+    let alloc = rt.alloc();
+    let short = path("./a//bc/");
+    let all = [Component::CurDir, name("a"), name("bc")];
+    let back = [name("bc"), name("a"), Component::CurDir];
+    let later = [name("a"), name("bc")];
+    assert_eq!(rt; listed(alloc, short)?.as_slice(), all.as_slice());
+    assert_eq!(rt; listed_back(alloc, short)?.as_slice(), back.as_slice());
+    assert_eq!(rt; after_first(alloc, short)?.as_slice(), later.as_slice());
+    assert_eq!(rt; all_but_first(alloc, short)?.as_slice(), later.as_slice());
+    assert_eq!(rt; skipped(alloc, short, 1)?.as_slice(), later.as_slice());
+    assert_eq!(rt; names(alloc, short)?.as_slice(), later.as_slice());
+    assert_eq!(rt;
+        lengths_back(alloc, short)?.as_slice(),
+        [2, 1, 1].as_slice()
+    );
+    let texts = [UnixStr::new("bc"), UnixStr::new("a"), UnixStr::new(".")];
+    assert_eq!(rt; bytes_back(alloc, short)?.as_slice(), texts.as_slice());
+    Ok(())
+}
+
+#[test]
+fn buffers_and_parents(rt: HostRuntime) -> Result<(), Fail> {
+    let alloc = rt.alloc();
+    let buffer = PathBuf::from_text(alloc, "/a/b/")?;
+    assert_eq!(rt; last_of_buffer(&buffer), Some(UnixStr::new("b")));
+    let list = parents(alloc, buffer.as_path())?;
+    assert_eq!(rt; list.as_slice(), [path("/a"), path("/")].as_slice());
+    assert_eq!(rt; nth_ancestor(buffer.as_path(), 2), Some((2, path("/"))));
+    Ok(())
+}

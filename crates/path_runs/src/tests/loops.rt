@@ -1,0 +1,87 @@
+//! What a caller can prove of loops over a path's parts, by their invariants alone.
+ghost use Rattle.std.specs.Prelude.{◌≡◌, IfOk, is_some, map, reverse, filter};
+ghost use Rattle.std.specs.List.{position_or_len};
+ghost use Rattle.unix_path.specs.Names.{name_of};
+ghost use Rattle.unix_path.specs.Parts.{value_bytes, values};
+ghost use Rattle.unix_path.specs.Views.{value_of};
+
+use std::alloc::{AllocError, Global};
+use std::test::Fail;
+use unix_path::bytes::UnixStr;
+use unix_path::{Component, Path};
+
+fn is_name(part: Component<'_>) -> bool
+    ensures { result ≡ is_some (name_of (value_of part.entry)) }
+{
+    matches!(part, Component::Normal(_))
+}
+
+fn first_name(path: Path<'_>) -> usize
+    ensures { result
+        ≡ position_or_len (λ v. is_some (name_of v)) (values path.entry.bytes.now) }
+{
+    let mut n = 0;
+    for part in path.components() {
+        if is_name(part) {
+            return n;
+        }
+        n += 1;
+    }
+    n
+}
+
+fn pushed_back<'a>(alloc: Global, path: Path<'a>) -> Result<Vec<UnixStr<'a>>, AllocError>
+    ensures { IfOk result (λ list. map (λ name. name.bytes.now) list.items
+        ≡ map value_bytes (reverse (values path.entry.bytes.now))) }
+{
+    let mut list = Vec::new(alloc);
+    for part in path.components().rev() {
+        list.push(part.as_unix_str())?;
+    }
+    Ok(list)
+}
+
+fn pushed_names<'a>(alloc: Global, path: Path<'a>) -> Result<Vec<Component<'a>>, AllocError>
+    ensures { IfOk result (λ list. map value_of list.items
+        ≡ filter (λ v. is_some (name_of v)) (values path.entry.bytes.now)) }
+{
+    let mut list = Vec::new(alloc);
+    for part in path.components() {
+        if is_name(part) {
+            list.push(part)?;
+        }
+    }
+    Ok(list)
+}
+
+fn pushed<'a>(alloc: Global, path: Path<'a>) -> Result<Vec<UnixStr<'a>>, AllocError>
+    ensures { IfOk result (λ list. map (λ name. name.bytes.now) list.items
+        ≡ map value_bytes (values path.entry.bytes.now)) }
+{
+    let mut list = Vec::new(alloc);
+    for name in path {
+        list.push(name)?;
+    }
+    Ok(list)
+}
+
+#[test]
+fn loops_over_parts(rt: HostRuntime) -> Result<(), Fail> {
+    let alloc = rt.alloc();
+    let path = Path::new(UnixStr::new("./../a//b/"));
+    let a = UnixStr::new("a");
+    let b = UnixStr::new("b");
+    let dot = UnixStr::new(".");
+    let up = UnixStr::new("..");
+    assert_eq!(rt; first_name(path), 2);
+    assert_eq!(rt;
+        pushed_back(alloc, path)?.as_slice(),
+        [b, a, up, dot].as_slice()
+    );
+    assert_eq!(rt;
+        pushed_names(alloc, path)?.as_slice(),
+        [Component::Normal(a), Component::Normal(b)].as_slice()
+    );
+    assert_eq!(rt; pushed(alloc, path)?.as_slice(), [dot, up, a, b].as_slice());
+    Ok(())
+}
