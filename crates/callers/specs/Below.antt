@@ -1,0 +1,10 @@
+-- Which paths stay below whatever they are joined to. Own.
+use Rattle.std.specs.Prelude.{◌≢◌, List, [], ◌∷◌}
+use Rattle.std.specs.List.{All}
+use Rattle.unix_path.specs.Names.{Begins}
+use Rattle.unix_path.specs.Parts.{Value, RootDir, ParentDir}
+
+-- the root doesn't begin them, and none is `..`
+pub record StaysBelow (vs : List Value) : Type 0 where
+  pub rootless : Begins (RootDir ∷ []) vs → ⊥
+  pub no_parent : All (λ v. v ≢ ParentDir) vs

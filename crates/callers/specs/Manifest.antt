@@ -1,0 +1,22 @@
+-- Manifests: paths in canonical form and in order. Own.
+use Rattle.std.specs.Prelude.{◌≡◌, Bool}
+use Rattle.std.specs.Ordering.{is_eq}
+use Rattle.std.specs.declared.cmp.Ordering.{Ordering}
+use Rattle.unix_path.specs.Buffers.{path_bytes}
+use Rattle.unix_path.specs.Order.{values_cmp}
+use Rattle.unix_path.specs.Parts.{values}
+use Rattle.unix_path.specs.declared.buf.PathBuf.{PathBuf}
+use Rattle.unix_path.specs.declared.path.Path.{Path}
+use Rattle.path_runs.specs.Spelling.{spelling_of}
+
+-- what `cmp` of two owned paths answers
+abbrev pub paths_cmp : PathBuf → PathBuf → Ordering
+paths_cmp p q = values_cmp (values (path_bytes p)) (values (path_bytes q))
+
+-- a view is equal to the owned path p
+abbrev pub is_same : PathBuf → Path → Bool
+is_same p path = is_eq (values_cmp (values path.bytes.now) (values (path_bytes p)))
+
+-- it is the one shortest path with its values
+abbrev pub IsCanonical : PathBuf → Type 0
+IsCanonical p = path_bytes p ≡ spelling_of (values (path_bytes p))

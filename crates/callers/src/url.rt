@@ -1,0 +1,42 @@
+//! The paths of URLs, mapped to files below a document root.
+ghost use Rattle.std.specs.Prelude.{◌≡◌, ◌↔◌, IfOk, IfSome, IsSome, drop, length};
+ghost use Rattle.unix_path.specs.Buffers.{path_bytes};
+ghost use Rattle.unix_path.specs.Joins.{join_of};
+ghost use Rattle.unix_path.specs.Names.{Begins, stripped_of};
+ghost use Rattle.unix_path.specs.Parts.{values};
+ghost use Rattle.callers.specs.Below.{StaysBelow};
+
+use crate::safe::safe_join;
+use path_runs::laws;
+use std::alloc::{AllocError, Global};
+use unix_path::{Path, PathBuf};
+
+/// The file that a URL's path names: what follows the prefix, below the document root.
+///
+/// `None` where the prefix doesn't begin the path, or what follows it has a `..` or, under an empty
+/// prefix, a root. Memory is taken for the join alone.
+///
+/// With the prefix `/static` and the root `/srv/www`, `/static/css/a.css` is
+/// `/srv/www/css/a.css`.
+pub fn map_url(
+    alloc: Global,
+    prefix: Path<'_>,
+    document_root: Path<'_>,
+    url: Path<'_>,
+) -> Result<Option<PathBuf>, AllocError>
+    ensures some { let skipped = length (values prefix.entry.bytes.now) in
+        IfOk result (λ found. IsSome found
+        ↔ (Begins (values prefix.entry.bytes.now) (values url.entry.bytes.now)
+        × StaysBelow (drop skipped (values url.entry.bytes.now)))) }
+    ensures bytes { let left = stripped_of url.entry.bytes.now prefix.entry.bytes.now in
+        IfOk result (λ found. IfSome found (λ p.
+        path_bytes p ≡ join_of document_root.entry.bytes.now left)) }
+    ensures below { IfOk result (λ found. IfSome found (λ p.
+        Begins (values document_root.entry.bytes.now) (values (path_bytes p)))) }
+{
+    let Ok(left) = url.strip_prefix(prefix) else {
+        return Ok(None);
+    };
+    laws::rest_reads_again();
+    safe_join(alloc, document_root, left)
+}
