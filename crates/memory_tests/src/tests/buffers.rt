@@ -4,7 +4,7 @@ use unix_path::bytes::{LossyText, UnixStr, UnixString};
 use unix_path::{BoxedPath, CowPath, Path, PathBuf, RcPath};
 
 fn path(text: &str) -> Path<'_> {
-    Path::new(UnixStr::new(text))
+    Path::from_text(text)
 }
 
 #[test]

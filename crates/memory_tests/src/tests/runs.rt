@@ -7,7 +7,7 @@ use unix_path::bytes::UnixStr;
 use unix_path::{Path, PathBuf};
 
 fn path(text: &str) -> Path<'_> {
-    Path::new(UnixStr::new(text))
+    Path::from_text(text)
 }
 
 #[test]
