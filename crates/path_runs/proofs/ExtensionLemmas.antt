@@ -107,7 +107,8 @@ some_name s e = by (file_name_of (values s)) refl e
 
 -- what a path is after it took an extension
 taken : (s x t : List ℕ) → TakesExtension s x t
-    → (name : List ℕ) × (file_name_of (values s) ≡ Some name) × NewExtension s t (split_name name).0 x
+    → (name : List ℕ) × (file_name_of (values s) ≡ Some name)
+    × NewExtension s t (split_name name).0 x
 taken s x t h =
     let name = some_name s (ap (λ p. p.1) h.1) in (
       name.0,

@@ -41,5 +41,6 @@ HasApplied-more s es i d t u answers a h l bytes answer =
           ∙ sym (ap (left_of s) more ∙ left_of-append s (map edit_value (take i es)) e);
       answers_are = ap₂ (λ bs a. bs ++ a ∷ []) h.answers_are
           (answer ∙ ap (λ t. (edit_of t e).1) h.bytes_are)
-          ∙ sym (ap (λ es. (edits_of s es).1) more ∙ answers-append s (map edit_value (take i es)) e);
+          ∙ sym (ap (λ es. (edits_of s es).1) more
+          ∙ answers-append s (map edit_value (take i es)) e);
     }

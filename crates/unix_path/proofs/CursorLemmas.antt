@@ -7,8 +7,8 @@ use Rattle.std.proofs.lemmas.Iterator.{YieldsList}
 use Rattle.std.proofs.lemmas.Iterator.Consumers.{YieldsList-from_shown}
 use Rattle.unix_bytes.specs.declared.bytes.UnixStr.{UnixStr}
 use Rattle.unix_path.specs.Views.{value_of}
-use Rattle.unix_path.specs.Cursor.{cursor_rest, cursor_source, cursor_values, iter_rest, iter_source}
-use Rattle.unix_path.specs.Cursor.{iter_bytes, GivesFirst, GivesLast}
+use Rattle.unix_path.specs.Cursor.{cursor_rest, cursor_source, cursor_values}
+use Rattle.unix_path.specs.Cursor.{iter_rest, iter_source, iter_bytes, GivesFirst, GivesLast}
 use Rattle.unix_path.specs.declared.cursor.Component.{Component}
 use Rattle.unix_path.specs.declared.cursor.Components.{Components}
 use Rattle.unix_path.specs.declared.cursor.Iter.{Iter}

@@ -1,6 +1,6 @@
 -- The last dot of a file name.
-use Rattle.std.proofs.Common.{◌≡◌, ◌==◌, ℕ, ◌-◌, ◌≤◌, ◌<◌, Bool, true, false, not, List, length, take}
-use Rattle.std.proofs.Common.{drop, get_or, Some, None, refl, sym, ap, arith, le-ltb, lt-ltb}
+use Rattle.std.proofs.Common.{◌≡◌, ◌==◌, ℕ, ◌-◌, ◌≤◌, ◌<◌, Bool, true, false, not, List, length}
+use Rattle.std.proofs.Common.{take, drop, get_or, Some, None, refl, sym, ap, arith, le-ltb, lt-ltb}
 use Rattle.std.proofs.lemmas.List.Sums.{suffix_len_is}
 use Rattle.unix_path.specs.Parts.{dot}
 use Rattle.unix_path.specs.Names.{past_last, split_name}

@@ -8,4 +8,5 @@ pub returns : goal.returns
 returns c =
     c.compare_parts.ensures ∙ ap₂ values_cmp
     (values-whole c.args.a.bytes.now (cursor_rest c.components.result) c.components.ensures.rest)
-    (values-whole c.args.b.bytes.now (cursor_rest c.components-2.result) c.components-2.ensures.rest)
+    (values-whole c.args.b.bytes.now (cursor_rest c.components-2.result)
+    c.components-2.ensures.rest)

@@ -1,4 +1,5 @@
-use Rattle.std.proofs.Common.{◌≢◌, List, ℕ, [], ◌∷◌, length, ◌<◌, ◌++◌, sym, ap, refl, ◌∙◌, arith, append_assoc}
+use Rattle.std.proofs.Common.{◌≢◌, List, ℕ, [], ◌∷◌, length, ◌<◌, ◌++◌, sym, ap, refl, ◌∙◌}
+use Rattle.std.proofs.Common.{arith, append_assoc}
 use Rattle.unix_path.specs.Parts.{slash, values}
 use Rattle.path_runs.proofs.ValueLemmas.{values-past_slash, values-join_of}
 use Rattle.path_runs.proofs.LeadLemmas.{undotted-values, unled-values}

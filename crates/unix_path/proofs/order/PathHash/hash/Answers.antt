@@ -8,4 +8,5 @@ pub returns : goal.returns
 returns g c =
     c.feed_parts.ensures
     ∙ ap (λ vs. fold g.H.Hasher.write c.args.state.now (hash_input_of vs))
-    (values-whole c.args.self.now.bytes.now (cursor_rest c.components.result) c.components.ensures.rest)
+    (values-whole c.args.self.now.bytes.now (cursor_rest c.components.result)
+    c.components.ensures.rest)

@@ -27,7 +27,8 @@ pub returns-in-Normal-clause-front : goal.returns-in-Normal-clause-front
 returns-in-Normal-clause-front c =
     let s = c.args.self.now.bytes.now in
     let is = c.as_path.ensures.bytes ∙ rest-whole_last s (cursor_rest c.components-left.result)
-    (cursor_rest c.next_back.new.self) c.components-left.ensures.rest c.in-Some.ensures.steps.rest_is in
+    (cursor_rest c.next_back.new.self) c.components-left.ensures.rest
+    c.in-Some.ensures.steps.rest_is in
     ap (λ w. take (length w) s) is ∙ rest-front s 1 ∙ sym is
 
 pub returns-in_default-last-clause-value : goal.returns-in_default-last-clause-value

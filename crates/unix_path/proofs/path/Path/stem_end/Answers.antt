@@ -23,7 +23,8 @@ pub overflow_sub-result : goal.overflow_sub-result
 overflow_sub-result c =
     let s = c.args.self.now.bytes.now in
     let named = file_name_of-normal s (cursor_rest c.components-left.result)
-    (cursor_rest c.next_back.new.self) c.in-Some.last c.in-Normal.name c.components-left.ensures.rest
+    (cursor_rest c.next_back.new.self) c.in-Some.last c.in-Normal.name
+    c.components-left.ensures.rest
     c.in-Some.ensures.steps.item_is c.in-Normal.is in
     omega (
       arith,
@@ -35,7 +36,8 @@ pub returns-in-Normal-clause-value : goal.returns-in-Normal-clause-value
 returns-in-Normal-clause-value c =
     let s = c.args.self.now.bytes.now in
     let named = file_name_of-normal s (cursor_rest c.components-left.result)
-    (cursor_rest c.next_back.new.self) c.in-Some.last c.in-Normal.name c.components-left.ensures.rest
+    (cursor_rest c.next_back.new.self) c.in-Some.last c.in-Normal.name
+    c.components-left.ensures.rest
     c.in-Some.ensures.steps.item_is c.in-Normal.is in
     stem_end_of-some s c.in-Normal.name.bytes.now _ named
     (omega (
@@ -48,7 +50,8 @@ pub returns-in-Normal-clause-in_range : goal.returns-in-Normal-clause-in_range
 returns-in-Normal-clause-in_range c =
     let s = c.args.self.now.bytes.now in
     let named = file_name_of-normal s (cursor_rest c.components-left.result)
-    (cursor_rest c.next_back.new.self) c.in-Some.last c.in-Normal.name c.components-left.ensures.rest
+    (cursor_rest c.next_back.new.self) c.in-Some.last c.in-Normal.name
+    c.components-left.ensures.rest
     c.in-Some.ensures.steps.item_is c.in-Normal.is in
     omega (
       arith,
