@@ -1,7 +1,7 @@
 -- Which paths stay below whatever they are joined to. Own.
 use Rattle.std.specs.Prelude.{◌≢◌, List, [], ◌∷◌}
 use Rattle.std.specs.List.{All}
-use Rattle.unix_path.specs.Names.{Begins}
+use Rattle.unix_path.specs.Prefixes.{Begins}
 use Rattle.unix_path.specs.Parts.{Value, RootDir, ParentDir}
 
 -- the root doesn't begin them, and none is `..`

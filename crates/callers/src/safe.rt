@@ -2,7 +2,7 @@
 ghost use Rattle.std.specs.Prelude.{◌≡◌, ◌↔◌, ◌++◌, false, IfOk, IfSome, IsSome, IsTrue};
 ghost use Rattle.unix_path.specs.Buffers.{path_bytes};
 ghost use Rattle.unix_path.specs.Joins.{join_of};
-ghost use Rattle.unix_path.specs.Names.{Begins};
+ghost use Rattle.unix_path.specs.Prefixes.{Begins};
 ghost use Rattle.unix_path.specs.Parts.{is_rooted, values};
 ghost use Rattle.path_runs.specs.JoinLaws.{values_added};
 ghost use Rattle.callers.specs.Below.{StaysBelow};

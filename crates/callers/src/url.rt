@@ -2,7 +2,7 @@
 ghost use Rattle.std.specs.Prelude.{◌≡◌, ◌↔◌, IfOk, IfSome, IsSome, drop, length};
 ghost use Rattle.unix_path.specs.Buffers.{path_bytes};
 ghost use Rattle.unix_path.specs.Joins.{join_of};
-ghost use Rattle.unix_path.specs.Names.{Begins, stripped_of};
+ghost use Rattle.unix_path.specs.Prefixes.{Begins, stripped_of};
 ghost use Rattle.unix_path.specs.Parts.{values};
 ghost use Rattle.callers.specs.Below.{StaysBelow};
 

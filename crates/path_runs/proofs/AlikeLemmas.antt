@@ -5,7 +5,8 @@ use Rattle.std.proofs.Common.{◌∙◌}
 use Rattle.std.specs.List.{range_with_len}
 use Rattle.unix_path.specs.Parts.{Value, values, SameValues}
 use Rattle.unix_path.specs.Rest.{rest}
-use Rattle.unix_path.specs.Names.{parent_of, depth_of, ancestors_of, Begins, Ends, stripped_of}
+use Rattle.unix_path.specs.Parents.{parent_of, depth_of, ancestors_of}
+use Rattle.unix_path.specs.Prefixes.{Begins, Ends, stripped_of}
 use Rattle.path_runs.proofs.CongruenceLemmas.{depths_same, rests_same}
 
 pub prefixes_same : (s t base other : List ℕ) → SameValues s t → SameValues base other

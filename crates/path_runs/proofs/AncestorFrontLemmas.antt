@@ -4,7 +4,8 @@ use Rattle.std.proofs.Common.{None, sym, ap, ◌∙◌, append-nil, take-append-
 use Rattle.std.specs.List.{All, AllByRecursion, range_with_len}
 use Rattle.std.proofs.lemmas.List.Elements.{All-from_recursion}
 use Rattle.unix_path.specs.Rest.{rest}
-use Rattle.unix_path.specs.Names.{parent_of, depth_of, ancestors_of, Begins}
+use Rattle.unix_path.specs.Parents.{parent_of, depth_of, ancestors_of}
+use Rattle.unix_path.specs.Prefixes.{Begins}
 use Rattle.unix_path.proofs.AncestorLemmas.{ancestors_by, ancestors_of-parent}
 use Rattle.unix_path.proofs.RestLemmas.{rest-front}
 

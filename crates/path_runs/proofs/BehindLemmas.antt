@@ -2,14 +2,14 @@
 use Rattle.std.proofs.Common.{◌≡◌, ℕ, ◌+◌, ◌≤◌, true, List, [], ◌∷◌, ◌++◌, length, take, map}
 use Rattle.std.proofs.Common.{refl, sym, ap, ap₂, ◌∙◌, arith, append_assoc, append-nil}
 use Rattle.std.proofs.lemmas.List.{map-append, take-append-le, append_cancel_left}
-use Rattle.unix_path.specs.Parts.{slash, Part, Value, counted, leading_part, parts, values}
+use Rattle.unix_path.specs.Parts.{slash, Part, Value, inner_parts, leading_part, parts, values}
 use Rattle.unix_path.specs.Rest.{rest}
 use Rattle.unix_path.specs.Steps.{parts_end}
 use Rattle.unix_path.specs.Joins.{is_open}
 use Rattle.unix_path.proofs.CaseLemmas.{by_test}
-use Rattle.unix_path.proofs.CutLemmas.{counted-append}
+use Rattle.unix_path.proofs.CutLemmas.{inner_parts-append}
 use Rattle.unix_path.proofs.PartLemmas.{parts-nil}
-use Rattle.unix_path.proofs.PieceLemmas.{counted-nil}
+use Rattle.unix_path.proofs.PieceLemmas.{inner_parts-nil}
 use Rattle.unix_path.proofs.SpanLemmas.{length-rest_whole, rest-whole, span-parts}
 use Rattle.unix_path.proofs.StemLemmas.{length-rest_front}
 use Rattle.unix_path.proofs.StepLemmas.{rest-last}
@@ -21,16 +21,16 @@ abbrev value_of_part : Part → Value
 value_of_part p = p.value
 
 parts-past_slash : (f b : List ℕ)
-    → parts (f ++ slash ∷ b) ≡ parts (f ++ slash ∷ []) ++ counted (0 + length f + 1) b
+    → parts (f ++ slash ∷ b) ≡ parts (f ++ slash ∷ []) ++ inner_parts (0 + length f + 1) b
 unfolding parts
 parts-past_slash f b =
     let k = 0 + length f + 1 in
     let lead = leading_part (f ++ slash ∷ []) in
-    ap₂ ◌++◌ (leading_past_slash f b []) (counted-append 0 f b)
-    ∙ sym (append_assoc lead (counted 0 f) (counted k b))
-    ∙ ap (λ ps. (lead ++ ps) ++ counted k b)
-    (sym (counted-append 0 f [] ∙ ap (λ ps. counted 0 f ++ ps) (counted-nil k)
-    ∙ append-nil (counted 0 f)))
+    ap₂ ◌++◌ (leading_past_slash f b []) (inner_parts-append 0 f b)
+    ∙ sym (append_assoc lead (inner_parts 0 f) (inner_parts k b))
+    ∙ ap (λ ps. (lead ++ ps) ++ inner_parts k b)
+    (sym (inner_parts-append 0 f [] ∙ ap (λ ps. inner_parts 0 f ++ ps) (inner_parts-nil k)
+    ∙ append-nil (inner_parts 0 f)))
 
 -- behind an open front the parts are those of the front, and more
 parts-open : (u b : List ℕ) → is_open u ≡ true
@@ -38,10 +38,10 @@ parts-open : (u b : List ℕ) → is_open u ≡ true
 parts-open [] b o = (parts b, sym (ap (λ ps. ps ++ parts b) parts-nil))
 parts-open (x ∷ u) b o =
     let cut = ends_open (x ∷ u) o (omega arith) in (
-      counted (0 + length cut.0 + 1) b,
+      inner_parts (0 + length cut.0 + 1) b,
       ap (λ u. parts (u ++ b)) (sym cut.1)
           ∙ ap parts (append_assoc cut.0 (slash ∷ []) b) ∙ parts-past_slash cut.0 b
-          ∙ ap (λ u. parts u ++ counted (0 + length cut.0 + 1) b) cut.1,
+          ∙ ap (λ u. parts u ++ inner_parts (0 + length cut.0 + 1) b) cut.1,
     )
 
 single : (ps : List Part) (v : Value) → map value_of_part ps ≡ v ∷ []

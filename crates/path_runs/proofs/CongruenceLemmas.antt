@@ -6,7 +6,8 @@ use Rattle.std.specs.List.{AllZip}
 use Rattle.std.proofs.lemmas.List.{take_at, same_from_push}
 use Rattle.unix_path.specs.Parts.{Normal, parts, values, SameValues}
 use Rattle.unix_path.specs.Rest.{rest}
-use Rattle.unix_path.specs.Names.{depth_of, parent_of, file_name_of, split_name}
+use Rattle.unix_path.specs.Parents.{depth_of, parent_of}
+use Rattle.unix_path.specs.Names.{file_name_of, split_name}
 use Rattle.unix_path.specs.Edits.{popped_of, before_name_of, with_name_of, last_start_of}
 use Rattle.unix_path.specs.Edits.{stem_end_of, dot_before, with_extension_of}
 use Rattle.unix_path.proofs.EditLemmas.{extended}

@@ -5,7 +5,8 @@ use Rattle.std.proofs.Common.{append_assoc, length-append}
 use Rattle.std.specs.Option.{option_and_then}
 use Rattle.unix_path.specs.Parts.{Value, Normal, values}
 use Rattle.unix_path.specs.Rest.{rest}
-use Rattle.unix_path.specs.Names.{parent_of, file_name_of, split_name, stem_of, extension_of}
+use Rattle.unix_path.specs.Parents.{parent_of}
+use Rattle.unix_path.specs.Names.{file_name_of, split_name, stem_of, extension_of}
 use Rattle.unix_path.specs.Edits.{with_extension_of}
 use Rattle.unix_path.specs.Joins.{is_open}
 use Rattle.unix_path.proofs.EditLemmas.{dot_before-some}

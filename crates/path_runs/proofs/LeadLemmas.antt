@@ -5,7 +5,7 @@ use Rattle.std.specs.List.{AllByRecursion, slice_split}
 use Rattle.std.specs.Str.{bytes_eq}
 use Rattle.unix_path.specs.Parts.{Part, Value, RootDir, CurDir, ParentDir, Normal, is_slash}
 use Rattle.unix_path.specs.Parts.{cur_dir, parent_dir, is_rooted, counts, parts_of_pieces}
-use Rattle.unix_path.specs.Parts.{counted, leading_part, values}
+use Rattle.unix_path.specs.Parts.{inner_parts, leading_part, values}
 use Rattle.unix_path.specs.Joins.{join_of}
 use Rattle.unix_path.proofs.CaseLemmas.{by_test}
 use Rattle.unix_path.proofs.JoinLemmas.{join_of_rooted}
@@ -33,7 +33,7 @@ inner_pieces at (p ∷ ps) =
     by_value false = tt
 
 pub body-inner : (s : List ℕ) → AllByRecursion IsInner (body s)
-unfolding counted
+unfolding inner_parts
 body-inner s = inner_pieces 0 (slice_split is_slash s)
 
 -- neither the root nor a dot stands first

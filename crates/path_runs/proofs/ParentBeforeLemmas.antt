@@ -5,7 +5,8 @@ use Rattle.std.proofs.lemmas.Cmp.{tied_itself}
 use Rattle.std.proofs.lemmas.Option.{none-some}
 use Rattle.unix_path.specs.Parts.{Value, Normal, values}
 use Rattle.unix_path.specs.Joins.{join_of}
-use Rattle.unix_path.specs.Names.{parent_of, file_name_of}
+use Rattle.unix_path.specs.Parents.{parent_of}
+use Rattle.unix_path.specs.Names.{file_name_of}
 use Rattle.unix_path.specs.Order.{values_cmp, IsBefore}
 use Rattle.unix_path.specs.OrderLaws.{value_cmp-total}
 use Rattle.unix_path.proofs.DepthLemmas.{depth_of-none}

@@ -6,11 +6,11 @@ use Rattle.std.specs.List.{position_or_len}
 use Rattle.std.specs.Str.{bytes_eq}
 use Rattle.std.proofs.lemmas.List.{drop_all}
 use Rattle.std.proofs.lemmas.Slice.Eq.{bytes_eq-Decides}
-use Rattle.unix_path.specs.Parts.{is_slash, cur_dir, parent_dir, Part, Normal, counted, values}
+use Rattle.unix_path.specs.Parts.{is_slash, cur_dir, parent_dir, Part, Normal, inner_parts, values}
 use Rattle.unix_path.specs.Steps.{first_value}
 use Rattle.unix_path.proofs.CaseLemmas.{by_test}
 use Rattle.unix_path.proofs.PartLemmas.{parts-name}
-use Rattle.unix_path.proofs.PieceLemmas.{counted-nil, position_or_len-other, position_or_len-slash}
+use Rattle.unix_path.proofs.PieceLemmas.{inner_parts-nil, position_or_len-other, position_or_len-slash}
 use Rattle.path_runs.specs.EditLaws.{HasNone}
 use Rattle.path_runs.proofs.NamedLemmas.{IsName}
 
@@ -70,6 +70,6 @@ values-name s h =
     let none : drop n s ≡ [] = drop_all n s (omega (arith, h.no_slash)) in
     let named : first_value s ≡ Normal s = rw (h.no_dot, h.no_dots) refl in
     ap (map (λ (p : Part). p.value)) (parts-name s h.some (first_other s h.some h.no_slash)
-    ∙ ap₂ (λ p r. record { start = 0; end = n; value = first_value p } ∷ counted n r) whole none
-    ∙ ap (λ ps. record { start = 0; end = n; value = first_value s } ∷ ps) (counted-nil n))
+    ∙ ap₂ (λ p r. record { start = 0; end = n; value = first_value p } ∷ inner_parts n r) whole none
+    ∙ ap (λ ps. record { start = 0; end = n; value = first_value s } ∷ ps) (inner_parts-nil n))
     ∙ ap (λ v. v ∷ []) named

@@ -4,7 +4,7 @@ use Rattle.std.proofs.Common.{◌++◌, length, map, filter, refl, sym, ap, subs
 use Rattle.std.specs.List.{AllByRecursion, slice_split, onto_first}
 use Rattle.std.proofs.lemmas.List.Splits.{slice_split-cons_yes, slice_split-cons_no}
 use Rattle.unix_path.specs.Parts.{is_slash, slash, Part, Value, RootDir, CurDir, parts_of_pieces}
-use Rattle.unix_path.specs.Parts.{counts, value_of_piece, counted, is_rooted, values}
+use Rattle.unix_path.specs.Parts.{counts, value_of_piece, inner_parts, is_rooted, values}
 use Rattle.unix_path.proofs.CaseLemmas.{by_test}
 use Rattle.path_runs.proofs.LeadLemmas.{dot_first, lead_by, values-lead}
 use Rattle.path_runs.proofs.ValueLemmas.{body}
@@ -21,7 +21,7 @@ names_of-parts at (p ∷ ps) =
     by_test (counts p) (λ e. rw e (ap (λ vs. value_of_piece p ∷ vs) next)) (λ e. rw e next)
 
 body-pieces : (s : List ℕ) → body s ≡ names_of (slice_split is_slash s)
-unfolding counted
+unfolding inner_parts
 body-pieces s = names_of-parts 0 (slice_split is_slash s)
 
 pub values-pieces : (s : List ℕ)

@@ -4,7 +4,8 @@ use Rattle.std.proofs.Common.{sym, ap, ◌∙◌}
 use Rattle.unix_path.specs.Parts.{Value, Normal, is_rooted, values, SameValues}
 use Rattle.unix_path.specs.Rest.{rest}
 use Rattle.unix_path.specs.Joins.{join_of}
-use Rattle.unix_path.specs.Names.{parent_of, file_name_of}
+use Rattle.unix_path.specs.Parents.{parent_of}
+use Rattle.unix_path.specs.Names.{file_name_of}
 use Rattle.unix_path.specs.Edits.{popped_of, with_name_of}
 use Rattle.unix_path.proofs.DepthLemmas.{depth_of-push}
 use Rattle.unix_path.proofs.EndLemmas.{middle-push}

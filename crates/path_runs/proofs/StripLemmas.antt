@@ -5,7 +5,7 @@ use Rattle.std.specs.List.{AllByRecursion}
 use Rattle.std.proofs.lemmas.List.{drop_at}
 use Rattle.unix_path.specs.Parts.{Value, is_rooted, values}
 use Rattle.unix_path.specs.Joins.{join_of}
-use Rattle.unix_path.specs.Names.{stripped_of, Begins}
+use Rattle.unix_path.specs.Prefixes.{stripped_of, Begins}
 use Rattle.unix_path.proofs.MiddleLemmas.{middle}
 use Rattle.unix_path.proofs.PartLemmas.{root_first, root_first-values, values-nil}
 use Rattle.unix_path.proofs.RestLemmas.{values-rest}

@@ -3,43 +3,43 @@ use Rattle.std.proofs.Common.{◌≡◌, ℕ, ◌+◌, ◌<◌, true, false, eqb
 use Rattle.std.proofs.Common.{get_or, map, refl, sym, ap, ap₂, ◌∙◌, arith, append_assoc, append-nil}
 use Rattle.std.proofs.Common.{eqb-true}
 use Rattle.std.proofs.lemmas.List.{map-append}
-use Rattle.unix_path.specs.Parts.{slash, is_rooted, Part, Value, RootDir, counted, leading_part}
+use Rattle.unix_path.specs.Parts.{slash, is_rooted, Part, Value, RootDir, inner_parts, leading_part}
 use Rattle.unix_path.specs.Parts.{parts, values}
 use Rattle.unix_path.specs.Joins.{is_open, join_of}
 use Rattle.unix_path.proofs.CaseLemmas.{by_test}
-use Rattle.unix_path.proofs.CutLemmas.{counted-append, leading_part-append}
+use Rattle.unix_path.proofs.CutLemmas.{inner_parts-append, leading_part-append}
 use Rattle.unix_path.proofs.JoinLemmas.{join_of_open, join_of_closed}
 use Rattle.unix_path.proofs.PartLemmas.{parts-root, parts-name, values-nil}
-use Rattle.unix_path.proofs.PieceLemmas.{counted-nil}
-use Rattle.unix_path.proofs.PlaceLemmas.{values-counted}
+use Rattle.unix_path.proofs.PieceLemmas.{inner_parts-nil}
+use Rattle.unix_path.proofs.PlaceLemmas.{values-inner_parts}
 
 -- the values of the pieces that count, without a leading root or dot
 abbrev pub body : List ℕ → List Value
-body s = map (λ (p : Part). p.value) (counted 0 s)
+body s = map (λ (p : Part). p.value) (inner_parts 0 s)
 
 pub values-leading : (s : List ℕ)
     → values s ≡ map (λ (p : Part). p.value) (leading_part s) ++ body s
 unfolding values parts
-values-leading s = map-append (λ (p : Part). p.value) (leading_part s) (counted 0 s)
+values-leading s = map-append (λ (p : Part). p.value) (leading_part s) (inner_parts 0 s)
 
 pub values-slash : (a b : List ℕ) → 0 < length a → values (a ++ slash ∷ b) ≡ values a ++ body b
 values-slash a b l =
     let lead = map (λ (p : Part). p.value) (leading_part a) in
     values-leading (a ++ slash ∷ b)
     ∙ ap₂ (λ x y. map (λ (p : Part). p.value) x ++ y) (leading_part-append a b l)
-    (ap (map (λ (p : Part). p.value)) (counted-append 0 a b)
-    ∙ map-append (λ (p : Part). p.value) (counted 0 a) (counted (0 + length a + 1) b)
-    ∙ ap (λ vs. body a ++ vs) (values-counted (0 + length a + 1) b))
+    (ap (map (λ (p : Part). p.value)) (inner_parts-append 0 a b)
+    ∙ map-append (λ (p : Part). p.value) (inner_parts 0 a) (inner_parts (0 + length a + 1) b)
+    ∙ ap (λ vs. body a ++ vs) (values-inner_parts (0 + length a + 1) b))
     ∙ sym (append_assoc lead (body a) (body b))
     ∙ ap (λ vs. vs ++ body b) (sym (values-leading a))
 
 pub values-root : (b : List ℕ) → values (slash ∷ b) ≡ RootDir ∷ body b
 unfolding values
 values-root b = ap (map (λ (p : Part). p.value)) (parts-root (slash ∷ b) refl)
-    ∙ ap (λ vs. RootDir ∷ vs) (values-counted 1 b)
+    ∙ ap (λ vs. RootDir ∷ vs) (values-inner_parts 1 b)
 
 pub body-nil : body [] ≡ []
-body-nil = ap (map (λ (p : Part). p.value)) (counted-nil 0)
+body-nil = ap (map (λ (p : Part). p.value)) (inner_parts-nil 0)
 
 -- behind a string that ends in a slash
 pub values-past_slash : (f b : List ℕ)

@@ -3,7 +3,8 @@
 use Rattle.std.specs.Prelude.{◌≡◌, ◌≢◌, ℕ, true, List, [], ◌∷◌, Some, None, All}
 use Rattle.std.specs.List.{AllZip, last_or}
 use Rattle.unix_path.specs.Parts.{Normal, dot, slash, values, SameValues}
-use Rattle.unix_path.specs.Names.{parent_of, file_name_of, stem_of, extension_of}
+use Rattle.unix_path.specs.Parents.{parent_of}
+use Rattle.unix_path.specs.Names.{file_name_of, stem_of, extension_of}
 use Rattle.path_runs.specs.declared.edits.Answer.TheVariants.{Plain, Flag}
 use Rattle.path_runs.specs.Runs.{EditValue, Push, Pop, SetFileName, SetExtension}
 use Rattle.path_runs.specs.Runs.{edit_of, edits_of}

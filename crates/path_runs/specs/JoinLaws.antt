@@ -2,7 +2,7 @@
 use Rattle.std.specs.Prelude.{◌≡◌, ◌≢◌, ℕ, false, List, [], ◌∷◌, ◌++◌}
 use Rattle.unix_path.specs.Parts.{Value, RootDir, CurDir, slash, is_rooted, values, SameValues}
 use Rattle.unix_path.specs.Joins.{join_of}
-use Rattle.unix_path.specs.Names.{Begins, stripped_of}
+use Rattle.unix_path.specs.Prefixes.{Begins, stripped_of}
 
 -- of three paths it is the same, to the byte, which two are joined first
 abbrev pub JoinsAssociate : Type 0

@@ -4,7 +4,8 @@ use Rattle.std.specs.Prelude.{◌≡◌, ℕ, List, [], ◌∷◌, ◌++◌, Opt
 use Rattle.unix_path.specs.Parts.{dot, values, SameValues}
 use Rattle.unix_path.specs.Joins.{join_of}
 use Rattle.unix_path.specs.Names.{file_name_of, stem_of, extension_of, split_name}
-use Rattle.unix_path.specs.Names.{parent_of, ancestors_of, Begins}
+use Rattle.unix_path.specs.Parents.{parent_of, ancestors_of}
+use Rattle.unix_path.specs.Prefixes.{Begins}
 use Rattle.unix_path.specs.Order.{IsBefore}
 
 -- a stem, and behind it a dot and the extension if there is one

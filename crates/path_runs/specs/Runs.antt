@@ -3,7 +3,8 @@
 use Rattle.std.specs.Prelude.{ℕ, List, [], ◌∷◌, Bool, true, false, is_some}
 use Rattle.unix_path.specs.Parts.{values}
 use Rattle.unix_path.specs.Joins.{join_of}
-use Rattle.unix_path.specs.Names.{parent_of, file_name_of}
+use Rattle.unix_path.specs.Parents.{parent_of}
+use Rattle.unix_path.specs.Names.{file_name_of}
 use Rattle.unix_path.specs.Edits.{popped_of, with_name_of, with_extension_of}
 use Rattle.path_runs.specs.declared.edits.Answer.{Answer}
 use Rattle.path_runs.specs.declared.edits.Answer.TheVariants.{Plain, Flag}

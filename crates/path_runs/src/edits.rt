@@ -3,7 +3,7 @@ ghost use Rattle.std.specs.Prelude.{◌≡◌, ◌↔◌, ◌<◌, [], true, len
 ghost use Rattle.std.specs.Prelude.{map, IsSome, IsOk, IfOk, IfErr, IfSome, OnOk, OnErr};
 ghost use Rattle.unix_path.specs.Buffers.{path_bytes};
 ghost use Rattle.unix_path.specs.Joins.{join_of};
-ghost use Rattle.unix_path.specs.Names.{Begins, stripped_of};
+ghost use Rattle.unix_path.specs.Prefixes.{Begins, stripped_of};
 ghost use Rattle.unix_path.specs.Parts.{values, SameValues};
 ghost use Rattle.path_runs.specs.EditViews.{edit_value};
 ghost use Rattle.path_runs.specs.Runs.{edit_of, edits_of, may_take_memory};

@@ -6,7 +6,7 @@ use Rattle.std.specs.Ordering.{is_eq, ordering_then}
 use Rattle.std.proofs.lemmas.Slice.Eq.{starts_is, ends_is}
 use Rattle.unix_path.proofs.CaseLemmas.{by_test}
 use Rattle.unix_path.specs.Parts.{Value, values}
-use Rattle.unix_path.specs.Names.{Begins, Ends, stripped_of}
+use Rattle.unix_path.specs.Prefixes.{Begins, Ends, stripped_of}
 use Rattle.unix_path.specs.Order.{value_cmp, values_cmp}
 use Rattle.unix_path.specs.OrderLaws.{is_eq-values_cmp}
 use Rattle.unix_path.proofs.TieLemmas.{values_cmp-same}

@@ -5,7 +5,7 @@ use Rattle.std.specs.List.{starts_with, ends_with}
 use Rattle.std.proofs.lemmas.Bool.Decides.{same_from_decides}
 use Rattle.unix_bytes.specs.declared.bytes.UnixStr.{UnixStr}
 use Rattle.unix_path.specs.Parts.{values}
-use Rattle.unix_path.specs.Names.{Begins, Ends, stripped_of}
+use Rattle.unix_path.specs.Prefixes.{Begins, Ends, stripped_of}
 use Rattle.json.specs.Print.{quoted}
 use Rattle.unix_bytes.specs.Utf8.{IsText}
 use Rattle.pathtool.specs.Answers.{optional, same, strip_answer}

@@ -54,7 +54,7 @@ behind-parts [] = refl
 behind-parts (part ∷ parts) =
     ap (λ more. (tab ∷ value_bytes (value_of part)) ++ more) (behind-parts parts)
 
--- no more turns than parts are counted
+-- no more turns than parts are inner_parts
 pub front_turns-le : (n : ℕ) (turns : List Turn) → front_turns n turns ≤ n
 front_turns-le n turns =
     omega (arith, count_by-le-length is_front (take n turns), length-take n turns)

@@ -9,8 +9,9 @@ use Rattle.std.specs.List.{slice_split, flat_map, starts_with, ends_with}
 use Rattle.std.specs.Map.{lookup}
 use Rattle.std.specs.Str.{byte, bytes_eq}
 use Rattle.unix_path.specs.Parts.{Value, values}
-use Rattle.unix_path.specs.Names.{parent_of, file_name_of, stem_of, extension_of, ancestors_of}
-use Rattle.unix_path.specs.Names.{stripped_of}
+use Rattle.unix_path.specs.Parents.{parent_of, ancestors_of}
+use Rattle.unix_path.specs.Names.{file_name_of, stem_of, extension_of}
+use Rattle.unix_path.specs.Prefixes.{stripped_of}
 use Rattle.unix_path.specs.Order.{value_cmp, values_cmp}
 use Rattle.unix_bytes.specs.Lossy.{lossy_of}
 use Rattle.unix_path.specs.Joins.{join_of}

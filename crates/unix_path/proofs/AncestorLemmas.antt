@@ -5,7 +5,7 @@ use Rattle.std.specs.List.{range_with_len}
 use Rattle.std.specs.Option.{option_map_or}
 use Rattle.unix_path.specs.Parts.{Value, RootDir, CurDir, ParentDir, Normal, values}
 use Rattle.unix_path.specs.Rest.{rest}
-use Rattle.unix_path.specs.Names.{parent_of, depth_of, ancestors_of}
+use Rattle.unix_path.specs.Parents.{parent_of, depth_of, ancestors_of}
 use Rattle.unix_path.specs.declared.path.Path.{Path}
 use Rattle.unix_path.proofs.RestLemmas.{values-rest, rest-rest}
 use Rattle.unix_path.proofs.MiddleLemmas.{middle}

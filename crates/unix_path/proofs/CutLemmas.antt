@@ -6,8 +6,8 @@ use Rattle.std.specs.Str.{bytes_eq}
 use Rattle.std.proofs.lemmas.List.Splits.{slice_split-cons_yes, slice_split-cons_no}
 use Rattle.std.proofs.lemmas.List.Splits.{length-slice_split}
 use Rattle.unix_path.proofs.CaseLemmas.{by_test}
-use Rattle.unix_path.proofs.PieceLemmas.{first_counted, first_piece, slice_split-first}
-use Rattle.unix_path.specs.Parts.{CurDir, RootDir, counted, cur_dir, is_slash, leading_part}
+use Rattle.unix_path.proofs.PieceLemmas.{first_inner_part, first_piece, slice_split-first}
+use Rattle.unix_path.specs.Parts.{CurDir, RootDir, inner_parts, cur_dir, is_slash, leading_part}
 use Rattle.unix_path.specs.Parts.{parts_of_pieces}
 
 width : List (List ℕ) → ℕ
@@ -22,10 +22,10 @@ parts_of_pieces-append at [] qs =
     ap (λ n. parts_of_pieces n qs) {x = at} {y = at + 0} (omega arith)
 parts_of_pieces-append at (p ∷ ps) qs =
     let next = at + length p + 1 in
-    ap (λ r. first_counted at p ++ r) (parts_of_pieces-append next ps qs
+    ap (λ r. first_inner_part at p ++ r) (parts_of_pieces-append next ps qs
     ∙ ap (λ n. parts_of_pieces next ps ++ parts_of_pieces n qs) {x = next + width ps}
     {y = at + (length p + 1 + width ps)} (omega arith))
-    ∙ sym (append_assoc (first_counted at p) _ _)
+    ∙ sym (append_assoc (first_inner_part at p) _ _)
 
 width-onto_first : (x : ℕ) (ps : List (List ℕ)) → 0 < length ps
     → width (onto_first x ps) ≡ 1 + width ps
@@ -67,13 +67,13 @@ slice_split-append (b ∷ x) y = by_test (eqb b 47)
     ∙ ap (λ ps. ps ++ slice_split is_slash y) (sym (slice_split-cons_no is_slash b x e)))
 
 -- cut at any slash, the parts of both sides follow one another
-pub counted-append : (at : ℕ) (x y : List ℕ)
-    → counted at (x ++ 47 ∷ y) ≡ counted at x ++ counted (at + length x + 1) y
-unfolding counted
-counted-append at x y =
+pub inner_parts-append : (at : ℕ) (x y : List ℕ)
+    → inner_parts at (x ++ 47 ∷ y) ≡ inner_parts at x ++ inner_parts (at + length x + 1) y
+unfolding inner_parts
+inner_parts-append at x y =
     ap (parts_of_pieces at) (slice_split-append x y)
     ∙ parts_of_pieces-append at (slice_split is_slash x) (slice_split is_slash y)
-    ∙ ap (λ n. counted at x ++ counted n y) {x = at + width (slice_split is_slash x)}
+    ∙ ap (λ n. inner_parts at x ++ inner_parts n y) {x = at + width (slice_split is_slash x)}
     {y = at + length x + 1} (omega (arith, width-slice_split x))
 
 first_piece-append : (x y : List ℕ) → first_piece (x ++ 47 ∷ y) ≡ first_piece x

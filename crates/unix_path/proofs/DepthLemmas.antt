@@ -2,7 +2,7 @@
 use Rattle.std.proofs.Common.{◌≡◌, ℕ, suc, ◌-◌, ◌≤◌, List, [], ◌∷◌, ◌++◌, length, refl, ap, ◌∙◌}
 use Rattle.std.proofs.Common.{arith, length-append}
 use Rattle.unix_path.specs.Parts.{Value, RootDir, CurDir, ParentDir, Normal, values}
-use Rattle.unix_path.specs.Names.{depth_of}
+use Rattle.unix_path.specs.Parents.{depth_of}
 use Rattle.unix_path.proofs.RootLemmas.{root_count, root_count-values, root_last}
 
 root_count-le : (vs : List Value) → root_count vs ≤ length vs

@@ -8,10 +8,10 @@ use Rattle.std.specs.Str.{bytes_eq}
 use Rattle.std.proofs.lemmas.Bool.{or_cases, or_parts, and_parts}
 use Rattle.unix_path.proofs.CaseLemmas.{by_test, take-suc_cons}
 use Rattle.unix_path.proofs.PartLemmas.{leading_part-name, nonempty_first_piece}
-use Rattle.unix_path.proofs.PieceLemmas.{counted-dot, counted-dot_slash, counted-first, counted-nil}
-use Rattle.unix_path.proofs.PieceLemmas.{counted-slash, first_piece, position_or_len-other}
+use Rattle.unix_path.proofs.PieceLemmas.{inner_parts-dot, inner_parts-dot_slash, inner_parts-first, inner_parts-nil}
+use Rattle.unix_path.proofs.PieceLemmas.{inner_parts-slash, first_piece, position_or_len-other}
 use Rattle.unix_path.proofs.PieceLemmas.{position_or_len-slash}
-use Rattle.unix_path.specs.Parts.{CurDir, counted, cur_dir, is_slash, leading_part, parts}
+use Rattle.unix_path.specs.Parts.{CurDir, inner_parts, cur_dir, is_slash, leading_part, parts}
 use Rattle.unix_path.specs.Parts.{value_of_piece}
 use Rattle.unix_path.specs.Steps.{is_idle}
 
@@ -23,18 +23,18 @@ idle_from b s e =
     inr (eqb-true b 46 both.0, eqb-true (get_or s 0 47) 47 both.1))
     (or_cases (eqb b 47) (eqb b 46 && eqb (get_or s 0 47) 47) e)
 
-counted-dot_cut : (at : ℕ) (s : List ℕ) → get_or s 0 47 ≡ 47
-    → counted at (46 ∷ s) ≡ counted (at + 1) s
-counted-dot_cut at [] e = counted-dot at ∙ sym (counted-nil (at + 1))
-counted-dot_cut at (b ∷ s) e = ap (λ b. counted at (46 ∷ b ∷ s)) e ∙ counted-dot_slash at s
-    ∙ sym (ap (λ b. counted (at + 1) (b ∷ s)) e)
+inner_parts-dot_cut : (at : ℕ) (s : List ℕ) → get_or s 0 47 ≡ 47
+    → inner_parts at (46 ∷ s) ≡ inner_parts (at + 1) s
+inner_parts-dot_cut at [] e = inner_parts-dot at ∙ sym (inner_parts-nil (at + 1))
+inner_parts-dot_cut at (b ∷ s) e = ap (λ b. inner_parts at (46 ∷ b ∷ s)) e ∙ inner_parts-dot_slash at s
+    ∙ sym (ap (λ b. inner_parts (at + 1) (b ∷ s)) e)
 
-pub counted_idle : (at : ℕ) (s : List ℕ) → 0 < length s → is_idle s 0 ≡ true
-    → counted at s ≡ counted (at + 1) (drop 1 s)
-counted_idle at [] l e = absurd (omega arith)
-counted_idle at (b ∷ s) l e =
-    ⊎_elim (λ is. ap (λ b. counted at (b ∷ s)) is ∙ counted-slash at s)
-    (λ is. ap (λ b. counted at (b ∷ s)) is.0 ∙ counted-dot_cut at s is.1) (idle_from b s e)
+pub inner_parts_idle : (at : ℕ) (s : List ℕ) → 0 < length s → is_idle s 0 ≡ true
+    → inner_parts at s ≡ inner_parts (at + 1) (drop 1 s)
+inner_parts_idle at [] l e = absurd (omega arith)
+inner_parts_idle at (b ∷ s) l e =
+    ⊎_elim (λ is. ap (λ b. inner_parts at (b ∷ s)) is ∙ inner_parts-slash at s)
+    (λ is. ap (λ b. inner_parts at (b ∷ s)) is.0 ∙ inner_parts-dot_cut at s is.1) (idle_from b s e)
 
 pub is_idle-drop : (s : List ℕ) (i : ℕ) → is_idle (drop i s) 0 ≡ is_idle s i
 is_idle-drop s i =
@@ -42,12 +42,12 @@ is_idle-drop s i =
     ∙ ap (λ k. get_or s k 0) {x = i + 0} {y = i} (omega arith) in
     ap₂ (λ b next. eqb b 47 || (eqb b 46 && eqb next 47)) here (get_or-drop i s 1 47)
 
-pub counted_idle_at : (at : ℕ) (s : List ℕ) (i : ℕ) → i < length s → is_idle s i ≡ true
-    → counted (at + i) (drop i s) ≡ counted (at + (i + 1)) (drop (i + 1) s)
-counted_idle_at at s i l e =
+pub inner_parts_idle_at : (at : ℕ) (s : List ℕ) (i : ℕ) → i < length s → is_idle s i ≡ true
+    → inner_parts (at + i) (drop i s) ≡ inner_parts (at + (i + 1)) (drop (i + 1) s)
+inner_parts_idle_at at s i l e =
     let some : 0 < length (drop i s) = omega (arith, length-drop i s) in
-    counted_idle (at + i) (drop i s) some (is_idle-drop s i ∙ e)
-    ∙ ap₂ counted {x = at + i + 1} {y = at + (i + 1)} (omega arith) (drop-drop 1 i s)
+    inner_parts_idle (at + i) (drop i s) some (is_idle-drop s i ∙ e)
+    ∙ ap₂ inner_parts {x = at + i + 1} {y = at + (i + 1)} (omega arith) (drop-drop 1 i s)
 
 first_piece_empty : (s : List ℕ) → bytes_eq (first_piece s) [] ≡ eqb (get_or s 0 47) 47
 first_piece_empty [] = refl
@@ -68,48 +68,48 @@ busy_parts (b ∷ s) l e =
           ∙ ap (λ t. eqb b 46 && t) (first_piece_empty s) ∙ neither.1,
     )
 
-pub counted_busy : (at : ℕ) (s : List ℕ) → 0 < length s → is_idle s 0 ≡ false
-    → counted at s ≡ record
+pub inner_parts_busy : (at : ℕ) (s : List ℕ) → 0 < length s → is_idle s 0 ≡ false
+    → inner_parts at s ≡ record
     { start = at; end = at + length (first_piece s); value = value_of_piece (first_piece s) }
-    ∷ counted (at + position_or_len is_slash s) (drop (position_or_len is_slash s) s)
-counted_busy at s l e =
+    ∷ inner_parts (at + position_or_len is_slash s) (drop (position_or_len is_slash s) s)
+inner_parts_busy at s l e =
     let is = busy_parts s l e in
-    counted-first at s ∙ rw (nonempty_first_piece s l is.0, is.1) refl
+    inner_parts-first at s ∙ rw (nonempty_first_piece s l is.0, is.1) refl
 
-pub parts-busy : (s : List ℕ) → (0 < length s → is_idle s 0 ≡ false) → parts s ≡ counted 0 s
+pub parts-busy : (s : List ℕ) → (0 < length s → is_idle s 0 ≡ false) → parts s ≡ inner_parts 0 s
 unfolding parts leading_part
 parts-busy [] h = refl
 parts-busy (b ∷ s) h =
     let is = busy_parts (b ∷ s) (omega arith) (h (omega arith)) in
     let none : leading_part (b ∷ s) ≡ [] = leading_part-name (b ∷ s) is.0
     ∙ ap (λ t. cond t (record { start = 0; end = 1; value = CurDir } ∷ []) []) is.1 in
-    ap (λ ps. ps ++ counted 0 (b ∷ s)) none
+    ap (λ ps. ps ++ inner_parts 0 (b ∷ s)) none
 
 pub record SkipsIdle (s : List ℕ) : Type 0 where
   pub len : ℕ
   pub in_range : len ≤ length s
-  pub same : (at : ℕ) → counted at s ≡ counted (at + len) (drop len s)
+  pub same : (at : ℕ) → inner_parts at s ≡ inner_parts (at + len) (drop len s)
   pub busy : 0 < length (drop len s) → is_idle (drop len s) 0 ≡ false
 
 pub skips_idle : (s : List ℕ) → SkipsIdle s
 skips_idle [] = record {
   len = 0;
   in_range = omega arith;
-  same = λ at. ap (λ n. counted n []) {x = at} {y = at + 0} (omega arith);
+  same = λ at. ap (λ n. inner_parts n []) {x = at} {y = at + 0} (omega arith);
   busy = λ l. absurd (omega arith);
 }
 skips_idle (b ∷ s) = by_test (is_idle (b ∷ s) 0)
     (λ e. let next = skips_idle s in record {
       len = suc next.len;
       in_range = omega (arith, next.in_range);
-      same = λ at. counted_idle at (b ∷ s) (omega arith) e ∙ next.same (at + 1)
-          ∙ ap (λ n. counted n (drop next.len s)) {x = at + 1 + next.len} {y = at + suc next.len}
+      same = λ at. inner_parts_idle at (b ∷ s) (omega arith) e ∙ next.same (at + 1)
+          ∙ ap (λ n. inner_parts n (drop next.len s)) {x = at + 1 + next.len} {y = at + suc next.len}
           (omega arith);
       busy = next.busy;
     })
     (λ e. record {
       len = 0;
       in_range = omega arith;
-      same = λ at. ap (λ n. counted n (b ∷ s)) {x = at} {y = at + 0} (omega arith);
+      same = λ at. ap (λ n. inner_parts n (b ∷ s)) {x = at} {y = at + 0} (omega arith);
       busy = λ _. e;
     })

@@ -9,13 +9,13 @@ use Rattle.std.proofs.lemmas.Slice.Eq.{bytes_eq-Decides}
 use Rattle.std.proofs.lemmas.Bool.{both_ways}
 use Rattle.std.proofs.lemmas.List.{drop_all, take_more, drop_more}
 use Rattle.unix_path.proofs.CaseLemmas.{by_test}
-use Rattle.unix_path.proofs.CutLemmas.{counted-append}
+use Rattle.unix_path.proofs.CutLemmas.{inner_parts-append}
 use Rattle.unix_path.proofs.IdleLemmas.{parts-busy}
 use Rattle.unix_path.proofs.PartLemmas.{parts-name, parts-root}
-use Rattle.unix_path.proofs.PieceLemmas.{counted-first, counted-nil, first_counted, first_piece}
+use Rattle.unix_path.proofs.PieceLemmas.{inner_parts-first, inner_parts-nil, first_inner_part, first_piece}
 use Rattle.unix_path.proofs.PieceLemmas.{position_or_len-other, position_or_len-slash}
 use Rattle.unix_path.proofs.TrimLemmas.{leading_past_slash}
-use Rattle.unix_path.specs.Parts.{RootDir, counted, cur_dir, is_slash, leading_part, parts}
+use Rattle.unix_path.specs.Parts.{RootDir, inner_parts, cur_dir, is_slash, leading_part, parts}
 use Rattle.unix_path.specs.Parts.{value_of_piece}
 use Rattle.unix_path.specs.Steps.{EndsInPart, IsLastStart, first_value, is_trailing}
 
@@ -38,14 +38,14 @@ whole_first s e = (
 )
 
 -- a string that is one piece, which counts
-counted_one : (at : ℕ) (y : List ℕ) → position_or_len is_slash y ≡ length y → bytes_eq y [] ≡ false
+inner_parts_one : (at : ℕ) (y : List ℕ) → position_or_len is_slash y ≡ length y → bytes_eq y [] ≡ false
     → bytes_eq y cur_dir ≡ false
-    → counted at y ≡ record { start = at; end = at + length y; value = value_of_piece y } ∷ []
-counted_one at y e some no_dot =
+    → inner_parts at y ≡ record { start = at; end = at + length y; value = value_of_piece y } ∷ []
+inner_parts_one at y e some no_dot =
     let whole = whole_first y e in
-    counted-first at y ∙ ap₂
-    (λ p r. first_counted at p ++ counted (at + position_or_len is_slash y) r) whole.0 whole.1
-    ∙ ap (λ ps. first_counted at y ++ ps) (counted-nil _) ∙ append-nil (first_counted at y)
+    inner_parts-first at y ∙ ap₂
+    (λ p r. first_inner_part at p ++ inner_parts (at + position_or_len is_slash y) r) whole.0 whole.1
+    ∙ ap (λ ps. first_inner_part at y ++ ps) (inner_parts-nil _) ∙ append-nil (first_inner_part at y)
     ∙ rw (some, no_dot) refl
 
 -- the last part, where a slash stands before it
@@ -66,17 +66,17 @@ last_after_slash s start h some named no_dot =
     let m : length y ≡ length s - start = length-drop start s in
     let from : 0 + length x + 1 ≡ start = omega arith in
     let to : 0 + length x + 1 + length y ≡ length s = omega arith in
-    let one : counted (0 + length x + 1) y ≡ record
+    let one : inner_parts (0 + length x + 1) y ≡ record
     { start = start; end = length s; value = value_of_piece y } ∷ [] =
-    counted_one (0 + length x + 1) y h.no_slash named no_dot
+    inner_parts_one (0 + length x + 1) y h.no_slash named no_dot
     ∙ ap₂ (λ a b. record { start = a; end = b; value = value_of_piece y } ∷ []) from to in
     ap parts is ∙ ap₂ ◌++◌ (leading_past_slash x y [])
-    (counted-append 0 x y ∙ ap (λ ps. counted 0 x ++ ps) one)
-    ∙ sym (append_assoc (leading_part (x ++ 47 ∷ [])) (counted 0 x) _)
+    (inner_parts-append 0 x y ∙ ap (λ ps. inner_parts 0 x ++ ps) one)
+    ∙ sym (append_assoc (leading_part (x ++ 47 ∷ [])) (inner_parts 0 x) _)
     ∙ ap (λ l. l ++ record { start = start; end = length s; value = value_of_piece y } ∷ [])
     (sym (ap parts front ∙ ap (λ ps. leading_part (x ++ 47 ∷ []) ++ ps)
-    (counted-append 0 x [] ∙ ap (λ ps. counted 0 x ++ ps) (counted-nil _)
-    ∙ append-nil (counted 0 x))))
+    (inner_parts-append 0 x [] ∙ ap (λ ps. inner_parts 0 x ++ ps) (inner_parts-nil _)
+    ∙ append-nil (inner_parts 0 x))))
 
 -- the last piece of a string that ends in a part, where a slash stands before it, counts
 last_counts : (s : List ℕ) (start : ℕ) → IsLastStart s start → 0 < start → start < length s
@@ -115,16 +115,16 @@ pub last_part : (s : List ℕ) (start : ℕ) → IsLastStart s start → start <
     ∷ [])
 last_part s zero h l ends =
     let whole = whole_first s h.no_slash in
-    let none : parts [] ≡ [] = parts-busy [] (λ l. absurd (omega arith)) ∙ counted-nil 0 in (
+    let none : parts [] ≡ [] = parts-busy [] (λ l. absurd (omega arith)) ∙ inner_parts-nil 0 in (
       0,
       parts-name s l (no_slash_head s h.no_slash l)
           ∙ ap₂ (λ p r. record {
             start = 0;
             end = position_or_len is_slash s;
             value = first_value p;
-          } ∷ counted (position_or_len is_slash s) r) whole.0 whole.1
+          } ∷ inner_parts (position_or_len is_slash s) r) whole.0 whole.1
           ∙ ap₂ (λ e ps. record { start = 0; end = e; value = first_value s } ∷ ps) h.no_slash
-          (counted-nil _)
+          (inner_parts-nil _)
           ∙ sym (ap (λ ps. ps ++ record { start = 0; end = length s; value = first_value s } ∷ [])
           none),
     )
@@ -143,7 +143,7 @@ pub root_alone : (s : List ℕ) → 0 < length s → EndsInPart s → get_or s (
     → parts s ≡ record { start = 0; end = length s; value = RootDir } ∷ []
 root_alone [] l ends e = absurd (omega arith)
 root_alone (b ∷ []) l ends e = parts-root (b ∷ []) e
-    ∙ ap (λ ps. record { start = 0; end = 1; value = RootDir } ∷ ps) (counted-nil 1)
+    ∙ ap (λ ps. record { start = 0; end = 1; value = RootDir } ∷ ps) (inner_parts-nil 1)
 root_alone (b ∷ c ∷ s) l ends e =
     let t = b ∷ c ∷ s in
     let hit : is_trailing t (length t - 1) ≡ true =

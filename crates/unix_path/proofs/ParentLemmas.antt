@@ -7,7 +7,8 @@ use Rattle.std.specs.Option.{option_and_then}
 use Rattle.std.proofs.lemmas.Option.{same_Some, none-some}
 use Rattle.unix_path.specs.Parts.{Value, RootDir, values}
 use Rattle.unix_path.specs.Rest.{rest}
-use Rattle.unix_path.specs.Names.{depth_of, parent_of, name_of, file_name_of}
+use Rattle.unix_path.specs.Parents.{depth_of, parent_of}
+use Rattle.unix_path.specs.Names.{name_of, file_name_of}
 use Rattle.unix_path.specs.Edits.{before_name_of}
 use Rattle.unix_path.proofs.RestLemmas.{values-rest, rest-rest}
 use Rattle.unix_path.proofs.EndLemmas.{last_or-push}

@@ -7,10 +7,10 @@ use Rattle.std.specs.Str.{bytes_eq}
 use Rattle.std.proofs.lemmas.Slice.Eq.{bytes_eq-Decides}
 use Rattle.std.proofs.lemmas.List.{drop_all}
 use Rattle.unix_path.proofs.CaseLemmas.{by_test, take-suc_cons}
-use Rattle.unix_path.proofs.PieceLemmas.{counted-first, counted-slash, first_counted, first_piece}
+use Rattle.unix_path.proofs.PieceLemmas.{inner_parts-first, inner_parts-slash, first_inner_part, first_piece}
 use Rattle.unix_path.proofs.PieceLemmas.{length-first_piece, position_or_len-other}
 use Rattle.unix_path.specs.Parts.{Value, parent_dir, is_rooted, CurDir, Part}
-use Rattle.unix_path.specs.Parts.{RootDir, counted, cur_dir, is_slash}
+use Rattle.unix_path.specs.Parts.{RootDir, inner_parts, cur_dir, is_slash}
 use Rattle.unix_path.specs.Parts.{leading_part, parts, value_of_piece, values}
 use Rattle.unix_path.specs.Rest.{rest, span_of}
 use Rattle.unix_path.specs.Steps.{first_value}
@@ -20,10 +20,10 @@ root = record { start = 0; end = 1; value = RootDir }
 
 -- a string that begins with a slash
 pub parts-root : (s : List ℕ) → get_or s 0 0 ≡ 47
-    → parts s ≡ record { start = 0; end = 1; value = RootDir } ∷ counted 1 (drop 1 s)
+    → parts s ≡ record { start = 0; end = 1; value = RootDir } ∷ inner_parts 1 (drop 1 s)
 unfolding parts leading_part
 parts-root [] e = absurd (omega arith)
-parts-root (b ∷ s) e = ap (λ b. parts (b ∷ s)) e ∙ ap (λ ps. root ∷ ps) (counted-slash 0 s)
+parts-root (b ∷ s) e = ap (λ b. parts (b ∷ s)) e ∙ ap (λ ps. root ∷ ps) (inner_parts-slash 0 s)
 
 -- byte 0, where there is one
 pub is_rooted-at : (s : List ℕ) → is_rooted s ≡ eqb (get_or s 0 0) 47
@@ -49,17 +49,17 @@ pub parts-name : (s : List ℕ) → 0 < length s → eqb (get_or s 0 0) 47 ≡ f
       start = 0;
       end = position_or_len is_slash s;
       value = first_value (first_piece s);
-    } ∷ counted (position_or_len is_slash s)
+    } ∷ inner_parts (position_or_len is_slash s)
     (drop (position_or_len is_slash s) s)
 unfolding parts
 parts-name s l e =
     let n = position_or_len is_slash s in
     let p = first_piece s in
-    let tail = counted n (drop n s) in
+    let tail = inner_parts n (drop n s) in
     let all : parts s ≡ cond (bytes_eq p cur_dir)
-    (record { start = 0; end = 1; value = CurDir } ∷ []) [] ++ (first_counted 0 p ++ tail) =
+    (record { start = 0; end = 1; value = CurDir } ∷ []) [] ++ (first_inner_part 0 p ++ tail) =
     ap₂ ◌++◌ (leading_part-name s e)
-    (counted-first 0 s ∙ ap (λ k. first_counted 0 p ++ counted k (drop n s)) (zero-add n)) in
+    (inner_parts-first 0 s ∙ ap (λ k. first_inner_part 0 p ++ inner_parts k (drop n s)) (zero-add n)) in
     let some = nonempty_first_piece s l e in
     by_test (bytes_eq p cur_dir)
     (λ dot. all ∙ rw (some, dot)
@@ -70,16 +70,16 @@ parts-name s l e =
     (zero-add (length p) ∙ length-first_piece s)))
 
 pub values-nil : values [] ≡ []
-unfolding values parts leading_part counted
+unfolding values parts leading_part inner_parts
 values-nil = refl
 
 pub rest-nil : (k m : ℕ) → rest [] k m ≡ []
-unfolding rest parts leading_part counted
+unfolding rest parts leading_part inner_parts
 rest-nil k m = ap (λ ps. span_of [] (take (0 - (k + m)) ps)) (drop_all k [] (omega arith))
     ∙ ap (span_of []) (take_all (0 - (k + m)) [] (omega arith))
 
 pub parts-nil : parts [] ≡ []
-unfolding parts leading_part counted
+unfolding parts leading_part inner_parts
 parts-nil = refl
 
 -- whether the first value is the root

@@ -5,28 +5,28 @@ use Rattle.std.proofs.Common.{eqb-true}
 use Rattle.std.specs.List.{before_first, slice_split, onto_first, position_or_len}
 use Rattle.std.proofs.lemmas.List.Splits.{slice_split-cons_yes, slice_split-cons_no}
 use Rattle.unix_path.proofs.CaseLemmas.{by_test, drop-suc_cons, take-suc_cons}
-use Rattle.unix_path.specs.Parts.{Part, counted, counts, is_slash, parts_of_pieces}
+use Rattle.unix_path.specs.Parts.{Part, inner_parts, counts, is_slash, parts_of_pieces}
 use Rattle.unix_path.specs.Parts.{value_of_piece}
 
-pub counted-nil : (at : ℕ) → counted at [] ≡ []
-unfolding counted
-counted-nil at = refl
+pub inner_parts-nil : (at : ℕ) → inner_parts at [] ≡ []
+unfolding inner_parts
+inner_parts-nil at = refl
 
 -- an empty piece doesn't count
-pub counted-slash : (at : ℕ) (s : List ℕ) → counted at (47 ∷ s) ≡ counted (at + 1) s
-unfolding counted
-counted-slash at s = ap
+pub inner_parts-slash : (at : ℕ) (s : List ℕ) → inner_parts at (47 ∷ s) ≡ inner_parts (at + 1) s
+unfolding inner_parts
+inner_parts-slash at s = ap
     (λ n. parts_of_pieces n (slice_split is_slash s)) {x = at + 0 + 1}
     {y = at + 1} (omega arith)
 
 -- nor does a `.`
-pub counted-dot : (at : ℕ) → counted at (46 ∷ []) ≡ []
-unfolding counted
-counted-dot at = refl
+pub inner_parts-dot : (at : ℕ) → inner_parts at (46 ∷ []) ≡ []
+unfolding inner_parts
+inner_parts-dot at = refl
 
-pub counted-dot_slash : (at : ℕ) (s : List ℕ) → counted at (46 ∷ 47 ∷ s) ≡ counted (at + 1) (47 ∷ s)
-unfolding counted
-counted-dot_slash at s =
+pub inner_parts-dot_slash : (at : ℕ) (s : List ℕ) → inner_parts at (46 ∷ 47 ∷ s) ≡ inner_parts (at + 1) (47 ∷ s)
+unfolding inner_parts
+inner_parts-dot_slash at s =
     ap (λ n. parts_of_pieces n (slice_split is_slash s)) {x = at + 1 + 1}
     {y = at + 1 + 0 + 1} (omega arith)
 
@@ -81,24 +81,24 @@ length-first_piece (x ∷ xs) = by_test (eqb x 47)
     ∙ omega (arith, length-first_piece xs, position_or_len-other x xs e))
 
 -- the first piece, read alone
-abbrev pub first_counted : ℕ → List ℕ → List Part
-first_counted at p = cond (counts p)
+abbrev pub first_inner_part : ℕ → List ℕ → List Part
+first_inner_part at p = cond (counts p)
     (record { start = at; end = at + length p; value = value_of_piece p } ∷ []) []
 
-counted-after_cut : (at : ℕ) (s : List ℕ) → IsCut s
-    → parts_of_pieces (at + 1) (after_cut s) ≡ counted at s
-unfolding counted
-counted-after_cut at [] h = refl
-counted-after_cut at (b ∷ s) h = sym (ap (λ b. counted at (b ∷ s)) h ∙ counted-slash at s)
+inner_parts-after_cut : (at : ℕ) (s : List ℕ) → IsCut s
+    → parts_of_pieces (at + 1) (after_cut s) ≡ inner_parts at s
+unfolding inner_parts
+inner_parts-after_cut at [] h = refl
+inner_parts-after_cut at (b ∷ s) h = sym (ap (λ b. inner_parts at (b ∷ s)) h ∙ inner_parts-slash at s)
 
-pub counted-first : (at : ℕ) (s : List ℕ)
-    → counted at s ≡ first_counted at (first_piece s) ++ counted (at + position_or_len is_slash s)
+pub inner_parts-first : (at : ℕ) (s : List ℕ)
+    → inner_parts at s ≡ first_inner_part at (first_piece s) ++ inner_parts (at + position_or_len is_slash s)
     (drop (position_or_len is_slash s) s)
-unfolding counted
-counted-first at s =
+unfolding inner_parts
+inner_parts-first at s =
     let n = position_or_len is_slash s in
     ap (parts_of_pieces at) (slice_split-first s)
-    ∙ ap (λ k. first_counted at (first_piece s) ++ parts_of_pieces (at + k + 1)
+    ∙ ap (λ k. first_inner_part at (first_piece s) ++ parts_of_pieces (at + k + 1)
     (after_cut (drop n s))) (length-first_piece s)
-    ∙ ap (λ ps. first_counted at (first_piece s) ++ ps)
-    (counted-after_cut (at + n) (drop n s) (IsCut-drop s))
+    ∙ ap (λ ps. first_inner_part at (first_piece s) ++ ps)
+    (inner_parts-after_cut (at + n) (drop n s) (IsCut-drop s))

@@ -3,7 +3,7 @@ use Rattle.std.proofs.Common.{◌≡◌, ℕ, ◌+◌, ◌<◌, List, [], ◌∷
 use Rattle.std.proofs.Common.{ap, ap₂, ◌∙◌, arith}
 use Rattle.std.specs.List.{slice_split}
 use Rattle.unix_path.proofs.CaseLemmas.{by_test}
-use Rattle.unix_path.specs.Parts.{Part, counted, counts, is_slash, parts_of_pieces}
+use Rattle.unix_path.specs.Parts.{Part, inner_parts, counts, is_slash, parts_of_pieces}
 use Rattle.unix_path.specs.Parts.{value_of_piece}
 use Rattle.unix_path.specs.Rest.{last_end}
 use Rattle.unix_path.specs.Steps.{parts_end}
@@ -24,9 +24,9 @@ moved_pieces at d (p ∷ ps) =
     first next))
     (λ e. rw e next)
 
-pub counted-moved : (at d : ℕ) (s : List ℕ) → counted (at + d) s ≡ map (moved d) (counted at s)
-unfolding counted
-counted-moved at d s = moved_pieces at d (slice_split is_slash s)
+pub inner_parts-moved : (at d : ℕ) (s : List ℕ) → inner_parts (at + d) s ≡ map (moved d) (inner_parts at s)
+unfolding inner_parts
+inner_parts-moved at d s = moved_pieces at d (slice_split is_slash s)
 
 pub values_moved : (d : ℕ) (ps : List Part)
     → map (λ p. p.value) (map (moved d) ps) ≡ map (λ p. p.value) ps
@@ -34,10 +34,10 @@ values_moved d [] = refl
 values_moved d (p ∷ ps) = ap (λ vs. p.value ∷ vs) (values_moved d ps)
 
 -- the values don't depend on where the string stands
-pub values-counted : (at : ℕ) (s : List ℕ)
-    → map (λ p. p.value) (counted at s) ≡ map (λ p. p.value) (counted 0 s)
-values-counted at s = ap (λ n. map (λ p. p.value) (counted n s)) {x = at} {y = 0 + at} (omega arith)
-    ∙ ap (map (λ p. p.value)) (counted-moved 0 at s) ∙ values_moved at (counted 0 s)
+pub values-inner_parts : (at : ℕ) (s : List ℕ)
+    → map (λ p. p.value) (inner_parts at s) ≡ map (λ p. p.value) (inner_parts 0 s)
+values-inner_parts at s = ap (λ n. map (λ p. p.value) (inner_parts n s)) {x = at} {y = 0 + at} (omega arith)
+    ∙ ap (map (λ p. p.value)) (inner_parts-moved 0 at s) ∙ values_moved at (inner_parts 0 s)
 
 pub last_end-moved : (d : ℕ) (p : Part) (ps : List Part)
     → last_end (moved d p) (map (moved d) ps) ≡ last_end p ps + d

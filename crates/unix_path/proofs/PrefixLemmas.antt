@@ -2,7 +2,7 @@
 use Rattle.std.proofs.Common.{◌≡◌, ℕ, ◌+◌, List, [], ◌∷◌, ◌++◌, length, sym, ap, subst, ◌∙◌, arith}
 use Rattle.unix_path.specs.Parts.{Value, values}
 use Rattle.unix_path.specs.Rest.{rest}
-use Rattle.unix_path.specs.Names.{Begins, stripped_of}
+use Rattle.unix_path.specs.Prefixes.{Begins, stripped_of}
 use Rattle.unix_path.proofs.RestLemmas.{rest-rest}
 use Rattle.unix_path.proofs.ParentLemmas.{values-whole}
 

@@ -6,8 +6,8 @@ use Rattle.std.specs.List.{position_or_len, slice_split}
 use Rattle.std.specs.Str.{bytes_eq}
 use Rattle.unix_path.specs.Parts.{Value, RootDir, is_slash}
 use Rattle.unix_path.specs.Parts.{cur_dir, parent_dir, counts, parts_of_pieces, value_of_piece}
-use Rattle.unix_path.specs.Parts.{counted, values, is_rooted}
-use Rattle.unix_path.specs.Names.{Begins}
+use Rattle.unix_path.specs.Parts.{inner_parts, values, is_rooted}
+use Rattle.unix_path.specs.Prefixes.{Begins}
 use Rattle.unix_path.specs.Steps.{first_value}
 use Rattle.unix_path.proofs.CaseLemmas.{by_test, is_nil}
 use Rattle.unix_path.proofs.PieceLemmas.{first_piece}
@@ -29,9 +29,9 @@ no_root_pieces at (p ∷ ps) =
     let next = no_root_pieces (at + length p + 1) ps in
     by_test (counts p) (λ e. rw e (no_root_piece p, next)) (λ e. rw e next)
 
-pub no_root_counted : (at : ℕ) (s : List ℕ) → NoRoot (map (λ p. p.value) (counted at s))
-unfolding counted
-no_root_counted at s = no_root_pieces at (slice_split is_slash s)
+pub no_root_inner : (at : ℕ) (s : List ℕ) → NoRoot (map (λ p. p.value) (inner_parts at s))
+unfolding inner_parts
+no_root_inner at s = no_root_pieces at (slice_split is_slash s)
 
 -- the first value is v, and no other is the root
 pub record BeginsBy (s : List ℕ) (v : Value) : Type 0 where
@@ -42,9 +42,9 @@ pub record BeginsBy (s : List ℕ) (v : Value) : Type 0 where
 begins_by_root : (s : List ℕ) → eqb (get_or s 0 0) 47 ≡ true → BeginsBy s RootDir
 unfolding values
 begins_by_root s e = record {
-  more = map (λ p. p.value) (counted 1 (drop 1 s));
+  more = map (λ p. p.value) (inner_parts 1 (drop 1 s));
   is = ap (map (λ p. p.value)) (parts-root s (eqb-true _ 47 e));
-  no_root = no_root_counted 1 (drop 1 s);
+  no_root = no_root_inner 1 (drop 1 s);
 }
 
 begins_by_name : (s : List ℕ) → 0 < length s → eqb (get_or s 0 0) 47 ≡ false
@@ -53,9 +53,9 @@ unfolding values
 begins_by_name s l e =
     let n = position_or_len is_slash s in
     record {
-      more = map (λ p. p.value) (counted n (drop n s));
+      more = map (λ p. p.value) (inner_parts n (drop n s));
       is = ap (map (λ p. p.value)) (parts-name s l e);
-      no_root = no_root_counted n (drop n s);
+      no_root = no_root_inner n (drop n s);
     }
 
 first_value-no_root : (p : List ℕ) → first_value p ≡ RootDir → ⊥

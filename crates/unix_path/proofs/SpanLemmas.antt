@@ -6,10 +6,10 @@ use Rattle.unix_path.proofs.CaseLemmas.{by_test, is_nil}
 use Rattle.unix_path.proofs.IdleLemmas.{parts-busy}
 use Rattle.unix_path.proofs.LastLemmas.{last_part, last_start, root_alone}
 use Rattle.unix_path.proofs.PartLemmas.{parts-name, parts-nil, parts-root}
-use Rattle.unix_path.proofs.PieceLemmas.{counted-nil}
+use Rattle.unix_path.proofs.PieceLemmas.{inner_parts-nil}
 use Rattle.unix_path.proofs.PlaceLemmas.{last_end-moved, moved}
 use Rattle.unix_path.proofs.TrimLemmas.{EndsInPart-take, trims_to}
-use Rattle.unix_path.specs.Parts.{Part, Value, counted, parts}
+use Rattle.unix_path.specs.Parts.{Part, Value, inner_parts, parts}
 use Rattle.unix_path.specs.Rest.{last_end, rest, span_of}
 use Rattle.unix_path.specs.Steps.{EndsInPart, parts_end}
 
@@ -36,7 +36,7 @@ parts_end-whole s ends =
     ap parts_end (root_alone s l ends
     (ap (λ k. get_or s (k - 1) 0) (sym here) ∙ at.1.after_slash (omega arith))))
     (λ none. ap (λ s. parts_end (parts s)) (is_nil s (omega (arith, ltb-false _ _ none)))
-    ∙ ap parts_end (parts-busy [] (λ l. absurd (omega arith)) ∙ counted-nil 0)
+    ∙ ap parts_end (parts-busy [] (λ l. absurd (omega arith)) ∙ inner_parts-nil 0)
     ∙ ap length (sym (is_nil s (omega (arith, ltb-false _ _ none))))))
 
 from_zero : (t : List ℕ) {all : List Part} {v : Value} {e : ℕ} {ps : List Part}
@@ -54,7 +54,7 @@ span-parts t s = by_test (ltb 0 (length s))
     (λ e. from_zero t (parts-root s (eqb-true _ 47 e)))
     (λ e. from_zero t (parts-name s (ltb-true _ _ some) e)))
     (λ none. let is : parts s ≡ [] = parts-busy s (λ l. absurd (omega (arith, ltb-false _ _ none)))
-    ∙ ap (counted 0) (is_nil s (omega (arith, ltb-false _ _ none))) ∙ counted-nil 0 in
+    ∙ ap (inner_parts 0) (is_nil s (omega (arith, ltb-false _ _ none))) ∙ inner_parts-nil 0 in
     ap (span_of t) is ∙ ap (λ ps. take (parts_end ps) t) (sym is))
 
 pub rest-whole : (s : List ℕ) → rest s 0 0 ≡ take (parts_end (parts s)) s

@@ -10,9 +10,9 @@ use Rattle.unix_path.proofs.IdleLemmas.{parts-busy, skips_idle}
 use Rattle.unix_path.proofs.LastLemmas.{last_part, last_start, root_alone}
 use Rattle.unix_path.proofs.PartLemmas.{parts-name, parts-nil, parts-root}
 use Rattle.unix_path.proofs.PieceLemmas.{length-first_piece, position_or_len-other}
-use Rattle.unix_path.proofs.PlaceLemmas.{counted-moved, moved, moved-moved, moved-zero}
+use Rattle.unix_path.proofs.PlaceLemmas.{inner_parts-moved, moved, moved-moved, moved-zero}
 use Rattle.unix_path.proofs.TrimLemmas.{EndsInPart-take, trims_to}
-use Rattle.unix_path.specs.Parts.{Part, RootDir, Value, counted, is_slash, parts}
+use Rattle.unix_path.specs.Parts.{Part, RootDir, Value, inner_parts, is_slash, parts}
 use Rattle.unix_path.specs.Steps.{EndsInPart, first_value}
 
 -- the first part is p, and the others stand `len` places further on
@@ -24,7 +24,7 @@ pub record SplitsFirst (t : List ℕ) : Type 0 where
   pub is : parts t ≡ first ∷ map (moved len) (parts (drop len t))
 
 splits_at : (t : List ℕ) (e : ℕ) (v : Value) → 0 < e → e ≤ length t
-    → parts t ≡ record { start = 0; end = e; value = v } ∷ counted e (drop e t) → SplitsFirst t
+    → parts t ≡ record { start = 0; end = e; value = v } ∷ inner_parts e (drop e t) → SplitsFirst t
 splits_at t e v some l is =
     let idle = skips_idle (drop e t) in
     let d = idle.len in
@@ -35,8 +35,8 @@ splits_at t e v some l is =
       some = omega arith;
       in_range = omega (arith, idle.in_range, length-drop e t);
       is = is ∙ ap (λ ps. record { start = 0; end = e; value = v } ∷ ps)
-          (idle.same e ∙ ap (λ n. counted n (drop d (drop e t))) {x = e + d} {y = 0 + (e + d)}
-          (omega arith) ∙ counted-moved 0 (e + d) (drop d (drop e t))
+          (idle.same e ∙ ap (λ n. inner_parts n (drop d (drop e t))) {x = e + d} {y = 0 + (e + d)}
+          (omega arith) ∙ inner_parts-moved 0 (e + d) (drop d (drop e t))
           ∙ ap (map (moved (e + d))) (sym (parts-busy (drop d (drop e t)) idle.busy))
           ∙ ap (λ u. map (moved (e + d)) (parts u)) u);
     }

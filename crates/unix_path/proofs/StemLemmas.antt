@@ -10,7 +10,7 @@ use Rattle.std.proofs.lemmas.Option.{same_Some, none-some}
 use Rattle.std.proofs.lemmas.Slice.Eq.{bytes_eq-Decides}
 use Rattle.unix_path.specs.Parts.{Part, Value, RootDir, CurDir, ParentDir, Normal, value_bytes}
 use Rattle.unix_path.specs.Parts.{is_slash, cur_dir, parent_dir, counts, parts_of_pieces}
-use Rattle.unix_path.specs.Parts.{value_of_piece, counted, leading_part, parts}
+use Rattle.unix_path.specs.Parts.{value_of_piece, inner_parts, leading_part, parts}
 use Rattle.unix_path.specs.Parts.{values, is_rooted}
 use Rattle.unix_path.specs.Rest.{rest, last_end}
 use Rattle.unix_path.specs.Steps.{parts_end}
@@ -51,8 +51,8 @@ sized_leading s = by_test (is_rooted s) (λ e. rw e (refl, tt))
     (λ d. rw d tt)))
 
 sized_parts : (s : List ℕ) → AllByRecursion IsSized (parts s)
-unfolding parts counted
-sized_parts s = sized_append (leading_part s) (counted 0 s) (sized_leading s)
+unfolding parts inner_parts
+sized_parts s = sized_append (leading_part s) (inner_parts 0 s) (sized_leading s)
     (sized_pieces 0 (slice_split is_slash s))
 
 sized_last : (ps : List Part) (p : Part) → AllByRecursion IsSized (ps ++ p ∷ []) → IsSized p

@@ -3,13 +3,13 @@ use Rattle.std.proofs.Common.{◌≡◌, ℕ, ◌+◌, ◌-◌, ◌≤◌, ◌<�
 use Rattle.std.proofs.Common.{get_or, take, drop, map, refl, sym, ap, subst, ◌∙◌, arith, take_all}
 use Rattle.std.proofs.Common.{length-drop, drop-drop, length-append, length-take-le}
 use Rattle.std.proofs.lemmas.List.{map-append, take-append-le}
-use Rattle.unix_path.proofs.IdleLemmas.{counted_busy, parts-busy}
+use Rattle.unix_path.proofs.IdleLemmas.{inner_parts_busy, parts-busy}
 use Rattle.unix_path.proofs.LastLemmas.{last_part, root_alone}
-use Rattle.unix_path.proofs.PieceLemmas.{counted-nil}
-use Rattle.unix_path.proofs.PlaceLemmas.{values-counted}
+use Rattle.unix_path.proofs.PieceLemmas.{inner_parts-nil}
+use Rattle.unix_path.proofs.PlaceLemmas.{values-inner_parts}
 use Rattle.unix_path.proofs.SpanLemmas.{parts_end-whole, span-parts, trimmed}
 use Rattle.unix_path.proofs.TrimLemmas.{EndsInPart-drop, EndsInPart-take}
-use Rattle.unix_path.specs.Parts.{Part, RootDir, Value, counted, parts, values}
+use Rattle.unix_path.specs.Parts.{Part, RootDir, Value, inner_parts, parts, values}
 use Rattle.unix_path.specs.Rest.{rest, span_of}
 use Rattle.unix_path.specs.Steps.{EndsInPart, IsLastStart, TakesFirst, TakesLast, first_value}
 use Rattle.unix_path.specs.Steps.{is_idle, is_trailing, parts_end}
@@ -20,11 +20,11 @@ unfolding rest
 rest-first s p ps e = rw e (ap (span_of s) (take_all (length (p ∷ ps) - 1) ps (omega arith)))
 
 span_busy : (t u : List ℕ) (i : ℕ) → drop i t ≡ u → i ≤ length t
-    → (0 < length u → is_idle u 0 ≡ false) → (0 < length u → parts_end (counted i u) ≡ length t)
-    → span_of t (counted i u) ≡ u
-span_busy t [] i is l busy end = ap (span_of t) (counted-nil i)
+    → (0 < length u → is_idle u 0 ≡ false) → (0 < length u → parts_end (inner_parts i u) ≡ length t)
+    → span_of t (inner_parts i u) ≡ u
+span_busy t [] i is l busy end = ap (span_of t) (inner_parts-nil i)
 span_busy t (b ∷ u) i is l busy end =
-    let first = counted_busy i (b ∷ u) (omega arith) (busy (omega arith)) in
+    let first = inner_parts_busy i (b ∷ u) (omega arith) (busy (omega arith)) in
     let reaches = end (omega arith) in
     let n : length (drop i t) ≡ length t - i = length-drop i t in
     ap (span_of t) first ∙ ap (λ n. take (n - i) (drop i t)) (sym (ap parts_end first) ∙ reaches)
@@ -32,8 +32,8 @@ span_busy t (b ∷ u) i is l busy end =
 
 pub takes_first : (t : List ℕ) (e d : ℕ) (v : Value) → EndsInPart t → e ≤ length t
     → d ≤ length (drop e t)
-    → parts t ≡ record { start = 0; end = e; value = v } ∷ counted e (drop e t)
-    → counted e (drop e t) ≡ counted (e + d) (drop d (drop e t))
+    → parts t ≡ record { start = 0; end = e; value = v } ∷ inner_parts e (drop e t)
+    → inner_parts e (drop e t) ≡ inner_parts (e + d) (drop d (drop e t))
     → (0 < length (drop d (drop e t)) → is_idle (drop d (drop e t)) 0 ≡ false)
     → TakesFirst t (drop d (drop e t)) v
 unfolding values
@@ -44,20 +44,20 @@ takes_first t e d v ends l m first idle busy =
     let n = length-drop e t in
     let in_range : e + d ≤ length t = omega arith in
     let end : 0 < length u
-    → parts_end (counted (e + d) u) ≡ length t = λ some. end_of (e + d) u some (busy some) e v
+    → parts_end (inner_parts (e + d) u) ≡ length t = λ some. end_of (e + d) u some (busy some) e v
     ∙ sym (ap parts_end all) ∙ parts_end-whole t ends in
     record {
       value = ap (map (λ p. p.value)) all
-          ∙ ap (λ vs. v ∷ vs) (values-counted (e + d) u
+          ∙ ap (λ vs. v ∷ vs) (values-inner_parts (e + d) u
           ∙ ap (map (λ p. p.value)) (sym (parts-busy u busy)));
       rest = rest-first t _ _ all ∙ span_busy t u (e + d) is in_range busy end;
       ends = subst EndsInPart is (EndsInPart-drop t (e + d) in_range ends);
     }
   where
     end_of : (i : ℕ) (u : List ℕ) → 0 < length u → is_idle u 0 ≡ false → (e : ℕ) (v : Value)
-        → parts_end (counted i u) ≡ parts_end
-        (record { start = 0; end = e; value = v } ∷ counted i u)
-    end_of i u some busy e v = let first = counted_busy i u some busy in rw first refl
+        → parts_end (inner_parts i u) ≡ parts_end
+        (record { start = 0; end = e; value = v } ∷ inner_parts i u)
+    end_of i u some busy e v = let first = inner_parts_busy i u some busy in rw first refl
 
 pub rest-last : (s : List ℕ) (ps : List Part) (p : Part) → parts s ≡ ps ++ p ∷ []
     → rest s 0 1 ≡ span_of s ps
@@ -97,7 +97,7 @@ takes_last t start n h l ends m same trimmed =
 pub takes_root : (t : List ℕ) → 0 < length t → EndsInPart t → get_or t (length t - 1) 0 ≡ 47
     → TakesLast t (take 0 t) RootDir
 takes_root t l ends e =
-    let none : parts [] ≡ [] = parts-busy [] (λ l. absurd (omega arith)) ∙ counted-nil 0 in
+    let none : parts [] ≡ [] = parts-busy [] (λ l. absurd (omega arith)) ∙ inner_parts-nil 0 in
     takes_last_to t 0 0 (length t) RootDir (omega arith)
     (root_alone t l ends e
     ∙ ap (λ ps. ps ++ record { start = 0; end = length t; value = RootDir } ∷ []) (sym none))

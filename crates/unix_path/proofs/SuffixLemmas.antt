@@ -4,7 +4,7 @@ use Rattle.std.proofs.Common.{append-nil}
 use Rattle.std.proofs.lemmas.List.{same_from_push}
 use Rattle.unix_path.specs.Parts.{Value, values}
 use Rattle.unix_path.specs.Rest.{rest}
-use Rattle.unix_path.specs.Names.{Ends}
+use Rattle.unix_path.specs.Prefixes.{Ends}
 use Rattle.unix_path.proofs.ParentLemmas.{values-whole}
 
 -- the values of child that aren't in `left` end those of s, and u has those before them

@@ -7,16 +7,16 @@ use Rattle.std.proofs.Common.{length-take-le}
 use Rattle.std.proofs.lemmas.Bool.{or_cases, and_parts}
 use Rattle.std.proofs.lemmas.List.{take_more, get_or-take}
 use Rattle.unix_path.proofs.CaseLemmas.{by_test}
-use Rattle.unix_path.proofs.CutLemmas.{counted-append, leading_part-append}
-use Rattle.unix_path.proofs.PieceLemmas.{counted-dot, counted-nil}
-use Rattle.unix_path.specs.Parts.{counted, leading_part, parts}
+use Rattle.unix_path.proofs.CutLemmas.{inner_parts-append, leading_part-append}
+use Rattle.unix_path.proofs.PieceLemmas.{inner_parts-dot, inner_parts-nil}
+use Rattle.unix_path.specs.Parts.{inner_parts, leading_part, parts}
 use Rattle.unix_path.specs.Steps.{EndsInPart, is_trailing}
 
 pub parts-slash : (x : List ℕ) → 0 < length x → parts (x ++ 47 ∷ []) ≡ parts x
 unfolding parts
 parts-slash x l = ap₂ ◌++◌ (leading_part-append x [] l)
-    (counted-append 0 x [] ∙ ap (λ ps. counted 0 x ++ ps) (counted-nil _)
-    ∙ append-nil (counted 0 x))
+    (inner_parts-append 0 x [] ∙ ap (λ ps. inner_parts 0 x ++ ps) (inner_parts-nil _)
+    ∙ append-nil (inner_parts 0 x))
 
 pub leading_past_slash : (x y z : List ℕ) → leading_part (x ++ 47 ∷ y) ≡ leading_part (x ++ 47 ∷ z)
 unfolding leading_part
@@ -28,9 +28,9 @@ pub parts-slash_dot : (x : List ℕ) → parts (x ++ 47 ∷ 46 ∷ []) ≡ parts
 unfolding parts
 parts-slash_dot x =
     ap₂ ◌++◌ (leading_past_slash x (46 ∷ []) [])
-    (counted-append 0 x (46 ∷ [])
-    ∙ ap (λ ps. counted 0 x ++ ps) (counted-dot _ ∙ sym (counted-nil _))
-    ∙ sym (counted-append 0 x []))
+    (inner_parts-append 0 x (46 ∷ [])
+    ∙ ap (λ ps. inner_parts 0 x ++ ps) (inner_parts-dot _ ∙ sym (inner_parts-nil _))
+    ∙ sym (inner_parts-append 0 x []))
 
 trailing_from : (s : List ℕ) (i : ℕ) → is_trailing s i ≡ true
     → (0 < i) × ((get_or s i 0 ≡ 47) ⊎ ((get_or s i 0 ≡ 46) × (get_or s (i - 1) 0 ≡ 47)))

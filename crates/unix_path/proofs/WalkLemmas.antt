@@ -7,7 +7,7 @@ use Rattle.unix_path.specs.Views.{value_of}
 use Rattle.unix_path.specs.Cursor.{cursor_rest, cursor_source, cursor_values}
 use Rattle.unix_path.specs.Cursor.{iter_rest, iter_source, iter_bytes, GivesFirst, GivesLast}
 use Rattle.unix_path.specs.Ancestors.{ancestors_left}
-use Rattle.unix_path.specs.Names.{depth_of, ancestors_of}
+use Rattle.unix_path.specs.Parents.{depth_of, ancestors_of}
 use Rattle.unix_path.specs.Rest.{rest}
 use Rattle.unix_path.proofs.RestLemmas.{length-values}
 use Rattle.unix_path.proofs.CursorLemmas.{part_given, part_given_back}

@@ -1,7 +1,7 @@
 -- What a walk over a path's parents still gives (Rust's `Ancestors`).
 use Rattle.std.specs.Prelude.{ℕ, List, []}
 use Rattle.std.specs.Option.{option_map_or}
-use Rattle.unix_path.specs.Names.{ancestors_of}
+use Rattle.unix_path.specs.Parents.{ancestors_of}
 use Rattle.unix_path.specs.declared.cursor.parents.Ancestors.{Ancestors}
 
 -- the bytes of the paths that are left

@@ -7,7 +7,8 @@ use Rattle.std.specs.List.{last_or}
 use Rattle.unix_path.specs.Parts.{dot, Part, parts, values}
 use Rattle.unix_path.specs.Rest.{rest}
 use Rattle.unix_path.specs.Joins.{join_of}
-use Rattle.unix_path.specs.Names.{parent_of, file_name_of, stem_of}
+use Rattle.unix_path.specs.Parents.{parent_of}
+use Rattle.unix_path.specs.Names.{file_name_of, stem_of}
 
 -- the parent, or all of the path where there is none
 unfoldable pub popped_of : List ℕ → List ℕ

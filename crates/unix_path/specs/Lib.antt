@@ -1,6 +1,8 @@
 pub mod Parts
 pub mod Rest
+pub mod Parents
 pub mod Names
+pub mod Prefixes
 pub mod Joins
 pub mod Edits
 pub mod Buffers

@@ -55,8 +55,8 @@ parts_of_pieces at (p ∷ ps) =
     (if counts p then part ∷ [] else []) ++ parts_of_pieces (at + length p + 1) ps
 
 -- the parts of the pieces between the slashes of s, which stands at `at`
-unfoldable pub counted : ℕ → List ℕ → List Part
-counted at s = parts_of_pieces at (slice_split is_slash s)
+unfoldable pub inner_parts : ℕ → List ℕ → List Part
+inner_parts at s = parts_of_pieces at (slice_split is_slash s)
 
 -- byte 0 is a slash
 abbrev pub is_rooted : List ℕ → Bool
@@ -71,7 +71,7 @@ leading_part s =
 
 -- the leading part, and then the pieces that count, each with its place
 unfoldable pub parts : List ℕ → List Part
-parts s = leading_part s ++ counted 0 s
+parts s = leading_part s ++ inner_parts 0 s
 
 -- the parts without their places
 unfoldable pub values : List ℕ → List Value

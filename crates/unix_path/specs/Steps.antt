@@ -5,7 +5,7 @@ use Rattle.std.specs.Prelude.{Option, Some, None}
 use Rattle.std.specs.Prelude.{if◌then◌else◌}
 use Rattle.std.specs.List.{position_or_len}
 use Rattle.std.specs.Str.{bytes_eq}
-use Rattle.unix_path.specs.Parts.{parts, counted, slash, is_slash, dot, cur_dir, Part, Value}
+use Rattle.unix_path.specs.Parts.{parts, inner_parts, slash, is_slash, dot, cur_dir, Part, Value}
 use Rattle.unix_path.specs.Parts.{CurDir, value_of_piece}
 use Rattle.unix_path.specs.Parts.{values}
 use Rattle.unix_path.specs.Rest.{last_end, rest}
@@ -39,7 +39,7 @@ first_value bytes = if bytes_eq bytes cur_dir then CurDir else value_of_piece by
 -- the first part of s has this value and ends at `end`, and the others stand after it
 abbrev pub HasFirst : List ℕ → ℕ → Value → Type 0
 HasFirst s end v =
-    parts s ≡ record { start = 0; end = end; value = v } ∷ counted end (drop end s)
+    parts s ≡ record { start = 0; end = end; value = v } ∷ inner_parts end (drop end s)
 
 -- the end of the last of these parts
 abbrev pub parts_end : List Part → ℕ

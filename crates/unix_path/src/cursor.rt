@@ -2,7 +2,7 @@
 ghost use Rattle.std.specs.Prelude.{◌≡◌, ℕ, ◌+◌, ◌-◌, ◌<◌, ◌≤◌, false, List, [], ◌∷◌, ◌++◌, length};
 ghost use Rattle.std.specs.Prelude.{take, drop, ◌^◌};
 ghost use Rattle.std.specs.List.{position_or_len};
-ghost use Rattle.unix_path.specs.Parts.{is_slash, parts, counted, values, value_bytes};
+ghost use Rattle.unix_path.specs.Parts.{is_slash, parts, inner_parts, values, value_bytes};
 ghost use Rattle.unix_path.specs.Rest.{rest};
 ghost use Rattle.unix_path.specs.Steps.{HasFirst, is_idle, is_trailing, first_value, EndsInPart};
 ghost use Rattle.unix_path.specs.Steps.{IsLastStart};
@@ -131,7 +131,7 @@ fn is_idle(path: &[u8], i: usize) -> bool
 #[inline]
 fn idle_len(path: &[u8]) -> usize
     ensures in_range { result ≤ length path.now }
-    ensures idle { (at : ℕ) → counted at path.now ≡ counted (at + result) (drop result path.now) }
+    ensures idle { (at : ℕ) → inner_parts at path.now ≡ inner_parts (at + result) (drop result path.now) }
     ensures busy { result < length path.now → is_idle path.now result ≡ false }
 {
     let mut len = 0;

@@ -10,8 +10,10 @@ ghost use Rattle.unix_path.specs.Cursor.{GivesFirst, GivesLast};
 ghost use Rattle.unix_path.specs.Views.{value_of};
 ghost use Rattle.std.specs.Iterator.Runs.{EveryRun, ItemsMapTo, ItemsMapToReversed};
 ghost use Rattle.unix_bytes.specs.declared.bytes.UnixStr.{UnixStr};
-ghost use Rattle.unix_path.specs.Names.{parent_of, ancestors_of, file_name_of, stem_of};
-ghost use Rattle.unix_path.specs.Names.{extension_of, Begins, Ends, stripped_of};
+ghost use Rattle.unix_path.specs.Parents.{parent_of, ancestors_of};
+ghost use Rattle.unix_path.specs.Names.{file_name_of, stem_of};
+ghost use Rattle.unix_path.specs.Names.{extension_of};
+ghost use Rattle.unix_path.specs.Prefixes.{Begins, Ends, stripped_of};
 ghost use Rattle.unix_path.specs.Edits.{before_name_of, stem_end_of};
 ghost use Rattle.unix_path.specs.Places.{LiesIn};
 

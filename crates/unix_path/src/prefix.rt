@@ -1,7 +1,7 @@
 //! Whether the parts of one path begin or end those of another.
 ghost use Rattle.std.specs.Prelude.{◌≡◌, ◌↔◌, IsTrue, IsSome, IfSome};
 ghost use Rattle.unix_path.specs.Cursor.{cursor_rest, cursor_source};
-ghost use Rattle.unix_path.specs.Names.{Begins, Ends, stripped_of};
+ghost use Rattle.unix_path.specs.Prefixes.{Begins, Ends, stripped_of};
 ghost use Rattle.unix_path.specs.Parts.{values};
 ghost use Rattle.unix_path.specs.Views.{value_of};
 ghost use Rattle.unix_path.specs.Places.{LiesIn};

@@ -4,7 +4,7 @@ ghost use Rattle.path_runs.specs.JoinLaws.{JoinAddsValues, SlashAddsValues, Stri
 ghost use Rattle.path_runs.specs.JoinLaws.{values_added};
 ghost use Rattle.std.specs.Prelude.{◌≡◌, ◌++◌, ℕ, List, false};
 ghost use Rattle.unix_path.specs.Joins.{join_of};
-ghost use Rattle.unix_path.specs.Names.{Begins};
+ghost use Rattle.unix_path.specs.Prefixes.{Begins};
 ghost use Rattle.unix_path.specs.Parts.{is_rooted, values};
 
 /// Joins are associative, byte for byte, and the empty path joined with any path is that path.

@@ -4,7 +4,8 @@ ghost use Rattle.std.specs.Prelude.{IsSome, IsTrue, Some, count_by, drop, is_som
 ghost use Rattle.std.specs.Prelude.{option_map, reverse, slice_get, slice_index_or, take};
 ghost use Rattle.std.specs.List.{All, Any};
 ghost use Rattle.unix_path.specs.Buffers.{path_bytes};
-ghost use Rattle.unix_path.specs.Names.{ancestors_of, name_of};
+ghost use Rattle.unix_path.specs.Parents.{ancestors_of};
+ghost use Rattle.unix_path.specs.Names.{name_of};
 ghost use Rattle.unix_path.specs.Parts.{Value, ParentDir, value_bytes, values};
 ghost use Rattle.unix_path.specs.Views.{value_of};
 

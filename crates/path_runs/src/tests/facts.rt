@@ -2,7 +2,7 @@
 ghost use Rattle.std.specs.Prelude.{◌≡◌, ◌≤◌, ◌↔◌, false, [], IfOk, IsTrue, length};
 ghost use Rattle.std.specs.List.{sum_by};
 ghost use Rattle.unix_path.specs.Buffers.{path_bytes};
-ghost use Rattle.unix_path.specs.Names.{Begins};
+ghost use Rattle.unix_path.specs.Prefixes.{Begins};
 ghost use Rattle.unix_path.specs.Order.{values_cmp};
 ghost use Rattle.unix_path.specs.Parts.{is_rooted, value_bytes, values, SameValues};
 

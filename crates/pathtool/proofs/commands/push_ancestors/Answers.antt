@@ -3,7 +3,7 @@ use Rattle.std.proofs.lemmas.Iterator.{YieldsList-from_map_by}
 use Rattle.std.proofs.lemmas.Iterator.Consumers.{YieldsList-at, YieldsList-from_first}
 use Rattle.unix_path.proofs.CursorLemmas.{name_bytes}
 use Rattle.unix_path.specs.Ancestors.{ancestors_left}
-use Rattle.unix_path.specs.Names.{ancestors_of}
+use Rattle.unix_path.specs.Parents.{ancestors_of}
 use Rattle.pathtool.proofs.ListLemmas.{adds, adds_list}
 use Rattle.pathtool.specs.Fields.{tabs}
 use Rattle.pathtool.proofs.commands.push_ancestors.Goals as goal

@@ -1,11 +1,11 @@
 use Rattle.std.proofs.Common.{◌≡◌, ℕ, ◌+◌, ◌-◌, ◌≤◌, length, drop}
-use Rattle.unix_path.specs.Parts.{counted}
+use Rattle.unix_path.specs.Parts.{inner_parts}
 use Rattle.unix_path.proofs.cursor.idle_len.Given as goal
 
 abbrev pub invariant-loop-len : goal.invariant-loop-len
 invariant-loop-len l = record {
   in_range : l.len ≤ length l.path;
-  idle : (at : ℕ) → counted at l.path ≡ counted (at + l.len) (drop l.len l.path);
+  idle : (at : ℕ) → inner_parts at l.path ≡ inner_parts (at + l.len) (drop l.len l.path);
 }
 
 abbrev pub decreases-loop-len : goal.decreases-loop-len
