@@ -1,5 +1,5 @@
--- Bytes that are not ASCII, as bits.
-use Rattle.std.specs.Prelude.{ℕ, Bool, List, map, nat_le}
+-- Tests of bytes, as bits: the lowest for the first byte.
+use Rattle.std.specs.Prelude.{ℕ, Bool, ◌==◌, List, map, nat_le}
 use Rattle.std.specs.Simd.Lanes.{mask_l}
 
 -- the byte is not ASCII
@@ -9,3 +9,7 @@ is_wide b = nat_le 0x80 b
 -- a bit for each byte, the lowest for the first: set where the byte is not ASCII
 abbrev pub wide_mask : List ℕ → ℕ
 wide_mask bytes = mask_l (map is_wide bytes)
+
+-- a bit for each byte, the lowest for the first: set where it is this one
+abbrev pub hit_mask : ℕ → List ℕ → ℕ
+hit_mask byte bytes = mask_l (map (λ b. b == byte) bytes)

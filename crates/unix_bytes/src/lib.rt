@@ -4,6 +4,7 @@
 pub mod bytes;
 pub mod laws;
 pub mod lossy;
+pub mod search;
 #[cfg(test)]
 mod tests;
 mod utf8;

@@ -3,4 +3,5 @@ mod bytes;
 mod callers;
 mod chunks;
 mod formats;
+mod search;
 mod text;

@@ -1,0 +1,13 @@
+use Rattle.std.proofs.Common.{◌==◌, length, sym, arith, eq-eqb}
+use Rattle.std.proofs.lemmas.List.Sums.{position_or_len_is}
+use Rattle.unix_bytes.proofs.search.first_in_few.Goals as goal
+
+pub returns-clause-value : goal.returns-clause-value
+returns-clause-value c =
+    sym (position_or_len_is (λ b. b == c.args.byte) c.args.bytes.now (length c.args.bytes.now) 0
+    (omega arith) (λ k l. c.loop-place.invariant k (omega arith)) (λ l. absurd (omega arith)))
+
+pub returns-then-b-byte-clause-value : goal.returns-then-b-byte-clause-value
+returns-then-b-byte-clause-value c =
+    sym (position_or_len_is (λ b. b == c.args.byte) c.args.bytes.now c.loop-place.place 0
+    (omega arith) c.loop-place.invariant (λ _. eq-eqb _ _ c.if-b-byte.true))

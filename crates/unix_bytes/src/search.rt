@@ -1,0 +1,124 @@
+//! The first and the last place of a byte.
+ghost use Rattle.std.specs.Prelude.{◌≡◌, ℕ, ◌+◌, ◌-◌, ◌<◌, ◌≤◌, ◌==◌, false, length, take, drop};
+ghost use Rattle.std.specs.Prelude.{slice_index};
+ghost use Rattle.std.specs.List.{position_or_len};
+ghost use Rattle.unix_bytes.specs.Lanes.{hit_mask};
+
+use std::simd::prelude::*;
+
+// A bit for each of the 16 bytes from `at` on: set where the byte is `byte`.
+#[inline]
+fn hits(bytes: &[u8], at: usize, byte: u8) -> u64
+    requires { at + 16 ≤ length bytes.now }
+    ensures { result ≡ hit_mask byte (take 16 (drop at bytes.now)) }
+{
+    u8x16::from_slice(&bytes[at..])
+        .simd_eq(u8x16::splat(byte))
+        .to_bitmask()
+}
+
+// Where the first `byte` stands among fewer than 16 bytes, or their number.
+#[inline]
+fn first_in_few(bytes: &[u8], byte: u8) -> usize
+    ensures value { result ≡ position_or_len (λ b. b == byte) bytes.now }
+    ensures in_range { result ≤ length bytes.now }
+{
+    for (place, b) in bytes.iter().enumerate() {
+        if *b == byte {
+            return place;
+        }
+    }
+    bytes.len()
+}
+
+// Where the first `byte` stands among the 16 bytes from `at` on, or 16 where there is none.
+#[inline]
+fn first_in_lanes(bytes: &[u8], at: usize, byte: u8) -> usize
+    requires { at + 16 ≤ length bytes.now }
+    ensures value { result ≡ position_or_len (λ b. b == byte) (take 16 (drop at bytes.now)) }
+    ensures in_range { result ≤ 16 }
+{
+    let hits = hits(bytes, at, byte);
+    if hits == 0 {
+        16
+    } else {
+        hits.trailing_zeros() as usize
+    }
+}
+
+/// Where the first `byte` stands, or the length where there is none. Does not allocate. Not in
+/// Rust's std; as the crate `memchr`.
+///
+/// `first_place(b"a:b:c", b':')` is 1.
+#[must_use]
+#[inline]
+pub fn first_place(bytes: &[u8], byte: u8) -> usize
+    ensures value { result ≡ position_or_len (λ b. b == byte) bytes.now }
+    ensures in_range { result ≤ length bytes.now }
+{
+    if bytes.len() < 16 {
+        return first_in_few(bytes, byte);
+    }
+    let last = bytes.len() - 16;
+    let mut at = 0;
+    while at < last {
+        let place = first_in_lanes(bytes, at, byte);
+        if place < 16 {
+            return at + place;
+        }
+        at += 16;
+    }
+    last + first_in_lanes(bytes, last, byte)
+}
+
+// The place just after the last `byte` among the first `len` bytes, or 0 where there is none.
+#[inline]
+fn past_last_in_few(bytes: &[u8], len: usize, byte: u8) -> usize
+    requires { len ≤ length bytes.now }
+    ensures in_range { result ≤ len }
+    ensures after { 0 < result → slice_index bytes.now (result - 1) ≡ byte }
+    ensures none_behind { (k : ℕ) → result ≤ k → k < len →
+        (slice_index bytes.now k == byte) ≡ false }
+{
+    let mut past = len;
+    while past > 0 && bytes[past - 1] != byte {
+        past -= 1;
+    }
+    past
+}
+
+// The place just after the last `byte` among the 16 bytes from `at` on, counted from `at`, or 0
+// where there is none.
+#[inline]
+fn past_last_in_lanes(bytes: &[u8], at: usize, byte: u8) -> usize
+    requires { at + 16 ≤ length bytes.now }
+    ensures in_range { result ≤ 16 }
+    ensures after { 0 < result → slice_index bytes.now (at + result - 1) ≡ byte }
+    ensures none_behind { (k : ℕ) → at + result ≤ k → k < at + 16 →
+        (slice_index bytes.now k == byte) ≡ false }
+{
+    64 - hits(bytes, at, byte).leading_zeros() as usize
+}
+
+/// The place just after the last `byte`, or 0 where there is none. Does not allocate. Not in Rust's
+/// std; as one more than `memrchr` of the crate `memchr`.
+///
+/// `past_last(b"a:b:c", b':')` is 4.
+#[must_use]
+#[inline]
+pub fn past_last(bytes: &[u8], byte: u8) -> usize
+    ensures in_range { result ≤ length bytes.now }
+    ensures after { 0 < result → slice_index bytes.now (result - 1) ≡ byte }
+    ensures none_behind { position_or_len (λ b. b == byte) (drop result bytes.now)
+        ≡ length (drop result bytes.now) }
+{
+    let mut end = bytes.len();
+    while end >= 16 {
+        let past = past_last_in_lanes(bytes, end - 16, byte);
+        if past > 0 {
+            return end - 16 + past;
+        }
+        end -= 16;
+    }
+    past_last_in_few(bytes, end, byte)
+}
