@@ -17,13 +17,13 @@ or_right true y e = refl
 or_right false y e = e
 
 -- what fits a row has a beginning that fits the row's beginning
-fits_front : (row : List (ℕ × ℕ)) (t u : List ℕ)
+fits_prefix : (row : List (ℕ × ℕ)) (t u : List ℕ)
     → fits row (t ++ u) ≡ true → fits (take (length t) row) t ≡ true
-fits_front row [] u h = refl
-fits_front [] (b ∷ t) u h = h
-fits_front (r ∷ row) (b ∷ t) u h =
+fits_prefix row [] u h = refl
+fits_prefix [] (b ∷ t) u h = h
+fits_prefix (r ∷ row) (b ∷ t) u h =
     let k : (fits row (t ++ u) ≡ true) × (is_in_range r.0 r.1 b ≡ true) = and_parts _ _ h in
-    rw (fits_front row t u k.0, k.1) refl
+    rw (fits_prefix row t u k.0, k.1) refl
 
 any_more : {X : Type 0} (p q : X → Bool) (xs : List X)
     → ((x : X) → p x ≡ true → q x ≡ true) → list_any p xs ≡ true → list_any q xs ≡ true
@@ -36,7 +36,7 @@ pub begins_sequence-from : (t : List ℕ) → BeginsSequence t → begins_sequen
 unfolding is_sequence begins_sequence
 begins_sequence-from t (u, h) =
     any_more (λ row. fits row (t ++ u)) (λ row. fits (take (length t) row) t) table
-    (λ row e. fits_front row t u e) h
+    (λ row e. fits_prefix row t u e) h
 
 -- each range has a byte
 abbrev has_bytes : List (ℕ × ℕ) → Bool
@@ -80,7 +80,7 @@ pub BeginsSequence-from : (t : List ℕ) → begins_sequence t ≡ true → Begi
 unfolding is_sequence begins_sequence
 BeginsSequence-from t h = some_row table t refl h
 
--- a shorter front of what begins a sequence begins one too
+-- a shorter prefix of what begins a sequence begins one too
 pub BeginsSequence-take : (j k : ℕ) (t : List ℕ) → j ≤ k
     → BeginsSequence (take k t) → BeginsSequence (take j t)
 BeginsSequence-take j k t le (u, is) =

@@ -50,12 +50,12 @@ fourth_begins x y z w b g r =
     let k = third_of x y z u is in
     begins_sequence-from (x ∷ y ∷ z ∷ w ∷ []) ([], four_is x y z w (grind arith))
 
--- the same in a string
-pub begun_two : (s : List ℕ) → 1 < length s
+-- the first two bytes of a string
+pub take-two : (s : List ℕ) → 1 < length s
     → take 2 s ≡ slice_index s 0 ∷ slice_index s 1 ∷ []
-begun_two [] l = absurd (omega arith)
-begun_two (x ∷ []) l = absurd (omega arith)
-begun_two (x ∷ y ∷ s) l = refl
+take-two [] l = absurd (omega arith)
+take-two (x ∷ []) l = absurd (omega arith)
+take-two (x ∷ y ∷ s) l = refl
 
 -- what begins a sequence of two bytes or more
 pub first_begun : (s : List ℕ) → HasBegun s 2 → (0xC2 ≤ slice_index s 0) × (slice_index s 0 ≤ 0xF4)
@@ -130,18 +130,7 @@ second_of_third (x ∷ y ∷ z ∷ s) h =
     let (u, is) = BeginsSequence-from (x ∷ y ∷ z ∷ []) h.1 in
     (omega arith, begins_sequence-from (x ∷ y ∷ []) (z ∷ u, is))
 
--- and five never
-pub fifth_begun : (s : List ℕ) → HasBegun s 5 → ⊥
-fifth_begun [] h = absurd (omega arith)
-fifth_begun (x ∷ []) h = absurd (omega arith)
-fifth_begun (x ∷ y ∷ []) h = absurd (omega arith)
-fifth_begun (x ∷ y ∷ z ∷ []) h = absurd (omega arith)
-fifth_begun (x ∷ y ∷ z ∷ w ∷ []) h = absurd (omega arith)
-fifth_begun (x ∷ y ∷ z ∷ w ∷ v ∷ s) h =
-    let (u, is) = BeginsSequence-from (x ∷ y ∷ z ∷ w ∷ v ∷ []) h.1 in
-    let p = more_bytes x y z w v u in cc
+pub ruleset beginnings = (take-two, first_begun, begun_three, third_begun, begun_four, fourth_begun)
 
-pub ruleset begun = (begun_two, first_begun, begun_three, third_begun, begun_four, fourth_begun)
-
--- the same, and that fewer bytes have begun a sequence where more have
-pub ruleset begun_all = (begun, second_of_third, third_of_fourth)
+-- how far a sequence has begun; fewer bytes have begun one where more have
+pub ruleset all_beginnings = (beginnings, second_of_third, third_of_fourth)

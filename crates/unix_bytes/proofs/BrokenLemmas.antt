@@ -1,4 +1,4 @@
--- How many bytes stand broken in front.
+-- How many bytes are broken at the beginning.
 use Rattle.std.proofs.Common.{◌≡◌, ℕ, ◌<◌, ◌≤◌, List, [], ◌∷◌, length, take, drop, slice_index}
 use Rattle.std.proofs.Common.{⊎_elim, sym, ap, ◌∙◌, arith, take-append-drop, length-drop}
 use Rattle.std.proofs.Common.{get_or-drop, add-zero}
@@ -11,7 +11,8 @@ use Rattle.unix_bytes.proofs.LongestLemmas.{longest_len-longest}
 use Rattle.unix_bytes.proofs.FrontLemmas.{longest_front_of-nil, longest_front_of-take}
 use Rattle.unix_bytes.proofs.FrontLemmas.{longest_front_of-sequence, front_within}
 use Rattle.unix_bytes.proofs.FrontLemmas.{one_byte_front, two_byte_front, three_byte_front}
-use Rattle.unix_bytes.proofs.StepLemmas.{none_of_two, none_of_three, none_of_four, wide_sequences}
+use Rattle.unix_bytes.proofs.StepLemmas.{none_of_two, none_of_three, none_of_four}
+use Rattle.unix_bytes.proofs.StepLemmas.{two_byte_sequence, three_byte_sequence, four_byte_sequence}
 use Rattle.unix_bytes.proofs.LossyLemmas.{is_sequence-longest_front_of}
 
 pub broken_none : (s : List ℕ) → length s ≡ 0 → broken_len s ≡ 0
@@ -29,7 +30,7 @@ pub longest_front_of-none : (s : List ℕ) → longest_len is_sequence s ≡ 0
 longest_front_of-none s z =
     longest_front_of-take s ∙ ap (λ k. take k s) (sym (broken_len-none s z))
 
--- where bytes are broken in front, no sequence stands there
+-- where bytes are broken at the beginning, no sequence stands there
 pub none_in_front : (s : List ℕ) → 0 < broken_len s → longest_len is_sequence s ≡ 0
 none_in_front s some =
     let k = longest_len is_sequence s in
@@ -84,6 +85,9 @@ pub lone_byte_broken : (s : List ℕ) → 0 < length s → 0x80 ≤ slice_index 
 lone_byte_broken s some wide two three four =
     one_byte_broken s some (λ h. let lead = first_begun s h in grind arith) wide
 
-pub ruleset broken_fronts = (one_byte_broken, two_byte_broken, three_byte_broken, lone_byte_broken)
+pub ruleset two_byte_fronts = (two_byte_sequence, one_byte_broken, lone_byte_broken)
 
-pub ruleset wide_fronts = (wide_sequences, broken_fronts)
+pub ruleset three_byte_fronts = (three_byte_sequence, one_byte_broken, two_byte_broken)
+
+pub ruleset four_byte_fronts =
+    (four_byte_sequence, one_byte_broken, two_byte_broken, three_byte_broken)

@@ -1,4 +1,4 @@
--- Chunks: the longest text in front, the broken front behind it, and then the same again.
+-- Chunks: the longest prefix that is text, the broken front behind it, and then further chunks.
 use Rattle.std.proofs.Common.{◌≡◌, ℕ, zero, suc, ◌+◌, ◌<◌, ◌≤◌, List, [], ◌∷◌, ◌++◌, length, take}
 use Rattle.std.proofs.Common.{drop, false, eqb, if◌then◌else◌, ⊎_elim, inr, refl, sym, ap, ◌∙◌}
 use Rattle.std.proofs.Common.{subst, arith, le_refl, length-drop, length-take-le, take-append-drop}
@@ -7,22 +7,24 @@ use Rattle.std.specs.List.{concat, flat_map, list_all}
 use Rattle.std.specs.Str.{IsUtf8}
 use Rattle.std.proofs.lemmas.Bool.{and_parts, cases_lt, cond-true, cond-false, ne_eqb}
 use Rattle.std.proofs.lemmas.List.{take_all, drop-drop}
-use Rattle.std.proofs.lemmas.Str.{IsUtf8-append, IsUtf8-nil}
+use Rattle.std.proofs.lemmas.Str.{IsUtf8-append}
 use Rattle.std.proofs.Math.Seq.{take-add}
 use Rattle.unix_bytes.specs.Utf8.{is_sequence, IsSequence, IsText}
 use Rattle.unix_bytes.specs.Lossy.{fronts_of, is_text, replacement, lossy_of}
 use Rattle.unix_bytes.specs.Chunks.{chunks_from, chunks_of, shown_chunk}
 use Rattle.unix_bytes.specs.Steps.{longest_len, longest_front_of, first_chunk_of, chunk_len}
 use Rattle.unix_bytes.proofs.TextLemmas.{IsUtf8-sequence, IsUtf8-from_IsText, IsText-from_IsUtf8}
+use Rattle.unix_bytes.proofs.TextLemmas.{IsText-nil}
 use Rattle.unix_bytes.proofs.LongestLemmas.{longest_len-is, longest_len-longest, longest_len-least}
 use Rattle.unix_bytes.proofs.FrontLemmas.{longest_front_of-nil}
 use Rattle.unix_bytes.proofs.FrontLemmas.{front_within}
 use Rattle.unix_bytes.proofs.GrowLemmas.{fronts_of-nil, fronts_of-some}
-use Rattle.unix_bytes.proofs.LossyLemmas.{is_text-from_IsText, IsText-from_is_text, fewer}
+use Rattle.unix_bytes.proofs.LossyLemmas.{is_text-from_IsText, IsText-from_is_text}
+use Rattle.unix_bytes.proofs.LossyLemmas.{length-drop-some}
 use Rattle.unix_bytes.proofs.LossyLemmas.{fronts_of-text, is_sequence-longest_front_of}
 use Rattle.unix_bytes.proofs.LossyLemmas.{lossy_of-nil, lossy_of-append, lossy_of-none}
 
--- the longest text in front
+-- the longest prefix that is text
 pub whole_text : (s : List ℕ) → IsUtf8 s → longest_len is_text s ≡ length s
 whole_text s u =
     longest_len-is is_text s (length s) (le_refl (length s))
@@ -30,17 +32,17 @@ whole_text s u =
     ∙ is_text-from_IsText s (IsText-from_IsUtf8 s u)))
     (λ k p q. absurd (omega arith))
 
-pub text_front : (s : List ℕ) → IsText (take (longest_len is_text s) s)
-text_front s =
+pub text_prefix : (s : List ℕ) → IsText (take (longest_len is_text s) s)
+text_prefix s =
     let n = longest_len is_text s in
-    ⊎_elim (λ z. subst (λ j. IsText (take j s)) (sym z) (IsText-from_IsUtf8 [] IsUtf8-nil))
+    ⊎_elim (λ z. subst (λ j. IsText (take j s)) (sym z) IsText-nil)
     (λ p. IsText-from_is_text (take n s) p) (longest_len-longest is_text s).passes
 
 pub first_chunk_of-text : (s : List ℕ) → IsText (first_chunk_of s).valid
 unfolding first_chunk_of
-first_chunk_of-text s = text_front s
+first_chunk_of-text s = text_prefix s
 
--- behind it no sequence stands
+-- behind the longest prefix that is text no sequence stands
 pub none_after_text : (s : List ℕ)
     → longest_len is_sequence (drop (longest_len is_text s) s) ≡ 0
 none_after_text s =
@@ -51,7 +53,7 @@ none_after_text s =
     let within = (longest_len-longest is_text s).within in
     ⊎_elim (λ z. z)
     (λ h.
-    let front = IsUtf8-from_IsText (take n s) (text_front s) in
+    let front = IsUtf8-from_IsText (take n s) (text_prefix s) in
     let more : IsUtf8 (take (n + k) s) =
     subst IsUtf8 (sym (take-add n k s))
     (IsUtf8-append (take n s) (take k t) front (IsUtf8-sequence (take k t) h)) in
@@ -96,7 +98,7 @@ chunks_from-sequences (u ∷ us) text rest h =
     cond-true _ _ _ k.0 ∙ chunks_from-sequences us (text ++ u) rest k.1
     ∙ ap (λ t. chunks_from t rest) (append_assoc text u (concat us))
 
--- and a broken front, or the end, ends a chunk
+-- a broken front, or the end, ends a chunk
 chunks_from-rest : (text t : List ℕ) → longest_len is_sequence t ≡ 0 → 0 < length (text ++ t)
     → chunks_from text (fronts_of t) ≡ record { valid = text; broken = longest_front_of t }
     ∷ chunks_from [] (fronts_of (drop (length (longest_front_of t)) t))
@@ -131,7 +133,7 @@ chunks_of-some b bs =
     let e : length (take n s) ≡ n =
     length-take-le n s (longest_len-longest is_text s).within in
     ap chunks_of (sym (take-append-drop n s))
-    ∙ chunks_of-append (take n s) t (text_front s) (none_after_text s)
+    ∙ chunks_of-append (take n s) t (text_prefix s) (none_after_text s)
     (omega (arith, ap length (take-append-drop n s)))
     ∙ ap (λ x. first_chunk_of s ∷ chunks_of x)
     (drop-drop k n s ∙ ap (λ j. drop (j + k) s) (sym e))
@@ -142,7 +144,7 @@ length_within zero (b ∷ bs) le = absurd (omega arith)
 length_within (suc n) (b ∷ bs) le =
     let k = chunk_len (first_chunk_of (b ∷ bs)) in
     let some = chunk_some b bs in
-    let left = length_within n (drop k (b ∷ bs)) (fewer n k b bs some le) in
+    let left = length_within n (drop k (b ∷ bs)) (length-drop-some n k b bs some le) in
     omega (arith, some, left, length-drop k (b ∷ bs), ap length (chunks_of-some b bs))
 
 -- each chunk has a byte or more
@@ -172,7 +174,7 @@ lossy_of-chunk s =
     let b = longest_front_of t in
     let mark : List ℕ = if eqb (length b) 0 then [] else replacement in
     let e : length v ≡ n = length-take-le n s (longest_len-longest is_text s).within in
-    ap lossy_of (sym (take-append-drop n s)) ∙ lossy_of-append v t (text_front s)
+    ap lossy_of (sym (take-append-drop n s)) ∙ lossy_of-append v t (text_prefix s)
     ∙ ap (λ x. v ++ x) (lossy_of-rest t (none_after_text s))
     ∙ sym (append_assoc v mark (lossy_of (drop (length b) t)))
     ∙ ap (λ x. (v ++ mark) ++ lossy_of x)
@@ -188,7 +190,8 @@ shown_within (suc n) (b ∷ bs) le =
     let k = chunk_len c in
     ap (flat_map shown_chunk) (chunks_of-some b bs)
     ∙ ap (λ t. shown_chunk c ++ t)
-    (shown_within n (drop k s) (fewer n k b bs (chunk_some b bs) le)) ∙ sym (lossy_of-chunk s)
+    (shown_within n (drop k s) (length-drop-some n k b bs (chunk_some b bs) le))
+    ∙ sym (lossy_of-chunk s)
 
 -- the chunks as they are shown are the lossy text
 pub shown-chunks_of : (s : List ℕ) → flat_map shown_chunk (chunks_of s) ≡ lossy_of s

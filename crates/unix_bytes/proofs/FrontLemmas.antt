@@ -1,4 +1,4 @@
--- The longest front that begins a sequence: a whole one, or else a broken front.
+-- The longest prefix that begins a sequence: a whole one, or else a broken front.
 use Rattle.std.proofs.Common.{◌≡◌, ℕ, suc, ◌-◌, ◌+◌, ◌<◌, ◌≤◌, List, [], ◌∷◌, ◌++◌, length, take}
 use Rattle.std.proofs.Common.{◌⊎◌, ⊎_elim, inl, inr, refl, sym, ap, ◌∙◌, subst, arith}
 use Rattle.std.proofs.Common.{append_assoc, append-nil, length-append, length-take-le}
@@ -18,7 +18,7 @@ use Rattle.unix_bytes.proofs.LongestLemmas.{longest_len-least}
 pub BeginsSequence-sequence : (u : List ℕ) → IsSequence u → BeginsSequence u
 BeginsSequence-sequence u h = ([], subst IsSequence (sym (append-nil u)) h)
 
--- no front that is longer than a sequence begins one
+-- no prefix that is longer than a sequence begins one
 none_longer : (u s : List ℕ) (k : ℕ) → IsSequence u → length u < k → k ≤ length (u ++ s)
     → BeginsSequence (take k (u ++ s)) → ⊥
 none_longer u s k h more within (v, is) =
@@ -79,7 +79,7 @@ length-longest_front_of s n some within at above =
     let e : max 1 l ≡ n = omega arith in
     ap (λ k. length (take k s)) e ∙ length-take-le n s within
 
--- a byte or more, and no more than there are
+-- the front has a byte or more, and no more than there are
 pub front_within : (b : ℕ) (bs : List ℕ)
     → (1 ≤ length (longest_front_of (b ∷ bs)))
     × (length (longest_front_of (b ∷ bs)) ≤ length (b ∷ bs))
@@ -95,7 +95,7 @@ pub longest_front_of-nil : longest_front_of [] ≡ []
 unfolding longest_front_of
 longest_front_of-nil = take_all _ [] (omega arith)
 
--- the front is a front
+-- the front is a prefix
 pub longest_front_of-take : (s : List ℕ) → longest_front_of s ≡ take (length (longest_front_of s)) s
 unfolding longest_front_of
 longest_front_of-take [] = longest_front_of-nil ∙ sym (take_all _ [] (omega arith))

@@ -29,36 +29,38 @@ longest_front_of-grown u s some at end =
     ∙ ap (λ k. take k (u ++ s)) (length-longest_front_of (u ++ s) n some within begun end) ∙ front
 
 -- the longest front, and then the fronts of what follows
-abbrev cut : List ℕ → List (List ℕ)
-cut s = longest_front_of s ∷ fronts_of (drop (length (longest_front_of s)) s)
+abbrev longest_fronts : List ℕ → List (List ℕ)
+longest_fronts s = longest_front_of s ∷ fronts_of (drop (length (longest_front_of s)) s)
 
 -- a front that grows no more
-cut-grown : (u s : List ℕ) → 1 ≤ length u → IsGrown u
-    → (HasBegun (u ++ s) (suc (length u)) → ⊥) → cut (u ++ s) ≡ u ∷ fronts_of s
-cut-grown u s some at end =
+longest_fronts-grown : (u s : List ℕ) → 1 ≤ length u → IsGrown u
+    → (HasBegun (u ++ s) (suc (length u)) → ⊥) → longest_fronts (u ++ s) ≡ u ∷ fronts_of s
+longest_fronts-grown u s some at end =
     ap (λ f. f ∷ fronts_of (drop (length f) (u ++ s))) (longest_front_of-grown u s some at end)
     ∙ ap (λ t. u ∷ fronts_of t) (drop_at u s (length u) refl)
 
 grown_more : (b : ℕ) (s u : List ℕ) → 1 ≤ length u → IsGrown u
-    → (begins_sequence (push u b) ≡ true → fronts_from (push u b) s ≡ cut (push u b ++ s))
+    → (begins_sequence (push u b) ≡ true
+    → fronts_from (push u b) s ≡ longest_fronts (push u b ++ s))
     → (c : Bool) → begins_sequence (push u b) ≡ c
-    → cond c (fronts_from (push u b) s) (u ∷ fronts_from (b ∷ []) s) ≡ cut (u ++ b ∷ s)
+    → cond c (fronts_from (push u b) s) (u ∷ fronts_from (b ∷ []) s) ≡ longest_fronts (u ++ b ∷ s)
 unfolding fronts_of
-grown_more b s u some at more true e = more e ∙ ap cut (append_assoc u (b ∷ []) s)
+grown_more b s u some at more true e = more e ∙ ap longest_fronts (append_assoc u (b ∷ []) s)
 grown_more b s u some at more false e =
     let next : take (suc (length u)) (u ++ b ∷ s) ≡ push u b =
     ap (λ k. take k (u ++ b ∷ s)) {x = suc (length u)} {y = length u + 1} (omega arith)
     ∙ take-append-add u (b ∷ s) 1 in
-    sym (cut-grown u (b ∷ s) some at
+    sym (longest_fronts-grown u (b ∷ s) some at
     (λ h. absurd (true≢false (sym h.1 ∙ ap begins_sequence next ∙ e))))
 
-fronts_from-cut : (s u : List ℕ) → 1 ≤ length u → IsGrown u → fronts_from u s ≡ cut (u ++ s)
+fronts_from-longest : (s u : List ℕ) → 1 ≤ length u → IsGrown u
+    → fronts_from u s ≡ longest_fronts (u ++ s)
 unfolding fronts_of
-fronts_from-cut [] u some at =
-    sym (cut-grown u [] some at (λ h. absurd (omega (arith, h.0, length-append u []))))
-fronts_from-cut (b ∷ s) u some at =
+fronts_from-longest [] u some at =
+    sym (longest_fronts-grown u [] some at (λ h. absurd (omega (arith, h.0, length-append u []))))
+fronts_from-longest (b ∷ s) u some at =
     grown_more b s u some at
-    (λ e. fronts_from-cut s (push u b) (omega (arith, length-append u (b ∷ []))) (inr e))
+    (λ e. fronts_from-longest s (push u b) (omega (arith, length-append u (b ∷ []))) (inr e))
     (begins_sequence (push u b)) refl
 
 pub fronts_of-nil : fronts_of [] ≡ []
@@ -69,7 +71,7 @@ fronts_of-nil = refl
 pub fronts_of-some : (b : ℕ) (bs : List ℕ) → fronts_of (b ∷ bs)
     ≡ longest_front_of (b ∷ bs) ∷ fronts_of (drop (length (longest_front_of (b ∷ bs))) (b ∷ bs))
 unfolding fronts_of
-fronts_of-some b bs = fronts_from-cut bs (b ∷ []) (omega arith) (inl refl)
+fronts_of-some b bs = fronts_from-longest bs (b ∷ []) (omega arith) (inl refl)
 
 pub front_of-longest : (s : List ℕ) → front_of s ≡ longest_front_of s
 front_of-longest [] =

@@ -23,19 +23,19 @@ is_narrow b = not (is_wide b)
 narrow : (b : ℕ) → is_narrow b ≡ true → b < 128
 narrow b h = grind (arith, nat_tests)
 
--- the bytes in front that pass are ASCII
-narrow_front : (xs : List ℕ) → IsAscii (take (prefix_len is_narrow xs) xs)
-narrow_front xs =
+-- the first bytes that pass are ASCII
+narrow_prefix : (xs : List ℕ) → IsAscii (take (prefix_len is_narrow xs) xs)
+narrow_prefix xs =
     let n = prefix_len is_narrow xs in
     IsAscii-from_all (take n xs) (λ k d l.
     let few : k < n = omega (arith, length-prefix_len is_narrow xs) in
     rw (get_or-take n xs k d few) (narrow (get_or xs k d) (prefix_len_passes is_narrow xs k d few)))
 
--- where no bit is set, all are
+-- where no bit is set, all bytes are ASCII
 pub ascii_from_mask : (xs : List ℕ) → wide_mask xs ≡ 0 → IsAscii xs
 ascii_from_mask xs none =
     let e = leading_from_mask_l is_wide xs none in
-    subst IsAscii (take_all (prefix_len is_narrow xs) xs (omega arith)) (narrow_front xs)
+    subst IsAscii (take_all (prefix_len is_narrow xs) xs (omega arith)) (narrow_prefix xs)
 
 -- ASCII up to i, and n more bytes of the window there
 more_ascii : (s : List ℕ) (i n : ℕ) → n ≤ 16 → IsAscii (take i s)
@@ -48,11 +48,11 @@ more_ascii s i n few before here =
 pub window_len : (s : List ℕ) (i : ℕ) → i + 16 ≤ length s → length (take 16 (drop i s)) ≡ 16
 window_len s i l = length-take-le 16 (drop i s) (omega (arith, length-drop i s))
 
--- fewer bytes than ASCII are ASCII
+-- a shorter prefix of ASCII is ASCII
 pub fewer_ascii : (s : List ℕ) (i j : ℕ) → i ≤ j → IsAscii (take j s) → IsAscii (take i s)
 fewer_ascii s i j le h = subst IsAscii (take-take i j s le) (IsAscii-take (take j s) i h)
 
--- what is ASCII of the first bytes is ASCII of all
+-- a prefix that is ASCII of a prefix is one of the whole
 pub fewer_first : (s t : List ℕ) (i n : ℕ) → t ≡ take n s → n ≤ length s → i ≤ length t
     → IsAscii (take i t) → (i ≤ length s) × IsAscii (take i s)
 fewer_first s t i n e within few h =
@@ -87,13 +87,13 @@ ascii_window s i m l before mask none =
     let xs = take 16 (drop i s) in
     let e : prefix_len is_narrow xs ≡ 16 =
     leading_from_mask_l is_wide xs (sym mask ∙ none) ∙ window_len s i l in
-    more_ascii s i 16 (omega arith) before (subst (λ n. IsAscii (take n xs)) e (narrow_front xs))
+    more_ascii s i 16 (omega arith) before (subst (λ n. IsAscii (take n xs)) e (narrow_prefix xs))
 
 -- the lowest bit is that of the first wide byte
-pub ascii_front : (s : List ℕ) (i m : ℕ) → i + 16 ≤ length s → IsAscii (take i s)
+pub ascii_prefix : (s : List ℕ) (i m : ℕ) → i + 16 ≤ length s → IsAscii (take i s)
     → m ≡ wide_mask (take 16 (drop i s)) → (m ≡ 0 → ⊥)
     → (i + count_trailing_zeros 64 m ≤ length s) × IsAscii (take (i + count_trailing_zeros 64 m) s)
-ascii_front s i m l before mask some =
+ascii_prefix s i m l before mask some =
     let xs = take 16 (drop i s) in
     let w = window_len s i l in
     let nonzero : 0 < wide_mask xs = omega arith in
@@ -101,7 +101,7 @@ ascii_front s i m l before mask some =
     ap (count_trailing_zeros 64) mask ∙ trailing_mask_l is_wide 64 xs (omega arith) nonzero in
     let few : count_trailing_zeros 64 m ≤ 16 = omega (arith, prefix_len-le-length is_narrow xs) in (
       omega arith,
-      more_ascii s i _ few before (subst (λ n. IsAscii (take n xs)) (sym e) (narrow_front xs)),
+      more_ascii s i _ few before (subst (λ n. IsAscii (take n xs)) (sym e) (narrow_prefix xs)),
     )
 
 narrow_some : (s : List ℕ) → 0 < length s → slice_index s 0 < 128
@@ -111,7 +111,7 @@ narrow_some (x ∷ s) some h =
     let e : is_narrow x ≡ true = grind (arith, nat_tests) in
     rw e (omega arith)
 
--- where the first byte is ASCII, some are
+-- where the first byte is ASCII, the prefix is not empty
 pub some_ascii : (s : List ℕ) (i m : ℕ) → i + 16 ≤ length s
     → m ≡ wide_mask (take 16 (drop i s)) → (m ≡ 0 → ⊥) → slice_index s 0 < 128
     → 0 < i + count_trailing_zeros 64 m

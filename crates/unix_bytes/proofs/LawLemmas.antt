@@ -9,7 +9,7 @@ use Rattle.std.proofs.lemmas.Bool.{cases_lt, cases_Bool, cond-true, cond-false}
 use Rattle.std.proofs.lemmas.List.{take_all}
 use Rattle.std.proofs.lemmas.List.Elements.{All-nil, All-cons}
 use Rattle.std.proofs.lemmas.List.Sums.{AllPass-from_list_all}
-use Rattle.unix_bytes.specs.Utf8.{is_sequence, IsSequence, IsText, BeginsSequence, begins_sequence}
+use Rattle.unix_bytes.specs.Utf8.{is_sequence, IsSequence, BeginsSequence, begins_sequence}
 use Rattle.unix_bytes.specs.Lossy.{fronts_of, replacement, lossy_of}
 use Rattle.unix_bytes.specs.Steps.{longest_len, longest_front_of}
 use Rattle.unix_bytes.specs.Begins.{IsLongest}
@@ -17,11 +17,10 @@ use Rattle.unix_bytes.specs.Laws.{FrontsBegin, FrontsInTurn, FrontIsLongest, Non
 use Rattle.unix_bytes.specs.Laws.{BrokenIsShort, LossyOfBroken, LossyIsText}
 use Rattle.unix_bytes.proofs.BeginLemmas.{begins_sequence-from, BeginsSequence-from}
 use Rattle.unix_bytes.proofs.SequenceLemmas.{sequence_len}
-use Rattle.unix_bytes.proofs.TextLemmas.{IsUtf8-sequence, IsText-from_IsUtf8}
-use Rattle.unix_bytes.proofs.LongestLemmas.{longest_len-longest, longest_len-front}
+use Rattle.unix_bytes.proofs.LongestLemmas.{longest_len-longest, longest_len-prefix}
 use Rattle.unix_bytes.proofs.FrontLemmas.{front_within}
 use Rattle.unix_bytes.proofs.GrowLemmas.{fronts_of-nil, fronts_of-some, front_of-longest}
-use Rattle.unix_bytes.proofs.LossyLemmas.{no_sequence, lossy_of-none, shown_front, fewer}
+use Rattle.unix_bytes.proofs.LossyLemmas.{no_sequence, lossy_of-none, shown_front, length-drop-some}
 
 longest_front_begins : (b : ℕ) (bs : List ℕ)
     → BeginsSequence (longest_front_of (b ∷ bs)) ⊎ (length (longest_front_of (b ∷ bs)) ≡ 1)
@@ -39,7 +38,7 @@ longest_front_begins b bs =
     let e : max 1 n ≡ 1 = omega arith in inr (ap (λ k. length (take k s)) e))
     (cases_lt 0 n)
 
--- it begins a sequence, or is one byte
+-- the bytes begin a sequence, or are one byte
 abbrev MayStand : List ℕ → Type 0
 MayStand u = BeginsSequence u ⊎ (length u ≡ 1)
 
@@ -51,7 +50,7 @@ may_stand_within (suc n) (b ∷ bs) le =
     let k = length (longest_front_of s) in
     subst (All MayStand) (sym (fronts_of-some b bs))
     (All-cons MayStand (longest_front_of s) (fronts_of (drop k s)) (longest_front_begins b bs)
-    (may_stand_within n (drop k s) (fewer n k b bs (front_within b bs).0 le)))
+    (may_stand_within n (drop k s) (length-drop-some n k b bs (front_within b bs).0 le)))
 
 pub fronts_begin : FrontsBegin
 fronts_begin s = may_stand_within (length s) s (le_refl (length s))
@@ -70,7 +69,7 @@ longest_front_is_longest s =
     let within = (longest_len-longest begins_sequence s).within in (
       (drop (max 1 n) s, take-append-drop (max 1 n) s),
       λ t b (v, e).
-          let few = longest_len-front begins_sequence s t v (begins_sequence-from t b) (sym e) in
+          let few = longest_len-prefix begins_sequence s t v (begins_sequence-from t b) (sym e) in
           ⊎_elim
           (λ (some : 0 < length s). omega (arith, length-take-le (max 1 n) s (omega arith)))
           (λ (none : length s ≤ 0). omega arith) (cases_lt 0 (length s)),
@@ -86,10 +85,6 @@ none_longest s none =
     let n = longest_len is_sequence s in
     ⊎_elim (λ z. z) (λ t. absurd (none (take n s) t (drop n s, take-append-drop n s)))
     (longest_len-longest is_sequence s).passes
-
--- one sequence is text
-pub IsText-sequence : (u : List ℕ) → IsSequence u → IsText u
-IsText-sequence u h = IsText-from_IsUtf8 u (IsUtf8-sequence u h)
 
 pub lossy_of_broken : LossyOfBroken
 lossy_of_broken [] some none = absurd (omega arith)
@@ -148,13 +143,14 @@ shown_are_sequences [] = refl
 shown_are_sequences (u ∷ us) =
     rw (shown_is_sequence u, shown_are_sequences us) refl
 
-joined : (us : List (List ℕ)) → concat (map shown_front us) ≡ flat_map shown_front us
-joined [] = refl
-joined (u ∷ us) = ap (λ t. shown_front u ++ t) (joined us)
+concat-map-shown_front : (us : List (List ℕ))
+    → concat (map shown_front us) ≡ flat_map shown_front us
+concat-map-shown_front [] = refl
+concat-map-shown_front (u ∷ us) = ap (λ t. shown_front u ++ t) (concat-map-shown_front us)
 
 pub lossy_is_text : LossyIsText
 unfolding lossy_of
 lossy_is_text s =
     let us = map shown_front (fronts_of s) in
     let all = shown_are_sequences (fronts_of s) in
-    (us, AllPass-from_list_all is_sequence us all, joined (fronts_of s))
+    (us, AllPass-from_list_all is_sequence us all, concat-map-shown_front (fronts_of s))

@@ -1,4 +1,4 @@
--- The longest front that passes a test.
+-- The longest prefix that passes a test.
 use Rattle.std.proofs.Common.{◌≡◌, ℕ, zero, suc, ◌<◌, ◌≤◌, List, ◌++◌, length, take, Bool, true}
 use Rattle.std.proofs.Common.{false, cond, ◌⊎◌, ⊎_elim, inl, inr, refl, sym, ap, ◌∙◌, subst, arith}
 use Rattle.std.proofs.Common.{length-append}
@@ -82,10 +82,10 @@ longest_len-least test s k within t =
     absurd (true≢false (sym t ∙ (longest_len-longest test s).longest k more within)))
     (λ le. le) (cases_lt (longest_len test s) k)
 
--- nor is a front that passes
-pub longest_len-front : (test : List ℕ → Bool) (s u v : List ℕ) → test u ≡ true → s ≡ u ++ v
+-- a prefix that passes is no longer than the longest
+pub longest_len-prefix : (test : List ℕ → Bool) (s u v : List ℕ) → test u ≡ true → s ≡ u ++ v
     → length u ≤ longest_len test s
-longest_len-front test s u v t e =
+longest_len-prefix test s u v t e =
     let at : take (length u) s ≡ u = ap (take (length u)) e ∙ take_at u v (length u) refl in
     longest_len-least test s (length u) (omega (arith, ap length e, length-append u v))
     (ap test at ∙ t)

@@ -13,7 +13,7 @@ use Rattle.unix_bytes.specs.Utf8.{is_sequence, IsSequence, IsText}
 use Rattle.unix_bytes.specs.Lossy.{fronts_of, replacement, lossy_of, is_text}
 use Rattle.unix_bytes.specs.Steps.{longest_len, longest_front_of}
 use Rattle.unix_bytes.proofs.SequenceLemmas.{no_bytes, sequence_len}
-use Rattle.unix_bytes.proofs.LongestLemmas.{not_true, longest_len-front}
+use Rattle.unix_bytes.proofs.LongestLemmas.{not_true, longest_len-prefix}
 use Rattle.unix_bytes.proofs.FrontLemmas.{longest_front_of-sequence, longest_front_of-take}
 use Rattle.unix_bytes.proofs.FrontLemmas.{front_within}
 use Rattle.unix_bytes.proofs.GrowLemmas.{fronts_of-nil, fronts_of-some}
@@ -38,9 +38,9 @@ fronts_of-concat (u ∷ us) s h =
     ap fronts_of (append_assoc u (concat us) s) ∙ fronts_of-sequence u (concat us ++ s) k.0
     ∙ ap (λ fs. u ∷ fs) (fronts_of-concat us s k.1)
 
-pub fewer : (n k b : ℕ) (bs : List ℕ) → 1 ≤ k → length (b ∷ bs) ≤ suc n
+pub length-drop-some : (n k b : ℕ) (bs : List ℕ) → 1 ≤ k → length (b ∷ bs) ≤ suc n
     → length (drop k (b ∷ bs)) ≤ n
-fewer n k b bs some le = omega (arith, length-drop k (b ∷ bs))
+length-drop-some n k b bs some le = omega (arith, length-drop k (b ∷ bs))
 
 concat-fronts_within : (n : ℕ) (s : List ℕ) → length s ≤ n → concat (fronts_of s) ≡ s
 concat-fronts_within n [] le = ap concat fronts_of-nil
@@ -50,7 +50,7 @@ concat-fronts_within (suc n) (b ∷ bs) le =
     let k = length (longest_front_of s) in
     ap concat (fronts_of-some b bs)
     ∙ ap₂ (λ f t. f ++ t) (longest_front_of-take s)
-    (concat-fronts_within n (drop k s) (fewer n k b bs (front_within b bs).0 le))
+    (concat-fronts_within n (drop k s) (length-drop-some n k b bs (front_within b bs).0 le))
     ∙ take-append-drop k s
 
 -- the fronts partition the bytes
@@ -62,7 +62,7 @@ unfolding is_text
 IsText-from_is_text s h =
     (fronts_of s, AllPass-from_list_all is_sequence (fronts_of s) h, concat-fronts_of s)
 
--- text in front is cut into its sequences
+-- text at the beginning is cut into its sequences
 pub fronts_of-text : (t s : List ℕ) → IsText t → (us : List (List ℕ))
     × (list_all is_sequence us ≡ true) × (concat us ≡ t) × (fronts_of (t ++ s) ≡ us ++ fronts_of s)
 fronts_of-text t s (us, h, e) =
@@ -98,7 +98,7 @@ pub lossy_of-nil : lossy_of [] ≡ []
 unfolding lossy_of
 lossy_of-nil = ap (flat_map shown_front) fronts_of-nil
 
--- text in front is shown as it is
+-- text at the beginning is shown as it is
 pub lossy_of-append : (t s : List ℕ) → IsText t → lossy_of (t ++ s) ≡ t ++ lossy_of s
 unfolding lossy_of
 lossy_of-append t s h =
@@ -111,11 +111,11 @@ lossy_of-text s t =
     ap lossy_of (sym (append-nil s)) ∙ lossy_of-append s [] t
     ∙ ap (λ x. s ++ x) lossy_of-nil ∙ append-nil s
 
--- where no sequence stands in front, no front is one
+-- where no sequence stands at the beginning, no prefix is one
 pub no_sequence : (s u v : List ℕ) → longest_len is_sequence s ≡ 0 → s ≡ u ++ v → IsSequence u → ⊥
 no_sequence s u v z e h =
     let some = sequence_len u h in
-    let few = longest_len-front is_sequence s u v h e in
+    let few = longest_len-prefix is_sequence s u v h e in
     absurd (omega arith)
 
 pub is_sequence-longest_front_of : (s : List ℕ) → longest_len is_sequence s ≡ 0
@@ -136,7 +136,7 @@ lossy_of-none b bs z =
     ∙ ap (λ f. f ++ flat_map shown_front (fronts_of (drop (length (longest_front_of s)) s)))
     (cond-false _ _ _ (is_sequence-longest_front_of s z))
 
--- where no sequence stands in front, no text does
+-- where no sequence stands at the beginning, no text does but the empty
 pub first_sequence : (s : List ℕ) (k : ℕ) → IsText (take k s) → 0 < k → k ≤ length s
     → longest_len is_sequence s ≡ 0 → ⊥
 first_sequence s k (us, h, e) some within z =
@@ -152,5 +152,3 @@ first_sequence s k (us, h, e) some within z =
 
 pub is_text-not : (s : List ℕ) → (IsText s → ⊥) → is_text s ≡ false
 is_text-not s broken = not_true (is_text s) (λ t. broken (IsText-from_is_text s t))
-
-pub ruleset text_is_lossy = (lossy_of-text)

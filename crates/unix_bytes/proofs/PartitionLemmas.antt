@@ -12,15 +12,15 @@ use Rattle.unix_bytes.specs.Chunks.{Chunk, chunks_of}
 use Rattle.unix_bytes.specs.Steps.{longest_len, longest_front_of, first_chunk_of, chunk_len}
 use Rattle.unix_bytes.specs.Laws.{FollowFirst, ChunksOfSome, ChunksPartition, ChunksAreShort}
 use Rattle.unix_bytes.specs.Laws.{WholeChunkIsLast}
-use Rattle.unix_bytes.proofs.LongestLemmas.{longest_len-longest, longest_len-front}
+use Rattle.unix_bytes.proofs.LongestLemmas.{longest_len-longest, longest_len-prefix}
 use Rattle.unix_bytes.proofs.FrontLemmas.{front_within}
 use Rattle.unix_bytes.proofs.GrowLemmas.{front_of-longest}
-use Rattle.unix_bytes.proofs.LossyLemmas.{is_text-from_IsText, fewer}
-use Rattle.unix_bytes.proofs.ChunkLemmas.{text_front, none_after_text, chunk_some, chunks_of-nil}
+use Rattle.unix_bytes.proofs.LossyLemmas.{is_text-from_IsText, length-drop-some}
+use Rattle.unix_bytes.proofs.ChunkLemmas.{text_prefix, none_after_text, chunk_some, chunks_of-nil}
 use Rattle.unix_bytes.proofs.ChunkLemmas.{chunks_of-some}
 use Rattle.unix_bytes.proofs.LawLemmas.{short_in_front}
 
--- the first chunk, and those of what follows it
+-- the first chunk, and the chunks of what follows it
 follow_first : (s : List ℕ)
     → FollowFirst s (first_chunk_of s) (chunks_of (drop (chunk_len (first_chunk_of s)) s))
 unfolding first_chunk_of
@@ -29,11 +29,11 @@ follow_first s =
     let v = take n s in
     let e : length v ≡ n = length-take-le n s (longest_len-longest is_text s).within in
     record {
-      text = text_front s;
+      text = text_prefix s;
       longest = (
         (drop n s, take-append-drop n s),
         λ t h (w, f).
-            let few = longest_len-front is_text s t w (is_text-from_IsText t h) (sym f) in
+            let few = longest_len-prefix is_text s t w (is_text-from_IsText t h) (sym f) in
             omega (arith, e),
       );
       broken = sym (front_of-longest (drop n s)) ∙ ap (λ j. front_of (drop j s)) (sym e);
@@ -50,7 +50,7 @@ chunks_of_some (b ∷ bs) c cs e =
     subst (λ x. FollowFirst s x cs) first
     (subst (λ xs. FollowFirst s (first_chunk_of s) xs) rest (follow_first s))
 
--- a front, a front of what follows, and the rest
+-- a prefix, a prefix of what follows, and the rest
 cut_twice : (s : List ℕ) (n k : ℕ) → n ≤ length s
     → (take n s ++ take k (drop n s)) ++ drop (length (take n s) + length (take k (drop n s))) s ≡ s
 cut_twice s n k w =
@@ -82,7 +82,7 @@ partition_within (suc n) (b ∷ bs) l =
     let k = chunk_len c in
     ap (flat_map (λ c. c.valid ++ c.broken)) (chunks_of-some b bs)
     ∙ ap (λ t. (c.valid ++ c.broken) ++ t)
-    (partition_within n (drop k s) (fewer n k b bs (chunk_some b bs) l))
+    (partition_within n (drop k s) (length-drop-some n k b bs (chunk_some b bs) l))
     ∙ first_chunk_of-drop s
 
 pub chunks_partition : ChunksPartition
@@ -103,7 +103,7 @@ short_within (suc n) (b ∷ bs) l =
     let k = chunk_len (first_chunk_of s) in
     subst (All IsShort) (sym (chunks_of-some b bs))
     (All-cons IsShort (first_chunk_of s) (chunks_of (drop k s)) (first_is_short s)
-    (short_within n (drop k s) (fewer n k b bs (chunk_some b bs) l)))
+    (short_within n (drop k s) (length-drop-some n k b bs (chunk_some b bs) l)))
 
 pub chunks_are_short : ChunksAreShort
 chunks_are_short s = short_within (length s) s (le_refl (length s))
@@ -143,7 +143,7 @@ last_within (suc n) (b ∷ bs) (x ∷ before) after c l e z =
     let k = chunk_len (first_chunk_of s) in
     let h = chunks_of-some b bs in
     let rest : chunks_of (drop k s) ≡ before ++ c ∷ after = cc in
-    last_within n (drop k s) before after c (fewer n k b bs (chunk_some b bs) l) rest z
+    last_within n (drop k s) before after c (length-drop-some n k b bs (chunk_some b bs) l) rest z
 
 pub whole_chunk_is_last : WholeChunkIsLast
 whole_chunk_is_last s before after c e z =

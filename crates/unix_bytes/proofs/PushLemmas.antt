@@ -1,4 +1,4 @@
--- The lossy text, built of what is split off in front.
+-- The lossy text, built of what is split off at the beginning.
 use Rattle.std.proofs.Common.{◌≡◌, ℕ, ◌+◌, ◌<◌, ◌≤◌, List, [], ◌∷◌, ◌++◌, length, take, drop, refl}
 use Rattle.std.proofs.Common.{sym, ap, ◌∙◌, subst, arith, eqb, false, append_assoc, length-drop}
 use Rattle.std.proofs.Common.{length-take-le}
@@ -9,11 +9,12 @@ use Rattle.std.proofs.Math.Seq.{take-append-add}
 use Rattle.std.proofs.lemmas.Str.{IsUtf8-append, IsUtf8-nil}
 use Rattle.unix_bytes.specs.Utf8.{IsText}
 use Rattle.unix_bytes.specs.Lossy.{is_text, lossy_of, replacement}
-use Rattle.unix_bytes.specs.Chunks.{Chunk, chunks_of, shown_chunk, shown_broken}
+use Rattle.unix_bytes.specs.Chunks.{Chunk, chunks_of, shown_chunk, replacement_for}
 use Rattle.unix_bytes.specs.Steps.{longest_len, broken_len, chunk_len}
-use Rattle.unix_bytes.proofs.TextLemmas.{IsUtf8-sequence, IsUtf8-from_IsText, IsText-from_IsUtf8}
+use Rattle.unix_bytes.proofs.TextLemmas.{IsUtf8-sequence, IsUtf8-from_IsText}
+use Rattle.unix_bytes.proofs.TextLemmas.{IsText-nil}
 use Rattle.unix_bytes.proofs.BrokenLemmas.{broken_len_within}
-use Rattle.unix_bytes.proofs.RunLemmas.{text_within}
+use Rattle.unix_bytes.proofs.StretchLemmas.{text_within}
 use Rattle.unix_bytes.proofs.ChunkLemmas.{chunk_some, shown-chunks_of}
 use Rattle.unix_bytes.proofs.SplitLemmas.{first_split}
 use Rattle.unix_bytes.proofs.LawLemmas.{replacement_is_sequence, lossy_is_text}
@@ -55,7 +56,7 @@ pub split_only : (s valid broken rest : List ℕ)
     → rest ≡ drop (broken_len (drop (longest_len is_text s) s)) (drop (longest_len is_text s) s)
     → length broken ≡ 0 → (valid ≡ s) × IsText s
 split_only [] valid broken rest v b r none =
-    (v ∙ take_all (longest_len is_text []) [] (omega arith), IsText-from_IsUtf8 [] IsUtf8-nil)
+    (v ∙ take_all (longest_len is_text []) [] (omega arith), IsText-nil)
 split_only (x ∷ xs) valid broken rest v b r none =
     let s = x ∷ xs in
     let c : Chunk = record { valid = valid; broken = broken } in
@@ -63,18 +64,18 @@ split_only (x ∷ xs) valid broken rest v b r none =
     let z = nil_from_length broken none in
     (only_chunk s c (chunks_of rest) e z, only_text s c (chunks_of rest) e z)
 
--- and of text nothing is broken
-pub split_text : (s valid broken rest : List ℕ)
+-- nothing of text is broken
+pub split_unbroken : (s valid broken rest : List ℕ)
     → valid ≡ take (longest_len is_text s) s
     → broken ≡ take (broken_len (drop (longest_len is_text s) s)) (drop (longest_len is_text s) s)
     → rest ≡ drop (broken_len (drop (longest_len is_text s) s)) (drop (longest_len is_text s) s)
     → IsText s → length broken ≡ 0
-split_text [] valid broken rest v b r t =
+split_unbroken [] valid broken rest v b r t =
     let n = longest_len is_text [] in
     let k = broken_len (drop n []) in
     let l = broken_len_within (drop n []) in
     omega (arith, ap length b, length-take-le k (drop n []) l, length-drop {A = ℕ} n [])
-split_text (x ∷ xs) valid broken rest v b r t =
+split_unbroken (x ∷ xs) valid broken rest v b r t =
     let s = x ∷ xs in
     let c : Chunk = record { valid = valid; broken = broken } in
     ap length (text_unbroken s c (chunks_of rest)
@@ -85,10 +86,10 @@ pub lossy_of-split : (s valid broken rest : List ℕ)
     → valid ≡ take (longest_len is_text s) s
     → broken ≡ take (broken_len (drop (longest_len is_text s) s)) (drop (longest_len is_text s) s)
     → rest ≡ drop (broken_len (drop (longest_len is_text s) s)) (drop (longest_len is_text s) s)
-    → (valid ++ shown_broken broken) ++ lossy_of rest ≡ lossy_of s
+    → (valid ++ replacement_for broken) ++ lossy_of rest ≡ lossy_of s
 lossy_of-split [] valid broken rest v b r =
     let none = nil_from_length broken
-    (split_text [] valid broken rest v b r (IsText-from_IsUtf8 [] IsUtf8-nil)) in
+    (split_unbroken [] valid broken rest v b r IsText-nil) in
     let n = longest_len is_text [] in
     let k = broken_len (drop n []) in
     let no_rest : rest ≡ [] =
@@ -106,13 +107,13 @@ pub pushed_more : (items s valid broken rest : List ℕ)
     → valid ≡ take (longest_len is_text s) s
     → broken ≡ take (broken_len (drop (longest_len is_text s) s)) (drop (longest_len is_text s) s)
     → rest ≡ drop (broken_len (drop (longest_len is_text s) s)) (drop (longest_len is_text s) s)
-    → ((items ++ take (length valid) s) ++ shown_broken broken) ++ lossy_of rest
+    → ((items ++ take (length valid) s) ++ replacement_for broken) ++ lossy_of rest
     ≡ items ++ lossy_of s
 pushed_more items s valid broken rest v b r =
     let n = longest_len is_text s in
     let text : take (length valid) s ≡ valid =
     ap (λ k. take k s) (ap length v ∙ length-take-le n s (text_within s)) ∙ sym v in
-    let mark = shown_broken broken in
+    let mark = replacement_for broken in
     ap (λ t. ((items ++ t) ++ mark) ++ lossy_of rest) text
     ∙ ap (λ t. t ++ lossy_of rest) (append_assoc items valid mark)
     ∙ append_assoc items (valid ++ mark) (lossy_of rest)
@@ -121,7 +122,7 @@ pushed_more items s valid broken rest v b r =
 replacement_is_utf8 : IsUtf8 replacement
 replacement_is_utf8 = IsUtf8-sequence replacement replacement_is_sequence
 
-shown_is_utf8 : (broken : List ℕ) → IsUtf8 (shown_broken broken)
+shown_is_utf8 : (broken : List ℕ) → IsUtf8 (replacement_for broken)
 shown_is_utf8 [] = IsUtf8-nil
 shown_is_utf8 (b ∷ bs) =
     let some = ne_eqb (length (b ∷ bs)) 0 (omega arith) in
@@ -129,10 +130,10 @@ shown_is_utf8 (b ∷ bs) =
 
 -- text, what stands for a broken front, and lossy text, one after the other
 pub pushed_is_utf8 : (text broken rest : List ℕ) → IsUtf8 text
-    → IsUtf8 ((text ++ shown_broken broken) ++ lossy_of rest)
+    → IsUtf8 ((text ++ replacement_for broken) ++ lossy_of rest)
 pushed_is_utf8 text broken rest h =
-    IsUtf8-append (text ++ shown_broken broken) (lossy_of rest)
-    (IsUtf8-append text (shown_broken broken) h (shown_is_utf8 broken))
+    IsUtf8-append (text ++ replacement_for broken) (lossy_of rest)
+    (IsUtf8-append text (replacement_for broken) h (shown_is_utf8 broken))
     (IsUtf8-from_IsText (lossy_of rest) (lossy_is_text rest))
 
 -- the first of sixteen bytes that were added

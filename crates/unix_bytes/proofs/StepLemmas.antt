@@ -1,4 +1,4 @@
--- The sequence in front, by how far one has begun.
+-- The sequence that bytes begin with, by how far one has begun.
 use Rattle.std.proofs.Common.{◌≡◌, ℕ, zero, suc, ◌<◌, ◌≤◌, List, [], ◌∷◌, ◌++◌, length, take, drop}
 use Rattle.std.proofs.Common.{⊎_elim, sym, ap, ◌∙◌, subst, arith, append-nil, slice_index}
 use Rattle.std.proofs.Common.{length-append, length-take-le, take-append-drop}
@@ -42,7 +42,7 @@ not_begun s n never many =
     absurd (never (omega arith, begins_sequence-from (take n s) begins)))
     h.passes
 
--- the first byte bounds the length
+-- the first byte of a sequence bounds its length
 module _ (b n : ℕ) (w : HasWidth b n) where
   two_at_most : b < 0xE0 → n ≤ 2
   two_at_most l =
@@ -68,11 +68,11 @@ module _ (b n : ℕ) (w : HasWidth b n) where
       (λ c. ⊎_elim (λ (d : b < 0xE0). let e = w.two c (omega arith) in omega arith)
       (λ d. let e = three_at_least d in omega arith) (cases_lt b 0xE0)) (cases_lt b 0xC2)
 
--- the same of a front that is a sequence
-front_width : (b : ℕ) (bs : List ℕ) (k : ℕ) → k ≤ length (b ∷ bs) → IsSequence (take k (b ∷ bs))
+-- the first byte of a prefix that is a sequence says its length
+prefix_width : (b : ℕ) (bs : List ℕ) (k : ℕ) → k ≤ length (b ∷ bs) → IsSequence (take k (b ∷ bs))
     → HasWidth b k
-front_width b bs zero within h = let z = no_bytes in cc
-front_width b bs (suc k) within h =
+prefix_width b bs zero within h = let z = no_bytes in cc
+prefix_width b bs (suc k) within h =
     subst (λ n. HasWidth b (suc n)) (length-take-le k bs (omega arith)) (has_width b (take k bs) h)
 
 pub two_byte_sequence : (s : List ℕ) → HasBegun s 2 → slice_index s 0 < 0xE0
@@ -97,18 +97,16 @@ pub none_of_two : (s : List ℕ) → (HasBegun s 2 → ⊥) → 0x80 ≤ slice_i
     → longest_len is_sequence s ≡ 0
 none_of_two [] never g = absurd (omega arith)
 none_of_two (b ∷ bs) never g =
-    not_begun (b ∷ bs) 2 never (λ k within h. two_at_least b k (front_width b bs k within h) g)
+    not_begun (b ∷ bs) 2 never (λ k within h. two_at_least b k (prefix_width b bs k within h) g)
 
 pub none_of_three : (s : List ℕ) → (HasBegun s 3 → ⊥) → 0xE0 ≤ slice_index s 0
     → longest_len is_sequence s ≡ 0
 none_of_three [] never g = absurd (omega arith)
 none_of_three (b ∷ bs) never g =
-    not_begun (b ∷ bs) 3 never (λ k within h. three_at_least b k (front_width b bs k within h) g)
+    not_begun (b ∷ bs) 3 never (λ k within h. three_at_least b k (prefix_width b bs k within h) g)
 
 pub none_of_four : (s : List ℕ) → (HasBegun s 4 → ⊥) → 0xF0 ≤ slice_index s 0
     → longest_len is_sequence s ≡ 0
 none_of_four [] never g = absurd (omega arith)
 none_of_four (b ∷ bs) never g =
-    not_begun (b ∷ bs) 4 never (λ k within h. four_at_least b k (front_width b bs k within h) g)
-
-pub ruleset wide_sequences = (two_byte_sequence, three_byte_sequence, four_byte_sequence)
+    not_begun (b ∷ bs) 4 never (λ k within h. four_at_least b k (prefix_width b bs k within h) g)

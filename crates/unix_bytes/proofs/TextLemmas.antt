@@ -86,3 +86,16 @@ pub IsText-from_IsUtf8 : (s : List ℕ) → IsUtf8 s → IsText s
 IsText-from_IsUtf8 s (cs, (h, e)) =
     let j = sequences cs h in
     (map encode cs, AllPass-from_list_all is_sequence (map encode cs) j.0, j.1 ∙ e)
+
+-- the empty list is text
+pub IsText-nil : IsText []
+IsText-nil = IsText-from_IsUtf8 [] IsUtf8-nil
+
+-- one sequence is text
+pub IsText-sequence : (u : List ℕ) → IsSequence u → IsText u
+IsText-sequence u h = IsText-from_IsUtf8 u (IsUtf8-sequence u h)
+
+pub IsText-append : (s t : List ℕ) → IsText s → IsText t → IsText (s ++ t)
+IsText-append s t h k =
+    IsText-from_IsUtf8 (s ++ t)
+    (IsUtf8-append s t (IsUtf8-from_IsText s h) (IsUtf8-from_IsText t k))

@@ -1,5 +1,7 @@
 -- How many bytes a sequence has, by its first; so no sequence begins another.
-use Rattle.std.proofs.Common.{◌≡◌, ℕ, suc, ◌<◌, ◌≤◌, List, [], ◌∷◌, ◌++◌, length, ⊎_elim, refl, sym}
+use Rattle.std.specs.Prelude.{◌↔◌}
+use Rattle.std.proofs.Common.{◌⊎◌, ◌≡◌, ℕ, suc, ◌<◌, ◌≤◌, List, [], ◌∷◌, ◌++◌, length, ⊎_elim, refl}
+use Rattle.std.proofs.Common.{sym}
 use Rattle.std.proofs.Common.{◌∙◌, arith, length-append}
 use Rattle.std.proofs.lemmas.Bool.{cases_lt}
 use Rattle.unix_bytes.specs.Utf8.{IsSequence, BeginsSequence}
@@ -85,3 +87,21 @@ begins_four b h k =
     ⊎_elim (λ (l : b < 0xF1). (0x90 ∷ 0x80 ∷ 0x80 ∷ [], four_is b 0x90 0x80 0x80 (grind arith)))
     (λ (g : 0xF1 ≤ b). (0x80 ∷ 0x80 ∷ 0x80 ∷ [], four_is b 0x80 0x80 0x80 (grind arith)))
     (cases_lt b 0xF1)
+
+-- a byte that leads a sequence has a width, and not 0
+pub some_width : (b n : ℕ) → 0 < n → BeginsSequence (b ∷ [])
+    → (n ≡ 0) ↔ ¬ (BeginsSequence (b ∷ []))
+some_width b n some begins = (λ e. absurd (omega arith), λ none. absurd (none begins))
+
+-- the byte leads no sequence
+abbrev pub LeadsNone : ℕ → Type 0
+LeadsNone b = ((0x80 ≤ b) × (b < 0xC2)) ⊎ (0xF4 < b)
+
+pub leads_none : (b : ℕ) (u : List ℕ) → LeadsNone b → IsSequence (b ∷ u) → ⊥
+leads_none b u lone h =
+    let w = has_width b u h in
+    ⊎_elim (λ l. let p = (w.one l.1).0 in omega arith)
+    (λ g. let p = (w.four (omega arith)).0 in omega arith) lone
+
+pub no_width : (b : ℕ) → LeadsNone b → ◌≡◌ {A = ℕ} 0 0 ↔ ¬ (BeginsSequence (b ∷ []))
+no_width b lone = (λ e (u, h). leads_none b u lone h, λ none. refl)

@@ -1,8 +1,8 @@
 -- Writes in a row, under a formatter's options.
-use Rattle.std.proofs.Common.{◌≡◌, ℕ, List, [], ◌∷◌, ◌++◌, refl, ap₂, subst, sym, ◌∙◌}
+use Rattle.std.proofs.Common.{◌≡◌, ℕ, List, [], ◌∷◌, ◌++◌, ap₂, subst, sym, ◌∙◌}
 use Rattle.std.specs.declared.fmt.Formatter.{Formatter}
 use Rattle.std.specs.List.{FoldsTo}
-use Rattle.std.specs.Fmt.{WritesInCalls, HasWritten, IsPlainFormatter, HasWrittenStyled, IsFlush}
+use Rattle.std.specs.Fmt.{WritesInCalls, HasWritten, HasWrittenStyled}
 use Rattle.std.proofs.lemmas.List.Folds.{concat-append}
 
 module _ {W : Type 0} (took : W → List ℕ → W → Type 0) where
@@ -19,9 +19,6 @@ module _ {W : Type 0} (took : W → List ℕ → W → Type 0) where
     whole = concat-append p.parts q.parts ∙ ap₂ (λ x y. x ++ y) p.whole q.whole;
   }
 
-  pub written_nil : (f : Formatter W) → IsPlainFormatter f → HasWritten took f [] f
-  written_nil f p = record { wrote = record { parts = []; calls = refl; whole = refl }; plain = p }
-
   pub written_append : (f : Formatter W) (a : List ℕ) (g : Formatter W) (b : List ℕ)
       (h : Formatter W) → HasWritten took f a g → HasWritten took g b h
       → HasWritten took f (a ++ b) h
@@ -33,13 +30,6 @@ module _ {W : Type 0} (took : W → List ℕ → W → Type 0) where
   pub written_same : (f : Formatter W) (a b : List ℕ) (g : Formatter W) → a ≡ b
       → HasWritten took f a g → HasWritten took f b g
   written_same f a b g e = subst (λ (l : List ℕ). HasWritten took f l g) e
-
-  pub styled_nil : (f : Formatter W) → IsFlush f → HasWrittenStyled took f [] f
-  styled_nil f p = record {
-    wrote = record { parts = []; calls = refl; whole = refl };
-    spec = refl;
-    flush = p;
-  }
 
   pub styled_append : (f : Formatter W) (a : List ℕ) (g : Formatter W) (b : List ℕ)
       (h : Formatter W) → HasWrittenStyled took f a g → HasWrittenStyled took g b h

@@ -1,11 +1,11 @@
--- Chunks: runs of well-formed sequences, each with the broken front behind it.
+-- Chunks: text as far as it goes, and the broken front behind it.
 use Rattle.std.specs.Prelude.{ℕ, ◌==◌, List, [], ◌∷◌, ◌++◌, length, if◌then◌else◌}
 use Rattle.unix_bytes.specs.Utf8.{is_sequence}
 use Rattle.unix_bytes.specs.Lossy.{fronts_of, replacement}
 use Rattle.unix_bytes.specs.declared.lossy.Utf8LossyChunk.{Utf8LossyChunk}
 use Rattle.unix_bytes.specs.declared.lossy.Utf8LossyChunksIter.{Utf8LossyChunksIter}
 
--- a run of text, and the broken front behind it, or nothing at the end
+-- text, and the broken front behind it, or nothing at the end
 pub record Chunk : Type 0 where
   pub valid : List ℕ
   pub broken : List ℕ
@@ -22,12 +22,12 @@ unfoldable pub chunks_of : List ℕ → List Chunk
 chunks_of s = chunks_from [] (fronts_of s)
 
 -- U+FFFD, unless nothing is broken
-abbrev pub shown_broken : List ℕ → List ℕ
-shown_broken broken = if length broken == 0 then [] else replacement
+abbrev pub replacement_for : List ℕ → List ℕ
+replacement_for broken = if length broken == 0 then [] else replacement
 
 -- a chunk's text, and U+FFFD for its broken front
 abbrev pub shown_chunk : Chunk → List ℕ
-shown_chunk c = c.valid ++ shown_broken c.broken
+shown_chunk c = c.valid ++ replacement_for c.broken
 
 -- a chunk by its bytes
 abbrev pub chunk_of : Utf8LossyChunk → Chunk

@@ -35,23 +35,23 @@ FrontsInTurn = (s : List ℕ) → drop 1 (fronts_of s) ≡ fronts_of (drop (leng
 abbrev pub FrontsBegin : Type 0
 FrontsBegin = (s : List ℕ) → All (λ u. BeginsSequence u ⊎ (length u ≡ 1)) (fronts_of s)
 
--- no front is longer that begins a sequence
+-- the first front is a prefix, and no prefix that begins a sequence is longer
 abbrev pub FrontIsLongest : Type 0
 FrontIsLongest = (s : List ℕ) → IsLongest BeginsSequence (front_of s) s
 
--- no sequence stands in front
+-- the bytes begin with no sequence
 abbrev pub NoneInFront : List ℕ → Type 0
 NoneInFront s = (u : List ℕ) → IsSequence u → ¬ (Begins u s)
 
--- the front has three bytes at most, where no sequence stands there
+-- the first front has three bytes at most where the bytes begin with no sequence
 abbrev pub BrokenIsShort : Type 0
 BrokenIsShort = (s : List ℕ) → NoneInFront s → length (front_of s) ≤ 3
 
--- a sequence in front is copied
+-- a sequence at the beginning is copied
 abbrev pub LossyOfSequence : Type 0
 LossyOfSequence = (u s : List ℕ) → IsSequence u → lossy_of (u ++ s) ≡ u ++ lossy_of s
 
--- where no sequence stands in front, U+FFFD stands for the front
+-- where the bytes begin with no sequence, U+FFFD stands for the first front
 abbrev pub LossyOfBroken : Type 0
 LossyOfBroken =
     (s : List ℕ) → 0 < length s → NoneInFront s
@@ -69,14 +69,14 @@ LossyIsText = (s : List ℕ) → IsText (lossy_of s)
 abbrev pub ChunksOfNothing : Type 0
 ChunksOfNothing = chunks_of [] ≡ []
 
--- c has the longest text in front of s and the front behind it, and cs are the rest's chunks
+-- c is the longest prefix of s that is text and the front behind it, and cs are the rest's chunks
 pub record FollowFirst (s : List ℕ) (c : Chunk) (cs : List Chunk) : Type 0 where
   pub text : IsText c.valid
   pub longest : IsLongest IsText c.valid s
   pub broken : c.broken ≡ front_of (drop (length c.valid) s)
   pub rest : cs ≡ chunks_of (drop (length (c.valid ++ c.broken)) s)
 
--- so are the first chunk and those behind it
+-- the first chunk, and those behind it, are so
 abbrev pub ChunksOfSome : Type 0
 ChunksOfSome =
     (s : List ℕ) (c : Chunk) (cs : List Chunk) → chunks_of s ≡ c ∷ cs → FollowFirst s c cs

@@ -14,7 +14,7 @@ unfoldable pub fronts_of : List ℕ → List (List ℕ)
 fronts_of [] = []
 fronts_of (b ∷ s) = fronts_from (b ∷ []) s
 
--- the first of them: the longest that begins some sequence, or one byte where none does
+-- the first front: the longest prefix that begins some sequence, or one byte where none does
 abbrev pub front_of : List ℕ → List ℕ
 front_of s = concat (take 1 (fronts_of s))
 

@@ -6,10 +6,10 @@ use Rattle.unix_bytes.specs.declared.bytes.owned.UnixString.{UnixString}
 abbrev pub owned_bytes : UnixString → List ℕ
 owned_bytes s = s.bytes.items
 
--- how many more bytes it takes without a growth
+-- how many more bytes it takes before it grows
 abbrev pub owned_room : UnixString → ℕ
 owned_room s = vec_capacity s.bytes - vec_len s.bytes
 
--- how many bytes it may hold without a growth
+-- how many bytes it can hold before it grows
 abbrev pub owned_capacity : UnixString → ℕ
 owned_capacity s = length (owned_bytes s) + owned_room s

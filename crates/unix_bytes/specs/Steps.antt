@@ -1,4 +1,4 @@
--- Words of private steps. No public clause cites them.
+-- How far the code looks at a time. No public clause cites these words.
 use Rattle.std.specs.Prelude.{ℕ, zero, suc, ◌+◌, ◌≤◌, ◌≡◌, Bool, true, List, length, take, drop}
 use Rattle.std.specs.Prelude.{max, if◌then◌else◌}
 use Rattle.unix_bytes.specs.Utf8.{is_sequence, begins_sequence}
@@ -10,11 +10,11 @@ abbrev pub longest_len_to : ℕ → (List ℕ → Bool) → List ℕ → ℕ
 longest_len_to zero test s = 0
 longest_len_to (suc m) test s = if test (take (suc m) s) then suc m else longest_len_to m test s
 
--- the length of the longest front that passes the test, or 0
+-- the length of the longest prefix that passes the test, or 0
 unfoldable pub longest_len : (List ℕ → Bool) → List ℕ → ℕ
 longest_len test s = longest_len_to (length s) test s
 
--- the longest front that begins some sequence, or one byte where none does
+-- the longest prefix that begins some sequence, or one byte where none does
 unfoldable pub longest_front_of : List ℕ → List ℕ
 longest_front_of s = take (max 1 (longest_len begins_sequence s)) s
 
@@ -22,11 +22,11 @@ longest_front_of s = take (max 1 (longest_len begins_sequence s)) s
 abbrev pub HasBegun : List ℕ → ℕ → Type 0
 HasBegun s n = (n ≤ length s) × (begins_sequence (take n s) ≡ true)
 
--- how many bytes stand broken in front: none before a sequence and at the end
+-- how many bytes are broken at the beginning: none where a sequence stands there, and at the end
 abbrev pub broken_len : List ℕ → ℕ
 broken_len s = let u = longest_front_of s in if is_sequence u then 0 else length u
 
--- the longest front that is text, and the front of what follows
+-- the longest prefix that is text, and the front behind it
 unfoldable pub first_chunk_of : List ℕ → Chunk
 first_chunk_of s =
     let n = longest_len is_text s in

@@ -4,10 +4,10 @@ ghost use Rattle.std.specs.Prelude.{OnOk, IsSome, IfSome};
 ghost use Rattle.std.specs.String.{string_bytes};
 ghost use Rattle.unix_bytes.specs.Utf8.{IsText};
 ghost use Rattle.unix_bytes.specs.Lossy.{lossy_of};
-ghost use Rattle.unix_bytes.specs.Chunks.{shown_broken};
+ghost use Rattle.unix_bytes.specs.Chunks.{replacement_for};
 
 use crate::lossy::Utf8Lossy;
-use crate::utf8::{split_front, to_text};
+use crate::utf8::{split_text, to_text};
 use std::alloc::{AllocError, Global};
 use std::fmt;
 use std::hash::{Hash, Hasher};
@@ -20,8 +20,8 @@ pub use text::LossyText;
 
 /// A borrowed byte string: a path or a name as Unix keeps it, in whatever encoding.
 ///
-/// No byte is refused, NUL included. It is compared byte by byte, a proper beginning being the
-/// lesser. Copying one copies the view and not the bytes.
+/// It may hold any byte, NUL included. Two are compared byte by byte, and a proper prefix is the
+/// lesser. A copy is one of the view and not of the bytes.
 /// As the crate `unix_str`'s type of that name, which stands for Rust's `OsStr` on Unix.
 #[derive(Clone, Copy, PartialEq, Eq, PartialOrd, Ord)]
 pub struct UnixStr<'a> {
@@ -32,7 +32,9 @@ pub struct UnixStr<'a> {
 impl<'a> UnixStr<'a> {
     ghost use Rattle.unix_bytes.specs.Texts.{text_bytes, IsBorrowed};
 
-    /// The bytes of the text, in UTF-8. Takes no memory.
+    /// The bytes of the text, in UTF-8. Does not allocate.
+    ///
+    /// As Rust's `OsStr::new` of a `str`.
     ///
     /// `UnixStr::new("tmp")` has the 3 bytes of `tmp`.
     #[inline]
@@ -44,7 +46,9 @@ impl<'a> UnixStr<'a> {
         }
     }
 
-    /// These bytes, whatever they are. Takes no memory. Own.
+    /// These bytes, whatever they are. Does not allocate.
+    ///
+    /// As Rust's `OsStrExt::from_bytes`.
     ///
     /// `UnixStr::from_bytes(b"\xff")` has the 1 byte FF.
     #[inline]
@@ -54,7 +58,9 @@ impl<'a> UnixStr<'a> {
         UnixStr { bytes }
     }
 
-    /// The bytes, borrowed from where the view borrows them. Takes no memory.
+    /// The bytes, borrowed from where the view borrows them. Does not allocate.
+    ///
+    /// As Rust's `OsStrExt::as_bytes`.
     ///
     /// `UnixStr::new("tmp").as_bytes()` is `b"tmp"`.
     #[inline]
@@ -64,7 +70,9 @@ impl<'a> UnixStr<'a> {
         self.bytes
     }
 
-    /// How many bytes there are. Takes no memory.
+    /// How many bytes there are. Does not allocate.
+    ///
+    /// As Rust's `OsStr::len`.
     ///
     /// `UnixStr::new("tmp").len()` is 3.
     #[inline]
@@ -74,7 +82,9 @@ impl<'a> UnixStr<'a> {
         self.bytes.len()
     }
 
-    /// Whether there is no byte. Takes no memory.
+    /// Whether there are no bytes. Does not allocate.
+    ///
+    /// As Rust's `OsStr::is_empty`.
     ///
     /// `UnixStr::new("").is_empty()` is true.
     #[inline]
@@ -84,7 +94,7 @@ impl<'a> UnixStr<'a> {
         self.bytes.is_empty()
     }
 
-    /// The bytes as text, where they are UTF-8. Takes no memory.
+    /// The bytes as text, or `None` where they are not UTF-8. Does not allocate.
     ///
     /// As Rust's `OsStr::to_str`; UTF-8 is that of RFC 3629, section 4.
     ///
@@ -99,17 +109,17 @@ impl<'a> UnixStr<'a> {
 
     /// The bytes as text, with U+FFFD for each broken front.
     ///
-    /// Bytes that are UTF-8 are borrowed, and then no memory is taken. Otherwise a new text is
-    /// made, and the error says that there was no memory for it.
+    /// Bytes that are UTF-8 are borrowed, which does not allocate and always succeeds. Otherwise a
+    /// new text is allocated; fails if an allocation fails.
     /// As Rust's `OsStr::to_string_lossy`.
     ///
-    /// Of 61 FF it is `a` and U+FFFD.
+    /// For the bytes 61 FF it is `a` and U+FFFD.
     pub fn to_string_lossy(self, alloc: Global) -> Result<LossyText<'a>, AllocError>
         ensures value { IfOk result (λ text. text_bytes text ≡ lossy_of self.entry.bytes.now) }
         ensures borrowed { IfOk result (λ text. IsBorrowed text ↔ IsText self.entry.bytes.now) }
         ensures succeeds { IsText self.entry.bytes.now → IsOk result }
     {
-        let (text, broken, rest) = split_front(self.bytes);
+        let (text, broken, rest) = split_text(self.bytes);
         if broken.is_empty() {
             return Ok(LossyText::Borrowed(text));
         }
@@ -118,8 +128,8 @@ impl<'a> UnixStr<'a> {
     }
 }
 
-/// The length, and then the bytes in one write: names that are fed one after the other don't run
-/// together, and long ones are fed fast. Own.
+/// Feeds the length, and then the bytes in one write: so what two names in a row feed tells where
+/// the second begins, and long names are fed fast. The form is this crate's own.
 impl Hash for UnixStr<'_> {
     ghost use Rattle.unix_bytes.specs.Hashed.{name_input};
     ghost use Rattle.std.specs.Cmp.Lexicographic.{bytes_decides};
@@ -135,26 +145,27 @@ impl Hash for UnixStr<'_> {
     }
 }
 
-/// The debug form of the lossy text, which for UTF-8 is the text itself. Takes no memory. Own.
+/// The debug form of the lossy text, which for UTF-8 is the text itself. Does not allocate, and
+/// fails only where the writer does. The form is this crate's own.
 impl fmt::Debug for UnixStr<'_> {
     fn fmt<W: fmt::Write>(&self, f: &mut fmt::Formatter<W>) -> fmt::Result {
         fmt::Debug::fmt(&Utf8Lossy::from_bytes(self.bytes), f)
     }
 }
 
-// The text, U+FFFD unless nothing is broken, and the lossy text of the rest, where at first there
-// is room for so many bytes.
+// The text, U+FFFD unless nothing is broken, and the lossy text of the rest. Its capacity is at
+// first as many bytes as is said.
 fn lossy_string(
     alloc: Global,
-    room: usize,
+    capacity: usize,
     text: &str,
     broken: &[u8],
     rest: &[u8],
 ) -> Result<String, AllocError>
-    ensures { let whole = (text.now ++ shown_broken broken.now) ++ lossy_of rest.now in
+    ensures { let whole = (text.now ++ replacement_for broken.now) ++ lossy_of rest.now in
         IfOk result (λ lossy. string_bytes lossy ≡ whole) }
 {
-    let mut bytes = Vec::with_capacity(alloc, room)?;
+    let mut bytes = Vec::with_capacity(alloc, capacity)?;
     bytes.extend_from_slice(text.as_bytes())?;
     push_broken(&mut bytes, broken)?;
     push_lossy(&mut bytes, rest)?;
@@ -168,18 +179,18 @@ fn push_lossy(bytes: &mut Vec<u8>, source: &[u8]) -> Result<(), AllocError>
 {
     let mut left = source;
     while !left.is_empty() {
-        let (text, broken, rest) = split_front(left);
-        push_front(bytes, left, text.len())?;
+        let (text, broken, rest) = split_text(left);
+        push_prefix(bytes, left, text.len())?;
         push_broken(bytes, broken)?;
         left = rest;
     }
     Ok(())
 }
 
-// Adds the first bytes of the source. Where few are wanted, sixteen are copied, which takes one
-// move, and those too many are dropped again.
+// Adds the first bytes of the source. Where few are wanted, sixteen are copied, which is one move,
+// and those too many are dropped again.
 #[inline(always)]
-fn push_front(bytes: &mut Vec<u8>, source: &[u8], len: usize) -> Result<(), AllocError>
+fn push_prefix(bytes: &mut Vec<u8>, source: &[u8], len: usize) -> Result<(), AllocError>
     requires { len ≤ length source.now }
     ensures { OnOk result (bytes.new.items ≡ bytes.old.items ++ take len source.now) }
 {
@@ -198,7 +209,7 @@ fn push_front(bytes: &mut Vec<u8>, source: &[u8], len: usize) -> Result<(), Allo
 // Adds U+FFFD unless nothing is broken.
 #[inline(always)]
 fn push_broken(bytes: &mut Vec<u8>, broken: &[u8]) -> Result<(), AllocError>
-    ensures { OnOk result (bytes.new.items ≡ bytes.old.items ++ shown_broken broken.now) }
+    ensures { OnOk result (bytes.new.items ≡ bytes.old.items ++ replacement_for broken.now) }
 {
     if broken.is_empty() {
         return Ok(());

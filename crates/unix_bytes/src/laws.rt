@@ -16,20 +16,20 @@ pub fn sequences_stand_alone()
     ensures { SequencesStandAlone }
 {}
 
-/// The tests that the definitions use say what they are named for.
+/// The tests that the definitions use are right: of what begins a sequence, and of text.
 pub fn tests_are_right()
     ensures beginning { BeginningIsTested }
     ensures text { TextIsTested }
 {}
 
-/// The fronts partition the bytes: the first, and then those of what follows it.
+/// The fronts partition the bytes: the first, and then the fronts of what follows it.
 pub fn fronts_in_turn()
     ensures partition { FrontsPartition }
     ensures turn { FrontsInTurn }
 {}
 
-/// A front is the longest that begins some sequence, or one byte: three bytes at most, where no
-/// sequence stands there.
+/// A front is the longest that begins some sequence, or one byte. It has three bytes at most where
+/// the bytes begin with no sequence.
 pub fn broken_front()
     ensures begins { FrontsBegin }
     ensures longest { FrontIsLongest }
@@ -52,15 +52,15 @@ pub fn lossy_is_text()
     ensures { LossyIsText }
 {}
 
-/// The chunks of bytes are the longest front that is text with the front behind it, and then those
-/// of what follows it.
+/// The chunks of bytes are the longest prefix that is text with the front behind it, and then the
+/// chunks of what follows these two.
 pub fn chunks_in_turn()
     ensures nothing { ChunksOfNothing }
     ensures some { ChunksOfSome }
 {}
 
-/// The chunks partition the bytes; at most three bytes of each are broken, and none only in the
-/// last.
+/// The chunks partition the bytes; at most three bytes of each are broken, and in each but the last
+/// one or more.
 pub fn chunks_partition()
     ensures partition { ChunksPartition }
     ensures short { ChunksAreShort }

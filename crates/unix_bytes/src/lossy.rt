@@ -3,19 +3,20 @@ ghost use Rattle.std.specs.Prelude.{◌≡◌, ◌↔◌, ◌<◌, ◌≤◌, �
 ghost use Rattle.std.specs.Prelude.{drop, take, ◌^◌, if◌then◌else◌};
 ghost use Rattle.std.specs.Fmt.{WritesOnOk, WritesStyledOnOk, padded};
 ghost use Rattle.std.specs.Iterator.{YieldsFirstBy, item_count};
+ghost use Rattle.std.specs.List.{flat_map};
 ghost use Rattle.std.specs.Iterator.Runs.{EveryRun, ItemsMapTo};
 ghost use Rattle.unix_bytes.specs.Utf8.{IsSequence, BeginsSequence};
 ghost use Rattle.unix_bytes.specs.Lossy.{is_text, lossy_of};
 ghost use Rattle.unix_bytes.specs.Chunks.{chunks_of, chunk_of, chunks_left, shown_chunk};
 
-use crate::utf8::split_front;
+use crate::utf8::split_text;
 use std::fmt;
 use std::iter::FusedIterator;
 
 /// How many bytes the well-formed sequences have that begin with `b`: 1 to 4, or 0 where no
 /// sequence begins with it.
 ///
-/// Takes no memory. The table of RFC 3629, section 4.
+/// Does not allocate. By the table of RFC 3629, section 4.
 ///
 /// `utf8_char_width(0xE2)` is 3.
 #[inline]
@@ -34,8 +35,8 @@ pub fn utf8_char_width(b: u8) -> usize
 
 /// Bytes that are shown as text, whether they are UTF-8 or not.
 ///
-/// Its `Display` is the lossy text. Copying one copies the view and not the bytes.
-/// As Rust's `String::from_utf8_lossy`, without the memory.
+/// Its `Display` is the lossy text. A copy is one of the view and not of the bytes.
+/// As Rust's `String::from_utf8_lossy`, without an allocation.
 #[derive(Clone, Copy)]
 pub struct Utf8Lossy<'a> {
     /// The bytes.
@@ -43,7 +44,7 @@ pub struct Utf8Lossy<'a> {
 }
 
 impl<'a> Utf8Lossy<'a> {
-    /// These bytes, whatever they are. Takes no memory.
+    /// These bytes, whatever they are. Does not allocate.
     ///
     /// `Utf8Lossy::from_bytes(b"a\xFF")` is displayed as `a` and U+FFFD.
     #[inline]
@@ -53,12 +54,12 @@ impl<'a> Utf8Lossy<'a> {
         Utf8Lossy { bytes }
     }
 
-    /// The runs of text in the bytes, each with the broken front behind it.
+    /// The chunks of the bytes: text as far as it goes, and the broken front behind it.
     ///
-    /// Nothing comes for no bytes. Neither this nor the iterator takes memory.
+    /// No bytes have no chunks. Neither this nor the iterator allocates.
     /// As Rust's `<[u8]>::utf8_chunks`.
     ///
-    /// Of 61 FF 62 there are two: `a` with FF, and `b` with nothing.
+    /// For the bytes 61 FF 62 they are two: `a` with FF, and `b` with nothing.
     #[inline]
     pub fn chunks(&self) -> Utf8LossyChunksIter<'a>
         ensures left { chunks_left result ≡ chunks_of self.now.bytes.now }
@@ -73,17 +74,17 @@ impl<'a> Utf8Lossy<'a> {
     }
 }
 
-/// A run of well-formed sequences, and the broken front behind it.
+/// Well-formed sequences, one after the other, and the broken front behind them.
 #[derive(Clone, Copy, Debug, PartialEq, Eq)]
 pub struct Utf8LossyChunk<'a> {
     /// The sequences; empty where the chunk begins with what is broken.
     pub valid: &'a str,
-    /// What begins a sequence without being one, or one byte that begins none: at most 3 bytes,
-    /// and none only in the last chunk.
+    /// What begins a sequence without being one, or one byte that begins none: at most 3 bytes. It
+    /// is empty in the last chunk at most.
     pub broken: &'a [u8],
 }
 
-/// The chunks that are still to come, front first.
+/// The chunks that are still to come, in order.
 #[derive(Clone, Copy, Debug)]
 pub struct Utf8LossyChunksIter<'a> {
     source: &'a [u8],
@@ -96,7 +97,7 @@ fn split_chunk(source: &[u8]) -> (Utf8LossyChunk<'_>, &[u8])
     requires { 0 < length source.now }
     ensures { chunks_of source.now ≡ chunk_of result.0 ∷ chunks_of result.1.now }
 {
-    let (valid, broken, rest) = split_front(source);
+    let (valid, broken, rest) = split_text(source);
     (Utf8LossyChunk { valid, broken }, rest)
 }
 
@@ -120,7 +121,7 @@ impl<'a> Iterator for Utf8LossyChunksIter<'a> {
 
 impl FusedIterator for Utf8LossyChunksIter<'_> {}
 
-// The chunk's text, and U+FFFD for its broken front.
+// Writes the chunk's text, and U+FFFD for its broken front.
 fn write_chunk<W: fmt::Write>(chunk: Utf8LossyChunk<'_>, f: &mut fmt::Formatter<W>) -> fmt::Result
     ensures writes { WritesOnOk W.write_str_gives f.old result
         (shown_chunk (chunk_of chunk.entry)) f.new }
@@ -134,10 +135,27 @@ fn write_chunk<W: fmt::Write>(chunk: Utf8LossyChunk<'_>, f: &mut fmt::Formatter<
     f.write_str("\u{FFFD}")
 }
 
+// Writes the chunks that are still to come: the text of each, and U+FFFD for its broken front.
+#[inline]
+fn write_chunks<W: fmt::Write>(
+    chunks: Utf8LossyChunksIter<'_>,
+    f: &mut fmt::Formatter<W>,
+) -> fmt::Result
+    ensures writes { WritesOnOk W.write_str_gives f.old result
+        (flat_map shown_chunk (chunks_left chunks.entry)) f.new }
+    ensures styled { WritesStyledOnOk W.write_str_gives f.old result
+        (flat_map shown_chunk (chunks_left chunks.entry)) f.new }
+{
+    for chunk in chunks {
+        write_chunk(chunk, f)?;
+    }
+    Ok(())
+}
+
 /// The lossy text: the sequences as they are, and U+FFFD for each broken front.
 ///
 /// Bytes that are wholly UTF-8 are padded as a text is, by width, precision, fill and alignment;
-/// any others ignore them. It takes no memory, and fails only where the writer does.
+/// any others ignore these. Does not allocate, and fails only where the writer does.
 impl fmt::Display for Utf8Lossy<'_> {
     ghost output = { λ d. Some (lossy_of d.bytes.now) };
 
@@ -154,28 +172,36 @@ impl fmt::Display for Utf8Lossy<'_> {
             return f.pad(first.valid);
         }
         write_chunk(first, f)?;
-        for chunk in chunks {
-            write_chunk(chunk, f)?;
-        }
-        Ok(())
+        write_chunks(chunks, f)
     }
 }
 
-/// The debug form of the lossy text: in quotes, with its escapes. Takes no memory. Own.
+/// The debug form of the lossy text: in quotes, with its escapes. Does not allocate, and fails only
+/// where the writer does. The form is this crate's own.
 impl fmt::Debug for Utf8Lossy<'_> {
     fn fmt<W: fmt::Write>(&self, f: &mut fmt::Formatter<W>) -> fmt::Result {
         f.write_char('"')?;
         for chunk in self.chunks() {
-            write_escaped(chunk.valid, f)?;
-            if !chunk.broken.is_empty() {
-                f.write_char(char::REPLACEMENT_CHARACTER)?;
-            }
+            write_escaped_chunk(chunk, f)?;
         }
         f.write_char('"')
     }
 }
 
-// The text as its debug form has it between the quotes, where a `'` stands as it is.
+// Writes the chunk's text as its debug form has it between the quotes, and U+FFFD for its broken
+// front.
+fn write_escaped_chunk<W: fmt::Write>(
+    chunk: Utf8LossyChunk<'_>,
+    f: &mut fmt::Formatter<W>,
+) -> fmt::Result {
+    write_escaped(chunk.valid, f)?;
+    if chunk.broken.is_empty() {
+        return Ok(());
+    }
+    f.write_char(char::REPLACEMENT_CHARACTER)
+}
+
+// Writes the text as its debug form has it between the quotes, where a `'` stands as it is.
 fn write_escaped<W: fmt::Write>(text: &str, f: &mut fmt::Formatter<W>) -> fmt::Result {
     for c in text.chars() {
         if c == '\'' {

@@ -3,14 +3,14 @@ ghost use Rattle.std.specs.Prelude.{◌≡◌, ◌≤◌, ◌<◌, ◌==◌, IsT
 ghost use Rattle.std.specs.Prelude.{if◌then◌else◌, take, drop, slice_index};
 ghost use Rattle.std.specs.Simd.Lanes.{mask_l, zip2};
 ghost use Rattle.unix_bytes.specs.Utf8.{IsText};
-ghost use Rattle.unix_bytes.specs.Windows.{least_second, most_second, open_len, IsClosed};
+ghost use Rattle.unix_bytes.specs.Windows.{least_second, most_second, unfinished_len, IsFinished};
 ghost use Rattle.unix_bytes.specs.Windows.{AreAbove, GoOn, FitsWindow};
 
 use std::simd::u8x16;
 
-// 255 for each byte that is as great, and else the other.
+// 255 for each byte that is not less than `least`, and the other byte elsewhere.
 #[inline(always)]
-fn marked(bytes: u8x16, least: u8, other: u8x16) -> u8x16
+fn mark_lanes(bytes: u8x16, least: u8, other: u8x16) -> u8x16
     ensures { result ≡ zip2 (λ b o. if nat_le least b then 255 else o) bytes other }
 {
     bytes
@@ -18,14 +18,14 @@ fn marked(bytes: u8x16, least: u8, other: u8x16) -> u8x16
         .select(u8x16::splat(0xFF), other)
 }
 
-// A byte of its own for each byte that is the value, and else the other.
+// The bound for each byte that equals the value, and the other byte elsewhere.
 #[inline(always)]
-fn picked(bytes: u8x16, value: u8, own: u8, other: u8x16) -> u8x16
-    ensures { result ≡ zip2 (λ b o. if b == value then own else o) bytes other }
+fn bound_lanes(bytes: u8x16, value: u8, bound: u8, other: u8x16) -> u8x16
+    ensures { result ≡ zip2 (λ b o. if b == value then bound else o) bytes other }
 {
     bytes
         .simd_eq(u8x16::splat(value))
-        .select(u8x16::splat(own), other)
+        .select(u8x16::splat(bound), other)
 }
 
 // The least byte that may follow each byte.
@@ -33,8 +33,8 @@ fn picked(bytes: u8x16, value: u8, own: u8, other: u8x16) -> u8x16
 fn least_after(bytes: u8x16) -> u8x16
     ensures { result ≡ map least_second bytes }
 {
-    let four = picked(bytes, 0xF0, 0x90, u8x16::splat(0));
-    picked(bytes, 0xE0, 0xA0, four)
+    let four = bound_lanes(bytes, 0xF0, 0x90, u8x16::splat(0));
+    bound_lanes(bytes, 0xE0, 0xA0, four)
 }
 
 // The greatest byte that may follow each byte.
@@ -42,11 +42,11 @@ fn least_after(bytes: u8x16) -> u8x16
 fn most_after(bytes: u8x16) -> u8x16
     ensures { result ≡ map most_second bytes }
 {
-    let four = picked(bytes, 0xF4, 0x8F, u8x16::splat(0xF4));
-    picked(bytes, 0xED, 0x9F, four)
+    let four = bound_lanes(bytes, 0xF4, 0x8F, u8x16::splat(0xF4));
+    bound_lanes(bytes, 0xED, 0x9F, four)
 }
 
-// A bit for each byte that is as great.
+// A bit for each byte, the lowest for the first: set where the byte is not less than `least`.
 #[inline(always)]
 pub(crate) fn at_least(bytes: u8x16, least: u8) -> u64
     ensures bits { result ≡ mask_l (map (nat_le least) bytes) }
@@ -63,15 +63,16 @@ fn are_above(bytes: u8x16, bounds: u8x16) -> bool
     bytes.simd_lt(bounds).to_bitmask() == 0
 }
 
-// Each byte stands within a sequence where one is open, and elsewhere it begins one.
+// Each byte continues the sequence before it where that is not finished, and else begins one; the
+// three before each byte are those of the same lane.
 #[inline(always)]
 fn go_on(first: u8x16, second: u8x16, third: u8x16, bytes: u8x16) -> bool
     ensures { IsTrue result → GoOn first second third bytes }
 {
-    let short = marked(third, 0xC0, u8x16::splat(0));
-    let open = marked(first, 0xF0, marked(second, 0xE0, short));
+    let short = mark_lanes(third, 0xC0, u8x16::splat(0));
+    let unfinished = mark_lanes(first, 0xF0, mark_lanes(second, 0xE0, short));
     let begin = at_least(bytes, 0xC0);
-    at_least(open, 0x80) + begin == at_least(bytes, 0x80) && begin == at_least(bytes, 0xC2)
+    at_least(unfinished, 0x80) + begin == at_least(bytes, 0x80) && begin == at_least(bytes, 0xC2)
 }
 
 // Each of the 16 bytes behind the first three may follow the three before it.
@@ -89,12 +90,13 @@ fn fits(window: &[u8]) -> bool
         && are_above(most_after(third), bytes)
 }
 
-// How many of the last three bytes of a window begin a sequence that is not at its end.
+// How many of the last bytes of a window are of a sequence that is not finished there.
 #[inline(always)]
-fn left_open(window: &[u8]) -> usize
+fn unfinished_len(window: &[u8]) -> usize
     requires { 19 ≤ length window.now }
-    ensures { let last = slice_index window.now in
-        result ≡ open_len (last 16) (last 17) (last 18) }
+    ensures value { let last = slice_index window.now in
+        result ≡ unfinished_len (last 16) (last 17) (last 18) }
+    ensures bound { result ≤ 3 }
 {
     if 0xC0 <= window[18] {
         1
@@ -107,19 +109,18 @@ fn left_open(window: &[u8]) -> usize
     }
 }
 
-// How many bytes of text begin the 16 behind the first three, with which no sequence is open. It is
-// 0 where one of the bytes may not follow those before it.
+// How many of the 16 bytes behind the first three are text up to there, where those three are the
+// end of finished sequences. It is 0 where one of the 16 may not follow those before it.
 #[inline(always)]
-#[tactic(auto, using(crate::proofs::WindowLemmas::window_texts))]
 pub(crate) fn window_len(window: &[u8]) -> usize
     requires some { 19 ≤ length window.now }
-    requires closed { let first = slice_index window.now in
-        IsClosed (first 0) (first 1) (first 2) }
+    requires finished { let first = slice_index window.now in
+        IsFinished (first 0) (first 1) (first 2) }
     ensures bound { result ≤ 16 }
     ensures text { IsText (take result (drop 3 window.now)) }
 {
     if fits(window) {
-        16 - left_open(window)
+        16 - unfinished_len(window)
     } else {
         0
     }

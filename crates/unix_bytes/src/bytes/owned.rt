@@ -1,6 +1,6 @@
 //! Byte strings that own their bytes.
-ghost use Rattle.std.specs.Prelude.{◌≡◌, ◌+◌, ◌<◌, ◌≤◌, [], ◌++◌, length, max, min, string_bytes};
-ghost use Rattle.std.specs.Prelude.{IfOk, OnOk, OnErr, IsOk};
+ghost use Rattle.std.specs.Prelude.{◌≡◌, ◌+◌, ◌<◌, ◌≤◌, [], ◌++◌, length, take, max, min};
+ghost use Rattle.std.specs.Prelude.{IfOk, OnOk, OnErr, IsOk, string_bytes};
 ghost use Rattle.unix_bytes.specs.Owned.{owned_bytes, owned_capacity, owned_room};
 
 use crate::bytes::UnixStr;
@@ -10,7 +10,7 @@ use std::hash::{Hash, Hasher};
 
 /// An owned byte string: a path or a name as Unix keeps it, in whatever encoding.
 ///
-/// It keeps its allocator, and a call that was refused memory leaves its bytes. It is compared and
+/// It keeps its allocator. If an allocation fails, its bytes stay as they were. It is compared and
 /// hashed as the `UnixStr` of its bytes.
 /// As the crate `unix_str`'s type of that name, which stands for Rust's `OsString` on Unix.
 #[derive(Drop, PartialEq, Eq, PartialOrd, Ord)]
@@ -19,7 +19,7 @@ pub struct UnixString {
 }
 
 impl UnixString {
-    /// An empty byte string. Takes no memory. As Rust's `OsString::new`.
+    /// An empty byte string. Does not allocate. As Rust's `OsString::new`.
     ///
     /// `UnixString::new(alloc)` has no byte.
     #[inline]
@@ -33,8 +33,8 @@ impl UnixString {
 
     /// An empty byte string with room for at least `count` bytes.
     ///
-    /// Refused where that much memory isn't had; no memory is taken for 0 bytes.
-    /// As Rust's `OsString::with_capacity`.
+    /// Allocates once, or not at all for 0 bytes; fails if the allocation fails. As Rust's
+    /// `OsString::with_capacity`.
     ///
     /// `UnixString::with_capacity(alloc, 10)?` takes 10 bytes before it grows.
     pub fn with_capacity(alloc: Global, count: usize) -> Result<UnixString, AllocError>
@@ -46,9 +46,9 @@ impl UnixString {
         Ok(UnixString { bytes })
     }
 
-    /// All bytes, borrowed. Takes no memory. As Rust's `OsString::as_os_str`.
+    /// All bytes, borrowed. Does not allocate. As Rust's `OsString::as_os_str`.
     ///
-    /// After a push of `tmp` onto an empty one, that is `tmp`.
+    /// After a push of `tmp` onto an empty byte string, it is `tmp`.
     #[inline]
     pub fn as_unix_str(&self) -> UnixStr<'_>
         ensures { result.bytes.now ≡ owned_bytes self.now }
@@ -58,8 +58,8 @@ impl UnixString {
 
     /// A copy of the bytes, under the same allocator.
     ///
-    /// Asks for memory once, for as much as the bytes take, and is refused where it isn't had; no
-    /// bytes ask for none. As `Clone` of Rust's `OsString`.
+    /// Allocates once, or not at all for no bytes; fails if the allocation fails. As `Clone` of
+    /// Rust's `OsString`.
     ///
     /// A clone of `tmp` is another `tmp`.
     pub fn clone(&self) -> Result<UnixString, AllocError>
@@ -71,8 +71,8 @@ impl UnixString {
 
     /// Appends the bytes.
     ///
-    /// Takes memory only where `more` is longer than the room; refused, it leaves the bytes, and
-    /// gives up no room. As Rust's `OsString::push`.
+    /// Allocates only where `more` is longer than the room. If the allocation fails, the bytes stay
+    /// as they were. The capacity never shrinks. As Rust's `OsString::push`.
     ///
     /// `foo` after a push of `bar` is `foobar`.
     #[inline]
@@ -81,13 +81,13 @@ impl UnixString {
             (owned_bytes self.new ≡ owned_bytes self.old ++ more.entry.bytes.now) }
         ensures err { OnErr result (owned_bytes self.new ≡ owned_bytes self.old) }
         ensures succeeds { length more.entry.bytes.now ≤ owned_room self.old → IsOk result }
-        ensures room { owned_capacity self.old ≤ owned_capacity self.new }
+        ensures capacity { owned_capacity self.old ≤ owned_capacity self.new }
     {
         self.bytes.extend_from_slice(more.as_bytes())
     }
 
-    /// How many bytes it may hold without a growth. Takes no memory.
-    /// As Rust's `OsString::capacity`.
+    /// How many bytes it can hold before it grows. Does not allocate. As Rust's
+    /// `OsString::capacity`.
     ///
     /// After `with_capacity(alloc, 10)` it is at least 10.
     #[inline]
@@ -97,23 +97,37 @@ impl UnixString {
         self.bytes.capacity()
     }
 
-    /// Takes all bytes out. Takes no memory, and keeps the capacity. As Rust's `OsString::clear`.
+    /// Removes all bytes, and keeps the capacity. Does not allocate. As Rust's `OsString::clear`.
     ///
-    /// `foo` after `clear` is the empty string.
+    /// `foo` after `clear` is the empty byte string.
     #[inline]
     pub fn clear(&mut self)
         ensures bytes { owned_bytes self.new ≡ [] }
-        ensures room { owned_capacity self.new ≡ owned_capacity self.old }
+        ensures capacity { owned_capacity self.new ≡ owned_capacity self.old }
     {
         self.bytes.clear();
     }
 
+    /// Keeps the first `len` bytes, and the capacity; where there are no more, nothing changes.
+    ///
+    /// Does not allocate. As Rust's unstable `OsString::truncate`, without its panics: any `len`
+    /// will do, also one past the end or inside a character.
+    ///
+    /// `foobar` truncated to 3 bytes is `foo`, and to 7 it is `foobar`.
+    #[inline]
+    pub fn truncate(&mut self, len: usize)
+        ensures bytes { owned_bytes self.new ≡ take len (owned_bytes self.old) }
+        ensures capacity { owned_capacity self.new ≡ owned_capacity self.old }
+    {
+        self.bytes.truncate(len);
+    }
+
     /// Makes room for at least `count` more bytes, and for some more where it grows.
     ///
-    /// Takes memory only where the room is less; refused, it leaves the bytes.
+    /// Allocates only where the room is less. If the allocation fails, the bytes stay as they were.
     /// As Rust's `OsString::reserve`.
     ///
-    /// After `reserve(6)` a push of 6 bytes takes no memory.
+    /// After `reserve(6)` a push of 6 bytes does not allocate.
     pub fn reserve(&mut self, count: usize) -> Result<(), AllocError>
         ensures bytes { owned_bytes self.new ≡ owned_bytes self.old }
         ensures ok { OnOk result (count ≤ owned_room self.new) }
@@ -125,10 +139,10 @@ impl UnixString {
 
     /// Makes room for at least `count` more bytes, and for no more than that where it grows.
     ///
-    /// Takes memory only where the room is less; refused, it leaves the bytes.
+    /// Allocates only where the room is less. If the allocation fails, the bytes stay as they were.
     /// As Rust's `OsString::reserve_exact`.
     ///
-    /// After `reserve_exact(6)` a push of 6 bytes takes no memory.
+    /// After `reserve_exact(6)` a push of 6 bytes does not allocate.
     pub fn reserve_exact(&mut self, count: usize) -> Result<(), AllocError>
         ensures bytes { owned_bytes self.new ≡ owned_bytes self.old }
         ensures ok { OnOk result (owned_room self.new ≡ max count (owned_room self.old)) }
@@ -140,10 +154,10 @@ impl UnixString {
 
     /// Gives back the room.
     ///
-    /// Moving the bytes to less memory can be refused, and then bytes and room stay; where there is
-    /// no room it takes no memory. As Rust's `OsString::shrink_to_fit`.
+    /// Does not allocate where there is no room. Otherwise moving the bytes can fail, and then the
+    /// bytes and the room stay as they were. As Rust's `OsString::shrink_to_fit`.
     ///
-    /// `foo` in 10 bytes then stands in 3.
+    /// For `foo` with the capacity 10, the capacity is then 3.
     pub fn shrink_to_fit(&mut self) -> Result<(), AllocError>
         ensures bytes { owned_bytes self.new ≡ owned_bytes self.old }
         ensures ok { OnOk result (owned_room self.new ≡ 0) }
@@ -153,19 +167,20 @@ impl UnixString {
         self.shrink_to(0)
     }
 
-    /// Gives back the room past `least` bytes in all, or past the bytes where they are more.
+    /// Lowers the capacity to `least` bytes, or to the bytes where they are more.
     ///
-    /// Moving the bytes to less memory can be refused, and then bytes and room stay; where the
-    /// capacity is no more than `least` it takes no memory. As Rust's `OsString::shrink_to`.
+    /// Does not allocate where the capacity is that or less, and leaves it. Otherwise moving the
+    /// bytes can fail, and then the bytes and the room stay as they were. As Rust's
+    /// `OsString::shrink_to`.
     ///
-    /// `foo` in 10 bytes, shrunk to 5, stands in 5, and shrunk to 0 in 3.
+    /// For `foo` with the capacity 10, `shrink_to(5)` makes it 5, and `shrink_to(0)` makes it 3.
     pub fn shrink_to(&mut self, least: usize) -> Result<(), AllocError>
         ensures bytes { owned_bytes self.new ≡ owned_bytes self.old }
         ensures ok { OnOk result
             (owned_capacity self.new ≤ max least (length (owned_bytes self.old))) }
         ensures succeeds { owned_capacity self.old ≤ max least (length (owned_bytes self.old))
             → IsOk result }
-        ensures room { min least (owned_capacity self.old) ≤ owned_capacity self.new }
+        ensures capacity { min least (owned_capacity self.old) ≤ owned_capacity self.new }
         ensures shrinks { owned_capacity self.new ≤ owned_capacity self.old }
     {
         self.bytes.shrink_to(least);
@@ -175,10 +190,10 @@ impl UnixString {
         Ok(())
     }
 
-    /// The bytes as a vector, in the memory where they stand. Takes no memory. Own; as Rust's
+    /// The bytes as a vector, in the same memory. Does not allocate. As Rust's
     /// `OsStringExt::into_vec`.
     ///
-    /// That of `tmp` has 3 bytes.
+    /// For `tmp` it has 3 bytes.
     #[inline]
     pub fn into_bytes(self) -> Vec<u8>
         ensures { result.items ≡ owned_bytes self }
@@ -190,10 +205,10 @@ impl UnixString {
 impl<'a> UnixStr<'a> {
     /// A copy of the bytes that owns them.
     ///
-    /// Asks for memory once, for as much as the bytes take, and is refused where it isn't had; no
-    /// bytes ask for none. As Rust's `OsStr::to_os_string`.
+    /// Allocates once, or not at all for no bytes; fails if the allocation fails. As Rust's
+    /// `OsStr::to_os_string`.
     ///
-    /// That of `tmp` is another `tmp`.
+    /// For `tmp` it is another `tmp`.
     pub fn to_unix_string(self, alloc: Global) -> Result<UnixString, AllocError>
         ensures { IfOk result (λ s. owned_bytes s ≡ self.entry.bytes.now) }
     {
@@ -202,8 +217,9 @@ impl<'a> UnixStr<'a> {
     }
 }
 
-/// These bytes, in the memory where they stand. Takes no memory. Own; as Rust's
-/// `OsStringExt::from_vec`.
+/// These bytes, in the same memory. Does not allocate. As Rust's `OsStringExt::from_vec`.
+///
+/// For the 3 bytes of `tmp` it is `tmp`.
 impl From<Vec<u8>> for UnixString {
     ghost from_gives = { λ bytes s. owned_bytes s ≡ bytes.items };
 
@@ -213,8 +229,10 @@ impl From<Vec<u8>> for UnixString {
     }
 }
 
-/// The bytes of the text, in the memory where they stand. Takes no memory. As Rust's
-/// `From<String>` of `OsString`.
+/// The bytes of the text, in the same memory. Does not allocate. As Rust's `From<String>` of
+/// `OsString`.
+///
+/// For the text `tmp` it is `tmp`.
 impl From<String> for UnixString {
     ghost from_gives = { λ text s. owned_bytes s ≡ string_bytes text };
 
@@ -226,7 +244,7 @@ impl From<String> for UnixString {
     }
 }
 
-/// The hash of `as_unix_str`.
+/// The hash of `as_unix_str`, which is the same for a view and a copy of `tmp`.
 impl Hash for UnixString {
     ghost use Rattle.unix_bytes.specs.Hashed.{name_input};
     ghost use Rattle.std.specs.Cmp.Lexicographic.{bytes_decides};
@@ -242,7 +260,7 @@ impl Hash for UnixString {
     }
 }
 
-/// The debug form of `as_unix_str`.
+/// The debug form of `as_unix_str`: for `tmp` it is `"tmp"`.
 impl fmt::Debug for UnixString {
     fn fmt<W: fmt::Write>(&self, f: &mut fmt::Formatter<W>) -> fmt::Result {
         fmt::Debug::fmt(&self.as_unix_str(), f)

@@ -29,9 +29,11 @@ pub enum LossyText<'a> {
 }
 
 impl LossyText<'_> {
-    /// The text, wherever it stands. Takes no memory. As a `Cow<str>` is a `str` in Rust.
+    /// The text, borrowed or not. Does not allocate.
     ///
-    /// Of what was read from 61 FF it is `a` and U+FFFD.
+    /// As Rust's `Cow<str>` is a `str`.
+    ///
+    /// For what was read from the bytes 61 FF it is `a` and U+FFFD.
     pub fn as_str(&self) -> &str
         ensures { result.now ≡ text_bytes self.now }
     {
@@ -43,10 +45,10 @@ impl LossyText<'_> {
 
     /// The text as a `String`: a copy where it is borrowed, and the text itself where it is owned.
     ///
-    /// A copy asks for memory once, for as much as the text takes, and is refused where it isn't
-    /// had; an empty one asks for none, nor does an owned text. As Rust's `Cow::into_owned`.
+    /// A copy allocates once, as many bytes as the text has, or not at all for no bytes; fails if
+    /// the allocation fails. An owned text does not allocate. As Rust's `Cow::into_owned`.
     ///
-    /// Of what was read from `ab` it is another `ab`.
+    /// For what was read from `ab` it is another `ab`.
     pub fn into_owned(self, alloc: Global) -> Result<String, AllocError>
         ensures bytes { IfOk result (λ text. string_bytes text ≡ text_bytes self.entry) }
         ensures succeeds { ¬ (IsBorrowed self.entry) → IsOk result }
@@ -72,12 +74,12 @@ impl PartialEq for LossyText<'_> {
     }
 }
 
-/// `==` holds of each text and itself.
+/// Each text equals itself.
 impl Eq for LossyText<'_> {
     ghost laws = { on_equiv text_bytes nat_list_eq_equiv };
 }
 
-/// As `cmp` has it.
+/// The order of `cmp`.
 impl PartialOrd for LossyText<'_> {
     ghost partial_cmp = { λ x y. Some (slice_cmp nat_cmp (text_bytes x) (text_bytes y)) };
 
@@ -88,7 +90,7 @@ impl PartialOrd for LossyText<'_> {
     }
 }
 
-/// They go by their bytes, a proper beginning being the lesser, as a `str` does.
+/// Texts are ordered by their bytes, and a proper prefix is the lesser, as with `str`.
 impl Ord for LossyText<'_> {
     ghost cmp = { λ x y. slice_cmp nat_cmp (text_bytes x) (text_bytes y) };
 
@@ -115,7 +117,7 @@ impl Hash for LossyText<'_> {
     }
 }
 
-/// The text, padded as a text is, by width, precision, fill and alignment. Takes no memory, and
+/// The text, padded as a text is, by width, precision, fill and alignment. Does not allocate, and
 /// fails only where the writer does.
 impl fmt::Display for LossyText<'_> {
     ghost output = { λ text. Some (text_bytes text) };
@@ -127,7 +129,8 @@ impl fmt::Display for LossyText<'_> {
     }
 }
 
-/// The debug form of the text: in quotes, with its escapes. Takes no memory.
+/// The debug form of the text: in quotes, with its escapes. Does not allocate, and fails only where
+/// the writer does.
 impl fmt::Debug for LossyText<'_> {
     ghost debug_output = { λ text. debug_str (text_bytes text) };
 

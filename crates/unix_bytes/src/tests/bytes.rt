@@ -81,7 +81,7 @@ fn views(rt: HostRuntime) {
     assert!(rt; UnixStr::from_bytes(b"\x7F") < UnixStr::from_bytes(b"\xFF"));
 }
 
-// Equal names feed alike, and two names don't run together.
+// Equal names feed a hasher alike; where the second of two names begins makes a difference.
 #[test]
 fn hashes(rt: HostRuntime) {
     assert_eq!(rt; hash_of("tmp", "a"), hash_of("tmp", "a"));
@@ -103,5 +103,17 @@ fn a_shrink_to_more_leaves_the_capacity(rt: HostRuntime) -> Result<(), Fail> {
     name.shrink_to(1000)?;
     assert_eq!(rt; name.capacity(), before);
     assert_eq!(rt; name.as_unix_str(), UnixStr::new("foo"));
+    Ok(())
+}
+
+#[test]
+fn a_truncation_keeps_the_first_bytes(rt: HostRuntime) -> Result<(), Fail> {
+    for (len, kept) in [(0usize, ""), (3, "foo"), (6, "foobar"), (7, "foobar")] {
+        let mut name = UnixStr::new("foobar").to_unix_string(rt.alloc())?;
+        let before = name.capacity();
+        name.truncate(len);
+        assert_eq!(rt; name.as_unix_str(), UnixStr::new(kept));
+        assert_eq!(rt; name.capacity(), before);
+    }
     Ok(())
 }

@@ -88,8 +88,8 @@ impl fmt::Write for Refusing {
     }
 }
 
-// Formatting fails where the writer does, writes no more, and fails nowhere else: each write in
-// turn is refused, until there is none left to refuse.
+// Display fails where the writer does, writes no more, and fails nowhere else: one write after the
+// other is the one that fails, until all succeed.
 #[test]
 fn failing_writers(rt: HostRuntime) -> Result<(), Fail> {
     let alloc = rt.alloc();
@@ -113,7 +113,7 @@ fn failing_writers(rt: HostRuntime) -> Result<(), Fail> {
     Ok(())
 }
 
-// So does the debug form.
+// The debug form fails where the writer does, writes no more, and fails nowhere else.
 #[test]
 fn failing_writers_of_debug(rt: HostRuntime) -> Result<(), Fail> {
     let alloc = rt.alloc();
@@ -130,7 +130,7 @@ fn failing_writers_of_debug(rt: HostRuntime) -> Result<(), Fail> {
     Ok(())
 }
 
-// An error came from the one write that was refused, and success is the whole text.
+// An error came from the one write that failed, and success is the whole text.
 fn keeps_to(writer: &Refusing, answer: fmt::Result, whole: &str) -> bool {
     let text = writer.text.as_str();
     match answer {

@@ -8,16 +8,16 @@ use Rattle.unix_bytes.proofs.bytes.push_lossy.Goals as goal
 
 pub loop-left-smaller : goal.loop-left-smaller
 loop-left-smaller c =
-    let split = c.split_front.ensures in
+    let split = c.split_text.ensures in
     let some = sym c.is_empty.ensures ∙ c.loop-left-test.true in
     split_smaller c.loop-left.left.now _ _ _ some split.valid split.broken split.rest
 
 pub loop-left-preserved : goal.loop-left-preserved
 loop-left-preserved c =
-    let split = c.split_front.ensures in
+    let split = c.split_text.ensures in
     let more = pushed_more c.loop-left.bytes.items c.loop-left.left.now _ _ _ split.valid
     split.broken split.rest in
-    rw (c.in_ok-push_broken.ensures, c.in_ok-push_front.ensures) (more ∙ c.loop-left.invariant)
+    rw (c.in_ok-push_broken.ensures, c.in_ok-push_prefix.ensures) (more ∙ c.loop-left.invariant)
 
 pub returns : goal.returns
 returns c =

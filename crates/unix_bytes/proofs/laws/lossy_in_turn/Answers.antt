@@ -1,5 +1,6 @@
 use Rattle.unix_bytes.proofs.LossyLemmas.{lossy_of-append}
-use Rattle.unix_bytes.proofs.LawLemmas.{IsText-sequence, lossy_of_broken}
+use Rattle.unix_bytes.proofs.LawLemmas.{lossy_of_broken}
+use Rattle.unix_bytes.proofs.TextLemmas.{IsText-sequence}
 use Rattle.unix_bytes.proofs.laws.lossy_in_turn.Goals as goal
 
 pub returns-clause-sequence : goal.returns-clause-sequence

@@ -2,7 +2,7 @@ use Rattle.std.proofs.Common.{◌≡◌, ◌+◌, ℕ, cond, map, nat_le, sym, a
 use Rattle.std.specs.Prelude.{replicate}
 use Rattle.std.specs.Simd.Lanes.{mask_l, zip2}
 use Rattle.std.proofs.lemmas.Bool.{eqb-true}
-use Rattle.unix_bytes.proofs.SelectLemmas.{go_on, open_lanes}
+use Rattle.unix_bytes.proofs.MarkLemmas.{go_on, unfinished_lanes}
 use Rattle.unix_bytes.proofs.windows.go_on.Goals as goal
 
 pub returns-then-at_least-begin : goal.returns-then-at_least-begin
@@ -12,11 +12,11 @@ returns-then-at_least-begin c = λ same.
     let t = c.args.second in
     let u = c.args.third in
     let v = c.args.bytes in
-    let third = c.marked-short.ensures
+    let third = c.mark_lanes-short.ensures
     ∙ ap (λ n. zip2 (mark 0xC0) u (replicate n 0)) (sym c.fits-third.0) in
-    let second = c.marked.ensures ∙ ap (zip2 (mark 0xE0) t) third in
-    let lanes : c.marked-open.result ≡ open_lanes s t u =
-    c.marked-open.ensures ∙ ap (zip2 (mark 0xF0) s) second in
+    let second = c.mark_lanes.ensures ∙ ap (zip2 (mark 0xE0) t) third in
+    let lanes : c.mark_lanes-unfinished.result ≡ unfinished_lanes s t u =
+    c.mark_lanes-unfinished.ensures ∙ ap (zip2 (mark 0xF0) s) second in
     let begin = c.at_least-begin.ensures.bits in
     let sum = ap₂ (λ n m. n + m)
     (sym (c.at_least.ensures.bits ∙ ap (λ xs. mask_l (map (nat_le 0x80) xs)) lanes)) (sym begin)

@@ -1,10 +1,10 @@
 use Rattle.std.proofs.Common.{cond, eqb, ap, ◌∙◌}
 use Rattle.std.specs.Simd.Lanes.{zip2}
-use Rattle.unix_bytes.proofs.SelectLemmas.{chosen_twice}
+use Rattle.unix_bytes.proofs.SelectLemmas.{zip2-zip2}
 use Rattle.unix_bytes.proofs.windows.most_after.Goals as goal
 
 pub returns : goal.returns
 returns c =
-    c.picked.ensures
-    ∙ ap (zip2 (λ b o. cond (eqb b 0xED) 0x9F o) c.args.bytes) c.picked-four.ensures
-    ∙ chosen_twice _ _ 0xF4 16 c.args.bytes c.fits-bytes.0
+    c.bound_lanes.ensures
+    ∙ ap (zip2 (λ b o. cond (eqb b 0xED) 0x9F o) c.args.bytes) c.bound_lanes-four.ensures
+    ∙ zip2-zip2 _ _ 0xF4 16 c.args.bytes c.fits-bytes.0

@@ -1,0 +1,130 @@
+-- Three bit masks, of which two add up to the third: each byte continues a sequence or begins one.
+use Rattle.std.proofs.Common.{◌≡◌, ℕ, ◌+◌, ◌*◌, ◌<◌, ◌≤◌, List, [], ◌∷◌, length, Bool}
+use Rattle.std.proofs.Common.{true, false, cond, map, nat_le, refl, sym, ap, ◌∙◌, arith}
+use Rattle.std.proofs.Common.{leb-true, leb-false, le-leb, ◌⊎◌, inl, inr, ⊎_elim}
+use Rattle.std.proofs.lemmas.Bool.{cases_lt, lt-leb}
+use Rattle.std.specs.Prelude.{replicate}
+use Rattle.std.specs.Simd.Lanes.{zip2, mask_l}
+use Rattle.unix_bytes.specs.Windows.{GoesOn, GoOn, IsUnfinished, IsFinished}
+
+-- the byte that is 255 where a sequence is not finished
+abbrev unfinished_mark : ℕ → ℕ → ℕ → ℕ
+unfinished_mark a b c =
+    cond (nat_le 0xF0 a) 255 (cond (nat_le 0xE0 b) 255 (cond (nat_le 0xC0 c) 255 0))
+
+mark_unfinished : (a b c : ℕ) → IsUnfinished a b c → nat_le 0x80 (unfinished_mark a b c) ≡ true
+mark_unfinished a b c h = by (nat_le 0xF0 a) (nat_le 0xE0 b) (nat_le 0xC0 c) refl refl refl
+  where
+    by : (o p q : Bool) → nat_le 0xF0 a ≡ o → nat_le 0xE0 b ≡ p → nat_le 0xC0 c ≡ q
+        → nat_le 0x80 (cond o 255 (cond p 255 (cond q 255 0))) ≡ true
+    by true p q e f g = refl
+    by false true q e f g = refl
+    by false false true e f g = refl
+    by false false false e f g =
+        ⊎_elim (λ k. let l = leb-false 0xF0 a e in absurd (omega arith))
+        (λ k. ⊎_elim (λ i. let l = leb-false 0xE0 b f in absurd (omega arith))
+        (λ i. let l = leb-false 0xC0 c g in absurd (omega arith)) k) h
+
+mark_finished : (a b c : ℕ) → IsFinished a b c → nat_le 0x80 (unfinished_mark a b c) ≡ false
+mark_finished a b c h =
+    rw (lt-leb 0xF0 a h.0, lt-leb 0xE0 b h.1, lt-leb 0xC0 c h.2) refl
+
+-- bits that add up with no carry
+record Adds (o p q : Bool) (n m k : ℕ) : Type 0 where
+  bits : cond o 1 0 + cond p 1 0 ≡ cond q 1 0
+  rest : n + m ≡ k
+
+adds : (o p q : Bool) (n m k : ℕ) → (p ≡ true → q ≡ true)
+    → (cond o 1 0 + 2 * n) + (cond p 1 0 + 2 * m) ≡ cond q 1 0 + 2 * k → Adds o p q n m k
+adds true true true n m k h e = absurd (omega arith)
+adds true true false n m k h e = let z = h refl in cc
+adds true false true n m k h e = record { bits = refl; rest = omega arith }
+adds true false false n m k h e = absurd (omega arith)
+adds false true true n m k h e = record { bits = refl; rest = omega arith }
+adds false true false n m k h e = absurd (omega arith)
+adds false false true n m k h e = absurd (omega arith)
+adds false false false n m k h e = record { bits = refl; rest = omega arith }
+
+-- two masks with the same bits
+same_bit : (p q : Bool) (n m : ℕ) → cond p 1 0 + 2 * n ≡ cond q 1 0 + 2 * m → (p ≡ q) × (n ≡ m)
+same_bit true true n m e = (refl, omega arith)
+same_bit true false n m e = absurd (omega arith)
+same_bit false true n m e = absurd (omega arith)
+same_bit false false n m e = (refl, omega arith)
+
+bit_on : (t : Bool) → t ≡ true → ◌≡◌ {A = ℕ} (cond t 1 0) 1
+bit_on t h = ap (λ b. cond b 1 0) h
+
+bit_off : (t : Bool) → t ≡ false → ◌≡◌ {A = ℕ} (cond t 1 0) 0
+bit_off t h = ap (λ b. cond b 1 0) h
+
+goes_on : (a b c d : ℕ)
+    → cond (nat_le 0x80 (unfinished_mark a b c)) 1 0 + cond (nat_le 0xC0 d) 1 0
+    ≡ cond (nat_le 0x80 d) 1 0
+    → nat_le 0xC0 d ≡ nat_le 0xC2 d → GoesOn a b c d
+goes_on a b c d e f = record {
+  within = λ h. by_unfinished (mark_unfinished a b c h);
+  begins = λ h. by_finished (mark_finished a b c h);
+}
+  where
+    by_unfinished : nat_le 0x80 (unfinished_mark a b c) ≡ true → (0x80 ≤ d) × (d ≤ 0xBF)
+    by_unfinished h =
+        ⊎_elim
+        (λ (l : d < 0x80).
+        let z = bit_on _ h in
+        let y = bit_off _ (lt-leb 0x80 d l) in
+        absurd (omega arith))
+        (λ (g : 0x80 ≤ d).
+        ⊎_elim (λ (l : d < 0xC0). (g, omega arith))
+        (λ (k : 0xC0 ≤ d).
+        let z = bit_on _ h in
+        let y = bit_on _ (le-leb 0x80 d g) in
+        let x = bit_on _ (le-leb 0xC0 d k) in
+        absurd (omega arith)) (cases_lt d 0xC0))
+        (cases_lt d 0x80)
+
+    by_finished : nat_le 0x80 (unfinished_mark a b c) ≡ false → (d < 0x80) ⊎ (0xC2 ≤ d)
+    by_finished h =
+        ⊎_elim (λ (l : d < 0x80). inl l)
+        (λ (g : 0x80 ≤ d).
+        ⊎_elim
+        (λ (l : d < 0xC0).
+        let z = bit_off _ h in
+        let y = bit_on _ (le-leb 0x80 d g) in
+        let x = bit_off _ (lt-leb 0xC0 d l) in
+        absurd (omega arith))
+        (λ (k : 0xC0 ≤ d). inr (leb-true 0xC2 d (sym f ∙ le-leb 0xC0 d k))) (cases_lt d 0xC0))
+        (cases_lt d 0x80)
+
+-- the vectors that the code adds up
+abbrev pub unfinished_lanes : List ℕ → List ℕ → List ℕ → List ℕ
+unfinished_lanes s t u =
+    zip2 (λ b o. cond (nat_le 0xF0 b) 255 o) s
+    (zip2 (λ b o. cond (nat_le 0xE0 b) 255 o) t
+    (zip2 (λ b o. cond (nat_le 0xC0 b) 255 o) u (replicate (length u) 0)))
+
+above_beginning : (d : ℕ) → nat_le 0xC0 d ≡ true → nat_le 0x80 d ≡ true
+above_beginning d h = let k = leb-true 0xC0 d h in le-leb 0x80 d (omega arith)
+
+pub go_on : (s t u v : List ℕ)
+    → mask_l (map (nat_le 0x80) (unfinished_lanes s t u)) + mask_l (map (nat_le 0xC0) v)
+    ≡ mask_l (map (nat_le 0x80) v)
+    → mask_l (map (nat_le 0xC0) v) ≡ mask_l (map (nat_le 0xC2) v)
+    → length s ≡ length v → length t ≡ length v → length u ≡ length v → GoOn s t u v
+go_on s t u [] e f p q r = nothing s t u
+  where
+    nothing : (s t u : List ℕ) → GoOn s t u []
+    nothing [] t u = tt
+    nothing (a ∷ s) [] u = tt
+    nothing (a ∷ s) (b ∷ t) [] = tt
+    nothing (a ∷ s) (b ∷ t) (c ∷ u) = tt
+go_on [] t u (d ∷ v) e f p q r = tt
+go_on (a ∷ s) [] u (d ∷ v) e f p q r = tt
+go_on (a ∷ s) (b ∷ t) [] (d ∷ v) e f p q r = tt
+go_on (a ∷ s) (b ∷ t) (c ∷ u) (d ∷ v) e f p q r =
+    let sum = adds (nat_le 0x80 (unfinished_mark a b c)) (nat_le 0xC0 d) (nat_le 0x80 d) _ _ _
+    (above_beginning d) e in
+    let bit = same_bit (nat_le 0xC0 d) (nat_le 0xC2 d) _ _ f in (
+      goes_on a b c d sum.bits bit.0,
+      go_on s t u v sum.rest bit.1 (omega arith) (omega arith) (omega arith),
+    )

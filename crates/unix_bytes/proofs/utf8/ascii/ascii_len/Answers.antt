@@ -1,0 +1,42 @@
+use Rattle.std.proofs.Common.{◌≡◌, ◌+◌, ◌-◌, length, take, subst, arith}
+use Rattle.std.specs.Str.{IsAscii}
+use Rattle.unix_bytes.proofs.LaneLemmas.{fewer_ascii, ascii_window, ascii_prefix, some_ascii}
+use Rattle.unix_bytes.proofs.utf8.ascii.ascii_len.Goals as goal
+
+pub returns-then-wide-ne0 : goal.returns-then-wide-ne0
+returns-then-wide-ne0 c =
+    let s = c.args.source.now in
+    let mask = c.wide_lanes-wide.ensures in
+    let some = c.if-wide-ne0.true in
+    let prefix = ascii_prefix s c.loop-at.at _ (omega arith) c.loop-at.invariant mask some in
+    record {
+      bound = prefix.0;
+      ascii = prefix.1;
+      some = some_ascii s _ _ (omega arith) mask some;
+    }
+
+pub loop-at-preserved : goal.loop-at-preserved
+loop-at-preserved c =
+    ascii_window c.args.source.now _ _ (omega arith) c.loop-at.invariant c.wide_lanes-wide.ensures
+    c.if-wide-ne0.false
+
+pub returns-then-wide-eq0-clause-ascii : goal.returns-then-wide-eq0-clause-ascii
+returns-then-wide-eq0-clause-ascii c =
+    let s = c.args.source.now in
+    let before = fewer_ascii s (length s - 16) _ (omega arith) c.loop-at.invariant in
+    let end : length s - 16 + 16 ≡ length s = omega arith in
+    subst (λ n. IsAscii (take n s)) end
+    (ascii_window s _ _ (omega arith) before c.wide_lanes-wide-2.ensures c.if-wide-eq0.true)
+
+pub returns : goal.returns
+returns c =
+    let s = c.args.source.now in
+    let before = fewer_ascii s (length s - 16) _ (omega arith) c.loop-at.invariant in
+    let mask = c.wide_lanes-wide-2.ensures in
+    let some = c.if-wide-eq0.false in
+    let prefix = ascii_prefix s (length s - 16) _ (omega arith) before mask some in
+    record {
+      bound = prefix.0;
+      ascii = prefix.1;
+      some = some_ascii s _ _ (omega arith) mask some;
+    }
