@@ -10,7 +10,7 @@ use Rattle.unix_path.specs.Rest.{rest}
 use Rattle.unix_path.specs.Parents.{parent_of}
 use Rattle.unix_path.specs.Names.{file_name_of}
 use Rattle.unix_path.specs.Edits.{popped_of, stem_end_of, dot_before, with_extension_of}
-use Rattle.unix_path.proofs.RestLemmas.{rest-front}
+use Rattle.unix_path.proofs.RestLemmas.{take-rest}
 use Rattle.unix_path.proofs.ParentLemmas.{parent_of-some}
 use Rattle.unix_path.proofs.StemLemmas.{stem_end_by}
 
@@ -18,17 +18,17 @@ pub popped_of-none : (s : List ℕ) → None ≡ parent_of s → popped_of s ≡
 unfolding popped_of
 popped_of-none s e = ap (λ o. unwrap_or o s) (sym e)
 
--- a parent is a front of the path
+-- a parent begins the path
 pub popped_of-some : (s parent : List ℕ) → Some parent ≡ parent_of s
     → popped_of s ≡ take (length parent) s
 unfolding popped_of
 popped_of-some s parent e =
     let is : parent ≡ rest s 0 1 = parent_of-some s parent (sym e) in
-    ap (λ o. unwrap_or o s) (sym e) ∙ is ∙ sym (ap (λ w. take (length w) s) is ∙ rest-front s 1)
+    ap (λ o. unwrap_or o s) (sym e) ∙ is ∙ sym (ap (λ w. take (length w) s) is ∙ take-rest s 1)
 
 -- the path s with an extension behind this place
-abbrev pub extended : List ℕ → List ℕ → Option ℕ → List ℕ
-extended s extension end =
+abbrev pub with_extension_at : List ℕ → List ℕ → Option ℕ → List ℕ
+with_extension_at s extension end =
     option_map_or (λ end. (take end s ++ dot_before extension) ++ extension) end s
 
 pub dot_before-some : (b : ℕ) (extension : List ℕ) → dot_before (b ∷ extension) ≡ 46 ∷ []
@@ -37,14 +37,15 @@ dot_before-some b extension = rw (eqb-suc-zero (length extension)) refl
 pub with_extension_of-none : (s extension : List ℕ) → None ≡ stem_end_of s
     → with_extension_of s extension ≡ s
 unfolding with_extension_of
-with_extension_of-none s extension e = ap (extended s extension) (sym e)
+with_extension_of-none s extension e = ap (with_extension_at s extension) (sym e)
 
 pub with_extension_of-some : (s extension gap : List ℕ) (end : ℕ) → Some end ≡ stem_end_of s
     → gap ≡ dot_before extension
     → with_extension_of s extension ≡ (take end s ++ gap) ++ extension
 unfolding with_extension_of
 with_extension_of-some s extension gap end e d =
-    ap (extended s extension) (sym e) ∙ ap (λ gap. (take end s ++ gap) ++ extension) (sym d)
+    ap (with_extension_at s extension) (sym e)
+    ∙ ap (λ gap. (take end s ++ gap) ++ extension) (sym d)
 
 -- there is a stem exactly where there is a file name
 pub file_name_of-stem : (s : List ℕ) (end : ℕ) → Some end ≡ stem_end_of s

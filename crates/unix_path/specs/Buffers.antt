@@ -1,22 +1,22 @@
 -- What the clauses on an owned path speak of (Rust's `PathBuf`).
-use Rattle.std.specs.Prelude.{◌≡◌, ◌<◌, ℕ, ◌+◌, ◌-◌, List, length, map, Option, Some}
-use Rattle.std.specs.Prelude.{vec_len, vec_capacity}
+use Rattle.std.specs.Prelude.{◌≡◌, ◌<◌, ℕ, List, length, map, Option, Some}
 use Rattle.std.specs.Iterator.{Drains, YieldsThen}
+use Rattle.unix_bytes.specs.Owned.{owned_bytes, owned_room, owned_capacity}
 use Rattle.unix_path.specs.Joins.{join_of, join_all_of}
 use Rattle.unix_path.specs.declared.buf.PathBuf.{PathBuf}
 use Rattle.unix_path.specs.declared.path.Path.{Path}
 
 -- the bytes that it holds
 abbrev pub path_bytes : PathBuf → List ℕ
-path_bytes p = p.bytes.items
+path_bytes p = owned_bytes p.inner
 
--- how many more bytes it takes without a growth
+-- how many more bytes it takes before it grows
 abbrev pub room : PathBuf → ℕ
-room p = vec_capacity p.bytes - vec_len p.bytes
+room p = owned_room p.inner
 
--- how many bytes it may hold without a growth
+-- how many bytes it can hold before it grows
 abbrev pub capacity : PathBuf → ℕ
-capacity p = length (path_bytes p) + room p
+capacity p = owned_capacity p.inner
 
 -- the bytes of these paths
 abbrev pub texts : List Path → List (List ℕ)
@@ -30,7 +30,7 @@ pub record JoinsAll {S : Type 0} (steps : S → Option Path → S → Type 0) (i
   pub bytes : new ≡ join_all_of old (texts paths)
 
 -- the items before one were joined, and the join with that one is longer than `most`
-pub record JoinsFront {S : Type 0} (steps : S → Option Path → S → Type 0) (items : S)
+pub record JoinsBeginning {S : Type 0} (steps : S → Option Path → S → Type 0) (items : S)
     (old new : List ℕ) (most : ℕ) : Type 0 where
   pub paths : List Path
   pub next : Path

@@ -13,9 +13,9 @@ use unix_bytes::lossy::Utf8Lossy;
 
 /// Bytes that are printed as their lossy text.
 ///
-/// It takes no memory, and copying it copies a view. As Rust's `std::path::Display`.
+/// It is a view: making, copying and printing it do not allocate. As Rust's `std::path::Display`.
 ///
-/// Those of `tmp` are printed as `tmp`.
+/// The bytes of `tmp` are printed as `tmp`.
 #[derive(Clone, Copy)]
 pub struct Display<'a> {
     /// The bytes.
@@ -23,7 +23,7 @@ pub struct Display<'a> {
 }
 
 impl<'a> Display<'a> {
-    /// The bytes, to be printed. Takes no memory. Own.
+    /// The bytes, to be printed. Does not allocate. Not in Rust's std.
     ///
     /// `Display::from_bytes(b"a\xff")` is printed as `a` and U+FFFD.
     #[inline]
@@ -38,7 +38,9 @@ impl<'a> Display<'a> {
 /// front.
 ///
 /// Bytes that are wholly UTF-8 are padded as a text is, by width, precision, fill and alignment;
-/// any others ignore them. It takes no memory, and fails only where the writer does.
+/// any others ignore them. Does not allocate, and fails only where the writer does.
+///
+/// The bytes 61 FF are printed as `a` and U+FFFD.
 impl fmt::Display for Display<'_> {
     ghost output = { λ d. Some (lossy_of d.bytes.now) };
 
@@ -51,7 +53,7 @@ impl fmt::Display for Display<'_> {
     }
 }
 
-/// The debug form of the lossy text. Takes no memory.
+/// The debug form of the lossy text: for `tmp` it is `"tmp"`. Does not allocate.
 impl fmt::Debug for Display<'_> {
     fn fmt<W: fmt::Write>(&self, f: &mut fmt::Formatter<W>) -> fmt::Result {
         fmt::Debug::fmt(&UnixStr::from_bytes(self.bytes), f)
@@ -59,10 +61,10 @@ impl fmt::Debug for Display<'_> {
 }
 
 impl<'a> Path<'a> {
-    /// The path as text, where its bytes are UTF-8 (RFC 3629 section 4). Takes no memory. As Rust's
-    /// `Path::to_str`.
+    /// The path as text, or `None` where its bytes aren't UTF-8 (RFC 3629 section 4). Does not
+    /// allocate. As Rust's `Path::to_str`.
     ///
-    /// That of `/tmp` is `/tmp`, and the bytes 61 FF have none.
+    /// For `/tmp` it is `/tmp`, and for the bytes 61 FF it is `None`.
     #[must_use]
     #[inline]
     pub fn to_str(&self) -> Option<&'a str>
@@ -74,10 +76,10 @@ impl<'a> Path<'a> {
 
     /// The path as text, with U+FFFD for each broken front.
     ///
-    /// Where the bytes are UTF-8 the text is borrowed, and no memory is taken; otherwise it is
-    /// refused where memory isn't had. As Rust's `Path::to_string_lossy`.
+    /// Where the bytes are UTF-8 the text is borrowed, and nothing is allocated. Otherwise it
+    /// allocates, and fails if an allocation fails. As Rust's `Path::to_string_lossy`.
     ///
-    /// That of the bytes 61 FF is `a` and U+FFFD.
+    /// For the bytes 61 FF it is `a` and U+FFFD.
     #[must_use]
     pub fn to_string_lossy(&self, alloc: Global) -> Result<LossyText<'a>, AllocError>
         ensures value { IfOk result (λ text. text_bytes text ≡ lossy_of self.now.bytes.now) }
@@ -87,9 +89,9 @@ impl<'a> Path<'a> {
         self.as_unix_str().to_string_lossy(alloc)
     }
 
-    /// What prints the path as its lossy text. Takes no memory. As Rust's `Path::display`.
+    /// What prints the path as its lossy text. Does not allocate. As Rust's `Path::display`.
     ///
-    /// That of `/tmp` is printed as `/tmp`.
+    /// For `/tmp` it prints `/tmp`.
     #[must_use]
     #[inline]
     pub fn display(&self) -> Display<'a>

@@ -16,17 +16,21 @@ use std::fmt;
 
 /// Why a path couldn't be written as JSON, or a JSON value read as a path.
 ///
-/// Its text is padded like any text. Own.
+/// Its text is padded like any text. Not in Rust's std.
 #[derive(Debug, Drop)]
 pub enum JsonError {
     /// The path's bytes aren't UTF-8: `path contains invalid UTF-8 characters`.
     NotUtf8,
     /// The value isn't a string: `expected path string`.
     NotString,
-    /// Memory wasn't had: `out of memory`.
+    /// An allocation failed: `out of memory`.
     Memory(AllocError),
 }
 
+/// The texts that the variants name, padded by width, precision, fill and alignment. Does not
+/// allocate.
+///
+/// `JsonError::NotString` is printed as `expected path string`.
 impl fmt::Display for JsonError {
     ghost use Rattle.unix_path.specs.Json.{error_text};
 
@@ -47,11 +51,11 @@ impl Error for JsonError {}
 
 /// The path's text, as a JSON string.
 ///
-/// The error is `NotUtf8` exactly where the bytes aren't UTF-8, before memory is asked for; it is
-/// `Memory` where none is had for the copy. Own, for serde's `Serialize`; UTF-8 is that of RFC
-/// 3629, section 4.
+/// Allocates once, or not at all for no bytes. The error is `NotUtf8` exactly where the bytes are
+/// not UTF-8 (RFC 3629 section 4), before anything is allocated, and `Memory` where the allocation
+/// fails. Not in Rust's std; it stands for serde's `Serialize`.
 ///
-/// That of `a//b` is the string `a//b`.
+/// For `a//b` it is the string `a//b`.
 pub fn to_json(alloc: Global, path: Path<'_>) -> Result<Value, JsonError>
     ensures value { IfOk result (λ value. IsString value path.entry.bytes.now) }
     ensures refused { IsErrOf result JsonError.NotUtf8 ↔ ¬ (IsText path.entry.bytes.now) }
@@ -68,10 +72,11 @@ pub fn to_json(alloc: Global, path: Path<'_>) -> Result<Value, JsonError>
 
 /// The path that a JSON string holds.
 ///
-/// The error is `NotString` exactly for a value that isn't a string, before memory is asked for; a
-/// number isn't one. It is `Memory` where none is had for the copy. Own, for serde's `Deserialize`.
+/// Allocates once, or not at all for no bytes. The error is `NotString` exactly for a value that
+/// isn't a string, as a number, before anything is allocated, and `Memory` where the allocation
+/// fails. Not in Rust's std; it stands for serde's `Deserialize`.
 ///
-/// That of the string `a//b` is the path `a//b`, and what `to_json` wrote has the same bytes again.
+/// For the string `a//b` it is the path `a//b`; what `to_json` wrote has the same bytes again.
 pub fn from_json(alloc: Global, value: &Value) -> Result<PathBuf, JsonError>
     ensures value { IfOk result (λ path. IsString value.now (path_bytes path)) }
     ensures bytes { IfOk result

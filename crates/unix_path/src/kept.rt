@@ -1,4 +1,4 @@
-//! Paths kept for long or shared: boxed, counted, and borrowed or owned.
+//! Paths that are kept or shared: boxed, counted, and borrowed or owned.
 
 mod boxed;
 mod cow;

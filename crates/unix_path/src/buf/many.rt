@@ -1,7 +1,7 @@
 //! Many paths, joined one after the other.
 ghost use Rattle.std.specs.Prelude.{ℕ, ◌≤◌, List, [], IfOk, OnOk, OnErr};
 ghost use Rattle.std.specs.Iterator.{IsFinite};
-ghost use Rattle.unix_path.specs.Buffers.{path_bytes, capacity, JoinsAll, JoinsFront};
+ghost use Rattle.unix_path.specs.Buffers.{path_bytes, capacity, JoinsAll, JoinsBeginning};
 
 use crate::buf::PathBuf;
 use crate::path::Path;
@@ -10,10 +10,10 @@ use std::alloc::{AllocError, Global};
 impl PathBuf {
     /// The empty path, joined with each of these in turn.
     ///
-    /// Memory is taken as the path grows. Refused, it gives no path; no item takes no memory.
+    /// Allocates as the path grows; an empty list allocates nothing. Fails if an allocation fails.
     /// As `FromIterator` of Rust's `PathBuf`.
     ///
-    /// From `/`, `feel` and `the.force` comes `/feel/the.force`.
+    /// For `/`, `feel` and `the.force` it is `/feel/the.force`.
     pub fn from_iter<'a, I: Iterator<Item = Path<'a>>>(
         alloc: Global,
         items: I,
@@ -22,7 +22,7 @@ impl PathBuf {
         requires ends { IsFinite (I.remaining items) }
         ensures ok { IfOk result (λ p. JoinsAll I.next_gives items [] (path_bytes p)) }
         ensures err { OnErr result
-            ((made : List ℕ) × JoinsFront I.next_gives items [] made 0) }
+            ((made : List ℕ) × JoinsBeginning I.next_gives items [] made 0) }
     {
         let mut path = PathBuf::new(alloc);
         path.extend(items)?;
@@ -31,8 +31,8 @@ impl PathBuf {
 
     /// Pushes each of these in turn.
     ///
-    /// Memory is taken as the path grows. Refused, it has made the pushes before the refused one;
-    /// no item takes no memory. As `Extend` of Rust's `PathBuf`.
+    /// Allocates as the path grows; an empty list allocates nothing. If an allocation fails, the
+    /// path is as the pushes before it left it. As `Extend` of Rust's `PathBuf`.
     ///
     /// `a`, extended by `b`, `/c` and `d`, is `/c/d`.
     #[tactic(auto, using(crate::proofs::GapLemmas::join_all_of_snoc))]
@@ -41,9 +41,9 @@ impl PathBuf {
         requires ends { IsFinite (I.remaining items) }
         ensures ok { OnOk result
             (JoinsAll I.next_gives items (path_bytes self.old) (path_bytes self.new)) }
-        ensures err { OnErr result (JoinsFront I.next_gives items
+        ensures err { OnErr result (JoinsBeginning I.next_gives items
             (path_bytes self.old) (path_bytes self.new) (capacity self.old)) }
-        ensures room { capacity self.old ≤ capacity self.new }
+        ensures capacity { capacity self.old ≤ capacity self.new }
     {
         for item in items {
             self.push(item)?;

@@ -15,7 +15,7 @@ use crate::buf::PathBuf;
 use std::cmp::Ordering;
 use std::hash::{Hash, Hasher};
 
-/// Two owned paths are equal if their values are, as `Path` has it.
+/// Two owned paths are equal if their values are, as `Path` has it: `a//b` equals `a/b`.
 impl PartialEq for PathBuf {
     ghost eq = { λ x y. is_eq (values_cmp (values (path_bytes x)) (values (path_bytes y))) };
 
@@ -48,7 +48,7 @@ impl PartialOrd for PathBuf {
     }
 }
 
-/// Owned paths go by their values, as `Path` has it.
+/// Owned paths go by their values, as `Path` has it: `a/b` comes before `a.b`.
 impl Ord for PathBuf {
     ghost cmp = { λ x y. values_cmp (values (path_bytes x)) (values (path_bytes y)) };
 
@@ -63,7 +63,7 @@ impl Ord for PathBuf {
     }
 }
 
-/// An owned path feeds a hasher what its view feeds it.
+/// The hash of `as_path`, which is the same for `a//b` and `a/b`.
 impl Hash for PathBuf {
     ghost hash_input = { λ path. hash_input_of (values (path_bytes path)) };
 

@@ -24,7 +24,8 @@ use unix_bytes::bytes::UnixString;
 
 /// An owned path that isn't edited any more: its bytes, and no room behind them.
 ///
-/// It is compared and hashed by its values, as `Path` is. As Rust's `Box<Path>` on Unix.
+/// It keeps its allocator. It is compared and hashed by its values, as `Path` is. As Rust's
+/// `Box<Path>` on Unix.
 #[derive(Drop)]
 pub struct BoxedPath {
     bytes: BoxedSlice<u8>,
@@ -33,10 +34,10 @@ pub struct BoxedPath {
 impl BoxedPath {
     /// A copy of the path.
     ///
-    /// Asks for memory once, or not at all where there are no bytes; refused where it isn't had. As
-    /// Rust's `Box::<Path>::from` a reference.
+    /// Allocates once, or not at all for no bytes; fails if the allocation fails. As Rust's
+    /// `From<&Path>` of `Box<Path>`.
     ///
-    /// That of `foo/` is another `foo/`.
+    /// For `foo/` it is another `foo/`.
     pub fn from_path(alloc: Global, path: Path<'_>) -> Result<BoxedPath, AllocError>
         ensures { IfOk result (λ p. boxed_bytes p ≡ path.entry.bytes.now) }
     {
@@ -46,10 +47,10 @@ impl BoxedPath {
 
     /// The bytes of the buffer, without its room.
     ///
-    /// Moving the bytes to less memory can be refused, and then the buffer is given up; where it
-    /// has no room, no memory is taken. As Rust's `Box::<Path>::from` a `PathBuf`.
+    /// Does not allocate where the buffer has no room. Otherwise moving the bytes can fail, and
+    /// then the buffer is dropped. As Rust's `From<PathBuf>` of `Box<Path>`.
     ///
-    /// `foo/` in 10 bytes then stands in 4.
+    /// For `foo/` with the capacity 10 it is `foo/` in 4 bytes.
     pub fn from_path_buf(path: PathBuf) -> Result<BoxedPath, AllocError>
         ensures bytes { IfOk result (λ p. boxed_bytes p ≡ path_bytes path) }
         ensures succeeds { room path ≡ 0 → IsOk result }
@@ -60,12 +61,12 @@ impl BoxedPath {
         Ok(BoxedPath { bytes })
     }
 
-    /// A copy of a borrowed path, or the bytes of an owned one.
+    /// A copy of a borrowed path, or the bytes of an owned one without its room.
     ///
-    /// Refused as `from_path` or `from_path_buf` is, and then an owned path is given up; where that
-    /// has no room, no memory is taken. As Rust's `Box::<Path>::from` a `Cow<Path>`.
+    /// Allocates and fails as `from_path` does for a borrowed path, and as `from_path_buf` does for
+    /// an owned one, which is dropped on failure. As Rust's `From<Cow<Path>>` of `Box<Path>`.
     ///
-    /// That of a borrowed `foo/` is an owned `foo/`.
+    /// For a borrowed `foo/` it is an owned `foo/`.
     pub fn from_cow(alloc: Global, path: CowPath<'_>) -> Result<BoxedPath, AllocError>
         ensures bytes { IfOk result (λ p. boxed_bytes p ≡ cow_bytes path.entry) }
         ensures succeeds { (p : PathBuf) → path.entry ≡ CowPath.Owned p → room p ≡ 0 → IsOk result }
@@ -76,9 +77,9 @@ impl BoxedPath {
         }
     }
 
-    /// The path as a view of all its bytes. Takes no memory. As Rust's `&**path`.
+    /// The path as a view of all its bytes. Does not allocate. As Rust's `&**path`.
     ///
-    /// That of a boxed `foo/` is `foo/`.
+    /// For a boxed `foo/` it is `foo/`.
     #[inline]
     pub fn as_path(&self) -> Path<'_>
         ensures { result.bytes.now ≡ boxed_bytes self.now }
@@ -90,8 +91,8 @@ impl BoxedPath {
 
     /// A copy of the path, under the same allocator.
     ///
-    /// Asks for memory once, or not at all where there are no bytes; refused where it isn't had. As
-    /// `Clone` of Rust's `Box<Path>`.
+    /// Allocates once, or not at all for no bytes; fails if the allocation fails. As `Clone` of
+    /// Rust's `Box<Path>`.
     ///
     /// A clone of `foo/` is another `foo/`.
     #[must_use]
@@ -102,11 +103,11 @@ impl BoxedPath {
         Ok(BoxedPath { bytes })
     }
 
-    /// The path as a buffer, in the memory where it stands.
+    /// The path as a buffer, in the same memory.
     ///
-    /// Takes no memory, and so is never refused. As Rust's `Path::into_path_buf`.
+    /// Does not allocate, and so never fails. As Rust's `Path::into_path_buf`.
     ///
-    /// That of a boxed `foo/` is `foo/`.
+    /// For a boxed `foo/` it is `foo/`.
     #[must_use]
     pub fn into_path_buf(self, _alloc: Global) -> Result<PathBuf, AllocError>
         ensures bytes { IfOk result (λ p. path_bytes p ≡ boxed_bytes self) }
@@ -117,12 +118,12 @@ impl BoxedPath {
 }
 
 impl PathBuf {
-    /// The path without its room, for keeping.
+    /// The path without its room, to be kept.
     ///
-    /// Moving the bytes to less memory can be refused, and then the path is given up; where it has
-    /// no room, no memory is taken. As Rust's `PathBuf::into_boxed_path`.
+    /// Does not allocate where there is no room. Otherwise moving the bytes can fail, and then the
+    /// path is dropped. As Rust's `PathBuf::into_boxed_path`.
     ///
-    /// `foo/` in 10 bytes then stands in 4.
+    /// For `foo/` with the capacity 10 it is `foo/` in 4 bytes.
     #[must_use]
     pub fn into_boxed_path(self) -> Result<BoxedPath, AllocError>
         ensures bytes { IfOk result (λ p. boxed_bytes p ≡ path_bytes self) }
@@ -132,7 +133,7 @@ impl PathBuf {
     }
 }
 
-/// Two boxed paths are equal if their values are, as `Path` has it.
+/// Two boxed paths are equal if their values are, as `Path` has it: `a//b` equals `a/b`.
 impl PartialEq for BoxedPath {
     ghost eq = { λ x y. is_eq (values_cmp (values (boxed_bytes x)) (values (boxed_bytes y))) };
 
@@ -165,7 +166,7 @@ impl PartialOrd for BoxedPath {
     }
 }
 
-/// Boxed paths go by their values, as `Path` has it.
+/// Boxed paths go by their values, as `Path` has it: `a/b` comes before `a.b`.
 impl Ord for BoxedPath {
     ghost cmp = { λ x y. values_cmp (values (boxed_bytes x)) (values (boxed_bytes y)) };
 
@@ -180,7 +181,7 @@ impl Ord for BoxedPath {
     }
 }
 
-/// The hash of `as_path`.
+/// The hash of `as_path`, which is the same for `a//b` and `a/b`.
 impl Hash for BoxedPath {
     ghost hash_input = { λ path. hash_input_of (values (boxed_bytes path)) };
 
@@ -191,7 +192,7 @@ impl Hash for BoxedPath {
     }
 }
 
-/// The debug form of `as_path`.
+/// The debug form of `as_path`: for `/tmp` it is `"/tmp"`.
 impl fmt::Debug for BoxedPath {
     fn fmt<W: fmt::Write>(&self, f: &mut fmt::Formatter<W>) -> fmt::Result {
         fmt::Debug::fmt(&self.as_path(), f)

@@ -19,9 +19,9 @@ use std::cmp::Ordering;
 use std::fmt;
 use std::hash::{Hash, Hasher};
 
-/// A path that is borrowed, until its holder has to own it.
+/// A path that is borrowed, or one that is owned.
 ///
-/// It is compared and hashed by its values, as `Path` is, whichever of the two it is. As Rust's
+/// It is compared and hashed by its values, as `Path` is, be it borrowed or owned. As Rust's
 /// `Cow<Path>` on Unix.
 #[derive(Drop)]
 pub enum CowPath<'a> {
@@ -32,9 +32,9 @@ pub enum CowPath<'a> {
 }
 
 impl<'a> CowPath<'a> {
-    /// The path as a view of all its bytes. Takes no memory. As Rust's `&*path`.
+    /// The path as a view of all its bytes. Does not allocate. As Rust's `&*path`.
     ///
-    /// That of a borrowed `foo/` is `foo/`.
+    /// For a borrowed `foo/` it is `foo/`.
     #[inline]
     pub fn as_path(&self) -> Path<'_>
         ensures { result.bytes.now ≡ cow_bytes self.now }
@@ -47,10 +47,10 @@ impl<'a> CowPath<'a> {
 
     /// The path as a buffer: a copy where it is borrowed, and the buffer itself where it is owned.
     ///
-    /// Asks for memory once where it is borrowed and has bytes, and is refused where that isn't
-    /// had; takes none where it is owned. As Rust's `Cow::into_owned`.
+    /// Allocates once for a borrowed path with bytes, and fails if that allocation fails; otherwise
+    /// it does not allocate. As Rust's `Cow::into_owned`.
     ///
-    /// That of a borrowed `foo/` is another `foo/`.
+    /// For a borrowed `foo/` it is another `foo/`.
     pub fn into_owned(self, alloc: Global) -> Result<PathBuf, AllocError>
         ensures bytes { IfOk result (λ p. path_bytes p ≡ cow_bytes self.entry) }
         ensures succeeds { ¬ (IsBorrowed self.entry) → IsOk result }
@@ -63,8 +63,8 @@ impl<'a> CowPath<'a> {
 
     /// The same view where the path is borrowed, and a copy where it is owned.
     ///
-    /// Asks for memory once where it is owned and has bytes, and is refused where that isn't had;
-    /// takes none where it is borrowed. As `Clone` of Rust's `Cow<Path>`.
+    /// Allocates once for an owned path with bytes, and fails if that allocation fails; otherwise
+    /// it does not allocate. As `Clone` of Rust's `Cow<Path>`.
     ///
     /// A clone of a borrowed `foo/` is borrowed from the same place.
     #[must_use]
@@ -80,7 +80,9 @@ impl<'a> CowPath<'a> {
     }
 }
 
-/// The path, borrowed. Takes no memory. As Rust's `Cow::<Path>::from` a reference to a path.
+/// The path, borrowed. Does not allocate. As Rust's `From<&Path>` of `Cow<Path>`.
+///
+/// For `foo/` it is a borrowed `foo/`.
 impl<'a> From<Path<'a>> for CowPath<'a> {
     ghost from_gives = { λ path cow. (cow_bytes cow ≡ path.bytes.now) × IsBorrowed cow };
 
@@ -90,7 +92,9 @@ impl<'a> From<Path<'a>> for CowPath<'a> {
     }
 }
 
-/// The path, owned. Takes no memory. As Rust's `Cow::<Path>::from` a `PathBuf`.
+/// The path, owned. Does not allocate. As Rust's `From<PathBuf>` of `Cow<Path>`.
+///
+/// For `foo/` it is an owned `foo/`.
 impl<'a> From<PathBuf> for CowPath<'a> {
     ghost from_gives = { λ path cow. (cow_bytes cow ≡ path_bytes path) × ¬ (IsBorrowed cow) };
 
@@ -100,7 +104,9 @@ impl<'a> From<PathBuf> for CowPath<'a> {
     }
 }
 
-/// The path, borrowed. Takes no memory. As Rust's `Cow::<Path>::from` a reference to a `PathBuf`.
+/// The path, borrowed. Does not allocate. As Rust's `From<&PathBuf>` of `Cow<Path>`.
+///
+/// For `foo/` it is a borrowed `foo/`.
 impl<'a> From<&'a PathBuf> for CowPath<'a> {
     ghost from_gives = { λ path cow. (cow_bytes cow ≡ path_bytes path.now) × IsBorrowed cow };
 
@@ -110,7 +116,8 @@ impl<'a> From<&'a PathBuf> for CowPath<'a> {
     }
 }
 
-/// Two paths are equal if their values are, as `Path` has it, whichever of the two each is.
+/// Two paths are equal if their values are, as `Path` has it, be they borrowed or owned: `a//b`
+/// equals `a/b`.
 impl PartialEq for CowPath<'_> {
     ghost eq = { λ x y. is_eq (values_cmp (values (cow_bytes x)) (values (cow_bytes y))) };
 
@@ -143,7 +150,7 @@ impl PartialOrd for CowPath<'_> {
     }
 }
 
-/// They go by their values, as `Path` has it.
+/// Such paths go by their values, as `Path` has it: `a/b` comes before `a.b`.
 impl Ord for CowPath<'_> {
     ghost cmp = { λ x y. values_cmp (values (cow_bytes x)) (values (cow_bytes y)) };
 
@@ -158,7 +165,7 @@ impl Ord for CowPath<'_> {
     }
 }
 
-/// The hash of `as_path`.
+/// The hash of `as_path`, which is the same for `a//b` and `a/b`.
 impl Hash for CowPath<'_> {
     ghost hash_input = { λ path. hash_input_of (values (cow_bytes path)) };
 
@@ -169,7 +176,7 @@ impl Hash for CowPath<'_> {
     }
 }
 
-/// The debug form of `as_path`.
+/// The debug form of `as_path`: for `/tmp` it is `"/tmp"`.
 impl fmt::Debug for CowPath<'_> {
     fn fmt<W: fmt::Write>(&self, f: &mut fmt::Formatter<W>) -> fmt::Result {
         fmt::Debug::fmt(&self.as_path(), f)

@@ -31,10 +31,10 @@ pub struct RcPath {
 impl RcPath {
     /// A copy of the path, with one owner.
     ///
-    /// Asks for memory once for the count of owners, and once for the bytes where there are any;
-    /// refused where it isn't had. As Rust's `Rc::<Path>::from` a reference.
+    /// Allocates once for the count of owners, and once more for the bytes if there are any; fails
+    /// if an allocation fails. As Rust's `From<&Path>` of `Rc<Path>`.
     ///
-    /// That of `foo/` is another `foo/`.
+    /// For `foo/` it is another `foo/`.
     pub fn from_path(alloc: Global, path: Path<'_>) -> Result<RcPath, AllocError>
         ensures { IfOk result (λ p. rc_bytes p ≡ path.entry.bytes.now) }
     {
@@ -42,21 +42,21 @@ impl RcPath {
         Ok(RcPath { bytes })
     }
 
-    /// A copy of the buffer's bytes, with one owner; the buffer is given up.
+    /// A copy of the buffer's bytes, with one owner; the buffer is dropped.
     ///
-    /// Asks for memory once for the count of owners, and once for the bytes where there are any;
-    /// refused where it isn't had. As Rust's `Rc::<Path>::from` a `PathBuf`.
+    /// Allocates once for the count of owners, and once more for the bytes if there are any; fails
+    /// if an allocation fails. As Rust's `From<PathBuf>` of `Rc<Path>`.
     ///
-    /// That of `foo/` is another `foo/`.
+    /// For `foo/` it is another `foo/`.
     pub fn from_path_buf(alloc: Global, path: PathBuf) -> Result<RcPath, AllocError>
         ensures { IfOk result (λ p. rc_bytes p ≡ path_bytes path) }
     {
         RcPath::from_path(alloc, path.as_path())
     }
 
-    /// The path as a view of all its bytes. Takes no memory. As Rust's `&**path`.
+    /// The path as a view of all its bytes. Does not allocate. As Rust's `&**path`.
     ///
-    /// That of a shared `foo/` is `foo/`.
+    /// For a shared `foo/` it is `foo/`.
     #[inline]
     pub fn as_path(&self) -> Path<'_>
         ensures { result.bytes.now ≡ rc_bytes self.now }
@@ -68,8 +68,8 @@ impl RcPath {
 
     /// One more owner of the path.
     ///
-    /// Refused where there can be no more owners. As `Clone` of Rust's `Rc<Path>`, which ends the
-    /// process there.
+    /// Does not allocate. Fails where the count of owners is at its limit. As `Clone` of Rust's
+    /// `Rc<Path>`, which ends the process there.
     ///
     /// A clone of `foo/` is `foo/`.
     #[must_use]
@@ -81,7 +81,7 @@ impl RcPath {
     }
 }
 
-/// Two shared paths are equal if their values are, as `Path` has it.
+/// Two shared paths are equal if their values are, as `Path` has it: `a//b` equals `a/b`.
 impl PartialEq for RcPath {
     ghost eq = { λ x y. is_eq (values_cmp (values (rc_bytes x)) (values (rc_bytes y))) };
 
@@ -114,7 +114,7 @@ impl PartialOrd for RcPath {
     }
 }
 
-/// Shared paths go by their values, as `Path` has it.
+/// Shared paths go by their values, as `Path` has it: `a/b` comes before `a.b`.
 impl Ord for RcPath {
     ghost cmp = { λ x y. values_cmp (values (rc_bytes x)) (values (rc_bytes y)) };
 
@@ -129,7 +129,7 @@ impl Ord for RcPath {
     }
 }
 
-/// The hash of `as_path`.
+/// The hash of `as_path`, which is the same for `a//b` and `a/b`.
 impl Hash for RcPath {
     ghost hash_input = { λ path. hash_input_of (values (rc_bytes path)) };
 
@@ -140,7 +140,7 @@ impl Hash for RcPath {
     }
 }
 
-/// The debug form of `as_path`.
+/// The debug form of `as_path`: for `/tmp` it is `"/tmp"`.
 impl fmt::Debug for RcPath {
     fn fmt<W: fmt::Write>(&self, f: &mut fmt::Formatter<W>) -> fmt::Result {
         fmt::Debug::fmt(&self.as_path(), f)

@@ -6,5 +6,5 @@ use Rattle.unix_path.proofs.buf.PathBuf.extend.Given as goal
 abbrev pub invariant-loop-item : goal.invariant-loop-item
 invariant-loop-item g l = record {
   bytes : path_bytes l.self ≡ join_all_of (path_bytes l.initial.self) (texts l.yielded);
-  room : capacity l.initial.self ≤ capacity l.self;
+  capacity : capacity l.initial.self ≤ capacity l.self;
 }

@@ -1,0 +1,101 @@
+//! Owned paths from bytes and text, and back.
+ghost use Rattle.std.specs.Prelude.{◌≡◌, IfOk, string_bytes};
+ghost use Rattle.unix_bytes.specs.Owned.{owned_bytes};
+ghost use Rattle.unix_path.specs.Buffers.{path_bytes};
+
+use crate::buf::PathBuf;
+use crate::path::Path;
+use std::alloc::{AllocError, Global};
+use unix_bytes::bytes::{UnixStr, UnixString};
+
+impl PathBuf {
+    /// A copy of the bytes.
+    ///
+    /// Allocates once, or not at all for no bytes; fails if the allocation fails. As Rust's
+    /// `From<&OsStr>` of `PathBuf`.
+    ///
+    /// For `tmp/` it is the path `tmp/`.
+    pub fn from_unix_str(alloc: Global, text: UnixStr<'_>) -> Result<PathBuf, AllocError>
+        ensures { IfOk result (λ p. path_bytes p ≡ text.entry.bytes.now) }
+    {
+        let inner = text.to_unix_string(alloc)?;
+        Ok(PathBuf { inner })
+    }
+
+    /// A copy of the text's bytes, in UTF-8.
+    ///
+    /// Allocates once, or not at all for no bytes; fails if the allocation fails. As Rust's
+    /// `From<&str>` of `PathBuf`.
+    ///
+    /// `PathBuf::from_text(alloc, "/tmp")?` is the path `/tmp`.
+    pub fn from_text(alloc: Global, text: &str) -> Result<PathBuf, AllocError>
+        ensures { IfOk result (λ p. path_bytes p ≡ text.now) }
+    {
+        PathBuf::from_unix_str(alloc, UnixStr::new(text))
+    }
+
+    /// The bytes, in the same memory. Does not allocate. As Rust's `PathBuf::into_os_string`.
+    ///
+    /// For the path `foo/` it is `foo/`.
+    #[must_use]
+    #[inline]
+    pub fn into_unix_string(self) -> UnixString
+        ensures { owned_bytes result ≡ path_bytes self }
+    {
+        self.inner
+    }
+}
+
+impl<'a> Path<'a> {
+    /// A copy of the path that owns its bytes.
+    ///
+    /// Allocates once, or not at all for no bytes; fails if the allocation fails. As Rust's
+    /// `Path::to_path_buf`.
+    ///
+    /// For `foo/` it is another `foo/`.
+    #[must_use]
+    pub fn to_path_buf(&self, alloc: Global) -> Result<PathBuf, AllocError>
+        ensures { IfOk result (λ p. path_bytes p ≡ self.now.bytes.now) }
+    {
+        PathBuf::from_unix_str(alloc, self.as_unix_str())
+    }
+}
+
+/// These bytes, in the same memory. Does not allocate. As Rust's `From<OsString>` of `PathBuf`.
+///
+/// For `foo/` it is the path `foo/`.
+impl From<UnixString> for PathBuf {
+    ghost from_gives = { λ text p. path_bytes p ≡ owned_bytes text };
+
+    #[inline]
+    fn from(text: UnixString) -> PathBuf {
+        PathBuf { inner: text }
+    }
+}
+
+/// The text's bytes, in the same memory. Does not allocate. As Rust's `From<String>` of `PathBuf`.
+///
+/// For the text `/tmp/` it is the path `/tmp/`.
+impl From<String> for PathBuf {
+    ghost from_gives = { λ text p. path_bytes p ≡ string_bytes text };
+
+    #[inline]
+    fn from(text: String) -> PathBuf {
+        PathBuf {
+            inner: UnixString::from(text),
+        }
+    }
+}
+
+/// The bytes that `into_unix_string` gives. Does not allocate. As Rust's `From<PathBuf>` of
+/// `OsString`.
+///
+/// For the path `foo/` it is `foo/`.
+impl From<PathBuf> for UnixString {
+    ghost from_gives = { λ p text. owned_bytes text ≡ path_bytes p };
+
+    #[inline]
+    fn from(path: PathBuf) -> UnixString {
+        path.into_unix_string()
+    }
+}

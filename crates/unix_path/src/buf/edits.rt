@@ -1,0 +1,254 @@
+//! Edits of owned paths, and edited copies of paths.
+ghost use Rattle.std.specs.Prelude.{◌≡◌, ◌+◌, ◌^◌, ◌<◌, ◌≤◌, [], ◌++◌, length, take};
+ghost use Rattle.std.specs.Prelude.{None, IfOk, OnOk, OnErr, IsOk, is_some};
+ghost use Rattle.unix_bytes.specs.Owned.{owned_bytes, owned_room, owned_capacity};
+ghost use Rattle.unix_path.specs.Buffers.{path_bytes, capacity};
+ghost use Rattle.unix_path.specs.Edits.{popped_of, with_name_of, dot_before, with_extension_of};
+ghost use Rattle.unix_path.specs.Joins.{is_open, join_of};
+ghost use Rattle.unix_path.specs.Parents.{parent_of};
+ghost use Rattle.unix_path.specs.Names.{file_name_of};
+ghost use Rattle.unix_path.specs.Parts.{values};
+ghost use Rattle.unix_path.specs.Steps.{gap_bytes};
+
+use crate::buf::PathBuf;
+use crate::path::Path;
+use std::alloc::{AllocError, Global};
+use unix_bytes::bytes::{UnixStr, UnixString};
+
+// Whether there is no byte, or the last is a slash.
+#[inline]
+fn is_open(path: &[u8]) -> bool
+    ensures { result ≡ is_open path.now }
+{
+    path.is_empty() || path[path.len() - 1] == b'/'
+}
+
+// How many bytes of its base a join keeps, and the byte that it puts between them and the path,
+// if any.
+#[inline]
+#[tactic(auto, using(crate::proofs::GapLemmas::join_cases))]
+fn join_cut(base: &[u8], path: Path<'_>) -> (usize, Option<u8>)
+    ensures in_range { result.0 ≤ length base.now }
+    ensures value { join_of base.now path.entry.bytes.now
+        ≡ (take result.0 base.now ++ gap_bytes result.1) ++ path.entry.bytes.now }
+{
+    if path.has_root() {
+        return (0, None);
+    }
+    if is_open(base) {
+        return (base.len(), None);
+    }
+    (base.len(), Some(b'/'))
+}
+
+// The dot before an extension, unless that is empty.
+#[inline]
+fn dot_before(extension: &[u8]) -> Option<u8>
+    ensures { gap_bytes result ≡ dot_before extension.now }
+{
+    if extension.is_empty() {
+        return None;
+    }
+    Some(b'.')
+}
+
+// How many bytes these are in all.
+#[inline]
+fn total_len(keep: usize, gap: Option<u8>, more: &[u8]) -> usize
+    requires { keep < 2 ^ 63 }
+    ensures { result ≡ keep + length (gap_bytes gap) + length more.now }
+{
+    match gap {
+        Some(_) => keep + 1 + more.len(),
+        None => keep + more.len(),
+    }
+}
+
+// Adds the byte, if there is one, and then the slice.
+#[inline]
+fn push_end(text: &mut UnixString, gap: Option<u8>, more: &[u8]) -> Result<(), AllocError>
+    ensures ok { OnOk result
+        (owned_bytes text.new ≡ (owned_bytes text.old ++ gap_bytes gap) ++ more.now) }
+    ensures succeeds { length (gap_bytes gap ++ more.now) ≤ owned_room text.old → IsOk result }
+    ensures capacity { owned_capacity text.old ≤ owned_capacity text.new }
+{
+    if let Some(byte) = gap {
+        text.push(UnixStr::from_bytes(&[byte]))?;
+    }
+    text.push(UnixStr::from_bytes(more))
+}
+
+// A copy of the three, by one allocation, or by none if they have no bytes.
+fn copy_of(alloc: Global, base: &[u8], gap: Option<u8>, more: &[u8]) -> Result<PathBuf, AllocError>
+    ensures { IfOk result (λ p. path_bytes p ≡ (base.now ++ gap_bytes gap) ++ more.now) }
+{
+    let mut inner = UnixString::with_capacity(alloc, total_len(base.len(), gap, more))?;
+    inner.push(UnixStr::from_bytes(base))?;
+    push_end(&mut inner, gap, more)?;
+    Ok(PathBuf { inner })
+}
+
+impl PathBuf {
+    /// Joins `path` to the end. It replaces all bytes if it begins with `/`; otherwise a `/` comes
+    /// between, unless there are no bytes or they end in one.
+    ///
+    /// Allocates, once, only where the join is longer than the capacity. If the allocation fails,
+    /// the bytes stay as they were. As Rust's `PathBuf::push`.
+    ///
+    /// `/foo/bar` after a push of `./baz` is `/foo/bar/./baz`, and `foo` after a push of the empty
+    /// path is `foo/`.
+    #[tactic(auto, using(crate::proofs::GapLemmas::beginnings))]
+    pub fn push(&mut self, path: Path<'_>) -> Result<(), AllocError>
+        ensures ok { OnOk result
+            (path_bytes self.new ≡ join_of (path_bytes self.old) path.entry.bytes.now) }
+        ensures err { OnErr result (path_bytes self.new ≡ path_bytes self.old) }
+        ensures succeeds { length (join_of (path_bytes self.old) path.entry.bytes.now)
+            ≤ capacity self.old → IsOk result }
+        ensures capacity { capacity self.old ≤ capacity self.new }
+    {
+        let (keep, gap) = join_cut(self.as_path().bytes, path);
+        self.replace_end(keep, gap, path.bytes)
+    }
+
+    /// Cuts the path to its parent and returns true. Returns false where there is none, and then
+    /// leaves the bytes as they were.
+    ///
+    /// What stands behind the last part goes with it. Does not allocate. As Rust's `PathBuf::pop`.
+    ///
+    /// `foo//bar/.` after `pop` is `foo`.
+    #[tactic(auto, using(crate::proofs::EditLemmas::pop_cases))]
+    pub fn pop(&mut self) -> bool
+        ensures value { result ≡ is_some (parent_of (path_bytes self.old)) }
+        ensures bytes { path_bytes self.new ≡ popped_of (path_bytes self.old) }
+        ensures capacity { capacity self.new ≡ capacity self.old }
+    {
+        let len = match self.as_path().parent() {
+            Some(parent) => parent.bytes.len(),
+            None => return false,
+        };
+        self.inner.truncate(len);
+        true
+    }
+
+    /// Pops, where there is a file name, and then pushes the name.
+    ///
+    /// The name isn't looked into: one that begins with `/` replaces all bytes, and `..` stays.
+    /// Allocates, once, only where the result is longer than the capacity. If the allocation fails,
+    /// the bytes stay as they were. As Rust's `PathBuf::set_file_name`.
+    ///
+    /// `foo/.` with the file name `bar` is `bar`, and `foo/..` is `foo/../bar`.
+    #[tactic(auto, using(crate::proofs::GapLemmas::beginnings))]
+    pub fn set_file_name(&mut self, name: UnixStr<'_>) -> Result<(), AllocError>
+        ensures ok { OnOk result
+            (path_bytes self.new ≡ with_name_of (path_bytes self.old) name.entry.bytes.now) }
+        ensures err { OnErr result (path_bytes self.new ≡ path_bytes self.old) }
+        ensures succeeds { length (with_name_of (path_bytes self.old) name.entry.bytes.now)
+            ≤ capacity self.old → IsOk result }
+        ensures capacity { capacity self.old ≤ capacity self.new }
+    {
+        let (keep, gap) = join_cut(self.as_path().before_name().bytes, Path::new(name));
+        self.replace_end(keep, gap, name.bytes)
+    }
+
+    /// Replaces what stands behind the stem of the file name by a dot and the extension, or by
+    /// nothing for an empty extension, and returns true. Returns false where there is no file name,
+    /// and then leaves the bytes as they were.
+    ///
+    /// The extension isn't looked into: one with a `/` adds parts. Allocates, once, only where the
+    /// result is longer than the capacity. If the allocation fails, the bytes stay as they were. As
+    /// Rust's `PathBuf::set_extension`.
+    ///
+    /// `foo.rs/.` with the extension `txt` is `foo.txt`.
+    #[tactic(auto, using(crate::proofs::EditLemmas::extension_cases))]
+    pub fn set_extension(&mut self, extension: UnixStr<'_>) -> Result<bool, AllocError>
+        ensures value { IfOk result
+            (λ answer. answer ≡ is_some (file_name_of (values (path_bytes self.old)))) }
+        ensures ok { OnOk result
+            (path_bytes self.new
+            ≡ with_extension_of (path_bytes self.old) extension.entry.bytes.now) }
+        ensures err { OnErr result (path_bytes self.new ≡ path_bytes self.old) }
+        ensures succeeds { length (with_extension_of
+            (path_bytes self.old) extension.entry.bytes.now) ≤ capacity self.old → IsOk result }
+        ensures succeeds_nameless { file_name_of (values (path_bytes self.old)) ≡ None
+            → IsOk result }
+        ensures succeeds_empty { extension.entry.bytes.now ≡ [] → IsOk result }
+        ensures capacity { capacity self.old ≤ capacity self.new }
+    {
+        let end = match self.as_path().stem_end() {
+            Some(end) => end,
+            None => return Ok(false),
+        };
+        self.replace_end(end, dot_before(extension.bytes), extension.bytes)?;
+        Ok(true)
+    }
+
+    // Cuts to `keep` bytes, and puts the byte and the slice behind them. The growth comes first.
+    fn replace_end(&mut self, keep: usize, gap: Option<u8>, more: &[u8]) -> Result<(), AllocError>
+        requires { keep ≤ length (path_bytes self.old) }
+        ensures ok { OnOk result
+            (path_bytes self.new ≡ (take keep (path_bytes self.old) ++ gap_bytes gap) ++ more.now) }
+        ensures err { OnErr result (path_bytes self.new ≡ path_bytes self.old) }
+        ensures succeeds { length ((take keep (path_bytes self.old) ++ gap_bytes gap) ++ more.now)
+            ≤ capacity self.old → IsOk result }
+        ensures capacity { capacity self.old ≤ capacity self.new }
+    {
+        let len = self.inner.as_unix_str().len();
+        let growth = total_len(keep, gap, more).saturating_sub(len);
+        self.inner.reserve(growth)?;
+        self.inner.truncate(keep);
+        push_end(&mut self.inner, gap, more)
+    }
+}
+
+impl<'a> Path<'a> {
+    /// A copy of the path, with another pushed onto it.
+    ///
+    /// Allocates once, or not at all for an empty result; fails if the allocation fails. As Rust's
+    /// `Path::join`.
+    ///
+    /// `/etc` joined with `passwd` is `/etc/passwd`, and `a` with the empty path is `a/`.
+    #[must_use]
+    pub fn join(&self, alloc: Global, path: Path<'_>) -> Result<PathBuf, AllocError>
+        ensures { IfOk result
+            (λ p. path_bytes p ≡ join_of self.now.bytes.now path.entry.bytes.now) }
+    {
+        let (keep, gap) = join_cut(self.bytes, path);
+        copy_of(alloc, &self.bytes[..keep], gap, path.bytes)
+    }
+
+    /// A copy of the path, with this file name as `PathBuf::set_file_name` sets it.
+    ///
+    /// Allocates once, or not at all for an empty result; fails if the allocation fails. As Rust's
+    /// `Path::with_file_name`.
+    ///
+    /// `/tmp/foo.txt` with the file name `bar.txt` is `/tmp/bar.txt`.
+    #[must_use]
+    pub fn with_file_name(&self, alloc: Global, name: UnixStr<'_>) -> Result<PathBuf, AllocError>
+        ensures { IfOk result
+            (λ p. path_bytes p ≡ with_name_of self.now.bytes.now name.entry.bytes.now) }
+    {
+        self.before_name().join(alloc, Path::new(name))
+    }
+
+    /// A copy of the path, with this extension as `PathBuf::set_extension` sets it.
+    ///
+    /// Allocates once, or not at all for an empty result; fails if the allocation fails. As Rust's
+    /// `Path::with_extension`.
+    ///
+    /// `foo.rs` with the extension `txt` is `foo.txt`, and `..` stays `..`.
+    #[tactic(auto, using(crate::proofs::EditLemmas::extension_cases))]
+    pub fn with_extension(
+        &self,
+        alloc: Global,
+        extension: UnixStr<'_>,
+    ) -> Result<PathBuf, AllocError>
+        ensures { IfOk result
+            (λ p. path_bytes p ≡ with_extension_of self.now.bytes.now extension.entry.bytes.now) }
+    {
+        let Some(end) = self.stem_end() else {
+            return self.to_path_buf(alloc);
+        };
+        let gap = dot_before(extension.bytes);
+        copy_of(alloc, &self.bytes[..end], gap, extension.bytes)
+    }
+}
