@@ -37,11 +37,11 @@ ancestors_of-deep : (s : List ℕ) (vs : List Value) (v : Value) → values s �
 unfolding ancestors_of
 ancestors_of-deep s vs v e differs =
     let q = rest s 0 1 in
-    let front : values q ≡ vs =
+    let before : values q ≡ vs =
     values-rest s 0 1 ∙ ap (middle 0 1) e ∙ middle-push vs v in
     let more : depth_of s ≡ suc (depth_of q) =
     depth_of-push s vs v e differs
-    ∙ ap suc (sym (depth_of-values q ∙ ap (λ vs. length vs - root_count vs) front)) in
+    ∙ ap suc (sym (depth_of-values q ∙ ap (λ vs. length vs - root_count vs) before)) in
     ap (λ n. s ∷ map (λ m. rest s 0 m) (range_with_len 1 n)) more
     ∙ ap (λ ps. s ∷ q ∷ ps) (shift s 1 (depth_of q))
     ∙ sym (ap (λ o. s ∷ ancestors_by o) (parent_of-deep s (depth_of q) more))
@@ -61,17 +61,18 @@ pub ancestors_of-parent : (s : List ℕ) → ancestors_of s ≡ s ∷ ancestors_
 ancestors_of-parent s = by_snoc s (snoc (values s))
 
 -- what a walk gives from this path on
-abbrev given : Option Path → List (List ℕ)
-given next = option_map_or (λ path. ancestors_of path.bytes.now) next []
+abbrev ancestors_from : Option Path → List (List ℕ)
+ancestors_from next = option_map_or (λ path. ancestors_of path.bytes.now) next []
 
-given-bytes : (o : Option Path) → ancestors_by (option_map (λ path. path.bytes.now) o) ≡ given o
-given-bytes None = refl
-given-bytes (Some path) = refl
+ancestors_by-bytes : (o : Option Path)
+    → ancestors_by (option_map (λ path. path.bytes.now) o) ≡ ancestors_from o
+ancestors_by-bytes None = refl
+ancestors_by-bytes (Some path) = refl
 
 -- the walk goes on from the parent
 pub ancestors_left-step : (o : Option Path) (path : Path) (parent : Option Path)
     → o ≡ Some path → option_map (λ path. path.bytes.now) parent ≡ parent_of path.bytes.now
-    → given o ≡ path.bytes.now ∷ given parent
+    → ancestors_from o ≡ path.bytes.now ∷ ancestors_from parent
 ancestors_left-step o path parent is e =
-    ap given is ∙ ancestors_of-parent path.bytes.now
-    ∙ ap (λ ps. path.bytes.now ∷ ps) (ap ancestors_by (sym e) ∙ given-bytes parent)
+    ap ancestors_from is ∙ ancestors_of-parent path.bytes.now
+    ∙ ap (λ ps. path.bytes.now ∷ ps) (ap ancestors_by (sym e) ∙ ancestors_by-bytes parent)

@@ -8,10 +8,10 @@ use Rattle.unix_path.specs.Parts as parts
 use Rattle.unix_path.specs.Names.{name_of, file_name_of}
 use Rattle.unix_path.proofs.ParentLemmas.{file_name_of-push}
 use Rattle.unix_path.specs.Order.{value_cmp}
-use Rattle.unix_path.specs.contracts.cursor.ComponentOrd.TheImpl as the_order
-use Rattle.unix_path.specs.declared.cursor.Component.{Component}
-use Rattle.unix_path.specs.declared.cursor.Component.TheVariants.{RootDir, CurDir, ParentDir}
-use Rattle.unix_path.specs.declared.cursor.Component.TheVariants.{Normal}
+use Rattle.unix_path.specs.contracts.cursor.component.ComponentOrd.TheImpl as the_order
+use Rattle.unix_path.specs.declared.cursor.component.Component.{Component}
+use Rattle.unix_path.specs.declared.cursor.component.Component.TheVariants.{RootDir, CurDir}
+use Rattle.unix_path.specs.declared.cursor.component.Component.TheVariants.{ParentDir, Normal}
 
 name_of-other : (x : Component) → ((name : UnixStr) → x ≡ Normal name → ⊥)
     → None ≡ name_of (value_of x)
@@ -27,18 +27,18 @@ value_of-other ParentDir h e = cc
 value_of-other (Normal name) h e = cc
 
 -- the last component tells the file name
-pub file_name_of-normal : (s u w : List ℕ) (x : Component) (name : UnixStr) → u ≡ rest s 0 0
-    → values u ≡ values w ++ value_of x ∷ [] → x ≡ Normal name
+pub file_name_of-normal : {u : List ℕ} {x : Component} {name : UnixStr} (s w : List ℕ)
+    → u ≡ rest s 0 0 → values u ≡ values w ++ value_of x ∷ [] → x ≡ Normal name
     → Some name.bytes.now ≡ file_name_of (values s)
-file_name_of-normal s u w x name e last is =
+file_name_of-normal {u} {x} s w whole last is =
     ap (λ x. name_of (value_of x)) (sym is)
-    ∙ file_name_of-push s u w (value_of x) e last
+    ∙ file_name_of-push s u w (value_of x) whole last
 
-pub file_name_of-other : (s u w : List ℕ) (x : Component) → u ≡ rest s 0 0
+pub file_name_of-other : {u : List ℕ} (s w : List ℕ) (x : Component) → u ≡ rest s 0 0
     → values u ≡ values w ++ value_of x ∷ [] → ((name : UnixStr) → x ≡ Normal name → ⊥)
     → None ≡ file_name_of (values s)
-file_name_of-other s u w x e last differs =
-    name_of-other x differs ∙ file_name_of-push s u w (value_of x) e last
+file_name_of-other {u} s w x whole last differs =
+    name_of-other x differs ∙ file_name_of-push s u w (value_of x) whole last
 
 -- components are ordered as their values
 pub cmp-values : (x y : Component)

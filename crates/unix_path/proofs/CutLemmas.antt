@@ -6,7 +6,7 @@ use Rattle.std.specs.Str.{bytes_eq}
 use Rattle.std.proofs.lemmas.List.Splits.{slice_split-cons_yes, slice_split-cons_no}
 use Rattle.std.proofs.lemmas.List.Splits.{length-slice_split}
 use Rattle.unix_path.proofs.CaseLemmas.{by_test}
-use Rattle.unix_path.proofs.PieceLemmas.{first_inner_part, first_piece, slice_split-first}
+use Rattle.unix_path.proofs.PieceLemmas.{parts_of_piece, first_piece, slice_split-first}
 use Rattle.unix_path.specs.Parts.{CurDir, RootDir, inner_parts, cur_dir, is_slash, leading_part}
 use Rattle.unix_path.specs.Parts.{parts_of_pieces}
 
@@ -22,10 +22,10 @@ parts_of_pieces-append at [] qs =
     ap (λ n. parts_of_pieces n qs) {x = at} {y = at + 0} (omega arith)
 parts_of_pieces-append at (p ∷ ps) qs =
     let next = at + length p + 1 in
-    ap (λ r. first_inner_part at p ++ r) (parts_of_pieces-append next ps qs
+    ap (λ r. parts_of_piece at p ++ r) (parts_of_pieces-append next ps qs
     ∙ ap (λ n. parts_of_pieces next ps ++ parts_of_pieces n qs) {x = next + width ps}
     {y = at + (length p + 1 + width ps)} (omega arith))
-    ∙ sym (append_assoc (first_inner_part at p) _ _)
+    ∙ sym (append_assoc (parts_of_piece at p) _ _)
 
 width-onto_first : (x : ℕ) (ps : List (List ℕ)) → 0 < length ps
     → width (onto_first x ps) ≡ 1 + width ps
@@ -54,7 +54,7 @@ onto_first-append : (x : ℕ) (ps qs : List (List ℕ)) → 0 < length ps
 onto_first-append x [] qs l = absurd (omega arith)
 onto_first-append x (p ∷ ps) qs l = refl
 
-pub slice_split-append : (x y : List ℕ)
+slice_split-append : (x y : List ℕ)
     → slice_split is_slash (x ++ 47 ∷ y) ≡ slice_split is_slash x ++ slice_split is_slash y
 slice_split-append [] y = refl
 slice_split-append (b ∷ x) y = by_test (eqb b 47)

@@ -8,7 +8,8 @@ use Rattle.std.specs.Str.{bytes_eq}
 use Rattle.std.proofs.lemmas.Bool.{or_cases, or_parts, and_parts}
 use Rattle.unix_path.proofs.CaseLemmas.{by_test, take-suc_cons}
 use Rattle.unix_path.proofs.PartLemmas.{leading_part-name, nonempty_first_piece}
-use Rattle.unix_path.proofs.PieceLemmas.{inner_parts-dot, inner_parts-dot_slash, inner_parts-first, inner_parts-nil}
+use Rattle.unix_path.proofs.PieceLemmas.{inner_parts-dot, inner_parts-dot_slash, inner_parts-first}
+use Rattle.unix_path.proofs.PieceLemmas.{inner_parts-nil}
 use Rattle.unix_path.proofs.PieceLemmas.{inner_parts-slash, first_piece, position_or_len-other}
 use Rattle.unix_path.proofs.PieceLemmas.{position_or_len-slash}
 use Rattle.unix_path.specs.Parts.{CurDir, inner_parts, cur_dir, is_slash, leading_part, parts}
@@ -26,10 +27,11 @@ idle_from b s e =
 inner_parts-dot_cut : (at : ℕ) (s : List ℕ) → get_or s 0 47 ≡ 47
     → inner_parts at (46 ∷ s) ≡ inner_parts (at + 1) s
 inner_parts-dot_cut at [] e = inner_parts-dot at ∙ sym (inner_parts-nil (at + 1))
-inner_parts-dot_cut at (b ∷ s) e = ap (λ b. inner_parts at (46 ∷ b ∷ s)) e ∙ inner_parts-dot_slash at s
+inner_parts-dot_cut at (b ∷ s) e = ap (λ b. inner_parts at (46 ∷ b ∷ s)) e
+    ∙ inner_parts-dot_slash at s
     ∙ sym (ap (λ b. inner_parts (at + 1) (b ∷ s)) e)
 
-pub inner_parts_idle : (at : ℕ) (s : List ℕ) → 0 < length s → is_idle s 0 ≡ true
+inner_parts_idle : (at : ℕ) (s : List ℕ) → 0 < length s → is_idle s 0 ≡ true
     → inner_parts at s ≡ inner_parts (at + 1) (drop 1 s)
 inner_parts_idle at [] l e = absurd (omega arith)
 inner_parts_idle at (b ∷ s) l e =
@@ -103,7 +105,8 @@ skips_idle (b ∷ s) = by_test (is_idle (b ∷ s) 0)
       len = suc next.len;
       in_range = omega (arith, next.in_range);
       same = λ at. inner_parts_idle at (b ∷ s) (omega arith) e ∙ next.same (at + 1)
-          ∙ ap (λ n. inner_parts n (drop next.len s)) {x = at + 1 + next.len} {y = at + suc next.len}
+          ∙ ap (λ n. inner_parts n (drop next.len s)) {x = at + 1 + next.len}
+          {y = at + suc next.len}
           (omega arith);
       busy = next.busy;
     })

@@ -12,7 +12,8 @@ use Rattle.unix_path.proofs.CaseLemmas.{by_test}
 use Rattle.unix_path.proofs.CutLemmas.{inner_parts-append}
 use Rattle.unix_path.proofs.IdleLemmas.{parts-busy}
 use Rattle.unix_path.proofs.PartLemmas.{parts-name, parts-root}
-use Rattle.unix_path.proofs.PieceLemmas.{inner_parts-first, inner_parts-nil, first_inner_part, first_piece}
+use Rattle.unix_path.proofs.PieceLemmas.{inner_parts-first, inner_parts-nil, parts_of_piece}
+use Rattle.unix_path.proofs.PieceLemmas.{first_piece}
 use Rattle.unix_path.proofs.PieceLemmas.{position_or_len-other, position_or_len-slash}
 use Rattle.unix_path.proofs.TrimLemmas.{leading_past_slash}
 use Rattle.unix_path.specs.Parts.{RootDir, inner_parts, cur_dir, is_slash, leading_part, parts}
@@ -38,14 +39,15 @@ whole_first s e = (
 )
 
 -- a string that is one piece, which counts
-inner_parts_one : (at : ℕ) (y : List ℕ) → position_or_len is_slash y ≡ length y → bytes_eq y [] ≡ false
+inner_parts_one : (at : ℕ) (y : List ℕ) → position_or_len is_slash y ≡ length y
+    → bytes_eq y [] ≡ false
     → bytes_eq y cur_dir ≡ false
     → inner_parts at y ≡ record { start = at; end = at + length y; value = value_of_piece y } ∷ []
 inner_parts_one at y e some no_dot =
     let whole = whole_first y e in
     inner_parts-first at y ∙ ap₂
-    (λ p r. first_inner_part at p ++ inner_parts (at + position_or_len is_slash y) r) whole.0 whole.1
-    ∙ ap (λ ps. first_inner_part at y ++ ps) (inner_parts-nil _) ∙ append-nil (first_inner_part at y)
+    (λ p r. parts_of_piece at p ++ inner_parts (at + position_or_len is_slash y) r) whole.0 whole.1
+    ∙ ap (λ ps. parts_of_piece at y ++ ps) (inner_parts-nil _) ∙ append-nil (parts_of_piece at y)
     ∙ rw (some, no_dot) refl
 
 -- the last part, where a slash stands before it
@@ -59,7 +61,7 @@ last_after_slash s start h some named no_dot =
     let y = drop start s in
     let l = h.in_range in
     let is = split_last s start h some in
-    let front : take start s ≡ x ++ 47 ∷ [] =
+    let before : take start s ≡ x ++ 47 ∷ [] =
     ap (λ k. take k s) {x = start} {y = start - 1 + 1} (omega arith)
     ∙ take_more s (start - 1) 0 (omega arith) ∙ ap (λ b. x ++ b ∷ []) (h.after_slash some) in
     let n : length x ≡ start - 1 = length-take-le (start - 1) s (omega arith) in
@@ -74,7 +76,7 @@ last_after_slash s start h some named no_dot =
     (inner_parts-append 0 x y ∙ ap (λ ps. inner_parts 0 x ++ ps) one)
     ∙ sym (append_assoc (leading_part (x ++ 47 ∷ [])) (inner_parts 0 x) _)
     ∙ ap (λ l. l ++ record { start = start; end = length s; value = value_of_piece y } ∷ [])
-    (sym (ap parts front ∙ ap (λ ps. leading_part (x ++ 47 ∷ []) ++ ps)
+    (sym (ap parts before ∙ ap (λ ps. leading_part (x ++ 47 ∷ []) ++ ps)
     (inner_parts-append 0 x [] ∙ ap (λ ps. inner_parts 0 x ++ ps) (inner_parts-nil _)
     ∙ append-nil (inner_parts 0 x))))
 

@@ -3,8 +3,9 @@ use Rattle.std.proofs.Common.{◌≡◌, ℕ, ◌+◌, ◌-◌, ◌≤◌, ltb, 
 use Rattle.std.proofs.Common.{ap, ap₂, ◌∙◌, arith, take_all, length-drop, drop-drop, ltb-true}
 use Rattle.std.proofs.Common.{ltb-false, length-take-le}
 use Rattle.std.proofs.lemmas.List.{drop_all, drop-map, take-map, drop-take, length-map, length-take}
-use Rattle.unix_path.proofs.CaseLemmas.{by_test, take-take, take-take-of}
-use Rattle.unix_path.proofs.PlaceLemmas.{moved}
+use Rattle.std.proofs.lemmas.List.{take-take}
+use Rattle.unix_path.proofs.CaseLemmas.{by_test}
+use Rattle.unix_path.proofs.PlaceLemmas.{part_at}
 use Rattle.unix_path.proofs.SpanLemmas.{StandsAt, span_at}
 use Rattle.unix_path.proofs.SplitLemmas.{drops_to, takes_to}
 use Rattle.unix_path.proofs.TrimLemmas.{EndsInPart-drop, EndsInPart-take, trims_to}
@@ -37,7 +38,7 @@ pub record Middle (s : List ℕ) (k m : ℕ) : Type 0 where
   pub at : ℕ
   pub left : List ℕ
   pub stands : StandsAt s at left
-  pub is : middle k m (parts s) ≡ map (moved at) (parts left)
+  pub is : middle k m (parts s) ≡ map (part_at at) (parts left)
   pub ends : EndsInPart left
 
 unfoldable pub middle_of : (s : List ℕ) (k m : ℕ) → Middle s k m
@@ -60,8 +61,8 @@ middle_of s k m =
     let from : u ≡ take (n - i) (drop i s) =
     ap (λ k. drop i (take k s)) {x = n} {y = i + (n - i)} (omega arith)
     ∙ drop-take i (n - i) s in
-    let after : drop k (parts s) ≡ map (moved i) (parts u) = ap (drop k) (sym all) ∙ dropped.is in
-    let count : length (parts u) ≡ length (parts s) - k = sym (length-map (parts u) (moved i))
+    let after : drop k (parts s) ≡ map (part_at i) (parts u) = ap (drop k) (sym all) ∙ dropped.is in
+    let count : length (parts u) ≡ length (parts s) - k = sym (length-map (parts u) (part_at i))
     ∙ ap length (sym after) ∙ length-drop k (parts s) in
     let fewer : length (parts s) - (k + m) ≡ length (parts u) - m = omega arith in
     record {
@@ -70,8 +71,8 @@ middle_of s k m =
       stands = ap (λ k. take k (drop i s)) size_w
           ∙ sym (take-take taken.len (n - i) (drop i s) (omega arith))
           ∙ ap (take taken.len) (sym from);
-      is = ap₂ take fewer after ∙ take-map (moved i) (length (parts u) - m) (parts u)
-          ∙ ap (map (moved i)) taken.is;
+      is = ap₂ take fewer after ∙ take-map (part_at i) (length (parts u) - m) (parts u)
+          ∙ ap (map (part_at i)) taken.is;
       ends = taken.ends;
     }
 
@@ -99,7 +100,7 @@ middle-middle k m i j xs =
     ap (λ x. drop i (take x ys)) {x = n - (k + m)} {y = i + b} (omega arith)
     ∙ drop-take i b ys in
     let count : length (take (n - (k + m)) ys) - (i + j) ≡ n - (k + i + (m + j)) = omega arith in
-    ap₂ take count from ∙ take-take-of (n - (k + i + (m + j))) b (drop i ys) (omega arith)
+    ap₂ take count from ∙ take-take (n - (k + i + (m + j))) b (drop i ys) (omega arith)
     ∙ ap (take (n - (k + i + (m + j)))) (drop-drop i k xs))
     (λ e.
     let l = ltb-false _ _ e in

@@ -19,8 +19,8 @@ pub values-whole : (s u : List ℕ) → u ≡ rest s 0 0 → values u ≡ values
 values-whole s u e = ap values e ∙ values-rest s 0 0
     ∙ take_all (length (values s) - (0 + 0)) (values s) (omega arith)
 
-pub rest-whole_last : (s u w : List ℕ) → u ≡ rest s 0 0 → w ≡ rest u 0 1 → w ≡ rest s 0 1
-rest-whole_last s u w e r = r ∙ ap (λ u. rest u 0 1) e ∙ rest-rest s 0 0 0 1
+pub rest-whole_last : {u w : List ℕ} (s : List ℕ) → u ≡ rest s 0 0 → w ≡ rest u 0 1 → w ≡ rest s 0 1
+rest-whole_last s e r = r ∙ ap (λ u. rest u 0 1) e ∙ rest-rest s 0 0 0 1
 
 -- the values of s, by those of its fresh walk
 values-by_whole : (s u : List ℕ) (vs : List Value) → u ≡ rest s 0 0 → values u ≡ vs → values s ≡ vs
@@ -43,24 +43,25 @@ parent_of-some s parent e = by (eqb (depth_of s) 0) e
     by true h = absurd (none-some parent h)
     by false h = sym (same_Some (rest s 0 1) parent h)
 
-pub parent_of-none : (s u : List ℕ) → u ≡ rest s 0 0 → values u ≡ [] → None ≡ parent_of s
-parent_of-none s u e is = sym (parent_of-alone s (depth_of-none s (values-by_whole s u [] e is)))
-
-pub parent_of-root : (s u w : List ℕ) → u ≡ rest s 0 0 → values u ≡ values w ++ RootDir ∷ []
+pub parent_of-none : {u : List ℕ} (s : List ℕ) → u ≡ rest s 0 0 → values u ≡ []
     → None ≡ parent_of s
-parent_of-root s u w e is =
+parent_of-none {u} s e is = sym (parent_of-alone s (depth_of-none s (values-by_whole s u [] e is)))
+
+pub parent_of-root : {u : List ℕ} (s w : List ℕ) → u ≡ rest s 0 0
+    → values u ≡ values w ++ RootDir ∷ [] → None ≡ parent_of s
+parent_of-root {u} s w e is =
     sym (parent_of-alone s (depth_of-root s (values w) (values-by_whole s u _ e is)))
 
-pub parent_of-push : (s u w : List ℕ) (v : Value) → u ≡ rest s 0 0
+pub parent_of-push : {u w : List ℕ} (s : List ℕ) (v : Value) → u ≡ rest s 0 0
     → values u ≡ values w ++ v ∷ [] → w ≡ rest u 0 1 → (v ≡ RootDir → ⊥) → Some w ≡ parent_of s
-parent_of-push s u w v e is r differs =
-    ap Some (rest-whole_last s u w e r)
+parent_of-push {u} {w} s v e is r differs =
+    ap Some (rest-whole_last s e r)
     ∙ sym (parent_of-deep s _ (depth_of-push s (values w) v (values-by_whole s u _ e is) differs))
 
-pub file_name_of-none : (s u : List ℕ) → u ≡ rest s 0 0 → values u ≡ []
+pub file_name_of-none : {u : List ℕ} (s : List ℕ) → u ≡ rest s 0 0 → values u ≡ []
     → None ≡ file_name_of (values s)
 unfolding file_name_of
-file_name_of-none s u e is = sym (ap file_name_of (values-by_whole s u [] e is))
+file_name_of-none {u} s e is = sym (ap file_name_of (values-by_whole s u [] e is))
 
 pub file_name_of-last : (vs : List Value) (v : Value) → file_name_of (vs ++ v ∷ []) ≡ name_of v
 unfolding file_name_of

@@ -7,7 +7,8 @@ use Rattle.std.specs.Str.{bytes_eq}
 use Rattle.std.proofs.lemmas.Slice.Eq.{bytes_eq-Decides}
 use Rattle.std.proofs.lemmas.List.{drop_all}
 use Rattle.unix_path.proofs.CaseLemmas.{by_test, take-suc_cons}
-use Rattle.unix_path.proofs.PieceLemmas.{inner_parts-first, inner_parts-slash, first_inner_part, first_piece}
+use Rattle.unix_path.proofs.PieceLemmas.{inner_parts-first, inner_parts-slash, parts_of_piece}
+use Rattle.unix_path.proofs.PieceLemmas.{first_piece}
 use Rattle.unix_path.proofs.PieceLemmas.{length-first_piece, position_or_len-other}
 use Rattle.unix_path.specs.Parts.{Value, parent_dir, is_rooted, CurDir, Part}
 use Rattle.unix_path.specs.Parts.{RootDir, inner_parts, cur_dir, is_slash}
@@ -15,7 +16,7 @@ use Rattle.unix_path.specs.Parts.{leading_part, parts, value_of_piece, values}
 use Rattle.unix_path.specs.Rest.{rest, span_of}
 use Rattle.unix_path.specs.Steps.{first_value}
 
-abbrev pub root : Part
+abbrev root : Part
 root = record { start = 0; end = 1; value = RootDir }
 
 -- a string that begins with a slash
@@ -57,9 +58,10 @@ parts-name s l e =
     let p = first_piece s in
     let tail = inner_parts n (drop n s) in
     let all : parts s ≡ cond (bytes_eq p cur_dir)
-    (record { start = 0; end = 1; value = CurDir } ∷ []) [] ++ (first_inner_part 0 p ++ tail) =
+    (record { start = 0; end = 1; value = CurDir } ∷ []) [] ++ (parts_of_piece 0 p ++ tail) =
     ap₂ ◌++◌ (leading_part-name s e)
-    (inner_parts-first 0 s ∙ ap (λ k. first_inner_part 0 p ++ inner_parts k (drop n s)) (zero-add n)) in
+    (inner_parts-first 0 s
+    ∙ ap (λ k. parts_of_piece 0 p ++ inner_parts k (drop n s)) (zero-add n)) in
     let some = nonempty_first_piece s l e in
     by_test (bytes_eq p cur_dir)
     (λ dot. all ∙ rw (some, dot)

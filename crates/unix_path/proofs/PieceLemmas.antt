@@ -24,7 +24,8 @@ pub inner_parts-dot : (at : ℕ) → inner_parts at (46 ∷ []) ≡ []
 unfolding inner_parts
 inner_parts-dot at = refl
 
-pub inner_parts-dot_slash : (at : ℕ) (s : List ℕ) → inner_parts at (46 ∷ 47 ∷ s) ≡ inner_parts (at + 1) (47 ∷ s)
+pub inner_parts-dot_slash : (at : ℕ) (s : List ℕ)
+    → inner_parts at (46 ∷ 47 ∷ s) ≡ inner_parts (at + 1) (47 ∷ s)
 unfolding inner_parts
 inner_parts-dot_slash at s =
     ap (λ n. parts_of_pieces n (slice_split is_slash s)) {x = at + 1 + 1}
@@ -81,24 +82,26 @@ length-first_piece (x ∷ xs) = by_test (eqb x 47)
     ∙ omega (arith, length-first_piece xs, position_or_len-other x xs e))
 
 -- the first piece, read alone
-abbrev pub first_inner_part : ℕ → List ℕ → List Part
-first_inner_part at p = cond (counts p)
+abbrev pub parts_of_piece : ℕ → List ℕ → List Part
+parts_of_piece at p = cond (counts p)
     (record { start = at; end = at + length p; value = value_of_piece p } ∷ []) []
 
 inner_parts-after_cut : (at : ℕ) (s : List ℕ) → IsCut s
     → parts_of_pieces (at + 1) (after_cut s) ≡ inner_parts at s
 unfolding inner_parts
 inner_parts-after_cut at [] h = refl
-inner_parts-after_cut at (b ∷ s) h = sym (ap (λ b. inner_parts at (b ∷ s)) h ∙ inner_parts-slash at s)
+inner_parts-after_cut at (b ∷ s) h =
+    sym (ap (λ b. inner_parts at (b ∷ s)) h ∙ inner_parts-slash at s)
 
 pub inner_parts-first : (at : ℕ) (s : List ℕ)
-    → inner_parts at s ≡ first_inner_part at (first_piece s) ++ inner_parts (at + position_or_len is_slash s)
+    → inner_parts at s
+    ≡ parts_of_piece at (first_piece s) ++ inner_parts (at + position_or_len is_slash s)
     (drop (position_or_len is_slash s) s)
 unfolding inner_parts
 inner_parts-first at s =
     let n = position_or_len is_slash s in
     ap (parts_of_pieces at) (slice_split-first s)
-    ∙ ap (λ k. first_inner_part at (first_piece s) ++ parts_of_pieces (at + k + 1)
+    ∙ ap (λ k. parts_of_piece at (first_piece s) ++ parts_of_pieces (at + k + 1)
     (after_cut (drop n s))) (length-first_piece s)
-    ∙ ap (λ ps. first_inner_part at (first_piece s) ++ ps)
+    ∙ ap (λ ps. parts_of_piece at (first_piece s) ++ ps)
     (inner_parts-after_cut (at + n) (drop n s) (IsCut-drop s))

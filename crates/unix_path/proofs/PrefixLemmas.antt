@@ -14,9 +14,9 @@ pub record StripsOn (s base u : List ℕ) (left : List Value) : Type 0 where
   pub onward : Begins left (values u) → Begins (values base) (values s)
   pub back : Begins (values base) (values s) → Begins left (values u)
 
-pub strips_start : (s base u b : List ℕ) → u ≡ rest s 0 0 → b ≡ rest base 0 0
+pub strips_start : {s base u b : List ℕ} → u ≡ rest s 0 0 → b ≡ rest base 0 0
     → StripsOn s base u (values b)
-strips_start s base u b e f =
+strips_start {s} {base} {u} {b} e f =
     let wanted : values b ≡ values base = values-whole base b f in
     let whole : values u ≡ values s = values-whole s u e in
     record {
@@ -36,10 +36,10 @@ begins_tail x y v w h =
 begins_more : (x : Value) (v w : List Value) → Begins v w → Begins (x ∷ v) (x ∷ w)
 begins_more x v w h = (h.0, ap (λ z. x ∷ z) h.1)
 
-pub strips_step : (s base u t : List ℕ) (x y : Value) (left more : List Value)
+pub strips_step : {s base u t : List ℕ} {x y : Value} {left more : List Value}
     → StripsOn s base u left → left ≡ x ∷ more → values u ≡ y ∷ values t → t ≡ rest u 1 0
     → y ≡ x → StripsOn s base t more
-strips_step s base u t x y left more h l e r same =
+strips_step {s} {base} {u} {t} {x} {y} {left} {more} h l e r same =
     let first : values u ≡ x ∷ values t = e ∙ ap (λ v. v ∷ values t) same in
     let size = ap length l in
     let counts = h.counts in
@@ -53,27 +53,12 @@ strips_step s base u t x y left more h l e r same =
           (subst (λ l. Begins l (values u)) l (h.back b)))).1;
     }
 
-pub strips_end : (s base u : List ℕ) (left : List Value) → StripsOn s base u left → left ≡ []
+pub strips_end : {s base u : List ℕ} {left : List Value} → StripsOn s base u left → left ≡ []
     → Begins (values base) (values s) × (u ≡ stripped_of s base)
-strips_end s base u left h l =
+strips_end {s} {base} {u} h l =
     let size = ap length l in
     let counts = h.counts in
     let whole : h.count ≡ length (values base) = omega arith in (
       h.onward (values u, ap (λ l. l ++ values u) l),
       h.rest_is ∙ ap (λ k. rest s k 0) whole,
     )
-
-pub strips_short : (s base u : List ℕ) (x : Value) (left more : List Value)
-    → StripsOn s base u left → left ≡ x ∷ more → values u ≡ [] → Begins (values base) (values s) → ⊥
-strips_short s base u x left more h l e b =
-    let k = h.back b in
-    let none : x ∷ (more ++ k.0) ≡ [] = sym (ap (λ l. l ++ k.0) l) ∙ k.1 ∙ e in
-    cc
-
-pub strips_differs : (s base u t : List ℕ) (x y : Value) (left more : List Value)
-    → StripsOn s base u left → left ≡ x ∷ more → values u ≡ y ∷ values t → (y ≡ x → ⊥)
-    → Begins (values base) (values s) → ⊥
-strips_differs s base u t x y left more h l e differs b =
-    let k = h.back b in
-    let both : x ∷ (more ++ k.0) ≡ y ∷ values t = sym (ap (λ l. l ++ k.0) l) ∙ k.1 ∙ e in
-    differs (cc)

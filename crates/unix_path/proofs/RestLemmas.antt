@@ -1,12 +1,12 @@
 -- What a rest leaves, and what is left of that.
 use Rattle.std.proofs.Common.{◌≡◌, ℕ, zero, suc, ◌+◌, ◌-◌, ◌≤◌, ltb, List, [], length, take, drop}
 use Rattle.std.proofs.Common.{map, refl, sym, ap, ◌∙◌, arith, length-drop, ltb-true, ltb-false}
-use Rattle.std.proofs.lemmas.List.{length-map}
-use Rattle.unix_path.proofs.CaseLemmas.{by_test, is_nil}
+use Rattle.std.proofs.lemmas.List.{length-map, nil_from_length}
+use Rattle.unix_path.proofs.CaseLemmas.{by_test}
 use Rattle.unix_path.proofs.MiddleLemmas.{Middle, map-middle, middle, middle-middle, middle_of}
 use Rattle.unix_path.proofs.MiddleLemmas.{rest-middle, stands_in}
 use Rattle.unix_path.proofs.PartLemmas.{parts-nil}
-use Rattle.unix_path.proofs.PlaceLemmas.{moved, moved-moved, values_moved}
+use Rattle.unix_path.proofs.PlaceLemmas.{part_at, part_at-part_at, values-part_at}
 use Rattle.unix_path.proofs.SplitLemmas.{drops_to, splits_first}
 use Rattle.unix_path.specs.Parts.{parts, values}
 use Rattle.unix_path.specs.Rest.{rest, span_of}
@@ -17,7 +17,7 @@ unfolding values
 values-rest s k m =
     let h = middle_of s k m in
     ap (λ w. map (λ p. p.value) (parts w)) (rest-middle s k m h)
-    ∙ sym (values_moved h.at (parts h.left)) ∙ ap (map (λ p. p.value)) (sym h.is)
+    ∙ sym (values-part_at h.at (parts h.left)) ∙ ap (map (λ p. p.value)) (sym h.is)
     ∙ sym (map-middle (λ p. p.value) k m (parts s))
 
 -- what is left of what is left
@@ -32,8 +32,8 @@ rest-rest s k m i j =
       left = v;
       stands = stands_in s w v h.at g.at h.stands g.stands;
       is = sym (middle-middle k m i j (parts s)) ∙ ap (middle i j) h.is
-          ∙ map-middle (moved h.at) i j (parts w) ∙ ap (map (moved h.at)) g.is
-          ∙ moved-moved h.at g.at (parts v);
+          ∙ map-middle (part_at h.at) i j (parts w) ∙ ap (map (part_at h.at)) g.is
+          ∙ part_at-part_at h.at g.at (parts v);
       ends = g.ends;
     } in
     ap (λ w. rest w i j) (rest-middle s k m h) ∙ rest-middle w i j g
@@ -49,7 +49,8 @@ rest-none s k m l =
 
 -- no more parts than bytes
 few_parts : (n : ℕ) (t : List ℕ) → length t ≤ n → length (parts t) ≤ length t
-few_parts zero t l = omega (arith, ap length (ap parts (is_nil t (omega arith)) ∙ parts-nil))
+few_parts zero t l =
+    omega (arith, ap length (ap parts (nil_from_length t (omega arith)) ∙ parts-nil))
 few_parts (suc n) t l = by_test (ltb 0 (length t))
     (λ e.
     let first = splits_first t (ltb-true _ _ e) in
@@ -59,7 +60,7 @@ few_parts (suc n) t l = by_test (ltb 0 (length t))
     omega (
       arith,
       ap length first.is,
-      length-map (parts u) (moved first.len),
+      length-map (parts u) (part_at first.len),
       few_parts n u
           (omega (arith, first.in_range)),
       first.in_range,
@@ -67,7 +68,7 @@ few_parts (suc n) t l = by_test (ltb 0 (length t))
     (λ e. omega (
       arith,
       ap length
-          (ap parts (is_nil t (omega (arith, ltb-false _ _ e))) ∙ parts-nil),
+          (ap parts (nil_from_length t (omega (arith, ltb-false _ _ e))) ∙ parts-nil),
     ))
 
 pub length-values : (s : List ℕ) → length (values s) ≤ length s
@@ -75,14 +76,15 @@ unfolding values
 length-values s = omega
     (arith, length-map (parts s) (λ p. p.value), few_parts (length s) s (omega arith))
 
-front_at : (s : List ℕ) (m : ℕ) → (middle_of s 0 m).at ≡ 0
+middle_of-at : (s : List ℕ) (m : ℕ) → (middle_of s 0 m).at ≡ 0
 unfolding middle_of drops_to
-front_at s m = refl
+middle_of-at s m = refl
 
--- with nothing taken in front, what is left is a front of s
-pub rest-front : (s : List ℕ) (m : ℕ) → take (length (rest s 0 m)) s ≡ rest s 0 m
-rest-front s m =
+-- with nothing taken in front, what is left begins s
+pub take-rest : (s : List ℕ) (m : ℕ) → take (length (rest s 0 m)) s ≡ rest s 0 m
+take-rest s m =
     let h = middle_of s 0 m in
     let is = rest-middle s 0 m h in
-    ap (λ w. take (length w) s) is ∙ ap (λ i. take (length h.left) (drop i s)) (sym (front_at s m))
+    ap (λ w. take (length w) s) is
+    ∙ ap (λ i. take (length h.left) (drop i s)) (sym (middle_of-at s m))
     ∙ h.stands ∙ sym is

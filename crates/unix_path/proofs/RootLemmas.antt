@@ -4,12 +4,13 @@ use Rattle.std.proofs.Common.{◌++◌, length, get_or, drop, map, cond, refl, s
 use Rattle.std.proofs.Common.{arith, eqb-true, length-append, ltb-true, ltb-false}
 use Rattle.std.specs.List.{position_or_len, slice_split}
 use Rattle.std.specs.Str.{bytes_eq}
+use Rattle.std.proofs.lemmas.List.{nil_from_length}
 use Rattle.unix_path.specs.Parts.{Value, RootDir, is_slash}
-use Rattle.unix_path.specs.Parts.{cur_dir, parent_dir, counts, parts_of_pieces, value_of_piece}
+use Rattle.unix_path.specs.Parts.{parent_dir, counts, parts_of_pieces, value_of_piece}
 use Rattle.unix_path.specs.Parts.{inner_parts, values, is_rooted}
 use Rattle.unix_path.specs.Prefixes.{Begins}
 use Rattle.unix_path.specs.Steps.{first_value}
-use Rattle.unix_path.proofs.CaseLemmas.{by_test, is_nil}
+use Rattle.unix_path.proofs.CaseLemmas.{by_test}
 use Rattle.unix_path.proofs.PieceLemmas.{first_piece}
 use Rattle.unix_path.proofs.PartLemmas.{values-nil, parts-root, parts-name, root_first}
 use Rattle.unix_path.proofs.PartLemmas.{root_first-values}
@@ -29,7 +30,7 @@ no_root_pieces at (p ∷ ps) =
     let next = no_root_pieces (at + length p + 1) ps in
     by_test (counts p) (λ e. rw e (no_root_piece p, next)) (λ e. rw e next)
 
-pub no_root_inner : (at : ℕ) (s : List ℕ) → NoRoot (map (λ p. p.value) (inner_parts at s))
+no_root_inner : (at : ℕ) (s : List ℕ) → NoRoot (map (λ p. p.value) (inner_parts at s))
 unfolding inner_parts
 no_root_inner at s = no_root_pieces at (slice_split is_slash s)
 
@@ -57,10 +58,6 @@ begins_by_name s l e =
       is = ap (map (λ p. p.value)) (parts-name s l e);
       no_root = no_root_inner n (drop n s);
     }
-
-first_value-no_root : (p : List ℕ) → first_value p ≡ RootDir → ⊥
-first_value-no_root p =
-    by_test (bytes_eq p cur_dir) (λ e. rw e (λ h. cc)) (λ e. rw e (no_root_piece p))
 
 Begins-root : (vs : List Value) → root_first vs ≡ true → Begins (RootDir ∷ []) vs
 Begins-root [] e = absurd (let d : false ≡ true = e in cc)
@@ -105,6 +102,6 @@ root_last s vs e = by_test (ltb 0 (length s))
     alone (first_value (first_piece s)) RootDir h.more vs h.no_root (sym h.is ∙ e) refl))
     (λ none.
     let nil : values s ≡ [] =
-    ap values (is_nil s (omega (arith, ltb-false _ _ none))) ∙ values-nil in
+    ap values (nil_from_length s (omega (arith, ltb-false _ _ none))) ∙ values-nil in
     let size = ap length (sym nil ∙ e) in
     absurd (omega (arith, length-append vs (RootDir ∷ []))))

@@ -4,12 +4,12 @@ use Rattle.std.specs.Borrow.{Bor}
 use Rattle.unix_path.specs.Places.{LiesIn}
 
 pub LiesIn-itself : (slice : Bor (List ℕ)) → LiesIn slice slice
-LiesIn-itself slice = record { block = refl; front = omega arith; back = omega arith }
+LiesIn-itself slice = record { block = refl; start = omega arith; end = omega arith }
 
 pub LiesIn-trans : (part middle whole : Bor (List ℕ)) → LiesIn part middle → LiesIn middle whole
     → LiesIn part whole
 LiesIn-trans part middle whole h k = record {
   block = h.block ∙ k.block;
-  front = omega (arith, h.front, k.front);
-  back = omega (arith, h.back, k.back);
+  start = omega (arith, h.start, k.start);
+  end = omega (arith, h.end, k.end);
 }

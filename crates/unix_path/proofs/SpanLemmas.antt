@@ -2,12 +2,13 @@
 use Rattle.std.proofs.Common.{◌≡◌, ℕ, ◌+◌, ◌-◌, ◌≤◌, ◌<◌, eqb, ltb, List, [], ◌∷◌, ◌++◌, length}
 use Rattle.std.proofs.Common.{get_or, take, drop, map, refl, sym, ap, ap₂, ◌∙◌, arith, eqb-true}
 use Rattle.std.proofs.Common.{take_all, ltb-true, ltb-false, length-take-le}
-use Rattle.unix_path.proofs.CaseLemmas.{by_test, is_nil}
+use Rattle.std.proofs.lemmas.List.{nil_from_length}
+use Rattle.unix_path.proofs.CaseLemmas.{by_test}
 use Rattle.unix_path.proofs.IdleLemmas.{parts-busy}
 use Rattle.unix_path.proofs.LastLemmas.{last_part, last_start, root_alone}
 use Rattle.unix_path.proofs.PartLemmas.{parts-name, parts-nil, parts-root}
 use Rattle.unix_path.proofs.PieceLemmas.{inner_parts-nil}
-use Rattle.unix_path.proofs.PlaceLemmas.{last_end-moved, moved}
+use Rattle.unix_path.proofs.PlaceLemmas.{last_end-part_at, part_at}
 use Rattle.unix_path.proofs.TrimLemmas.{EndsInPart-take, trims_to}
 use Rattle.unix_path.specs.Parts.{Part, Value, inner_parts, parts}
 use Rattle.unix_path.specs.Rest.{last_end, rest, span_of}
@@ -17,7 +18,7 @@ last_end-append : (p : Part) (ps : List Part) (q : Part) → last_end p (ps ++ q
 last_end-append p [] q = refl
 last_end-append p (r ∷ ps) q = last_end-append r ps q
 
-parts_end-append : (ps : List Part) (q : Part) → parts_end (ps ++ q ∷ []) ≡ q.end
+pub parts_end-append : (ps : List Part) (q : Part) → parts_end (ps ++ q ∷ []) ≡ q.end
 parts_end-append [] q = refl
 parts_end-append (p ∷ ps) q = last_end-append p ps q
 
@@ -35,9 +36,9 @@ parts_end-whole s ends =
     let l : 0 < length s = ltb-true _ _ some in
     ap parts_end (root_alone s l ends
     (ap (λ k. get_or s (k - 1) 0) (sym here) ∙ at.1.after_slash (omega arith))))
-    (λ none. ap (λ s. parts_end (parts s)) (is_nil s (omega (arith, ltb-false _ _ none)))
+    (λ none. ap (λ s. parts_end (parts s)) (nil_from_length s (omega (arith, ltb-false _ _ none)))
     ∙ ap parts_end (parts-busy [] (λ l. absurd (omega arith)) ∙ inner_parts-nil 0)
-    ∙ ap length (sym (is_nil s (omega (arith, ltb-false _ _ none))))))
+    ∙ ap length (sym (nil_from_length s (omega (arith, ltb-false _ _ none))))))
 
 from_zero : (t : List ℕ) {all : List Part} {v : Value} {e : ℕ} {ps : List Part}
     → all ≡ record { start = 0; end = e; value = v } ∷ ps → span_of t all ≡ take (parts_end all) t
@@ -54,7 +55,8 @@ span-parts t s = by_test (ltb 0 (length s))
     (λ e. from_zero t (parts-root s (eqb-true _ 47 e)))
     (λ e. from_zero t (parts-name s (ltb-true _ _ some) e)))
     (λ none. let is : parts s ≡ [] = parts-busy s (λ l. absurd (omega (arith, ltb-false _ _ none)))
-    ∙ ap (inner_parts 0) (is_nil s (omega (arith, ltb-false _ _ none))) ∙ inner_parts-nil 0 in
+    ∙ ap (inner_parts 0) (nil_from_length s (omega (arith, ltb-false _ _ none)))
+    ∙ inner_parts-nil 0 in
     ap (span_of t) is ∙ ap (λ ps. take (parts_end ps) t) (sym is))
 
 pub rest-whole : (s : List ℕ) → rest s 0 0 ≡ take (parts_end (parts s)) s
@@ -62,7 +64,7 @@ unfolding rest
 rest-whole s = ap (span_of s) (take_all (length (parts s) - (0 + 0)) (parts s) (omega arith))
     ∙ span-parts s s
 
--- a string, trimmed at its end, is its rest
+-- a string, trims_end at its end, is its rest
 pub rest-trimmed : (s : List ℕ) (n : ℕ) → n ≤ length s → parts (take n s) ≡ parts s
     → EndsInPart (take n s) → rest s 0 0 ≡ take n s
 rest-trimmed s n l same ends = rest-whole s
@@ -74,15 +76,15 @@ abbrev pub StandsAt : List ℕ → ℕ → List ℕ → Type 0
 StandsAt s at w = take (length w) (drop at s) ≡ w
 
 -- the first part of a string begins at its first byte
-span_moved : (s : List ℕ) (at : ℕ) (ps : List Part) (w : List ℕ)
+span_of-part_at : (s : List ℕ) (at : ℕ) (ps : List Part) (w : List ℕ)
     → span_of w ps ≡ take (parts_end ps) w → parts_end ps ≡ length w → StandsAt s at w
     → (ps ≡ [] → w ≡ []) → ((p : Part) (qs : List Part) → ps ≡ p ∷ qs → p.start ≡ 0)
-    → span_of s (map (moved at) ps) ≡ w
-span_moved s at [] w span end stands none first = sym (none refl)
-span_moved s at (p ∷ ps) w span end stands none first =
+    → span_of s (map (part_at at) ps) ≡ w
+span_of-part_at s at [] w span end stands none first = sym (none refl)
+span_of-part_at s at (p ∷ ps) w span end stands none first =
     let start : p.start + at ≡ at = omega (arith, first p ps refl) in
-    let size : last_end (moved at p) (map (moved at) ps) - (p.start + at) ≡ length w =
-    omega (arith, last_end-moved at p ps, first p ps refl) in
+    let size : last_end (part_at at p) (map (part_at at) ps) - (p.start + at) ≡ length w =
+    omega (arith, last_end-part_at at p ps, first p ps refl) in
     ap₂ (λ n i. take n (drop i s)) size start ∙ stands
 
 first_start : (s : List ℕ) (p : Part) (qs : List Part) → parts s ≡ p ∷ qs → p.start ≡ 0
@@ -90,18 +92,19 @@ first_start s p qs e = by_test (ltb 0 (length s))
     (λ some. by_test (eqb (get_or s 0 0) 47)
     (λ slash. let h = sym e ∙ parts-root s (eqb-true _ 47 slash) in start_of h)
     (λ no. let h = sym e ∙ parts-name s (ltb-true _ _ some) no in start_of h))
-    (λ none. let nil : parts s ≡ [] = ap parts (is_nil s (omega (arith, ltb-false _ _ none)))
+    (λ none. let nil : parts s ≡ [] =
+    ap parts (nil_from_length s (omega (arith, ltb-false _ _ none)))
     ∙ parts-nil in absurd (let h = sym nil ∙ e in cc))
   where
     start_of : {p q : Part} {ps qs : List Part} → p ∷ ps ≡ q ∷ qs → p.start ≡ q.start
     start_of h = cc
 
 pub span_at : (s w : List ℕ) (at : ℕ) → StandsAt s at w → EndsInPart w
-    → span_of s (map (moved at) (parts w)) ≡ w
+    → span_of s (map (part_at at) (parts w)) ≡ w
 span_at s w at stands ends =
     let end = parts_end-whole w ends in
-    span_moved s at (parts w) w (span-parts w w) end stands
-    (λ none. is_nil w (sym end ∙ ap parts_end none)) (first_start w)
+    span_of-part_at s at (parts w) w (span-parts w w) end stands
+    (λ none. nil_from_length w (sym end ∙ ap parts_end none)) (first_start w)
 
 -- a fresh cursor's rest ends where the last part ends
 pub length-rest_whole : (s : List ℕ) → length (rest s 0 0) ≡ parts_end (parts s)
@@ -115,14 +118,14 @@ length-rest_whole s =
     ∙ ap parts_end all
 
 -- without what doesn't count at its end
-pub record Trimmed (s : List ℕ) : Type 0 where
+pub record TrimsEnd (s : List ℕ) : Type 0 where
   pub len : ℕ
   pub in_range : len ≤ length s
   pub same : parts (take len s) ≡ parts s
   pub ends : EndsInPart (take len s)
 
-pub trimmed : (s : List ℕ) → Trimmed s
-trimmed s =
+pub trims_end : (s : List ℕ) → TrimsEnd s
+trims_end s =
     let trim = trims_to s (length s) (omega arith) in
     record {
       len = trim.len;

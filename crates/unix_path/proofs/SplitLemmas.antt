@@ -4,13 +4,14 @@ use Rattle.std.proofs.Common.{◌++◌, length, get_or, take, drop, map, sym, ap
 use Rattle.std.proofs.Common.{eqb-true, take_all, length-drop, drop-drop, ltb-true, ltb-false}
 use Rattle.std.proofs.Common.{length-append, length-take-le}
 use Rattle.std.specs.List.{position_or_len}
-use Rattle.std.proofs.lemmas.List.{take-append-le, drop-map, length-take}
-use Rattle.unix_path.proofs.CaseLemmas.{by_test, is_nil, take-take}
+use Rattle.std.proofs.lemmas.List.{take-append-le, drop-map, length-take, nil_from_length}
+use Rattle.std.proofs.lemmas.List.{take-take}
+use Rattle.unix_path.proofs.CaseLemmas.{by_test}
 use Rattle.unix_path.proofs.IdleLemmas.{parts-busy, skips_idle}
 use Rattle.unix_path.proofs.LastLemmas.{last_part, last_start, root_alone}
 use Rattle.unix_path.proofs.PartLemmas.{parts-name, parts-nil, parts-root}
 use Rattle.unix_path.proofs.PieceLemmas.{length-first_piece, position_or_len-other}
-use Rattle.unix_path.proofs.PlaceLemmas.{inner_parts-moved, moved, moved-moved, moved-zero}
+use Rattle.unix_path.proofs.PlaceLemmas.{inner_parts-add, part_at, part_at-part_at, part_at-zero}
 use Rattle.unix_path.proofs.TrimLemmas.{EndsInPart-take, trims_to}
 use Rattle.unix_path.specs.Parts.{Part, RootDir, Value, inner_parts, is_slash, parts}
 use Rattle.unix_path.specs.Steps.{EndsInPart, first_value}
@@ -21,7 +22,7 @@ pub record SplitsFirst (t : List ℕ) : Type 0 where
   pub len : ℕ
   pub some : 0 < len
   pub in_range : len ≤ length t
-  pub is : parts t ≡ first ∷ map (moved len) (parts (drop len t))
+  pub is : parts t ≡ first ∷ map (part_at len) (parts (drop len t))
 
 splits_at : (t : List ℕ) (e : ℕ) (v : Value) → 0 < e → e ≤ length t
     → parts t ≡ record { start = 0; end = e; value = v } ∷ inner_parts e (drop e t) → SplitsFirst t
@@ -36,9 +37,9 @@ splits_at t e v some l is =
       in_range = omega (arith, idle.in_range, length-drop e t);
       is = is ∙ ap (λ ps. record { start = 0; end = e; value = v } ∷ ps)
           (idle.same e ∙ ap (λ n. inner_parts n (drop d (drop e t))) {x = e + d} {y = 0 + (e + d)}
-          (omega arith) ∙ inner_parts-moved 0 (e + d) (drop d (drop e t))
-          ∙ ap (map (moved (e + d))) (sym (parts-busy (drop d (drop e t)) idle.busy))
-          ∙ ap (λ u. map (moved (e + d)) (parts u)) u);
+          (omega arith) ∙ inner_parts-add 0 (e + d) (drop d (drop e t))
+          ∙ ap (map (part_at (e + d))) (sym (parts-busy (drop d (drop e t)) idle.busy))
+          ∙ ap (λ u. map (part_at (e + d)) (parts u)) u);
     }
 
 some_first : (t : List ℕ) → 0 < length t → eqb (get_or t 0 0) 47 ≡ false
@@ -57,10 +58,10 @@ splits_first t l = by_test (eqb (get_or t 0 0) 47)
 pub record DropsTo (t : List ℕ) (k : ℕ) : Type 0 where
   pub at : ℕ
   pub in_range : at ≤ length t
-  pub is : drop k (parts t) ≡ map (moved at) (parts (drop at t))
+  pub is : drop k (parts t) ≡ map (part_at at) (parts (drop at t))
 
 unfoldable pub drops_to : (t : List ℕ) (k : ℕ) → DropsTo t k
-drops_to t zero = record { at = 0; in_range = omega arith; is = sym (moved-zero (parts t)) }
+drops_to t zero = record { at = 0; in_range = omega arith; is = sym (part_at-zero (parts t)) }
 drops_to t (suc k) = by_test (ltb 0 (length t))
     (λ some.
     let first = splits_first t (ltb-true _ _ some) in
@@ -70,17 +71,18 @@ drops_to t (suc k) = by_test (ltb 0 (length t))
     record {
       at = i + j;
       in_range = omega (arith, next.in_range, first.in_range, length-drop i t);
-      is = ap (drop (suc k)) first.is ∙ drop-map (moved i) k (parts (drop i t))
-          ∙ ap (map (moved i)) next.is ∙ moved-moved i j (parts (drop j (drop i t)))
-          ∙ ap (λ u. map (moved (i + j)) (parts u)) (drop-drop j i t);
+      is = ap (drop (suc k)) first.is ∙ drop-map (part_at i) k (parts (drop i t))
+          ∙ ap (map (part_at i)) next.is ∙ part_at-part_at i j (parts (drop j (drop i t)))
+          ∙ ap (λ u. map (part_at (i + j)) (parts u)) (drop-drop j i t);
     })
     (λ none.
-    let nil : parts t ≡ [] = ap parts (is_nil t (omega (arith, ltb-false _ _ none))) ∙ parts-nil in
+    let nil : parts t ≡ [] = ap parts (nil_from_length t (omega (arith, ltb-false _ _ none)))
+    ∙ parts-nil in
     record {
       at = 0;
       in_range = omega arith;
       is = ap (drop (suc k)) nil
-          ∙ sym (ap (map (moved 0)) nil);
+          ∙ sym (ap (map (part_at 0)) nil);
     })
 
 -- the last part, and the parts before it
@@ -123,7 +125,7 @@ splits_last t l ends =
       ends = λ l. absurd (omega arith);
     })
 
--- the parts before the last m are those of a front of t
+-- the parts before the last m are those of a beginning of t
 pub record TakesTo (t : List ℕ) (m : ℕ) : Type 0 where
   pub len : ℕ
   pub in_range : len ≤ length t
@@ -159,7 +161,8 @@ takes_to t (suc m) ends = by_test (ltb 0 (length t))
       ends = subst EndsInPart same next.ends;
     })
     (λ none.
-    let nil : parts t ≡ [] = ap parts (is_nil t (omega (arith, ltb-false _ _ none))) ∙ parts-nil in
+    let nil : parts t ≡ [] = ap parts (nil_from_length t (omega (arith, ltb-false _ _ none)))
+    ∙ parts-nil in
     record {
       len = 0;
       in_range = omega arith;

@@ -7,14 +7,14 @@ use Rattle.unix_path.proofs.IdleLemmas.{inner_parts_busy, parts-busy}
 use Rattle.unix_path.proofs.LastLemmas.{last_part, root_alone}
 use Rattle.unix_path.proofs.PieceLemmas.{inner_parts-nil}
 use Rattle.unix_path.proofs.PlaceLemmas.{values-inner_parts}
-use Rattle.unix_path.proofs.SpanLemmas.{parts_end-whole, span-parts, trimmed}
+use Rattle.unix_path.proofs.SpanLemmas.{parts_end-whole, span-parts}
 use Rattle.unix_path.proofs.TrimLemmas.{EndsInPart-drop, EndsInPart-take}
 use Rattle.unix_path.specs.Parts.{Part, RootDir, Value, inner_parts, parts, values}
 use Rattle.unix_path.specs.Rest.{rest, span_of}
 use Rattle.unix_path.specs.Steps.{EndsInPart, IsLastStart, TakesFirst, TakesLast, first_value}
 use Rattle.unix_path.specs.Steps.{is_idle, is_trailing, parts_end}
 
-pub rest-first : (s : List ℕ) (p : Part) (ps : List Part) → parts s ≡ p ∷ ps
+rest-first : (s : List ℕ) (p : Part) (ps : List Part) → parts s ≡ p ∷ ps
     → rest s 1 0 ≡ span_of s ps
 unfolding rest
 rest-first s p ps e = rw e (ap (span_of s) (take_all (length (p ∷ ps) - 1) ps (omega arith)))

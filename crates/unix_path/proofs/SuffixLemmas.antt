@@ -12,9 +12,9 @@ pub record EndsOn (s child u : List ℕ) (left : List Value) : Type 0 where
   pub onward : Ends left (values u) → Ends (values child) (values s)
   pub back : Ends (values child) (values s) → Ends left (values u)
 
-pub ends_start : (s child u b : List ℕ) → u ≡ rest s 0 0 → b ≡ rest child 0 0
+pub ends_start : {s child u b : List ℕ} → u ≡ rest s 0 0 → b ≡ rest child 0 0
     → EndsOn s child u (values b)
-ends_start s child u b e f =
+ends_start {s} {child} {u} {b} e f =
     let wanted : values b ≡ values child = values-whole child b f in
     let whole : values u ≡ values s = values-whole s u e in
     record {
@@ -33,10 +33,10 @@ ends_before x y v w h =
     let same = same_from_push (h.0 ++ v) w x y (append_assoc h.0 v (x ∷ []) ∙ h.1) in
     (same.1, (h.0, same.0))
 
-pub ends_step : (s child u t : List ℕ) (x y : Value) (left more : List Value)
+pub ends_step : {s child u t : List ℕ} {x y : Value} {left more : List Value}
     → EndsOn s child u left → left ≡ more ++ x ∷ [] → values u ≡ values t ++ y ∷ [] → y ≡ x
     → EndsOn s child t more
-ends_step s child u t x y left more h l e same =
+ends_step {s} {child} {u} {t} {x} {y} {left} {more} h l e same =
     let last : values u ≡ values t ++ x ∷ [] = e ∙ ap (λ v. values t ++ v ∷ []) same in
     record {
       onward = λ b. h.onward (subst (λ l. Ends l (values u)) (sym l)
@@ -45,15 +45,15 @@ ends_step s child u t x y left more h l e same =
           (subst (λ l. Ends l (values u)) l (h.back b)))).1;
     }
 
-pub ends_end : (s child u : List ℕ) (left : List Value) → EndsOn s child u left → left ≡ []
+pub ends_end : {s child u : List ℕ} {left : List Value} → EndsOn s child u left → left ≡ []
     → Ends (values child) (values s)
-ends_end s child u left h l =
+ends_end {u = u} h l =
     h.onward (values u, ap (λ l. values u ++ l) l ∙ append-nil (values u))
 
-pub ends_short : (s child u : List ℕ) (x : Value) (left more : List Value)
+pub ends_short : {s child u : List ℕ} {left : List Value} (x : Value) (more : List Value)
     → EndsOn s child u left → left ≡ more ++ x ∷ [] → values u ≡ []
     → Ends (values child) (values s) → ⊥
-ends_short s child u x left more h l e b =
+ends_short x more h l e b =
     let k = h.back b in
     let none : k.0 ++ (more ++ x ∷ []) ≡ [] = sym (ap (λ l. k.0 ++ l) l) ∙ k.1 ∙ e in
     not_empty (k.0 ++ more) x (append_assoc k.0 more (x ∷ []) ∙ none)
@@ -62,9 +62,9 @@ ends_short s child u x left more h l e b =
     not_empty [] x e = cc
     not_empty (y ∷ xs) x e = cc
 
-pub ends_differs : (s child u t : List ℕ) (x y : Value) (left more : List Value)
-    → EndsOn s child u left → left ≡ more ++ x ∷ [] → values u ≡ values t ++ y ∷ []
-    → (y ≡ x → ⊥) → Ends (values child) (values s) → ⊥
-ends_differs s child u t x y left more h l e differs b =
+pub ends_differs : {s child u : List ℕ} {x y : Value} {left : List Value} (t : List ℕ)
+    (more : List Value) → EndsOn s child u left → left ≡ more ++ x ∷ []
+    → values u ≡ values t ++ y ∷ [] → (y ≡ x → ⊥) → Ends (values child) (values s) → ⊥
+ends_differs {u = u} {x = x} {y = y} t more h l e differs b =
     let k = subst (Ends (more ++ x ∷ [])) e (subst (λ l. Ends l (values u)) l (h.back b)) in
     differs (sym (ends_before x y more (values t) k).0)

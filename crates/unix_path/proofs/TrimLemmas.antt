@@ -24,7 +24,7 @@ leading_past_slash [] y z = refl
 leading_past_slash (b ∷ x) y z = leading_part-append (b ∷ x) y (omega arith)
     ∙ sym (leading_part-append (b ∷ x) z (omega arith))
 
-pub parts-slash_dot : (x : List ℕ) → parts (x ++ 47 ∷ 46 ∷ []) ≡ parts (x ++ 47 ∷ [])
+parts-slash_dot : (x : List ℕ) → parts (x ++ 47 ∷ 46 ∷ []) ≡ parts (x ++ 47 ∷ [])
 unfolding parts
 parts-slash_dot x =
     ap₂ ◌++◌ (leading_past_slash x (46 ∷ []) [])

@@ -10,8 +10,8 @@ use Rattle.unix_path.specs.Ancestors.{ancestors_left}
 use Rattle.unix_path.specs.Parents.{depth_of, ancestors_of}
 use Rattle.unix_path.specs.Rest.{rest}
 use Rattle.unix_path.proofs.RestLemmas.{length-values}
-use Rattle.unix_path.proofs.CursorLemmas.{part_given, part_given_back}
-use Rattle.unix_path.proofs.CursorLemmas.{name_bytes, name_given, name_given_back}
+use Rattle.unix_path.proofs.CursorLemmas.{GivesFirstPart, GivesLastPart}
+use Rattle.unix_path.proofs.CursorLemmas.{name_bytes, GivesFirstName, GivesLastName}
 use Rattle.std.specs.Iterator.Runs.{EveryRun, ItemsMapTo, ItemsMapToReversed}
 use Rattle.unix_bytes.specs.declared.bytes.UnixStr.{UnixStr}
 use Rattle.unix_path.specs.declared.path.Path.{Path}
@@ -47,19 +47,19 @@ AncestorsInOrder =
     (λ run. ItemsMapTo run (λ path. path.bytes.now) (ancestors_left run.from))
 
 pub parts_in_order : PartsInOrder
-parts_in_order = from_front part_given value_of cursor_values (λ s t h. ap length h.item_is.0)
+parts_in_order = from_front GivesFirstPart value_of cursor_values (λ s t h. ap length h.item_is.0)
     (λ s x t h. h.item_is)
 
 pub parts_in_reverse : PartsInReverse
-parts_in_reverse = from_back part_given_back value_of cursor_values
+parts_in_reverse = from_back GivesLastPart value_of cursor_values
     (λ s t h. ap length h.item_is.0) (λ s x t h. h.item_is)
 
 pub names_in_order : NamesInOrder
-names_in_order = from_front name_given name_bytes iter_bytes (λ s t h. ap length h.item_is.0)
+names_in_order = from_front GivesFirstName name_bytes iter_bytes (λ s t h. ap length h.item_is.0)
     (λ s x t h. h.item_is)
 
 pub names_in_reverse : NamesInReverse
-names_in_reverse = from_back name_given_back name_bytes iter_bytes
+names_in_reverse = from_back GivesLastName name_bytes iter_bytes
     (λ s t h. ap length h.item_is.0) (λ s x t h. h.item_is)
 
 pub ancestors_in_order : AncestorsInOrder

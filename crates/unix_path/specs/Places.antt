@@ -5,5 +5,5 @@ use Rattle.std.specs.Borrow.{Bor}
 -- every byte of `part` lies among those of `whole`, in the same memory
 pub record LiesIn (part whole : Bor (List ℕ)) : Type 0 where
   pub block : part.ref_ptr.0 ≡ whole.ref_ptr.0
-  pub front : whole.ref_ptr.1 ≤ part.ref_ptr.1
-  pub back : part.ref_ptr.1 + length part.now ≤ whole.ref_ptr.1 + length whole.now
+  pub start : whole.ref_ptr.1 ≤ part.ref_ptr.1
+  pub end : part.ref_ptr.1 + length part.now ≤ whole.ref_ptr.1 + length whole.now

@@ -6,7 +6,7 @@ use Rattle.unix_path.specs.Rest.{rest}
 
 -- w ends with v
 abbrev pub Ends : {A : Type 0} → List A → List A → Type 0
-Ends {A} v w = (front : List A) × (front ++ v ≡ w)
+Ends {A} v w = (before : List A) × (before ++ v ≡ w)
 
 -- what is left of s after as many parts as `base` has
 abbrev pub stripped_of : List ℕ → List ℕ → List ℕ

@@ -1,9 +1,9 @@
 -- The values that components stand for.
 use Rattle.unix_path.specs.Parts.{Value}
 use Rattle.unix_path.specs.Parts as parts
-use Rattle.unix_path.specs.declared.cursor.Component.{Component}
-use Rattle.unix_path.specs.declared.cursor.Component.TheVariants.{RootDir, CurDir, ParentDir}
-use Rattle.unix_path.specs.declared.cursor.Component.TheVariants.{Normal}
+use Rattle.unix_path.specs.declared.cursor.component.Component.{Component}
+use Rattle.unix_path.specs.declared.cursor.component.Component.TheVariants.{RootDir, CurDir}
+use Rattle.unix_path.specs.declared.cursor.component.Component.TheVariants.{ParentDir, Normal}
 
 -- the value of a component
 abbrev pub value_of : Component → Value

@@ -9,7 +9,6 @@ pub mod kept;
 mod names;
 mod order;
 pub mod path;
-mod prefix;
 
 pub use buf::PathBuf;
 pub use cursor::{Ancestors, Component, Components, Iter};

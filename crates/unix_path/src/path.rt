@@ -1,7 +1,11 @@
 //! The view of a path.
-ghost use Rattle.std.specs.Prelude.{◌≡◌, ◌↔◌, ◌<◌, ◌≤◌, ◌^◌, not, [], ◌∷◌, length, take, map};
-ghost use Rattle.std.specs.Prelude.{option_map, IfSome, IsTrue, IsFalse, IsOk, IfOk, Some, codes};
-ghost use Rattle.std.specs.Fmt.{padded};
+//!
+//! More methods of `Path` stand by their subject: `path/parents.rt` has the parent and the
+//! ancestors, `path/file_name.rt` the file name, its stem and its extension, `path/prefix.rt` what
+//! begins and ends a path, `display.rt` its text, and `buf.rt` with `buf/` the copies that own
+//! their bytes. `order.rt` has its equality, order and hash; `json.rt` and `kept/` convert from it.
+ghost use Rattle.std.specs.Prelude.{◌≡◌, ◌↔◌, ◌<◌, ◌^◌, not, [], ◌∷◌, length, map};
+ghost use Rattle.std.specs.Prelude.{IsTrue, IsFalse};
 ghost use Rattle.unix_path.specs.Parts.{RootDir, slash, values, value_bytes, is_rooted};
 ghost use Rattle.unix_path.specs.Rest.{rest};
 ghost use Rattle.unix_path.specs.Cursor.{cursor_rest, cursor_source, cursor_values};
@@ -10,17 +14,15 @@ ghost use Rattle.unix_path.specs.Cursor.{GivesFirst, GivesLast};
 ghost use Rattle.unix_path.specs.Views.{value_of};
 ghost use Rattle.std.specs.Iterator.Runs.{EveryRun, ItemsMapTo, ItemsMapToReversed};
 ghost use Rattle.unix_bytes.specs.declared.bytes.UnixStr.{UnixStr};
-ghost use Rattle.unix_path.specs.Parents.{parent_of, ancestors_of};
-ghost use Rattle.unix_path.specs.Names.{file_name_of, stem_of};
-ghost use Rattle.unix_path.specs.Names.{extension_of};
-ghost use Rattle.unix_path.specs.Prefixes.{Begins, Ends, stripped_of};
-ghost use Rattle.unix_path.specs.Edits.{before_name_of, stem_end_of};
+ghost use Rattle.unix_path.specs.Prefixes.{Begins};
 ghost use Rattle.unix_path.specs.Places.{LiesIn};
 
-use crate::cursor::{Ancestors, Component, Components, Iter};
-use crate::names::split_name;
-use crate::prefix::{after_prefix, ends_with_parts};
-use std::error::Error;
+mod file_name;
+mod parents;
+mod prefix;
+
+use crate::cursor::{Components, Iter};
+pub use prefix::StripPrefixError;
 use std::fmt;
 use unix_bytes::bytes::UnixStr;
 
@@ -42,7 +44,7 @@ pub const MAIN_SEPARATOR: char = '/';
 
 const _: () = prove!(MAIN_SEPARATOR == '/');
 
-/// Whether the character stands between two parts of a path: `/` alone does. Takes no memory. As
+/// Whether the character stands between two parts of a path: `/` alone does. Does not allocate. As
 /// Rust's `std::path::is_separator` on Unix.
 ///
 /// `is_separator('/')` is true, and `is_separator('\\')` is false.
@@ -54,32 +56,8 @@ pub fn is_separator(c: char) -> bool
     c == MAIN_SEPARATOR
 }
 
-/// The refusal of `Path::strip_prefix`: the parts of the base don't begin those of the path.
-///
-/// Its text is `prefix not found`, padded like any text. As Rust's `StripPrefixError`.
-///
-/// `foo/bar` stripped of `foo/baz` answers it.
-#[derive(Clone, Copy, Debug, PartialEq, Eq)]
-pub struct StripPrefixError(());
-
-impl fmt::Display for StripPrefixError {
-    ghost output = { λ _. Some (codes "prefix not found") };
-
-    ghost styled_output = { λ _ spec. Some (padded spec (codes "prefix not found")) };
-
-    fn fmt<W: fmt::Write>(&self, f: &mut fmt::Formatter<W>) -> fmt::Result {
-        f.pad("prefix not found")
-    }
-}
-
-impl Error for StripPrefixError {}
-
 impl<'a> Path<'a> {
-    ghost use Rattle.unix_path.specs.Ancestors.{ancestors_left};
-    ghost use Rattle.std.specs.Iterator.{YieldsFirstBy};
-    ghost use Rattle.unix_path.specs.declared.path.Path.{Path};
-
-    /// The path with these bytes. Takes no memory. As Rust's `Path::new`.
+    /// The path with these bytes. Does not allocate. As Rust's `Path::new`.
     ///
     /// `Path::new(UnixStr::new("/tmp"))` is the path `/tmp`.
     #[inline]
@@ -112,9 +90,9 @@ impl<'a> Path<'a> {
         }
     }
 
-    /// All bytes of the path. Takes no memory. As Rust's `Path::as_os_str`.
+    /// All bytes of the path. Does not allocate. As Rust's `Path::as_os_str`.
     ///
-    /// That of the path `a//b/` is `a//b/`.
+    /// For the path `a//b/` it is `a//b/`.
     #[must_use]
     #[inline]
     pub fn as_unix_str(&self) -> UnixStr<'a>
@@ -123,7 +101,7 @@ impl<'a> Path<'a> {
         UnixStr { bytes: self.bytes }
     }
 
-    /// Whether the path begins with the root. Takes no memory. As Rust's `Path::is_absolute` on
+    /// Whether the path begins with the root. Does not allocate. As Rust's `Path::is_absolute` on
     /// Unix.
     ///
     /// `/tmp` is absolute, and `tmp` isn't.
@@ -136,7 +114,7 @@ impl<'a> Path<'a> {
         self.has_root()
     }
 
-    /// Whether the path doesn't begin with the root. Takes no memory. As Rust's
+    /// Whether the path doesn't begin with the root. Does not allocate. As Rust's
     /// `Path::is_relative`.
     ///
     /// `./tmp` is relative, and so is the empty path.
@@ -149,7 +127,7 @@ impl<'a> Path<'a> {
         !self.is_absolute()
     }
 
-    /// Whether the path begins with the root. Takes no memory. As Rust's `Path::has_root`.
+    /// Whether the path begins with the root. Does not allocate. As Rust's `Path::has_root`.
     ///
     /// `//tmp` has a root, and `tmp/` has none.
     #[must_use]
@@ -161,9 +139,9 @@ impl<'a> Path<'a> {
         !self.bytes.is_empty() && self.bytes[0] == b'/'
     }
 
-    /// A walk over the parts, from both ends. Takes no memory. As Rust's `Path::components`.
+    /// A walk over the parts, from both ends. Does not allocate. As Rust's `Path::components`.
     ///
-    /// That of `/tmp/./foo` gives the root, `tmp` and `foo`.
+    /// For `/tmp/./foo` it gives the root, `tmp` and `foo`.
     #[inline]
     pub fn components(&self) -> Components<'a>
         ensures rest { cursor_rest result ≡ rest self.now.bytes.now 0 0 }
@@ -178,9 +156,10 @@ impl<'a> Path<'a> {
         Components::new(self.bytes)
     }
 
-    /// A walk over the bytes of the parts, from both ends. Takes no memory. As Rust's `Path::iter`.
+    /// A walk over the bytes of the parts, from both ends. Does not allocate. As Rust's
+    /// `Path::iter`.
     ///
-    /// That of `/tmp/./foo` gives `/`, `tmp` and `foo`.
+    /// For `/tmp/./foo` it gives `/`, `tmp` and `foo`.
     #[inline]
     pub fn iter(&self) -> Iter<'a>
         ensures rest { iter_rest result ≡ rest self.now.bytes.now 0 0 }
@@ -194,185 +173,7 @@ impl<'a> Path<'a> {
             (GivesLast (λ name. name.bytes.now) iter_bytes iter_rest iter_source)
             (λ run. ItemsMapToReversed run (λ name. name.bytes.now) (iter_bytes run.from)) }
     {
-        Iter {
-            components: self.components(),
-        }
-    }
-
-    /// The path without its last part, as a slice of this path's bytes, in the same memory. `None`
-    /// where there is no part or the last is the root.
-    ///
-    /// The parent of a single name is the empty path, which has no parent. Takes no memory. As
-    /// Rust's `Path::parent`, whose words name the root alone.
-    ///
-    /// That of `/tmp//foo/.` is `/tmp`.
-    #[must_use]
-    #[inline]
-    pub fn parent(&self) -> Option<Path<'a>>
-        ensures value { option_map (λ path. path.bytes.now) result ≡ parent_of self.now.bytes.now }
-        ensures place { IfSome result (λ path. LiesIn path.bytes self.now.bytes) }
-    {
-        let mut left = self.components();
-        let Some(last) = left.next_back() else {
-            return None;
-        };
-        match last {
-            Component::RootDir => None,
-            _ => Some(left.as_path()),
-        }
-    }
-
-    /// A walk over the path itself, its parent, the parent of that, and so on. Takes no memory. As
-    /// Rust's `Path::ancestors`.
-    ///
-    /// That of `../a` gives `../a`, `..` and the empty path.
-    #[inline]
-    pub fn ancestors(&self) -> Ancestors<'a>
-        ensures left { ancestors_left result ≡ ancestors_of self.now.bytes.now }
-        ensures len { length (ancestors_left result) < 2 ^ 64 }
-        ensures runs { EveryRun {A = Path} (YieldsFirstBy (λ path. path.bytes.now) ancestors_left)
-            (λ run. ItemsMapTo run (λ path. path.bytes.now) (ancestors_left run.from)) }
-    {
-        let path = *self;
-        Ancestors { next: Some(path) }
-    }
-
-    /// The last part, where it is a name. `None` where there is no part, or the last is the root,
-    /// `.` or `..`. Takes no memory. As Rust's `Path::file_name`, whose words name `..` alone.
-    ///
-    /// That of `foo.txt/.//` is `foo.txt`.
-    #[must_use]
-    #[inline]
-    pub fn file_name(&self) -> Option<UnixStr<'a>>
-        ensures { option_map (λ name. name.bytes.now) result
-            ≡ file_name_of (values self.now.bytes.now) }
-    {
-        let Some(last) = self.components().next_back() else {
-            return None;
-        };
-        match last {
-            Component::Normal(name) => Some(name),
-            _ => None,
-        }
-    }
-
-    /// The file name up to its last dot; all of it where that is its first byte or there is no dot.
-    /// `None` where there is no file name. Takes no memory. As Rust's `Path::file_stem`.
-    ///
-    /// That of `foo.tar.gz` is `foo.tar`, and that of `.foo` is `.foo`.
-    #[must_use]
-    #[inline]
-    pub fn file_stem(&self) -> Option<UnixStr<'a>>
-        ensures { option_map (λ stem. stem.bytes.now) result ≡ stem_of (values self.now.bytes.now) }
-    {
-        match self.file_name() {
-            Some(name) => Some(UnixStr {
-                bytes: split_name(name.bytes).0,
-            }),
-            None => None,
-        }
-    }
-
-    /// The file name's bytes after its last dot, without the dot. `None` where that is its first
-    /// byte, or there is no dot or no file name. Takes no memory. As Rust's `Path::extension`.
-    ///
-    /// That of `foo.tar.gz` is `gz`, and that of `foo.` is empty.
-    #[must_use]
-    #[inline]
-    pub fn extension(&self) -> Option<UnixStr<'a>>
-        ensures { option_map (λ part. part.bytes.now) result
-            ≡ extension_of (values self.now.bytes.now) }
-    {
-        let Some(name) = self.file_name() else {
-            return None;
-        };
-        match split_name(name.bytes).1 {
-            Some(bytes) => Some(UnixStr { bytes }),
-            None => None,
-        }
-    }
-
-    /// What follows `base`, as a slice of this path's bytes, in the same memory, where `base`'s
-    /// parts begin this path's.
-    ///
-    /// Whole parts count: `foo/bar` has no prefix `foo/ba`. No bytes are left where all parts
-    /// match. Refused exactly where `starts_with` is false. Takes no memory. As Rust's
-    /// `Path::strip_prefix`; `base` is a `Path`.
-    ///
-    /// `/a//b/` by `/a` gives `b`.
-    #[inline]
-    pub fn strip_prefix(&self, base: Path<'_>) -> Result<Path<'a>, StripPrefixError>
-        ensures ok { IsOk result
-            ↔ Begins (values base.entry.bytes.now) (values self.now.bytes.now) }
-        ensures value { IfOk result (λ left.
-            left.bytes.now ≡ stripped_of self.now.bytes.now base.entry.bytes.now) }
-        ensures place { IfOk result (λ left. LiesIn left.bytes self.now.bytes) }
-    {
-        match after_prefix(self.bytes, base.bytes) {
-            Some(left) => Ok(left.as_path()),
-            None => Err(StripPrefixError(())),
-        }
-    }
-
-    /// Whether `base`'s parts begin this path's. Every path begins with the empty one. Takes no
-    /// memory. As Rust's `Path::starts_with`; `base` is a `Path`.
-    ///
-    /// `/etc/passwd` starts with `/etc/`, and not with `/e`.
-    #[must_use]
-    #[inline]
-    pub fn starts_with(&self, base: Path<'_>) -> bool
-        ensures { IsTrue result
-            ↔ Begins (values base.entry.bytes.now) (values self.now.bytes.now) }
-    {
-        after_prefix(self.bytes, base.bytes).is_some()
-    }
-
-    /// Whether `child`'s parts end this path's. Takes no memory. As Rust's `Path::ends_with`;
-    /// `child` is a `Path`.
-    ///
-    /// `a/b` ends with `b`, and with neither `./b` nor `/b`.
-    #[must_use]
-    #[inline]
-    pub fn ends_with(&self, child: Path<'_>) -> bool
-        ensures { IsTrue result
-            ↔ Ends (values child.entry.bytes.now) (values self.now.bytes.now) }
-    {
-        ends_with_parts(self.bytes, child.bytes)
-    }
-
-    // What stands before the file name, or all of the path where there is none.
-    #[inline]
-    pub(crate) fn before_name(&self) -> Path<'a>
-        ensures value { result.bytes.now ≡ before_name_of self.now.bytes.now }
-        ensures front { take (length result.bytes.now) self.now.bytes.now ≡ result.bytes.now }
-    {
-        let mut left = self.components();
-        let Some(last) = left.next_back() else {
-            return *self;
-        };
-        match last {
-            Component::Normal(_) => left.as_path(),
-            _ => *self,
-        }
-    }
-
-    // Where the stem of the file name ends.
-    #[inline]
-    pub(crate) fn stem_end(&self) -> Option<usize>
-        ensures value { result ≡ stem_end_of self.now.bytes.now }
-        ensures in_range { IfSome result (λ end. end ≤ length self.now.bytes.now) }
-    {
-        let mut left = self.components();
-        let name_end = left.as_path().bytes.len();
-        let Some(last) = left.next_back() else {
-            return None;
-        };
-        match last {
-            Component::Normal(name) => {
-                Some(name_end - name.bytes.len() + split_name(name.bytes).0.len())
-            }
-            _ => None,
-        }
+        Iter::new(self.components())
     }
 }
 

@@ -6,14 +6,27 @@ use std::iter::FusedIterator;
 
 /// A walk over a path, its parent, the parent of that, and so on.
 ///
-/// It takes no memory, and copying it copies a view. An ended walk stays ended. As Rust's
+/// It does not allocate, and copying it copies a view. An ended walk stays ended. As Rust's
 /// `Ancestors`.
 ///
-/// That of `/foo` gives `/foo` and `/`.
+/// For `/foo` it gives `/foo` and `/`.
 #[must_use]
 #[derive(Clone, Copy, Debug)]
 pub struct Ancestors<'a> {
-    pub(crate) next: Option<Path<'a>>,
+    next: Option<Path<'a>>,
+}
+
+impl<'a> Ancestors<'a> {
+    ghost use Rattle.unix_path.specs.Parents.{ancestors_of};
+    ghost use Rattle.unix_path.specs.Ancestors.{ancestors_left};
+
+    // The walk from this path on.
+    #[inline]
+    pub(crate) fn new(path: Path<'a>) -> Ancestors<'a>
+        ensures { ancestors_left result ≡ ancestors_of path.entry.bytes.now }
+    {
+        Ancestors { next: Some(path) }
+    }
 }
 
 impl<'a> Iterator for Ancestors<'a> {

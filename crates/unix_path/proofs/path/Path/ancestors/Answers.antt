@@ -1,9 +1,10 @@
-use Rattle.std.proofs.Common.{arith}
+use Rattle.std.proofs.Common.{length, ap, arith}
 use Rattle.unix_path.proofs.WalkLemmas.{ancestors_in_order, length-ancestors_of}
 use Rattle.unix_path.proofs.path.Path.ancestors.Goals as goal
 
 pub returns-clause-len : goal.returns-clause-len
-returns-clause-len c = omega (arith, length-ancestors_of c.args.self.now.bytes.now)
+returns-clause-len c =
+    omega (arith, ap length c.new.ensures, length-ancestors_of c.args.self.now.bytes.now)
 
 pub returns-clause-runs : goal.returns-clause-runs
 returns-clause-runs c = ancestors_in_order

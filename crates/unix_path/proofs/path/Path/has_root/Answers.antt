@@ -1,6 +1,6 @@
 use Rattle.std.proofs.Common.{ap, ◌∙◌, sym, eqb-true, not}
+use Rattle.std.proofs.lemmas.List.{nil_from_length}
 use Rattle.unix_path.specs.Parts.{is_rooted}
-use Rattle.unix_path.proofs.CaseLemmas.{is_nil}
 use Rattle.unix_path.proofs.PartLemmas.{is_rooted-at}
 use Rattle.unix_path.proofs.RootLemmas.{rooted-Begins}
 use Rattle.unix_path.proofs.path.Path.has_root.Goals as goal
@@ -12,5 +12,6 @@ returns-then-not-is_empty-clause-root c =
 
 pub returns-else-not-is_empty-clause-root : goal.returns-else-not-is_empty-clause-root
 returns-else-not-is_empty-clause-root c =
-    let none = is_nil _ (eqb-true _ 0 (sym c.is_empty.ensures ∙ c.if-not-is_empty.false)) in
+    let none = nil_from_length _
+    (eqb-true _ 0 (sym c.is_empty.ensures ∙ c.if-not-is_empty.false)) in
     rooted-Begins _ _ (ap not c.if-not-is_empty.false ∙ sym (ap is_rooted none))

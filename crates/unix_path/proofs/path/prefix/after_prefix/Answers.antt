@@ -1,0 +1,32 @@
+use Rattle.std.proofs.Common.{◌∙◌, ap, refl}
+use Rattle.unix_path.specs.Cursor.{cursor_rest, cursor_source}
+use Rattle.unix_path.proofs.PrefixLemmas.{strips_start, strips_step, strips_end}
+use Rattle.unix_path.proofs.SourceLemmas.{LiesIn-itself, LiesIn-trans}
+use Rattle.unix_path.proofs.path.prefix.after_prefix.Goals as goal
+
+pub loop-part-init : goal.loop-part-init
+loop-part-init c = record {
+  can = tt;
+  finite = tt;
+  so_far = strips_start c.new-left.ensures.rest
+      (ap cursor_rest c.into_iter-part-iterator.ensures.into_iter_gives
+      ∙ c.new-part-items.ensures.rest);
+  place = LiesIn-itself (cursor_source c.new-left.result);
+}
+
+pub loop-part-preserved : goal.loop-part-preserved
+loop-part-preserved c =
+    let own = c.in-Some-next.ensures.steps in
+    record {
+      can = tt;
+      finite = tt;
+      so_far = strips_step c.loop-part.invariant.so_far c.in-Some.ensures.steps.item_is own.item_is
+          own.rest_is (c.if-not-same_value.ensures.0 refl);
+      place = LiesIn-trans _ _ _ own.place_is c.loop-part.invariant.place;
+    }
+
+pub returns-clause-ok : goal.returns-clause-ok
+returns-clause-ok c = (
+  λ _. (strips_end c.loop-part.invariant.so_far c.in-None.ensures.steps.item_is.0).0,
+  λ _. refl,
+)

@@ -1,0 +1,10 @@
+use Rattle.std.proofs.Common.{length}
+use Rattle.unix_path.specs.Cursor.{cursor_rest, cursor_values}
+use Rattle.unix_path.proofs.SuffixLemmas.{EndsOn}
+use Rattle.unix_path.proofs.path.prefix.ends_with_parts.Given as goal
+
+abbrev pub invariant-loop-part : goal.invariant-loop-part
+invariant-loop-part l = EndsOn l.path l.child (cursor_rest l.left) (cursor_values l.wanted)
+
+abbrev pub decreases-loop-part : goal.decreases-loop-part
+decreases-loop-part l = length (cursor_values l.wanted)

@@ -1,0 +1,92 @@
+//! The walk over the bytes of a path's parts.
+ghost use Rattle.std.specs.Prelude.{◌≡◌};
+ghost use Rattle.unix_path.specs.Places.{LiesIn};
+
+use crate::cursor::{Component, Components};
+use crate::path::Path;
+use std::fmt;
+use std::iter::FusedIterator;
+use unix_bytes::bytes::UnixStr;
+
+/// A walk over the bytes of a path's parts, from both ends.
+///
+/// It does not allocate, and copying it copies a view. As Rust's `std::path::Iter`.
+#[must_use]
+#[derive(Clone, Copy)]
+pub struct Iter<'a> {
+    components: Components<'a>,
+}
+
+impl<'a> Iter<'a> {
+    ghost use Rattle.unix_path.specs.Cursor.{cursor_rest, cursor_source, iter_rest, iter_source};
+
+    // The walk over the bytes of the parts that are left.
+    #[inline]
+    pub(crate) fn new(components: Components<'a>) -> Iter<'a>
+        ensures rest { iter_rest result ≡ cursor_rest components.entry }
+        ensures source { iter_source result ≡ cursor_source components.entry }
+    {
+        Iter { components }
+    }
+
+    /// The bytes that are left, as `Components::as_path` gives them. Does not allocate.
+    ///
+    /// For `/tmp/foo` after one `next` it is `tmp/foo`.
+    #[must_use]
+    #[inline]
+    pub fn as_path(&self) -> Path<'a>
+        ensures bytes { result.bytes.now ≡ iter_rest self.now }
+        ensures place { LiesIn result.bytes (iter_source self.now) }
+    {
+        self.components.as_path()
+    }
+}
+
+impl<'a> Iterator for Iter<'a> {
+    ghost use Rattle.std.specs.Iterator.{item_count};
+    ghost use Rattle.unix_path.specs.Cursor.{iter_rest, iter_source, iter_bytes, GivesFirst};
+
+    type Item = UnixStr<'a>;
+
+    ghost next_gives = { GivesFirst (λ name. name.bytes.now) iter_bytes iter_rest iter_source };
+
+    ghost remaining = { item_count iter_bytes };
+
+    #[inline]
+    fn next(&mut self) -> Option<UnixStr<'a>> {
+        self.components.next().map(Component::as_unix_str)
+    }
+}
+
+impl<'a> DoubleEndedIterator for Iter<'a> {
+    ghost use Rattle.unix_path.specs.Cursor.{iter_rest, iter_source, iter_bytes, GivesLast};
+
+    ghost next_back_gives = { GivesLast (λ name. name.bytes.now) iter_bytes iter_rest iter_source };
+
+    #[inline]
+    fn next_back(&mut self) -> Option<UnixStr<'a>> {
+        match self.components.next_back() {
+            Some(part) => Some(part.as_unix_str()),
+            None => None,
+        }
+    }
+}
+
+impl FusedIterator for Iter<'_> {}
+
+// The bytes of the parts that are left, as a list.
+#[derive(Clone, Copy)]
+struct ListedBytes<'a>(Iter<'a>);
+
+impl fmt::Debug for ListedBytes<'_> {
+    fn fmt<W: fmt::Write>(&self, f: &mut fmt::Formatter<W>) -> fmt::Result {
+        f.debug_list().entries(self.0).finish()
+    }
+}
+
+/// The bytes of the parts that are left, as `Iter(["/", "tmp"])`.
+impl fmt::Debug for Iter<'_> {
+    fn fmt<W: fmt::Write>(&self, f: &mut fmt::Formatter<W>) -> fmt::Result {
+        f.debug_tuple("Iter").field(&ListedBytes(*self)).finish()
+    }
+}

@@ -1,0 +1,102 @@
+//! The file name of a path, its stem and its extension.
+ghost use Rattle.std.specs.Prelude.{◌≡◌, ◌≤◌, length, take, option_map, IfSome};
+ghost use Rattle.unix_path.specs.Parts.{values};
+ghost use Rattle.unix_path.specs.Names.{file_name_of, stem_of, extension_of};
+ghost use Rattle.unix_path.specs.Edits.{before_name_of, stem_end_of};
+
+use crate::cursor::Component;
+use crate::names::split_name;
+use crate::path::Path;
+use unix_bytes::bytes::UnixStr;
+
+impl<'a> Path<'a> {
+    /// The last part, where it is a name. `None` where there is no part, or the last is the root,
+    /// `.` or `..`. Does not allocate. As Rust's `Path::file_name`, whose words name `..` alone.
+    ///
+    /// For `foo.txt/.//` it is `foo.txt`.
+    #[must_use]
+    #[inline]
+    pub fn file_name(&self) -> Option<UnixStr<'a>>
+        ensures { option_map (λ name. name.bytes.now) result
+            ≡ file_name_of (values self.now.bytes.now) }
+    {
+        let Some(last) = self.components().next_back() else {
+            return None;
+        };
+        match last {
+            Component::Normal(name) => Some(name),
+            _ => None,
+        }
+    }
+
+    /// The file name up to its last dot; all of it where that is its first byte or there is no dot.
+    /// `None` where there is no file name. Does not allocate. As Rust's `Path::file_stem`.
+    ///
+    /// For `foo.tar.gz` it is `foo.tar`, and for `.foo` it is `.foo`.
+    #[must_use]
+    #[inline]
+    pub fn file_stem(&self) -> Option<UnixStr<'a>>
+        ensures { option_map (λ stem. stem.bytes.now) result ≡ stem_of (values self.now.bytes.now) }
+    {
+        match self.file_name() {
+            Some(name) => Some(UnixStr {
+                bytes: split_name(name.bytes).0,
+            }),
+            None => None,
+        }
+    }
+
+    /// The file name's bytes after its last dot, without the dot. `None` where that is its first
+    /// byte, or there is no dot or no file name. Does not allocate. As Rust's `Path::extension`.
+    ///
+    /// For `foo.tar.gz` it is `gz`, and for `foo.` it is empty.
+    #[must_use]
+    #[inline]
+    pub fn extension(&self) -> Option<UnixStr<'a>>
+        ensures { option_map (λ part. part.bytes.now) result
+            ≡ extension_of (values self.now.bytes.now) }
+    {
+        let Some(name) = self.file_name() else {
+            return None;
+        };
+        match split_name(name.bytes).1 {
+            Some(bytes) => Some(UnixStr { bytes }),
+            None => None,
+        }
+    }
+
+    // What stands before the file name, or all of the path where there is none.
+    #[inline]
+    pub(crate) fn before_name(&self) -> Path<'a>
+        ensures value { result.bytes.now ≡ before_name_of self.now.bytes.now }
+        ensures begins { take (length result.bytes.now) self.now.bytes.now ≡ result.bytes.now }
+    {
+        let mut left = self.components();
+        let Some(last) = left.next_back() else {
+            return *self;
+        };
+        match last {
+            Component::Normal(_) => left.as_path(),
+            _ => *self,
+        }
+    }
+
+    // Where the stem of the file name ends.
+    #[inline]
+    pub(crate) fn stem_end(&self) -> Option<usize>
+        ensures value { result ≡ stem_end_of self.now.bytes.now }
+        ensures in_range { IfSome result (λ end. end ≤ length self.now.bytes.now) }
+    {
+        let mut left = self.components();
+        let name_end = left.as_path().bytes.len();
+        let Some(last) = left.next_back() else {
+            return None;
+        };
+        match last {
+            Component::Normal(name) => {
+                Some(name_end - name.bytes.len() + split_name(name.bytes).0.len())
+            }
+            _ => None,
+        }
+    }
+}

@@ -1,0 +1,51 @@
+//! The parent of a path, and its ancestors.
+ghost use Rattle.std.specs.Prelude.{◌≡◌, ◌<◌, ◌^◌, length, option_map, IfSome};
+ghost use Rattle.std.specs.Iterator.{YieldsFirstBy};
+ghost use Rattle.std.specs.Iterator.Runs.{EveryRun, ItemsMapTo};
+ghost use Rattle.unix_path.specs.Parents.{parent_of, ancestors_of};
+ghost use Rattle.unix_path.specs.Places.{LiesIn};
+
+use crate::cursor::{Ancestors, Component};
+use crate::path::Path;
+
+impl<'a> Path<'a> {
+    ghost use Rattle.unix_path.specs.Ancestors.{ancestors_left};
+    ghost use Rattle.unix_path.specs.declared.path.Path.{Path};
+
+    /// The path without its last part, as a slice of this path's bytes, in the same memory. `None`
+    /// where there is no part or the last is the root.
+    ///
+    /// The parent of a single name is the empty path, which has no parent. Does not allocate. As
+    /// Rust's `Path::parent`, whose words name the root alone.
+    ///
+    /// For `/tmp//foo/.` it is `/tmp`.
+    #[must_use]
+    #[inline]
+    pub fn parent(&self) -> Option<Path<'a>>
+        ensures value { option_map (λ path. path.bytes.now) result ≡ parent_of self.now.bytes.now }
+        ensures place { IfSome result (λ path. LiesIn path.bytes self.now.bytes) }
+    {
+        let mut left = self.components();
+        let Some(last) = left.next_back() else {
+            return None;
+        };
+        match last {
+            Component::RootDir => None,
+            _ => Some(left.as_path()),
+        }
+    }
+
+    /// A walk over the path itself, its parent, the parent of that, and so on. Does not allocate.
+    /// As Rust's `Path::ancestors`.
+    ///
+    /// For `../a` it gives `../a`, `..` and the empty path.
+    #[inline]
+    pub fn ancestors(&self) -> Ancestors<'a>
+        ensures left { ancestors_left result ≡ ancestors_of self.now.bytes.now }
+        ensures len { length (ancestors_left result) < 2 ^ 64 }
+        ensures runs { EveryRun {A = Path} (YieldsFirstBy (λ path. path.bytes.now) ancestors_left)
+            (λ run. ItemsMapTo run (λ path. path.bytes.now) (ancestors_left run.from)) }
+    {
+        Ancestors::new(*self)
+    }
+}
