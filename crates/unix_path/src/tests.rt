@@ -2,11 +2,15 @@
 mod buffers;
 mod display;
 mod json;
-mod kept;
 mod kept_paths;
+mod names;
 mod order;
+mod parents;
+mod parts;
 mod places;
+mod prefixes;
 mod printed;
-mod queries;
 mod readme;
+mod recording_hasher;
 mod rests;
+mod views;

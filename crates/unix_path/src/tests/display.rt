@@ -5,7 +5,7 @@ use std::alloc::{AllocError, Global};
 use std::test::Fail;
 
 // Bytes, and their lossy text.
-static SHOWN: [(&[u8], &str); 7] = [
+static LOSSY_TEXTS: [(&[u8], &str); 7] = [
     (b"", ""),
     (b"/tmp", "/tmp"),
     (b"a\xffb\xe2\x82", "a\u{FFFD}b\u{FFFD}"),
@@ -24,7 +24,7 @@ fn is_shown(alloc: Global, bytes: &[u8], want: &str) -> Result<bool, AllocError>
 
 #[test]
 fn paths_are_shown(rt: HostRuntime) -> Result<(), Fail> {
-    for (bytes, want) in SHOWN {
+    for (bytes, want) in LOSSY_TEXTS {
         assert!(rt; is_shown(rt.alloc(), bytes, want)?, "{want}");
     }
     Ok(())

@@ -19,7 +19,7 @@ fn reread(alloc: Global, path: Path<'_>) -> Result<PathBuf, JsonError>
 }
 
 #[test]
-fn what_was_written_reads_back(rt: HostRuntime) -> Result<(), Fail> {
+fn a_written_path_reads_back(rt: HostRuntime) -> Result<(), Fail> {
     let alloc = rt.alloc();
     for text in ["a\"b", "", "a\\b", "\u{1}", "\u{E9}", "a//b/."] {
         let path = Path::new(UnixStr::new(text));
@@ -33,7 +33,7 @@ fn what_was_written_reads_back(rt: HostRuntime) -> Result<(), Fail> {
 }
 
 #[test]
-fn what_is_no_text_is_refused(rt: HostRuntime) {
+fn bytes_that_are_not_text_are_refused(rt: HostRuntime) {
     for bytes in [b"f\xFF".as_slice(), b"\xED\xA0\x80", b"a/\xC3"] {
         let answer = to_json(rt.alloc(), Path::new(UnixStr::from_bytes(bytes)));
         assert!(rt; matches!(answer, Err(JsonError::NotUtf8)));
@@ -41,7 +41,7 @@ fn what_is_no_text_is_refused(rt: HostRuntime) {
 }
 
 #[test]
-fn what_is_no_string_is_refused(rt: HostRuntime) -> Result<(), Fail> {
+fn values_that_are_not_strings_are_refused(rt: HostRuntime) -> Result<(), Fail> {
     let alloc = rt.alloc();
     for text in ["7", "-7", "7.5", "null", "true", "[\"a\"]", "{\"a\":\"b\"}"] {
         let value = Value::from_str(alloc, text)?;

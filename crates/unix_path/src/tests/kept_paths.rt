@@ -4,7 +4,7 @@ ghost use Rattle.unix_path.specs.Buffers.{path_bytes};
 ghost use Rattle.unix_path.specs.Kept.{boxed_bytes, cow_bytes};
 ghost use Rattle.unix_path.specs.Parts.{SameValues};
 
-use super::kept::Kept;
+use super::recording_hasher::RecordingHasher;
 use crate::bytes::UnixStr;
 use crate::{BoxedPath, CowPath, Path, PathBuf, RcPath};
 use std::alloc::{AllocError, Global};
@@ -25,8 +25,8 @@ fn same_boxed(a: &BoxedPath, b: &BoxedPath) -> bool
     *a == *b
 }
 
-// What takes no memory is never refused.
-fn rewrapped(alloc: Global, buffer: PathBuf) -> Result<PathBuf, AllocError>
+// What does not allocate never fails.
+fn rewrap(alloc: Global, buffer: PathBuf) -> Result<PathBuf, AllocError>
     ensures bytes { IfOk result (λ p. path_bytes p ≡ path_bytes buffer) }
     ensures succeeds { IsOk result }
 {
@@ -36,7 +36,7 @@ fn rewrapped(alloc: Global, buffer: PathBuf) -> Result<PathBuf, AllocError>
 }
 
 // The three owners of a copy of `text`.
-fn kept(alloc: Global, text: &str) -> Result<(PathBuf, BoxedPath, RcPath), AllocError> {
+fn owners_of(alloc: Global, text: &str) -> Result<(PathBuf, BoxedPath, RcPath), AllocError> {
     let path = path(text);
     Ok((
         path.to_path_buf(alloc)?,
@@ -45,8 +45,8 @@ fn kept(alloc: Global, text: &str) -> Result<(PathBuf, BoxedPath, RcPath), Alloc
     ))
 }
 
-fn fed<T: Hash>(value: &T) -> Kept {
-    let mut state = Kept::new();
+fn hash_input<T: Hash>(value: &T) -> RecordingHasher {
+    let mut state = RecordingHasher::new();
     value.hash(&mut state);
     state
 }
@@ -54,9 +54,9 @@ fn fed<T: Hash>(value: &T) -> Kept {
 #[test]
 fn all_types_compare_and_hash_alike(rt: HostRuntime) -> Result<(), Fail> {
     let alloc = rt.alloc();
-    let (buffer, boxed, shared) = kept(alloc, "a//b")?;
+    let (buffer, boxed, shared) = owners_of(alloc, "a//b")?;
     let cow = CowPath::from(&buffer);
-    let (other_buffer, other_boxed, other_shared) = kept(alloc, "a/b")?;
+    let (other_buffer, other_boxed, other_shared) = owners_of(alloc, "a/b")?;
     let other_cow = CowPath::from(other_buffer.clone()?);
     for a in [
         path("a//b"),
@@ -77,12 +77,12 @@ fn all_types_compare_and_hash_alike(rt: HostRuntime) -> Result<(), Fail> {
             assert!(rt; a == b && a.cmp(&b) == Ordering::Equal);
         }
     }
-    let input = fed(&path("a/b"));
+    let input = hash_input(&path("a/b"));
     assert!(rt; input.len > 0);
-    assert!(rt; fed(&buffer) == input && fed(&other_buffer) == input);
-    assert!(rt; fed(&boxed) == input && fed(&other_boxed) == input);
-    assert!(rt; fed(&shared) == input && fed(&other_shared) == input);
-    assert!(rt; fed(&cow) == input && fed(&other_cow) == input);
+    assert!(rt; hash_input(&buffer) == input && hash_input(&other_buffer) == input);
+    assert!(rt; hash_input(&boxed) == input && hash_input(&other_boxed) == input);
+    assert!(rt; hash_input(&shared) == input && hash_input(&other_shared) == input);
+    assert!(rt; hash_input(&cow) == input && hash_input(&other_cow) == input);
     Ok(())
 }
 
@@ -96,8 +96,8 @@ fn are_ordered<T: Ord>(rt: &impl Abort, less: &T, a: &T, b: &T) {
 #[test]
 fn each_type_is_ordered_by_values(rt: HostRuntime) -> Result<(), Fail> {
     let alloc = rt.alloc();
-    let less = kept(alloc, "a/b")?;
-    let (a, b) = (kept(alloc, "a.b//")?, kept(alloc, "a.b/.")?);
+    let less = owners_of(alloc, "a/b")?;
+    let (a, b) = (owners_of(alloc, "a.b//")?, owners_of(alloc, "a.b/.")?);
     are_ordered(&rt, &less.1, &a.1, &b.1);
     are_ordered(&rt, &less.2, &a.2, &b.2);
     let owned = CowPath::from(less.0);
@@ -114,8 +114,8 @@ fn each_type_is_ordered_by_values(rt: HostRuntime) -> Result<(), Fail> {
 #[test]
 fn maps_find_equal_paths(rt: HostRuntime) -> Result<(), Fail> {
     let alloc = rt.alloc();
-    let (_, boxed, shared) = kept(alloc, "a//b")?;
-    let (_, equal_boxed, equal_shared) = kept(alloc, "a/b/.")?;
+    let (_, boxed, shared) = owners_of(alloc, "a//b")?;
+    let (_, equal_boxed, equal_shared) = owners_of(alloc, "a/b/.")?;
     let mut ordered = BTreeMap::new(alloc);
     ordered.insert(boxed, 1)?;
     assert!(rt; ordered.get(&equal_boxed) == Some(&1));
@@ -185,12 +185,12 @@ fn paths_are_shared(rt: HostRuntime) -> Result<(), Fail> {
     Ok(())
 }
 
-fn holds(rt: &impl Abort, found: Path<'_>) {
+fn assert_bytes(rt: &impl Abort, found: Path<'_>) {
     assert_eq!(rt; found.as_unix_str(), UnixStr::new("foo/"));
 }
 
-// `foo/`, in more memory than it needs.
-fn roomy(alloc: Global) -> Result<PathBuf, AllocError> {
+// `foo/`, with room behind it.
+fn buffer_with_room(alloc: Global) -> Result<PathBuf, AllocError> {
     let mut buffer = PathBuf::with_capacity(alloc, 4096)?;
     buffer.push(path("foo/"))?;
     Ok(buffer)
@@ -199,25 +199,25 @@ fn roomy(alloc: Global) -> Result<PathBuf, AllocError> {
 #[test]
 fn conversions_keep_the_bytes(rt: HostRuntime) -> Result<(), Fail> {
     let alloc = rt.alloc();
-    let boxed = BoxedPath::from_path_buf(roomy(alloc)?)?;
-    holds(&rt, boxed.as_path());
-    holds(&rt, boxed.clone()?.as_path());
-    holds(&rt, roomy(alloc)?.into_boxed_path()?.as_path());
-    holds(&rt, boxed.into_path_buf(alloc)?.as_path());
-    let shared = RcPath::from_path_buf(alloc, roomy(alloc)?)?;
-    holds(&rt, shared.clone()?.as_path());
+    let boxed = BoxedPath::from_path_buf(buffer_with_room(alloc)?)?;
+    assert_bytes(&rt, boxed.as_path());
+    assert_bytes(&rt, boxed.clone()?.as_path());
+    assert_bytes(&rt, buffer_with_room(alloc)?.into_boxed_path()?.as_path());
+    assert_bytes(&rt, boxed.into_path_buf(alloc)?.as_path());
+    let shared = RcPath::from_path_buf(alloc, buffer_with_room(alloc)?)?;
+    assert_bytes(&rt, shared.clone()?.as_path());
     let borrowed = CowPath::from(path("foo/"));
-    let owned = CowPath::from(roomy(alloc)?);
-    holds(&rt, borrowed.clone()?.as_path());
-    holds(&rt, owned.clone()?.as_path());
-    holds(
+    let owned = CowPath::from(buffer_with_room(alloc)?);
+    assert_bytes(&rt, borrowed.clone()?.as_path());
+    assert_bytes(&rt, owned.clone()?.as_path());
+    assert_bytes(
         &rt,
         BoxedPath::from_cow(alloc, borrowed.clone()?)?.as_path(),
     );
-    holds(&rt, BoxedPath::from_cow(alloc, owned.clone()?)?.as_path());
-    holds(&rt, borrowed.into_owned(alloc)?.as_path());
-    holds(&rt, owned.into_owned(alloc)?.as_path());
-    holds(&rt, rewrapped(alloc, roomy(alloc)?)?.as_path());
+    assert_bytes(&rt, BoxedPath::from_cow(alloc, owned.clone()?)?.as_path());
+    assert_bytes(&rt, borrowed.into_owned(alloc)?.as_path());
+    assert_bytes(&rt, owned.into_owned(alloc)?.as_path());
+    assert_bytes(&rt, rewrap(alloc, buffer_with_room(alloc)?)?.as_path());
     Ok(())
 }
 
@@ -245,7 +245,11 @@ fn each_conversion_keeps_a_name(rt: HostRuntime) -> Result<(), Fail> {
     Ok(())
 }
 
-fn shows(rt: &impl Abort, alloc: Global, value: &impl fmt::Debug) -> Result<(), AllocError> {
+fn assert_debug_text(
+    rt: &impl Abort,
+    alloc: Global,
+    value: &impl fmt::Debug,
+) -> Result<(), AllocError> {
     assert_eq!(rt; format!(in alloc; "{value:?}")?.as_str(), "\"/tmp\"");
     Ok(())
 }
@@ -253,11 +257,11 @@ fn shows(rt: &impl Abort, alloc: Global, value: &impl fmt::Debug) -> Result<(), 
 #[test]
 fn debug_texts(rt: HostRuntime) -> Result<(), Fail> {
     let alloc = rt.alloc();
-    let (buffer, boxed, shared) = kept(alloc, "/tmp")?;
-    shows(&rt, alloc, &buffer)?;
-    shows(&rt, alloc, &boxed)?;
-    shows(&rt, alloc, &shared)?;
-    shows(&rt, alloc, &CowPath::from(&buffer))?;
-    shows(&rt, alloc, &CowPath::from(buffer))?;
+    let (buffer, boxed, shared) = owners_of(alloc, "/tmp")?;
+    assert_debug_text(&rt, alloc, &buffer)?;
+    assert_debug_text(&rt, alloc, &boxed)?;
+    assert_debug_text(&rt, alloc, &shared)?;
+    assert_debug_text(&rt, alloc, &CowPath::from(&buffer))?;
+    assert_debug_text(&rt, alloc, &CowPath::from(buffer))?;
     Ok(())
 }

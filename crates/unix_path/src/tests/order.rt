@@ -9,17 +9,14 @@ ghost use Rattle.unix_path.specs.Order.{value_cmp, values_cmp};
 ghost use Rattle.unix_path.specs.Hashed.{value_input, hash_input_of};
 ghost use Rattle.unix_path.specs.Views.{value_of};
 
-use super::kept::Kept;
+use super::recording_hasher::RecordingHasher;
+use super::views::path;
 use crate::bytes::UnixStr;
 use crate::{Component, Components, Path};
 use std::cmp::Ordering;
 use std::collections::{BTreeMap, HashMap};
 use std::hash::{Hash, Hasher};
 use std::test::Fail;
-
-fn path(text: &str) -> Path<'_> {
-    Path::from_text(text)
-}
 
 fn same_names<'a>(a: UnixStr<'a>, b: UnixStr<'a>) -> bool
     ensures { IsTrue result ↔ (a.entry.bytes.now ≡ b.entry.bytes.now) }
@@ -87,8 +84,8 @@ fn feed_path<H: Hasher>(a: Path<'_>, state: &mut H)
     a.hash(state);
 }
 
-fn fed(text: &str) -> Kept {
-    let mut state = Kept::new();
+fn fed(text: &str) -> RecordingHasher {
+    let mut state = RecordingHasher::new();
     feed_path(path(text), &mut state);
     state
 }
@@ -186,11 +183,11 @@ fn feed_differently(texts: &[&str]) -> bool {
 #[test]
 fn paths_feed_their_components(rt: HostRuntime) {
     assert!(rt; feed_differently(&["a", "b", "/a", "./a", ".."]));
-    let mut parts = Kept::new();
+    let mut parts = RecordingHasher::new();
     feed_component(Component::Normal(UnixStr::new("a")), &mut parts);
     feed_component(Component::Normal(UnixStr::new("b")), &mut parts);
     assert!(rt; fed("a//b") == parts && parts.len > 0);
-    let mut name = Kept::new();
+    let mut name = RecordingHasher::new();
     feed_name(UnixStr::new("a"), &mut name);
     assert!(rt; name.len > 0 && name.len < fed("a").len);
 }

@@ -1,13 +1,10 @@
-//! Where answers lie, as a caller proves it.
+//! Where answers lie, as a caller proves it, and how long they live.
 ghost use Rattle.std.specs.Prelude.{IfSome};
 ghost use Rattle.unix_path.specs.Places.{LiesIn};
 
-use crate::Path;
+use super::views::{bytes, path, view};
 use crate::bytes::UnixStr;
-
-fn path(text: &str) -> Path<'_> {
-    Path::from_text(text)
-}
+use crate::{Ancestors, Component, Path};
 
 // The grandparent, in the path's own memory.
 fn grandparent<'a>(path: Path<'a>) -> Option<Path<'a>>
@@ -44,4 +41,47 @@ fn answers_lie_in_the_path(rt: HostRuntime) {
     assert!(rt; is_written(left_behind(path("/a//b/"), path("/a")), "b"));
     assert!(rt; is_written(left_behind(path("a/"), path("a")), ""));
     assert!(rt; left_behind(path("a"), path("b")).is_none());
+}
+
+// Each answer outlives the view that gave it, and the view that it was asked with.
+#[derive(Drop)]
+struct Answers<'a> {
+    parent: Option<Path<'a>>,
+    name: Option<UnixStr<'a>>,
+    stem: Option<UnixStr<'a>>,
+    extension: Option<UnixStr<'a>>,
+    left: Option<Path<'a>>,
+    ancestors: Ancestors<'a>,
+    first: Option<Component<'a>>,
+    rest: Path<'a>,
+}
+
+fn ask<'a>(text: &'a str) -> Answers<'a> {
+    let p = path(text);
+    let mut walk = p.components();
+    let first = walk.next();
+    Answers {
+        parent: p.parent(),
+        name: p.file_name(),
+        stem: p.file_stem(),
+        extension: p.extension(),
+        left: left_behind(p, path("a")),
+        ancestors: p.ancestors(),
+        first,
+        rest: walk.as_path(),
+    }
+}
+
+#[test]
+fn answers_outlive_the_view(rt: HostRuntime) {
+    let mut kept = ask("a//b.c/.");
+    assert!(rt; bytes(kept.parent) == view(Some("a")));
+    assert!(rt; kept.name == view(Some("b.c")));
+    assert!(rt; kept.stem == view(Some("b")));
+    assert!(rt; kept.extension == view(Some("c")));
+    assert!(rt; bytes(kept.left) == view(Some("b.c")));
+    assert!(rt; kept.first == Some(Component::Normal(UnixStr::new("a"))));
+    assert!(rt; kept.rest.as_unix_str() == UnixStr::new("b.c"));
+    assert!(rt; bytes(kept.ancestors.next()) == view(Some("a//b.c/.")));
+    assert!(rt; bytes(kept.ancestors.next()) == view(Some("a")));
 }

@@ -49,7 +49,7 @@ fn debug_texts_of_components(rt: HostRuntime) -> Result<(), Fail> {
     Ok(())
 }
 
-fn refusal(path: &str, base: &str) -> Option<StripPrefixError> {
+fn strip_error(path: &str, base: &str) -> Option<StripPrefixError> {
     match Path::new(UnixStr::new(path)).strip_prefix(Path::new(UnixStr::new(base))) {
         Ok(_) => None,
         Err(error) => Some(error),
@@ -57,14 +57,14 @@ fn refusal(path: &str, base: &str) -> Option<StripPrefixError> {
 }
 
 #[test]
-fn texts_of_the_refusal(rt: HostRuntime) -> Result<(), Fail> {
+fn texts_of_the_strip_error(rt: HostRuntime) -> Result<(), Fail> {
     let alloc = rt.alloc();
-    let Some(error) = refusal("foo/bar", "foo/bar/baz") else {
-        return Err(Fail::new("no refusal"));
+    let Some(error) = strip_error("foo/bar", "foo/bar/baz") else {
+        return Err(Fail::new("no error"));
     };
     assert!(rt; has_debug_text(alloc, &error, "StripPrefixError(())")?);
     let text = format!(in alloc; "{error}|{error:>18}")?;
     assert_eq!(rt; text.as_str(), "prefix not found|  prefix not found");
-    assert!(rt; refusal("foo", "bar") == Some(error));
+    assert!(rt; strip_error("foo", "bar") == Some(error));
     Ok(())
 }

@@ -1,17 +1,20 @@
 //! The example of the repository's first page.
 use crate::Path;
 use crate::bytes::UnixStr;
+use std::test::Fail;
 
 #[test]
-fn example(rt: HostRuntime) {
-    let path = Path::new(UnixStr::new("/tmp//foo/./bar.txt"));
-    let base = Path::new(UnixStr::new("/tmp/foo"));
+fn example(rt: HostRuntime) -> Result<(), Fail> {
+    let alloc = rt.alloc();
+    let path = Path::from_text("/tmp//foo/./bar.txt");
+    let base = Path::from_text("/tmp/foo/");
+    assert!(rt; path.starts_with(base) && base < path);
+    assert_eq!(rt; path.strip_prefix(base), Ok(Path::from_text("bar.txt")));
     assert_eq!(rt; path.parent(), Some(base));
-    assert_eq!(rt;
-        path.strip_prefix(base),
-        Ok(Path::new(UnixStr::new("bar.txt")))
-    );
-    assert_eq!(rt; path.file_stem(), Some(UnixStr::new("bar")));
-    assert_eq!(rt; path.extension(), Some(UnixStr::new("txt")));
-    assert!(rt; path > base && path.starts_with(base));
+
+    let mut copy = base.join(alloc, Path::from_bytes(b"caf\xE9.txt"))?;
+    assert!(rt; copy.set_extension(UnixStr::new("bak"))?);
+    assert_eq!(rt; copy.as_path(), Path::from_bytes(b"/tmp/foo/caf\xE9.bak"));
+    assert_eq!(rt; copy.as_path().to_str(), None);
+    Ok(())
 }

@@ -1,10 +1,7 @@
 //! Rows of what is left of a walk, and the bytes of components.
+use super::views::path;
+use crate::Component;
 use crate::bytes::UnixStr;
-use crate::{Component, Path};
-
-fn path(text: &str) -> Path<'_> {
-    Path::from_text(text)
-}
 
 // A path, how many parts are taken in front and behind, and what is left.
 static RESTS: [(&str, usize, usize, &str); 20] = [

@@ -1,23 +1,23 @@
-//! A hasher that keeps what it is fed, up to 64 bytes.
+//! A hasher that records what it is fed, up to 64 bytes.
 ghost use Rattle.std.specs.Prelude.{◌≡◌, ◌+◌, cond, nat_lt, fold, slice_set};
 
 use std::hash::Hasher;
 
 #[derive(Clone, Copy, PartialEq, Eq)]
-pub struct Kept {
+pub struct RecordingHasher {
     pub bytes: [u8; 64],
     pub len: usize,
 }
 
-impl Kept {
-    pub fn new() -> Kept {
-        Kept {
+impl RecordingHasher {
+    pub fn new() -> RecordingHasher {
+        RecordingHasher {
             bytes: [0; 64],
             len: 0,
         }
     }
 
-    fn keep(&mut self, byte: u8)
+    fn push(&mut self, byte: u8)
         ensures { self.new ≡ cond (nat_lt self.old.len 64)
             (record { bytes = slice_set self.old.bytes self.old.len byte; len = self.old.len + 1 })
             self.old }
@@ -29,11 +29,11 @@ impl Kept {
     }
 }
 
-impl Hasher for Kept {
-    ghost write = { fold (λ kept b. cond (nat_lt kept.len 64)
-        (record { bytes = slice_set kept.bytes kept.len b; len = kept.len + 1 }) kept) };
+impl Hasher for RecordingHasher {
+    ghost write = { fold (λ state b. cond (nat_lt state.len 64)
+        (record { bytes = slice_set state.bytes state.len b; len = state.len + 1 }) state) };
 
-    ghost finish = { λ kept. kept.len };
+    ghost finish = { λ state. state.len };
 
     fn finish(&self) -> u64 {
         self.len as u64
@@ -42,7 +42,7 @@ impl Hasher for Kept {
     fn write(&mut self, bytes: &[u8]) {
         let mut rest = bytes;
         while let Some((byte, others)) = rest.split_first() {
-            self.keep(*byte);
+            self.push(*byte);
             rest = others;
         }
     }

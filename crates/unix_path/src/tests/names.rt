@@ -1,0 +1,54 @@
+//! Rows of file names, stems and extensions.
+use super::views::{path, view};
+
+// A path, its stem and its extension.
+static STEMS: [(&str, Option<&str>, Option<&str>); 16] = [
+    ("foo", Some("foo"), None),
+    ("foo.", Some("foo"), Some("")),
+    (".foo", Some(".foo"), None),
+    ("foo.txt", Some("foo"), Some("txt")),
+    ("foo.bar.txt", Some("foo.bar"), Some("txt")),
+    ("foo.bar.", Some("foo.bar"), Some("")),
+    (".", None, None),
+    ("..", None, None),
+    ("", None, None),
+    ("...", Some(".."), Some("")),
+    ("..foo", Some("."), Some("foo")),
+    ("a/..foo", Some("."), Some("foo")),
+    ("./foo/bar.txt", Some("bar"), Some("txt")),
+    ("/tmp/foo/bar.txt", Some("bar"), Some("txt")),
+    ("foo.tar.gz", Some("foo.tar"), Some("gz")),
+    ("/", None, None),
+];
+
+fn has_stem(row: &(&str, Option<&str>, Option<&str>)) -> bool {
+    let p = path(row.0);
+    p.file_stem() == view(row.1) && p.extension() == view(row.2)
+}
+
+#[test]
+fn stems_and_extensions(rt: HostRuntime) {
+    for row in STEMS.iter() {
+        assert!(rt; has_stem(row), "{}", row.0);
+    }
+}
+
+static NAMES: [(&str, Option<&str>); 10] = [
+    ("/usr/bin/", Some("bin")),
+    ("tmp/foo.txt", Some("foo.txt")),
+    ("foo.txt", Some("foo.txt")),
+    ("foo.txt/.", Some("foo.txt")),
+    ("foo.txt/.//", Some("foo.txt")),
+    ("foo.txt/..", None),
+    ("/", None),
+    ("///foo///bar", Some("bar")),
+    ("./.", None),
+    ("..", None),
+];
+
+#[test]
+fn file_names(rt: HostRuntime) {
+    for row in NAMES.iter() {
+        assert!(rt; path(row.0).file_name() == view(row.1), "{}", row.0);
+    }
+}
