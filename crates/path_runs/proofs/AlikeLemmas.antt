@@ -40,24 +40,24 @@ parents_same s t e =
     ∙ parents_by (eqb (depth_of t) 0) (rest s 0 1) (rest t 0 1) (rests_same s t 0 1 e)
 
 -- the values of what is left before the last a parts, and of the n - 1 after it
-fronts_of : List ℕ → ℕ → ℕ → List (List Value)
-fronts_of s a n = map values (map (λ m. rest s 0 m) (range_with_len a n))
+rest_values : List ℕ → ℕ → ℕ → List (List Value)
+rest_values s a n = map values (map (λ m. rest s 0 m) (range_with_len a n))
 
-fronts_same : (s t : List ℕ) (a n : ℕ) → SameValues s t → fronts_of s a n ≡ fronts_of t a n
-unfolding fronts_of
-fronts_same s t a zero e = refl
-fronts_same s t a (suc n) e =
-    ap₂ (λ v vs. v ∷ vs) (rests_same s t 0 a e) (fronts_same s t (a + 1) n e)
+rest_values_same : (s t : List ℕ) (a n : ℕ) → SameValues s t → rest_values s a n ≡ rest_values t a n
+unfolding rest_values
+rest_values_same s t a zero e = refl
+rest_values_same s t a (suc n) e =
+    ap₂ (λ v vs. v ∷ vs) (rests_same s t 0 a e) (rest_values_same s t (a + 1) n e)
 
 pub ancestors_same : (s t : List ℕ) → SameValues s t
     → map values (ancestors_of s) ≡ map values (ancestors_of t)
-unfolding ancestors_of fronts_of
+unfolding ancestors_of rest_values
 ancestors_same s t e =
     ap₂ (λ v vs. v ∷ vs) e
-    (fronts_same s t 1 (depth_of s) e ∙ ap (fronts_of t 1) (depths_same s t e))
+    (rest_values_same s t 1 (depth_of s) e ∙ ap (rest_values t 1) (depths_same s t e))
 
-pub stripped_same : (s t base other : List ℕ) → SameValues s t → SameValues base other
+pub stripped_of-same : (s t base other : List ℕ) → SameValues s t → SameValues base other
     → SameValues (stripped_of s base) (stripped_of t other)
-stripped_same s t base other e f =
+stripped_of-same s t base other e f =
     rests_same s t (length (values base)) 0 e
     ∙ ap (λ vs. values (rest t (length vs) 0)) f

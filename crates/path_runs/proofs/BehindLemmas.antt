@@ -1,4 +1,4 @@
--- A last part behind an open front, taken off again.
+-- A last part behind an open path, taken off again.
 use Rattle.std.proofs.Common.{◌≡◌, ℕ, ◌+◌, ◌≤◌, true, List, [], ◌∷◌, ◌++◌, length, take, map}
 use Rattle.std.proofs.Common.{refl, sym, ap, ap₂, ◌∙◌, arith, append_assoc, append-nil}
 use Rattle.std.proofs.lemmas.List.{map-append, take-append-le, append_cancel_left}
@@ -11,7 +11,7 @@ use Rattle.unix_path.proofs.CutLemmas.{inner_parts-append}
 use Rattle.unix_path.proofs.PartLemmas.{parts-nil}
 use Rattle.unix_path.proofs.PieceLemmas.{inner_parts-nil}
 use Rattle.unix_path.proofs.SpanLemmas.{length-rest_whole, rest-whole, span-parts}
-use Rattle.unix_path.proofs.StemLemmas.{length-rest_front}
+use Rattle.unix_path.proofs.StemLemmas.{length-rest_whole-le}
 use Rattle.unix_path.proofs.StepLemmas.{rest-last}
 use Rattle.unix_path.proofs.TrimLemmas.{leading_past_slash, parts-slash}
 use Rattle.path_runs.proofs.AssociativeLemmas.{sep}
@@ -32,7 +32,7 @@ parts-past_slash f b =
     (sym (inner_parts-append 0 f [] ∙ ap (λ ps. inner_parts 0 f ++ ps) (inner_parts-nil k)
     ∙ append-nil (inner_parts 0 f)))
 
--- behind an open front the parts are those of the front, and more
+-- behind an open path the parts are those of that path, and more
 parts-open : (u b : List ℕ) → is_open u ≡ true
     → (more : List Part) × (parts (u ++ b) ≡ parts u ++ more)
 parts-open [] b o = (parts b, sym (ap (λ ps. ps ++ parts b) parts-nil))
@@ -51,7 +51,7 @@ single (p ∷ []) v e = (p, refl)
 single (p ∷ q ∷ ps) v e =
     absurd (let no : p.value ∷ q.value ∷ map value_of_part ps ≡ v ∷ [] = e in cc)
 
--- where the values are those of the front and one more, so are the parts
+-- where the values are those of an open path and one more, so are the parts
 last_behind : (u b : List ℕ) (v : Value) → is_open u ≡ true
     → values (u ++ b) ≡ values u ++ v ∷ []
     → (p : Part) × (parts (u ++ b) ≡ parts u ++ p ∷ [])
@@ -65,19 +65,19 @@ last_behind u b v o e =
     (one.0, behind.1 ∙ ap (λ ps. parts u ++ ps) one.1)
 
 parts_end-le : (s : List ℕ) → parts_end (parts s) ≤ length s
-parts_end-le s = omega (arith, length-rest_whole s, length-rest_front s)
+parts_end-le s = omega (arith, length-rest_whole s, length-rest_whole-le s)
 
--- a rest is read from a front alone
-rest-of_front : (u b : List ℕ) → take (parts_end (parts u)) (u ++ b) ≡ rest u 0 0
-rest-of_front u b =
+-- the rest of a prefix is read from that prefix alone
+take-parts_end : (u b : List ℕ) → take (parts_end (parts u)) (u ++ b) ≡ rest u 0 0
+take-parts_end u b =
     take-append-le (parts_end (parts u)) u b (parts_end-le u) ∙ sym (rest-whole u)
 
--- without its last part, a path with an open front is that front's rest
+-- without its last part, a path with an open prefix is that prefix's rest
 pub rest-behind : (u b : List ℕ) (v : Value) → is_open u ≡ true
     → values (u ++ b) ≡ values u ++ v ∷ [] → rest (u ++ b) 0 1 ≡ rest u 0 0
 rest-behind u b v o e =
     let last = last_behind u b v o e in
-    rest-last (u ++ b) (parts u) last.0 last.1 ∙ span-parts (u ++ b) u ∙ rest-of_front u b
+    rest-last (u ++ b) (parts u) last.0 last.1 ∙ span-parts (u ++ b) u ∙ take-parts_end u b
 
 parts-sep : (r : List ℕ) → parts (r ++ sep r) ≡ parts r
 parts-sep r = by_test (is_open r) (λ o. rw o (ap parts (append-nil r)))
@@ -89,4 +89,4 @@ values-sep r = ap (map value_of_part) (parts-sep r)
 
 pub rest-sep : (r : List ℕ) → rest (r ++ sep r) 0 0 ≡ rest r 0 0
 rest-sep r = rest-whole (r ++ sep r)
-    ∙ ap (λ ps. take (parts_end ps) (r ++ sep r)) (parts-sep r) ∙ rest-of_front r (sep r)
+    ∙ ap (λ ps. take (parts_end ps) (r ++ sep r)) (parts-sep r) ∙ take-parts_end r (sep r)

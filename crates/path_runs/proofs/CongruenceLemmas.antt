@@ -10,31 +10,32 @@ use Rattle.unix_path.specs.Parents.{depth_of, parent_of}
 use Rattle.unix_path.specs.Names.{file_name_of, split_name}
 use Rattle.unix_path.specs.Edits.{popped_of, before_name_of, with_name_of, last_start_of}
 use Rattle.unix_path.specs.Edits.{stem_end_of, dot_before, with_extension_of}
-use Rattle.unix_path.proofs.EditLemmas.{extended}
+use Rattle.unix_path.proofs.EditLemmas.{with_extension_at}
 use Rattle.unix_path.proofs.MiddleLemmas.{middle}
 use Rattle.unix_path.proofs.RestLemmas.{values-rest}
 use Rattle.unix_path.proofs.StemLemmas.{stem_end_by}
 use Rattle.path_runs.specs.declared.edits.Answer.{Answer}
 use Rattle.path_runs.specs.declared.edits.Answer.TheVariants.{Flag}
-use Rattle.path_runs.specs.Runs.{EditValue, Push, Pop, SetFileName, SetExtension, Clear, edit_of}
-use Rattle.path_runs.specs.Runs.{edits_of}
+use Rattle.path_runs.specs.EditLists.{EditValue, Push, Pop, SetFileName, SetExtension, Clear}
+use Rattle.path_runs.specs.EditLists.{edit_of, edits_of}
 use Rattle.path_runs.specs.EditLaws.{SameEdit}
-use Rattle.path_runs.proofs.DotLemmas.{stem_front}
+use Rattle.path_runs.proofs.DotLemmas.{stem_prefix}
 use Rattle.path_runs.proofs.LeadLemmas.{joins_same, roots_same}
 use Rattle.path_runs.proofs.NamedLemmas.{NamedCut, named_cut}
-use Rattle.path_runs.proofs.ValueLemmas.{added, added-open}
+use Rattle.path_runs.proofs.ValueLemmas.{append_values, values-append_open}
 
-stem_kept : (s name : List ℕ) (c : NamedCut s name)
-    → take (last_start_of (parts s) + length (split_name name).0) s ≡ c.front ++ (split_name name).0
-stem_kept s name c =
+take-stem_end : (s name : List ℕ) (c : NamedCut s name)
+    → take (last_start_of (parts s) + length (split_name name).0) s
+    ≡ c.prefix ++ (split_name name).0
+take-stem_end s name c =
     let stem = (split_name name).0 in
-    let k = stem_front name in
+    let k = stem_prefix name in
     let n = last_start_of (parts s) + length stem in
-    let size : length (c.front ++ stem) ≡ n =
-    length-append c.front stem ∙ ap (λ z. z + length stem) (sym c.start) in
-    ap (take n) (c.whole ∙ ap (λ z. (c.front ++ z) ++ c.back) k.1
-    ∙ regroup c.front stem k.0 c.back)
-    ∙ take_at (c.front ++ stem) (k.0 ++ c.back) n size
+    let size : length (c.prefix ++ stem) ≡ n =
+    length-append c.prefix stem ∙ ap (λ z. z + length stem) (sym c.start) in
+    ap (take n) (c.whole ∙ ap (λ z. (c.prefix ++ z) ++ c.back) k.1
+    ∙ regroup c.prefix stem k.0 c.back)
+    ∙ take_at (c.prefix ++ stem) (k.0 ++ c.back) n size
   where
     regroup : (f a b c : List ℕ) → (f ++ (a ++ b)) ++ c ≡ (f ++ a) ++ (b ++ c)
     regroup f a b c = simp append_assoc
@@ -42,12 +43,12 @@ stem_kept s name c =
 -- the bytes with an extension set
 pub with_extension_of-cut : (s name x : List ℕ) → file_name_of (values s) ≡ Some name
     → (c : NamedCut s name)
-    → with_extension_of s x ≡ c.front ++ ((split_name name).0 ++ (dot_before x ++ x))
+    → with_extension_of s x ≡ c.prefix ++ ((split_name name).0 ++ (dot_before x ++ x))
 unfolding with_extension_of stem_end_of
 with_extension_of-cut s name x e c =
-    ap (λ o. extended s x (stem_end_by s o)) e
-    ∙ ap (λ z. (z ++ dot_before x) ++ x) (stem_kept s name c)
-    ∙ regroup c.front (split_name name).0 (dot_before x) x
+    ap (λ o. with_extension_at s x (stem_end_by s o)) e
+    ∙ ap (λ z. (z ++ dot_before x) ++ x) (take-stem_end s name c)
+    ∙ regroup c.prefix (split_name name).0 (dot_before x) x
   where
     regroup : (f a b c : List ℕ) → ((f ++ a) ++ b) ++ c ≡ f ++ (a ++ (b ++ c))
     regroup f a b c = simp append_assoc
@@ -55,15 +56,15 @@ with_extension_of-cut s name x e c =
 values-with_extension_of : (s name x : List ℕ) → file_name_of (values s) ≡ Some name
     → (c : NamedCut s name)
     → values (with_extension_of s x)
-    ≡ added (values c.front) ((split_name name).0 ++ (dot_before x ++ x))
+    ≡ append_values (values c.prefix) ((split_name name).0 ++ (dot_before x ++ x))
 values-with_extension_of s name x e c =
     ap values (with_extension_of-cut s name x e c)
-    ∙ added-open c.front ((split_name name).0 ++ (dot_before x ++ x)) c.ends
+    ∙ values-append_open c.prefix ((split_name name).0 ++ (dot_before x ++ x)) c.ends
 
 pub with_extension_of-none : (s x : List ℕ) → file_name_of (values s) ≡ None
     → with_extension_of s x ≡ s
 unfolding with_extension_of stem_end_of
-with_extension_of-none s x e = ap (λ o. extended s x (stem_end_by s o)) e
+with_extension_of-none s x e = ap (λ o. with_extension_at s x (stem_end_by s o)) e
 
 pub depths_same : (s t : List ℕ) → SameValues s t → depth_of s ≡ depth_of t
 depths_same s t e = ap₂ (λ n rooted. n - cond rooted 1 0) (ap length e) (roots_same s t e)
@@ -72,59 +73,59 @@ pub rests_same : (s t : List ℕ) (k m : ℕ) → SameValues s t → SameValues 
 rests_same s t k m e = values-rest s k m ∙ ap (middle k m) e ∙ sym (values-rest t k m)
 
 -- the two left paths are equal, and the answers are the same
-abbrev pub Alike : List ℕ × Answer → List ℕ × Answer → Type 0
+abbrev Alike : List ℕ × Answer → List ℕ × Answer → Type 0
 Alike p q = SameValues p.0 q.0 × (p.1 ≡ q.1)
 
-abbrev PoppedAlike : List ℕ → List ℕ → Option (List ℕ) → Option (List ℕ) → Type 0
-PoppedAlike s t q r =
+abbrev PopsAlike : List ℕ → List ℕ → Option (List ℕ) → Option (List ℕ) → Type 0
+PopsAlike s t q r =
     SameValues (unwrap_or q s) (unwrap_or r t) × (Flag (is_some q) ≡ Flag (is_some r))
 
-popped_same : (c : Bool) (s t q r : List ℕ) → SameValues s t → SameValues q r
-    → PoppedAlike s t (cond c None (Some q)) (cond c None (Some r))
-popped_same true s t q r e f = (e, refl)
-popped_same false s t q r e f = (f, refl)
+pops_by : (c : Bool) (s t q r : List ℕ) → SameValues s t → SameValues q r
+    → PopsAlike s t (cond c None (Some q)) (cond c None (Some r))
+pops_by true s t q r e f = (e, refl)
+pops_by false s t q r e f = (f, refl)
 
 pop_same : (s t : List ℕ) → SameValues s t → Alike (edit_of s Pop) (edit_of t Pop)
 unfolding popped_of parent_of
 pop_same s t e =
-    subst (λ n. PoppedAlike s t (parent_of s) (cond (eqb n 0) None (Some (rest t 0 1))))
+    subst (λ n. PopsAlike s t (parent_of s) (cond (eqb n 0) None (Some (rest t 0 1))))
     (depths_same s t e)
-    (popped_same (eqb (depth_of s) 0) s t (rest s 0 1) (rest t 0 1) e (rests_same s t 0 1 e))
+    (pops_by (eqb (depth_of s) 0) s t (rest s 0 1) (rest t 0 1) e (rests_same s t 0 1 e))
 
-without_same : (s t : List ℕ) (named : Bool) → SameValues s t
+before_by : (s t : List ℕ) (named : Bool) → SameValues s t
     → SameValues (cond named (rest s 0 1) s) (cond named (rest t 0 1) t)
-without_same s t true e = rests_same s t 0 1 e
-without_same s t false e = e
+before_by s t true e = rests_same s t 0 1 e
+before_by s t false e = e
 
 before_same : (s t : List ℕ) → SameValues s t → SameValues (before_name_of s) (before_name_of t)
 unfolding before_name_of
 before_same s t e =
     ap (λ vs. values (cond (is_some (file_name_of vs)) (rest s 0 1) s)) e
-    ∙ without_same s t (is_some (file_name_of (values t))) e
+    ∙ before_by s t (is_some (file_name_of (values t))) e
 
 pub with_name_same : (s t n : List ℕ) → SameValues s t
     → SameValues (with_name_of s n) (with_name_of t n)
 with_name_same s t n e =
     joins_same (before_name_of s) (before_name_of t) n n (before_same s t e) refl
 
-extended_same : (s t x : List ℕ) (o : Option (List ℕ)) → file_name_of (values s) ≡ o
+extensions_same : (s t x : List ℕ) (o : Option (List ℕ)) → file_name_of (values s) ≡ o
     → file_name_of (values t) ≡ o → SameValues s t
     → SameValues (with_extension_of s x) (with_extension_of t x)
-extended_same s t x None n m e = ap values (with_extension_of-none s x n) ∙ e
+extensions_same s t x None n m e = ap values (with_extension_of-none s x n) ∙ e
     ∙ sym (ap values (with_extension_of-none t x m))
-extended_same s t x (Some name) n m e =
+extensions_same s t x (Some name) n m e =
     let c = named_cut s name n in
     let d = named_cut t name m in
-    let fronts = same_from_push (values c.front) (values d.front) (Normal name) (Normal name)
+    let prefixes = same_from_push (values c.prefix) (values d.prefix) (Normal name) (Normal name)
     (sym c.before ∙ e ∙ d.before) in
     values-with_extension_of s name x n c
-    ∙ ap (λ vs. added vs ((split_name name).0 ++ (dot_before x ++ x))) fronts.0
+    ∙ ap (λ vs. append_values vs ((split_name name).0 ++ (dot_before x ++ x))) prefixes.0
     ∙ sym (values-with_extension_of t name x m d)
 
 pub with_extension_same : (s t x : List ℕ) → SameValues s t
     → SameValues (with_extension_of s x) (with_extension_of t x)
 with_extension_same s t x e =
-    extended_same s t x (file_name_of (values t)) (ap file_name_of e) refl e
+    extensions_same s t x (file_name_of (values t)) (ap file_name_of e) refl e
 
 one_same : (s t : List ℕ) (e : EditValue) → SameValues s t → Alike (edit_of s e) (edit_of t e)
 one_same s t (Push b) k = (joins_same s t b b k refl, refl)
@@ -134,7 +135,7 @@ one_same s t (SetExtension x) k =
     (with_extension_same s t x k, ap (λ vs. Flag (is_some (file_name_of vs))) k)
 one_same s t Clear k = (refl, refl)
 
-pub edit_same : (s t : List ℕ) (d e : EditValue) → SameValues s t → SameEdit d e
+edit_same : (s t : List ℕ) (d e : EditValue) → SameValues s t → SameEdit d e
     → Alike (edit_of s d) (edit_of t e)
 edit_same s t (Push b) (Push c) k h = (joins_same s t b c k h, refl)
 edit_same s t d e k h = subst (λ e. Alike (edit_of s d) (edit_of t e)) h (one_same s t d k)

@@ -80,8 +80,8 @@ split_case name = by (last_dot name)
         Cut b f x e (ap split_name e ∙ split_name-dot (b ∷ f) x (omega arith) h)
 
 -- a name begins with its stem
-pub stem_front : (name : List ℕ) → (r : List ℕ) × (name ≡ (split_name name).0 ++ r)
-stem_front name = by (split_case name)
+pub stem_prefix : (name : List ℕ) → (r : List ℕ) × (name ≡ (split_name name).0 ++ r)
+stem_prefix name = by (split_case name)
   where
     by : SplitCase name → (r : List ℕ) × (name ≡ (split_name name).0 ++ r)
     by (Whole e) = ([], sym (ap (λ c. c.0 ++ []) e ∙ append-nil name))

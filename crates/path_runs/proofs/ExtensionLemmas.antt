@@ -11,18 +11,18 @@ use Rattle.unix_path.specs.Edits.{with_extension_of}
 use Rattle.unix_path.specs.Joins.{is_open}
 use Rattle.unix_path.proofs.EditLemmas.{dot_before-some}
 use Rattle.path_runs.specs.declared.edits.Answer.TheVariants.{Flag}
-use Rattle.path_runs.specs.JoinLaws.{unled}
+use Rattle.path_runs.specs.JoinLaws.{drop_lead}
 use Rattle.path_runs.specs.EditLaws.{HasNone, IsPlainExtension, TakesExtension}
 use Rattle.path_runs.proofs.BehindLemmas.{rest-behind}
 use Rattle.path_runs.proofs.CongruenceLemmas.{with_extension_of-cut}
 use Rattle.path_runs.proofs.DotLemmas.{SplitCase, Whole, Cut, split_case, split_name-dot}
-use Rattle.path_runs.proofs.DotLemmas.{stem_front}
-use Rattle.path_runs.proofs.LeadLemmas.{unled-values}
+use Rattle.path_runs.proofs.DotLemmas.{stem_prefix}
+use Rattle.path_runs.proofs.LeadLemmas.{drop_lead-values}
 use Rattle.path_runs.proofs.NamedLemmas.{IsName, NamedCut, named_cut}
-use Rattle.path_runs.proofs.PieceNameLemmas.{IsPiece, piece-front, piece-append, piece-none}
+use Rattle.path_runs.proofs.PieceNameLemmas.{IsPiece, piece-prefix, piece-append, piece-none}
 use Rattle.path_runs.proofs.PieceNameLemmas.{long-name, values-name}
-use Rattle.path_runs.proofs.SiblingLemmas.{parent_of-named, file_name_of-named}
-use Rattle.path_runs.proofs.ValueLemmas.{added, added-open}
+use Rattle.path_runs.proofs.SiblingLemmas.{parent_of-name, file_name_of-name}
+use Rattle.path_runs.proofs.ValueLemmas.{append_values, values-append_open}
 
 some_stem : (name : List ℕ) → 0 < length name → 0 < length (split_name name).0
 some_stem name l = by (split_case name)
@@ -32,18 +32,18 @@ some_stem name l = by (split_case name)
     by (Cut b f x w e) = subst (λ c. 0 < length c.0) (sym e) (omega arith)
 
 -- the new name, and what stands before it
-pub record NewExtension (s t stem x : List ℕ) : Type 0 where
+record NewExtension (s t stem x : List ℕ) : Type 0 where
   pub name : List ℕ
-  pub named : file_name_of (values t) ≡ Some name
+  pub file_name : file_name_of (values t) ≡ Some name
   pub split : split_name name ≡ (stem, Some x)
   pub parent : parent_of t ≡ parent_of s
 
 stem_piece : (name : List ℕ) → IsPiece name → IsPiece (split_name name).0
 stem_piece name h =
-    let front = stem_front name in
-    piece-front (split_name name).0 front.0 (subst IsPiece front.1 h)
+    let stem = stem_prefix name in
+    piece-prefix (split_name name).0 stem.0 (subst IsPiece stem.1 h)
 
--- the stem with such an extension behind
+-- a stem with a dot and an extension without a slash is a name
 new_name : (name : List ℕ) (b : ℕ) (x : List ℕ) → IsName name → HasNone 47 (b ∷ x)
     → IsName ((split_name name).0 ++ 46 ∷ b ∷ x)
 new_name name b x h k =
@@ -54,19 +54,19 @@ new_name name b x h k =
     (piece-append (46 ∷ []) (b ∷ x) refl (piece-none (b ∷ x) k)))
 
 values-open_name : (u name : List ℕ) → values name ≡ Normal name ∷ []
-    → added (values u) name ≡ values u ++ Normal name ∷ []
+    → append_values (values u) name ≡ values u ++ Normal name ∷ []
 values-open_name u name e = by (values u)
   where
-    by : (vs : List Value) → added vs name ≡ vs ++ Normal name ∷ []
+    by : (vs : List Value) → append_values vs name ≡ vs ++ Normal name ∷ []
     by [] = e
     by (v ∷ vs) = ap (λ ws. v ∷ vs ++ ws)
-        (sym (unled-values name) ∙ ap unled e)
+        (sym (drop_lead-values name) ∙ ap drop_lead e)
 
--- a path behind an open front has that front's rest as its parent
+-- a path with an open prefix has that prefix's rest as its parent
 parent_of-open : (s u b name : List ℕ) → s ≡ u ++ b → is_open u ≡ true
     → values s ≡ values u ++ Normal name ∷ [] → parent_of s ≡ Some (rest u 0 0)
 parent_of-open s u b name is o e =
-    parent_of-named s name (values u) e
+    parent_of-name s name (values u) e
     ∙ ap Some (ap (λ s. rest s 0 1) is
     ∙ rest-behind u b (Normal name) o (ap values (sym is) ∙ e))
 
@@ -77,27 +77,27 @@ set_from s name b x e c dot slash =
     let stem = (split_name name).0 in
     let new = stem ++ 46 ∷ b ∷ x in
     let t = with_extension_of s (b ∷ x) in
-    let is : t ≡ c.front ++ new = with_extension_of-cut s name (b ∷ x) e c
-    ∙ ap (λ gap. c.front ++ (stem ++ (gap ++ b ∷ x))) (dot_before-some b x) in
-    let all : values t ≡ values c.front ++ Normal new ∷ [] =
-    ap values is ∙ added-open c.front new c.ends
-    ∙ values-open_name c.front new (values-name new (new_name name b x c.is_name slash)) in
+    let is : t ≡ c.prefix ++ new = with_extension_of-cut s name (b ∷ x) e c
+    ∙ ap (λ gap. c.prefix ++ (stem ++ (gap ++ b ∷ x))) (dot_before-some b x) in
+    let all : values t ≡ values c.prefix ++ Normal new ∷ [] =
+    ap values is ∙ values-append_open c.prefix new c.ends
+    ∙ values-open_name c.prefix new (values-name new (new_name name b x c.is_name slash)) in
     record {
       name = new;
-      named = file_name_of-named t new (values c.front) all;
+      file_name = file_name_of-name t new (values c.prefix) all;
       split = split_name-dot stem (b ∷ x) (some_stem name c.is_name.some) dot;
-      parent = parent_of-open t c.front new new is c.ends all
-          ∙ sym (parent_of-open s c.front (name ++ c.back) name
-          (c.whole ∙ append_assoc c.front name c.back) c.ends c.before);
+      parent = parent_of-open t c.prefix new new is c.ends all
+          ∙ sym (parent_of-open s c.prefix (name ++ c.back) name
+          (c.whole ∙ append_assoc c.prefix name c.back) c.ends c.before);
     }
 
-pub set_extension : (s name x : List ℕ) → file_name_of (values s) ≡ Some name
+set_extension : (s name x : List ℕ) → file_name_of (values s) ≡ Some name
     → IsPlainExtension x
     → NewExtension s (with_extension_of s x) (split_name name).0 x
 set_extension s name [] e h = absurd (h.some refl)
 set_extension s name (b ∷ x) e h = set_from s name b x e (named_cut s name e) h.no_dot h.no_slash
 
-pub some_name : (s : List ℕ) → Flag (is_some (file_name_of (values s))) ≡ Flag true
+some_name : (s : List ℕ) → Flag (is_some (file_name_of (values s))) ≡ Flag true
     → (name : List ℕ) × (file_name_of (values s) ≡ Some name)
 some_name s e = by (file_name_of (values s)) refl e
   where
@@ -106,11 +106,11 @@ some_name s e = by (file_name_of (values s)) refl e
     by None is e = absurd (cc)
     by (Some name) is e = (name, is)
 
--- what a path is after it took an extension
-taken : (s x t : List ℕ) → TakesExtension s x t
+-- the new file name of a path that takes an extension
+new_extension : (s x t : List ℕ) → TakesExtension s x t
     → (name : List ℕ) × (file_name_of (values s) ≡ Some name)
     × NewExtension s t (split_name name).0 x
-taken s x t h =
+new_extension s x t h =
     let name = some_name s (ap (λ p. p.1) h.1) in (
       name.0,
       name.1,
@@ -118,18 +118,18 @@ taken s x t h =
           (set_extension s name.0 x name.1 h.0),
     )
 
-pub stem_of-taken : (s x t : List ℕ) → TakesExtension s x t
+pub stem_of-new_extension : (s x t : List ℕ) → TakesExtension s x t
     → stem_of (values t) ≡ stem_of (values s)
-stem_of-taken s x t h =
-    let new = taken s x t h in
-    ap (option_map (λ name. (split_name name).0)) new.2.named ∙ ap (λ c. Some c.0) new.2.split
+stem_of-new_extension s x t h =
+    let new = new_extension s x t h in
+    ap (option_map (λ name. (split_name name).0)) new.2.file_name ∙ ap (λ c. Some c.0) new.2.split
     ∙ sym (ap (option_map (λ name. (split_name name).0)) new.1)
 
-pub extension_of-taken : (s x t : List ℕ) → TakesExtension s x t
+pub extension_of-new_extension : (s x t : List ℕ) → TakesExtension s x t
     → extension_of (values t) ≡ Some x
-extension_of-taken s x t h =
-    let new = taken s x t h in
-    ap (option_and_then (λ name. (split_name name).1)) new.2.named ∙ ap (λ c. c.1) new.2.split
+extension_of-new_extension s x t h =
+    let new = new_extension s x t h in
+    ap (option_and_then (λ name. (split_name name).1)) new.2.file_name ∙ ap (λ c. c.1) new.2.split
 
-pub parent_of-taken : (s x t : List ℕ) → TakesExtension s x t → parent_of t ≡ parent_of s
-parent_of-taken s x t h = (taken s x t h).2.parent
+pub parent_of-new_extension : (s x t : List ℕ) → TakesExtension s x t → parent_of t ≡ parent_of s
+parent_of-new_extension s x t h = (new_extension s x t h).2.parent

@@ -15,12 +15,12 @@ row_onto : (x b : List ℕ) (bs : List (List ℕ))
 row_onto x b [] = refl
 row_onto x b (c ∷ bs) = append_assoc x b (slash ∷ join_with_byte slash (c ∷ bs))
 
--- only how it ends counts
-is_open-append : (a b : List ℕ) → is_open b ≡ false → is_open (a ++ b) ≡ false
-is_open-append [] b e = e
-is_open-append (x ∷ []) [] e = absurd (let d : true ≡ false = e in cc)
-is_open-append (x ∷ []) (y ∷ b) e = e
-is_open-append (x ∷ y ∷ a) b e = is_open-append (y ∷ a) b e
+-- a path that ends in one that isn't open isn't open
+is_open-append_closed : (a b : List ℕ) → is_open b ≡ false → is_open (a ++ b) ≡ false
+is_open-append_closed [] b e = e
+is_open-append_closed (x ∷ []) [] e = absurd (let d : true ≡ false = e in cc)
+is_open-append_closed (x ∷ []) (y ∷ b) e = e
+is_open-append_closed (x ∷ y ∷ a) b e = is_open-append_closed (y ∷ a) b e
 
 abbrev AllPlain : List (List ℕ) → Type 0
 AllPlain bs = AllByRecursion IsPlain bs
@@ -31,7 +31,7 @@ join_all_of-closed a [] o h = refl
 join_all_of-closed a (b ∷ bs) o h =
     ap (λ c. join_all_of c bs) (join_of_closed a b h.0.rootless o)
     ∙ join_all_of-closed ((a ++ slash ∷ []) ++ b) bs
-    (is_open-append (a ++ slash ∷ []) b h.0.closed) h.1
+    (is_open-append_closed (a ++ slash ∷ []) b h.0.closed) h.1
     ∙ row_onto (a ++ slash ∷ []) b bs ∙ append_assoc a (slash ∷ []) (join_with_byte slash (b ∷ bs))
 
 join_all_of-plain : (bs : List (List ℕ)) → AllPlain bs → join_all_of [] bs ≡ join_with_byte slash bs
@@ -45,7 +45,7 @@ join_all_of-root [] h = join_of_rooted [] (slash ∷ []) refl
 join_all_of-root (b ∷ bs) h =
     ap (λ c. join_all_of (join_of c b) bs) (join_of_rooted [] (slash ∷ []) refl)
     ∙ ap (λ c. join_all_of c bs) (join_of_open (slash ∷ []) b h.0.rootless refl)
-    ∙ join_all_of-closed (slash ∷ b) bs (is_open-append (slash ∷ []) b h.0.closed) h.1
+    ∙ join_all_of-closed (slash ∷ b) bs (is_open-append_closed (slash ∷ []) b h.0.closed) h.1
     ∙ row_onto (slash ∷ []) b bs
 
 plain_bytes : (vs : List Value) → AllByRecursion IsPlainValue vs → AllPlain (map value_bytes vs)

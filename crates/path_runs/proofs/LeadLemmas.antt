@@ -1,6 +1,6 @@
 -- A leading root or dot, and the values behind it.
 use Rattle.std.proofs.Common.{◌≡◌, ℕ, ◌+◌, Bool, true, false, cond, List, [], ◌∷◌, ◌++◌}
-use Rattle.std.proofs.Common.{length, map, refl, sym, ap, subst, ◌∙◌, append-nil}
+use Rattle.std.proofs.Common.{length, map, refl, sym, ap, subst, ◌∙◌, arith, append-nil}
 use Rattle.std.specs.List.{AllByRecursion, slice_split}
 use Rattle.std.specs.Str.{bytes_eq}
 use Rattle.unix_path.specs.Parts.{Part, Value, RootDir, CurDir, ParentDir, Normal, is_slash}
@@ -11,8 +11,10 @@ use Rattle.unix_path.proofs.CaseLemmas.{by_test}
 use Rattle.unix_path.proofs.JoinLemmas.{join_of_rooted}
 use Rattle.unix_path.proofs.PartLemmas.{root_first, root_first-values, values-nil}
 use Rattle.unix_path.proofs.PieceLemmas.{first_piece, slice_split-first}
-use Rattle.path_runs.specs.JoinLaws.{undotted, unled}
-use Rattle.path_runs.proofs.ValueLemmas.{body, body-nil, values-leading, added, added-join_of}
+use Rattle.path_runs.specs.JoinLaws.{drop_dot, drop_lead, values_added}
+use Rattle.path_runs.proofs.AssociativeLemmas.{join_of-nil}
+use Rattle.path_runs.proofs.ValueLemmas.{body, body-nil, values-leading, append_values}
+use Rattle.path_runs.proofs.ValueLemmas.{values-join_of, values-join_of_rootless}
 
 -- a value that can stand behind another
 abbrev pub IsInner : Value → Type 0
@@ -32,25 +34,25 @@ inner_pieces at (p ∷ ps) =
     by_value true = tt
     by_value false = tt
 
-pub body-inner : (s : List ℕ) → AllByRecursion IsInner (body s)
+body-inner : (s : List ℕ) → AllByRecursion IsInner (body s)
 unfolding inner_parts
 body-inner s = inner_pieces 0 (slice_split is_slash s)
 
 -- neither the root nor a dot stands first
-pub record IsUnled (vs : List Value) : Type 0 where
-  pub no_lead : unled vs ≡ vs
-  pub no_dot : undotted vs ≡ vs
+pub record HasNoLead (vs : List Value) : Type 0 where
+  pub no_lead : drop_lead vs ≡ vs
+  pub no_dot : drop_dot vs ≡ vs
   pub no_root : root_first vs ≡ false
 
-pub inner-unled : (vs : List Value) → AllByRecursion IsInner vs → IsUnled vs
-inner-unled [] h = record { no_lead = refl; no_dot = refl; no_root = refl }
-inner-unled (RootDir ∷ vs) h = absurd h.0
-inner-unled (CurDir ∷ vs) h = absurd h.0
-inner-unled (ParentDir ∷ vs) h = record { no_lead = refl; no_dot = refl; no_root = refl }
-inner-unled (Normal name ∷ vs) h = record { no_lead = refl; no_dot = refl; no_root = refl }
+pub inner-no_lead : (vs : List Value) → AllByRecursion IsInner vs → HasNoLead vs
+inner-no_lead [] h = record { no_lead = refl; no_dot = refl; no_root = refl }
+inner-no_lead (RootDir ∷ vs) h = absurd h.0
+inner-no_lead (CurDir ∷ vs) h = absurd h.0
+inner-no_lead (ParentDir ∷ vs) h = record { no_lead = refl; no_dot = refl; no_root = refl }
+inner-no_lead (Normal name ∷ vs) h = record { no_lead = refl; no_dot = refl; no_root = refl }
 
-body-unled : (s : List ℕ) → IsUnled (body s)
-body-unled s = inner-unled (body s) (body-inner s)
+body-no_lead : (s : List ℕ) → HasNoLead (body s)
+body-no_lead s = inner-no_lead (body s) (body-inner s)
 
 -- the first piece is `.`
 abbrev pub dot_first : List (List ℕ) → Bool
@@ -72,13 +74,15 @@ pub values-lead : (s : List ℕ)
     → values s ≡ lead_by (is_rooted s) (dot_first (slice_split is_slash s)) ++ body s
 values-lead s = values-leading s ∙ ap (λ vs. vs ++ body s) (leading_values s)
 
-unled_lead : (c d : Bool) (vs : List Value) → IsUnled vs → unled (lead_by c d ++ vs) ≡ vs
-unled_lead true d vs h = refl
-unled_lead false true vs h = refl
-unled_lead false false vs h = h.no_lead
+drop_lead-lead_by : (c d : Bool) (vs : List Value) → HasNoLead vs
+    → drop_lead (lead_by c d ++ vs) ≡ vs
+drop_lead-lead_by true d vs h = refl
+drop_lead-lead_by false true vs h = refl
+drop_lead-lead_by false false vs h = h.no_lead
 
-pub unled-values : (s : List ℕ) → unled (values s) ≡ body s
-unled-values s = ap unled (values-lead s) ∙ unled_lead (is_rooted s) _ (body s) (body-unled s)
+pub drop_lead-values : (s : List ℕ) → drop_lead (values s) ≡ body s
+drop_lead-values s =
+    ap drop_lead (values-lead s) ∙ drop_lead-lead_by (is_rooted s) _ (body s) (body-no_lead s)
 
 same_tail : {x y : Value} {xs ys : List Value} → x ∷ xs ≡ y ∷ ys → xs ≡ ys
 same_tail e = cc
@@ -96,15 +100,24 @@ pub inner-behind : (s : List ℕ) (x : Value) (xs : List Value) → values s ≡
 inner-behind s x xs e =
     inner_lead (is_rooted s) _ (body s) x xs (body-inner s) (sym (values-lead s) ∙ e)
 
-undotted_lead : (d : Bool) (vs : List Value) → IsUnled vs → undotted (lead_by false d ++ vs) ≡ vs
-undotted_lead true vs h = refl
-undotted_lead false vs h = h.no_dot
+drop_dot-lead_by : (d : Bool) (vs : List Value) → HasNoLead vs
+    → drop_dot (lead_by false d ++ vs) ≡ vs
+drop_dot-lead_by true vs h = refl
+drop_dot-lead_by false vs h = h.no_dot
 
-pub undotted-values : (s : List ℕ) → is_rooted s ≡ false → undotted (values s) ≡ body s
-undotted-values s r =
-    ap undotted (values-lead s
+pub drop_dot-values : (s : List ℕ) → is_rooted s ≡ false → drop_dot (values s) ≡ body s
+drop_dot-values s r =
+    ap drop_dot (values-lead s
     ∙ ap (λ c. lead_by c (dot_first (slice_split is_slash s)) ++ body s) r)
-    ∙ undotted_lead (dot_first (slice_split is_slash s)) (body s) (body-unled s)
+    ∙ drop_dot-lead_by (dot_first (slice_split is_slash s)) (body s) (body-no_lead s)
+
+-- what a join adds behind the values of its first path
+pub values-join_of_values_added : (a b : List ℕ) → is_rooted b ≡ false
+    → values (join_of a b) ≡ values a ++ values_added a b
+values-join_of_values_added [] b r =
+    ap values (join_of-nil b) ∙ sym (ap (λ vs. vs ++ values b) values-nil)
+values-join_of_values_added (x ∷ a) b r = values-join_of (x ∷ a) b (omega arith) r
+    ∙ ap (λ vs. values (x ∷ a) ++ vs) (sym (drop_dot-values b r))
 
 pub roots_same : (s t : List ℕ) → values s ≡ values t → is_rooted s ≡ is_rooted t
 roots_same s t e = sym (root_first-values s) ∙ ap root_first e ∙ root_first-values t
@@ -115,22 +128,22 @@ pub joins_same : (a b c d : List ℕ) → values a ≡ values b → values c ≡
 joins_same a b c d e f = by_test (is_rooted c)
     (λ r. ap values (join_of_rooted a c r) ∙ f
     ∙ ap values (sym (join_of_rooted b d (sym root ∙ r))))
-    (λ r. added-join_of a c r ∙ ap (λ vs. added vs c) e ∙ added_same (values b)
-    ∙ sym (added-join_of b d (sym root ∙ r)))
+    (λ r. values-join_of_rootless a c r ∙ ap (λ vs. append_values vs c) e ∙ append_same (values b)
+    ∙ sym (values-join_of_rootless b d (sym root ∙ r)))
   where
     root : is_rooted c ≡ is_rooted d
     root = roots_same c d f
 
     bodies : body c ≡ body d
-    bodies = sym (unled-values c) ∙ ap unled f ∙ unled-values d
+    bodies = sym (drop_lead-values c) ∙ ap drop_lead f ∙ drop_lead-values d
 
-    added_same : (vs : List Value) → added vs c ≡ added vs d
-    added_same [] = f
-    added_same (v ∷ vs) = ap (λ z. (v ∷ vs) ++ z) bodies
+    append_same : (vs : List Value) → append_values vs c ≡ append_values vs d
+    append_same [] = f
+    append_same (v ∷ vs) = ap (λ z. (v ∷ vs) ++ z) bodies
 
 pub values-join_of_nil : (a : List ℕ) → values (join_of a []) ≡ values a
-values-join_of_nil a = added-join_of a [] refl ∙ nothing (values a)
+values-join_of_nil a = values-join_of_rootless a [] refl ∙ nothing (values a)
   where
-    nothing : (vs : List Value) → added vs [] ≡ vs
+    nothing : (vs : List Value) → append_values vs [] ≡ vs
     nothing [] = values-nil
     nothing (v ∷ vs) = ap (λ b. (v ∷ vs) ++ b) body-nil ∙ append-nil (v ∷ vs)

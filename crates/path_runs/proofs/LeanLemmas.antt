@@ -13,7 +13,7 @@ use Rattle.path_runs.proofs.PieceValueLemmas.{rooted_is}
 use Rattle.path_runs.proofs.SpellLemmas.{kept_of, spelling_of-rooted, spelling_of-rootless}
 
 -- the same bytes, or fewer
-abbrev pub Leaner : List ℕ → List ℕ → Type 0
+abbrev Leaner : List ℕ → List ℕ → Type 0
 Leaner u s = (u ≡ s) ⊎ (length u < length s)
 
 Leaner-append : (p u s : List ℕ) → Leaner u s → Leaner (p ++ u) (p ++ s)
@@ -24,7 +24,7 @@ Leaner-longer : (u s t : List ℕ) → Leaner u s → length s < length t → Le
 Leaner-longer u s t (inl e) l = inr (omega (arith, ap length e))
 Leaner-longer u s t (inr h) l = inr (omega arith)
 
--- a piece less is a byte less, at least
+-- with a piece less there is at least a byte less
 row_less : (p q : List ℕ) (qs : List (List ℕ))
     → length (join_with_byte slash (p ∷ qs)) < length (join_with_byte slash (p ∷ q ∷ qs))
 row_less p q [] = omega (arith, length-append p (slash ∷ q))
@@ -69,21 +69,21 @@ lean_row (q ∷ qs) = by_test (counts q) (λ e. rw e (lean_after q qs))
     (λ e. rw e (lean_first q qs (lean_row qs)))
 
 -- a string is its pieces, joined
-pieces_joined : (s : List ℕ) → join_with_byte slash (slice_split is_slash s) ≡ s
-pieces_joined s = join_with_byte-slice_split 47 s
+join_with_byte-pieces : (s : List ℕ) → join_with_byte slash (slice_split is_slash s) ≡ s
+join_with_byte-pieces s = join_with_byte-slice_split 47 s
 
 lean_rooted : (t : List ℕ) → Leaner (spelling_of (values (slash ∷ t))) (slash ∷ t)
 lean_rooted t =
     let ps = slice_split is_slash t in
     subst (λ u. Leaner u (slash ∷ t)) (sym (spelling_of-rooted t))
     (Leaner-append (slash ∷ []) (join_with_byte slash (filter counts ps)) t
-    (subst (Leaner (join_with_byte slash (filter counts ps))) (pieces_joined t)
+    (subst (Leaner (join_with_byte slash (filter counts ps))) (join_with_byte-pieces t)
     (lean_row ps)))
 
-lean_kept : (ps : List (List ℕ))
+lean_kept_of : (ps : List (List ℕ))
     → Leaner (join_with_byte slash (kept_of ps)) (join_with_byte slash ps)
-lean_kept [] = inl refl
-lean_kept (p ∷ qs) = by (bytes_eq p cur_dir) refl
+lean_kept_of [] = inl refl
+lean_kept_of (p ∷ qs) = by (bytes_eq p cur_dir) refl
   where
     by : (c : Bool) → bytes_eq p cur_dir ≡ c
         → Leaner (join_with_byte slash (kept_of (p ∷ qs))) (join_with_byte slash (p ∷ qs))
@@ -100,8 +100,8 @@ spelling_of-lean s = by_test (is_rooted s)
     (λ r. let t = rooted_is s r in
     subst (λ s. Leaner (spelling_of (values s)) s) (sym t.1) (lean_rooted t.0))
     (λ r. subst (λ u. Leaner u s) (sym (spelling_of-rootless s (slice_split is_slash s) r refl))
-    (subst (Leaner (join_with_byte slash (kept_of (slice_split is_slash s)))) (pieces_joined s)
-    (lean_kept (slice_split is_slash s))))
+    (subst (Leaner (join_with_byte slash (kept_of (slice_split is_slash s))))
+    (join_with_byte-pieces s) (lean_kept_of (slice_split is_slash s))))
 
 -- each path with these values is the spelling, or longer
 pub spelling_of-shortest : (s t : List ℕ) → values t ≡ values s

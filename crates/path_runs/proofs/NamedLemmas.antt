@@ -7,7 +7,7 @@ use Rattle.std.proofs.Common.{subst, ◌∙◌, arith, length-append, length-tak
 use Rattle.std.proofs.Common.{get_or-take, eq-eqb, ltb-true, ltb-false, length-drop}
 use Rattle.std.specs.List.{position_or_len}
 use Rattle.std.specs.Str.{bytes_eq}
-use Rattle.std.proofs.lemmas.List.{map-append, get_or_default}
+use Rattle.std.proofs.lemmas.List.{map-append, get_or_default, nil_from_length}
 use Rattle.std.proofs.lemmas.Option.{none-some}
 use Rattle.unix_path.specs.Parts.{is_slash, cur_dir, parent_dir, Part, Value, RootDir, CurDir}
 use Rattle.unix_path.specs.Parts.{ParentDir, Normal, parts, values}
@@ -16,37 +16,37 @@ use Rattle.unix_path.specs.Steps.{IsLastStart, first_value, parts_end}
 use Rattle.unix_path.specs.Joins.{is_open}
 use Rattle.unix_path.specs.Names.{file_name_of}
 use Rattle.unix_path.specs.Edits.{last_start_of}
-use Rattle.unix_path.proofs.CaseLemmas.{by_test, is_nil}
+use Rattle.unix_path.proofs.CaseLemmas.{by_test}
 use Rattle.unix_path.proofs.JoinLemmas.{is_open-at}
 use Rattle.unix_path.proofs.LastLemmas.{last_part, last_start, root_alone}
 use Rattle.unix_path.proofs.ParentLemmas.{file_name_of-last}
 use Rattle.unix_path.proofs.PartLemmas.{values-nil}
-use Rattle.unix_path.proofs.SpanLemmas.{Trimmed, trimmed, length-rest_whole, parts_end-whole}
+use Rattle.unix_path.proofs.SpanLemmas.{TrimsEnd, trims_end, length-rest_whole, parts_end-whole}
 use Rattle.unix_path.proofs.StemLemmas.{name_of-some, last_start_of-name}
 
--- one piece that stands for a name wherever it stands
+-- a piece that is a name wherever it stands
 pub record IsName (name : List ℕ) : Type 0 where
   pub some : 0 < length name
   pub no_slash : position_or_len is_slash name ≡ length name
   pub no_dot : bytes_eq name cur_dir ≡ false
   pub no_dots : bytes_eq name parent_dir ≡ false
 
--- s is an open front, the name, and what doesn't count behind it
+-- s is an open prefix, the name, and what doesn't count behind it
 pub record NamedCut (s name : List ℕ) : Type 0 where
-  pub front : List ℕ
+  pub prefix : List ℕ
   pub back : List ℕ
-  pub whole : s ≡ (front ++ name) ++ back
-  pub ends : is_open front ≡ true
-  pub start : last_start_of (parts s) ≡ length front
-  pub before : values s ≡ values front ++ Normal name ∷ []
+  pub whole : s ≡ (prefix ++ name) ++ back
+  pub ends : is_open prefix ≡ true
+  pub start : last_start_of (parts s) ≡ length prefix
+  pub before : values s ≡ values prefix ++ Normal name ∷ []
   pub is_name : IsName name
 
-pub name_of_push : (s name : List ℕ) (vs : List Value) (v : Value) → values s ≡ vs ++ v ∷ []
+name_of_push : (s name : List ℕ) (vs : List Value) (v : Value) → values s ≡ vs ++ v ∷ []
     → file_name_of (values s) ≡ Some name → v ≡ Normal name
 name_of_push s name vs v is e =
     name_of-some v name (sym (ap file_name_of is ∙ file_name_of-last vs v) ∙ e)
 
-pub no_name : (s name : List ℕ) → values s ≡ [] → file_name_of (values s) ≡ Some name → ⊥
+no_name : (s name : List ℕ) → values s ≡ [] → file_name_of (values s) ≡ Some name → ⊥
 unfolding file_name_of
 no_name s name is e = none-some name (sym (ap file_name_of is) ∙ e)
 
@@ -64,16 +64,16 @@ name_piece y name h = by (bytes_eq y cur_dir) refl (bytes_eq y parent_dir) refl 
     by false e true k h = absurd (let no : ParentDir ≡ Normal name = h in cc)
     by false e false k h = record { same = cc; no_dot = e; no_dots = k }
 
-open_front : (t : List ℕ) (a : ℕ) → a ≤ length t → (0 < a → get_or t (a - 1) 0 ≡ 47)
+is_open-take : (t : List ℕ) (a : ℕ) → a ≤ length t → (0 < a → get_or t (a - 1) 0 ≡ 47)
     → is_open (take a t) ≡ true
-open_front t zero l h = refl
-open_front t (suc k) l h =
+is_open-take t zero l h = refl
+is_open-take t (suc k) l h =
     is_open-at (take (suc k) t)
     ∙ ap (λ j. eqb (get_or (take (suc k) t) (j - 1) 47) 47) (length-take-le (suc k) t l)
     ∙ eq-eqb _ 47 (get_or-take (suc k) t (suc k - 1) 47 (omega arith)
     ∙ get_or_default t (suc k - 1) 47 0 (omega arith) ∙ h (omega arith))
 
-cut_at : (s name : List ℕ) (trim : Trimmed s) (a : ℕ) → file_name_of (values s) ≡ Some name
+cut_at : (s name : List ℕ) (trim : TrimsEnd s) (a : ℕ) → file_name_of (values s) ≡ Some name
     → IsLastStart (take trim.len s) a → a < length (take trim.len s) → NamedCut s name
 unfolding values
 cut_at s name trim a e h l =
@@ -81,26 +81,26 @@ cut_at s name trim a e h l =
     let last = last_part t a h l trim.ends in
     let y = drop a t in
     let v = first_value y in
-    let front = take a t in
-    let all : values s ≡ values front ++ v ∷ [] =
+    let prefix = take a t in
+    let all : values s ≡ values prefix ++ v ∷ [] =
     ap (map (λ (p : Part). p.value)) (sym trim.same ∙ last.1)
-    ∙ map-append (λ (p : Part). p.value) (parts front)
+    ∙ map-append (λ (p : Part). p.value) (parts prefix)
     (record { start = last.0; end = length t; value = v } ∷ []) in
-    let named = name_of_push s name (values front) v all e in
+    let named = name_of_push s name (values prefix) v all e in
     let piece = name_piece y name named in
     let same = piece.same in
-    let t_is : front ++ name ≡ t = ap (λ y. front ++ y) (sym same) ∙ take-append-drop a t in
-    let size : length t ≡ length front + length name =
-    sym (ap length t_is) ∙ length-append front name in
+    let t_is : prefix ++ name ≡ t = ap (λ y. prefix ++ y) (sym same) ∙ take-append-drop a t in
+    let size : length t ≡ length prefix + length name =
+    sym (ap length t_is) ∙ length-append prefix name in
     let end : length (rest s 0 0) ≡ length t = length-rest_whole s
     ∙ ap parts_end (sym trim.same) ∙ parts_end-whole t trim.ends in
     record {
-      front = front;
+      prefix = prefix;
       back = drop trim.len s;
       whole = sym (ap (λ t. t ++ drop trim.len s) t_is ∙ take-append-drop trim.len s);
-      ends = open_front t a h.in_range h.after_slash;
+      ends = is_open-take t a h.in_range h.after_slash;
       start = omega (arith, last_start_of-name s name (sym e));
-      before = all ∙ ap (λ v. values front ++ v ∷ []) named;
+      before = all ∙ ap (λ v. values prefix ++ v ∷ []) named;
       is_name = record {
         some = omega (arith, length-drop a t, ap length same);
         no_slash = subst (λ y. position_or_len is_slash y ≡ length y) same h.no_slash;
@@ -109,7 +109,7 @@ cut_at s name trim a e h l =
       };
     }
 
-no_cut : (s name : List ℕ) (trim : Trimmed s) (a : ℕ) → file_name_of (values s) ≡ Some name
+no_cut : (s name : List ℕ) (trim : TrimsEnd s) (a : ℕ) → file_name_of (values s) ≡ Some name
     → IsLastStart (take trim.len s) a → length (take trim.len s) ≤ a → ⊥
 unfolding values
 no_cut s name trim a e h l =
@@ -124,13 +124,13 @@ no_cut s name trim a e h l =
     ap (map (λ (p : Part). p.value)) (sym trim.same ∙ root) in
     absurd (let no : RootDir ≡ Normal name = name_of_push s name [] RootDir all e in cc))
     (λ none.
-    let nil : t ≡ [] = is_nil t (omega (arith, ltb-false _ _ none)) in
+    let nil : t ≡ [] = nil_from_length t (omega (arith, ltb-false _ _ none)) in
     no_name s name (ap (map (λ (p : Part). p.value)) (sym trim.same) ∙ ap values nil ∙ values-nil)
     e)
 
 pub named_cut : (s name : List ℕ) → file_name_of (values s) ≡ Some name → NamedCut s name
 named_cut s name e =
-    let trim = trimmed s in
+    let trim = trims_end s in
     let at = last_start (take trim.len s) in
     by_test (ltb at.0 (length (take trim.len s)))
     (λ l. cut_at s name trim at.0 e at.1 (ltb-true _ _ l))

@@ -1,4 +1,4 @@
--- Value lists tie in the order exactly if they are equal, and lists that begin each other are.
+-- Value lists are equal exactly if they tie in the order, and if they begin each other.
 use Rattle.std.proofs.Common.{◌≡◌, ◌↔◌, List, ◌++◌, length, sym, ap, ◌∙◌, arith, append-nil, Equal}
 use Rattle.std.proofs.Common.{length-append}
 use Rattle.std.proofs.lemmas.Cmp.{tied_itself}

@@ -41,5 +41,5 @@ parent-join_name s parent name e f =
     let cut = named_cut s name f in
     values-join_of_one parent name name (values-name name cut.is_name)
     ∙ ap (λ vs. vs ++ Normal name ∷ []) (ap values (parent_of-some s parent e)
-    ∙ values-rest_push s (values cut.front) (Normal name) cut.before)
+    ∙ values-rest_push s (values cut.prefix) (Normal name) cut.before)
     ∙ sym cut.before

@@ -10,7 +10,8 @@ use Rattle.unix_path.specs.Parts.{is_slash, cur_dir, parent_dir, Part, Normal, i
 use Rattle.unix_path.specs.Steps.{first_value}
 use Rattle.unix_path.proofs.CaseLemmas.{by_test}
 use Rattle.unix_path.proofs.PartLemmas.{parts-name}
-use Rattle.unix_path.proofs.PieceLemmas.{inner_parts-nil, position_or_len-other, position_or_len-slash}
+use Rattle.unix_path.proofs.PieceLemmas.{inner_parts-nil, position_or_len-other}
+use Rattle.unix_path.proofs.PieceLemmas.{position_or_len-slash}
 use Rattle.path_runs.specs.EditLaws.{HasNone}
 use Rattle.path_runs.proofs.NamedLemmas.{IsName}
 
@@ -28,10 +29,10 @@ piece_tail b s h = omega (arith, h, position_or_len-other b s (piece_head b s h)
 piece_cons : (b : ℕ) (s : List ℕ) → eqb b 47 ≡ false → IsPiece s → IsPiece (b ∷ s)
 piece_cons b s e h = omega (arith, h, position_or_len-other b s e)
 
-pub piece-front : (a b : List ℕ) → IsPiece (a ++ b) → IsPiece a
-piece-front [] b h = refl
-piece-front (x ∷ a) b h = piece_cons x a (piece_head x (a ++ b) h)
-    (piece-front a b (piece_tail x (a ++ b) h))
+pub piece-prefix : (a b : List ℕ) → IsPiece (a ++ b) → IsPiece a
+piece-prefix [] b h = refl
+piece-prefix (x ∷ a) b h = piece_cons x a (piece_head x (a ++ b) h)
+    (piece-prefix a b (piece_tail x (a ++ b) h))
 
 pub piece-append : (a b : List ℕ) → IsPiece a → IsPiece b → IsPiece (a ++ b)
 piece-append [] b h k = k

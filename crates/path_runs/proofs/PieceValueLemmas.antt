@@ -24,7 +24,7 @@ body-pieces : (s : List ℕ) → body s ≡ names_of (slice_split is_slash s)
 unfolding inner_parts
 body-pieces s = names_of-parts 0 (slice_split is_slash s)
 
-pub values-pieces : (s : List ℕ)
+values-pieces : (s : List ℕ)
     → values s ≡ lead_by (is_rooted s) (dot_first (slice_split is_slash s)) ++ names_of
     (slice_split is_slash s)
 values-pieces s = values-lead s

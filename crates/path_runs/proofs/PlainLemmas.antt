@@ -53,11 +53,11 @@ pub data Shape (vs : List Value) : Type 0 where
   Rooted : (ws : List Value) → vs ≡ RootDir ∷ ws → AllByRecursion IsPlainValue ws → Shape vs
   Rootless : AllByRecursion IsPlainValue vs → Shape vs
 
-dotted_plain : (c : Bool) (vs : List Value) → AllByRecursion IsPlainValue vs
+lead-plain : (c : Bool) (vs : List Value) → AllByRecursion IsPlainValue vs
     → AllByRecursion IsPlainValue (cond c (CurDir ∷ []) [] ++ vs)
-dotted_plain true vs h =
+lead-plain true vs h =
     (record { plain = record { rootless = refl; closed = refl }; no_root = λ d. cc }, h)
-dotted_plain false vs h = h
+lead-plain false vs h = h
 
 pub values-shape : (s : List ℕ) → Shape (values s)
 values-shape s = by_test (is_rooted s)
@@ -66,5 +66,5 @@ values-shape s = by_test (is_rooted s)
     (names_of-plain (slice_split is_slash t.0) (slice_split-no_slash t.0)))
     (λ r. let ps = slice_split is_slash s in
     Rootless (subst (AllByRecursion IsPlainValue) (sym (values-rootless s ps r refl))
-    (dotted_plain (dot_first ps) (names_of ps)
+    (lead-plain (dot_first ps) (names_of ps)
     (names_of-plain ps (slice_split-no_slash s)))))

@@ -15,8 +15,8 @@ use Rattle.path_runs.proofs.PieceValueLemmas.{names_of, values-rooted, values-ro
 use Rattle.path_runs.proofs.PieceValueLemmas.{rooted_is, NoSlash, slice_split-no_slash}
 use Rattle.path_runs.proofs.SpellLemmas.{kept_of, spelling_of-rooted, spelling_of-rootless}
 
-abbrev AllNamed : List (List ℕ) → Type 0
-AllNamed ps = AllByRecursion (λ p. counts p ≡ true) ps
+abbrev AllCount : List (List ℕ) → Type 0
+AllCount ps = AllByRecursion (λ p. counts p ≡ true) ps
 
 slice_split-row : (p : List ℕ) (ps : List (List ℕ)) → AllByRecursion NoSlash (p ∷ ps)
     → slice_split is_slash (join_with_byte slash (p ∷ ps)) ≡ p ∷ ps
@@ -34,19 +34,19 @@ filter-no_slash (p ∷ ps) h =
     by_test (counts p) (λ e. rw e (h.0, filter-no_slash ps h.1))
     (λ e. rw e (filter-no_slash ps h.1))
 
-filter-named : (ps : List (List ℕ)) → AllNamed (filter counts ps)
-filter-named [] = tt
-filter-named (p ∷ ps) =
-    by_test (counts p) (λ e. rw e (e, filter-named ps)) (λ e. rw e (filter-named ps))
+filter-counts : (ps : List (List ℕ)) → AllCount (filter counts ps)
+filter-counts [] = tt
+filter-counts (p ∷ ps) =
+    by_test (counts p) (λ e. rw e (e, filter-counts ps)) (λ e. rw e (filter-counts ps))
 
-names_of-named : (ps : List (List ℕ)) → AllNamed ps → names_of ps ≡ map value_of_piece ps
-names_of-named [] h = refl
-names_of-named (p ∷ ps) h = rw h.0 (ap (λ vs. value_of_piece p ∷ vs) (names_of-named ps h.1))
+names_of-counts : (ps : List (List ℕ)) → AllCount ps → names_of ps ≡ map value_of_piece ps
+names_of-counts [] h = refl
+names_of-counts (p ∷ ps) h = rw h.0 (ap (λ vs. value_of_piece p ∷ vs) (names_of-counts ps h.1))
 
-names_of-row : (ps : List (List ℕ)) → AllByRecursion NoSlash ps → AllNamed ps
+names_of-row : (ps : List (List ℕ)) → AllByRecursion NoSlash ps → AllCount ps
     → names_of (slice_split is_slash (join_with_byte slash ps)) ≡ map value_of_piece ps
 names_of-row [] h k = refl
-names_of-row (p ∷ ps) h k = ap names_of (slice_split-row p ps h) ∙ names_of-named (p ∷ ps) k
+names_of-row (p ∷ ps) h k = ap names_of (slice_split-row p ps h) ∙ names_of-counts (p ∷ ps) k
 
 -- a row that begins with a name has no root
 row_rootless : (p : List ℕ) (ps : List (List ℕ)) → NoSlash p → counts p ≡ true
@@ -55,8 +55,8 @@ row_rootless [] ps h e = absurd (let d : false ≡ true = e in cc)
 row_rootless (x ∷ p) [] h e = h.0
 row_rootless (x ∷ p) (q ∷ ps) h e = h.0
 
-named_no_dot : (p : List ℕ) → counts p ≡ true → bytes_eq p cur_dir ≡ false
-named_no_dot p e = by (bytes_eq p []) (bytes_eq p cur_dir) refl refl e
+counts-no_dot : (p : List ℕ) → counts p ≡ true → bytes_eq p cur_dir ≡ false
+counts-no_dot p e = by (bytes_eq p []) (bytes_eq p cur_dir) refl refl e
   where
     by : (c d : Bool) → bytes_eq p [] ≡ c → bytes_eq p cur_dir ≡ d
         → not (bytes_eq p [] || bytes_eq p cur_dir) ≡ true → bytes_eq p cur_dir ≡ false
@@ -71,27 +71,27 @@ values-spelling_rooted t =
     let kept = filter counts ps in
     ap values (spelling_of-rooted t) ∙ values-rooted (join_with_byte slash kept)
     ∙ ap (λ vs. RootDir ∷ vs)
-    (names_of-row kept (filter-no_slash ps (slice_split-no_slash t)) (filter-named ps))
+    (names_of-row kept (filter-no_slash ps (slice_split-no_slash t)) (filter-counts ps))
     ∙ sym (values-rooted t)
 
-values-row : (ps : List (List ℕ)) → AllByRecursion NoSlash ps → AllNamed ps
+values-row : (ps : List (List ℕ)) → AllByRecursion NoSlash ps → AllCount ps
     → values (join_with_byte slash ps) ≡ map value_of_piece ps
 values-row [] h k = values-rootless [] ([] ∷ []) refl refl
 values-row (p ∷ ps) h k =
     values-rootless (join_with_byte slash (p ∷ ps)) (p ∷ ps) (row_rootless p ps h.0 k.0)
     (slice_split-row p ps h)
-    ∙ ap (λ c. cond c (CurDir ∷ []) [] ++ names_of (p ∷ ps)) (named_no_dot p k.0)
-    ∙ names_of-named (p ∷ ps) k
+    ∙ ap (λ c. cond c (CurDir ∷ []) [] ++ names_of (p ∷ ps)) (counts-no_dot p k.0)
+    ∙ names_of-counts (p ∷ ps) k
 
 dot_rootless : (ps : List (List ℕ)) → is_rooted (join_with_byte slash (cur_dir ∷ ps)) ≡ false
 dot_rootless [] = refl
 dot_rootless (p ∷ ps) = refl
 
-values-dot_row : (ps : List (List ℕ)) → AllByRecursion NoSlash ps → AllNamed ps
+values-dot_row : (ps : List (List ℕ)) → AllByRecursion NoSlash ps → AllCount ps
     → values (join_with_byte slash (cur_dir ∷ ps)) ≡ CurDir ∷ map value_of_piece ps
 values-dot_row ps h k =
     values-rootless (join_with_byte slash (cur_dir ∷ ps)) (cur_dir ∷ ps) (dot_rootless ps)
-    (slice_split-row cur_dir ps ((refl, (tt)), h)) ∙ ap (λ vs. CurDir ∷ vs) (names_of-named ps k)
+    (slice_split-row cur_dir ps ((refl, (tt)), h)) ∙ ap (λ vs. CurDir ∷ vs) (names_of-counts ps k)
 
 values-kept_of : (ps : List (List ℕ)) → AllByRecursion NoSlash ps
     → values (join_with_byte slash (kept_of ps)) ≡ cond (dot_first ps)
@@ -103,11 +103,11 @@ values-kept_of (p ∷ qs) h = by (bytes_eq p cur_dir) refl
         → values (join_with_byte slash (kept_of (p ∷ qs))) ≡ cond (bytes_eq p cur_dir)
         (CurDir ∷ []) [] ++ names_of (p ∷ qs)
     by true d = rw ((bytes_eq-Decides p cur_dir).0 d)
-        (values-dot_row (filter counts qs) (filter-no_slash qs h.1) (filter-named qs))
+        (values-dot_row (filter counts qs) (filter-no_slash qs h.1) (filter-counts qs))
     by false d = subst (λ c. values
         (join_with_byte slash (cond c (cur_dir ∷ filter counts qs) (filter counts (p ∷ qs))))
         ≡ cond c (CurDir ∷ []) [] ++ names_of (p ∷ qs)) (sym d)
-        (values-row (filter counts (p ∷ qs)) (filter-no_slash (p ∷ qs) h) (filter-named (p ∷ qs)))
+        (values-row (filter counts (p ∷ qs)) (filter-no_slash (p ∷ qs) h) (filter-counts (p ∷ qs)))
 
 pub values-spelling_of : (s : List ℕ) → values (spelling_of (values s)) ≡ values s
 values-spelling_of s = by_test (is_rooted s)

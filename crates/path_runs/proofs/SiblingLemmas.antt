@@ -13,21 +13,21 @@ use Rattle.unix_path.proofs.MiddleLemmas.{middle}
 use Rattle.unix_path.proofs.ParentLemmas.{before_name_of-some, parent_of-deep, file_name_of-last}
 use Rattle.unix_path.proofs.PartLemmas.{root_first, root_first-values}
 use Rattle.unix_path.proofs.RestLemmas.{rest-rest, values-rest}
-use Rattle.path_runs.specs.JoinLaws.{unled}
+use Rattle.path_runs.specs.JoinLaws.{drop_lead}
 use Rattle.path_runs.specs.EditLaws.{IsOneName}
 use Rattle.path_runs.proofs.AssociativeLemmas.{sep, is_open-sep, join_of-sep}
 use Rattle.path_runs.proofs.BehindLemmas.{rest-behind, rest-sep, values-sep}
-use Rattle.path_runs.proofs.LeadLemmas.{unled-values}
-use Rattle.path_runs.proofs.ValueLemmas.{body, added, added-join_of}
+use Rattle.path_runs.proofs.LeadLemmas.{drop_lead-values}
+use Rattle.path_runs.proofs.ValueLemmas.{body, append_values, values-join_of_rootless}
 
-pub parent_of-named : (s name : List ℕ) (vs : List Value) → values s ≡ vs ++ Normal name ∷ []
+pub parent_of-name : (s name : List ℕ) (vs : List Value) → values s ≡ vs ++ Normal name ∷ []
     → parent_of s ≡ Some (rest s 0 1)
-parent_of-named s name vs e =
+parent_of-name s name vs e =
     parent_of-deep s _ (depth_of-push s vs (Normal name) e (λ h. cc))
 
-pub file_name_of-named : (s name : List ℕ) (vs : List Value) → values s ≡ vs ++ Normal name ∷ []
+pub file_name_of-name : (s name : List ℕ) (vs : List Value) → values s ≡ vs ++ Normal name ∷ []
     → file_name_of (values s) ≡ Some name
-file_name_of-named s name vs e = ap file_name_of e ∙ file_name_of-last vs (Normal name)
+file_name_of-name s name vs e = ap file_name_of e ∙ file_name_of-last vs (Normal name)
 
 -- the values without the last
 pub values-rest_push : (s : List ℕ) (vs : List Value) (v : Value) → values s ≡ vs ++ v ∷ []
@@ -39,21 +39,22 @@ one_rootless n name e = sym (root_first-values n) ∙ ap root_first e
 
 pub values-join_of_one : (s n name : List ℕ) → IsOneName n name
     → values (join_of s n) ≡ values s ++ Normal name ∷ []
-values-join_of_one s n name e = added-join_of s n (one_rootless n name e) ∙ added_one (values s)
+values-join_of_one s n name e =
+    values-join_of_rootless s n (one_rootless n name e) ∙ append_one (values s)
   where
     bodies : body n ≡ Normal name ∷ []
-    bodies = sym (unled-values n) ∙ ap unled e
+    bodies = sym (drop_lead-values n) ∙ ap drop_lead e
 
-    added_one : (vs : List Value) → added vs n ≡ vs ++ Normal name ∷ []
-    added_one [] = e
-    added_one (v ∷ vs) = ap (λ ws. v ∷ vs ++ ws) bodies
+    append_one : (vs : List Value) → append_values vs n ≡ vs ++ Normal name ∷ []
+    append_one [] = e
+    append_one (v ∷ vs) = ap (λ ws. v ∷ vs ++ ws) bodies
 
 -- ---- pushed and popped
 
 pub pop-answer : (s n name : List ℕ) → IsOneName n name
     → is_some (parent_of (join_of s n)) ≡ true
 pop-answer s n name e =
-    ap is_some (parent_of-named (join_of s n) name (values s) (values-join_of_one s n name e))
+    ap is_some (parent_of-name (join_of s n) name (values s) (values-join_of_one s n name e))
 
 pub values-popped_of : (s n name : List ℕ) → IsOneName n name
     → SameValues (popped_of (join_of s n)) s
@@ -61,7 +62,7 @@ unfolding popped_of
 values-popped_of s n name e =
     let t = join_of s n in
     let all = values-join_of_one s n name e in
-    ap (λ o. values (unwrap_or o t)) (parent_of-named t name (values s) all)
+    ap (λ o. values (unwrap_or o t)) (parent_of-name t name (values s) all)
     ∙ values-rest_push t (values s) (Normal name) all
 
 -- ---- set in place of the file name

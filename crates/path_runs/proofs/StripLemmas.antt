@@ -9,11 +9,11 @@ use Rattle.unix_path.specs.Prefixes.{stripped_of, Begins}
 use Rattle.unix_path.proofs.MiddleLemmas.{middle}
 use Rattle.unix_path.proofs.PartLemmas.{root_first, root_first-values, values-nil}
 use Rattle.unix_path.proofs.RestLemmas.{values-rest}
-use Rattle.path_runs.specs.JoinLaws.{unled}
+use Rattle.path_runs.specs.JoinLaws.{drop_lead}
 use Rattle.path_runs.proofs.AssociativeLemmas.{join_of-nil}
-use Rattle.path_runs.proofs.LeadLemmas.{IsInner, inner-unled, inner-behind}
-use Rattle.path_runs.proofs.LeadLemmas.{unled-values}
-use Rattle.path_runs.proofs.ValueLemmas.{body, some_values, added, added-join_of}
+use Rattle.path_runs.proofs.LeadLemmas.{IsInner, inner-no_lead, inner-behind}
+use Rattle.path_runs.proofs.LeadLemmas.{drop_lead-values}
+use Rattle.path_runs.proofs.ValueLemmas.{body, some_values, append_values, values-join_of_rootless}
 
 middle-append : (vs ws : List Value) → middle (length vs) 0 (vs ++ ws) ≡ ws
 middle-append vs ws =
@@ -21,7 +21,7 @@ middle-append vs ws =
     let size : length (vs ++ ws) - (n + 0) ≡ length ws = omega (arith, length-append vs ws) in
     ap₂ take size (drop_at vs ws n refl) ∙ take_all (length ws) ws (omega arith)
 
-pub values-stripped_of : (s base : List ℕ) (more : List Value) → values base ++ more ≡ values s
+values-stripped_of : (s base : List ℕ) (more : List Value) → values base ++ more ≡ values s
     → values (stripped_of s base) ≡ more
 values-stripped_of s base more e =
     values-rest s (length (values base)) 0 ∙ ap (middle (length (values base)) 0) (sym e)
@@ -35,11 +35,11 @@ join_behind : (s base r : List ℕ) (v : Value) (vs more : List Value)
     → values base ≡ v ∷ vs → values r ≡ more → v ∷ vs ++ more ≡ values s
     → values (join_of base r) ≡ values s
 join_behind s base r v vs more is left all =
-    let inner = inner-unled more (inner-end vs more (inner-behind s v (vs ++ more) (sym all))) in
+    let inner = inner-no_lead more (inner-end vs more (inner-behind s v (vs ++ more) (sym all))) in
     let rootless : is_rooted r ≡ false =
     sym (root_first-values r) ∙ ap root_first left ∙ inner.no_root in
-    let bodies : body r ≡ more = sym (unled-values r) ∙ ap unled left ∙ inner.no_lead in
-    added-join_of base r rootless ∙ ap (λ ws. added ws r) is
+    let bodies : body r ≡ more = sym (drop_lead-values r) ∙ ap drop_lead left ∙ inner.no_lead in
+    values-join_of_rootless base r rootless ∙ ap (λ ws. append_values ws r) is
     ∙ ap (λ ws. v ∷ vs ++ ws) bodies ∙ all
 
 strip_join : (s base : List ℕ) (more : List Value) → values base ++ more ≡ values s
@@ -57,6 +57,6 @@ pub values-join_of_stripped : (s base : List ℕ) → Begins (values base) (valu
 values-join_of_stripped s base h = strip_join s base h.0 h.1
 
 -- what was stripped, joined to its base, has the values of the path
-pub stripped_joined : (s base joined : List ℕ) → Begins (values base) (values s)
+pub strip_then_join : (s base joined : List ℕ) → Begins (values base) (values s)
     → joined ≡ join_of base (stripped_of s base) → values joined ≡ values s
-stripped_joined s base joined h e = ap values e ∙ values-join_of_stripped s base h
+strip_then_join s base joined h e = ap values e ∙ values-join_of_stripped s base h

@@ -1,4 +1,4 @@
--- A table with paths as keys is a table by values: look-ups, what is put in and what is taken out.
+-- A table with paths as keys is a table by values: look-ups, insertions and removals.
 use Rattle.std.proofs.Common.{◌≡◌, ℕ, true, false, cond, List, [], ◌∷◌, Some, refl, ap}
 use Rattle.std.specs.BTreeMap.{insert_entry, is_at}
 use Rattle.std.specs.Map.{remove_entry}

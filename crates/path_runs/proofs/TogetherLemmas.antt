@@ -6,17 +6,17 @@ use Rattle.std.proofs.lemmas.List.{take-append-drop, reverse-append, reverse-rev
 use Rattle.std.proofs.lemmas.List.{length-reverse}
 use Rattle.unix_path.proofs.MiddleLemmas.{middle}
 
--- the last m, taken from behind and turned round
+-- the last m, taken from behind and reversed
 reverse-take_reverse : {X : Type 0} (m : ℕ) (xs : List X) → m ≤ length xs
     → reverse (take m (reverse xs)) ≡ drop (length xs - m) xs
 reverse-take_reverse m xs l =
     let n = length xs - m in
     let last = drop n xs in
-    let turned : reverse xs ≡ reverse last ++ reverse (take n xs) =
+    let reversed : reverse xs ≡ reverse last ++ reverse (take n xs) =
     ap reverse (sym (take-append-drop n xs)) ∙ reverse-append (take n xs) last in
     let size : m ≡ length (reverse last) =
     omega (arith, length-reverse last, length-drop n xs) in
-    ap reverse (ap₂ take size turned ∙ take-append_seam (reverse last) (reverse (take n xs)))
+    ap reverse (ap₂ take size reversed ∙ take-append_seam (reverse last) (reverse (take n xs)))
     ∙ reverse-reverse last
 
 -- the first k, those between, and the last m

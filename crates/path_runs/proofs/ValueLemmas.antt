@@ -22,7 +22,7 @@ pub values-leading : (s : List ℕ)
 unfolding values parts
 values-leading s = map-append (λ (p : Part). p.value) (leading_part s) (inner_parts 0 s)
 
-pub values-slash : (a b : List ℕ) → 0 < length a → values (a ++ slash ∷ b) ≡ values a ++ body b
+values-slash : (a b : List ℕ) → 0 < length a → values (a ++ slash ∷ b) ≡ values a ++ body b
 values-slash a b l =
     let lead = map (λ (p : Part). p.value) (leading_part a) in
     values-leading (a ++ slash ∷ b)
@@ -33,7 +33,7 @@ values-slash a b l =
     ∙ sym (append_assoc lead (body a) (body b))
     ∙ ap (λ vs. vs ++ body b) (sym (values-leading a))
 
-pub values-root : (b : List ℕ) → values (slash ∷ b) ≡ RootDir ∷ body b
+values-root : (b : List ℕ) → values (slash ∷ b) ≡ RootDir ∷ body b
 unfolding values
 values-root b = ap (map (λ (p : Part). p.value)) (parts-root (slash ∷ b) refl)
     ∙ ap (λ vs. RootDir ∷ vs) (values-inner_parts 1 b)
@@ -59,7 +59,7 @@ ends_open (x ∷ y ∷ u) o l =
     let more = ends_open (y ∷ u) o (omega arith) in
     (x ∷ more.0, ap (λ z. x ∷ z) more.1)
 
-pub values-open : (u b : List ℕ) → is_open u ≡ true → 0 < length u
+values-open : (u b : List ℕ) → is_open u ≡ true → 0 < length u
     → values (u ++ b) ≡ values u ++ body b
 values-open u b o l =
     let cut = ends_open u o l in
@@ -78,7 +78,7 @@ values-join_of a b l r = by_test (is_open a)
     (λ o. ap values (join_of_closed a b r o ∙ append_assoc a (slash ∷ []) b)
     ∙ values-slash a b l)
 
--- no part no byte
+-- a path of a byte or more has a value
 pub some_values : (s : List ℕ) → 0 < length s
     → (v : Value) × (vs : List Value) × (values s ≡ v ∷ vs)
 unfolding values
@@ -86,23 +86,25 @@ some_values s l = by_test (eqb (get_or s 0 0) 47)
     (λ e. (_, _, ap (map (λ (p : Part). p.value)) (parts-root s (eqb-true _ 47 e))))
     (λ e. (_, _, ap (map (λ (p : Part). p.value)) (parts-name s l e)))
 
--- the values of these bytes behind those values
-abbrev pub added : List Value → List ℕ → List Value
-added [] b = values b
-added (v ∷ vs) b = (v ∷ vs) ++ body b
+-- the values of a join: some values, and behind them those of b without a leading root or dot
+abbrev pub append_values : List Value → List ℕ → List Value
+append_values [] b = values b
+append_values (v ∷ vs) b = (v ∷ vs) ++ body b
 
-added_some : (s b : List ℕ) → 0 < length s → values s ++ body b ≡ added (values s) b
-added_some s b l =
+append_values-some : (s b : List ℕ) → 0 < length s → values s ++ body b ≡ append_values (values s) b
+append_values-some s b l =
     let some = some_values s l in
-    ap (λ vs. vs ++ body b) some.2 ∙ sym (ap (λ vs. added vs b) some.2)
+    ap (λ vs. vs ++ body b) some.2 ∙ sym (ap (λ vs. append_values vs b) some.2)
 
-pub added-open : (u b : List ℕ) → is_open u ≡ true → values (u ++ b) ≡ added (values u) b
-added-open [] b o = sym (ap (λ vs. added vs b) values-nil)
-added-open (x ∷ u) b o = values-open (x ∷ u) b o (omega arith) ∙ added_some (x ∷ u) b (omega arith)
+pub values-append_open : (u b : List ℕ) → is_open u ≡ true
+    → values (u ++ b) ≡ append_values (values u) b
+values-append_open [] b o = sym (ap (λ vs. append_values vs b) values-nil)
+values-append_open (x ∷ u) b o =
+    values-open (x ∷ u) b o (omega arith) ∙ append_values-some (x ∷ u) b (omega arith)
 
-pub added-join_of : (a b : List ℕ) → is_rooted b ≡ false
-    → values (join_of a b) ≡ added (values a) b
-added-join_of [] b r = ap values (join_of_open [] b r refl)
-    ∙ sym (ap (λ vs. added vs b) values-nil)
-added-join_of (x ∷ a) b r =
-    values-join_of (x ∷ a) b (omega arith) r ∙ added_some (x ∷ a) b (omega arith)
+pub values-join_of_rootless : (a b : List ℕ) → is_rooted b ≡ false
+    → values (join_of a b) ≡ append_values (values a) b
+values-join_of_rootless [] b r = ap values (join_of_open [] b r refl)
+    ∙ sym (ap (λ vs. append_values vs b) values-nil)
+values-join_of_rootless (x ∷ a) b r =
+    values-join_of (x ∷ a) b (omega arith) r ∙ append_values-some (x ∷ a) b (omega arith)

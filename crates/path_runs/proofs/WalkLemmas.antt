@@ -2,17 +2,17 @@
 use Rattle.std.proofs.Common.{◌≡◌, ℕ, ◌+◌, ◌-◌, ◌≤◌, ◌<◌, cond, ltb, length, List, [], ◌∷◌, ◌++◌}
 use Rattle.std.proofs.Common.{take, drop, get_or, reverse, refl, sym, ap, ap₂, ◌∙◌, arith, take_all}
 use Rattle.std.proofs.Common.{length-drop, get_or-drop, length-append, ltb-true, ltb-false}
-use Rattle.std.proofs.Common.{Bool, add-zero, not}
+use Rattle.std.proofs.Common.{Bool, not}
 use Rattle.std.proofs.Math.Seq.{get_or-append_seam}
 use Rattle.std.specs.List.{count_by}
-use Rattle.std.proofs.lemmas.List.{length-take, get_or-take, get_or-reverse, length-reverse}
-use Rattle.std.proofs.lemmas.List.{take_more}
-use Rattle.std.proofs.lemmas.List.Sums.{sum_by-cons, count_by_more_yes, count_by_more_no}
+use Rattle.std.proofs.lemmas.List.{length-take, get_or-take}
+use Rattle.std.proofs.lemmas.List.Sums.{sum_by-cons}
+use Rattle.std.proofs.lemmas.List.{take-take}
 use Rattle.unix_path.specs.Parts.{Value, values}
 use Rattle.unix_path.specs.Rest.{rest}
-use Rattle.unix_path.proofs.CaseLemmas.{by_test, take-take-of}
+use Rattle.unix_path.proofs.CaseLemmas.{by_test}
 use Rattle.unix_path.proofs.MiddleLemmas.{middle}
-use Rattle.unix_path.proofs.RestLemmas.{values-rest, rest-rest, rest-none}
+use Rattle.unix_path.proofs.RestLemmas.{values-rest}
 use Rattle.path_runs.proofs.TogetherLemmas.{take-middle-reverse}
 use Rattle.path_runs.specs.Turns.{is_front, front_turns, back_turns}
 use Rattle.path_runs.specs.declared.walk.Turn.{Turn}
@@ -35,23 +35,24 @@ one_turn : (t : Turn) → cond (is_front t) 1 0 + cond (is_back t) 1 0 ≡ 1
 one_turn Front = refl
 one_turn Back = refl
 
-turns_total : (ts : List Turn) → count_by is_front ts + count_by is_back ts ≡ length ts
+pub turns_total : (ts : List Turn) → count_by is_front ts + count_by is_back ts ≡ length ts
 turns_total [] = refl
 turns_total (t ∷ ts) =
     let fronts = sum_by-cons (λ t. cond (is_front t) 1 0) t ts in
     let backs = sum_by-cons (λ t. cond (is_back t) 1 0) t ts in
     omega (arith, one_turn t, turns_total ts, fronts, backs)
 
--- where as many turns as parts have been made, another counts for nothing
-take-take_late : (n i : ℕ) (ts : List Turn) → n ≤ i → take n (take (i + 1) ts) ≡ take n (take i ts)
-take-take_late n i ts l = take-take-of n (i + 1) ts (omega arith) ∙ sym (take-take-of n i ts l)
+-- where as many turns as parts have been made, another takes nothing
+pub take-take_late : (n i : ℕ) (ts : List Turn) → n ≤ i
+    → take n (take (i + 1) ts) ≡ take n (take i ts)
+take-take_late n i ts l = take-take n (i + 1) ts (omega arith) ∙ sym (take-take n i ts l)
 
--- until then each turn counts
-take-take_early : (n i : ℕ) (ts : List Turn) → i ≤ n → take n (take i ts) ≡ take i ts
+-- until then each turn takes a part
+pub take-take_early : (n i : ℕ) (ts : List Turn) → i ≤ n → take n (take i ts) ≡ take i ts
 take-take_early n i ts l = take_all n (take i ts) (omega (arith, length-take i ts))
 
 -- where v stands first of what is left, it is the value at k
-get_or-first : (vs ws : List Value) (k n : ℕ) (v : Value) → v ∷ ws ≡ take n (drop k vs)
+pub get_or-first : (vs ws : List Value) (k n : ℕ) (v : Value) → v ∷ ws ≡ take n (drop k vs)
     → (0 < n) × (k < length vs) × (get_or vs k v ≡ v)
 get_or-first vs ws k n v e =
     let size = ap length e in
@@ -65,7 +66,7 @@ get_or-first vs ws k n v e =
     )
 
 -- where v stands last of what is left, it is the value before the last m
-get_or-last : (vs ws : List Value) (k m : ℕ) (v : Value) → ws ++ v ∷ [] ≡ middle k m vs
+pub get_or-last : (vs ws : List Value) (k m : ℕ) (v : Value) → ws ++ v ∷ [] ≡ middle k m vs
     → (k + m < length vs) × (get_or vs (length vs - 1 - m) v ≡ v)
 get_or-last vs ws k m v e =
     let n = length vs - (k + m) in
@@ -83,7 +84,7 @@ get_or-last vs ws k m v e =
     )
 
 -- the values that are left
-values-left : {s : List ℕ} {ts : List Turn} {i : ℕ} {front behind : List Value} {left : List ℕ}
+pub values-left : {s : List ℕ} {ts : List Turn} {i : ℕ} {front behind : List Value} {left : List ℕ}
     → HasWalked s ts i front left behind
     → values left ≡ middle (front_turns (length (values s)) (take i ts))
     (back_turns (length (values s)) (take i ts)) (values s)
@@ -92,101 +93,16 @@ values-left {s} {ts} {i} h = ap values h.left_is
     (back_turns (length (values s)) (take i ts))
 
 -- where a part is left, fewer turns than parts have been made
-in_time : (n i k m : ℕ) (ts : List Turn) → i < length ts → k + m < n
+pub in_time : (n i k m : ℕ) (ts : List Turn) → i < length ts → k + m < n
     → k + m ≡ length (take n (take i ts)) → i < n
 in_time n i k m ts l some total = by_test (ltb i n) (λ e. ltb-true _ _ e)
     (λ e. absurd (omega (arith, ltb-false _ _ e, length-take n (take i ts), length-take i ts)))
 
--- one more turn in front, where a part is left
-pub HasWalked-front : (s : List ℕ) (ts : List Turn) (i : ℕ) (front : List Value) (left : List ℕ)
-    (behind : List Value) (v : Value) (after : List ℕ) → HasWalked s ts i front left behind
-    → i < length ts → get_or ts i Front ≡ Front
-    → values left ≡ v ∷ values after → after ≡ rest left 1 0
-    → HasWalked s ts (i + 1) (front ++ v ∷ []) after behind
-HasWalked-front s ts i front left behind v after h l turn gives leaves =
-    let vs = values s in
-    let n = length vs in
-    let k = front_turns n (take i ts) in
-    let m = back_turns n (take i ts) in
-    let first = get_or-first vs (values after) k (n - (k + m)) v (sym gives ∙ values-left h) in
-    let some = first.0 in
-    let early : i < n = in_time n i k m ts l (omega arith) (turns_total (take n (take i ts))) in
-    let now = take-take_early n i ts (omega arith) in
-    let then = take-take_early n (i + 1) ts (omega arith) in
-    let fronts : front_turns n (take (i + 1) ts) ≡ k + 1 = ap (count_by is_front) then
-    ∙ count_by_more_yes is_front ts i Front l (ap is_front turn)
-    ∙ ap (λ us. count_by is_front us + 1) (sym now) in
-    let backs : back_turns n (take (i + 1) ts) ≡ m = ap (count_by is_back) then
-    ∙ count_by_more_no is_back ts i Front l (ap is_back turn)
-    ∙ ap (count_by is_back) (sym now) in
-    record {
-      front_is = ap₂ (λ f x. f ++ x ∷ []) h.front_is (sym first.2) ∙ sym (take_more vs k v first.1)
-          ∙ ap (λ j. take j vs) (sym fronts);
-      left_is = leaves ∙ ap (λ t. rest t 1 0) h.left_is ∙ rest-rest s k m 1 0
-          ∙ ap₂ (rest s) (sym fronts) (add-zero m ∙ sym backs);
-      behind_is = h.behind_is ∙ ap (λ j. take j (reverse vs)) (sym backs);
-    }
-
--- one more turn behind, where a part is left
-pub HasWalked-back : (s : List ℕ) (ts : List Turn) (i : ℕ) (front : List Value) (left : List ℕ)
-    (behind : List Value) (v : Value) (after : List ℕ) → HasWalked s ts i front left behind
-    → i < length ts → get_or ts i Front ≡ Back
-    → values left ≡ values after ++ v ∷ [] → after ≡ rest left 0 1
-    → HasWalked s ts (i + 1) front after (behind ++ v ∷ [])
-HasWalked-back s ts i front left behind v after h l turn gives leaves =
-    let vs = values s in
-    let n = length vs in
-    let k = front_turns n (take i ts) in
-    let m = back_turns n (take i ts) in
-    let last = get_or-last vs (values after) k m v (sym gives ∙ values-left h) in
-    let some = last.0 in
-    let early : i < n = in_time n i k m ts l some (turns_total (take n (take i ts))) in
-    let now = take-take_early n i ts (omega arith) in
-    let then = take-take_early n (i + 1) ts (omega arith) in
-    let fronts : front_turns n (take (i + 1) ts) ≡ k = ap (count_by is_front) then
-    ∙ count_by_more_no is_front ts i Front l (ap is_front turn)
-    ∙ ap (count_by is_front) (sym now) in
-    let backs : back_turns n (take (i + 1) ts) ≡ m + 1 = ap (count_by is_back) then
-    ∙ count_by_more_yes is_back ts i Front l (ap is_back turn)
-    ∙ ap (λ us. count_by is_back us + 1) (sym now) in
-    let place : m < length (reverse vs) = omega (arith, length-reverse vs) in
-    record {
-      front_is = h.front_is ∙ ap (λ j. take j vs) (sym fronts);
-      left_is = leaves ∙ ap (λ t. rest t 0 1) h.left_is ∙ rest-rest s k m 0 1
-          ∙ ap₂ (rest s) (add-zero k ∙ sym fronts) (sym backs);
-      behind_is = ap₂ (λ b x. b ++ x ∷ []) h.behind_is
-          (sym last.1 ∙ sym (get_or-reverse vs m v (omega arith)))
-          ∙ sym (take_more (reverse vs) m v place) ∙ ap (λ j. take j (reverse vs)) (sym backs);
-    }
-
--- one more turn at either end, where no part is left
-pub HasWalked-none : (s : List ℕ) (ts : List Turn) (i : ℕ) (front : List Value) (left : List ℕ)
-    (behind : List Value) (after : List ℕ) (a b : ℕ) → HasWalked s ts i front left behind
-    → values left ≡ [] → after ≡ rest left a b → HasWalked s ts (i + 1) front after behind
-HasWalked-none s ts i front left behind after a b h none leaves =
-    let vs = values s in
-    let n = length vs in
-    let k = front_turns n (take i ts) in
-    let m = back_turns n (take i ts) in
-    let size = ap length (sym none ∙ values-left h) in
-    let all : n ≤ k + m =
-    omega (arith, size, length-take (n - (k + m)) (drop k vs), length-drop k vs) in
-    let made : n ≤ i = omega
-    (arith, turns_total (take n (take i ts)), length-take n (take i ts), length-take i ts) in
-    let same = take-take_late n i ts made in
-    record {
-      front_is = h.front_is ∙ ap (λ us. take (count_by is_front us) vs) (sym same);
-      left_is = leaves ∙ ap (λ t. rest t a b) h.left_is ∙ rest-rest s k m a b
-          ∙ rest-none s (k + a) (m + b) (omega arith) ∙ sym (rest-none s k m all)
-          ∙ ap₂ (rest s) (ap (count_by is_front) (sym same)) (ap (count_by is_back) (sym same));
-      behind_is = h.behind_is ∙ ap (λ us. take (count_by is_back us) (reverse vs)) (sym same);
-    }
-
 -- what was taken in front, what is left and what was taken behind are all the values
-pub walked_whole : (s : List ℕ) (ts : List Turn) (i : ℕ) (front : List Value) (left : List ℕ)
+pub whole_walk : (s : List ℕ) (ts : List Turn) (i : ℕ) (front : List Value) (left : List ℕ)
     (behind : List Value) → HasWalked s ts i front left behind
     → front ++ values left ++ reverse behind ≡ values s
-walked_whole s ts i front left behind h =
+whole_walk s ts i front left behind h =
     let n = length (values s) in
     let now = take i ts in
     ap₂ (λ f b. f ++ values left ++ reverse b) h.front_is h.behind_is

@@ -1,4 +1,4 @@
--- Laws of what is asked of equal paths.
+-- Forms of the laws that equal paths have the same answers.
 use Rattle.std.specs.Prelude.{◌≡◌, ◌↔◌, ℕ, List}
 use Rattle.unix_path.specs.Parts.{SameValues}
 
@@ -11,7 +11,7 @@ abbrev pub SameOnEqualPairs : {A : Type 0} → (List ℕ → List ℕ → A) →
 SameOnEqualPairs ask =
     (s t u w : List ℕ) → SameValues s t → SameValues u w → ask s u ≡ ask t w
 
--- it holds of two paths exactly if it holds of two others that equal them
+-- it holds for two paths exactly if it holds for two others that equal them
 abbrev pub HoldsOnEqualPairs : (List ℕ → List ℕ → Type 0) → Type 0
 HoldsOnEqualPairs Holds =
     (s t u w : List ℕ) → SameValues s t → SameValues u w → Holds s u ↔ Holds t w

@@ -6,10 +6,10 @@ use Rattle.unix_path.specs.Parts.{Normal, dot, slash, values, SameValues}
 use Rattle.unix_path.specs.Parents.{parent_of}
 use Rattle.unix_path.specs.Names.{file_name_of, stem_of, extension_of}
 use Rattle.path_runs.specs.declared.edits.Answer.TheVariants.{Plain, Flag}
-use Rattle.path_runs.specs.Runs.{EditValue, Push, Pop, SetFileName, SetExtension}
-use Rattle.path_runs.specs.Runs.{edit_of, edits_of}
+use Rattle.path_runs.specs.EditLists.{EditValue, Push, Pop, SetFileName, SetExtension}
+use Rattle.path_runs.specs.EditLists.{edit_of, edits_of}
 
--- the same edit, but that pushed paths need only have the same values
+-- the same edit, except that pushed paths need only have the same values
 abbrev pub SameEdit : EditValue → EditValue → Type 0
 SameEdit (Push b) (Push c) = SameValues b c
 SameEdit d e = d ≡ e

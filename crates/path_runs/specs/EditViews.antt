@@ -1,11 +1,11 @@
--- The values that edits stand for.
-use Rattle.path_runs.specs.Runs.{EditValue}
-use Rattle.path_runs.specs.Runs as runs
+-- Edits as the definitions see them.
+use Rattle.path_runs.specs.EditLists.{EditValue}
+use Rattle.path_runs.specs.EditLists as runs
 use Rattle.path_runs.specs.declared.edits.Edit.{Edit}
 use Rattle.path_runs.specs.declared.edits.Edit.TheVariants.{Push, Pop, SetFileName}
 use Rattle.path_runs.specs.declared.edits.Edit.TheVariants.{SetExtension, Clear}
 
--- the value of an edit
+-- an edit with the bytes that it holds
 abbrev pub edit_value : Edit → EditValue
 edit_value (Push path) = runs.Push path.bytes.now
 edit_value Pop = runs.Pop

@@ -3,7 +3,7 @@ pub mod PartLaws
 pub mod OrderLaws
 pub mod Spelling
 pub mod SpellingLaws
-pub mod Runs
+pub mod EditLists
 pub mod EditViews
 pub mod JoinLaws
 pub mod EditLaws

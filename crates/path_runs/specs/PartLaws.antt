@@ -1,9 +1,9 @@
--- Laws of a path's parts and of what is left after some of them (Rust's `Components`).
+-- Laws of a path's parts and of its rests (Rust's `Components`).
 use Rattle.std.specs.Prelude.{◌≡◌, ◌↔◌, ℕ, ◌+◌, ◌-◌, List, [], length, take, drop}
 use Rattle.unix_path.specs.Parts.{Value, values}
 use Rattle.unix_path.specs.Rest.{rest}
 
--- a path without a part is one without a byte
+-- a path has no part exactly if it has no byte
 abbrev pub NoPartNoByte : Type 0
 NoPartNoByte = (s : List ℕ) → (values s ≡ []) ↔ (s ≡ [])
 
@@ -11,10 +11,10 @@ NoPartNoByte = (s : List ℕ) → (values s ≡ []) ↔ (s ≡ [])
 abbrev pub without : ℕ → ℕ → List Value → List Value
 without k m vs = take (length vs - (k + m)) (drop k vs)
 
--- what is left after k parts in front and m behind has the values that are left
+-- the rest after k parts in front and m behind has the values without those k and m
 abbrev pub RestHasValues : Type 0
 RestHasValues = (s : List ℕ) (k m : ℕ) → values (rest s k m) ≡ without k m (values s)
 
--- what is left of what is left is what is left after as many parts in all, to the byte
+-- the rest of a rest is the rest after as many parts in all, byte for byte
 abbrev pub RestOfRest : Type 0
 RestOfRest = (s : List ℕ) (k m i j : ℕ) → rest (rest s k m) i j ≡ rest s (k + i) (m + j)

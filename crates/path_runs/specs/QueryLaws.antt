@@ -1,4 +1,4 @@
--- Laws of what is asked of a path (Rust's `Path::parent`, `Path::ancestors`, `Path::file_name`,
+-- Laws of queries of a path (Rust's `Path::parent`, `Path::ancestors`, `Path::file_name`,
 -- `Path::file_stem`, `Path::extension`).
 use Rattle.std.specs.Prelude.{◌≡◌, ℕ, List, [], ◌∷◌, ◌++◌, Option, Some, None, All}
 use Rattle.unix_path.specs.Parts.{dot, values, SameValues}
@@ -9,19 +9,19 @@ use Rattle.unix_path.specs.Prefixes.{Begins}
 use Rattle.unix_path.specs.Order.{IsBefore}
 
 -- a stem, and behind it a dot and the extension if there is one
-abbrev pub rejoined : List ℕ → Option (List ℕ) → List ℕ
-rejoined stem None = stem
-rejoined stem (Some extension) = stem ++ dot ∷ extension
+abbrev pub name_from_stem : List ℕ → Option (List ℕ) → List ℕ
+name_from_stem stem None = stem
+name_from_stem stem (Some extension) = stem ++ dot ∷ extension
 
--- a name is its stem and its extension, rejoined
-abbrev pub NameRejoined : Type 0
-NameRejoined = (name : List ℕ) → rejoined (split_name name).0 (split_name name).1 ≡ name
+-- a name is its stem, and behind it a dot and its extension if it has one
+abbrev pub NameFromStem : Type 0
+NameFromStem = (name : List ℕ) → name_from_stem (split_name name).0 (split_name name).1 ≡ name
 
--- a path's file name is its stem and its extension, rejoined
-abbrev pub FileNameRejoined : Type 0
-FileNameRejoined =
+-- a path's file name is made of its stem and its extension
+abbrev pub FileNameFromStem : Type 0
+FileNameFromStem =
     (s stem : List ℕ) → stem_of (values s) ≡ Some stem
-    → file_name_of (values s) ≡ Some (rejoined stem (extension_of (values s)))
+    → file_name_of (values s) ≡ Some (name_from_stem stem (extension_of (values s)))
 
 -- a path's parent comes before it in the order
 abbrev pub ParentIsBefore : Type 0
@@ -44,5 +44,5 @@ AncestorsStep =
     (s parent : List ℕ) → parent_of s ≡ Some parent → ancestors_of s ≡ s ∷ ancestors_of parent
 
 -- a path's bytes begin with those of each ancestor
-abbrev pub AncestorsAreFronts : Type 0
-AncestorsAreFronts = (s : List ℕ) → All (λ front. Begins front s) (ancestors_of s)
+abbrev pub AncestorsArePrefixes : Type 0
+AncestorsArePrefixes = (s : List ℕ) → All (λ prefix. Begins prefix s) (ancestors_of s)

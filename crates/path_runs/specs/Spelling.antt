@@ -1,4 +1,4 @@
--- The canonical spelling of a list of values. Own.
+-- The canonical spelling of a list of values. Not in Rust's std.
 use Rattle.std.specs.Prelude.{ℕ, List, [], ◌∷◌, map}
 use Rattle.std.specs.List.{join_with_byte}
 use Rattle.unix_path.specs.Parts.{Value, RootDir, slash, value_bytes}

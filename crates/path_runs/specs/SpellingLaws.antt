@@ -1,4 +1,4 @@
--- Laws of the canonical spelling. Own.
+-- Laws of the canonical spelling. Not in Rust's std.
 use Rattle.std.specs.Prelude.{◌≡◌, ◌↔◌, ◌⊎◌, ◌<◌, ℕ, List, length}
 use Rattle.unix_path.specs.Parts.{values, SameValues}
 use Rattle.path_runs.specs.Spelling.{spelling_of}

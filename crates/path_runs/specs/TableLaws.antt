@@ -11,18 +11,18 @@ use Rattle.unix_path.specs.declared.path.Path.{Path}
 abbrev pub view_bytes : Path → List ℕ
 view_bytes path = path.bytes.now
 
--- the entries, with the values of each key in its place
+-- the entries, with each key replaced by its values
 abbrev pub rows_of : {K V : Type 0} → (K → List ℕ) → List (K × V) → List (List Value × V)
 rows_of bytes_of entries = map (λ e. (values (bytes_of e.0), e.1)) entries
 
--- what is looked up by a path is what stands in the rows at its values
+-- a look-up by a path gives what the rows have at its values
 abbrev pub LookupByValues : {K : Type 0} → (K → List ℕ) → Type 0 → Type 0
 LookupByValues {K} bytes_of V =
     (w : List Value) (entries : List (K × V))
     → lookup (is_at (λ k. values_cmp w (values (bytes_of k)))) entries
     ≡ lookup (is_at (values_cmp w)) (rows_of bytes_of entries)
 
--- putting in by a path is putting into the rows at its values
+-- inserting by a path inserts into the rows at its values
 abbrev pub InsertByValues : {K : Type 0} → (K → List ℕ) → Type 0 → Type 0
 InsertByValues {K} bytes_of V =
     (entries : List (K × V)) (key : K) (value : V)
@@ -30,7 +30,7 @@ InsertByValues {K} bytes_of V =
     (insert_entry (on (λ k. values (bytes_of k)) values_cmp) entries key value)
     ≡ insert_entry values_cmp (rows_of bytes_of entries) (values (bytes_of key)) value
 
--- taking out by a path is taking out of the rows at its values
+-- removing by a path removes from the rows at its values
 abbrev pub RemoveByValues : {K : Type 0} → (K → List ℕ) → Type 0 → Type 0
 RemoveByValues {K} bytes_of V =
     (w : List Value) (entries : List (K × V))

@@ -9,11 +9,12 @@ use unix_path::{Path, PathBuf};
 
 /// The canonical spelling of a path: its parts, each joined to those before it.
 ///
-/// It is the one shortest path that is equal to this one. The empty path stays empty. Memory is
-/// taken as the spelling grows; where it is refused, no part of the spelling is kept. Own; by
-/// collecting Rust's `Components` into a `PathBuf`.
+/// It is the one shortest path that is equal to this one. For the empty path it is the empty path.
+/// Allocates as the spelling grows, or not at all for the empty path; fails if an allocation fails,
+/// and what was spelled until then is dropped. Not in Rust's std: there it is a `Components` that
+/// is collected into a `PathBuf`.
 ///
-/// That of `.//a/./b/` is `./a/b`.
+/// For `.//a/./b/` it is `./a/b`.
 pub fn canonical(alloc: Global, path: Path<'_>) -> Result<PathBuf, AllocError>
     ensures { IfOk result (λ p. path_bytes p ≡ spelling_of (values path.entry.bytes.now)) }
 {

@@ -6,7 +6,7 @@ ghost use Rattle.unix_path.specs.Joins.{join_of};
 ghost use Rattle.unix_path.specs.Prefixes.{Begins, stripped_of};
 ghost use Rattle.unix_path.specs.Parts.{values, SameValues};
 ghost use Rattle.path_runs.specs.EditViews.{edit_value};
-ghost use Rattle.path_runs.specs.Runs.{edit_of, edits_of, may_take_memory};
+ghost use Rattle.path_runs.specs.EditLists.{edit_of, edits_of, may_allocate};
 
 use std::alloc::{AllocError, Global};
 use unix_bytes::bytes::UnixStr;
@@ -14,52 +14,53 @@ use unix_path::{Path, PathBuf};
 
 /// One edit of a path, with the bytes that it holds.
 ///
-/// Each is the call of `PathBuf` of that name. Two pushes are equal where their paths are, and two
-/// other edits where they hold the same bytes. Copying one copies views and not bytes. Own.
+/// Each is the call of `PathBuf` of that name. Two pushes are equal if their paths are equal, and
+/// two other edits of one kind if they hold the same bytes. Copying an edit copies views and not
+/// bytes. Not in Rust's std.
 ///
-/// `Edit::Push(path)` joins `path` to what is edited.
+/// `Edit::Push(path)` joins `path` to the edited path.
 #[derive(Clone, Copy, Debug, PartialEq, Eq)]
 pub enum Edit<'a> {
-    /// Joins a path to the end; a rooted one replaces all.
+    /// Joins a path to the edited one; a rooted path replaces it.
     Push(Path<'a>),
-    /// Drops the last part, unless that is the root.
+    /// Drops the last part, unless it is the root.
     Pop,
-    /// Puts a name in place of the file name, or behind the path where it has none.
+    /// Replaces the file name, or joins the name to a path that has none.
     SetFileName(UnixStr<'a>),
-    /// Puts an extension in place of the file name's; the empty one takes it away.
+    /// Replaces the extension of the file name, or adds one; the empty one removes it.
     SetExtension(UnixStr<'a>),
-    /// Leaves the empty path.
+    /// Drops all bytes, which leaves the empty path.
     Clear,
 }
 
-/// What an edit answers. Own.
+/// What an edit answers. Not in Rust's std.
 ///
-/// A pop of the path `/` answers `Flag(false)`.
+/// For a pop of the path `/` it is `Flag(false)`.
 #[derive(Clone, Copy, Debug, PartialEq, Eq)]
 pub enum Answer {
-    /// Nothing: the edit always takes place.
+    /// Nothing: an edit of this kind always takes place.
     Plain,
     /// Whether the edit took place.
     Flag(bool),
 }
 
-/// The refusal of memory to a list of edits. Own.
+/// The error of a list of edits: an allocation failed. Not in Rust's std.
 ///
-/// `ApplyError { done: 1 }` says that the first edit was made, and that the second was refused.
+/// `ApplyError { done: 1 }` says that the first edit was made, and that the second one failed.
 #[derive(Debug, Drop)]
 pub struct ApplyError {
-    /// How many edits were made before the one that was refused.
+    /// How many edits were made before the one that failed.
     pub done: usize,
 }
 
-// The edit, made.
+// Makes one edit, and answers what it answers.
 fn apply_one(path: &mut PathBuf, edit: &Edit<'_>) -> Result<Answer, AllocError>
     ensures ok { OnOk result
         (path_bytes path.new ≡ (edit_of (path_bytes path.old) (edit_value edit.now)).0) }
     ensures value { IfOk result
         (λ answer. answer ≡ (edit_of (path_bytes path.old) (edit_value edit.now)).1) }
     ensures err { OnErr result (path_bytes path.new ≡ path_bytes path.old) }
-    ensures refused { OnErr result (may_take_memory (edit_value edit.now) ≡ true) }
+    ensures refused { OnErr result (may_allocate (edit_value edit.now) ≡ true) }
 {
     match edit {
         Edit::Push(other) => {
@@ -82,15 +83,16 @@ fn apply_one(path: &mut PathBuf, edit: &Edit<'_>) -> Result<Answer, AllocError>
     }
 }
 
-/// Makes these edits in turn, and answers what each of them answers.
+/// Makes these edits, one after the other, and answers what each of them answers.
 ///
-/// Memory for all answers is asked for first, by one request; then each edit asks as the call of
-/// `PathBuf` does that it stands for. Where memory is refused, the path is left as the edits before
-/// the refused one made it, and their number is in the error: 0 where the answers were refused. No
-/// edit takes no memory. Own; each edit is the method of its name of Rust's `PathBuf`.
+/// Allocates once for all answers, before the first edit; then each edit allocates as the call of
+/// `PathBuf` does that it stands for. An empty list allocates nothing. If an allocation fails, the
+/// edits before it stay made, and the error has their number: 0 if the answers could not be
+/// allocated. An edit that fails leaves the bytes as they were. Not in Rust's std; each edit is the
+/// method of its name of Rust's `PathBuf`.
 ///
-/// `foo/.` by the extension `bar`, a pop and a pop is the empty path, with the answers true, true
-/// and false.
+/// For `foo/.` with the extension `bar`, a pop and a pop it leaves the empty path, and answers
+/// true, true and false.
 pub fn apply(
     alloc: Global,
     path: &mut PathBuf,
@@ -107,7 +109,7 @@ pub fn apply(
     ensures succeeds { edits.now ≡ [] → IsOk result }
     ensures refused { IfErr result
         (λ e. 0 < e.done → MatchOption (slice_get edits.now e.done) ⊥
-        (λ edit. may_take_memory (edit_value edit) ≡ true)) }
+        (λ edit. may_allocate (edit_value edit) ≡ true)) }
 {
     let mut answers = match Vec::with_capacity(alloc, edits.len()) {
         Ok(answers) => answers,
@@ -122,13 +124,14 @@ pub fn apply(
     Ok(answers)
 }
 
-/// `base`, joined with what follows it in `path`; None where `path` doesn't start with `base`.
+/// `base`, joined with what follows it in `path`; `None` if `path` doesn't start with `base`.
 ///
-/// What it gives is equal to `path`. Asks for memory once, for as much as the answer has; for None
-/// it asks for none. Own; by Rust's `Path::strip_prefix` and `Path::join`.
+/// The path that it gives is equal to `path`. Allocates once, the length of the answer in bytes, or
+/// not at all for `None` and for an empty answer; fails if the allocation fails. Not in Rust's std:
+/// there it is a `Path::strip_prefix` and a `Path::join`.
 ///
-/// That of `/a//b/.` and `/a/` is `/a/b`, and that of `a` and `a` is `a/`.
-#[tactic(auto, using(crate::proofs::StripLemmas::stripped_joined))]
+/// For `/a//b/.` and `/a/` it is `/a/b`, and for `a` and `a` it is `a/`.
+#[tactic(auto, using(crate::proofs::StripLemmas::strip_then_join))]
 pub fn rejoin(alloc: Global, path: Path<'_>, base: Path<'_>) -> Result<Option<PathBuf>, AllocError>
     ensures ok { IfOk result (λ found. IsSome found
         ↔ Begins (values base.entry.bytes.now) (values path.entry.bytes.now)) }

@@ -9,3 +9,13 @@ mod fits;
 mod loops;
 mod tables;
 mod walks;
+
+use std::alloc::AllocError;
+
+// Whether a list was made, and is this one.
+fn is_list<T: PartialEq + Drop>(list: Result<Vec<T>, AllocError>, want: &[T]) -> bool {
+    match list {
+        Ok(list) => list.as_slice() == want,
+        Err(_) => false,
+    }
+}

@@ -1,5 +1,6 @@
 //! A walk over a path's parts by a list of turns.
-ghost use Rattle.std.specs.Prelude.{◌≡◌, ◌++◌, IfOk, length, map, reverse, take};
+ghost use Rattle.std.specs.Prelude.{◌≡◌, ◌++◌, IfOk, OnOk, length, map, reverse, take};
+ghost use Rattle.std.specs.Option.{option_to_list};
 ghost use Rattle.unix_path.specs.Parts.{values};
 ghost use Rattle.unix_path.specs.Rest.{rest};
 ghost use Rattle.unix_path.specs.Views.{value_of};
@@ -8,7 +9,9 @@ ghost use Rattle.path_runs.specs.Turns.{back_turns, front_turns};
 use std::alloc::{AllocError, Global};
 use unix_path::{Component, Path};
 
-/// The end of a path at which the next part is taken. Own.
+/// The end of a path at which the next part is taken. Not in Rust's std.
+///
+/// `Turn::Front` takes `a` from `a/b`, and `Turn::Back` takes `b`.
 #[derive(Clone, Copy, Debug, PartialEq, Eq)]
 pub enum Turn {
     /// The first part that is left, as `Components::next` takes it.
@@ -17,7 +20,9 @@ pub enum Turn {
     Back,
 }
 
-/// What a walk took from each end of a path, and what it left between. Own.
+/// What a walk took from each end of a path, and what it left between. Not in Rust's std.
+///
+/// For `a/b/c` by front and back it has `a` in front, `b` as the rest, and `c` behind.
 #[derive(Debug, Drop)]
 pub struct Walked<'a> {
     /// The parts taken in front, in the order of the path.
@@ -28,15 +33,31 @@ pub struct Walked<'a> {
     pub behind: Vec<Component<'a>>,
 }
 
+// Appends the part to the list, if there is one.
+#[inline]
+fn push_some<'a>(
+    list: &mut Vec<Component<'a>>,
+    part: Option<Component<'a>>,
+) -> Result<(), AllocError>
+    ensures { OnOk result (list.new.items ≡ list.old.items ++ option_to_list part.entry) }
+{
+    if let Some(part) = part {
+        list.push(part)?;
+    }
+    Ok(())
+}
+
 /// The parts that these turns take from the two ends of a path, and what they leave between.
 ///
-/// Each turn takes one part, or nothing where none is left. The parts in front, those of what is
-/// left, and those behind, turned round, are the path's parts. With no turn `foo/` leaves `foo`.
-/// Takes memory for the two lists of parts; where that is refused, no part of the answer is kept.
-/// Own; each turn is a `next` or `next_back` of Rust's `Components`.
+/// Each turn takes one part, or nothing if none is left. The parts in front, those of the rest, and
+/// those behind in reverse are the path's parts. The rest is a slice of the path. Allocates as the
+/// two lists of parts grow, or not at all if no part is taken; fails if an allocation fails, and
+/// the lists are dropped. Not in Rust's std; each turn is a `next` or `next_back` of Rust's
+/// `Components`.
 ///
-/// `/a/./b/../c` by front, back, front, back gives `/` and `a`, leaves `b`, and gives `c` and `..`.
-#[tactic(auto, using(crate::proofs::WalkLemmas::walked_whole))]
+/// For `/a/./b/../c` by front, back, front, back it takes `/` and `a` in front, leaves `b`, and
+/// takes `c` and `..` behind. With no turn it leaves `foo` of `foo/`.
+#[tactic(auto, using(crate::proofs::WalkLemmas::whole_walk))]
 pub fn walk<'a>(alloc: Global, path: Path<'a>, turns: &[Turn]) -> Result<Walked<'a>, AllocError>
     ensures front { let all = values path.entry.bytes.now in
         IfOk result (λ w. map value_of w.front.items ≡
@@ -56,16 +77,8 @@ pub fn walk<'a>(alloc: Global, path: Path<'a>, turns: &[Turn]) -> Result<Walked<
     let mut behind = Vec::new(alloc);
     for turn in turns {
         match turn {
-            Turn::Front => {
-                if let Some(part) = left.next() {
-                    front.push(part)?;
-                }
-            }
-            Turn::Back => {
-                if let Some(part) = left.next_back() {
-                    behind.push(part)?;
-                }
-            }
+            Turn::Front => push_some(&mut front, left.next())?,
+            Turn::Back => push_some(&mut behind, left.next_back())?,
         }
     }
     Ok(Walked {

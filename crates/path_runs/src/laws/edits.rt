@@ -7,8 +7,8 @@ ghost use Rattle.path_runs.specs.EditLaws.{NewExtensionKeepsParent};
 
 /// Equal paths stay equal under the same edits, and the edits give the same answers.
 ///
-/// Names and extensions may hold any bytes, slashes and dots among them. Of pushed paths only the
-/// values count. Calling it does nothing. Own.
+/// Pushed paths need only be equal. Names and extensions are the same bytes, and may hold slashes
+/// and dots. Calling it does nothing. Not in Rust's std.
 ///
 /// `a/./..foo` and `a/..foo` are equal. With the empty extension they become `a/./.` and `a/.`,
 /// which are equal again.
@@ -17,11 +17,11 @@ pub fn edits_congruent()
     ensures values { EditsLeaveAlike }
 {}
 
-/// One name that was pushed is popped again, and one that was set stands beside the old.
+/// A pop undoes a push of one name, and a new file name keeps the parent.
 ///
-/// The pop answers true and leaves the values from before the push. Where the path has a file
-/// name, setting another keeps the bytes of the parent, and the new name is the last value.
-/// Calling it does nothing. Own.
+/// The pop answers true and leaves the values from before the push. If the path has a file name,
+/// setting another keeps the parent's bytes, and the new name is the last value. Calling it does
+/// nothing. Not in Rust's std.
 ///
 /// `/a` is `/a` again after a push of `b` and a pop, and `/a/x` with the name `b` is `/a/b`.
 pub fn push_then_pop()
@@ -31,10 +31,11 @@ pub fn push_then_pop()
     ensures last { NewNameIsLast }
 {}
 
-/// A plain extension that was set is the extension, and the stem and the parent stay.
+/// Setting a plain extension sets the extension, and keeps the stem and the parent.
 ///
-/// Plain means at least one byte, and neither a dot nor a slash. The law speaks of paths that have
-/// a file name: on all others the edit answers false. Calling it does nothing. Own.
+/// An extension is plain if it has at least one byte, and neither a dot nor a slash. The law speaks
+/// of paths that have a file name: on all others the edit answers false. Calling it does nothing.
+/// Not in Rust's std.
 ///
 /// `/a/b.c` with the extension `d` is `/a/b.d`.
 pub fn extension_set()

@@ -9,21 +9,21 @@ ghost use Rattle.unix_path.specs.Parts.{is_rooted, values};
 
 /// Joins are associative, byte for byte, and the empty path joined with any path is that path.
 ///
-/// A path joined with the empty one keeps its values, though a slash may then stand behind it.
-/// Calling it does nothing. Own.
+/// A path joined with the empty one keeps its values, but may end in one slash more. Calling it
+/// does nothing. Not in Rust's std.
 ///
-/// `a` joined with `b`, and that with `c/`, is `a/b/c/`, and so is `a` joined with `b/c/`.
+/// `a` joined with `b`, and `a/b` joined with `c/`, is `a/b/c/`, and so is `a` joined with `b/c/`.
 pub fn join_associative()
     ensures bytes { JoinsAssociate }
     ensures left { EmptyJoins }
     ensures right { JoinsEmpty }
 {}
 
-/// A join has the values of the one path, and then those of the other.
+/// A join has the values of the first path, and then those of the second.
 ///
-/// That holds where the one isn't empty and the other is rootless; a leading dot of the other is
-/// lost. Behind a slash any bytes add their values without a leading root or dot. Calling it does
-/// nothing. Own.
+/// That holds if the first isn't empty and the second is rootless; its leading dot is lost. Behind
+/// a slash any bytes add their values without a leading root or dot. Calling it does nothing. Not
+/// in Rust's std.
 ///
 /// `/a` joined with `./b` has the values of `/a` and then `b`, and so has `/a/` followed by `/b`.
 pub fn join_values()
@@ -31,9 +31,10 @@ pub fn join_values()
     ensures slash { SlashAddsValues }
 {}
 
-/// What a path and a rootless one join to starts with the path.
+/// A join with a rootless path starts with the path that it was joined to.
 ///
-/// That holds of the empty path too. Calling it does nothing. Own.
+/// That holds for the empty path too. Behind that path's values come those of the other, without a
+/// leading dot unless that path is empty. Calling it does nothing. Not in Rust's std.
 ///
 /// `/srv` joined with `./a` is `/srv/./a`, which starts with `/srv`.
 pub fn join_starts_with()
@@ -43,9 +44,9 @@ pub fn join_starts_with()
         → values (join_of a b) ≡ values a ++ values_added a b }
 {}
 
-/// What was stripped of its base, joined to that base, is the path again.
+/// A path without its base, joined to that base, is equal to the path.
 ///
-/// The spelling may change, the values don't. Calling it does nothing. Own.
+/// The spelling may change, the values don't. Calling it does nothing. Not in Rust's std.
 ///
 /// `/a//b` stripped of `/a` is `b`, and `/a` joined with `b` has the values of `/a//b`.
 pub fn strip_then_join()

@@ -8,10 +8,10 @@ ghost use Rattle.path_runs.specs.OrderLaws.{PrefixBothWays};
 
 /// The order of lists of values is total, and only equal lists tie in it.
 ///
-/// So two paths have the same values, or the one is less, or the other is, and no two of these
-/// hold; and what is less than a lesser one is less. Takes no memory. Own.
+/// So of two paths exactly one holds: they have the same values, the first is less, or the second
+/// is. And less is transitive. Calling it does nothing. Not in Rust's std.
 ///
-/// `a` is less than `a/b`, and that than `b`; so `a` is less than `b`.
+/// `a` is less than `a/b`, and `a/b` is less than `b`; so `a` is less than `b`.
 pub fn order_total()
     ensures total { IsTotalOrder values_cmp }
     ensures equal { (v w : List Value) → (values_cmp v w ≡ Equal) ↔ (v ≡ w) }
@@ -19,9 +19,10 @@ pub fn order_total()
 
 /// Two lists of values that begin each other are equal.
 ///
-/// So two paths that each start with the other are equal. Takes no memory. Own.
+/// So two paths that each start with the other are equal. Calling it does nothing. Not in Rust's
+/// std.
 ///
-/// `a/./b` starts with `a//b`, that starts with `a/./b`, and they are equal.
+/// `a/./b` starts with `a//b`, and `a//b` starts with `a/./b`; they are equal.
 pub fn prefix_both_ways()
     ensures { PrefixBothWays }
 {}

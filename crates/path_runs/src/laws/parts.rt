@@ -6,7 +6,8 @@ ghost use Rattle.path_runs.specs.PartLaws.{NoPartNoByte, RestHasValues, RestOfRe
 
 /// A path has no part exactly if it has no byte.
 ///
-/// Each path of a byte or more has a part: its root, a `.` or a name. Takes no memory. Own.
+/// Each path of a byte or more has a part: its root, a `.`, a `..` or a name. Calling it does
+/// nothing. Not in Rust's std.
 ///
 /// The empty path has no part, `/` has the root, and `.` has `.`.
 pub fn no_part_no_byte()
@@ -16,8 +17,8 @@ pub fn no_part_no_byte()
 
 /// A path has no more parts than bytes, and the parts together have no more bytes than the path.
 ///
-/// So a count of the parts, or a sum of their lengths, fits where the path's length does. Calling
-/// it does nothing. Own.
+/// So a count of the parts, or a sum of their lengths, fits an integer that the path's length fits.
+/// Calling it does nothing. Not in Rust's std.
 ///
 /// `/a//bc` has three parts of 1, 1 and 2 bytes, and 6 bytes.
 pub fn parts_fit()
@@ -26,13 +27,13 @@ pub fn parts_fit()
     ensures names { (s : List ℕ) → sum_by length (map value_bytes (values s)) ≤ length s }
 {}
 
-/// What is left of a path after some parts in front and some behind has the values that are left.
+/// The rest of a path after some parts in front and some behind has the values that are left.
 ///
-/// And what is left of that is what is left after as many parts in all, to the byte. Takes no
-/// memory. Own.
+/// The rest of a rest is the rest after as many parts in all, byte for byte. Calling it does
+/// nothing. Not in Rust's std.
 ///
-/// `/a/./b//c` without one part in front and one behind is `a/./b`, with the values `a` and `b`;
-/// that without one in front is `b`, which is `/a/./b//c` without two in front and one behind.
+/// `/a/./b//c` without one part in front and one behind is `a/./b`, with the values `a` and `b`.
+/// `a/./b` without one in front is `b`, and so is `/a/./b//c` without two in front and one behind.
 pub fn rest_reads_again()
     ensures values { RestHasValues }
     ensures rest { RestOfRest }

@@ -10,28 +10,28 @@ ghost use Rattle.unix_path.specs.Prefixes.{stripped_of, Begins, Ends};
 ghost use Rattle.unix_path.specs.Order.{values_cmp};
 ghost use Rattle.unix_path.specs.Parts.{is_rooted, value_bytes, values, SameValues};
 ghost use Rattle.unix_path.specs.Rest.{rest};
-ghost use Rattle.path_runs.specs.QueryLaws.{NameRejoined, FileNameRejoined};
+ghost use Rattle.path_runs.specs.QueryLaws.{NameFromStem, FileNameFromStem};
 ghost use Rattle.path_runs.specs.QueryLaws.{ParentIsBefore, ParentJoinsName};
-ghost use Rattle.path_runs.specs.QueryLaws.{AncestorsEnd, AncestorsStep, AncestorsAreFronts};
+ghost use Rattle.path_runs.specs.QueryLaws.{AncestorsEnd, AncestorsStep, AncestorsArePrefixes};
 ghost use Rattle.path_runs.specs.AlikeLaws.{SameOnEqual, SameOnEqualPairs, HoldsOnEqualPairs};
 
 /// A stem, a dot and the extension are the file name; without an extension the stem is all of it.
 ///
-/// This holds of every name, and of every path that has a stem, which then has a file name too.
-/// Calling it does nothing. Own.
+/// That holds for every name, and for the file name of every path that has a stem. Calling it does
+/// nothing. Not in Rust's std.
 ///
 /// `a.tar.gz` is `a.tar`, a dot and `gz`; `.gz` is its own stem.
 pub fn name_rejoined()
-    ensures name { NameRejoined }
-    ensures file_name { FileNameRejoined }
+    ensures name { NameFromStem }
+    ensures file_name { FileNameFromStem }
 {}
 
-/// A path's parent comes before it in the order, and joined with its file name is the path again.
+/// A path's parent is less than the path, and joined with the file name it is equal to the path.
 ///
-/// The law speaks of paths that have a parent, and then of those that have a file name too. The
-/// spelling may change, the values don't. Calling it does nothing. Own.
+/// The first holds for paths that have a parent, the second for those that have a file name too.
+/// The join may be spelled otherwise than the path. Calling it does nothing. Not in Rust's std.
 ///
-/// The parent of `/a//b` is `/a`, which is less; joined with `b` it has the values of `/a//b`.
+/// The parent of `/a//b` is `/a`, which is less; joined with `b` it is `/a/b`.
 pub fn parent_before()
     ensures order { ParentIsBefore }
     ensures join { ParentJoinsName }
@@ -39,20 +39,21 @@ pub fn parent_before()
 
 /// A path's ancestors are the path itself and the ancestors of its parent.
 ///
-/// Without a parent the path is its only ancestor. Each ancestor is a front of the path's bytes.
-/// Calling it does nothing. Own.
+/// A path without a parent is its only ancestor. Each ancestor is a prefix of the path's bytes.
+/// Calling it does nothing. Not in Rust's std.
 ///
-/// Those of `/a//b/` are `/a//b/`, `/a` and `/`.
+/// The ancestors of `/a//b/` are `/a//b/`, `/a` and `/`.
 pub fn ancestors_step()
     ensures end { AncestorsEnd }
     ensures step { AncestorsStep }
-    ensures fronts { AncestorsAreFronts }
+    ensures prefixes { AncestorsArePrefixes }
 {}
 
-/// Equal paths answer every question alike; where the answer is a path, they answer equal ones.
+/// Equal paths have the same answer to every query, or equal paths as answers.
 ///
-/// The other path of a question, as a base or a path to compare with, may be replaced by an equal
-/// one too. Excepted are questions for the bytes themselves. Calling it does nothing. Own.
+/// The other path of a query, as a base or a path to compare with, may be replaced by an equal one
+/// too. Queries for the bytes themselves are no part of the law. Calling it does nothing. Not in
+/// Rust's std.
 ///
 /// `//a//b` and `/a/b` have the file name `b`, and the equal parents `//a` and `/a`.
 pub fn queries_congruent()

@@ -4,10 +4,10 @@ ghost use Rattle.path_runs.specs.SpellingLaws.{SpellingsTell};
 
 /// The canonical spelling of a path's values is the one shortest path with these values.
 ///
-/// It has these values; each path that has them is the same bytes, or longer.
-/// So two paths are equal exactly if their spellings are the same bytes. Takes no memory. Own.
+/// It has these values, and each other path that has them has more bytes. So two paths are equal
+/// exactly if their spellings are the same bytes. Calling it does nothing. Not in Rust's std.
 ///
-/// `.//a/./b/` is spelled `./a/b`, and no path of 5 bytes or fewer but that one is equal to it.
+/// For `.//a/./b/` it is `./a/b`, and no other path of 5 bytes or fewer is equal to it.
 pub fn canonical_form()
     ensures reads_back { SpellingReadsBack }
     ensures shortest { SpellingIsShortest }

@@ -3,11 +3,11 @@ ghost use Rattle.unix_path.specs.Buffers.{path_bytes};
 ghost use Rattle.path_runs.specs.TableLaws.{LookupByValues, InsertByValues, RemoveByValues};
 ghost use Rattle.path_runs.specs.TableLaws.{view_bytes};
 
-/// A look-up by a path finds what stands at its values.
+/// A look-up by a path finds the entry of an equal path.
 ///
-/// The table is seen as its rows, each of which has a key's values in the key's place: `rows_of`.
-/// A clause that speaks of the row at the values w writes std's `is_at (values_cmp w)`. Calling it
-/// does nothing. Own.
+/// The law sees a table as its rows, in which each key is replaced by its values: `rows_of`. A
+/// clause that speaks of the row at the values w writes std's `is_at (values_cmp w)`. Calling it
+/// does nothing. Not in Rust's std.
 ///
 /// With 1 at `a/b`, a look-up by `a//b/` finds 1.
 pub fn lookup_by_values<V>()
@@ -15,21 +15,21 @@ pub fn lookup_by_values<V>()
     ensures view { LookupByValues view_bytes V }
 {}
 
-/// What is put in by a path is put at its values.
+/// Inserting by a path replaces the entry of an equal path, or adds one.
 ///
-/// Calling it does nothing. Own.
+/// Calling it does nothing. Not in Rust's std.
 ///
-/// With 1 at `a/b`, putting 2 at `a//b/` leaves one entry, that of `a/b` with 2.
+/// With 1 at `a/b`, inserting 2 at `a//b/` leaves one entry, `a/b` with 2.
 pub fn insert_by_values<V>()
     ensures owned { InsertByValues path_bytes V }
     ensures view { InsertByValues view_bytes V }
 {}
 
-/// What is taken out by a path is taken from its values.
+/// Removing by a path removes the entry of an equal path.
 ///
-/// Calling it does nothing. Own.
+/// Calling it does nothing. Not in Rust's std.
 ///
-/// With 1 at `a/b` alone, taking out by `a//b/` leaves nothing.
+/// With 1 at `a/b` alone, removing by `a//b/` leaves no entry.
 pub fn remove_by_values<V>()
     ensures owned { RemoveByValues path_bytes V }
     ensures view { RemoveByValues view_bytes V }

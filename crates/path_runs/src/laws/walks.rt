@@ -10,10 +10,10 @@ ghost use Rattle.unix_path.specs.declared.path.Path.{Path};
 
 /// What is left of a walk comes in order from the front, and in reverse from behind.
 ///
-/// The calls that make a walk say the same of it; this says it of a walk that was passed in. Takes
-/// no memory. Own.
+/// The calls that make a walk say the same of it; the law says it of a walk that was passed in.
+/// Calling it does nothing. Not in Rust's std.
 ///
-/// Of a walk with `a` and `b` left, `next` gives `a`, then `b`; `next_back` gives `b`, then `a`.
+/// If `a` and `b` are left of a walk, `next` gives `a`, then `b`; `next_back` gives `b`, then `a`.
 pub fn walks_in_order()
     ensures parts { EveryRun (GivesFirst value_of cursor_values cursor_rest cursor_source)
         (λ run. ItemsMapTo run value_of (cursor_values run.from)) }

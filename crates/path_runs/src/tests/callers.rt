@@ -4,20 +4,20 @@ ghost use Rattle.unix_path.specs.Cursor.{cursor_values, iter_bytes};
 ghost use Rattle.unix_path.specs.Parts.{value_bytes};
 ghost use Rattle.unix_path.specs.Views.{value_of};
 
+use super::is_list;
 use crate::laws;
 use std::alloc::{AllocError, Global};
-use std::test::Fail;
 use unix_path::bytes::UnixStr;
 use unix_path::{Component, Components, Iter, Path};
 
-fn listed<'a>(alloc: Global, parts: Components<'a>) -> Result<Vec<Component<'a>>, AllocError>
+fn list_parts<'a>(alloc: Global, parts: Components<'a>) -> Result<Vec<Component<'a>>, AllocError>
     ensures { IfOk result (λ list. map value_of list.items ≡ cursor_values parts.entry) }
 {
     laws::walks_in_order();
     parts.collect(alloc)
 }
 
-fn listed_back<'a>(alloc: Global, parts: Components<'a>) -> Result<Vec<Component<'a>>, AllocError>
+fn list_back<'a>(alloc: Global, parts: Components<'a>) -> Result<Vec<Component<'a>>, AllocError>
     ensures { IfOk result (λ list. map value_of list.items ≡ reverse (cursor_values parts.entry)) }
 {
     laws::walks_in_order();
@@ -43,7 +43,7 @@ fn lengths_back(alloc: Global, parts: Components<'_>) -> Result<Vec<usize>, Allo
         .collect(alloc)
 }
 
-fn pushed<'a>(alloc: Global, parts: Components<'a>) -> Result<Vec<Component<'a>>, AllocError>
+fn push_parts<'a>(alloc: Global, parts: Components<'a>) -> Result<Vec<Component<'a>>, AllocError>
     ensures { IfOk result (λ list. map value_of list.items ≡ cursor_values parts.entry) }
 {
     let mut list = Vec::new(alloc);
@@ -82,7 +82,7 @@ fn name_lengths_back(alloc: Global, parts: Iter<'_>) -> Result<Vec<usize>, Alloc
     parts.rev().map(|name| name.len()).collect(alloc)
 }
 
-fn pushed_names<'a>(alloc: Global, parts: Iter<'a>) -> Result<Vec<UnixStr<'a>>, AllocError>
+fn push_names<'a>(alloc: Global, parts: Iter<'a>) -> Result<Vec<UnixStr<'a>>, AllocError>
     ensures { IfOk result (λ list. map (λ name. name.bytes.now) list.items ≡
         iter_bytes parts.entry) }
 {
@@ -93,59 +93,41 @@ fn pushed_names<'a>(alloc: Global, parts: Iter<'a>) -> Result<Vec<UnixStr<'a>>, 
     Ok(list)
 }
 
+fn path() -> Path<'static> {
+    Path::from_text("/tmp/./foo.txt/")
+}
+
 #[test]
-fn chains_over_parts(rt: HostRuntime) -> Result<(), Fail> {
+fn lists_of_parts(rt: HostRuntime) {
     let alloc = rt.alloc();
-    let path = Path::new(UnixStr::new("/tmp/./foo.txt/"));
+    let tmp = Component::Normal(UnixStr::new("tmp"));
+    let foo = Component::Normal(UnixStr::new("foo.txt"));
+    let parts = [Component::RootDir, tmp, foo];
+    let back = [foo, tmp, Component::RootDir];
+    assert!(rt; is_list(list_parts(alloc, path().components()), parts.as_slice()));
+    assert!(rt; is_list(list_back(alloc, path().components()), back.as_slice()));
+    assert!(rt; is_list(push_parts(alloc, path().components()), parts.as_slice()));
+}
+
+#[test]
+fn lengths_of_parts(rt: HostRuntime) {
+    let alloc = rt.alloc();
+    let back = [7usize, 3, 1];
+    assert!(rt; is_list(lengths(alloc, path().components()), [1, 3, 7].as_slice()));
+    assert!(rt; is_list(lengths_back(alloc, path().components()), back.as_slice()));
+    assert!(rt; is_list(name_lengths_back(alloc, path().iter()), back.as_slice()));
+    assert_eq!(rt; count(path().components()), 3);
+}
+
+#[test]
+fn lists_of_names(rt: HostRuntime) {
+    let alloc = rt.alloc();
+    let root = UnixStr::new("/");
     let tmp = UnixStr::new("tmp");
     let foo = UnixStr::new("foo.txt");
-    let root = UnixStr::new("/");
-    let parts = [
-        Component::RootDir,
-        Component::Normal(tmp),
-        Component::Normal(foo),
-    ];
-    let back = [
-        Component::Normal(foo),
-        Component::Normal(tmp),
-        Component::RootDir,
-    ];
-    assert_eq!(rt;
-        listed(alloc, path.components())?.as_slice(),
-        parts.as_slice()
-    );
-    assert_eq!(rt;
-        listed_back(alloc, path.components())?.as_slice(),
-        back.as_slice()
-    );
-    assert_eq!(rt;
-        pushed(alloc, path.components())?.as_slice(),
-        parts.as_slice()
-    );
-    assert_eq!(rt;
-        lengths(alloc, path.components())?.as_slice(),
-        [1, 3, 7].as_slice()
-    );
-    assert_eq!(rt;
-        lengths_back(alloc, path.components())?.as_slice(),
-        [7, 3, 1].as_slice()
-    );
-    assert_eq!(rt; count(path.components()), 3);
-    assert_eq!(rt;
-        names(alloc, path.iter())?.as_slice(),
-        [root, tmp, foo].as_slice()
-    );
-    assert_eq!(rt;
-        names_back(alloc, path.iter())?.as_slice(),
-        [foo, tmp, root].as_slice()
-    );
-    assert_eq!(rt;
-        name_lengths_back(alloc, path.iter())?.as_slice(),
-        [7, 3, 1].as_slice()
-    );
-    assert_eq!(rt;
-        pushed_names(alloc, path.iter())?.as_slice(),
-        [root, tmp, foo].as_slice()
-    );
-    Ok(())
+    let list = [root, tmp, foo];
+    let back = [foo, tmp, root];
+    assert!(rt; is_list(names(alloc, path().iter()), list.as_slice()));
+    assert!(rt; is_list(names_back(alloc, path().iter()), back.as_slice()));
+    assert!(rt; is_list(push_names(alloc, path().iter()), list.as_slice()));
 }

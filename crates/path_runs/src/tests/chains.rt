@@ -9,6 +9,7 @@ ghost use Rattle.unix_path.specs.Names.{name_of};
 ghost use Rattle.unix_path.specs.Parts.{Value, ParentDir, value_bytes, values};
 ghost use Rattle.unix_path.specs.Views.{value_of};
 
+use super::is_list;
 use std::alloc::{AllocError, Global};
 use std::test::Fail;
 use unix_path::bytes::UnixStr;
@@ -39,13 +40,13 @@ fn last<'a>(path: Path<'a>) -> Option<Component<'a>>
     path.components().last()
 }
 
-fn listed<'a>(alloc: Global, path: Path<'a>) -> Result<Vec<Component<'a>>, AllocError>
+fn list_parts<'a>(alloc: Global, path: Path<'a>) -> Result<Vec<Component<'a>>, AllocError>
     ensures { IfOk result (λ list. map value_of list.items ≡ values path.entry.bytes.now) }
 {
     path.components().collect(alloc)
 }
 
-fn listed_back<'a>(alloc: Global, path: Path<'a>) -> Result<Vec<Component<'a>>, AllocError>
+fn list_back<'a>(alloc: Global, path: Path<'a>) -> Result<Vec<Component<'a>>, AllocError>
     ensures { IfOk result (λ list. map value_of list.items
         ≡ reverse (values path.entry.bytes.now)) }
 {
@@ -69,7 +70,7 @@ fn all_but_first<'a>(alloc: Global, path: Path<'a>) -> Result<Vec<Component<'a>>
     path.components().skip(1).collect(alloc)
 }
 
-fn skipped<'a>(alloc: Global, path: Path<'a>, n: usize) -> Result<Vec<Component<'a>>, AllocError>
+fn skip_parts<'a>(alloc: Global, path: Path<'a>, n: usize) -> Result<Vec<Component<'a>>, AllocError>
     ensures len { IfOk result (λ list.
         length list.items ≡ length (values path.entry.bytes.now) - n) }
     ensures parts { IfOk result (λ list. (k : ℕ) → option_map value_of (slice_get list.items k)
@@ -88,7 +89,7 @@ fn lengths_back(alloc: Global, path: Path<'_>) -> Result<Vec<usize>, AllocError>
         .collect(alloc)
 }
 
-fn numbered<'a>(path: Path<'a>, n: usize) -> Option<(usize, Component<'a>)>
+fn nth_with_number<'a>(path: Path<'a>, n: usize) -> Option<(usize, Component<'a>)>
     ensures number { IfSome result (λ x. x.0 ≡ n) }
     ensures part { option_map (λ x. value_of x.1) result
         ≡ slice_get (values path.entry.bytes.now) n }
@@ -218,44 +219,62 @@ fn numbers_of_parts(rt: HostRuntime) {
     let long = path("/a/../b//c/.");
     assert_eq!(rt; count(long), 5);
     assert_eq!(rt; count(path("")), 0);
-    assert_eq!(rt; nth(long, 3), Some(name("b")));
-    assert_eq!(rt; nth(long, 5), None);
-    assert_eq!(rt; last(long), Some(name("c")));
-    assert_eq!(rt; numbered(long, 2), Some((2, Component::ParentDir)));
     assert_eq!(rt; shared_len(long, path("/a/./../c")), 3);
     assert_eq!(rt; count_names(long), 3);
-    assert_eq!(rt; first_up(long), Some(Component::ParentDir));
+    assert_eq!(rt; count_bytes(long), 5);
+    assert_eq!(rt; count_ancestors(path("../a")), 3);
+}
+
+#[test]
+fn parts_by_number(rt: HostRuntime) {
+    let long = path("/a/../b//c/.");
+    assert!(rt; nth(long, 3) == Some(name("b")));
+    assert!(rt; nth(long, 5) == None);
+    assert!(rt; last(long) == Some(name("c")));
+    assert!(rt; nth_with_number(long, 2) == Some((2, Component::ParentDir)));
+    assert!(rt; nth_bytes(long, 0) == Some(UnixStr::new("/")));
+}
+
+#[test]
+fn parts_that_are_sought(rt: HostRuntime) {
+    let long = path("/a/../b//c/.");
+    assert!(rt; first_up(long) == Some(Component::ParentDir));
     assert_eq!(rt; place_up(long), Some(2));
     assert_eq!(rt; place_up(path("a/b")), None);
     assert!(rt; goes_up(long));
     assert!(rt; !goes_up(path("a/..b")));
     assert!(rt; all_names(path("a/b")));
     assert!(rt; !all_names(path("./a")));
-    assert_eq!(rt; count_bytes(long), 5);
-    assert_eq!(rt; nth_bytes(long, 0), Some(UnixStr::new("/")));
-    assert_eq!(rt; count_ancestors(path("../a")), 3);
 }
 
 #[test]
-fn lists_of_parts(rt: HostRuntime) -> Result<(), Fail> {
+fn lists_of_parts(rt: HostRuntime) {
     let alloc = rt.alloc();
     let short = path("./a//bc/");
     let all = [Component::CurDir, name("a"), name("bc")];
     let back = [name("bc"), name("a"), Component::CurDir];
+    assert!(rt; is_list(list_parts(alloc, short), all.as_slice()));
+    assert!(rt; is_list(list_back(alloc, short), back.as_slice()));
+}
+
+#[test]
+fn lists_without_the_first_part(rt: HostRuntime) {
+    let alloc = rt.alloc();
+    let short = path("./a//bc/");
     let later = [name("a"), name("bc")];
-    assert_eq!(rt; listed(alloc, short)?.as_slice(), all.as_slice());
-    assert_eq!(rt; listed_back(alloc, short)?.as_slice(), back.as_slice());
-    assert_eq!(rt; after_first(alloc, short)?.as_slice(), later.as_slice());
-    assert_eq!(rt; all_but_first(alloc, short)?.as_slice(), later.as_slice());
-    assert_eq!(rt; skipped(alloc, short, 1)?.as_slice(), later.as_slice());
-    assert_eq!(rt; names(alloc, short)?.as_slice(), later.as_slice());
-    assert_eq!(rt;
-        lengths_back(alloc, short)?.as_slice(),
-        [2, 1, 1].as_slice()
-    );
+    assert!(rt; is_list(after_first(alloc, short), later.as_slice()));
+    assert!(rt; is_list(all_but_first(alloc, short), later.as_slice()));
+    assert!(rt; is_list(skip_parts(alloc, short, 1), later.as_slice()));
+    assert!(rt; is_list(names(alloc, short), later.as_slice()));
+}
+
+#[test]
+fn lists_of_bytes_from_the_end(rt: HostRuntime) {
+    let alloc = rt.alloc();
+    let short = path("./a//bc/");
     let texts = [UnixStr::new("bc"), UnixStr::new("a"), UnixStr::new(".")];
-    assert_eq!(rt; bytes_back(alloc, short)?.as_slice(), texts.as_slice());
-    Ok(())
+    assert!(rt; is_list(lengths_back(alloc, short), [2, 1, 1].as_slice()));
+    assert!(rt; is_list(bytes_back(alloc, short), texts.as_slice()));
 }
 
 #[test]
@@ -263,8 +282,8 @@ fn buffers_and_parents(rt: HostRuntime) -> Result<(), Fail> {
     let alloc = rt.alloc();
     let buffer = PathBuf::from_text(alloc, "/a/b/")?;
     assert_eq!(rt; last_of_buffer(&buffer), Some(UnixStr::new("b")));
-    let list = parents(alloc, buffer.as_path())?;
-    assert_eq!(rt; list.as_slice(), [path("/a"), path("/")].as_slice());
-    assert_eq!(rt; nth_ancestor(buffer.as_path(), 2), Some((2, path("/"))));
+    let above = [path("/a"), path("/")];
+    assert!(rt; is_list(parents(alloc, buffer.as_path()), above.as_slice()));
+    assert!(rt; nth_ancestor(buffer.as_path(), 2) == Some((2, path("/"))));
     Ok(())
 }

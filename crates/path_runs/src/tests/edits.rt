@@ -1,7 +1,6 @@
 //! Rows of lists of edits, and of paths joined again to a base.
 use crate::edits::{Answer, Edit, apply, rejoin};
-use std::alloc::Global;
-use std::process::Abort;
+use std::alloc::{AllocError, Global};
 use std::test::Fail;
 use unix_path::bytes::UnixStr;
 use unix_path::{Path, PathBuf};
@@ -22,23 +21,41 @@ fn extension(text: &str) -> Edit<'_> {
     Edit::SetExtension(UnixStr::new(text))
 }
 
-fn applied(
-    rt: &impl Abort,
+// Whether the edits of this path leave these bytes and answer this.
+fn edits_give(
     alloc: Global,
     text: &str,
     edits: &[Edit<'_>],
     want: &str,
     answers: &[Answer],
-) -> Result<(), Fail> {
+) -> Result<bool, Fail> {
     let mut buffer = PathBuf::from_text(alloc, text)?;
     let given = apply(alloc, &mut buffer, edits)?;
-    assert_eq!(rt;
-        buffer.as_path().as_unix_str(),
-        UnixStr::new(want),
-        "{text}"
-    );
-    assert_eq!(rt; given.as_slice(), answers, "{text}");
-    Ok(())
+    Ok(buffer.as_path().as_unix_str() == UnixStr::new(want) && given.as_slice() == answers)
+}
+
+fn edit_gives(
+    alloc: Global,
+    text: &str,
+    edit: Edit<'_>,
+    want: &str,
+    answer: Answer,
+) -> Result<bool, Fail> {
+    edits_give(alloc, text, [edit].as_slice(), want, [answer].as_slice())
+}
+
+// Whether the path is joined again to the base as this one, or not at all.
+fn is_rejoined(
+    alloc: Global,
+    text: &str,
+    base: &str,
+    want: Option<&str>,
+) -> Result<bool, AllocError> {
+    Ok(match (rejoin(alloc, path(text), path(base))?, want) {
+        (Some(joined), Some(want)) => joined.as_path().as_unix_str() == UnixStr::new(want),
+        (None, None) => true,
+        _ => false,
+    })
 }
 
 #[test]
@@ -63,14 +80,7 @@ fn rows_of_single_edits(rt: HostRuntime) -> Result<(), Fail> {
         ("/", Edit::Pop, "/", Answer::Flag(false)),
     ];
     for (text, edit, want, answer) in rows {
-        applied(
-            &rt,
-            alloc,
-            text,
-            [edit].as_slice(),
-            want,
-            [answer].as_slice(),
-        )?;
+        assert!(rt; edit_gives(alloc, text, edit, want, answer)?, "{text}");
     }
     Ok(())
 }
@@ -84,31 +94,29 @@ fn rows_of_lists_of_edits(rt: HostRuntime) -> Result<(), Fail> {
     let no = Answer::Flag(false);
     let plain = Answer::Plain;
     let answers = [yes, plain, yes, yes, yes, no];
-    applied(
-        &rt,
-        alloc,
-        "/tmp/foo.txt",
-        long.as_slice(),
-        "/",
-        answers.as_slice(),
-    )?;
-    applied(
-        &rt,
-        alloc,
-        "foo/.",
-        [extension("bar"), pop, pop].as_slice(),
-        "",
-        [yes, yes, no].as_slice(),
-    )?;
-    applied(
-        &rt,
-        alloc,
-        "a",
-        [Edit::Clear, push("")].as_slice(),
-        "",
-        [plain, plain].as_slice(),
-    )?;
-    applied(&rt, alloc, "a", [].as_slice(), "a", [].as_slice())
+    let short = [extension("bar"), pop, pop];
+    let clear = [Edit::Clear, push("")];
+    assert!(rt;
+        edits_give(
+            alloc,
+            "/tmp/foo.txt",
+            long.as_slice(),
+            "/",
+            answers.as_slice()
+        )?
+    );
+    assert!(rt;
+        edits_give(
+            alloc,
+            "foo/.",
+            short.as_slice(),
+            "",
+            [yes, yes, no].as_slice()
+        )?
+    );
+    assert!(rt; edits_give(alloc, "a", clear.as_slice(), "", [plain, plain].as_slice())?);
+    assert!(rt; edits_give(alloc, "a", [].as_slice(), "a", [].as_slice())?);
+    Ok(())
 }
 
 #[test]
@@ -127,18 +135,7 @@ fn rows_of_joins_to_a_base(rt: HostRuntime) -> Result<(), Fail> {
         ("foo/bar", "foo/bar/baz", None),
     ];
     for (text, base, want) in rows {
-        let joined = rejoin(alloc, path(text), path(base))?;
-        match want {
-            Some(want) => {
-                let joined = joined.ok_or("refused")?;
-                assert_eq!(rt;
-                    joined.as_path().as_unix_str(),
-                    UnixStr::new(want),
-                    "{text}"
-                );
-            }
-            None => assert!(rt; joined.is_none(), "{text}"),
-        }
+        assert!(rt; is_rejoined(alloc, text, base, want)?, "{text}");
     }
     Ok(())
 }

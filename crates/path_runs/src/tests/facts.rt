@@ -13,7 +13,7 @@ use std::test::Fail;
 use unix_path::bytes::UnixStr;
 use unix_path::{Path, PathBuf};
 
-fn joined(alloc: Global, root: Path<'_>, request: Path<'_>) -> Result<PathBuf, AllocError>
+fn join_below(alloc: Global, root: Path<'_>, request: Path<'_>) -> Result<PathBuf, AllocError>
     requires { is_rooted request.bytes.now ≡ false }
     ensures { IfOk result (λ p. Begins (values root.entry.bytes.now) (values (path_bytes p))) }
 {
@@ -52,7 +52,7 @@ fn ties(a: Path<'_>, b: Path<'_>) -> bool
     a.cmp(&b).is_eq()
 }
 
-fn turned(a: Path<'_>, b: Path<'_>) -> Ordering
+fn reverse_order(a: Path<'_>, b: Path<'_>) -> Ordering
     ensures { result ≡ values_cmp (values a.entry.bytes.now) (values b.entry.bytes.now) }
 {
     laws::order_total();
@@ -65,12 +65,12 @@ fn laws_are_facts(rt: HostRuntime) -> Result<(), Fail> {
     let root = Path::new(UnixStr::new("/srv/"));
     let request = Path::new(UnixStr::new("./a//b"));
     let empty = Path::new(UnixStr::new(""));
-    let joined = joined(alloc, root, request)?;
+    let joined = join_below(alloc, root, request)?;
     assert_eq!(rt; joined.as_path().as_unix_str(), UnixStr::new("/srv/./a//b"));
     assert!(rt; starts_again(alloc, empty, request)?);
     assert_eq!(rt; part_room(request), 6);
     assert!(rt; is_nothing(empty));
     assert!(rt; ties(request, Path::new(UnixStr::new("./a/b/."))));
-    assert_eq!(rt; turned(root, request), Ordering::Less);
+    assert_eq!(rt; reverse_order(root, request), Ordering::Less);
     Ok(())
 }

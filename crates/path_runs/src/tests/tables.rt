@@ -15,7 +15,7 @@ use std::test::Fail;
 use unix_path::bytes::UnixStr;
 use unix_path::{Path, PathBuf};
 
-fn stored<'a, V>(files: &'a BTreeMap<PathBuf, V>, path: &PathBuf) -> Option<&'a V>
+fn find_owned<'a, V>(files: &'a BTreeMap<PathBuf, V>, path: &PathBuf) -> Option<&'a V>
     ensures { option_copied result ≡ lookup (is_at (values_cmp (values (path_bytes path.now))))
         (rows_of path_bytes files.entry.now.entries) }
 {
@@ -23,7 +23,7 @@ fn stored<'a, V>(files: &'a BTreeMap<PathBuf, V>, path: &PathBuf) -> Option<&'a 
     files.get(path)
 }
 
-fn seen<'m, 'a, V>(files: &'m BTreeMap<Path<'a>, V>, path: Path<'a>) -> Option<&'m V>
+fn find_view<'m, 'a, V>(files: &'m BTreeMap<Path<'a>, V>, path: Path<'a>) -> Option<&'m V>
     ensures { option_copied result ≡ lookup (is_at (values_cmp (values path.entry.bytes.now)))
         (rows_of view_bytes files.entry.now.entries) }
 {
@@ -31,7 +31,7 @@ fn seen<'m, 'a, V>(files: &'m BTreeMap<Path<'a>, V>, path: Path<'a>) -> Option<&
     files.get(&path)
 }
 
-fn put<V: Drop>(
+fn insert<V: Drop>(
     files: &mut BTreeMap<PathBuf, V>,
     alloc: Global,
     path: Path<'_>,
@@ -52,7 +52,7 @@ fn put<V: Drop>(
     Ok(old)
 }
 
-fn taken<V>(files: &mut BTreeMap<PathBuf, V>, path: &PathBuf) -> Option<V>
+fn take_out<V>(files: &mut BTreeMap<PathBuf, V>, path: &PathBuf) -> Option<V>
     ensures value { result ≡ lookup (is_at (values_cmp (values (path_bytes path.now))))
         (rows_of path_bytes files.old.entries) }
     ensures rows { rows_of path_bytes files.new.entries ≡ remove_entry
@@ -70,12 +70,12 @@ fn equal_paths_are_one_key(rt: HostRuntime) -> Result<(), Fail> {
     let mut files = BTreeMap::new(alloc);
     let path = Path::new(UnixStr::new("a/b"));
     let other = Path::new(UnixStr::new("a//b/"));
-    assert_eq!(rt; put(&mut files, alloc, path, 1u8)?, None);
-    assert_eq!(rt; put(&mut files, alloc, other, 2u8)?, Some(1));
+    assert_eq!(rt; insert(&mut files, alloc, path, 1u8)?, None);
+    assert_eq!(rt; insert(&mut files, alloc, other, 2u8)?, Some(1));
     let key = other.to_path_buf(alloc)?;
-    assert_eq!(rt; stored(&files, &key).copied(), Some(2));
-    assert_eq!(rt; taken(&mut files, &key), Some(2));
-    assert_eq!(rt; stored(&files, &key).copied(), None);
+    assert_eq!(rt; find_owned(&files, &key).copied(), Some(2));
+    assert_eq!(rt; take_out(&mut files, &key), Some(2));
+    assert_eq!(rt; find_owned(&files, &key).copied(), None);
     Ok(())
 }
 
@@ -85,7 +85,7 @@ fn equal_views_are_one_key(rt: HostRuntime) -> Result<(), Fail> {
     let other = Path::new(UnixStr::new("a//b/"));
     let mut files = BTreeMap::new(rt.alloc());
     files.insert(path, 1u8)?;
-    let found = seen(&files, other).copied();
+    let found = find_view(&files, other).copied();
     drop(files);
     assert_eq!(rt; found, Some(1));
     Ok(())

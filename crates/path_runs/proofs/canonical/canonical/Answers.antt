@@ -9,7 +9,6 @@ use Rattle.unix_path.specs.Joins.{join_all_of}
 use Rattle.unix_path.specs.Parts.{value_bytes, values}
 use Rattle.unix_path.specs.declared.path.Path.{Path}
 use Rattle.unix_path.proofs.CursorLemmas.{Components-yields}
-use Rattle.unix_path.proofs.ParentLemmas.{values-whole}
 use Rattle.path_runs.specs.Spelling.{spelling_of}
 use Rattle.path_runs.proofs.JoinAllLemmas.{join_all_of-values}
 use Rattle.path_runs.proofs.canonical.canonical.Goals as goal
@@ -26,10 +25,11 @@ returns c =
     IfOk-weaker c.from_iter.result _ (λ p. path_bytes p ≡ spelling_of (values s))
     (λ p joins. joins.bytes
     ∙ ap (join_all_of [])
-    (map-drained bytes_of joins.paths (map value_bytes (values _)) joins.drained
+    (map-drained bytes_of joins.paths _ joins.drained
     (YieldsList-from_map_by _ bytes_of value_bytes
-    (YieldsList-at c.map.ensures.source (Components-yields _)) c.map.ensures.closure
+    (YieldsList-at c.map.ensures.source (Components-yields c.components.result))
+    c.map.ensures.closure
     (λ x r q k. search (rules, tests)))
-    ∙ ap (map value_bytes) (values-whole s _ c.components.ensures.rest))
+    ∙ ap (map value_bytes) c.components.ensures.values)
     ∙ search join_all_of-values)
     c.from_iter.ensures.ok

@@ -1,5 +1,6 @@
 use Rattle.std.proofs.Common.{arith}
-use Rattle.path_runs.proofs.RunLemmas.{HasApplied-more}
+use Rattle.unix_path.specs.Buffers.{path_bytes}
+use Rattle.path_runs.proofs.EditListLemmas.{HasApplied-more}
 use Rattle.path_runs.proofs.edits.apply.Goals as goal
 
 pub loop-done-preserved : goal.loop-done-preserved
@@ -9,7 +10,7 @@ loop-done-preserved c =
     let pushed = c.push_reserved.ensures in
     record {
       applied = rw pushed.items
-          (HasApplied-more c.args.path.now.bytes.items c.args.edits.now c.loop-done.done _ _ _ _ _
+          (HasApplied-more (path_bytes c.args.path.now) c.args.edits.now c.loop-done.done _ _ _ _ _
           h.applied c.loop-done-test.true one.ok one.value);
       len = omega (arith, pushed.len, h.len);
       capacity = omega (arith, pushed.capacity, h.capacity);

@@ -1,6 +1,6 @@
 use Rattle.std.proofs.Common.{◌≡◌, ◌≤◌, length, vec_len, vec_capacity}
 use Rattle.unix_path.specs.Buffers.{path_bytes}
-use Rattle.path_runs.proofs.RunLemmas.{HasApplied}
+use Rattle.path_runs.proofs.EditListLemmas.{HasApplied}
 use Rattle.path_runs.proofs.edits.apply.Given as goal
 
 abbrev pub invariant-loop-done : goal.invariant-loop-done

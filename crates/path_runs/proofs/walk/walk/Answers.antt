@@ -1,11 +1,8 @@
 use Rattle.std.proofs.lemmas.List.{map-append}
-use Rattle.unix_path.specs.Cursor.{cursor_rest}
 use Rattle.unix_path.specs.Views.{value_of}
-use Rattle.path_runs.proofs.WalkLemmas.{HasWalked-front, HasWalked-back, HasWalked-none}
-use Rattle.path_runs.proofs.walk.walk.Goals.{in-Front+in-Some+in_ok-push-in-Front}
-use Rattle.path_runs.proofs.walk.walk.Goals.{in-Front+in_default}
-use Rattle.path_runs.proofs.walk.walk.Goals.{in-Back+in-Some-next_back+in_ok-push-in-Back}
-use Rattle.path_runs.proofs.walk.walk.Goals.{in-Back+in_default-next_back}
+use Rattle.path_runs.proofs.WalkStepLemmas.{HasWalked-front, HasWalked-back}
+use Rattle.path_runs.proofs.walk.walk.Goals.{in-Front+in_ok-push_some-in-Front}
+use Rattle.path_runs.proofs.walk.walk.Goals.{in-Back+in_ok-push_some-in-Back}
 use Rattle.path_runs.proofs.walk.walk.Goals as goal
 
 pub loop-turn-preserved : goal.loop-turn-preserved
@@ -16,36 +13,18 @@ loop-turn-preserved c =
     let h = c.loop-turn.invariant in
     let l = c.loop-turn-test.true in
     elim c.match-turn.branch [
-      | in-Front+in-Some+in_ok-push-in-Front w ↦
-          let gives = w.in-Some.ensures.steps in
-          rw (
-            w.left-is,
-            w.front-is,
-            w.behind-is,
-            w.in_ok-push-in-Front.ensures.items,
-            map-append value_of c.loop-turn.front.items,
-          )
-          (HasWalked-front s ts i _ _ _ (value_of w.in-Some.part)
-          (cursor_rest w.next.new.self) h l w.in-Front.is gives.item_is gives.rest_is)
-      | in-Front+in_default w ↦
-          let gives = w.in_default.ensures.steps in
-          rw (w.left-is, w.front-is, w.behind-is)
-          (HasWalked-none s ts i _ _ _
-          (cursor_rest w.next.new.self) 1 0 h gives.item_is.0 gives.rest_is)
-      | in-Back+in-Some-next_back+in_ok-push-in-Back w ↦
-          let gives = w.in-Some-next_back.ensures.steps in
-          rw (
-            w.left-is,
-            w.front-is,
-            w.behind-is,
-            w.in_ok-push-in-Back.ensures.items,
-            map-append value_of c.loop-turn.behind.items,
-          )
-          (HasWalked-back s ts i _ _ _ (value_of w.in-Some-next_back.part)
-          (cursor_rest w.next_back.new.self) h l w.in-Back.is gives.item_is gives.rest_is)
-      | in-Back+in_default-next_back w ↦
-          let gives = w.in_default-next_back.ensures.steps in
-          rw (w.left-is, w.front-is, w.behind-is)
-          (HasWalked-none s ts i _ _ _
-          (cursor_rest w.next_back.new.self) 0 1 h gives.item_is.0 gives.rest_is)
+      | in-Front+in_ok-push_some-in-Front w ↦
+          let gives = w.next.ensures.steps in
+          let pushed = w.in_ok-push_some-in-Front.ensures in
+          let added = map-append value_of c.loop-turn.front.items in
+          rw (w.left-is, w.front-is, w.behind-is, pushed, added)
+          (HasWalked-front value_of s ts i _ _ _ w.next.result _ h l w.in-Front.is
+          gives.item_is gives.rest_is)
+      | in-Back+in_ok-push_some-in-Back w ↦
+          let gives = w.next_back.ensures.steps in
+          let pushed = w.in_ok-push_some-in-Back.ensures in
+          let added = map-append value_of c.loop-turn.behind.items in
+          rw (w.left-is, w.front-is, w.behind-is, pushed, added)
+          (HasWalked-back value_of s ts i _ _ _ w.next_back.result _ h l w.in-Back.is
+          gives.item_is gives.rest_is)
     ]

@@ -1,11 +1,12 @@
-use Rattle.path_runs.proofs.ExtensionLemmas.{stem_of-taken, extension_of-taken, parent_of-taken}
+use Rattle.path_runs.proofs.ExtensionLemmas.{stem_of-new_extension, extension_of-new_extension}
+use Rattle.path_runs.proofs.ExtensionLemmas.{parent_of-new_extension}
 use Rattle.path_runs.proofs.laws.edits.extension_set.Goals as goal
 
 pub returns-clause-stem : goal.returns-clause-stem
-returns-clause-stem c = stem_of-taken
+returns-clause-stem c = stem_of-new_extension
 
 pub returns-clause-extension : goal.returns-clause-extension
-returns-clause-extension c = extension_of-taken
+returns-clause-extension c = extension_of-new_extension
 
 pub returns-clause-parent : goal.returns-clause-parent
-returns-clause-parent c = parent_of-taken
+returns-clause-parent c = parent_of-new_extension

@@ -6,7 +6,7 @@ use Rattle.unix_path.specs.Rest.{rest}
 use Rattle.unix_path.proofs.EndLemmas.{last_or-push}
 use Rattle.path_runs.specs.declared.edits.Answer.TheVariants.{Plain, Flag}
 use Rattle.path_runs.proofs.NamedLemmas.{named_cut}
-use Rattle.path_runs.proofs.SiblingLemmas.{pop-answer, values-popped_of, parent_of-named}
+use Rattle.path_runs.proofs.SiblingLemmas.{pop-answer, values-popped_of, parent_of-name}
 use Rattle.path_runs.proofs.SiblingLemmas.{values-with_name_of, rest-with_name_of}
 use Rattle.std.proofs.Common.{Some, None}
 use Rattle.path_runs.proofs.laws.edits.push_then_pop.Goals as goal
@@ -21,9 +21,9 @@ pub returns-clause-parent : goal.returns-clause-parent
 returns-clause-parent c = λ s old n name f e.
     let t = with_name_of s n in
     let cut = named_cut s old f in
-    parent_of-named t name (values (rest s 0 1)) (values-with_name_of s old n name f e)
+    parent_of-name t name (values (rest s 0 1)) (values-with_name_of s old n name f e)
     ∙ ap Some (rest-with_name_of s old n name f e)
-    ∙ sym (parent_of-named s old (values cut.front) cut.before)
+    ∙ sym (parent_of-name s old (values cut.prefix) cut.before)
 
 pub returns-clause-last : goal.returns-clause-last
 returns-clause-last c = λ s old n name f e.

@@ -2,7 +2,7 @@ use Rattle.std.proofs.Common.{◌≢◌, List, ℕ, [], ◌∷◌, length, ◌<�
 use Rattle.std.proofs.Common.{arith, append_assoc}
 use Rattle.unix_path.specs.Parts.{slash, values}
 use Rattle.path_runs.proofs.ValueLemmas.{values-past_slash, values-join_of}
-use Rattle.path_runs.proofs.LeadLemmas.{undotted-values, unled-values}
+use Rattle.path_runs.proofs.LeadLemmas.{drop_dot-values, drop_lead-values}
 use Rattle.path_runs.proofs.laws.joins.join_values.Goals as goal
 
 some_byte : (s : List ℕ) → s ≢ [] → 0 < length s
@@ -11,8 +11,8 @@ some_byte (b ∷ s) h = omega arith
 
 pub returns-clause-join : goal.returns-clause-join
 returns-clause-join c = λ a b some r. values-join_of a b (some_byte a some) r
-    ∙ ap (λ vs. values a ++ vs) (sym (undotted-values b r))
+    ∙ ap (λ vs. values a ++ vs) (sym (drop_dot-values b r))
 
 pub returns-clause-slash : goal.returns-clause-slash
 returns-clause-slash c = λ a b. ap values (sym (append_assoc a (slash ∷ []) b))
-    ∙ values-past_slash a b ∙ ap (λ vs. values (a ++ slash ∷ []) ++ vs) (sym (unled-values b))
+    ∙ values-past_slash a b ∙ ap (λ vs. values (a ++ slash ∷ []) ++ vs) (sym (drop_lead-values b))

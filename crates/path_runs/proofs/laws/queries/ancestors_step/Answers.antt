@@ -1,5 +1,5 @@
-use Rattle.path_runs.proofs.AncestorFrontLemmas.{ancestors_of-alone, ancestors_of-above}
-use Rattle.path_runs.proofs.AncestorFrontLemmas.{ancestors_of-fronts}
+use Rattle.path_runs.proofs.AncestorPrefixLemmas.{ancestors_of-alone, ancestors_of-above}
+use Rattle.path_runs.proofs.AncestorPrefixLemmas.{ancestors_of-prefixes}
 use Rattle.path_runs.proofs.laws.queries.ancestors_step.Goals as goal
 
 pub returns-clause-end : goal.returns-clause-end
@@ -8,5 +8,5 @@ returns-clause-end c = ancestors_of-alone
 pub returns-clause-step : goal.returns-clause-step
 returns-clause-step c = ancestors_of-above
 
-pub returns-clause-fronts : goal.returns-clause-fronts
-returns-clause-fronts c = ancestors_of-fronts
+pub returns-clause-prefixes : goal.returns-clause-prefixes
+returns-clause-prefixes c = ancestors_of-prefixes

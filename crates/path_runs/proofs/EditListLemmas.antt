@@ -4,7 +4,7 @@ use Rattle.std.proofs.Common.{map, sym, ap, ap₂, ◌∙◌}
 use Rattle.std.proofs.lemmas.List.{map_more}
 use Rattle.path_runs.specs.declared.edits.Answer.{Answer}
 use Rattle.path_runs.specs.declared.edits.Edit.{Edit}
-use Rattle.path_runs.specs.Runs.{EditValue, edit_of, edits_of}
+use Rattle.path_runs.specs.EditLists.{EditValue, edit_of, edits_of}
 use Rattle.path_runs.specs.EditViews.{edit_value}
 
 -- the bytes that these edits leave

@@ -26,7 +26,7 @@ edit_of s (SetExtension extension) =
     (with_extension_of s extension, Flag (is_some (file_name_of (values s))))
 edit_of s Clear = ([], Plain)
 
--- what a list of edits leaves, each applied to what the one before it left, and all their answers
+-- what a list of edits leaves, each made on what the one before it left, and all their answers
 abbrev pub edits_of : List ℕ → List EditValue → List ℕ × List Answer
 edits_of s [] = (s, [])
 edits_of s (e ∷ es) =
@@ -34,9 +34,9 @@ edits_of s (e ∷ es) =
     let more = edits_of one.0 es in
     (more.0, one.1 ∷ more.1)
 
--- a push, a file name, or an extension that isn't empty: all others take no memory
-abbrev pub may_take_memory : EditValue → Bool
-may_take_memory (Push b) = true
-may_take_memory (SetFileName name) = true
-may_take_memory (SetExtension (b ∷ bs)) = true
-may_take_memory _ = false
+-- a push, a new file name, or an extension that isn't empty; no other edit allocates
+abbrev pub may_allocate : EditValue → Bool
+may_allocate (Push b) = true
+may_allocate (SetFileName name) = true
+may_allocate (SetExtension (b ∷ bs)) = true
+may_allocate _ = false

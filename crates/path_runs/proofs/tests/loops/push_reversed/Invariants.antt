@@ -3,7 +3,7 @@ use Rattle.std.specs.Iterator.Adapters.{rev_source}
 use Rattle.unix_path.specs.Cursor.{cursor_values}
 use Rattle.unix_path.specs.Parts.{values, value_bytes}
 use Rattle.unix_path.proofs.CursorLemmas.{name_bytes}
-use Rattle.path_runs.proofs.tests.loops.pushed_back.Given as goal
+use Rattle.path_runs.proofs.tests.loops.push_reversed.Given as goal
 
 abbrev pub invariant-loop-part : goal.invariant-loop-part
 invariant-loop-part l =

@@ -1,7 +1,7 @@
 use Rattle.std.proofs.Common.{◌≡◌, ◌++◌, map}
 use Rattle.unix_path.specs.Cursor.{iter_bytes}
 use Rattle.unix_path.proofs.CursorLemmas.{name_bytes}
-use Rattle.path_runs.proofs.tests.callers.pushed_names.Given as goal
+use Rattle.path_runs.proofs.tests.callers.push_names.Given as goal
 
 abbrev pub invariant-loop-name : goal.invariant-loop-name
 invariant-loop-name l =

@@ -3,7 +3,7 @@ use Rattle.unix_path.specs.Cursor.{cursor_values}
 use Rattle.unix_path.specs.Names.{name_of}
 use Rattle.unix_path.specs.Parts.{values}
 use Rattle.unix_path.specs.Views.{value_of}
-use Rattle.path_runs.proofs.tests.loops.pushed_names.Given as goal
+use Rattle.path_runs.proofs.tests.loops.push_names.Given as goal
 
 abbrev pub invariant-loop-part : goal.invariant-loop-part
 invariant-loop-part l =

@@ -1,7 +1,7 @@
 use Rattle.std.proofs.Common.{◌≡◌, ◌++◌, map}
 use Rattle.unix_path.specs.Cursor.{cursor_values}
 use Rattle.unix_path.specs.Views.{value_of}
-use Rattle.path_runs.proofs.tests.callers.pushed.Given as goal
+use Rattle.path_runs.proofs.tests.callers.push_parts.Given as goal
 
 abbrev pub invariant-loop-part : goal.invariant-loop-part
 invariant-loop-part l =

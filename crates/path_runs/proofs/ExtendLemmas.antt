@@ -1,0 +1,84 @@
+-- Rootless paths that are joined to a path, all of them or up to one.
+use Rattle.std.proofs.Common.{◌≡◌, ℕ, zero, suc, ◌≤◌, ◌<◌, false, List, [], ◌∷◌, ◌++◌, length, take}
+use Rattle.std.proofs.Common.{drop, map, Option, slice_get, Some, refl, sym, ap, subst, ◌∙◌, arith}
+use Rattle.std.proofs.Common.{map-id, length-append}
+use Rattle.std.specs.List.{AllByRecursion}
+use Rattle.std.proofs.lemmas.Iterator.{YieldsList}
+use Rattle.std.proofs.lemmas.Iterator.Consumers.{YieldsList-so_far, nth_from_yields_List}
+use Rattle.std.proofs.lemmas.List.{map-append}
+use Rattle.std.proofs.lemmas.Option.{same_Some, none-some}
+use Rattle.unix_path.specs.Buffers.{texts, JoinsBeginning}
+use Rattle.unix_path.specs.Joins.{is_open, join_of, join_all_of}
+use Rattle.unix_path.specs.Parts.{is_rooted}
+use Rattle.unix_path.specs.declared.path.Path.{Path}
+use Rattle.unix_path.proofs.CaseLemmas.{by_test}
+use Rattle.unix_path.proofs.JoinLemmas.{join_of_open, join_of_closed}
+
+-- none of these is rooted
+abbrev pub AllRootless : List (List ℕ) → Type 0
+AllRootless bs = AllByRecursion (λ b. is_rooted b ≡ false) bs
+
+length-join_of : (a b : List ℕ) → is_rooted b ≡ false → length a ≤ length (join_of a b)
+length-join_of a b r = by_test (is_open a)
+    (λ o. omega (arith, ap length (join_of_open a b r o), length-append a b))
+    (λ o. omega (
+      arith,
+      ap length (join_of_closed a b r o),
+      length-append (a ++ 47 ∷ []) b,
+      length-append a (47 ∷ []),
+    ))
+
+length-join_all_of : (a : List ℕ) (bs : List (List ℕ)) → AllRootless bs
+    → length a ≤ length (join_all_of a bs)
+length-join_all_of a [] h = omega arith
+length-join_all_of a (b ∷ bs) h =
+    omega (arith, length-join_of a b h.0, length-join_all_of (join_of a b) bs h.1)
+
+join_all_of-append : (a : List ℕ) (bs cs : List (List ℕ))
+    → join_all_of a (bs ++ cs) ≡ join_all_of (join_all_of a bs) cs
+join_all_of-append a [] cs = refl
+join_all_of-append a (b ∷ bs) cs = join_all_of-append (join_of a b) bs cs
+
+AllRootless-end : (bs cs : List (List ℕ)) → AllRootless (bs ++ cs) → AllRootless cs
+AllRootless-end [] cs h = h
+AllRootless-end (b ∷ bs) cs h = AllRootless-end bs cs h.1
+
+split_at : {X : Type 0} (xs : List X) (n : ℕ) (y : X) → slice_get xs n ≡ Some y
+    → xs ≡ take n xs ++ y ∷ drop (suc n) xs
+split_at [] n y e = absurd (none-some y e)
+split_at (x ∷ xs) zero y e = ap (λ y. y ∷ xs) (same_Some x y e)
+split_at (x ∷ xs) (suc n) y e = ap (λ l. x ∷ l) (split_at xs n y e)
+
+-- the join up to one path is no longer than the join with all
+length-join_of_next : (old : List ℕ) (all xs : List Path) (x : Path)
+    → map (λ x. x) xs ≡ take (length xs) all → Some x ≡ slice_get all (length xs)
+    → AllRootless (texts all)
+    → length (join_of (join_all_of old (texts xs)) x.bytes.now)
+    ≤ length (join_all_of old (texts all))
+length-join_of_next old all xs x prefix at h =
+    let rest = drop (suc (length xs)) all in
+    let whole : all ≡ xs ++ x ∷ rest = split_at all (length xs) x (sym at)
+    ∙ ap (λ ys. ys ++ x ∷ rest) (sym prefix ∙ map-id xs) in
+    let parts : texts all ≡ texts xs ++ texts (x ∷ rest) = ap texts whole
+    ∙ map-append (λ x. x.bytes.now) xs (x ∷ rest) in
+    let rootless = AllRootless-end (texts xs) (texts (x ∷ rest)) (subst AllRootless parts h) in
+    let made = join_of (join_all_of old (texts xs)) x.bytes.now in
+    let all_is : join_all_of old (texts all) ≡ join_all_of made (texts rest) =
+    ap (join_all_of old) parts ∙ join_all_of-append old (texts xs) (texts (x ∷ rest)) in
+    omega (arith, ap length all_is, length-join_all_of made (texts rest) rootless.1)
+
+-- where the join up to one of some rootless paths is longer than `most`, so is that of all
+pub JoinsBeginning-exceeds : {S : Type 0} {steps : S → Option Path → S → Type 0} {items : S}
+    {all : List Path} (old new : List ℕ) (most : ℕ) → YieldsList steps (λ x. x) items all
+    → AllRootless (texts all) → JoinsBeginning steps items old new most
+    → most < length (join_all_of old (texts all))
+JoinsBeginning-exceeds {all = all} old new most yields h e =
+    let prefix = YieldsList-so_far yields e.paths e.given.0 e.given.1 in
+    let at = nth_from_yields_List (Some e.next) e.left (length e.paths) (e.paths, e.given, refl)
+    yields in
+    omega (
+      arith,
+      length-join_of_next old all e.paths e.next prefix at h,
+      e.longer,
+      ap (λ s. length (join_of s e.next.bytes.now)) e.bytes,
+    )

@@ -1,0 +1,127 @@
+-- One more turn of a walk.
+use Rattle.std.proofs.Common.{◌≡◌, ℕ, ◌+◌, ◌-◌, ◌≤◌, ◌<◌, length, List, [], ◌∷◌, ◌++◌, map}
+use Rattle.std.proofs.Common.{take, drop, get_or, reverse, sym, ap, ap₂, ◌∙◌, arith}
+use Rattle.std.proofs.Common.{length-drop, add-zero, append-nil, Option, Some, None, MatchOption}
+use Rattle.std.specs.List.{count_by}
+use Rattle.std.specs.Option.{option_to_list}
+use Rattle.std.proofs.lemmas.List.{length-take, get_or-reverse, length-reverse, take_more}
+use Rattle.std.proofs.lemmas.List.Sums.{count_by_more_yes, count_by_more_no}
+use Rattle.unix_path.specs.Parts.{Value, values}
+use Rattle.unix_path.specs.Rest.{rest}
+use Rattle.unix_path.proofs.RestLemmas.{rest-rest, rest-none}
+use Rattle.path_runs.specs.Turns.{is_front, front_turns, back_turns}
+use Rattle.path_runs.specs.declared.walk.Turn.{Turn}
+use Rattle.path_runs.specs.declared.walk.Turn.TheVariants.{Front, Back}
+use Rattle.path_runs.proofs.WalkLemmas.{is_back, HasWalked, turns_total, in_time, values-left}
+use Rattle.path_runs.proofs.WalkLemmas.{take-take_late, take-take_early, get_or-first, get_or-last}
+
+-- one more turn in front, where a part is left
+HasWalked-front_some : (s : List ℕ) (ts : List Turn) (i : ℕ) (front : List Value) (left : List ℕ)
+    (behind : List Value) (v : Value) (after : List ℕ) → HasWalked s ts i front left behind
+    → i < length ts → get_or ts i Front ≡ Front
+    → values left ≡ v ∷ values after → after ≡ rest left 1 0
+    → HasWalked s ts (i + 1) (front ++ v ∷ []) after behind
+HasWalked-front_some s ts i front left behind v after h l turn gives leaves =
+    let vs = values s in
+    let n = length vs in
+    let k = front_turns n (take i ts) in
+    let m = back_turns n (take i ts) in
+    let first = get_or-first vs (values after) k (n - (k + m)) v (sym gives ∙ values-left h) in
+    let some = first.0 in
+    let early : i < n = in_time n i k m ts l (omega arith) (turns_total (take n (take i ts))) in
+    let now = take-take_early n i ts (omega arith) in
+    let then = take-take_early n (i + 1) ts (omega arith) in
+    let fronts : front_turns n (take (i + 1) ts) ≡ k + 1 = ap (count_by is_front) then
+    ∙ count_by_more_yes is_front ts i Front l (ap is_front turn)
+    ∙ ap (λ us. count_by is_front us + 1) (sym now) in
+    let backs : back_turns n (take (i + 1) ts) ≡ m = ap (count_by is_back) then
+    ∙ count_by_more_no is_back ts i Front l (ap is_back turn)
+    ∙ ap (count_by is_back) (sym now) in
+    record {
+      front_is = ap₂ (λ f x. f ++ x ∷ []) h.front_is (sym first.2) ∙ sym (take_more vs k v first.1)
+          ∙ ap (λ j. take j vs) (sym fronts);
+      left_is = leaves ∙ ap (λ t. rest t 1 0) h.left_is ∙ rest-rest s k m 1 0
+          ∙ ap₂ (rest s) (sym fronts) (add-zero m ∙ sym backs);
+      behind_is = h.behind_is ∙ ap (λ j. take j (reverse vs)) (sym backs);
+    }
+
+-- one more turn behind, where a part is left
+HasWalked-back_some : (s : List ℕ) (ts : List Turn) (i : ℕ) (front : List Value) (left : List ℕ)
+    (behind : List Value) (v : Value) (after : List ℕ) → HasWalked s ts i front left behind
+    → i < length ts → get_or ts i Front ≡ Back
+    → values left ≡ values after ++ v ∷ [] → after ≡ rest left 0 1
+    → HasWalked s ts (i + 1) front after (behind ++ v ∷ [])
+HasWalked-back_some s ts i front left behind v after h l turn gives leaves =
+    let vs = values s in
+    let n = length vs in
+    let k = front_turns n (take i ts) in
+    let m = back_turns n (take i ts) in
+    let last = get_or-last vs (values after) k m v (sym gives ∙ values-left h) in
+    let some = last.0 in
+    let early : i < n = in_time n i k m ts l some (turns_total (take n (take i ts))) in
+    let now = take-take_early n i ts (omega arith) in
+    let then = take-take_early n (i + 1) ts (omega arith) in
+    let fronts : front_turns n (take (i + 1) ts) ≡ k = ap (count_by is_front) then
+    ∙ count_by_more_no is_front ts i Front l (ap is_front turn)
+    ∙ ap (count_by is_front) (sym now) in
+    let backs : back_turns n (take (i + 1) ts) ≡ m + 1 = ap (count_by is_back) then
+    ∙ count_by_more_yes is_back ts i Front l (ap is_back turn)
+    ∙ ap (λ us. count_by is_back us + 1) (sym now) in
+    let place : m < length (reverse vs) = omega (arith, length-reverse vs) in
+    record {
+      front_is = h.front_is ∙ ap (λ j. take j vs) (sym fronts);
+      left_is = leaves ∙ ap (λ t. rest t 0 1) h.left_is ∙ rest-rest s k m 0 1
+          ∙ ap₂ (rest s) (add-zero k ∙ sym fronts) (sym backs);
+      behind_is = ap₂ (λ b x. b ++ x ∷ []) h.behind_is
+          (sym last.1 ∙ sym (get_or-reverse vs m v (omega arith)))
+          ∙ sym (take_more (reverse vs) m v place) ∙ ap (λ j. take j (reverse vs)) (sym backs);
+    }
+
+-- one more turn at either end, where no part is left
+HasWalked-none : (s : List ℕ) (ts : List Turn) (i : ℕ) (front : List Value) (left : List ℕ)
+    (behind : List Value) (after : List ℕ) (a b : ℕ) → HasWalked s ts i front left behind
+    → values left ≡ [] → after ≡ rest left a b → HasWalked s ts (i + 1) front after behind
+HasWalked-none s ts i front left behind after a b h none leaves =
+    let vs = values s in
+    let n = length vs in
+    let k = front_turns n (take i ts) in
+    let m = back_turns n (take i ts) in
+    let size = ap length (sym none ∙ values-left h) in
+    let all : n ≤ k + m =
+    omega (arith, size, length-take (n - (k + m)) (drop k vs), length-drop k vs) in
+    let made : n ≤ i = omega
+    (arith, turns_total (take n (take i ts)), length-take n (take i ts), length-take i ts) in
+    let same = take-take_late n i ts made in
+    record {
+      front_is = h.front_is ∙ ap (λ us. take (count_by is_front us) vs) (sym same);
+      left_is = leaves ∙ ap (λ t. rest t a b) h.left_is ∙ rest-rest s k m a b
+          ∙ rest-none s (k + a) (m + b) (omega arith) ∙ sym (rest-none s k m all)
+          ∙ ap₂ (rest s) (ap (count_by is_front) (sym same)) (ap (count_by is_back) (sym same));
+      behind_is = h.behind_is ∙ ap (λ us. take (count_by is_back us) (reverse vs)) (sym same);
+    }
+
+-- one more turn in front, and the part that it gave, if any
+pub HasWalked-front : {A : Type 0} (shows : A → Value) (s : List ℕ) (ts : List Turn) (i : ℕ)
+    (front : List Value) (left : List ℕ) (behind : List Value) (item : Option A) (after : List ℕ)
+    → HasWalked s ts i front left behind → i < length ts → get_or ts i Front ≡ Front
+    → MatchOption item ((values left ≡ []) × (values after ≡ []))
+    (λ x. values left ≡ shows x ∷ values after)
+    → after ≡ rest left 1 0
+    → HasWalked s ts (i + 1) (front ++ map shows (option_to_list item)) after behind
+HasWalked-front shows s ts i front left behind None after h l turn gives leaves =
+    rw (append-nil front) (HasWalked-none s ts i front left behind after 1 0 h gives.0 leaves)
+HasWalked-front shows s ts i front left behind (Some x) after h l turn gives leaves =
+    HasWalked-front_some s ts i front left behind (shows x) after h l turn gives leaves
+
+-- one more turn behind, and the part that it gave, if any
+pub HasWalked-back : {A : Type 0} (shows : A → Value) (s : List ℕ) (ts : List Turn) (i : ℕ)
+    (front : List Value) (left : List ℕ) (behind : List Value) (item : Option A) (after : List ℕ)
+    → HasWalked s ts i front left behind → i < length ts → get_or ts i Front ≡ Back
+    → MatchOption item ((values left ≡ []) × (values after ≡ []))
+    (λ x. values left ≡ values after ++ shows x ∷ [])
+    → after ≡ rest left 0 1
+    → HasWalked s ts (i + 1) front after (behind ++ map shows (option_to_list item))
+HasWalked-back shows s ts i front left behind None after h l turn gives leaves =
+    rw (append-nil behind) (HasWalked-none s ts i front left behind after 0 1 h gives.0 leaves)
+HasWalked-back shows s ts i front left behind (Some x) after h l turn gives leaves =
+    HasWalked-back_some s ts i front left behind (shows x) after h l turn gives leaves
