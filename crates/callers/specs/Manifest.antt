@@ -1,4 +1,4 @@
--- Manifests: paths in canonical form and in order. Own.
+-- Manifests: paths in canonical form and in order. Not in Rust's std.
 use Rattle.std.specs.Prelude.{◌≡◌, Bool}
 use Rattle.std.specs.Ordering.{is_eq}
 use Rattle.std.specs.declared.cmp.Ordering.{Ordering}
@@ -9,7 +9,7 @@ use Rattle.unix_path.specs.declared.buf.PathBuf.{PathBuf}
 use Rattle.unix_path.specs.declared.path.Path.{Path}
 use Rattle.path_runs.specs.Spelling.{spelling_of}
 
--- what `cmp` of two owned paths answers
+-- the order of two owned paths, as `cmp` answers it
 abbrev pub paths_cmp : PathBuf → PathBuf → Ordering
 paths_cmp p q = values_cmp (values (path_bytes p)) (values (path_bytes q))
 
@@ -17,6 +17,6 @@ paths_cmp p q = values_cmp (values (path_bytes p)) (values (path_bytes q))
 abbrev pub is_same : PathBuf → Path → Bool
 is_same p path = is_eq (values_cmp (values path.bytes.now) (values (path_bytes p)))
 
--- it is the one shortest path with its values
+-- the path is in canonical form, the one shortest path with its values
 abbrev pub IsCanonical : PathBuf → Type 0
 IsCanonical p = path_bytes p ≡ spelling_of (values (path_bytes p))

@@ -1,4 +1,4 @@
-//! Look-ups by a view, which do not allocate.
+//! Look-ups by a path that is not owned.
 ghost use Rattle.std.specs.Prelude.{◌≡◌, length};
 ghost use Rattle.std.specs.BTreeMap.{is_at};
 ghost use Rattle.std.specs.List.Sorted.{IsBinarySearchResult, IsSearchInRange};
@@ -13,9 +13,11 @@ use path_runs::laws;
 use std::collections::BTreeMap;
 use unix_path::{Path, PathBuf};
 
-/// The value at a path that is equal to this one, where the keys are views. Does not allocate.
+/// The value at the key that is equal to this path, in a map whose keys are views.
 ///
-/// With 1 at `a/b`, `a//b/` gives 1.
+/// Does not allocate.
+///
+/// With 1 at `a/b`, for `a//b/` it is 1.
 pub fn value_at<'m, 'a, V>(files: &'m BTreeMap<Path<'a>, V>, path: Path<'a>) -> Option<&'m V>
     ensures { option_copied result ≡ lookup (is_at (values_cmp (values path.entry.bytes.now)))
         (rows_of view_bytes files.entry.now.entries) }
@@ -24,10 +26,10 @@ pub fn value_at<'m, 'a, V>(files: &'m BTreeMap<Path<'a>, V>, path: Path<'a>) -> 
     files.get(&path)
 }
 
-/// The place of a path that is equal to this one, in a list that is in order by path; or where this
-/// one would stand. Does not allocate.
+/// The place of an entry with this path, in a list that is sorted by path; or the place at which
+/// this path can be inserted. As Rust's `slice::binary_search_by`. Does not allocate.
 ///
-/// Among `a`, `a/b` and `b`, `a//b` stands at 1, and `a/c` would at 2.
+/// Among `a`, `a/b` and `b` it is `Ok(1)` for `a//b`, and `Err(2)` for `a/c`.
 pub fn place_of<V>(files: &[(PathBuf, V)], path: Path<'_>) -> Result<usize, usize>
     ensures place { IsBinarySearchResult
         (λ file. values_cmp (values (path_bytes file.0)) (values path.entry.bytes.now))

@@ -11,13 +11,13 @@ use std::alloc::{AllocError, Global};
 use std::collections::BTreeSet;
 use unix_path::{Path, PathBuf};
 
-/// The paths in canonical form, ascending, and of equal ones one.
+/// The paths in canonical form, sorted, and each once.
 ///
-/// A look-up of any path finds one exactly if it is equal to one of these. Memory is taken for each
-/// path; where it is refused, nothing is kept.
+/// The set contains a path exactly if it is equal to one of these. Allocates for each path and its
+/// place in the set; fails if an allocation fails, and the set is dropped.
 ///
-/// Those of `b`, `a//b/.`, `a/b` and `./a` are `./a`, `a/b` and `b`.
-pub fn normalised(alloc: Global, paths: &[Path<'_>]) -> Result<BTreeSet<PathBuf>, AllocError>
+/// For `b`, `a//b/.`, `a/b` and `./a` it is `./a`, `a/b` and `b`.
+pub fn normalise(alloc: Global, paths: &[Path<'_>]) -> Result<BTreeSet<PathBuf>, AllocError>
     ensures ordered { IfOk result (IsOrdered paths_cmp) }
     ensures canonical { IfOk result (λ set. All IsCanonical set.keys) }
     ensures same { IfOk result (λ set. (p : PathBuf) →

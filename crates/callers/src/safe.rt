@@ -11,10 +11,11 @@ use path_runs::laws;
 use std::alloc::{AllocError, Global};
 use unix_path::{Component, Path, PathBuf};
 
-/// Whether a path stays below whatever it is joined to: it is relative, and no part is `..`. Does
-/// not allocate.
+/// Whether a path stays below whatever it is joined to: it is relative, and no part is `..`.
 ///
-/// `a/..b` does; `a/../b` and `/a` don't.
+/// Does not allocate.
+///
+/// For `a/..b` it is true; for `a/../b` and `/a` it is false.
 pub fn stays_below(request: Path<'_>) -> bool
     ensures value { IsTrue result ↔ StaysBelow (values request.entry.bytes.now) }
     ensures rootless { IsTrue result → is_rooted request.entry.bytes.now ≡ false }
@@ -25,12 +26,13 @@ pub fn stays_below(request: Path<'_>) -> bool
             .all(|part| part != Component::ParentDir)
 }
 
-/// The request joined to the root, if it stays below the root, and else `None`.
+/// The request joined to the root, or `None` if the request doesn't stay below the root.
 ///
-/// What it answers begins with the root, part by part. Memory is taken for the join alone. Links
-/// are not followed: it speaks of the paths and not of files.
+/// The join begins with the root's parts. It is a join of paths: symbolic links are not followed.
+/// Allocates once, the length of the join in bytes, or not at all for `None` and for an empty join;
+/// fails if the allocation fails.
 ///
-/// That of `/srv` and `a//b` is `/srv/a//b`, and of `/srv` and `a/../../b` there is none.
+/// For `/srv` and `a//b` it is `/srv/a//b`, and for `/srv` and `a/../../b` it is `None`.
 pub fn safe_join(
     alloc: Global,
     root: Path<'_>,

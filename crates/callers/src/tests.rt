@@ -1,9 +1,10 @@
 //! Rows of calls, each of which shows a rule.
 use crate::index::{place_of, value_at};
-use crate::manifest::normalised;
+use crate::manifest::normalise;
 use crate::safe::{safe_join, stays_below};
 use crate::tree::Tree;
 use crate::url::map_url;
+use std::alloc::{AllocError, Global};
 use std::collections::BTreeMap;
 use std::test::Fail;
 use unix_path::bytes::UnixStr;
@@ -78,7 +79,7 @@ fn manifests_are_normalised(rt: HostRuntime) -> Result<(), Fail> {
         Path::from_text("a/b"),
         Path::from_text("b/"),
     ];
-    let set = normalised(alloc, paths.as_slice())?;
+    let set = normalise(alloc, paths.as_slice())?;
     let mut line = Vec::new(alloc);
     for p in &set {
         line.extend_from_slice(p.as_path().as_unix_str().as_bytes())?;
@@ -88,34 +89,49 @@ fn manifests_are_normalised(rt: HostRuntime) -> Result<(), Fail> {
     Ok(())
 }
 
+fn has(tree: &Tree<u8>, path: &PathBuf, want: Option<u8>) -> bool {
+    tree.get(path).copied() == want
+}
+
+// Whether inserting the value at the path gives this old value.
+fn replaces(
+    tree: &mut Tree<u8>,
+    alloc: Global,
+    path: &str,
+    value: u8,
+    old: Option<u8>,
+) -> Result<bool, AllocError> {
+    Ok(tree.insert(alloc, Path::from_text(path), value)? == old)
+}
+
 #[test]
 fn equal_paths_are_one_file(rt: HostRuntime) -> Result<(), Fail> {
     let alloc = rt.alloc();
-    let mut tree = Tree::new(alloc);
-    assert_eq!(rt; tree.insert(alloc, Path::from_text("a/b"), 1u8)?, None);
-    assert_eq!(rt; tree.insert(alloc, Path::from_text("a//b/"), 2u8)?, Some(1));
     let key = PathBuf::from_text(alloc, "a/./b")?;
-    assert_eq!(rt; tree.get(&key).copied(), Some(2));
-    assert_eq!(rt; tree.remove(&key), Some(2));
-    assert_eq!(rt; tree.get(&key).copied(), None);
+    let mut tree = Tree::new(alloc);
+    assert!(rt; replaces(&mut tree, alloc, "a/b", 1, None)?);
+    assert!(rt; replaces(&mut tree, alloc, "a//b/", 2, Some(1))?);
+    assert!(rt; has(&tree, &key, Some(2)));
+    assert!(rt; tree.remove(&key) == Some(2));
+    assert!(rt; has(&tree, &key, None));
     Ok(())
 }
 
 #[test]
-fn views_are_asked(rt: HostRuntime) -> Result<(), Fail> {
-    let alloc = rt.alloc();
-    let mut views = BTreeMap::new(alloc);
+fn an_equal_view_is_found(rt: HostRuntime) -> Result<(), Fail> {
+    let mut views = BTreeMap::new(rt.alloc());
     views.insert(Path::from_text("a/b"), 1u8)?;
-    assert_eq!(rt;
-        value_at(&views, Path::from_text("a//b/")).copied(),
-        Some(1)
-    );
-    let files = [
-        (PathBuf::from_text(alloc, "a")?, 1u8),
-        (PathBuf::from_text(alloc, "a/b")?, 2),
-        (PathBuf::from_text(alloc, "b")?, 3),
-    ];
-    assert_eq!(rt; place_of(files.as_slice(), Path::from_text("a//b")), Ok(1));
-    assert_eq!(rt; place_of(files.as_slice(), Path::from_text("a/c")), Err(2));
+    assert!(rt; value_at(&views, Path::from_text("a//b/")).copied() == Some(1));
+    Ok(())
+}
+
+#[test]
+fn an_equal_path_is_found_in_order(rt: HostRuntime) -> Result<(), Fail> {
+    let alloc = rt.alloc();
+    let a = PathBuf::from_text(alloc, "a")?;
+    let b = PathBuf::from_text(alloc, "b")?;
+    let files = [(a, 1u8), (PathBuf::from_text(alloc, "a/b")?, 2), (b, 3)];
+    assert!(rt; place_of(files.as_slice(), Path::from_text("a//b")) == Ok(1));
+    assert!(rt; place_of(files.as_slice(), Path::from_text("a/c")) == Err(2));
     Ok(())
 }

@@ -13,16 +13,18 @@ use std::alloc::{AllocError, Global};
 use std::collections::BTreeMap;
 use unix_path::{Path, PathBuf};
 
-/// Values by path.
+/// Values by path, where equal paths are one key.
+///
+/// A tree with 1 at `a/b` has 1 at `a//b` too.
 #[derive(Drop)]
 pub struct Tree<V> {
     files: BTreeMap<PathBuf, V>,
 }
 
 impl<V> Tree<V> {
-    /// A tree with no files. Does not allocate.
+    /// A tree without files. Does not allocate.
     ///
-    /// What it has at `a` is nothing.
+    /// At `a` it has no value.
     pub fn new(alloc: Global) -> Tree<V>
         ensures { rows result ≡ [] }
     {
@@ -31,12 +33,13 @@ impl<V> Tree<V> {
         }
     }
 
-    /// Puts the value at the path, and answers what stood there.
+    /// Inserts the value at the path, and gives the value that an equal path had.
     ///
-    /// Where an equal path has a value, that path stays and the value is replaced. Memory is taken
-    /// for the path and its place; where it is refused, the tree stays as it was.
+    /// If an equal path has a value, that path stays as the key and its value is replaced.
+    /// Allocates for the path, and for its place in the tree; fails if an allocation fails, and the
+    /// tree stays as it was.
     ///
-    /// With 1 at `a/b`, putting 2 at `a//b/` answers 1 and leaves 2 alone.
+    /// With 1 at `a/b`, inserting 2 at `a//b/` gives 1 and leaves 2 at `a/b` alone.
     pub fn insert(
         &mut self,
         alloc: Global,
@@ -58,9 +61,9 @@ impl<V> Tree<V> {
         Ok(old)
     }
 
-    /// The value at a path that is equal to this one. Does not allocate.
+    /// The value at the path that is equal to this one. Does not allocate.
     ///
-    /// With 1 at `a/b`, `a/./b` gives 1.
+    /// With 1 at `a/b`, for `a/./b` it is 1.
     pub fn get(&self, path: &PathBuf) -> Option<&V>
         ensures { option_copied result
             ≡ lookup (is_at (values_cmp (values (path_bytes path.now)))) (rows self.now) }
@@ -69,9 +72,9 @@ impl<V> Tree<V> {
         self.files.get(path)
     }
 
-    /// Takes out the value at a path that is equal to this one. Does not allocate.
+    /// Removes the path that is equal to this one, and gives its value. Does not allocate.
     ///
-    /// With 1 at `a/b` alone, `a//b` gives 1 and leaves no files.
+    /// With 1 at `a/b` alone, removing `a//b` gives 1 and leaves no files.
     pub fn remove(&mut self, path: &PathBuf) -> Option<V>
         ensures value { result
             ≡ lookup (is_at (values_cmp (values (path_bytes path.now)))) (rows self.old) }

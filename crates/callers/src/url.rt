@@ -11,12 +11,13 @@ use path_runs::laws;
 use std::alloc::{AllocError, Global};
 use unix_path::{Path, PathBuf};
 
-/// The file that a URL's path names: what follows the prefix, below the document root.
+/// The file that a URL's path names: what follows the prefix, joined to the document root.
 ///
-/// `None` where the prefix doesn't begin the path, or what follows it has a `..` or, under an empty
-/// prefix, a root. Memory is taken for the join alone.
+/// `None` if the path doesn't start with the prefix, or if what follows has a `..` or, for an empty
+/// prefix, a root. Allocates once, the length of the join in bytes, or not at all for `None` and
+/// for an empty join; fails if the allocation fails.
 ///
-/// With the prefix `/static` and the root `/srv/www`, `/static/css/a.css` is
+/// With the prefix `/static` and the root `/srv/www`, for `/static/css/a.css` it is
 /// `/srv/www/css/a.css`.
 pub fn map_url(
     alloc: Global,

@@ -1,4 +1,4 @@
-//! For tests: memory that runs out.
+//! For tests: allocations that fail.
 #![tactic(auto)]
 
 use std::alloc::{AllocError, Global};
@@ -6,20 +6,23 @@ use std::alloc::{AllocError, Global};
 // How many blocks are held at most.
 const BLOCKS: usize = 50_000;
 
-// How many blocks are given back one after the other.
+// How many blocks can be given back one by one.
 const STEPS: usize = 200;
 
-// How long such a block is: longer than what the C library keeps by its size, so that it joins what
-// was given back before it.
+// How many bytes such a block has: more than those that the C library keeps apart by their size, so
+// that neighbouring blocks become one again.
 const STEP: usize = 2048;
 
-// How many sizes of short blocks the C library keeps apart, 16 bytes from one to the next.
+// How many sizes of short blocks the C library keeps apart, in steps of 16 bytes.
 const SIZES: usize = 66;
 
-/// All memory that the process could still get. Dropping it gives that back.
+/// All memory that the process can still get. Dropping it gives the memory back.
 ///
-/// While it is held, a request for memory that isn't there already is refused. It rests on the C
-/// library's allocator and on an address space with an end. Own.
+/// While it is held, an allocation fails, but for a growth in place. It rests on the C library's
+/// allocator and on a finite address space. Not in Rust's std.
+///
+/// With `let _drought = Drought::begin(alloc)?;` in scope, `Vec::<u8>::with_capacity(alloc, 1)` is
+/// an error.
 #[derive(Drop)]
 pub struct Drought {
     steps: Vec<Vec<u8>>,
@@ -27,7 +30,11 @@ pub struct Drought {
 }
 
 impl Drought {
-    /// Takes all memory. `None` where the process may have more than a test can take.
+    /// Takes all memory, or gives `None` if the process can get more than 50,000 blocks.
+    ///
+    /// Fails if the lists of the blocks can't be allocated; then no memory is held.
+    ///
+    /// Under an allocator that takes any request, as that of a checker of memory, it is `None`.
     pub fn begin(alloc: Global) -> Result<Option<Drought>, AllocError> {
         let mut steps = Vec::with_capacity(alloc, STEPS)?;
         for _ in 0..STEPS {
@@ -49,13 +56,15 @@ impl Drought {
         Ok(Some(Drought { steps, blocks }))
     }
 
-    /// Gives back some two thousand bytes, and answers false where all these were given back.
+    /// Gives back a block of 2,048 bytes, or answers false if none of the 200 is left.
+    ///
+    /// After it an allocation of 2,048 bytes succeeds, and one of 4,096 bytes fails.
     pub fn ease(&mut self) -> bool {
         self.steps.pop().is_some()
     }
 }
 
-// Takes blocks of this length until one is refused. False where more came than can be held.
+// Takes blocks of this length until an allocation fails. False if more come than can be held.
 fn takes_all(blocks: &mut Vec<Vec<u8>>, alloc: Global, len: usize) -> bool {
     for _ in blocks.len()..blocks.capacity() {
         let Ok(block) = Vec::with_capacity(alloc, len) else {
@@ -73,8 +82,8 @@ mod tests {
     use super::*;
     use std::test::Fail;
 
-    // Where a checker of memory stands in for the C library's allocator, this fails, and the tests
-    // that take a `Drought` pass over what they would refuse.
+    // With another allocator than the C library's, as that of a checker of memory, this test fails,
+    // and the tests that take a `Drought` pass over the calls that should fail.
     #[test]
     fn all_memory_is_taken_and_given_back(rt: HostRuntime) -> Result<(), Fail> {
         let alloc = rt.alloc();

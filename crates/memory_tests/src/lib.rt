@@ -1,4 +1,4 @@
-//! Tests of the crates below where memory runs out.
+//! Tests of calls whose allocations fail, and of calls that do not allocate.
 #![tactic(auto)]
 
 #[cfg(test)]

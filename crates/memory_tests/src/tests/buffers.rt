@@ -8,7 +8,7 @@ fn path(text: &str) -> Path<'_> {
 }
 
 #[test]
-fn after_reserve_pushes_take_no_memory(rt: HostRuntime) -> Result<(), Fail> {
+fn after_reserve_pushes_do_not_allocate(rt: HostRuntime) -> Result<(), Fail> {
     let alloc = rt.alloc();
     let mut pushed = PathBuf::from_text(alloc, "foo")?;
     let mut extended = PathBuf::from_text(alloc, "foo")?;
@@ -20,14 +20,14 @@ fn after_reserve_pushes_take_no_memory(rt: HostRuntime) -> Result<(), Fail> {
             assert!(rt; pushed.push(part).is_ok());
         }
         assert!(rt; extended.extend(parts.iter().copied()).is_ok());
+        assert_eq!(rt; pushed.as_path().as_unix_str(), UnixStr::new("foo/a/bc/"));
+        assert_eq!(rt; extended.as_path().as_unix_str(), UnixStr::new("foo/a/bc/"));
     }
-    assert_eq!(rt; pushed.as_path().as_unix_str(), UnixStr::new("foo/a/bc/"));
-    assert_eq!(rt; extended.as_path().as_unix_str(), UnixStr::new("foo/a/bc/"));
     Ok(())
 }
 
 #[test]
-fn a_path_longer_than_memory_is_refused(rt: HostRuntime) -> Result<(), Fail> {
+fn a_path_longer_than_memory_is_an_error(rt: HostRuntime) -> Result<(), Fail> {
     let alloc = rt.alloc();
     let mut buffer = PathBuf::from_text(alloc, "foo")?;
     assert!(rt; buffer.reserve(usize::MAX).is_err());
@@ -38,7 +38,7 @@ fn a_path_longer_than_memory_is_refused(rt: HostRuntime) -> Result<(), Fail> {
 }
 
 #[test]
-fn within_the_capacity_nothing_is_asked(rt: HostRuntime) -> Result<(), Fail> {
+fn within_the_capacity_edits_do_not_allocate(rt: HostRuntime) -> Result<(), Fail> {
     let alloc = rt.alloc();
     let mut buffer = PathBuf::with_capacity(alloc, 10)?;
     let capacity = buffer.capacity();
@@ -59,7 +59,7 @@ fn within_the_capacity_nothing_is_asked(rt: HostRuntime) -> Result<(), Fail> {
 }
 
 #[test]
-fn a_refused_edit_keeps_the_bytes(rt: HostRuntime) -> Result<(), Fail> {
+fn a_failed_edit_keeps_the_bytes(rt: HostRuntime) -> Result<(), Fail> {
     let alloc = rt.alloc();
     let mut rooted = [b'x'; 4096];
     rooted[0] = b'/';
@@ -91,7 +91,7 @@ fn a_refused_edit_keeps_the_bytes(rt: HostRuntime) -> Result<(), Fail> {
 }
 
 #[test]
-fn a_refused_copy_gives_no_path(rt: HostRuntime) -> Result<(), Fail> {
+fn a_failed_copy_gives_no_path(rt: HostRuntime) -> Result<(), Fail> {
     let alloc = rt.alloc();
     let buffer = PathBuf::from_text(alloc, "foo")?;
     let view = buffer.as_path();
@@ -111,7 +111,7 @@ fn a_refused_copy_gives_no_path(rt: HostRuntime) -> Result<(), Fail> {
 }
 
 #[test]
-fn promised_calls_of_paths_take_no_memory(rt: HostRuntime) -> Result<(), Fail> {
+fn promised_calls_of_paths_do_not_allocate(rt: HostRuntime) -> Result<(), Fail> {
     let alloc = rt.alloc();
     let text = UnixStr::new("/a/b.c").to_unix_string(alloc)?;
     let word = String::from_str(alloc, "..")?;
@@ -141,9 +141,9 @@ fn promised_calls_of_paths_take_no_memory(rt: HostRuntime) -> Result<(), Fail> {
     Ok(())
 }
 
-// No request is made for no bytes; only the count of a shared path's owners asks for one.
+// A copy of no bytes allocates nothing, but for the count of a shared path's owners.
 #[test]
-fn copies_of_no_bytes_take_no_memory(rt: HostRuntime) -> Result<(), Fail> {
+fn copies_of_no_bytes_do_not_allocate(rt: HostRuntime) -> Result<(), Fail> {
     let alloc = rt.alloc();
     let empty = path("");
     let none = UnixStr::new("");
@@ -178,9 +178,9 @@ fn a_text_is_borrowed_without_memory(rt: HostRuntime) -> Result<(), Fail> {
     Ok(())
 }
 
-// Each request of `extend` is refused in some run, and what was pushed before it stays.
+// Each allocation of `extend` fails in some round, and what was pushed before it stays.
 #[test]
-fn a_refused_extend_keeps_the_pushes_before(rt: HostRuntime) -> Result<(), Fail> {
+fn a_failed_extend_keeps_the_pushes_before(rt: HostRuntime) -> Result<(), Fail> {
     let alloc = rt.alloc();
     let Some(mut drought) = Drought::begin(alloc)? else {
         return Ok(());
@@ -211,19 +211,21 @@ fn a_refused_extend_keeps_the_pushes_before(rt: HostRuntime) -> Result<(), Fail>
     Ok(())
 }
 
-// The second push is refused: the third isn't made, and the first stays.
+// The second push fails: the third isn't made, and the first stays.
 #[test]
-fn extend_stops_at_the_refused_push(rt: HostRuntime) -> Result<(), Fail> {
+fn extend_stops_at_the_failed_push(rt: HostRuntime) -> Result<(), Fail> {
     let alloc = rt.alloc();
     let long = [b'x'; 4096];
     let long = Path::new(UnixStr::from_bytes(long.as_slice()));
     let items = [path("c"), long, path("d")];
     let mut buffer = PathBuf::from_text(alloc, "ab")?;
     buffer.reserve(4)?;
-    if let Some(_drought) = Drought::begin(alloc)? {
-        assert!(rt; buffer.extend(items.iter().copied()).is_err());
-        assert_eq!(rt; buffer.as_path().as_unix_str(), UnixStr::new("ab/c"));
-    }
+    let Some(drought) = Drought::begin(alloc)? else {
+        return Ok(());
+    };
+    assert!(rt; buffer.extend(items.iter().copied()).is_err());
+    assert_eq!(rt; buffer.as_path().as_unix_str(), UnixStr::new("ab/c"));
+    drop(drought);
     buffer.extend(items.iter().copied())?;
     assert_eq!(rt; buffer.as_path().as_unix_str().len(), 4105);
     Ok(())

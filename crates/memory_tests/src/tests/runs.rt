@@ -11,7 +11,7 @@ fn path(text: &str) -> Path<'_> {
 }
 
 #[test]
-fn a_refused_edit_leaves_those_before_it(rt: HostRuntime) -> Result<(), Fail> {
+fn a_failed_edit_leaves_those_before_it(rt: HostRuntime) -> Result<(), Fail> {
     let alloc = rt.alloc();
     let mut rooted = [b'x'; 4096];
     rooted[0] = b'/';
@@ -30,7 +30,7 @@ fn a_refused_edit_leaves_those_before_it(rt: HostRuntime) -> Result<(), Fail> {
 }
 
 #[test]
-fn refused_answers_leave_the_path(rt: HostRuntime) -> Result<(), Fail> {
+fn answers_that_fail_leave_the_path(rt: HostRuntime) -> Result<(), Fail> {
     let alloc = rt.alloc();
     let mut buffer = PathBuf::from_text(alloc, "a/b")?;
     if let Some(_drought) = Drought::begin(alloc)? {
@@ -45,7 +45,7 @@ fn refused_answers_leave_the_path(rt: HostRuntime) -> Result<(), Fail> {
 }
 
 #[test]
-fn runs_are_refused_without_memory(rt: HostRuntime) -> Result<(), Fail> {
+fn walks_and_spellings_fail_without_memory(rt: HostRuntime) -> Result<(), Fail> {
     let alloc = rt.alloc();
     if let Some(_drought) = Drought::begin(alloc)? {
         assert!(rt; walk(alloc, path("/a"), [Turn::Back].as_slice()).is_err());

@@ -3,7 +3,7 @@ use std::test::Fail;
 use unix_bytes::bytes::{LossyText, UnixStr, UnixString};
 
 #[test]
-fn within_the_room_a_push_takes_no_memory(rt: HostRuntime) -> Result<(), Fail> {
+fn within_the_room_a_push_does_not_allocate(rt: HostRuntime) -> Result<(), Fail> {
     let alloc = rt.alloc();
     let mut text = UnixStr::new("foo").to_unix_string(alloc)?;
     text.reserve(6)?;
@@ -22,7 +22,7 @@ fn within_the_room_a_push_takes_no_memory(rt: HostRuntime) -> Result<(), Fail> {
 }
 
 #[test]
-fn a_refused_string_keeps_its_bytes(rt: HostRuntime) -> Result<(), Fail> {
+fn a_failed_push_keeps_the_bytes(rt: HostRuntime) -> Result<(), Fail> {
     let alloc = rt.alloc();
     let long = [b'x'; 4096];
     let long = UnixStr::from_bytes(long.as_slice());
@@ -50,7 +50,7 @@ fn a_refused_string_keeps_its_bytes(rt: HostRuntime) -> Result<(), Fail> {
 }
 
 #[test]
-fn a_string_longer_than_memory_is_refused(rt: HostRuntime) -> Result<(), Fail> {
+fn a_string_longer_than_memory_is_an_error(rt: HostRuntime) -> Result<(), Fail> {
     let alloc = rt.alloc();
     let mut text = UnixStr::new("foo").to_unix_string(alloc)?;
     assert!(rt; text.reserve(usize::MAX).is_err());
@@ -61,7 +61,7 @@ fn a_string_longer_than_memory_is_refused(rt: HostRuntime) -> Result<(), Fail> {
 }
 
 #[test]
-fn promised_calls_of_strings_take_no_memory(rt: HostRuntime) -> Result<(), Fail> {
+fn promised_calls_of_strings_do_not_allocate(rt: HostRuntime) -> Result<(), Fail> {
     let alloc = rt.alloc();
     let foo = UnixStr::new("foo");
     let bytes = [1u8, 2].to_vec(alloc)?;
@@ -78,6 +78,8 @@ fn promised_calls_of_strings_take_no_memory(rt: HostRuntime) -> Result<(), Fail>
             panic!(rt; "the text isn't borrowed");
         };
         assert_eq!(rt; shown, "foo");
+        text.truncate(1);
+        assert_eq!(rt; text.as_unix_str(), UnixStr::new("f"));
         text.clear();
         assert!(rt; text.as_unix_str().is_empty());
     }

@@ -5,7 +5,7 @@ use Rattle.std.proofs.lemmas.Map.Views.{All-insert_key}
 use Rattle.unix_path.specs.Parts.{values}
 use Rattle.path_runs.specs.Spelling.{spelling_of}
 use Rattle.callers.specs.Manifest.{paths_cmp, is_same, IsCanonical}
-use Rattle.callers.proofs.manifest.normalised.Goals as goal
+use Rattle.callers.proofs.manifest.normalise.Goals as goal
 
 pub loop-path-preserved : goal.loop-path-preserved
 loop-path-preserved c =
