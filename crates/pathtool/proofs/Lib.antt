@@ -1,13 +1,12 @@
 pub mod SplitLemmas
 pub mod LineLemmas
 pub mod ListLemmas
-pub mod FrontLemmas
+pub mod WrittenLemmas
 pub mod BeginLemmas
 pub mod QuotedLemmas
 pub mod SaidLemmas
 pub mod AddedLemmas
 pub mod FieldLemmas
 pub mod WordLemmas
-pub mod TurnLemmas
+pub mod LoopLemmas
 pub mod TakenLemmas
-pub mod LaneLemmas

@@ -1,5 +1,6 @@
 -- The lines of an input, one after the other.
 use Rattle.std.proofs.Common.{◌≡◌, ℕ, ◌<◌, List, [], ◌∷◌, ◌++◌, length, refl, sym, ap, ◌∙◌, arith}
+use Rattle.std.proofs.Common.{append-nil}
 use Rattle.std.specs.List.{slice_split, flat_map}
 use Rattle.pathtool.proofs.SplitLemmas.{is_newline, slice_split-cons, slice_split-one}
 use Rattle.pathtool.specs.Answers.{answer_of, lines_of, output_of}
@@ -38,6 +39,25 @@ pub output_of-cons : (s line rest : List ℕ) → lines_of s ≡ line ∷ lines_
 unfolding output_of
 output_of-cons s line rest e = ap (flat_map (λ line. answer_of line ++ newline ∷ [])) e
 
+-- the answer to the first line is what is to be written next
+pub output_of-next : (s line rest done all : List ℕ) → lines_of s ≡ line ∷ lines_of rest
+    → done ++ output_of s ≡ all
+    → done ++ ((answer_of line ++ newline ∷ []) ++ output_of rest) ≡ all
+output_of-next s line rest done all e h =
+    ap (λ more. done ++ more) (sym (output_of-cons s line rest e)) ∙ h
+
+-- what is written next is the answer to the line
+pub written_next : {said answer cleared : List ℕ} (line : List ℕ) → said ≡ answer
+    → answer ≡ cleared ++ (answer_of line ++ newline ∷ []) → cleared ≡ []
+    → said ≡ answer_of line ++ newline ∷ []
+written_next line s e none = s ∙ e ∙ ap (λ so_far. so_far ++ (answer_of line ++ newline ∷ [])) none
+
 pub output_of-nil : output_of [] ≡ []
 unfolding output_of
 output_of-nil = refl
+
+-- nothing is left to be written
+pub output_of-done : (done left all : List ℕ) → left ≡ [] → done ++ output_of left ≡ all
+    → done ≡ all
+output_of-done done left all none e =
+    sym (append-nil done) ∙ ap (λ more. done ++ more) (sym (ap output_of none ∙ output_of-nil)) ∙ e

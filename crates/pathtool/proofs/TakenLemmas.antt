@@ -12,7 +12,7 @@ use Rattle.std.specs.List.{filter_map, flat_map, list_all}
 use Rattle.unix_path.specs.Parts.{Value, values, value_bytes}
 use Rattle.unix_path.specs.Rest.{rest}
 use Rattle.unix_path.specs.Views.{value_of}
-use Rattle.unix_path.specs.declared.cursor.Component.{Component}
+use Rattle.unix_path.specs.declared.cursor.component.Component.{Component}
 use Rattle.path_runs.specs.Turns.{is_front, front_turns, back_turns}
 use Rattle.path_runs.proofs.WalkLemmas.{is_back}
 use Rattle.path_runs.specs.declared.walk.Turn.{Turn}

@@ -1,7 +1,7 @@
 -- What the program answers: lines of fields between tabs, of which the first names a command.
 use Rattle.std.specs.Prelude.{ℕ, Bool, ◌==◌, List, [], ◌∷◌, ◌++◌, reverse, codes, Option}
-use Rattle.std.specs.Prelude.{Some, unwrap_or, if◌then◌else◌}
-use Rattle.std.specs.Option.{option_map_or}
+use Rattle.std.specs.Prelude.{Some, None, unwrap_or, if◌then◌else◌}
+use Rattle.std.specs.Option.{option_map_or, option_and_then}
 use Rattle.std.specs.declared.cmp.Ordering.{Ordering}
 use Rattle.std.specs.declared.cmp.Ordering.TheVariants.{Less, Equal, Greater}
 use Rattle.std.specs.Ordering.{is_eq}
@@ -40,43 +40,42 @@ strip_answer path base =
     if starts_with same (values path) (values base) then optional (Some (stripped_of path base))
     else codes "prefix not found"
 
--- the commands of one path, and what they answer
-abbrev pub path_commands : List (List ℕ × (List ℕ → List ℕ))
-path_commands =
-    (codes "parts", λ p. tabs (part_bytes p))
-    ∷ (codes "back", λ p. tabs (reverse (part_bytes p)))
-    ∷ (codes "parent", λ p. optional (parent_of p))
-    ∷ (codes "name", λ p. optional (file_name_of (values p)))
-    ∷ (codes "stem", λ p. optional (stem_of (values p)))
-    ∷ (codes "ext", λ p. optional (extension_of (values p)))
-    ∷ (codes "ancestors", λ p. tabs (ancestors_of p))
-    ∷ (codes "canon", λ p. spelling_of (values p))
-    ∷ (codes "show", lossy_of)
-    ∷ (codes "json", json_of) ∷ []
+-- the answer of a command of a path, if no field follows
+abbrev pub path_answer : (List ℕ → List ℕ) → List ℕ → List (List ℕ) → Option (List ℕ)
+path_answer answer p [] = Some (answer p)
+path_answer answer p _ = None
 
--- the commands of a path and one more field, and what they answer
-abbrev pub pair_commands : List (List ℕ × (List ℕ → List ℕ → List ℕ))
-pair_commands =
-    (codes "join", join_of)
-    ∷ (codes "strip", strip_answer)
-    ∷ (codes "starts", λ p q. truth (starts_with same (values p) (values q)))
-    ∷ (codes "ends", λ p q. truth (ends_with same (values p) (values q)))
-    ∷ (codes "cmp", λ p q. order_text (values_cmp (values p) (values q)))
-    ∷ (codes "walk", walk_answer) ∷ []
+-- the answer of a command of a path and one more field, if just one follows
+abbrev pub pair_answer : (List ℕ → List ℕ → List ℕ) → List ℕ → List (List ℕ) → Option (List ℕ)
+pair_answer answer p (q ∷ []) = Some (answer p q)
+pair_answer answer p _ = None
 
--- the answer to a command of one field or two
-abbrev pub fixed_answer : List (List ℕ) → List ℕ
-fixed_answer (command ∷ p ∷ []) =
-    unwrap_or (lookup (bytes_eq command) path_commands) (λ _. bad_command) p
-fixed_answer (command ∷ p ∷ q ∷ []) =
-    unwrap_or (lookup (bytes_eq command) pair_commands) (λ _ _. bad_command) p q
-fixed_answer _ = bad_command
+-- the commands, and what each answers to a path and the fields that follow it
+abbrev pub commands : List (List ℕ × (List ℕ → List (List ℕ) → Option (List ℕ)))
+commands =
+    (codes "parts", path_answer (λ p. tabs (part_bytes p)))
+    ∷ (codes "back", path_answer (λ p. tabs (reverse (part_bytes p))))
+    ∷ (codes "parent", path_answer (λ p. optional (parent_of p)))
+    ∷ (codes "name", path_answer (λ p. optional (file_name_of (values p))))
+    ∷ (codes "stem", path_answer (λ p. optional (stem_of (values p))))
+    ∷ (codes "ext", path_answer (λ p. optional (extension_of (values p))))
+    ∷ (codes "ancestors", path_answer (λ p. tabs (ancestors_of p)))
+    ∷ (codes "canon", path_answer (λ p. spelling_of (values p)))
+    ∷ (codes "show", path_answer lossy_of)
+    ∷ (codes "json", path_answer json_of)
+    ∷ (codes "join", pair_answer join_of)
+    ∷ (codes "strip", pair_answer strip_answer)
+    ∷ (codes "starts", pair_answer (λ p q. truth (starts_with same (values p) (values q))))
+    ∷ (codes "ends", pair_answer (λ p q. truth (ends_with same (values p) (values q))))
+    ∷ (codes "cmp", pair_answer (λ p q. order_text (values_cmp (values p) (values q))))
+    ∷ (codes "walk", pair_answer walk_answer)
+    ∷ (codes "edit", λ p fields. Some (edit_answer p fields)) ∷ []
 
--- the answer to a line with these fields: behind a path there may be any number of edits
+-- the answer to a line with these fields
 abbrev pub answer_to : List (List ℕ) → List ℕ
 answer_to (command ∷ p ∷ fields) =
-    if bytes_eq command (codes "edit") then edit_answer p fields
-    else fixed_answer (command ∷ p ∷ fields)
+    let found = lookup (bytes_eq command) commands in
+    unwrap_or (option_and_then (λ answer. answer p fields) found) bad_command
 answer_to _ = bad_command
 
 -- the answer to a line

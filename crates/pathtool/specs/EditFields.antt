@@ -4,32 +4,33 @@ use Rattle.std.specs.Prelude.{drop, codes, if◌then◌else◌}
 use Rattle.std.specs.List.{position_or_len, filter_map, list_all}
 use Rattle.std.specs.Map.{lookup}
 use Rattle.std.specs.Str.{byte, bytes_eq}
-use Rattle.path_runs.specs.Runs.{EditValue, Push, Pop, SetFileName, SetExtension, Clear, edits_of}
+use Rattle.path_runs.specs.EditLists.{EditValue, Push, Pop, SetFileName, SetExtension, Clear}
+use Rattle.path_runs.specs.EditLists.{edits_of}
 use Rattle.path_runs.specs.declared.edits.Answer.{Answer}
 use Rattle.path_runs.specs.declared.edits.Answer.TheVariants.{Plain, Flag}
 use Rattle.pathtool.specs.Fields.{tabs, bad_command, truth}
 
 -- the edits by what their fields begin with, and what each is with the bytes behind that
-abbrev pub edits_by_front : List (List ℕ × (List ℕ → EditValue))
-edits_by_front =
+abbrev pub edits_by_name : List (List ℕ × (List ℕ → EditValue))
+edits_by_name =
     (codes "push:", Push)
     ∷ (codes "pop", λ _. Pop)
     ∷ (codes "name:", SetFileName)
     ∷ (codes "ext:", SetExtension)
     ∷ (codes "clear", λ _. Clear) ∷ []
 
--- the edit that a field says, which is cut behind its first colon, unless it is a bad one
+-- the edit that a field names, up to its first colon, unless it names none
 abbrev pub edit_of_field : List ℕ → Option EditValue
 edit_of_field field =
     let n = position_or_len (λ b. b == byte ":") field + 1 in
-    option_map (λ edit. edit (drop n field)) (lookup (bytes_eq (take n field)) edits_by_front)
+    option_map (λ edit. edit (drop n field)) (lookup (bytes_eq (take n field)) edits_by_name)
 
 -- what an edit's answer is printed as
 abbrev pub answer_word : Answer → List ℕ
 answer_word Plain = codes "ok"
 answer_word (Flag is_so) = truth is_so
 
--- the bytes after the edits that these fields say, and then what each of them answers
+-- the bytes after the edits that these fields name, and then what each of them answers
 abbrev pub edit_answer : List ℕ → List (List ℕ) → List ℕ
 edit_answer path fields =
     let done = edits_of path (filter_map edit_of_field fields) in

@@ -11,7 +11,7 @@ fields_of line = slice_split (λ b. b == byte "\t") line
 abbrev pub tabs : List (List ℕ) → List ℕ
 tabs items = join_with_byte (byte "\t") items
 
--- the answer to what isn't understood
+-- the answer to an unknown command
 abbrev pub bad_command : List ℕ
 bad_command = codes "bad command"
 

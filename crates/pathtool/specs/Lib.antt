@@ -6,3 +6,4 @@ pub mod Answers
 pub mod Texts
 pub mod Quoted
 pub mod RunError
+pub mod Others

@@ -8,15 +8,15 @@ use Rattle.unix_bytes.specs.declared.bytes.UnixStr.{UnixStr}
 use Rattle.unix_path.specs.Parts.{value_bytes}
 use Rattle.unix_path.specs.Rest.{rest}
 use Rattle.unix_path.specs.Views.{value_of}
-use Rattle.unix_path.specs.declared.cursor.Component.{Component}
-use Rattle.path_runs.specs.Runs.{EditValue, edits_of}
+use Rattle.unix_path.specs.declared.cursor.component.Component.{Component}
+use Rattle.path_runs.specs.EditLists.{EditValue, edits_of}
 use Rattle.path_runs.specs.declared.edits.Answer.{Answer}
 use Rattle.path_runs.specs.Turns.{front_turns, back_turns}
 use Rattle.path_runs.specs.declared.walk.Turn.{Turn}
 use Rattle.path_runs.specs.declared.walk.Walked.{Walked}
 use Rattle.pathtool.specs.Walks.{part_bytes}
 use Rattle.pathtool.specs.EditFields.{edit_of_field, answer_word}
-use Rattle.pathtool.specs.Fields.{tabs, fields_of, bad_command}
+use Rattle.pathtool.specs.Fields.{tabs, bad_command}
 
 -- the byte between two fields, and between two items of a list
 abbrev pub tab : ℕ
@@ -60,7 +60,7 @@ edit_before (Some edit) (Some edits) = Some (edit ∷ edits)
 edit_before (Some edit) None = None
 edit_before None edits = None
 
--- the edits that these fields say, unless there is a bad one
+-- the edits that these fields name, unless one names none
 abbrev pub edits_of_fields : List (List ℕ) → Option (List EditValue)
 edits_of_fields [] = Some []
 edits_of_fields (field ∷ fields) = edit_before (edit_of_field field) (edits_of_fields fields)
@@ -70,11 +70,6 @@ abbrev pub edited_answer : List ℕ → Option (List EditValue) → List ℕ
 edited_answer path None = bad_command
 edited_answer path (Some edits) =
     let done = edits_of path edits in tabs (done.0 ∷ map answer_word done.1)
-
--- the fields of what follows a path, if something does
-abbrev pub fields_behind : Option (List ℕ) → List (List ℕ)
-fields_behind None = []
-fields_behind (Some line) = fields_of line
 
 -- the words of these answers, with a tab before each
 abbrev pub words_of : List Answer → List ℕ

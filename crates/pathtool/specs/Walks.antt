@@ -1,4 +1,4 @@
--- The answer to a walk by turns, whose letters are `f` for the front and `b` for behind. Own.
+-- The answer to a walk by turns: `f` takes a part in front, and `b` one behind. Not in Rust's std.
 use Rattle.std.specs.Prelude.{ℕ, ◌==◌, Option, is_some, List, [], ◌∷◌, ◌++◌, map, take, reverse}
 use Rattle.std.specs.Prelude.{length, if◌then◌else◌}
 use Rattle.std.specs.List.{filter_map, list_all}
@@ -12,7 +12,7 @@ use Rattle.path_runs.specs.declared.walk.Turn.{Turn}
 use Rattle.path_runs.specs.declared.walk.Turn.TheVariants.{Front, Back}
 use Rattle.pathtool.specs.Fields.{tabs, bad_command}
 
--- the turn that a letter says, unless it is a bad one
+-- the turn that a letter stands for, if any
 abbrev pub turn_of : ℕ → Option Turn
 turn_of letter = lookup (λ key. key == letter) ((byte "f", Front) ∷ (byte "b", Back) ∷ [])
 
@@ -20,8 +20,8 @@ turn_of letter = lookup (λ key. key == letter) ((byte "f", Front) ∷ (byte "b"
 abbrev pub part_bytes : List ℕ → List (List ℕ)
 part_bytes path = map value_bytes (values path)
 
--- how many parts the turns that these letters say take in front and behind; the parts in front, the
--- rest, and those behind in the order of taking
+-- how many parts these letters take in front and behind; the parts in front, the rest, and those
+-- behind in the order of taking
 abbrev pub walk_answer : List ℕ → List ℕ → List ℕ
 walk_answer path letters =
     let parts = part_bytes path in

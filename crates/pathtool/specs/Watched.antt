@@ -26,5 +26,5 @@ moves_none (Ok n) len = n == 0 && not (len == 0)
 moves_none (Err e) len = false
 
 -- known bytes grow by a beginning of bs
-abbrev pub AppendsFront : Option (List ℕ) → Option (List ℕ) → List ℕ → Type 0
-AppendsFront old new bs = (n : ℕ) × Appends old new (take n bs)
+abbrev pub AppendsBeginning : Option (List ℕ) → Option (List ℕ) → List ℕ → Type 0
+AppendsBeginning old new bs = (n : ℕ) × Appends old new (take n bs)

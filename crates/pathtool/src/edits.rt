@@ -4,46 +4,53 @@ ghost use Rattle.std.specs.Map.{lookup};
 ghost use Rattle.std.specs.Str.{bytes_eq};
 ghost use Rattle.path_runs.specs.EditViews.{edit_value};
 ghost use Rattle.pathtool.specs.Fields.{fields_of};
-ghost use Rattle.pathtool.specs.EditFields.{edits_by_front, edit_of_field, answer_word};
+ghost use Rattle.pathtool.specs.Others.{other_fields};
+ghost use Rattle.pathtool.specs.EditFields.{edits_by_name, edit_of_field, answer_word};
 ghost use Rattle.pathtool.specs.EditFields.{edit_answer};
-ghost use Rattle.pathtool.specs.Texts.{edits_of_fields, edited_answer, fields_behind, words_of};
+ghost use Rattle.pathtool.specs.Texts.{edits_of_fields, edited_answer, words_of};
 
-use crate::fields::first_place;
+use crate::fields::{Others, is};
 use path_runs::edits::apply;
 use path_runs::{Answer, Edit};
 use std::alloc::{AllocError, Global};
 use unix_bytes::bytes::UnixStr;
+use unix_bytes::search::first_place;
 use unix_path::Path;
 
-// The edit whose field begins so, which holds these bytes if any.
-fn edit_by_front<'a>(front: &[u8], held: &'a [u8]) -> Option<Edit<'a>>
+// The edit whose field begins with that name, and which holds these bytes if any.
+fn edit_by_name<'a>(name: &[u8], held: &'a [u8]) -> Option<Edit<'a>>
     ensures { option_map edit_value result
-        ≡ option_map (λ edit. edit held.now) (lookup (bytes_eq front.now) edits_by_front) }
+        ≡ option_map (λ edit. edit held.now) (lookup (bytes_eq name.now) edits_by_name) }
 {
     let held = UnixStr::from_bytes(held);
-    match front {
-        b"push:" => Some(Edit::Push(Path::new(held))),
-        b"pop" => Some(Edit::Pop),
-        b"name:" => Some(Edit::SetFileName(held)),
-        b"ext:" => Some(Edit::SetExtension(held)),
-        b"clear" => Some(Edit::Clear),
-        _ => None,
+    if is(name, b"push:") {
+        Some(Edit::Push(Path::new(held)))
+    } else if is(name, b"pop") {
+        Some(Edit::Pop)
+    } else if is(name, b"name:") {
+        Some(Edit::SetFileName(held))
+    } else if is(name, b"ext:") {
+        Some(Edit::SetExtension(held))
+    } else if is(name, b"clear") {
+        Some(Edit::Clear)
+    } else {
+        None
     }
 }
 
-// The edit that a field says, unless it is a bad one.
+// The edit that a field names, unless it names none.
 fn edit_from(field: &[u8]) -> Option<Edit<'_>>
     ensures { option_map edit_value result ≡ edit_of_field field.now }
 {
     let place = first_place(field, b':');
     if place == field.len() {
-        edit_by_front(field, &[])
+        edit_by_name(field, &[])
     } else {
-        edit_by_front(&field[..place + 1], &field[place + 1..])
+        edit_by_name(&field[..place + 1], &field[place + 1..])
     }
 }
 
-// The edits that these fields say, unless there is a bad one.
+// The edits that these fields name, unless one names none.
 fn edits_from(alloc: Global, fields: &[u8]) -> Result<Option<Vec<Edit<'_>>>, AllocError>
     ensures { IfOk result (λ edits. option_map (λ es. map edit_value es.items) edits
         ≡ edits_of_fields (fields_of fields.now)) }
@@ -94,7 +101,7 @@ fn push_edited(path: Path<'_>, edits: &[Edit<'_>], answer: &mut Vec<u8>) -> Resu
     push_words(answers.as_slice(), answer)
 }
 
-// Adds the answer to the edits that these fields say.
+// Adds the answer to the edits that these fields name.
 fn push_edits(path: Path<'_>, fields: &[u8], answer: &mut Vec<u8>) -> Result<(), AllocError>
     ensures { OnOk result (answer.new.items
         ≡ answer.old.items ++ edit_answer path.entry.bytes.now (fields_of fields.now)) }
@@ -105,23 +112,23 @@ fn push_edits(path: Path<'_>, fields: &[u8], answer: &mut Vec<u8>) -> Result<(),
     }
 }
 
-/// Adds the path after the edits that the fields say to `answer`, and then what each edit answers.
+/// Adds the path after the edits that the fields name to `answer`, and then what each edit answers.
 ///
-/// Where no field follows the path it is added as it is; a field that says no edit adds `bad
-/// command` alone. Takes memory for the edits, their answers, the path and for what it adds;
-/// refused, it leaves the answer in any state. Own.
+/// Without fields it adds the path as it is; for a field that names no edit it adds `bad command`
+/// alone. Allocates for the edits, their answers, the path and for what it adds; if an allocation
+/// fails, the answer is left in any state. Not in Rust's std.
 ///
 /// `foo/.` and the fields `ext:bar` and `pop` add the empty path, a tab, `true`, a tab and `true`.
-pub fn push_edit(
-    path: Path<'_>,
-    fields: Option<&[u8]>,
-    answer: &mut Vec<u8>,
-) -> Result<(), AllocError>
-    ensures { OnOk result (answer.new.items ≡ answer.old.items ++ edit_answer path.entry.bytes.now
-        (fields_behind (option_map (λ line. line.now) fields.entry))) }
+pub fn push_edit(path: Path<'_>, others: Others<'_>, answer: &mut Vec<u8>) -> Result<(), AllocError>
+    ensures { OnOk result (answer.new.items
+        ≡ answer.old.items ++ edit_answer path.entry.bytes.now (other_fields others.entry)) }
 {
-    match fields {
-        Some(fields) => push_edits(path, fields, answer),
-        None => push_edited(path, &[], answer),
+    match others {
+        Others::None => push_edited(path, &[], answer),
+        Others::One(field) => match edit_from(field) {
+            Some(edit) => push_edited(path, &[edit], answer),
+            None => answer.extend_from_slice(b"bad command"),
+        },
+        Others::Several(fields) => push_edits(path, fields, answer),
     }
 }

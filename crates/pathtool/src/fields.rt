@@ -2,63 +2,17 @@
 ghost use Rattle.std.specs.Prelude.{◌≡◌, ◌+◌, ◌<◌, ◌≤◌, ◌==◌, [], ◌∷◌, length, take, drop};
 ghost use Rattle.std.specs.Prelude.{MatchOption, IfSome};
 ghost use Rattle.std.specs.List.{slice_split, position_or_len};
+ghost use Rattle.std.specs.Str.{bytes_eq};
 ghost use Rattle.pathtool.specs.Answers.{lines_of};
+ghost use Rattle.pathtool.specs.Fields.{fields_of};
+ghost use Rattle.pathtool.specs.Others.{other_fields, least_count};
 
-use std::simd::prelude::*;
+use unix_bytes::search::first_place;
+use unix_path::Path;
 
-// Where the first `end` stands in a string that is shorter than 16 bytes, or its length.
-fn place_in_short(bytes: &[u8], end: u8) -> usize
-    ensures value { result ≡ position_or_len (λ b. b == end) bytes.now }
-    ensures in_range { result ≤ length bytes.now }
-{
-    for (place, b) in bytes.iter().enumerate() {
-        if *b == end {
-            return place;
-        }
-    }
-    bytes.len()
-}
-
-// Where the first `end` stands among the 16 bytes from `at` on, or 16 where there is none.
-#[inline]
-fn place_in_lanes(bytes: &[u8], at: usize, end: u8) -> usize
-    requires { at + 16 ≤ length bytes.now }
-    ensures value { result ≡ position_or_len (λ b. b == end) (take 16 (drop at bytes.now)) }
-    ensures bound { result ≤ 16 }
-{
-    let hits = u8x16::from_slice(&bytes[at..])
-        .simd_eq(u8x16::splat(end))
-        .to_bitmask();
-    if hits == 0 {
-        16
-    } else {
-        hits.trailing_zeros() as usize
-    }
-}
-
-/// Where the first `end` stands, or the length where there is none. Takes no memory. Own.
+/// The bytes before the first `end`, and those after it where there is one.
 ///
-/// `first_place(b"a:b:c", b':')` is 1.
-pub fn first_place(bytes: &[u8], end: u8) -> usize
-    ensures value { result ≡ position_or_len (λ b. b == end) bytes.now }
-    ensures in_range { result ≤ length bytes.now }
-{
-    if bytes.len() < 16 {
-        return place_in_short(bytes, end);
-    }
-    let last = bytes.len() - 16;
-    let mut at = 0;
-    while at < last {
-        let place = place_in_lanes(bytes, at, end);
-        if place < 16 {
-            return at + place;
-        }
-        at += 16;
-    }
-    last + place_in_lanes(bytes, last, end)
-}
-
-/// The bytes before the first `end`, and those after it where there is one. Takes no memory. Own.
+/// Does not allocate. Not in Rust's std.
 ///
 /// `cut(b"a:b:c", b':')` is `a` and `b:c`.
 pub fn cut(bytes: &[u8], end: u8) -> (&[u8], Option<&[u8]>)
@@ -74,7 +28,9 @@ pub fn cut(bytes: &[u8], end: u8) -> (&[u8], Option<&[u8]>)
     (&bytes[..place], Some(&bytes[place + 1..]))
 }
 
-/// The first line of an input that isn't empty, and what follows it. Takes no memory. Own.
+/// The first line of an input that isn't empty, and what follows it.
+///
+/// Does not allocate. Not in Rust's std.
 ///
 /// `first_line(b"a\nb")` is `a` and `b`.
 #[tactic(auto, using(crate::proofs::LineLemmas::cut_lines, crate::proofs::LineLemmas::only_line))]
@@ -88,4 +44,75 @@ pub fn first_line(input: &[u8]) -> (&[u8], &[u8])
         Some(rest) => (line, rest),
         None => (line, b"".as_slice()),
     }
+}
+
+/// Whether a field is that name. Does not allocate. Not in Rust's std.
+///
+/// `is(b"pop", b"pop")` is true.
+pub fn is(field: &[u8], name: &[u8]) -> bool
+    ensures { result ≡ bytes_eq field.now name.now }
+{
+    field == name
+}
+
+/// The fields of a line that follow its path.
+#[derive(Clone, Copy)]
+pub enum Others<'a> {
+    /// No field follows.
+    None,
+    /// One field.
+    One(&'a [u8]),
+    /// At least two fields, with a tab between neighbours.
+    Several(&'a [u8]),
+}
+
+/// A line as its command, its path and the fields that follow.
+#[derive(Clone, Copy)]
+pub struct Line<'a> {
+    /// The first field.
+    pub command: &'a [u8],
+    /// The second field.
+    pub path: Path<'a>,
+    /// The other fields.
+    pub others: Others<'a>,
+    ghost count: { least_count others ≤ length (other_fields others) },
+}
+
+// The fields that follow a path, which these bytes hold.
+fn others_from(fields: &[u8]) -> Others<'_>
+    ensures value { other_fields result ≡ fields_of fields.now }
+    ensures count { least_count result ≤ length (other_fields result) }
+{
+    let (field, others) = cut(fields, b'\t');
+    match others {
+        None => Others::One(field),
+        Some(_) => Others::Several(fields),
+    }
+}
+
+/// The command, the path and the other fields of a line, or `None` for a line without a tab.
+///
+/// Does not allocate. Not in Rust's std.
+///
+/// For `join`, a tab, `a`, a tab and `b` they are `join`, `a` and the one field `b`.
+pub fn line_from(line: &[u8]) -> Option<Line<'_>>
+    ensures { MatchOption result (fields_of line.now ≡ line.now ∷ [])
+        (λ parsed. fields_of line.now
+        ≡ parsed.command.now ∷ parsed.path.bytes.now ∷ other_fields parsed.others) }
+{
+    let (command, fields) = cut(line, b'\t');
+    let Some(fields) = fields else {
+        return None;
+    };
+    let (path, others) = cut(fields, b'\t');
+    let path = Path { bytes: path };
+    let others = match others {
+        None => Others::None,
+        Some(fields) => others_from(fields),
+    };
+    Some(Line {
+        command,
+        path,
+        others,
+    })
 }

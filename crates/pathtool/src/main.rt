@@ -4,11 +4,14 @@
 mod commands;
 mod edits;
 mod fields;
+mod lists;
+mod names;
 mod paths;
 mod run;
 #[cfg(test)]
 mod tests;
 mod texts;
+mod truths;
 mod walks;
 mod watched;
 

@@ -1,17 +1,20 @@
 //! Answers that are paths.
 ghost use Rattle.std.specs.Prelude.{◌≡◌, ◌++◌, OnOk};
 ghost use Rattle.unix_path.specs.Joins.{join_of};
+ghost use Rattle.unix_path.specs.Parents.{parent_of};
 ghost use Rattle.unix_path.specs.Parts.{values};
 ghost use Rattle.path_runs.specs.Spelling.{spelling_of};
+ghost use Rattle.pathtool.specs.Answers.{optional, strip_answer};
 
+use crate::names::push_optional;
 use path_runs::canonical::canonical;
 use std::alloc::AllocError;
 use unix_path::Path;
 
 /// Adds the bytes of `base`, joined with `path`, to `answer`.
 ///
-/// Takes memory for the join and for what it adds; refused, it leaves the answer in any state. Own;
-/// by Rust's `Path::join`.
+/// Allocates for the join and for what it adds; if an allocation fails, the answer is left in any
+/// state. By Rust's `Path::join`.
 ///
 /// `a` with the empty path adds `a/`.
 pub fn push_join(base: Path<'_>, path: Path<'_>, answer: &mut Vec<u8>) -> Result<(), AllocError>
@@ -24,8 +27,8 @@ pub fn push_join(base: Path<'_>, path: Path<'_>, answer: &mut Vec<u8>) -> Result
 
 /// Adds the canonical spelling of the path to `answer`.
 ///
-/// The empty path adds nothing. Takes memory for the spelling and for what it adds; refused, it
-/// leaves the answer in any state. Own.
+/// The empty path adds nothing. Allocates for the spelling and for what it adds; if an allocation
+/// fails, the answer is left in any state. Not in Rust's std.
 ///
 /// `.//a/./b/` adds `./a/b`.
 pub fn push_canon(path: Path<'_>, answer: &mut Vec<u8>) -> Result<(), AllocError>
@@ -34,4 +37,39 @@ pub fn push_canon(path: Path<'_>, answer: &mut Vec<u8>) -> Result<(), AllocError
 {
     let spelled = canonical(*answer.allocator(), path)?;
     answer.extend_from_slice(spelled.as_path().as_unix_str().as_bytes())
+}
+
+/// Adds the path's parent to `answer`, if it has one.
+///
+/// Allocates only for what it adds; if the allocation fails, the answer is left in any state.
+/// By Rust's `Path::parent`.
+///
+/// `a/b` adds `+a`, and `/` adds `-`.
+#[tactic(auto, using(crate::proofs::SaidLemmas::adds_some, crate::proofs::SaidLemmas::adds_none))]
+pub fn push_parent(path: Path<'_>, answer: &mut Vec<u8>) -> Result<(), AllocError>
+    ensures { OnOk result (answer.new.items
+        ≡ answer.old.items ++ optional (parent_of path.entry.bytes.now)) }
+{
+    match path.parent() {
+        Some(parent) => push_optional(Some(parent.as_unix_str()), answer),
+        None => push_optional(None, answer),
+    }
+}
+
+/// Adds what is left of the path after the parts of `base` to `answer`.
+///
+/// `prefix not found` where the path's first parts aren't those of `base`.
+/// Allocates only for what it adds; if the allocation fails, the answer is left in any state.
+/// By Rust's `Path::strip_prefix`.
+///
+/// `a/b` with `a` adds `+b`.
+#[tactic(auto, using(crate::proofs::SaidLemmas::adds_rest, crate::proofs::SaidLemmas::adds_other))]
+pub fn push_stripped(path: Path<'_>, base: Path<'_>, answer: &mut Vec<u8>) -> Result<(), AllocError>
+    ensures { OnOk result (answer.new.items ≡ answer.old.items
+        ++ strip_answer path.entry.bytes.now base.entry.bytes.now) }
+{
+    match path.strip_prefix(base) {
+        Ok(left) => push_optional(Some(left.as_unix_str()), answer),
+        Err(_) => answer.extend_from_slice(b"prefix not found"),
+    }
 }

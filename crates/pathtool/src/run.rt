@@ -3,7 +3,7 @@ ghost use Rattle.std.specs.Prelude.{◌≡◌, ◌↔◌, false, IsTrue, IfOk, O
 ghost use Rattle.std.specs.Prelude.{Some, IsErrOf, codes};
 ghost use Rattle.std.specs.Io.KnownBytes.{Appends, Consumes, IsAtEnd, Keeps};
 ghost use Rattle.pathtool.specs.Watched.{has_failed, has_ended, is_flushed, watched_inner};
-ghost use Rattle.pathtool.specs.Watched.{AppendsFront};
+ghost use Rattle.pathtool.specs.Watched.{AppendsBeginning};
 ghost use Rattle.pathtool.specs.Answers.{output_of};
 ghost use Rattle.pathtool.specs.RunError.{error_text};
 ghost use Rattle.pathtool.specs.declared.run.RunError.TheVariants.{Memory};
@@ -18,7 +18,8 @@ use std::io::{Read, Write};
 
 /// Why a run gave up.
 ///
-/// Displayed as `read error`, `write error` or `out of memory`, padded like a text. Own.
+/// Displayed as `read error`, `write error` or `out of memory`, padded like a text. Not in
+/// Rust's std.
 ///
 /// `RunError::Memory` is displayed as `out of memory`.
 #[derive(Clone, Copy, Debug, PartialEq, Eq)]
@@ -27,7 +28,7 @@ pub enum RunError {
     Read,
     /// The writer failed, or took none of some bytes.
     Write,
-    /// There was no memory.
+    /// An allocation failed.
     Memory,
 }
 
@@ -46,7 +47,7 @@ impl fmt::Display for RunError {
 
 impl Error for RunError {}
 
-/// Want of memory is `Memory`.
+/// A failed allocation is `Memory`.
 impl From<AllocError> for RunError {
     ghost from_gives = { λ error given. given ≡ Memory };
 
@@ -86,7 +87,7 @@ fn write_whole<W: Write>(writer: &mut Watched<W>, bytes: &[u8]) -> Result<(), Ru
     requires { has_failed writer.old ≡ false }
     ensures ok { OnOk result (Appends (W.contents (watched_inner writer.old))
         (W.contents (watched_inner writer.new)) bytes.now) }
-    ensures err { OnErr result (AppendsFront (W.contents (watched_inner writer.old))
+    ensures err { OnErr result (AppendsBeginning (W.contents (watched_inner writer.old))
         (W.contents (watched_inner writer.new)) bytes.now) }
     ensures write { IsErrOf result RunError.Write ↔ IsTrue (has_failed writer.new) }
     ensures only_write { IfErr result (λ error. error ≡ RunError.Write) }
@@ -111,7 +112,7 @@ fn write_answers<W: Write>(
     requires { has_failed writer.old ≡ false }
     ensures ok { OnOk result (Appends (W.contents (watched_inner writer.old))
         (W.contents (watched_inner writer.new)) (output_of input.now)) }
-    ensures err { OnErr result (AppendsFront (W.contents (watched_inner writer.old))
+    ensures err { OnErr result (AppendsBeginning (W.contents (watched_inner writer.old))
         (W.contents (watched_inner writer.new)) (output_of input.now)) }
     ensures write { IsErrOf result RunError.Write ↔ IsTrue (has_failed writer.new) }
     ensures no_read { IfErr result (λ error. (error ≡ RunError.Read) → ⊥) }
@@ -130,9 +131,10 @@ fn write_answers<W: Write>(
 
 /// Reads the input to its end, writes the answer to each of its lines and a newline, and flushes.
 ///
-/// An input without lines is answered with nothing. Takes memory for the input and for one answer.
+/// An input without lines is answered with nothing. Allocates for the input and for one answer; a
+/// failed allocation is `Memory`.
 /// A failed read is `Read`, and then nothing was written. A failed write or flush, or a write that
-/// takes none of some bytes, is `Write`. Own.
+/// takes none of some bytes, is `Write`. Not in Rust's std.
 ///
 /// The input `parts`, a tab, `a//b` and a newline is answered `a`, a tab, `b` and a newline.
 pub fn run<R: Read, W: Write>(
@@ -155,7 +157,7 @@ pub fn run<R: Read, W: Write>(
 
     // What was written by then.
     ensures err { OnErr result (IfSome (R.remaining (watched_inner reader.old)) (λ input.
-        AppendsFront (W.contents (watched_inner writer.old))
+        AppendsBeginning (W.contents (watched_inner writer.old))
         (W.contents (watched_inner writer.new)) (output_of input))) }
     ensures unread { has_ended reader.new ≡ false
         → Keeps (W.contents (watched_inner writer.old)) (W.contents (watched_inner writer.new)) }

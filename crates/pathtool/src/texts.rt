@@ -26,8 +26,8 @@ fn push_chunk(chunk: Utf8LossyChunk<'_>, answer: &mut Vec<u8>) -> Result<(), All
 
 /// Adds the path as text to `answer`, with U+FFFD for each broken front.
 ///
-/// Bytes that are UTF-8 are added as they are. Takes memory only for what it adds; refused, it
-/// leaves the answer in any state. Own; by Rust's `Path::display`.
+/// Bytes that are UTF-8 are added as they are. Allocates only for what it adds; if the allocation
+/// fails, the answer is left in any state. By Rust's `Path::display`.
 ///
 /// The bytes 61 FF add `a` and U+FFFD.
 pub fn push_show(path: Path<'_>, answer: &mut Vec<u8>) -> Result<(), AllocError>
@@ -40,7 +40,7 @@ pub fn push_show(path: Path<'_>, answer: &mut Vec<u8>) -> Result<(), AllocError>
 }
 
 // The compact text of the path as a JSON string.
-fn quoted(alloc: Global, path: Path<'_>) -> Result<String, JsonError>
+fn json_text(alloc: Global, path: Path<'_>) -> Result<String, JsonError>
     ensures value { IfOk result (λ text. string_bytes text ≡ quoted path.entry.bytes.now) }
     ensures refused { IsErrOf result JsonError.NotUtf8 ↔ ¬ (IsText path.entry.bytes.now) }
 {
@@ -61,18 +61,18 @@ fn push_refusal(answer: &mut Vec<u8>) -> Result<(), AllocError>
 
 /// Adds the path as a JSON string to `answer`, or that its bytes aren't UTF-8.
 ///
-/// The string is compact. Takes memory for the text and for what it adds; refused, it leaves the
-/// answer in any state. Own; the string is that of RFC 8259, section 7.
+/// The string is compact, by RFC 8259, section 7. Allocates for the text and for what it adds; if
+/// an allocation fails, the answer is left in any state. Not in Rust's std.
 ///
 /// `a"b` adds `"a\"b"`, and FF adds `path contains invalid UTF-8 characters`.
 #[tactic(auto, using(crate::proofs::SaidLemmas::adds_quoted))]
 pub fn push_json(path: Path<'_>, answer: &mut Vec<u8>) -> Result<(), AllocError>
     ensures { OnOk result (answer.new.items ≡ answer.old.items ++ json_of path.entry.bytes.now) }
 {
-    match quoted(*answer.allocator(), path) {
+    match json_text(*answer.allocator(), path) {
         Ok(text) => answer.extend_from_slice(text.as_bytes()),
         Err(JsonError::NotUtf8) => push_refusal(answer),
-        // `to_json` answers nothing else than want of memory.
+        // What else `to_json` can answer is that an allocation failed.
         Err(_) => Err(AllocError),
     }
 }

@@ -10,7 +10,7 @@ use path_runs::{Turn, Walked};
 use std::alloc::{AllocError, Global};
 use unix_path::{Component, Path};
 
-// The turn that the letter says, unless it is a bad one.
+// The turn that the letter stands for, if any.
 fn turn_from(letter: u8) -> Option<Turn>
     ensures { result ≡ turn_of letter }
 {
@@ -21,14 +21,14 @@ fn turn_from(letter: u8) -> Option<Turn>
     }
 }
 
-// Whether each letter says a turn.
-fn say_turns(letters: &[u8]) -> bool
+// Whether each letter stands for a turn.
+fn are_turns(letters: &[u8]) -> bool
     ensures { result ≡ list_all (λ letter. is_some (turn_of letter)) letters.now }
 {
     letters.iter().all(|letter| turn_from(*letter).is_some())
 }
 
-// The turns that the letters say.
+// The turns that the letters stand for.
 fn turns_from(alloc: Global, letters: &[u8]) -> Result<Vec<Turn>, AllocError>
     ensures { IfOk result (λ turns. turns.items ≡ filter_map turn_of letters.now) }
 {
@@ -46,8 +46,8 @@ fn push_count(count: usize, answer: &mut Vec<u8>) -> Result<(), AllocError>
     answer.extend_from_slice(text.as_bytes())
 }
 
-// Adds the bytes of each part, with a tab before it.
-fn push_parts(parts: &[Component<'_>], answer: &mut Vec<u8>) -> Result<(), AllocError>
+// Adds the bytes of each part that was taken, with a tab before it.
+fn push_taken(parts: &[Component<'_>], answer: &mut Vec<u8>) -> Result<(), AllocError>
     ensures { OnOk result (answer.new.items ≡ answer.old.items ++ parts_behind parts.now) }
 {
     for part in parts {
@@ -64,25 +64,25 @@ fn push_walked(walked: &Walked<'_>, answer: &mut Vec<u8>) -> Result<(), AllocErr
     push_count(walked.front.len(), answer)?;
     answer.push(b'\t')?;
     push_count(walked.behind.len(), answer)?;
-    push_parts(walked.front.as_slice(), answer)?;
+    push_taken(walked.front.as_slice(), answer)?;
     answer.push(b'\t')?;
     answer.extend_from_slice(walked.rest.as_unix_str().as_bytes())?;
-    push_parts(walked.behind.as_slice(), answer)
+    push_taken(walked.behind.as_slice(), answer)
 }
 
 /// Adds what the turns take of the path to `answer`, as a list.
 ///
 /// The letters are `f` for a part in front and `b` for one behind; others add `bad command`. The
 /// list has the counts of parts in front and behind, the parts in front, the rest, and the parts
-/// behind in the order of taking. Takes memory for the turns, the parts and for what it adds;
-/// refused, it leaves the answer in any state. Own.
+/// behind in the order of taking. Allocates for the turns, the parts and for what it adds; if an
+/// allocation fails, the answer is left in any state. Not in Rust's std.
 ///
 /// `//` with `bf` adds `0`, `1`, the empty path and `/`, with tabs between them.
 pub fn push_walk(path: Path<'_>, letters: &[u8], answer: &mut Vec<u8>) -> Result<(), AllocError>
     ensures { OnOk result (answer.new.items
         ≡ answer.old.items ++ walk_answer path.entry.bytes.now letters.now) }
 {
-    if !say_turns(letters) {
+    if !are_turns(letters) {
         return answer.extend_from_slice(b"bad command");
     }
     let alloc = *answer.allocator();

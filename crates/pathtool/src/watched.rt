@@ -12,7 +12,7 @@ use std::io::{Read, Write};
 ///
 /// It has failed once a call has failed, or once a write of some bytes took none. It has ended once
 /// a read with room for a byte found none. Both stay true. It is flushed from a flush that was Ok
-/// to the next write or flush. Own.
+/// to the next write or flush. Not in Rust's std.
 ///
 /// `Watched::new(b"a".as_slice())` has ended after two reads.
 #[derive(Drop)]
@@ -24,7 +24,9 @@ pub struct Watched<T> {
 }
 
 impl<T> Watched<T> {
-    /// Watches `inner`, which has neither failed nor ended, nor is flushed. Takes no memory. Own.
+    /// Watches `inner`, which has neither failed nor ended, nor is flushed.
+    ///
+    /// Does not allocate. Not in Rust's std.
     ///
     /// `Watched::new(reader).failed()` is false.
     pub fn new(inner: T) -> Watched<T>
@@ -41,7 +43,9 @@ impl<T> Watched<T> {
         }
     }
 
-    /// Whether a call has failed, or a write of some bytes took none. Takes no memory. Own.
+    /// Whether a call has failed, or a write of some bytes took none.
+    ///
+    /// Does not allocate. Not in Rust's std.
     ///
     /// It is true after a `flush` that failed.
     pub fn failed(&self) -> bool
@@ -51,7 +55,9 @@ impl<T> Watched<T> {
         *failed
     }
 
-    /// Whether a read with room for a byte found none. Takes no memory. Own.
+    /// Whether a read with room for a byte found none.
+    ///
+    /// Does not allocate. Not in Rust's std.
     ///
     /// It is false after a read into an empty slice.
     pub fn ended(&self) -> bool
@@ -61,7 +67,9 @@ impl<T> Watched<T> {
         *ended
     }
 
-    /// Whether a flush was Ok, and nothing was written or flushed since. Takes no memory. Own.
+    /// Whether a flush was Ok, and nothing was written or flushed since.
+    ///
+    /// Does not allocate. Not in Rust's std.
     ///
     /// It is false after a `write`.
     pub fn flushed(&self) -> bool
@@ -71,7 +79,9 @@ impl<T> Watched<T> {
         *flushed
     }
 
-    /// The reader or the writer. Takes no memory. Own.
+    /// The reader or the writer.
+    ///
+    /// Does not allocate. Not in Rust's std.
     ///
     /// `Watched::new(7).into_inner()` is 7.
     pub fn into_inner(self) -> T

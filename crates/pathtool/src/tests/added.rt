@@ -1,4 +1,5 @@
 use crate::edits::push_edit;
+use crate::fields::Others;
 use crate::paths::{push_canon, push_join};
 use crate::texts::{push_json, push_show};
 use std::alloc::Global;
@@ -97,24 +98,28 @@ fn canonical_paths(rt: HostRuntime) -> Result<(), Fail> {
 
 #[test]
 fn paths_are_edited(rt: HostRuntime) -> Result<(), Fail> {
-    let rows: [(&[u8], Option<&[u8]>, &[u8]); 13] = [
-        (b"a", None, b"a"),
-        (b"a/..foo", Some(b"ext:"), b"a/.\ttrue"),
-        (b"foo/.", Some(b"ext:bar\tpop\tpop"), b"\ttrue\ttrue\tfalse"),
+    let rows: [(&[u8], Others, &[u8]); 13] = [
+        (b"a", Others::None, b"a"),
+        (b"a/..foo", Others::One(b"ext:"), b"a/.\ttrue"),
+        (
+            b"foo/.",
+            Others::Several(b"ext:bar\tpop\tpop"),
+            b"\ttrue\ttrue\tfalse",
+        ),
         (
             b"/tmp/foo.txt",
-            Some(b"ext:\tpush:b\tpop\tpop\tpop\tpop"),
+            Others::Several(b"ext:\tpush:b\tpop\tpop\tpop\tpop"),
             b"/\ttrue\tok\ttrue\ttrue\ttrue\tfalse",
         ),
-        (b"a", Some(b"push:b:c"), b"a/b:c\tok"),
-        (b"a", Some(b"ext:x/y"), b"a.x/y\ttrue"),
-        (b"a", Some(b"clear\tpush:"), b"\tok\tok"),
-        (b"foo/..", Some(b"name:bar"), b"foo/../bar\tok"),
-        (b"a", Some(b"pop:"), b"bad command"),
-        (b"a", Some(b"push:b\tpush"), b"bad command"),
-        (b"a", Some(b""), b"bad command"),
-        (b"a", Some(b"clear:\tpop"), b"bad command"),
-        (b"a", Some(b"pop\tadd:x"), b"bad command"),
+        (b"a", Others::One(b"push:b:c"), b"a/b:c\tok"),
+        (b"a", Others::One(b"ext:x/y"), b"a.x/y\ttrue"),
+        (b"a", Others::Several(b"clear\tpush:"), b"\tok\tok"),
+        (b"foo/..", Others::One(b"name:bar"), b"foo/../bar\tok"),
+        (b"a", Others::One(b"pop:"), b"bad command"),
+        (b"a", Others::Several(b"push:b\tpush"), b"bad command"),
+        (b"a", Others::One(b""), b"bad command"),
+        (b"a", Others::Several(b"clear:\tpop"), b"bad command"),
+        (b"a", Others::Several(b"pop\tadd:x"), b"bad command"),
     ];
     for (path, fields, edited) in rows {
         let mut answer = begun(rt.alloc())?;

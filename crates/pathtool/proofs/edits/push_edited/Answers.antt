@@ -1,6 +1,6 @@
 use Rattle.std.proofs.Common.{map, ◌++◌, ap, ap₂, sym, ◌∙◌}
 use Rattle.path_runs.specs.EditViews.{edit_value}
-use Rattle.path_runs.specs.Runs.{edits_of}
+use Rattle.path_runs.specs.EditLists.{edits_of}
 use Rattle.pathtool.specs.Texts.{words_of}
 use Rattle.pathtool.proofs.AddedLemmas.{added_behind}
 use Rattle.pathtool.proofs.WordLemmas.{tabs-words}

@@ -5,11 +5,11 @@ use Rattle.pathtool.proofs.ListLemmas.{adds}
 use Rattle.pathtool.proofs.TakenLemmas.{walked_text-walk_of, walk_answer-bad, walk_answer-turns}
 use Rattle.pathtool.proofs.walks.push_walk.Goals as goal
 
-pub returns-then-not-say_turns : goal.returns-then-not-say_turns
-returns-then-not-say_turns c =
+pub returns-then-not-are_turns : goal.returns-then-not-are_turns
+returns-then-not-are_turns c =
     added c.extend_from_slice.result _ _
     (walk_answer-bad c.args.path.bytes.now c.args.letters.now
-    (sym c.say_turns.ensures ∙ c.if-not-say_turns.true))
+    (sym c.are_turns.ensures ∙ c.if-not-are_turns.true))
     c.extend_from_slice.ensures.items
 
 pub returns : goal.returns
@@ -22,5 +22,5 @@ returns c =
     walked.behind
     ∙ ap (walk_of path) turns
     ∙ walk_answer-turns path c.args.letters.now
-    (sym c.say_turns.ensures ∙ c.if-not-say_turns.false))
+    (sym c.are_turns.ensures ∙ c.if-not-are_turns.false))
     c.push_walked.ensures

@@ -2,7 +2,7 @@ use Rattle.std.proofs.Common.{◌+◌, ◌++◌, drop, ap, ap₂, sym, ◌∙◌
 use Rattle.std.proofs.lemmas.List.{at_drop_all}
 use Rattle.pathtool.specs.Texts.{parts_behind}
 use Rattle.pathtool.proofs.TakenLemmas.{parts_behind-push}
-use Rattle.pathtool.proofs.walks.push_parts.Goals as goal
+use Rattle.pathtool.proofs.walks.push_taken.Goals as goal
 
 pub loop-part-preserved : goal.loop-part-preserved
 loop-part-preserved c =

@@ -6,12 +6,13 @@ use Rattle.unix_path.specs.Parts.{value_bytes}
 use Rattle.pathtool.proofs.ListLemmas.{adds, adds_list}
 use Rattle.unix_path.proofs.ParentLemmas.{values-whole}
 use Rattle.pathtool.specs.Fields.{tabs}
-use Rattle.pathtool.proofs.commands.push_parts.Goals as goal
+use Rattle.pathtool.proofs.lists.push_parts.Goals as goal
 
 pub returns : goal.returns
 returns c =
     let parts = values-whole c.args.path.bytes.now _ c.components.ensures.rest in
-    adds _ _ _ (ap (λ values. tabs (map value_bytes values)) parts)
+    adds c.push_list.result c.push_list.new.answer.items c.args.answer.now.items
+    (ap (λ values. tabs (map value_bytes values)) parts)
     (adds_list c.push_list.result _ _
     (YieldsList-from_map_by _ name_bytes value_bytes
     (YieldsList-at c.map.ensures.source (Components-yields c.components.result))

@@ -5,7 +5,7 @@ use Rattle.pathtool.specs.Fields.{tabs}
 use Rattle.pathtool.specs.Texts.{tab}
 use Rattle.pathtool.specs.Texts.{has_none, texts}
 use Rattle.unix_bytes.specs.declared.bytes.UnixStr.{UnixStr}
-use Rattle.pathtool.proofs.commands.push_list.Goals as goal
+use Rattle.pathtool.proofs.lists.push_list.Goals as goal
 
 -- the answer was extended by one more name
 extended : (names : List UnixStr) (name : UnixStr) (is_first : Bool) (old answer new item : List ℕ)

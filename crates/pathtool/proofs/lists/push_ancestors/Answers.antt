@@ -6,12 +6,13 @@ use Rattle.unix_path.specs.Ancestors.{ancestors_left}
 use Rattle.unix_path.specs.Parents.{ancestors_of}
 use Rattle.pathtool.proofs.ListLemmas.{adds, adds_list}
 use Rattle.pathtool.specs.Fields.{tabs}
-use Rattle.pathtool.proofs.commands.push_ancestors.Goals as goal
+use Rattle.pathtool.proofs.lists.push_ancestors.Goals as goal
 
 pub returns : goal.returns
 returns c =
     let all = ancestors_of c.args.path.bytes.now in
-    adds c.push_list.result _ c.args.answer.now.items (ap tabs (map-id all))
+    adds c.push_list.result c.push_list.new.answer.items c.args.answer.now.items
+    (ap tabs (map-id all))
     (adds_list c.push_list.result _ _
     (YieldsList-from_map_by _ name_bytes (λ bytes. bytes)
     (YieldsList-at c.map.ensures.source

@@ -1,7 +1,7 @@
 use Rattle.std.proofs.Common.{◌≡◌, ◌++◌}
 use Rattle.pathtool.specs.Fields.{tabs}
 use Rattle.pathtool.specs.Texts.{has_none, texts}
-use Rattle.pathtool.proofs.commands.push_list.Given as goal
+use Rattle.pathtool.proofs.lists.push_list.Given as goal
 
 abbrev pub invariant-loop-item : goal.invariant-loop-item
 invariant-loop-item g l =

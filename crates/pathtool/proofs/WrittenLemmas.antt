@@ -5,23 +5,24 @@ use Rattle.std.proofs.Common.{sym, ap, subst, ◌∙◌, append_assoc, take-appe
 use Rattle.std.proofs.Math.Seq.{take-append_seam}
 use Rattle.std.proofs.KnownBytes.{Appends-trans}
 use Rattle.std.specs.Io.KnownBytes.{Appends}
-use Rattle.pathtool.specs.Watched.{AppendsFront}
+use Rattle.pathtool.specs.Watched.{AppendsBeginning}
 
 -- what was written begins the whole
-pub AppendsFront-of : (a b : Option (List ℕ)) (done left all : List ℕ) → Appends a b done
-    → done ++ left ≡ all → AppendsFront a b all
-AppendsFront-of a b done left all h e = (
+pub AppendsBeginning-of : (a b : Option (List ℕ)) (done left all : List ℕ) → Appends a b done
+    → done ++ left ≡ all → AppendsBeginning a b all
+AppendsBeginning-of a b done left all h e = (
   length done,
   subst (Appends a b) (sym (take-append_seam done left)
       ∙ ap (take (length done)) e) h,
 )
 
 -- after some bytes a beginning of others was written
-pub AppendsFront-then : (a b c : Option (List ℕ)) (done next left all : List ℕ) → Appends a b done
-    → AppendsFront b c next → done ++ (next ++ left) ≡ all → AppendsFront a c all
-AppendsFront-then a b c done next left all h (n, k) e =
+pub AppendsBeginning-then : (a b c : Option (List ℕ)) (done next left all : List ℕ)
+    → Appends a b done → AppendsBeginning b c next → done ++ (next ++ left) ≡ all
+    → AppendsBeginning a c all
+AppendsBeginning-then a b c done next left all h (n, k) e =
     let front = take n next in
-    AppendsFront-of a c (done ++ front) (drop n next ++ left) all
+    AppendsBeginning-of a c (done ++ front) (drop n next ++ left) all
     (Appends-trans a b c done front h k)
     (append_assoc done front (drop n next ++ left)
     ∙ ap (λ l. done ++ l) (sym (append_assoc front (drop n next) left)

@@ -1,6 +1,6 @@
 use Rattle.std.proofs.Common.{◌≡◌, ◌++◌, drop}
 use Rattle.pathtool.specs.Texts.{parts_behind}
-use Rattle.pathtool.proofs.walks.push_parts.Given as goal
+use Rattle.pathtool.proofs.walks.push_taken.Given as goal
 
 -- the parts so far, and then those left, are all
 abbrev pub invariant-loop-part : goal.invariant-loop-part

@@ -1,0 +1,16 @@
+-- Steps of a loop over an iterator that yields a list, which is known after the steps so far.
+use Rattle.std.proofs.Common.{◌≡◌, ◌<◌, List, length, get_or, Option, Some, None, refl}
+use Rattle.std.specs.Iterator.{Yields}
+use Rattle.std.proofs.lemmas.Iterator.{YieldsList}
+use Rattle.std.proofs.lemmas.Iterator.Consumers.{YieldsList-turn, YieldsList-end}
+
+-- an item is the next of the list, and where none comes the list is at its end
+abbrev pub IsStep : {A B : Type 0} → (A → B) → List B → List A → Option A → Type 0
+IsStep v all xs (Some x) = (length xs < length all) × (v x ≡ get_or all (length xs) (v x))
+IsStep v all xs None = length xs ≡ length all
+
+pub step_of : {S A B : Type 0} {steps : S → Option A → S → Type 0} {v : A → B} {s : S}
+    {all : List B} (xs : List A) (t : S) → Yields steps s xs t → (r : Option A) (u : S)
+    → steps t r u → YieldsList steps v s all → IsStep v all xs r
+step_of xs t y (Some x) u p road = YieldsList-turn road xs t y (Some x) u x refl p
+step_of xs t y None u p road = (YieldsList-end road xs t y None u refl p).1

@@ -1,0 +1,9 @@
+use Rattle.std.proofs.Common.{[], ◌∷◌, ap, sym, ◌∙◌}
+use Rattle.pathtool.proofs.SplitLemmas.{slice_split-one}
+use Rattle.pathtool.specs.Texts.{tab}
+use Rattle.pathtool.proofs.fields.line_from.Goals as goal
+
+pub returns-in_default : goal.returns-in_default
+returns-in_default c =
+    let one = rw c.in_default.is at c.cut.ensures.value in
+    one ∙ ap (λ field. field ∷ []) (sym (slice_split-one tab _ _ one))

@@ -1,0 +1,80 @@
+//! Answers that are lists, with a tab between two items.
+ghost use Rattle.std.specs.Prelude.{◌≡◌, ◌++◌, ◌∷◌, OnOk, List, reverse, if◌then◌else◌};
+ghost use Rattle.std.specs.Iterator.{IsFinite, Drains};
+ghost use Rattle.unix_bytes.specs.declared.bytes.UnixStr.{UnixStr};
+ghost use Rattle.unix_path.specs.Parents.{ancestors_of};
+ghost use Rattle.pathtool.specs.Fields.{tabs};
+ghost use Rattle.pathtool.specs.Texts.{tab, texts};
+ghost use Rattle.pathtool.specs.Walks.{part_bytes};
+
+use std::alloc::AllocError;
+use unix_bytes::bytes::UnixStr;
+use unix_path::{Component, Path};
+
+// Adds an item of a list, and a tab before it unless it is the first.
+fn push_item(item: &[u8], is_first: bool, answer: &mut Vec<u8>) -> Result<(), AllocError>
+    ensures { OnOk result (answer.new.items
+        ≡ answer.old.items ++ (if is_first then item.now else tab ∷ item.now)) }
+{
+    if !is_first {
+        answer.push(b'\t')?;
+    }
+    answer.extend_from_slice(item)
+}
+
+// Adds the items, with a tab between two of them.
+fn push_list<'a, I: Iterator<Item = UnixStr<'a>>>(
+    items: I,
+    answer: &mut Vec<u8>,
+) -> Result<(), AllocError>
+    requires can { I.can_next items }
+    requires ends { IsFinite (I.remaining items) }
+    ensures { OnOk result ((xs : List UnixStr) × Drains I.next_gives items xs
+        × (answer.new.items ≡ answer.old.items ++ tabs (texts xs))) }
+{
+    let mut is_first = true;
+    for item in items {
+        push_item(item.as_bytes(), is_first, answer)?;
+        is_first = false;
+    }
+    Ok(())
+}
+
+/// Adds the bytes of the path's parts to `answer`, as a list.
+///
+/// Allocates only for what it adds; if the allocation fails, the answer is left in any state.
+/// Not in Rust's std.
+///
+/// `a//b` adds `a`, a tab and `b`.
+pub fn push_parts(path: Path<'_>, answer: &mut Vec<u8>) -> Result<(), AllocError>
+    ensures { OnOk result (answer.new.items
+        ≡ answer.old.items ++ tabs (part_bytes path.entry.bytes.now)) }
+{
+    push_list(path.components().map(Component::as_unix_str), answer)
+}
+
+/// Adds the bytes of the path's parts to `answer`, as a list with the last part first.
+///
+/// Allocates only for what it adds; if the allocation fails, the answer is left in any state.
+/// Not in Rust's std.
+///
+/// `a//b` adds `b`, a tab and `a`.
+pub fn push_back(path: Path<'_>, answer: &mut Vec<u8>) -> Result<(), AllocError>
+    ensures { OnOk result (answer.new.items
+        ≡ answer.old.items ++ tabs (reverse (part_bytes path.entry.bytes.now))) }
+{
+    push_list(path.iter().rev(), answer)
+}
+
+/// Adds the path and each path above it to `answer`, as a list.
+///
+/// Allocates only for what it adds; if the allocation fails, the answer is left in any state.
+/// By Rust's `Path::ancestors`.
+///
+/// `/a` adds `/a`, a tab and `/`.
+pub fn push_ancestors(path: Path<'_>, answer: &mut Vec<u8>) -> Result<(), AllocError>
+    ensures { OnOk result (answer.new.items
+        ≡ answer.old.items ++ tabs (ancestors_of path.entry.bytes.now)) }
+{
+    push_list(path.ancestors().map(|path| path.as_unix_str()), answer)
+}
