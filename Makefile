@@ -1,24 +1,35 @@
 PREFIX ?= /usr/local
 PROGRAM = crates/pathtool/out/pathtool
+SOURCES := $(shell find crates.txt crates -name out -prune -o \
+	\( -name '*.rt' -o -name '*.antt' -o -name crates.txt \) -print)
 
-.PHONY: help run test check install
+.PHONY: help run check test install
 
 help:
-	@echo 'make run               proves and builds pathtool, and runs it on standard input'
-	@echo 'make test              the gate: every proof, test and vector, from nothing'
-	@echo 'make check             proves all crates while editing'
-	@echo 'make install PREFIX=.. puts the built pathtool into PREFIX/bin'
+	@echo 'make run      runs pathtool on standard input; proves and builds it first, which'
+	@echo '              takes some four minutes on four cores, and later only after a change'
+	@echo 'make check    proves all crates, and then only what changed; some five minutes'
+	@echo 'make test     the gate: every proof, test, wrong body and vector, from nothing;'
+	@echo '              docs/PROOFS.md says how long that takes'
+	@echo 'make install  puts the program and its manual page below PREFIX (/usr/local),'
+	@echo '              proved and built first'
+	@echo 'Each needs rt, the command of the Rattle toolchain: '"$$(cat rattle-toolchain)"
 
-run:
-	@tools/build
+# Proofs are told on standard error, so that standard output holds the answers alone.
+$(PROGRAM): $(SOURCES)
+	@tools/prove pathtool >&2
+
+run: $(PROGRAM)
 	@$(PROGRAM)
+
+check:
+	@tools/prove
 
 test:
 	@tools/test
 
-check:
-	@rt all check
-
-install:
-	@tools/build
-	@install -D -m 755 $(PROGRAM) $(PREFIX)/bin/pathtool
+install: $(PROGRAM)
+	@install -D -m 755 $(PROGRAM) $(DESTDIR)$(PREFIX)/bin/pathtool
+	@install -D -m 644 man/pathtool.1 $(DESTDIR)$(PREFIX)/share/man/man1/pathtool.1
+	@echo 'installed $(DESTDIR)$(PREFIX)/bin/pathtool'
+	@echo 'installed $(DESTDIR)$(PREFIX)/share/man/man1/pathtool.1'
