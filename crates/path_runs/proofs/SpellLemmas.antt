@@ -4,17 +4,13 @@ use Rattle.std.proofs.Common.{refl, sym, ap, ap₂, subst, ◌∙◌}
 use Rattle.std.specs.List.{slice_split, join_with_byte}
 use Rattle.std.specs.Str.{bytes_eq}
 use Rattle.std.proofs.lemmas.Slice.Eq.{bytes_eq-Decides}
-use Rattle.unix_path.specs.Parts.{is_slash, slash, cur_dir, parent_dir, Value, RootDir, CurDir}
-use Rattle.unix_path.specs.Parts.{ParentDir, Normal, value_of_piece, value_bytes, is_rooted}
+use Rattle.unix_path.specs.Parts.{is_slash, slash, cur_dir, Value, RootDir, CurDir}
+use Rattle.unix_path.specs.Parts.{value_of_piece, value_bytes, is_rooted}
 use Rattle.unix_path.specs.Parts.{counts, values}
-use Rattle.unix_path.proofs.CaseLemmas.{by_test}
+use Rattle.unix_path.proofs.RootLemmas.{no_root_piece}
+use Rattle.unix_path.proofs.StemLemmas.{value_bytes-piece}
 use Rattle.path_runs.specs.Spelling.{row_of, spelling_of}
 use Rattle.path_runs.proofs.PieceValueLemmas.{names_of, values-rooted, values-rootless}
-
-value_bytes-piece : (p : List ℕ) → value_bytes (value_of_piece p) ≡ p
-value_bytes-piece p =
-    by_test (bytes_eq p parent_dir) (λ e. rw e (sym ((bytes_eq-Decides p parent_dir).0 e)))
-    (λ e. rw e refl)
 
 bytes_of_pieces : (ps : List (List ℕ)) → map value_bytes (map value_of_piece ps) ≡ ps
 bytes_of_pieces [] = refl
@@ -42,19 +38,11 @@ spelling_of-nil : spelling_of [] ≡ []
 unfolding spelling_of
 spelling_of-nil = refl
 
--- no piece is the root
-piece_no_root : (p : List ℕ) → value_of_piece p ≡ RootDir → ⊥
-piece_no_root p = by (bytes_eq p parent_dir) refl
-  where
-    by : (c : Bool) → bytes_eq p parent_dir ≡ c → cond c ParentDir (Normal p) ≡ RootDir → ⊥
-    by true e h = cc
-    by false e h = cc
-
 spelling_of-pieces : (ps : List (List ℕ))
     → spelling_of (map value_of_piece ps) ≡ row_of (map value_of_piece ps)
 spelling_of-pieces [] = spelling_of-nil
 spelling_of-pieces (p ∷ ps) =
-    spelling_of-cons (value_of_piece p) (map value_of_piece ps) (piece_no_root p)
+    spelling_of-cons (value_of_piece p) (map value_of_piece ps) (no_root_piece p)
 
 pub spelling_of-rooted : (t : List ℕ)
     → spelling_of (values (slash ∷ t)) ≡ slash ∷ join_with_byte slash

@@ -20,7 +20,8 @@ abbrev pub NoRoot : List Value → Type 0
 NoRoot [] = Unit {0}
 NoRoot (v ∷ vs) = (v ≡ RootDir → ⊥) × NoRoot vs
 
-no_root_piece : (p : List ℕ) → value_of_piece p ≡ RootDir → ⊥
+-- no piece is the root
+pub no_root_piece : (p : List ℕ) → value_of_piece p ≡ RootDir → ⊥
 no_root_piece p =
     by_test (bytes_eq p parent_dir) (λ e. rw e (λ h. cc)) (λ e. rw e (λ h. cc))
 

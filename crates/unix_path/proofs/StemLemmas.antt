@@ -26,7 +26,8 @@ use Rattle.unix_path.proofs.SpanLemmas.{length-rest_whole, parts_end-append}
 abbrev IsSized : Part → Type 0
 IsSized p = p.end ≡ p.start + length (value_bytes p.value)
 
-value_bytes-piece : (p : List ℕ) → value_bytes (value_of_piece p) ≡ p
+-- a piece is its value's bytes
+pub value_bytes-piece : (p : List ℕ) → value_bytes (value_of_piece p) ≡ p
 value_bytes-piece p = by_test (bytes_eq p parent_dir)
     (λ e. rw e (sym ((bytes_eq-Decides p parent_dir).0 e))) (λ e. rw e refl)
 
