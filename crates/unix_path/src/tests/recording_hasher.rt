@@ -10,6 +10,7 @@ pub struct RecordingHasher {
 }
 
 impl RecordingHasher {
+    /// A hasher that was fed nothing yet. Does not allocate.
     pub fn new() -> RecordingHasher {
         RecordingHasher {
             bytes: [0; 64],
