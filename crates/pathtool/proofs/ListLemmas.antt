@@ -1,11 +1,15 @@
 -- Lists of items with tabs between them.
-use Rattle.std.proofs.Common.{◌≡◌, ℕ, false, List, [], ◌∷◌, ◌++◌, map, Option, Result, Ok, Err}
+use Rattle.std.proofs.Common.{◌≡◌, ℕ, false, List, [], ◌∷◌, ◌++◌, map, length, Option, Some, Result, Ok, Err}
 use Rattle.std.proofs.Common.{OnOk}
 use Rattle.std.proofs.Common.{refl, sym, ap, subst, ◌∙◌, append_assoc, if◌then◌else◌}
 use Rattle.std.proofs.lemmas.List.{map-append}
 use Rattle.std.specs.Iterator.{Drains}
 use Rattle.std.proofs.iter.Yields.{gives_Drains}
+use Rattle.std.specs.Iterator.Adapters.{once_item, once_steps}
+use Rattle.std.specs.Option.{option_to_list}
+use Rattle.std.specs.declared.iter.Once.{Once}
 use Rattle.std.proofs.lemmas.Iterator.{YieldsList}
+use Rattle.std.proofs.lemmas.Iterator.Consumers.{YieldsList-from_shown}
 use Rattle.unix_bytes.specs.declared.bytes.UnixStr.{UnixStr}
 use Rattle.pathtool.specs.Fields.{tabs}
 use Rattle.pathtool.specs.Texts.{tab}
@@ -51,3 +55,14 @@ pub adds_list : {T E S : Type 0} (r : Result T E) (new old : List ℕ) {all : Li
 adds_list (Ok x) new old {all} road (names, ran, e) =
     e ∙ ap (λ items. old ++ tabs items) (drained (λ name. name.bytes.now) names all ran road)
 adds_list (Err x) new old road h = tt
+
+-- one name alone
+pub once_yields : {s : Once UnixStr} (name : UnixStr) {bytes : List ℕ} → once_item s ≡ Some name
+    → name.bytes.now ≡ bytes → YieldsList once_steps (λ name. name.bytes.now) s (bytes ∷ [])
+once_yields {s} name e same =
+    let shown = λ (o : Option UnixStr). texts (option_to_list o) in
+    subst (YieldsList once_steps (λ name. name.bytes.now) s)
+    (ap shown e ∙ ap (λ bytes. bytes ∷ []) same)
+    (YieldsList-from_shown once_steps (λ name. name.bytes.now) (λ s. shown (once_item s))
+    (λ s t h. ap (λ o. length (shown o)) (sym h.0))
+    (λ s x t h. ap shown (sym h.0) ∙ ap (λ o. x.bytes.now ∷ shown o) (sym h.1)) s)

@@ -35,24 +35,29 @@ abbrev pub has_none : List UnixStr → Bool
 has_none [] = true
 has_none (name ∷ names) = false
 
--- the bytes of each of these parts, with a tab before it
-abbrev pub parts_behind : List Component → List ℕ
-parts_behind parts = flat_map (λ part. tab ∷ value_bytes (value_of part)) parts
+-- the bytes of these parts
+abbrev pub part_texts : List Component → List (List ℕ)
+part_texts parts = map (λ part. value_bytes (value_of part)) parts
 
--- what a walk took, as it is answered
-abbrev pub walked_text : Walked → List ℕ
-walked_text walked =
-    ((((decimal (length walked.front.items) ++ tab ∷ []) ++ decimal (length walked.behind.items))
-    ++ parts_behind walked.front.items) ++ tab ∷ walked.rest.bytes.now)
-    ++ parts_behind walked.behind.items
+-- how many parts a walk took at each end, with a tab behind each count
+abbrev pub counts_text : Walked → List ℕ
+counts_text walked =
+    ((decimal (length walked.front.items) ++ tab ∷ []) ++ decimal (length walked.behind.items))
+    ++ tab ∷ []
 
--- the answer to these turns of a path
-abbrev pub walk_of : List ℕ → List Turn → List ℕ
+-- the items of what is answered of a walk: two counts, the parts in front, the rest, those behind
+abbrev pub walked_texts : Walked → List (List ℕ)
+walked_texts walked =
+    decimal (length walked.front.items) ∷ decimal (length walked.behind.items)
+    ∷ (part_texts walked.front.items ++ walked.rest.bytes.now ∷ part_texts walked.behind.items)
+
+-- the items of the answer to these turns of a path
+abbrev pub walk_of : List ℕ → List Turn → List (List ℕ)
 walk_of path turns =
     let parts = part_bytes path in
     let k = front_turns (length parts) turns in
     let m = back_turns (length parts) turns in
-    tabs (decimal k ∷ decimal m ∷ (take k parts ++ rest path k m ∷ take m (reverse parts)))
+    decimal k ∷ decimal m ∷ (take k parts ++ rest path k m ∷ take m (reverse parts))
 
 -- an edit before others, where both are known
 abbrev pub edit_before : Option EditValue → Option (List EditValue) → Option (List EditValue)

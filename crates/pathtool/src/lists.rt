@@ -23,7 +23,7 @@ fn push_item(item: &[u8], is_first: bool, answer: &mut Vec<u8>) -> Result<(), Al
 }
 
 // Adds the items, with a tab between two of them.
-fn push_list<'a, I: Iterator<Item = UnixStr<'a>>>(
+pub(crate) fn push_list<'a, I: Iterator<Item = UnixStr<'a>>>(
     items: I,
     answer: &mut Vec<u8>,
 ) -> Result<(), AllocError>

@@ -2,12 +2,15 @@
 ghost use Rattle.std.specs.Prelude.{◌≡◌, ◌++◌, OnOk, IfOk, is_some};
 ghost use Rattle.std.specs.Fmt.{decimal};
 ghost use Rattle.std.specs.List.{filter_map, list_all};
-ghost use Rattle.pathtool.specs.Texts.{parts_behind, walked_text};
+ghost use Rattle.pathtool.specs.Fields.{tabs};
+ghost use Rattle.pathtool.specs.Texts.{counts_text, walked_texts};
 ghost use Rattle.pathtool.specs.Walks.{turn_of, walk_answer};
 
+use crate::lists::push_list;
 use path_runs::walk::walk;
 use path_runs::{Turn, Walked};
 use std::alloc::{AllocError, Global};
+use std::iter::once;
 use unix_path::{Component, Path};
 
 // The turn that the letter stands for, if any.
@@ -46,28 +49,29 @@ fn push_count(count: usize, answer: &mut Vec<u8>) -> Result<(), AllocError>
     answer.extend_from_slice(text.as_bytes())
 }
 
-// Adds the bytes of each part that was taken, with a tab before it.
-fn push_taken(parts: &[Component<'_>], answer: &mut Vec<u8>) -> Result<(), AllocError>
-    ensures { OnOk result (answer.new.items ≡ answer.old.items ++ parts_behind parts.now) }
+// Adds how many parts a walk took at each end, with a tab behind each count.
+fn push_counts(walked: &Walked<'_>, answer: &mut Vec<u8>) -> Result<(), AllocError>
+    ensures { OnOk result (answer.new.items ≡ answer.old.items ++ counts_text walked.now) }
 {
-    for part in parts {
-        answer.push(b'\t')?;
-        answer.extend_from_slice(part.as_unix_str().as_bytes())?;
-    }
+    push_count(walked.front.len(), answer)?;
+    answer.push(b'\t')?;
+    push_count(walked.behind.len(), answer)?;
+    answer.push(b'\t')?;
     Ok(())
 }
 
 // Adds what a walk took, and what it left between.
 fn push_walked(walked: &Walked<'_>, answer: &mut Vec<u8>) -> Result<(), AllocError>
-    ensures { OnOk result (answer.new.items ≡ answer.old.items ++ walked_text walked.now) }
+    ensures { OnOk result (answer.new.items
+        ≡ answer.old.items ++ tabs (walked_texts walked.now)) }
 {
-    push_count(walked.front.len(), answer)?;
-    answer.push(b'\t')?;
-    push_count(walked.behind.len(), answer)?;
-    push_taken(walked.front.as_slice(), answer)?;
-    answer.push(b'\t')?;
-    answer.extend_from_slice(walked.rest.as_unix_str().as_bytes())?;
-    push_taken(walked.behind.as_slice(), answer)
+    push_counts(walked, answer)?;
+    let front = walked.front.iter().map(|part| part.as_unix_str());
+    let behind = walked.behind.iter().map(|part| part.as_unix_str());
+    push_list(
+        front.chain(once(walked.rest.as_unix_str())).chain(behind),
+        answer,
+    )
 }
 
 /// Adds what the turns take of the path to `answer`, as a list.

@@ -1,8 +1,9 @@
 use Rattle.std.proofs.Common.{sym, ◌∙◌, ap}
+use Rattle.pathtool.specs.Fields.{tabs}
 use Rattle.pathtool.specs.Texts.{walk_of}
 use Rattle.pathtool.proofs.AddedLemmas.{added}
 use Rattle.pathtool.proofs.ListLemmas.{adds}
-use Rattle.pathtool.proofs.TakenLemmas.{walked_text-walk_of, walk_answer-bad, walk_answer-turns}
+use Rattle.pathtool.proofs.TakenLemmas.{walked_texts-walk_of, walk_answer-bad, walk_answer-turns}
 use Rattle.pathtool.proofs.walks.push_walk.Goals as goal
 
 pub returns-then-not-are_turns : goal.returns-then-not-are_turns
@@ -18,9 +19,9 @@ returns c =
     let turns = c.as_slice.ensures.value ∙ c.in_ok-turns.ensures in
     let walked = c.in_ok-walked.ensures in
     adds c.push_walked.result _ _
-    (walked_text-walk_of path c.as_slice.result.now c.in_ok-walked.walked walked.front walked.rest
-    walked.behind
-    ∙ ap (walk_of path) turns
+    (ap tabs (walked_texts-walk_of path c.as_slice.result.now c.in_ok-walked.walked walked.front
+    walked.rest walked.behind
+    ∙ ap (walk_of path) turns)
     ∙ walk_answer-turns path c.args.letters.now
     (sym c.are_turns.ensures ∙ c.if-not-are_turns.false))
     c.push_walked.ensures
