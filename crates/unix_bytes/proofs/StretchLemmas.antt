@@ -4,7 +4,7 @@ use Rattle.std.proofs.Common.{slice_index, get_or-drop, add-zero, ⊎_elim, inr,
 use Rattle.std.proofs.Common.{eqb, true, le_refl, arith, length-drop}
 use Rattle.std.proofs.lemmas.Bool.{eqb-true}
 use Rattle.std.specs.Str.{IsAscii, IsUtf8}
-use Rattle.std.proofs.lemmas.List.{take_all, drop-drop}
+use Rattle.std.proofs.lemmas.List.{take_all, take_rest, drop-drop}
 use Rattle.std.proofs.lemmas.Str.{IsUtf8-from_ascii}
 use Rattle.std.proofs.Math.Seq.{take-add}
 use Rattle.unix_bytes.specs.Utf8.{is_sequence, IsSequence, IsText}
@@ -118,14 +118,19 @@ pub record TextBefore (s r : List ℕ) : Type 0 where
   pub rest : r ≡ drop (place_of s r) s
   pub text : IsText (take (place_of s r) s)
 
+-- the slice of the bytes from the n-th on, as its bounds say it
+abbrev pub slice_from : ℕ → List ℕ → List ℕ
+slice_from n s = take (length s - n) (drop n s)
+
 -- what follows a stretch of text stands where it should, and behind text
-pub text_before : (s r t : List ℕ) (n : ℕ) → TextBefore s r → n ≤ length r → IsText (take n r)
-    → t ≡ drop n r → TextBefore s t
-text_before s r t n h bound here e =
+pub text_before : (s r : List ℕ) (n : ℕ) → TextBefore s r → n ≤ length r → IsText (take n r)
+    → TextBefore s (slice_from n r)
+text_before s r n h bound here =
     let w = h.within in
     let i = place_of s r in
+    let e = take_rest r n in
     let l = ap length e ∙ length-drop n r in
-    let place : place_of s t ≡ i + n = omega (arith, l) in
+    let place : place_of s (slice_from n r) ≡ i + n = omega (arith, l) in
     let more = after_text s r i h.rest h.text n (omega arith) bound here in
     record {
       within = omega (arith, l);
@@ -134,18 +139,18 @@ text_before s r t n h bound here e =
     }
 
 -- what follows a sequence, whose length is known as n and as k, stands where it should
-pub sequence_before : (s r t : List ℕ) (n k : ℕ) → TextBefore s r
-    → (0 < n) × (n ≡ longest_len is_sequence r) → n ≡ k → t ≡ drop k r → TextBefore s t
-sequence_before s r t n k h (some, is) same e =
+pub sequence_before : (s r : List ℕ) (n k : ℕ) → TextBefore s r
+    → (0 < n) × (n ≡ longest_len is_sequence r) → n ≡ k → TextBefore s (slice_from k r)
+sequence_before s r n k h (some, is) same =
     let here = subst (λ j. IsText (take j r)) same (sequence_is_text r n some is) in
-    text_before s r t k h (omega (arith, same, is, sequence_within r)) here e
+    text_before s r k h (omega (arith, same, is, sequence_within r)) here
 
 -- what follows a sequence and then a stretch of text stands where it should
-pub sequences_before : (s r t u : List ℕ) (n k m : ℕ) → TextBefore s r
-    → (0 < n) × (n ≡ longest_len is_sequence r) → n ≡ k → t ≡ drop k r
-    → m ≤ length t → IsText (take m t) → u ≡ drop m t → TextBefore s u
-sequences_before s r t u n k m h found same e bound here f =
-    text_before s t u m (sequence_before s r t n k h found same e) bound here f
+pub sequences_before : (s r : List ℕ) (n k m : ℕ) → TextBefore s r
+    → (0 < n) × (n ≡ longest_len is_sequence r) → n ≡ k → m ≤ length (slice_from k r)
+    → IsText (take m (slice_from k r)) → TextBefore s (slice_from m (slice_from k r))
+sequences_before s r n k m h found same bound here =
+    text_before s (slice_from k r) m (sequence_before s r n k h found same) bound here
 
 -- what is broken in the rest ends the text
 pub broken_rest : (s r : List ℕ) (n : ℕ) → TextBefore s r → (0 < n) × (n ≡ broken_len r)

@@ -1,5 +1,4 @@
 use Rattle.std.proofs.Common.{sym, arith}
-use Rattle.std.proofs.lemmas.List.{take_rest}
 use Rattle.unix_bytes.proofs.StepLemmas.{four_byte_sequence}
 use Rattle.unix_bytes.proofs.StretchLemmas.{sequence_is_text, text_before}
 use Rattle.unix_bytes.proofs.utf8.scans.quads_len.Goals as goal
@@ -8,5 +7,5 @@ pub loop-rest-preserved : goal.loop-rest-preserved
 loop-rest-preserved c =
     let r = c.loop-rest.rest.now in
     let begun = c.begins_four.ensures.0 c.if-begins_four.true in
-    text_before c.args.source.now r _ 4 c.loop-rest.invariant begun.0
-    (sequence_is_text r 4 (omega arith) (sym (four_byte_sequence r begun))) (take_rest r 4)
+    text_before c.args.source.now r 4 c.loop-rest.invariant begun.0
+    (sequence_is_text r 4 (omega arith) (sym (four_byte_sequence r begun)))

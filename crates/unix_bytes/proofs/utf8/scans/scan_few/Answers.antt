@@ -1,36 +1,29 @@
 use Rattle.std.proofs.Common.{length, sym, ◌∙◌, refl, le_refl}
-use Rattle.std.proofs.lemmas.List.{take_rest}
-use Rattle.unix_bytes.proofs.StretchLemmas.{ascii_is_text, text_before, sequence_before}
-use Rattle.unix_bytes.proofs.StretchLemmas.{sequences_before}
-use Rattle.unix_bytes.proofs.StretchLemmas.{broken_rest, no_rest, none_at_end}
+use Rattle.unix_bytes.proofs.StretchLemmas.{ascii_is_text, text_before, sequence_before, no_rest}
+use Rattle.unix_bytes.proofs.StretchLemmas.{sequences_before, broken_rest, none_at_end}
 use Rattle.unix_bytes.proofs.utf8.scans.scan_few.Goals as goal
 
 pub loop-rest-preserved-then-rest-lt128 : goal.loop-rest-preserved-then-rest-lt128
 loop-rest-preserved-then-rest-lt128 c =
     let prefix = c.ascii_prefix_len.ensures in
-    text_before c.args.source.now _ _ _ c.loop-rest.invariant prefix.bound
-    (ascii_is_text _ prefix.ascii) (take_rest c.loop-rest.rest.now c.ascii_prefix_len.result)
+    text_before c.args.source.now _ _ c.loop-rest.invariant prefix.bound
+    (ascii_is_text _ prefix.ascii)
 
 pub loop-rest-preserved-in-Ok-eq2 : goal.loop-rest-preserved-in-Ok-eq2
 loop-rest-preserved-in-Ok-eq2 c =
-    let found = c.in-Ok-eq2 in
     let pairs = c.pairs_len.ensures in
-    sequences_before c.args.source.now _ _ _ _ 2 _ c.loop-rest.invariant found.ensures.sequence
-    found.field-0-test (take_rest c.loop-rest.rest.now 2) pairs.bound pairs.text
-    (take_rest _ c.pairs_len.result)
+    sequences_before c.args.source.now _ _ 2 _ c.loop-rest.invariant
+    c.in-Ok-eq2.ensures.sequence c.in-Ok-eq2.field-0-test pairs.bound pairs.text
 
 pub loop-rest-preserved-in-Ok-eq4 : goal.loop-rest-preserved-in-Ok-eq4
 loop-rest-preserved-in-Ok-eq4 c =
-    let found = c.in-Ok-eq4 in
     let quads = c.quads_len.ensures in
-    sequences_before c.args.source.now _ _ _ _ 4 _ c.loop-rest.invariant found.ensures.sequence
-    found.field-0-test (take_rest c.loop-rest.rest.now 4) quads.bound quads.text
-    (take_rest _ c.quads_len.result)
+    sequences_before c.args.source.now _ _ 4 _ c.loop-rest.invariant
+    c.in-Ok-eq4.ensures.sequence c.in-Ok-eq4.field-0-test quads.bound quads.text
 
 pub loop-rest-preserved : goal.loop-rest-preserved
 loop-rest-preserved c =
-    sequence_before c.args.source.now _ _ _ c.in-Ok.size c.loop-rest.invariant
-    c.in-Ok.ensures.sequence refl (take_rest c.loop-rest.rest.now c.in-Ok.size)
+    sequence_before c.args.source.now _ _ _ c.loop-rest.invariant c.in-Ok.ensures.sequence refl
 
 pub returns-in-Err-clause-text : goal.returns-in-Err-clause-text
 returns-in-Err-clause-text c =
