@@ -1,12 +1,16 @@
 -- Edits that fields name, one after the other.
-use Rattle.std.proofs.Common.{◌≡◌, ℕ, ◌+◌, ◌<◌, ◌≤◌, List, [], ◌∷◌, ◌++◌, length, get_or, drop}
-use Rattle.std.proofs.Common.{Option, Some, None, option_map, is_some, refl, sym, ap, ◌∙◌}
+use Rattle.std.proofs.Common.{◌≡◌, ℕ, ◌+◌, ◌<◌, List, [], ◌∷◌, ◌++◌, length, get_or, drop}
+use Rattle.std.proofs.Common.{Option, Some, None, option_map, is_some, refl, sym, ap, ap₂, ◌∙◌}
+use Rattle.std.proofs.Common.{arith, map}
 use Rattle.std.proofs.Common.{Bool, true, false, ◌&&◌, if◌then◌else◌}
 use Rattle.std.specs.List.{cons_option, filter_map, list_all}
 use Rattle.std.proofs.Common.{append-nil, append_assoc}
-use Rattle.std.proofs.lemmas.List.{at_drop_more, at_drop_all}
+use Rattle.std.proofs.lemmas.List.{at_drop_more, at_drop_all, length_push, map-append}
 use Rattle.unix_path.proofs.CaseLemmas.{by_test}
 use Rattle.path_runs.specs.EditLists.{EditValue}
+use Rattle.path_runs.specs.EditViews.{edit_value}
+use Rattle.path_runs.specs.declared.edits.Edit.{Edit}
+use Rattle.pathtool.proofs.LoopLemmas.{IsStep}
 use Rattle.pathtool.specs.EditFields.{edit_of_field, edit_answer}
 use Rattle.pathtool.specs.Texts.{edit_before, edits_of_fields, edited_answer}
 
@@ -20,33 +24,54 @@ map_before : (done : List EditValue) (edit : EditValue) (o : Option (List EditVa
 map_before done edit None = refl
 map_before done edit (Some edits) = ap Some (sym (append_assoc done (edit ∷ []) edits))
 
--- the field at a place names an edit
-pub edits_then-more : (done : List EditValue) (edit : EditValue) (fields : List (List ℕ)) (n : ℕ)
-    (field : List ℕ) → (n < length fields) × (field ≡ get_or fields n field)
-    → edit_of_field field ≡ Some edit
-    → edits_then done (drop n fields) ≡ edits_then (done ++ edit ∷ []) (drop (n + 1) fields)
-edits_then-more done edit fields n field h e =
+-- the field at a place names an edit, or none
+edits_then-next : (done : List EditValue) (fields : List (List ℕ)) (n : ℕ) (field : List ℕ)
+    (said : Option EditValue) → (n < length fields) × (field ≡ get_or fields n field)
+    → said ≡ edit_of_field field → edits_then done (drop n fields)
+    ≡ option_map (λ edits. done ++ edits)
+    (edit_before said (edits_of_fields (drop (n + 1) fields)))
+edits_then-next done fields n field said h e =
     at_drop_more (edits_then done) fields n field h.0
     ∙ ap (λ said. option_map (λ edits. done ++ edits)
     (edit_before said (edits_of_fields (drop (n + 1) fields))))
-    (ap edit_of_field (sym h.1) ∙ e)
-    ∙ map_before done edit (edits_of_fields (drop (n + 1) fields))
+    (ap edit_of_field (sym h.1) ∙ sym e)
 
--- the field at a place names none
-pub edits_then-bad : (done : List EditValue) (fields : List (List ℕ)) (n : ℕ) (field : List ℕ)
-    → (n < length fields) × (field ≡ get_or fields n field) → edit_of_field field ≡ None
-    → edits_then done (drop n fields) ≡ None
-edits_then-bad done fields n field h e =
-    at_drop_more (edits_then done) fields n field h.0
-    ∙ ap (λ said. option_map (λ edits. done ++ edits)
-    (edit_before said (edits_of_fields (drop (n + 1) fields))))
-    (ap edit_of_field (sym h.1) ∙ e)
+-- the edits so far, and then those that the fields left name, are all
+module _ {A : Type 0} (shown : A → List ℕ) (fields : List (List ℕ)) (taken : List A)
+    (edits : List Edit) (so_far : edits_then (map edit_value edits) (drop (length taken) fields)
+    ≡ edits_of_fields fields) where
+  -- the next field names an edit
+  pub edits_then-more : (field : A) (edit : Edit) (found : Option Edit) (more : List Edit)
+      → IsStep shown fields taken (Some field) → found ≡ Some edit
+      → option_map edit_value found ≡ edit_of_field (shown field) → more ≡ edits ++ edit ∷ []
+      → edits_then (map edit_value more) (drop (length (taken ++ field ∷ [])) fields)
+      ≡ edits_of_fields fields
+  edits_then-more field edit found more h is e pushed =
+      let done = map edit_value edits in
+      let left = drop (length taken + 1) fields in
+      ap₂ (λ done n. edits_then done (drop n fields))
+      (ap (map edit_value) pushed ∙ map-append edit_value edits (edit ∷ []))
+      (length_push taken field)
+      ∙ sym (edits_then-next done fields (length taken) (shown field)
+      (Some (edit_value edit)) h (sym (ap (option_map edit_value) is) ∙ e)
+      ∙ map_before done (edit_value edit) (edits_of_fields left))
+      ∙ so_far
 
--- no field is left
-pub edits_then-all : (done : List EditValue) (fields : List (List ℕ)) (n : ℕ) → length fields ≤ n
-    → edits_then done (drop n fields) ≡ Some done
-edits_then-all done fields n e =
-    at_drop_all (edits_then done) fields n e ∙ ap Some (append-nil done)
+  -- the next field names none
+  pub edits_then-bad : (field : A) (found : Option Edit) → IsStep shown fields taken (Some field)
+      → found ≡ None → option_map edit_value found ≡ edit_of_field (shown field)
+      → None ≡ edits_of_fields fields
+  edits_then-bad field found h is e =
+      sym (edits_then-next (map edit_value edits) fields (length taken) (shown field) None h
+      (sym (ap (option_map edit_value) is) ∙ e)) ∙ so_far
+
+  -- no field is left
+  pub edits_then-all : IsStep shown fields taken None
+      → Some (map edit_value edits) ≡ edits_of_fields fields
+  edits_then-all h =
+      let done = map edit_value edits in
+      sym (at_drop_all (edits_then done) fields (length taken) (omega (arith, h))
+      ∙ ap Some (append-nil done)) ∙ so_far
 
 -- each of these fields names an edit
 abbrev are_edits : List (List ℕ) → Bool

@@ -6,7 +6,7 @@ pub mod BeginLemmas
 pub mod QuotedLemmas
 pub mod SaidLemmas
 pub mod AddedLemmas
+pub mod LoopLemmas
 pub mod FieldLemmas
 pub mod WordLemmas
-pub mod LoopLemmas
 pub mod TakenLemmas

@@ -1,11 +1,8 @@
-use Rattle.std.proofs.Common.{◌≡◌, ◌∷◌, [], None, map, option_map, drop, length, ap, ap₂, sym}
-use Rattle.std.proofs.Common.{◌∙◌, arith, rules, tests}
+use Rattle.std.proofs.Common.{rules, tests}
 use Rattle.std.proofs.lemmas.Iterator.Splits.{YieldsList-from_slice_split}
 use Rattle.std.proofs.lemmas.Iterator.Consumers.{YieldsList-at}
-use Rattle.std.proofs.lemmas.List.{length_push, map-append}
-use Rattle.path_runs.specs.EditViews.{edit_value}
 use Rattle.pathtool.specs.Fields.{fields_of}
-use Rattle.pathtool.proofs.FieldLemmas.{edits_then, edits_then-more, edits_then-bad, edits_then-all}
+use Rattle.pathtool.proofs.FieldLemmas.{edits_then-more, edits_then-bad, edits_then-all}
 use Rattle.pathtool.proofs.SplitLemmas.{is_tab}
 use Rattle.pathtool.proofs.LoopLemmas.{IsStep, step_of}
 use Rattle.pathtool.proofs.edits.edits_from.Goals as goal
@@ -23,29 +20,17 @@ field_step c =
 
 pub returns-in_default : goal.returns-in_default
 returns-in_default c =
-    let none : c.edit_from.result ≡ None = search rules in
-    sym (edits_then-bad (map edit_value c.loop-field.edits.items) (fields_of c.args.fields.now)
-    (length c.loop-field.yielded) c.in-Some.field.now
-    (rw c.in-Some.is at (field_step (goal.at.returns-in_default c).After-next))
-    (sym c.edit_from.ensures ∙ ap (option_map edit_value) none))
-    ∙ c.loop-field.invariant
+    edits_then-bad (λ x. x.now) _ _ _ c.loop-field.invariant c.in-Some.field c.edit_from.result
+    (rw c.in-Some.is at (field_step (goal.at.returns-in_default c).After-next)) (search rules)
+    c.edit_from.ensures
 
 pub loop-field-preserved : goal.loop-field-preserved
 loop-field-preserved c =
-    let items = c.loop-field.edits.items in
-    let edit = c.in-Some-edit_from.edit in
-    ap₂ (λ done n. edits_then done (drop n (fields_of c.args.fields.now)))
-    (ap (map edit_value) c.in_ok-push.ensures.items ∙ map-append edit_value items (edit ∷ []))
-    (length_push c.loop-field.yielded c.in-Some.field)
-    ∙ sym (edits_then-more (map edit_value items) (edit_value edit) (fields_of c.args.fields.now)
-    (length c.loop-field.yielded) c.in-Some.field.now
+    edits_then-more (λ x. x.now) _ _ _ c.loop-field.invariant _ _ _ _
     (rw c.in-Some.is at (field_step (goal.at.loop-field-preserved c).After-next))
-    (sym c.edit_from.ensures ∙ ap (option_map edit_value) c.in-Some-edit_from.is))
-    ∙ c.loop-field.invariant
+    c.in-Some-edit_from.is c.edit_from.ensures c.in_ok-push.ensures.items
 
 pub returns : goal.returns
 returns c =
-    let all = rw c.in-None.is at (field_step (goal.at.returns c).After-next) in
-    sym (edits_then-all (map edit_value c.loop-field.edits.items) (fields_of c.args.fields.now) _
-    (omega (arith, all)))
-    ∙ c.loop-field.invariant
+    edits_then-all (λ x. x.now) _ _ _ c.loop-field.invariant
+    (rw c.in-None.is at (field_step (goal.at.returns c).After-next))
