@@ -1,7 +1,9 @@
 //! Rows of the calls' answers, and what no clause says.
 mod buffers;
 mod display;
+mod edits;
 mod json;
+mod kept_order;
 mod kept_paths;
 mod names;
 mod order;

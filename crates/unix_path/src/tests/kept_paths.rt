@@ -1,29 +1,15 @@
-//! Rows of boxed, shared, and borrowed or owned paths, and what a caller proves of them.
-ghost use Rattle.std.specs.Prelude.{◌≡◌, ◌↔◌, IsTrue, IsOk, IfOk};
+//! Rows of what boxed, shared, and borrowed or owned paths are made of, and what a caller proves
+//! of them.
+ghost use Rattle.std.specs.Prelude.{◌≡◌, IsOk, IfOk};
 ghost use Rattle.unix_path.specs.Buffers.{path_bytes};
-ghost use Rattle.unix_path.specs.Kept.{boxed_bytes, cow_bytes};
-ghost use Rattle.unix_path.specs.Parts.{SameValues};
 
-use super::recording_hasher::RecordingHasher;
+use super::views::path;
 use crate::bytes::UnixStr;
 use crate::{BoxedPath, CowPath, Path, PathBuf, RcPath};
 use std::alloc::{AllocError, Global};
-use std::cmp::Ordering;
-use std::collections::{BTreeMap, HashMap};
 use std::fmt;
-use std::hash::Hash;
 use std::process::Abort;
 use std::test::Fail;
-
-fn path(text: &str) -> Path<'_> {
-    Path::from_text(text)
-}
-
-fn same_boxed(a: &BoxedPath, b: &BoxedPath) -> bool
-    ensures { IsTrue result ↔ SameValues (boxed_bytes a.now) (boxed_bytes b.now) }
-{
-    *a == *b
-}
 
 // What does not allocate never fails.
 fn rewrap(alloc: Global, buffer: PathBuf) -> Result<PathBuf, AllocError>
@@ -36,93 +22,16 @@ fn rewrap(alloc: Global, buffer: PathBuf) -> Result<PathBuf, AllocError>
 }
 
 // The three owners of a copy of `text`.
-fn owners_of(alloc: Global, text: &str) -> Result<(PathBuf, BoxedPath, RcPath), AllocError> {
+pub(super) fn owners_of(
+    alloc: Global,
+    text: &str,
+) -> Result<(PathBuf, BoxedPath, RcPath), AllocError> {
     let path = path(text);
     Ok((
         path.to_path_buf(alloc)?,
         BoxedPath::from_path(alloc, path)?,
         RcPath::from_path(alloc, path)?,
     ))
-}
-
-fn hash_input<T: Hash>(value: &T) -> RecordingHasher {
-    let mut state = RecordingHasher::new();
-    value.hash(&mut state);
-    state
-}
-
-#[test]
-fn all_types_compare_and_hash_alike(rt: HostRuntime) -> Result<(), Fail> {
-    let alloc = rt.alloc();
-    let (buffer, boxed, shared) = owners_of(alloc, "a//b")?;
-    let cow = CowPath::from(&buffer);
-    let (other_buffer, other_boxed, other_shared) = owners_of(alloc, "a/b")?;
-    let other_cow = CowPath::from(other_buffer.clone()?);
-    for a in [
-        path("a//b"),
-        buffer.as_path(),
-        boxed.as_path(),
-        shared.as_path(),
-        cow.as_path(),
-    ] {
-        assert_eq!(rt; a.as_unix_str(), UnixStr::new("a//b"));
-        for b in [
-            path("a/b"),
-            other_buffer.as_path(),
-            other_boxed.as_path(),
-            other_shared.as_path(),
-            other_cow.as_path(),
-        ] {
-            assert_eq!(rt; b.as_unix_str(), UnixStr::new("a/b"));
-            assert!(rt; a == b && a.cmp(&b) == Ordering::Equal);
-        }
-    }
-    let input = hash_input(&path("a/b"));
-    assert!(rt; input.len > 0);
-    assert!(rt; hash_input(&buffer) == input && hash_input(&other_buffer) == input);
-    assert!(rt; hash_input(&boxed) == input && hash_input(&other_boxed) == input);
-    assert!(rt; hash_input(&shared) == input && hash_input(&other_shared) == input);
-    assert!(rt; hash_input(&cow) == input && hash_input(&other_cow) == input);
-    Ok(())
-}
-
-// `less` comes before the two others, which are equal.
-fn are_ordered<T: Ord>(rt: &impl Abort, less: &T, a: &T, b: &T) {
-    assert!(rt; a == b && less != a);
-    assert!(rt; a.cmp(b) == Ordering::Equal && less.cmp(a) == Ordering::Less);
-    assert!(rt; a.partial_cmp(less) == Some(Ordering::Greater));
-}
-
-#[test]
-fn each_type_is_ordered_by_values(rt: HostRuntime) -> Result<(), Fail> {
-    let alloc = rt.alloc();
-    let less = owners_of(alloc, "a/b")?;
-    let (a, b) = (owners_of(alloc, "a.b//")?, owners_of(alloc, "a.b/.")?);
-    are_ordered(&rt, &less.1, &a.1, &b.1);
-    are_ordered(&rt, &less.2, &a.2, &b.2);
-    let owned = CowPath::from(less.0);
-    are_ordered(
-        &rt,
-        &owned,
-        &CowPath::from(&a.0),
-        &CowPath::from(path("a.b/.")),
-    );
-    assert!(rt; same_boxed(&a.1, &b.1) && !same_boxed(&less.1, &a.1));
-    Ok(())
-}
-
-#[test]
-fn maps_find_equal_paths(rt: HostRuntime) -> Result<(), Fail> {
-    let alloc = rt.alloc();
-    let (_, boxed, shared) = owners_of(alloc, "a//b")?;
-    let (_, equal_boxed, equal_shared) = owners_of(alloc, "a/b/.")?;
-    let mut ordered = BTreeMap::new(alloc);
-    ordered.insert(boxed, 1)?;
-    assert!(rt; ordered.get(&equal_boxed) == Some(&1));
-    let mut hashed = HashMap::new(alloc);
-    hashed.insert(shared, 1)?;
-    assert!(rt; hashed.get(&equal_shared) == Some(&1));
-    Ok(())
 }
 
 #[test]
@@ -133,29 +42,6 @@ fn paths_become_borrowed_or_owned(rt: HostRuntime) -> Result<(), Fail> {
     assert_eq!(rt; cow.as_path(), CowPath::from(buffer.as_path()).as_path());
     assert_eq!(rt; cow.as_path(), CowPath::from(&buffer).as_path());
     assert_eq!(rt; cow.as_path(), CowPath::from(buffer).as_path());
-    Ok(())
-}
-
-#[test]
-fn each_receiver_equals_each(rt: HostRuntime) -> Result<(), Fail> {
-    let alloc = rt.alloc();
-    let borrowed = path("foo/bar");
-    let mut owned = PathBuf::new(alloc);
-    owned.push(path("foo"))?;
-    owned.push(path("bar"))?;
-    let borrowed_cow = CowPath::from(borrowed);
-    let owned_cow = CowPath::from(owned.clone()?);
-    let all = [
-        borrowed,
-        owned.as_path(),
-        borrowed_cow.as_path(),
-        owned_cow.as_path(),
-    ];
-    for current in all {
-        for other in all {
-            assert_eq!(rt; current, other);
-        }
-    }
     Ok(())
 }
 
@@ -197,7 +83,7 @@ fn buffer_with_room(alloc: Global) -> Result<PathBuf, AllocError> {
 }
 
 #[test]
-fn conversions_keep_the_bytes(rt: HostRuntime) -> Result<(), Fail> {
+fn boxed_and_shared_paths_keep_the_bytes(rt: HostRuntime) -> Result<(), Fail> {
     let alloc = rt.alloc();
     let boxed = BoxedPath::from_path_buf(buffer_with_room(alloc)?)?;
     assert_bytes(&rt, boxed.as_path());
@@ -206,26 +92,30 @@ fn conversions_keep_the_bytes(rt: HostRuntime) -> Result<(), Fail> {
     assert_bytes(&rt, boxed.into_path_buf(alloc)?.as_path());
     let shared = RcPath::from_path_buf(alloc, buffer_with_room(alloc)?)?;
     assert_bytes(&rt, shared.clone()?.as_path());
-    let borrowed = CowPath::from(path("foo/"));
-    let owned = CowPath::from(buffer_with_room(alloc)?);
-    assert_bytes(&rt, borrowed.clone()?.as_path());
-    assert_bytes(&rt, owned.clone()?.as_path());
-    assert_bytes(
-        &rt,
-        BoxedPath::from_cow(alloc, borrowed.clone()?)?.as_path(),
-    );
-    assert_bytes(&rt, BoxedPath::from_cow(alloc, owned.clone()?)?.as_path());
-    assert_bytes(&rt, borrowed.into_owned(alloc)?.as_path());
-    assert_bytes(&rt, owned.into_owned(alloc)?.as_path());
+    Ok(())
+}
+
+// What is made of the path has its bytes: a clone, a box, and an owned path.
+fn assert_kept(rt: &impl Abort, alloc: Global, path: CowPath<'_>) -> Result<(), AllocError> {
+    assert_bytes(rt, path.clone()?.as_path());
+    assert_bytes(rt, BoxedPath::from_cow(alloc, path.clone()?)?.as_path());
+    assert_bytes(rt, path.into_owned(alloc)?.as_path());
+    Ok(())
+}
+
+#[test]
+fn borrowed_and_owned_paths_keep_the_bytes(rt: HostRuntime) -> Result<(), Fail> {
+    let alloc = rt.alloc();
+    assert_kept(&rt, alloc, CowPath::from(path("foo/")))?;
+    assert_kept(&rt, alloc, CowPath::from(buffer_with_room(alloc)?))?;
     assert_bytes(&rt, rewrap(alloc, buffer_with_room(alloc)?)?.as_path());
     Ok(())
 }
 
 #[test]
-fn each_conversion_keeps_a_name(rt: HostRuntime) -> Result<(), Fail> {
+fn a_buffer_keeps_a_name(rt: HostRuntime) -> Result<(), Fail> {
     let alloc = rt.alloc();
     let name = UnixStr::new("foo.txt");
-    let view = Path::new(name);
     let buffer = PathBuf::from_unix_str(alloc, name)?;
     assert_eq!(rt; buffer.as_path().as_unix_str(), name);
     let from_text = PathBuf::from_text(alloc, "foo.txt")?;
@@ -234,12 +124,27 @@ fn each_conversion_keeps_a_name(rt: HostRuntime) -> Result<(), Fail> {
     assert_eq!(rt; from_string.as_path().as_unix_str(), name);
     let from_unix_string = PathBuf::from(name.to_unix_string(alloc)?);
     assert_eq!(rt; from_unix_string.as_path().as_unix_str(), name);
-    assert_eq!(rt; view.to_path_buf(alloc)?.as_path().as_unix_str(), name);
-    let boxed = BoxedPath::from_path(alloc, view)?;
+    Ok(())
+}
+
+#[test]
+fn each_owner_keeps_a_name(rt: HostRuntime) -> Result<(), Fail> {
+    let name = UnixStr::new("foo.txt");
+    let (buffer, boxed, shared) = owners_of(rt.alloc(), "foo.txt")?;
+    assert_eq!(rt; buffer.as_path().as_unix_str(), name);
     assert_eq!(rt; boxed.as_path().as_unix_str(), name);
-    let shared = RcPath::from_path(alloc, view)?;
     assert_eq!(rt; shared.as_path().as_unix_str(), name);
-    assert_eq!(rt; CowPath::from(view).as_path().as_unix_str(), name);
+    Ok(())
+}
+
+#[test]
+fn a_borrowed_or_owned_path_keeps_a_name(rt: HostRuntime) -> Result<(), Fail> {
+    let name = UnixStr::new("foo.txt");
+    let buffer = PathBuf::from_unix_str(rt.alloc(), name)?;
+    assert_eq!(rt;
+        CowPath::from(Path::new(name)).as_path().as_unix_str(),
+        name
+    );
     assert_eq!(rt; CowPath::from(&buffer).as_path().as_unix_str(), name);
     assert_eq!(rt; CowPath::from(buffer).as_path().as_unix_str(), name);
     Ok(())

@@ -1,0 +1,236 @@
+//! Rows of pushes, pops, file names and extensions, and of edits that follow one another.
+use super::views::path;
+use crate::{Component, Path, PathBuf};
+use std::alloc::{AllocError, Global};
+use std::process::Abort;
+use std::test::Fail;
+use unix_bytes::bytes::UnixStr;
+
+// Whether the path has these bytes.
+fn has_bytes(found: &PathBuf, wanted: &str) -> bool {
+    found.as_path().as_unix_str() == UnixStr::new(wanted)
+}
+
+pub(super) fn assert_bytes(rt: &impl Abort, found: &PathBuf, wanted: &str) {
+    assert_eq!(rt; found.as_path().as_unix_str(), UnixStr::new(wanted));
+}
+
+static JOINS: [(&str, &str, &str); 18] = [
+    ("", "foo", "foo"),
+    ("foo", "bar", "foo/bar"),
+    ("foo/", "bar", "foo/bar"),
+    ("foo//", "bar", "foo//bar"),
+    ("foo/.", "bar", "foo/./bar"),
+    ("foo./.", "bar", "foo././bar"),
+    ("foo", "", "foo/"),
+    ("foo", ".", "foo/."),
+    ("foo", "..", "foo/.."),
+    ("foo", "/", "/"),
+    ("/foo/bar", "/", "/"),
+    ("/foo/bar", "/baz", "/baz"),
+    ("/foo/bar", "./baz", "/foo/bar/./baz"),
+    ("/etc", "passwd", "/etc/passwd"),
+    ("/tmp", "file.bk", "/tmp/file.bk"),
+    ("/tmp/file.bk", "/etc", "/etc"),
+    ("/tmp", "/etc", "/etc"),
+    ("a", "", "a/"),
+];
+
+// Whether a push makes `new` of `old` in place, and a join a copy.
+fn joins(alloc: Global, old: &str, more: &str, new: &str) -> Result<bool, AllocError> {
+    let mut buffer = PathBuf::from_text(alloc, old)?;
+    buffer.push(path(more))?;
+    let joined = path(old).join(alloc, path(more))?;
+    Ok(has_bytes(&buffer, new) && has_bytes(&joined, new))
+}
+
+#[test]
+fn a_push_joins(rt: HostRuntime) -> Result<(), Fail> {
+    for row in JOINS.iter() {
+        assert!(rt;
+            joins(rt.alloc(), row.0, row.1, row.2)?,
+            "{} {}",
+            row.0,
+            row.1
+        );
+    }
+    Ok(())
+}
+
+static POPS: [(&str, &str, bool); 12] = [
+    ("", "", false),
+    ("/", "/", false),
+    ("foo", "", true),
+    (".", "", true),
+    ("/foo", "/", true),
+    ("/foo/bar", "/foo", true),
+    ("foo/bar", "foo", true),
+    ("foo/.", "", true),
+    ("foo//bar", "foo", true),
+    ("/test/test.rs", "/test", true),
+    ("/test", "/", true),
+    ("foo//bar/.", "foo", true),
+];
+
+// Whether a pop answers so, and leaves `new` of `old`.
+fn pops(alloc: Global, old: &str, new: &str, answer: bool) -> Result<bool, AllocError> {
+    let mut buffer = PathBuf::from_text(alloc, old)?;
+    Ok(buffer.pop() == answer && has_bytes(&buffer, new))
+}
+
+#[test]
+fn a_pop_cuts_to_the_parent(rt: HostRuntime) -> Result<(), Fail> {
+    for row in POPS.iter() {
+        assert!(rt; pops(rt.alloc(), row.0, row.1, row.2)?, "{}", row.0);
+    }
+    Ok(())
+}
+
+static FILE_NAMES: [(&str, &str, &str); 16] = [
+    ("foo", "foo", "foo"),
+    ("foo", "bar", "bar"),
+    ("foo", "", ""),
+    ("", "foo", "foo"),
+    (".", "foo", "./foo"),
+    ("foo/", "bar", "bar"),
+    ("foo/.", "bar", "bar"),
+    ("..", "foo", "../foo"),
+    ("foo/..", "bar", "foo/../bar"),
+    ("/", "foo", "/foo"),
+    ("foo", "/etc", "/etc"),
+    ("/a", "..", "/.."),
+    ("/", "bar", "/bar"),
+    ("/bar", "baz.txt", "/baz.txt"),
+    ("/tmp/foo.txt", "bar.txt", "/tmp/bar.txt"),
+    ("/tmp", "var", "/var"),
+];
+
+// Whether a new file name makes `new` of `old`, in place and as a copy.
+fn takes_name(alloc: Global, old: &str, name: &str, new: &str) -> Result<bool, AllocError> {
+    let mut buffer = PathBuf::from_text(alloc, old)?;
+    buffer.set_file_name(UnixStr::new(name))?;
+    let copied = path(old).with_file_name(alloc, UnixStr::new(name))?;
+    Ok(has_bytes(&buffer, new) && has_bytes(&copied, new))
+}
+
+#[test]
+fn a_file_name_is_replaced_or_added(rt: HostRuntime) -> Result<(), Fail> {
+    for row in FILE_NAMES.iter() {
+        assert!(rt;
+            takes_name(rt.alloc(), row.0, row.1, row.2)?,
+            "{} {}",
+            row.0,
+            row.1
+        );
+    }
+    Ok(())
+}
+
+static EXTENSIONS: [(&str, &str, &str, bool); 19] = [
+    ("foo", "txt", "foo.txt", true),
+    ("foo.bar", "txt", "foo.txt", true),
+    ("foo.bar.baz", "txt", "foo.bar.txt", true),
+    (".test", "txt", ".test.txt", true),
+    ("foo.txt", "", "foo", true),
+    ("foo", "", "foo", true),
+    ("", "foo", "", false),
+    (".", "foo", ".", false),
+    ("foo/", "bar", "foo.bar", true),
+    ("foo/.", "bar", "foo.bar", true),
+    ("..", "foo", "..", false),
+    ("foo/..", "bar", "foo/..", false),
+    ("/", "foo", "/", false),
+    ("...", "", "..", true),
+    ("..foo", "", ".", true),
+    ("a/..foo", "", "a/.", true),
+    ("a", "x/y", "a.x/y", true),
+    ("foo.rs", "txt", "foo.txt", true),
+    ("foo.rs/.", "txt", "foo.txt", true),
+];
+
+// Whether a new extension makes `new` of `old` and answers so; as a copy it makes `new` too.
+fn takes_extension(
+    alloc: Global,
+    old: &str,
+    extension: &str,
+    new: &str,
+    answer: bool,
+) -> Result<bool, AllocError> {
+    let mut buffer = PathBuf::from_text(alloc, old)?;
+    let is_answered = buffer.set_extension(UnixStr::new(extension))? == answer;
+    let copied = path(old).with_extension(alloc, UnixStr::new(extension))?;
+    Ok(is_answered && has_bytes(&buffer, new) && has_bytes(&copied, new))
+}
+
+#[test]
+fn an_extension_is_put_behind_the_stem(rt: HostRuntime) -> Result<(), Fail> {
+    for row in EXTENSIONS.iter() {
+        let is_taken = takes_extension(rt.alloc(), row.0, row.1, row.2, row.3)?;
+        assert!(rt; is_taken, "{} {}", row.0, row.1);
+    }
+    Ok(())
+}
+
+#[test]
+fn a_name_can_become_two_dots(rt: HostRuntime) -> Result<(), Fail> {
+    let mut dots = PathBuf::from_text(rt.alloc(), "...")?;
+    assert!(rt; dots.set_extension(UnixStr::new(""))?);
+    assert!(rt; dots.as_path().file_name().is_none());
+    Ok(())
+}
+
+#[test]
+fn a_name_can_vanish(rt: HostRuntime) -> Result<(), Fail> {
+    let alloc = rt.alloc();
+    let mut hidden = PathBuf::from_text(alloc, "a/..foo")?;
+    assert!(rt; hidden.set_extension(UnixStr::new(""))?);
+    assert_eq!(rt; hidden, PathBuf::from_text(alloc, "a")?);
+    Ok(())
+}
+
+#[test]
+fn an_extension_can_add_a_part(rt: HostRuntime) -> Result<(), Fail> {
+    let alloc = rt.alloc();
+    let mut split = PathBuf::from_text(alloc, "a")?;
+    assert!(rt; split.set_extension(UnixStr::new("x/y"))?);
+    let parts: Vec<Component<'_>> = split.as_path().components().collect(alloc)?;
+    let wanted = [
+        Component::Normal(UnixStr::new("a.x")),
+        Component::Normal(UnixStr::new("y")),
+    ];
+    assert_eq!(rt; parts.as_slice(), wanted.as_slice());
+    Ok(())
+}
+
+#[test]
+fn edits_follow_one_another(rt: HostRuntime) -> Result<(), Fail> {
+    let mut buffer = PathBuf::from_text(rt.alloc(), "/")?;
+    buffer.push(path("feel"))?;
+    buffer.push(path("the"))?;
+    assert!(rt; buffer.set_extension(UnixStr::new("force"))?);
+    assert_bytes(&rt, &buffer, "/feel/the.force");
+    assert!(rt; buffer.set_extension(UnixStr::new("dark_side"))?);
+    assert_bytes(&rt, &buffer, "/feel/the.dark_side");
+    buffer.clear();
+    assert_bytes(&rt, &buffer, "");
+    Ok(())
+}
+
+#[test]
+fn many_paths_are_joined_from_the_left(rt: HostRuntime) -> Result<(), Fail> {
+    let alloc = rt.alloc();
+    let collected = PathBuf::from_iter(alloc, ["/", "feel", "the.force"].iter().map(|s| path(s)))?;
+    assert_bytes(&rt, &collected, "/feel/the.force");
+    Ok(())
+}
+
+#[test]
+fn many_paths_are_pushed_from_the_left(rt: HostRuntime) -> Result<(), Fail> {
+    let mut buffer = PathBuf::from_text(rt.alloc(), "a")?;
+    buffer.extend(["b", "/c", "d"].iter().map(|s| path(s)))?;
+    assert_bytes(&rt, &buffer, "/c/d");
+    let none: [Path<'_>; 0] = [];
+    buffer.extend(none.iter().copied())?;
+    assert_bytes(&rt, &buffer, "/c/d");
+    Ok(())
+}
