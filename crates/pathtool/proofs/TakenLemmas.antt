@@ -59,7 +59,8 @@ reverse-map f (x ∷ xs) =
 part_texts-taken : (parts : List Component) (k : ℕ) (vs : List Value)
     → map value_of parts ≡ take k vs → part_texts parts ≡ take k (map value_bytes vs)
 part_texts-taken parts k vs e =
-    sym (map-map value_bytes value_of parts) ∙ ap (map value_bytes) e ∙ sym (take-map value_bytes k vs)
+    sym (map-map value_bytes value_of parts) ∙ ap (map value_bytes) e
+    ∙ sym (take-map value_bytes k vs)
 
 length-taken : (parts : List Component) (k : ℕ) (vs : List Value) → k ≤ length vs
     → map value_of parts ≡ take k vs → length parts ≡ k
