@@ -1,5 +1,5 @@
-//! Rows of how boxed, shared, and borrowed or owned paths compare and hash, and what a caller proves
-//! of them.
+//! Rows of how boxed, shared, and borrowed or owned paths compare and hash, and what a caller
+//! proves of them.
 ghost use Rattle.std.specs.Prelude.{◌↔◌, IsTrue};
 ghost use Rattle.unix_path.specs.Kept.{boxed_bytes};
 ghost use Rattle.unix_path.specs.Parts.{SameValues};
