@@ -13,6 +13,7 @@ pub mod MiddleLemmas
 pub mod RestLemmas
 pub mod SourceLemmas
 pub mod CursorLemmas
+pub mod EightLemmas
 pub mod WalkLemmas
 pub mod JoinLemmas
 pub mod EndLemmas

@@ -1,16 +1,21 @@
--- What a path feeds a hasher: its values one after the other (Rust's `Hash` of `Path`).
-use Rattle.std.specs.Prelude.{◌++◌, List, pos}
-use Rattle.std.specs.Hash.{HashWrites, isize}
-use Rattle.std.specs.List.{flat_map}
-use Rattle.unix_bytes.specs.Hashed.{name_input}
-use Rattle.unix_path.specs.Parts.{Value, RootDir, CurDir, ParentDir, Normal}
+-- What a path feeds a hasher: its values one after the other. The form is this crate's own.
+use Rattle.std.specs.Prelude.{ℕ, ◌/◌, ◌∷◌, ◌++◌, List, [], length}
+use Rattle.std.specs.Hash.{HashWrites}
+use Rattle.std.specs.List.{flat_map, repeat}
+use Rattle.std.specs.Simd.{first_chunks}
+use Rattle.unix_path.specs.Parts.{Value, slash, value_bytes}
 
--- the value's kind, and then a name's bytes
+-- a slash and seven zeros
+abbrev pub end_mark : List ℕ
+end_mark = slash ∷ repeat 7 (0 ∷ [])
+
+-- the whole eights of these bytes, each in a write
+unfoldable pub in_eights : List ℕ → HashWrites
+in_eights bytes = first_chunks 8 (length bytes / 8) bytes
+
+-- those of the bytes that the value is written as, with the mark behind them
 abbrev pub value_input : Value → HashWrites
-value_input RootDir = isize (pos 0)
-value_input CurDir = isize (pos 1)
-value_input ParentDir = isize (pos 2)
-value_input (Normal name) = isize (pos 3) ++ name_input name
+value_input v = in_eights (value_bytes v ++ end_mark)
 
 -- the values' inputs, one after the other
 abbrev pub hash_input_of : List Value → HashWrites

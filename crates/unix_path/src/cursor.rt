@@ -1,6 +1,7 @@
 //! Walks over the parts of a path, from both ends.
 mod component;
 mod components;
+mod hash;
 mod iter;
 mod parents;
 mod steps;

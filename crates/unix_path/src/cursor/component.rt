@@ -12,7 +12,7 @@ use unix_bytes::bytes::UnixStr;
 /// before `CurDir`, that before `ParentDir` and that before every name; names go by their bytes.
 /// A hasher is fed the kind, and then a name as `UnixStr` feeds it.
 /// As Rust's `Component`, without a prefix.
-#[derive(Clone, Copy, Debug, PartialEq, Eq, PartialOrd, Ord, Hash)]
+#[derive(Clone, Copy, Debug, PartialEq, Eq, PartialOrd, Ord)]
 pub enum Component<'a> {
     /// The root that a path begins with, as in `/tmp`.
     RootDir,

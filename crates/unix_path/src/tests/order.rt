@@ -169,6 +169,40 @@ fn components_and_names(rt: HostRuntime) {
     assert!(rt; same_names(a, a) && !same_names(a, b));
 }
 
+// What paths feed a hasher, counted out by hand: each part, a slash, and zeros up to eight bytes.
+static FED: [(&str, &str); 14] = [
+    ("", ""),
+    ("/", "//\0\0\0\0\0\0"),
+    ("./.", "./\0\0\0\0\0\0"),
+    ("..", "../\0\0\0\0\0"),
+    ("a", "a/\0\0\0\0\0\0"),
+    ("ab", "ab/\0\0\0\0\0"),
+    ("abc", "abc/\0\0\0\0"),
+    ("abcd", "abcd/\0\0\0"),
+    ("abcde", "abcde/\0\0"),
+    ("abcdef", "abcdef/\0"),
+    ("abcdefg", "abcdefg/"),
+    ("abcdefgh", "abcdefgh/\0\0\0\0\0\0\0"),
+    ("/tmp//", "//\0\0\0\0\0\0tmp/\0\0\0\0"),
+    (
+        "ninebytes/../x",
+        "ninebytes/\0\0\0\0\0\0../\0\0\0\0\0x/\0\0\0\0\0\0",
+    ),
+];
+
+fn feeds(text: &str, input: &str) -> bool {
+    let mut state = RecordingHasher::new();
+    state.write(input.as_bytes());
+    fed(text) == state
+}
+
+#[test]
+fn rows_of_what_is_fed(rt: HostRuntime) {
+    for row in FED.iter() {
+        assert!(rt; feeds(row.0, row.1), "{}", row.0);
+    }
+}
+
 fn feed_differently(texts: &[&str]) -> bool {
     for (i, a) in texts.iter().enumerate() {
         for (j, b) in texts.iter().enumerate() {
@@ -180,16 +214,31 @@ fn feed_differently(texts: &[&str]) -> bool {
     true
 }
 
+fn fed_component(part: Component<'_>) -> RecordingHasher {
+    let mut state = RecordingHasher::new();
+    feed_component(part, &mut state);
+    state
+}
+
 #[test]
 fn paths_feed_their_components(rt: HostRuntime) {
-    assert!(rt; feed_differently(&["a", "b", "/a", "./a", ".."]));
-    let mut parts = RecordingHasher::new();
-    feed_component(Component::Normal(UnixStr::new("a")), &mut parts);
+    assert!(rt; feed_differently(&["a", "b", "/a", "./a", "..", "ab", "a/b", "b/a", "a\0", ""]));
+    let mut parts = fed_component(Component::Normal(UnixStr::new("a")));
     feed_component(Component::Normal(UnixStr::new("b")), &mut parts);
     assert!(rt; fed("a//b") == parts && parts.len > 0);
     let mut name = RecordingHasher::new();
     feed_name(UnixStr::new("a"), &mut name);
-    assert!(rt; name.len > 0 && name.len < fed("a").len);
+    assert!(rt; name.len > 0 && name != fed("a"));
+}
+
+// A name `.` or `..` stands in no path; as a component it differs from what feeds the same.
+#[test]
+fn components_may_feed_alike(rt: HostRuntime) {
+    let dot = Component::Normal(UnixStr::new("."));
+    let dots = Component::Normal(UnixStr::new(".."));
+    assert!(rt; dot != Component::CurDir && dots != Component::ParentDir);
+    assert!(rt; fed_component(dot) == fed_component(Component::CurDir));
+    assert!(rt; fed_component(dots) == fed_component(Component::ParentDir));
 }
 
 #[test]

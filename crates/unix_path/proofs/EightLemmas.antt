@@ -1,0 +1,63 @@
+-- The eights that a part feeds a hasher: first of its bytes, and last with the mark behind them.
+use Rattle.std.proofs.Common.{◌≡◌, ℕ, suc, ◌/◌, ◌<◌, ◌≤◌, List, [], ◌∷◌, ◌++◌}
+use Rattle.std.proofs.Common.{length, get_or, take, drop, map, refl, sym, ap, ap₂, ◌∙◌, arith}
+use Rattle.std.proofs.Common.{length-append, length-drop, zero, rules, Fits, w8, w64}
+use Rattle.std.specs.Hash.{le_bytes}
+use Rattle.std.specs.Int.{from_le_bytes}
+use Rattle.std.specs.List.{range_with_len}
+use Rattle.std.specs.Simd.{first_chunks}
+use Rattle.std.proofs.lemmas.List.{take-append-le, drop-append-le, length-take-le}
+use Rattle.std.proofs.lemmas.List.FromFn.{fill_by_all}
+use Rattle.std.proofs.lemmas.Nat.{le_bytes_8}
+use Rattle.unix_path.specs.Hashed.{end_mark, in_eights}
+
+-- eight bytes are fed, and then the others
+pub in_eights-more : (s : List ℕ) → 8 ≤ length s
+    → in_eights (s ++ end_mark) ≡ take 8 s ∷ in_eights (drop 8 s ++ end_mark)
+unfolding in_eights
+in_eights-more s h =
+    let t = s ++ end_mark in
+    let rest = drop 8 s ++ end_mark in
+    let count : length t / 8 ≡ suc (length rest / 8) =
+    omega (arith, length-append s end_mark, length-append (drop 8 s) end_mark, length-drop 8 s) in
+    ap (λ n. first_chunks 8 n t) count
+    ∙ ap₂ (λ p r. p ∷ first_chunks 8 (length rest / 8) r) (take-append-le 8 s end_mark h)
+    (drop-append-le 8 s end_mark h)
+
+-- fewer than eight end the input
+pub in_eights-last : (s : List ℕ) → length s < 8
+    → in_eights (s ++ end_mark) ≡ take 8 (s ++ end_mark) ∷ []
+unfolding in_eights
+in_eights-last s h =
+    let t = s ++ end_mark in
+    let count : length t / 8 ≡ 1 = omega (arith, length-append s end_mark) in
+    ap (λ n. first_chunks 8 n t) count
+
+-- each is a byte
+abbrev AreBytes : List ℕ → Type 0
+AreBytes s = (i : ℕ) → Fits w8 (get_or s i 0)
+
+bytes-append : (s t : List ℕ) → AreBytes s → AreBytes t → AreBytes (s ++ t)
+bytes-append [] t h k i = k i
+bytes-append (x ∷ s) t h k zero = h 0
+bytes-append (x ∷ s) t h k (suc i) = bytes-append s t (λ i. h (suc i)) k i
+
+bytes-take : (n : ℕ) (s : List ℕ) → AreBytes s → (i : ℕ) → get_or (take n s) i 0 < 256
+bytes-take zero s h i = omega arith
+bytes-take (suc n) [] h i = omega arith
+bytes-take (suc n) (x ∷ s) h zero = omega (arith, h 0)
+bytes-take (suc n) (x ∷ s) h (suc i) = bytes-take n s (λ i. h (suc i)) i
+
+-- the number that is read off the first k bytes and the mark has these as its bytes
+pub le_bytes-last : (s : List ℕ) (k n : ℕ) → length s ≡ k → ((i : ℕ) → Fits w8 (get_or s i 0))
+    → n ≡ from_le_bytes w64 (take 8 (map (λ i. get_or s i 0) (range_with_len 0 k) ++ end_mark))
+    → le_bytes 8 n ≡ take 8 (s ++ end_mark)
+unfolding le_bytes
+le_bytes-last s k n e fits d =
+    let read : s ≡ map (λ i. get_or s i 0) (range_with_len 0 k) =
+    fill_by_all (λ i. get_or s i 0) s k 0 e (λ i l. refl) in
+    let marked : AreBytes end_mark = search rules in
+    le_bytes_8 (take 8 (s ++ end_mark)) n
+    (length-take-le 8 (s ++ end_mark) (omega (arith, length-append s end_mark)))
+    (bytes-take 8 (s ++ end_mark) (bytes-append s end_mark fits marked))
+    (d ∙ ap (λ t. from_le_bytes w64 (take 8 (t ++ end_mark))) (sym read))

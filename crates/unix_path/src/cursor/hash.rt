@@ -1,0 +1,55 @@
+//! What a component feeds a hasher.
+ghost use Rattle.std.specs.Prelude.{◌≡◌, ◌<◌, ◌++◌, length, take, fold};
+ghost use Rattle.std.specs.Hash.{le_bytes};
+ghost use Rattle.std.proofs.Common.{rules, ap};
+ghost use Rattle.unix_path.specs.Hashed.{end_mark, in_eights, value_input};
+ghost use Rattle.unix_path.specs.Views.{value_of};
+
+use crate::cursor::Component;
+use std::hash::{Hash, Hasher};
+
+// What fills no eight, with a slash and zeros behind it: eight bytes as a number, the lowest first.
+#[inline]
+fn last_eight(rest: &[u8]) -> u64
+    requires { length rest.now < 8 }
+    ensures { le_bytes 8 result ≡ take 8 (rest.now ++ end_mark) }
+{
+    match rest {
+        [] => u64::from_le_bytes([b'/', 0, 0, 0, 0, 0, 0, 0]),
+        [a] => u64::from_le_bytes([*a, b'/', 0, 0, 0, 0, 0, 0]),
+        [a, b] => u64::from_le_bytes([*a, *b, b'/', 0, 0, 0, 0, 0]),
+        [a, b, c] => u64::from_le_bytes([*a, *b, *c, b'/', 0, 0, 0, 0]),
+        [a, b, c, d] => u64::from_le_bytes([*a, *b, *c, *d, b'/', 0, 0, 0]),
+        [a, b, c, d, e] => u64::from_le_bytes([*a, *b, *c, *d, *e, b'/', 0, 0]),
+        [a, b, c, d, e, f] => u64::from_le_bytes([*a, *b, *c, *d, *e, *f, b'/', 0]),
+        [a, b, c, d, e, f, g] => u64::from_le_bytes([*a, *b, *c, *d, *e, *f, *g, b'/']),
+        _ => unreachable!(),
+    }
+}
+
+// Feeds the bytes with a slash and zeros behind them, eight in a write.
+#[inline]
+fn feed_bytes<H: Hasher>(bytes: &[u8], state: &mut H)
+    ensures { state.new ≡ fold H.write state.old (in_eights (bytes.now ++ end_mark)) }
+{
+    let mut rest = bytes;
+    while rest.len() >= 8 {
+        state.write(&rest[..8]);
+        rest = &rest[8..];
+    }
+    state.write_u64(last_eight(rest));
+}
+
+/// A component feeds the bytes of `as_unix_str`, a slash, and zeros up to a whole number of eights;
+/// eight in a write. A hasher may read them as words, and no name has a slash, so the bytes tell
+/// where a part of a path ends.
+impl Hash for Component<'_> {
+    ghost hash_input = { λ part. value_input (value_of part) };
+
+    ghost respects_eq = { Prim.search rules };
+
+    #[inline]
+    fn hash<H: Hasher>(&self, state: &mut H) {
+        feed_bytes(self.as_unix_str().bytes, state);
+    }
+}
