@@ -1,6 +1,7 @@
 //! Times each of our calls beside Rust's own, on the same bytes, and prints nanoseconds a byte.
 use std::cmp::Ordering;
 use std::ffi::OsStr;
+use std::hash::{DefaultHasher, Hash, Hasher};
 use std::hint::black_box;
 use std::os::unix::ffi::OsStrExt;
 use std::path::Path;
@@ -16,6 +17,7 @@ extern "C" {
     fn ours_parts(bytes: *const u8, len: usize) -> usize;
     fn ours_parts_behind(bytes: *const u8, len: usize) -> usize;
     fn ours_compare(bytes: *const u8, len: usize) -> usize;
+    fn ours_hash(bytes: *const u8, len: usize) -> usize;
 }
 
 // Rust's own are C functions too, so that both sides pay for the same call.
@@ -65,6 +67,13 @@ unsafe extern "C" fn rusts_compare(bytes: *const u8, len: usize) -> usize {
     usize::from(path(a) == path(b)) * 2 + usize::from(less)
 }
 
+#[inline(never)]
+unsafe extern "C" fn rusts_hash(bytes: *const u8, len: usize) -> usize {
+    let mut state = DefaultHasher::new();
+    path(slice::from_raw_parts(bytes, len)).hash(&mut state);
+    usize::from(state.finish() == 0)
+}
+
 const TEXTS: [(&str, Call, Call); 3] = [
     ("to_str", ours_to_str, rusts_to_str),
     (
@@ -75,10 +84,11 @@ const TEXTS: [(&str, Call, Call); 3] = [
     ("chunks", ours_chunks, rusts_chunks),
 ];
 
-const WALKS: [(&str, Call, Call); 3] = [
+const WALKS: [(&str, Call, Call); 4] = [
     ("parts", ours_parts, rusts_parts),
     ("parts from behind", ours_parts_behind, rusts_parts_behind),
     ("== and <", ours_compare, rusts_compare),
+    ("hash", ours_hash, rusts_hash),
 ];
 
 // The least time of many rounds over the sources, in nanoseconds a byte, and the sum of answers.
@@ -204,6 +214,6 @@ fn main() {
     compare("FF at each 2nd byte", &TEXTS, &[every(2)]);
     compare("FF alone", &TEXTS, &[vec![0xFF; 4096]]);
     compare("any bytes", &TEXTS, &[noise]);
-    println!("of parts, parts from behind, == and <");
+    println!("of parts, parts from behind, == and <, hash by SipHash");
     compare("made-up paths", &WALKS, &made_up_paths(&mut seed, 20_000));
 }

@@ -21,6 +21,8 @@ pub mod StripLemmas
 pub mod BehindLemmas
 pub mod SiblingLemmas
 pub mod PieceNameLemmas
+pub mod FedLemmas
+pub mod ToldLemmas
 pub mod ExtensionLemmas
 pub mod ParentBeforeLemmas
 pub mod AncestorPrefixLemmas

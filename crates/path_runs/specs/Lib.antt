@@ -10,3 +10,4 @@ pub mod EditLaws
 pub mod QueryLaws
 pub mod AlikeLaws
 pub mod TableLaws
+pub mod HashLaws

@@ -1,5 +1,6 @@
 //! Laws of paths, over the definitions alone.
 mod edits;
+mod hashes;
 mod joins;
 mod order;
 mod parts;
@@ -10,6 +11,7 @@ mod text;
 mod walks;
 
 pub use edits::{edits_congruent, extension_set, push_then_pop};
+pub use hashes::hash_inputs_tell;
 pub use joins::{join_associative, join_starts_with, join_values, strip_then_join};
 pub use order::{order_total, prefix_both_ways};
 pub use parts::{no_part_no_byte, parts_fit, rest_reads_again};

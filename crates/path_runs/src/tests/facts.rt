@@ -5,6 +5,7 @@ ghost use Rattle.unix_path.specs.Buffers.{path_bytes};
 ghost use Rattle.unix_path.specs.Prefixes.{Begins};
 ghost use Rattle.unix_path.specs.Order.{values_cmp};
 ghost use Rattle.unix_path.specs.Parts.{is_rooted, value_bytes, values, SameValues};
+ghost use Rattle.path_runs.specs.HashLaws.{bytes_fed};
 
 use crate::laws;
 use std::alloc::{AllocError, Global};
@@ -59,6 +60,14 @@ fn reverse_order(a: Path<'_>, b: Path<'_>) -> Ordering
     b.cmp(&a).reverse()
 }
 
+fn equal_if_fed_alike(a: Path<'_>, b: Path<'_>) -> bool
+    requires { bytes_fed a.bytes.now ≡ bytes_fed b.bytes.now }
+    ensures { IsTrue result }
+{
+    laws::hash_inputs_tell();
+    a == b
+}
+
 #[test]
 fn laws_are_facts(rt: HostRuntime) -> Result<(), Fail> {
     let alloc = rt.alloc();
@@ -72,5 +81,6 @@ fn laws_are_facts(rt: HostRuntime) -> Result<(), Fail> {
     assert!(rt; is_nothing(empty));
     assert!(rt; ties(request, Path::new(UnixStr::new("./a/b/."))));
     assert_eq!(rt; reverse_order(root, request), Ordering::Less);
+    assert!(rt; equal_if_fed_alike(request, request));
     Ok(())
 }

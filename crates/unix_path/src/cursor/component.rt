@@ -10,7 +10,7 @@ use unix_bytes::bytes::UnixStr;
 ///
 /// Two are equal if they are of one kind and, being names, have the same bytes. `RootDir` comes
 /// before `CurDir`, that before `ParentDir` and that before every name; names go by their bytes.
-/// A hasher is fed the kind, and then a name as `UnixStr` feeds it.
+/// A hasher is fed the part's bytes, a slash, and zeros up to a whole number of eights.
 /// As Rust's `Component`, without a prefix.
 #[derive(Clone, Copy, Debug, PartialEq, Eq, PartialOrd, Ord)]
 pub enum Component<'a> {

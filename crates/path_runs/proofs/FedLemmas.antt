@@ -1,0 +1,57 @@
+-- The bytes that a value feeds a hasher: those that it is written as, a slash, and zeros.
+use Rattle.std.proofs.Common.{◌≡◌, ℕ, suc, zero, ◌+◌, ◌-◌, ◌*◌, ◌/◌, List, [], ◌∷◌, ◌++◌, length}
+use Rattle.std.proofs.Common.{take, drop, refl, sym, ap, ◌∙◌, arith, length-append, append_assoc}
+use Rattle.std.proofs.lemmas.List.{append_cancel_left}
+use Rattle.std.proofs.Math.Seq.{take-add, take-append-add}
+use Rattle.std.specs.Hash.{HashWrites}
+use Rattle.std.specs.List.{concat, repeat}
+use Rattle.std.specs.Simd.{first_chunks}
+use Rattle.unix_path.specs.Hashed.{end_mark, in_eights, value_input, hash_input_of}
+use Rattle.unix_path.specs.Parts.{slash, Value, value_bytes}
+
+concat-first_chunks : (k : ℕ) (xs : List ℕ) → concat (first_chunks 8 k xs) ≡ take (8 * k) xs
+concat-first_chunks zero xs = refl
+concat-first_chunks (suc k) xs =
+    ap (λ ys. take 8 xs ++ ys) (concat-first_chunks k (drop 8 xs)) ∙ sym (take-add 8 (8 * k) xs)
+    ∙ ap (λ n. take n xs) {x = 8 + 8 * k} {y = 8 * suc k} (omega arith)
+
+-- the zeros behind a slash behind n bytes
+zeros_behind : ℕ → List ℕ
+zeros_behind n = take (8 * ((n + 8) / 8) - (n + 1)) (repeat 7 (0 ∷ []))
+
+concat-in_eights : (b : List ℕ)
+    → concat (in_eights (b ++ end_mark)) ≡ b ++ slash ∷ zeros_behind (length b)
+unfolding in_eights zeros_behind
+concat-in_eights b =
+    let n = length b in
+    let count : 8 * (length (b ++ end_mark) / 8) ≡ n + suc (8 * ((n + 8) / 8) - (n + 1)) =
+    omega (arith, length-append b end_mark) in
+    concat-first_chunks (length (b ++ end_mark) / 8) (b ++ end_mark)
+    ∙ ap (λ k. take k (b ++ end_mark)) count
+    ∙ take-append-add b end_mark (suc (8 * ((n + 8) / 8) - (n + 1)))
+
+concat-append : (us vs : HashWrites) → concat (us ++ vs) ≡ concat us ++ concat vs
+concat-append [] vs = refl
+concat-append (u ∷ us) vs =
+    ap (λ ys. u ++ ys) (concat-append us vs) ∙ sym (append_assoc u (concat us) (concat vs))
+
+-- the zeros behind a value's bytes and a slash, and then others
+pub zeros_and : Value → List ℕ → List ℕ
+zeros_and v x = zeros_behind (length (value_bytes v)) ++ x
+
+pub zeros_and-cancel : (v : Value) (x y : List ℕ) → zeros_and v x ≡ zeros_and v y → x ≡ y
+unfolding zeros_and
+zeros_and-cancel v x y e = append_cancel_left (zeros_behind (length (value_bytes v))) x y e
+
+-- the bytes of the first value, a slash, zeros, and then what the others feed
+pub concat-hash_input_of : (v : Value) (vs : List Value) (x : List ℕ)
+    → concat (hash_input_of (v ∷ vs)) ++ x
+    ≡ value_bytes v ++ slash ∷ zeros_and v (concat (hash_input_of vs) ++ x)
+unfolding zeros_and
+concat-hash_input_of v vs x =
+    let b = value_bytes v in
+    let z = zeros_behind (length b) in
+    let more = concat (hash_input_of vs) in
+    ap (λ ys. ys ++ x) (concat-append (value_input v) (hash_input_of vs)
+    ∙ ap (λ ys. ys ++ more) (concat-in_eights b))
+    ∙ append_assoc (b ++ slash ∷ z) more x ∙ append_assoc b (slash ∷ z) (more ++ x)

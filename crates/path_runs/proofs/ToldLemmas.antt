@@ -1,0 +1,135 @@
+-- The values of a path can be told from the bytes that they feed a hasher.
+use Rattle.std.proofs.Common.{◌≡◌, ℕ, Bool, true, false, cond, List, [], ◌∷◌, ◌++◌, length}
+use Rattle.std.proofs.Common.{refl, sym, ap, ap₂, subst, ◌∙◌, arith, append-nil, length-append}
+use Rattle.std.specs.List.{AllByRecursion, slice_split, concat}
+use Rattle.std.specs.Str.{bytes_eq}
+use Rattle.std.proofs.lemmas.List.{append_cancel_left}
+use Rattle.std.proofs.lemmas.List.Elements.{All-from_recursion}
+use Rattle.std.proofs.lemmas.List.Splits.{slice_split_at}
+use Rattle.unix_path.specs.Hashed.{hash_input_of}
+use Rattle.unix_path.specs.Parts.{is_slash, slash, cur_dir, Value, RootDir, CurDir}
+use Rattle.unix_path.specs.Parts.{value_of_piece, value_bytes, is_rooted, values}
+use Rattle.unix_path.specs.Prefixes.{Begins}
+use Rattle.unix_path.proofs.CaseLemmas.{by_test}
+use Rattle.path_runs.proofs.FedLemmas.{zeros_and, zeros_and-cancel, concat-hash_input_of}
+use Rattle.path_runs.proofs.LeadLemmas.{dot_first}
+use Rattle.path_runs.proofs.PieceValueLemmas.{names_of, values-rooted, values-rootless}
+use Rattle.path_runs.proofs.PieceValueLemmas.{rooted_is, NoSlash, slice_split-no_slash}
+use Rattle.path_runs.proofs.SpellLemmas.{value_bytes-piece}
+
+-- the value of what stands before the first slash that is fed
+told_by : List ℕ → Value
+told_by b = cond (bytes_eq b []) RootDir (cond (bytes_eq b cur_dir) CurDir (value_of_piece b))
+
+-- what stands before the first slash tells the value
+record IsTold (v : Value) : Type 0 where
+  piece : List ℕ
+  behind : List ℕ
+  no_slash : NoSlash piece
+  fed : (x : List ℕ) → value_bytes v ++ slash ∷ x ≡ piece ++ slash ∷ (behind ++ x)
+  tells : told_by piece ≡ v
+
+root_told : IsTold RootDir
+unfolding told_by
+root_told = record {
+  piece = [];
+  behind = slash ∷ [];
+  no_slash = tt;
+  fed = λ x. refl;
+  tells = refl;
+}
+
+dot_told : IsTold CurDir
+unfolding told_by
+dot_told = record {
+  piece = cur_dir;
+  behind = [];
+  no_slash = (refl, tt);
+  fed = λ x. refl;
+  tells = refl;
+}
+
+piece_told : (p : List ℕ) → NoSlash p → bytes_eq p [] ≡ false → bytes_eq p cur_dir ≡ false
+    → IsTold (value_of_piece p)
+unfolding told_by
+piece_told p h d e = record {
+  piece = p;
+  behind = [];
+  no_slash = h;
+  fed = λ x. ap (λ b. b ++ slash ∷ x) (value_bytes-piece p);
+  tells = rw (d, e) refl;
+}
+
+names_of-told : (ps : List (List ℕ)) → AllByRecursion NoSlash ps → AllByRecursion IsTold (names_of ps)
+names_of-told [] h = tt
+names_of-told (p ∷ ps) h =
+    by (bytes_eq p []) (bytes_eq p cur_dir) refl refl (names_of-told ps h.1)
+  where
+    by : (c d : Bool) → bytes_eq p [] ≡ c → bytes_eq p cur_dir ≡ d
+        → AllByRecursion IsTold (names_of ps) → AllByRecursion IsTold (names_of (p ∷ ps))
+    by true d e f more = rw e more
+    by false true e f more = rw (e, f) more
+    by false false e f more = rw (e, f) (piece_told p h.0 e f, more)
+
+lead-told : (c : Bool) (vs : List Value) → AllByRecursion IsTold vs
+    → AllByRecursion IsTold (cond c (CurDir ∷ []) [] ++ vs)
+lead-told true vs h = (dot_told, h)
+lead-told false vs h = h
+
+values-told : (s : List ℕ) → AllByRecursion IsTold (values s)
+values-told s = by_test (is_rooted s)
+    (λ r. let t = rooted_is s r in
+    subst (AllByRecursion IsTold) (sym (ap values t.1 ∙ values-rooted t.0))
+    (root_told, names_of-told (slice_split is_slash t.0) (slice_split-no_slash t.0)))
+    (λ r. let ps = slice_split is_slash s in
+    subst (AllByRecursion IsTold) (sym (values-rootless s ps r refl))
+    (lead-told (dot_first ps) (names_of ps) (names_of-told ps (slice_split-no_slash s))))
+
+-- what stands before the first slash is the same
+same_piece : (p q x y : List ℕ) → NoSlash p → NoSlash q → p ++ slash ∷ x ≡ q ++ slash ∷ y → p ≡ q
+same_piece p q x y h k e =
+    let split : (r z : List ℕ) → NoSlash r
+    → slice_split is_slash (r ++ slash ∷ z) ≡ r ∷ slice_split is_slash z =
+    λ r z n. slice_split_at is_slash r slash z
+    (All-from_recursion (λ b. is_slash b ≡ false) r n) refl in
+    let both = sym (split p x h) ∙ ap (slice_split is_slash) e ∙ split q y k in
+    cc
+
+same_value : (v w : Value) (x y : List ℕ) → IsTold v → IsTold w
+    → value_bytes v ++ slash ∷ x ≡ value_bytes w ++ slash ∷ y → v ≡ w
+same_value v w x y m n e =
+    let pieces = same_piece m.piece n.piece (m.behind ++ x) (n.behind ++ y) m.no_slash n.no_slash
+    (sym (m.fed x) ∙ e ∙ n.fed y) in
+    sym m.tells ∙ ap told_by pieces ∙ n.tells
+
+same_first : (v w : Value) (x y : List ℕ) → IsTold v → IsTold w
+    → value_bytes v ++ slash ∷ zeros_and v x ≡ value_bytes w ++ slash ∷ zeros_and w y
+    → (v ≡ w) × (x ≡ y)
+same_first v w x y m n e =
+    let same = same_value v w (zeros_and v x) (zeros_and w y) m n e in
+    let whole = e ∙ ap (λ u. value_bytes u ++ slash ∷ zeros_and u y) (sym same) in
+    let after = append_cancel_left (value_bytes v) _ _ whole in
+    (same, zeros_and-cancel v x y (append_cancel_left (slash ∷ []) _ _ after))
+
+begins-told : (vs ws : List Value) → AllByRecursion IsTold vs → AllByRecursion IsTold ws
+    → (x : List ℕ) → concat (hash_input_of vs) ++ x ≡ concat (hash_input_of ws) ++ []
+    → Begins vs ws
+begins-told [] ws m n x e = (ws, refl)
+begins-told (v ∷ vs) [] m n x e =
+    let b = value_bytes v in
+    let others = slash ∷ zeros_and v (concat (hash_input_of vs) ++ x) in
+    let none : b ++ others ≡ [] = sym (concat-hash_input_of v vs x) ∙ e in
+    absurd (omega (arith, ap length none, length-append b others))
+begins-told (v ∷ vs) (w ∷ ws) m n x e =
+    let left = concat (hash_input_of vs) ++ x in
+    let right = concat (hash_input_of ws) ++ [] in
+    let first = same_first v w left right m.0 n.0
+    (sym (concat-hash_input_of v vs x) ∙ e ∙ concat-hash_input_of w ws []) in
+    let others = begins-told vs ws m.1 n.1 x first.1 in
+    (others.0, ap₂ (λ u us. u ∷ us) first.0 others.1)
+
+pub fed_begins : (s t x : List ℕ)
+    → concat (hash_input_of (values s)) ++ x ≡ concat (hash_input_of (values t))
+    → Begins (values s) (values t)
+fed_begins s t x e = begins-told (values s) (values t) (values-told s) (values-told t) x
+    (e ∙ sym (append-nil (concat (hash_input_of (values t)))))

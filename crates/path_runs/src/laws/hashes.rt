@@ -1,0 +1,13 @@
+//! Laws of what a path feeds a hasher.
+ghost use Rattle.path_runs.specs.HashLaws.{InputsTell, InputsBegin};
+
+/// Paths that feed a hasher the same bytes are equal.
+///
+/// However the bytes are cut into writes. And what a path feeds begins what another feeds only
+/// where its values begin the other's. Calling it does nothing. Not in Rust's std.
+///
+/// `ab` and `a/b` feed different bytes, and so do `/a`, `./a` and `a`.
+pub fn hash_inputs_tell()
+    ensures equal { InputsTell }
+    ensures begins { InputsBegin }
+{}
