@@ -8,7 +8,7 @@ ghost use Rattle.unix_path.specs.Views.{value_of};
 use crate::cursor::Component;
 use std::hash::{Hash, Hasher};
 
-// What fills no eight, with a slash and zeros behind it: eight bytes as a number, the lowest first.
+// What fills no eight, with a slash and zeros behind it, as a number with the first byte lowest.
 #[inline]
 fn last_eight(rest: &[u8]) -> u64
     requires { length rest.now < 8 }
@@ -40,9 +40,11 @@ fn feed_bytes<H: Hasher>(bytes: &[u8], state: &mut H)
     state.write_u64(last_eight(rest));
 }
 
-/// A component feeds the bytes of `as_unix_str`, a slash, and zeros up to a whole number of eights;
-/// eight in a write. A hasher may read them as words, and no name has a slash, so the bytes tell
-/// where a part of a path ends.
+/// Feeds the bytes of `as_unix_str`, a slash, and zeros up to a whole number of eights, eight in a
+/// write. So a hasher can read words, and since no name in a path has a slash, what is fed tells
+/// where a part ends. The form is this crate's own.
+///
+/// For `Component::ParentDir` it is `../` and five zeros.
 impl Hash for Component<'_> {
     ghost hash_input = { λ part. value_input (value_of part) };
 
