@@ -1,7 +1,7 @@
 //! What a component feeds a hasher.
 ghost use Rattle.std.specs.Prelude.{◌≡◌, ◌<◌, ◌++◌, length, take, fold};
 ghost use Rattle.std.specs.Hash.{le_bytes};
-ghost use Rattle.std.proofs.Common.{rules, ap};
+ghost use Rattle.std.proofs.Common.{rules};
 ghost use Rattle.unix_path.specs.Hashed.{end_mark, in_eights, value_input};
 ghost use Rattle.unix_path.specs.Views.{value_of};
 
