@@ -24,3 +24,4 @@ pub mod PartitionLemmas
 pub mod OnlyLemmas
 pub mod PushLemmas
 pub mod HitLemmas
+pub mod CommonLemmas

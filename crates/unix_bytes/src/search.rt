@@ -1,7 +1,7 @@
-//! The first and the last place of a byte.
+//! The first and the last place of a byte, and how far two byte strings are the same.
 ghost use Rattle.std.specs.Prelude.{◌≡◌, ℕ, ◌+◌, ◌-◌, ◌<◌, ◌≤◌, ◌==◌, false, length, take, drop};
-ghost use Rattle.std.specs.Prelude.{slice_index};
-ghost use Rattle.std.specs.List.{position_or_len};
+ghost use Rattle.std.specs.Prelude.{slice_index, nat_eq, min};
+ghost use Rattle.std.specs.List.{position_or_len, common_prefix_len};
 ghost use Rattle.unix_bytes.specs.Lanes.{hit_mask};
 
 use std::simd::prelude::*;
@@ -121,4 +121,66 @@ pub fn past_last(bytes: &[u8], byte: u8) -> usize
         end -= 16;
     }
     past_last_in_few(bytes, end, byte)
+}
+
+// How many bytes the two begin with alike, where one has fewer than 16; `most` is the lesser length.
+#[inline]
+fn common_in_few(a: &[u8], b: &[u8], most: usize) -> usize
+    requires { most ≡ min (length a.now) (length b.now) }
+    ensures value { result ≡ common_prefix_len nat_eq a.now b.now }
+    ensures in_range { result ≤ most }
+{
+    let mut len = 0;
+    while len < most && a[len] == b[len] {
+        len += 1;
+    }
+    len
+}
+
+// How many of the 16 bytes from `at` on come before the first that differ, or 16 where none does.
+#[inline]
+fn common_in_lanes(a: &[u8], b: &[u8], at: usize) -> usize
+    requires in_first { at + 16 ≤ length a.now }
+    requires in_second { at + 16 ≤ length b.now }
+    ensures in_range { result ≤ 16 }
+    ensures same { (k : ℕ) → at ≤ k → k < at + result →
+        slice_index a.now k ≡ slice_index b.now k }
+    ensures differs { result < 16 →
+        (slice_index a.now (at + result) == slice_index b.now (at + result)) ≡ false }
+{
+    let other = u8x16::from_slice(&a[at..])
+        .simd_ne(u8x16::from_slice(&b[at..]))
+        .to_bitmask();
+    if other == 0 {
+        16
+    } else {
+        other.trailing_zeros() as usize
+    }
+}
+
+/// How many bytes the two begin with alike: the length of their longest common front. Does not
+/// allocate. Not in Rust's std.
+///
+/// `common_len(b"a/b", b"a/c")` is 2.
+#[must_use]
+#[inline]
+pub fn common_len(a: &[u8], b: &[u8]) -> usize
+    ensures value { result ≡ common_prefix_len nat_eq a.now b.now }
+    ensures in_first { result ≤ length a.now }
+    ensures in_second { result ≤ length b.now }
+{
+    let most = a.len().min(b.len());
+    if most < 16 {
+        return common_in_few(a, b, most);
+    }
+    let last = most - 16;
+    let mut len = 0;
+    while len < last {
+        let common = common_in_lanes(a, b, len);
+        if common < 16 {
+            return len + common;
+        }
+        len += 16;
+    }
+    last + common_in_lanes(a, b, last)
 }

@@ -1,0 +1,149 @@
+-- How far two strings are the same, and sixteen bytes of each compared at once.
+use Rattle.std.proofs.Common.{◌≡◌, ℕ, zero, suc, ◌+◌, ◌-◌, ◌^◌, ◌%◌, ◌<◌, ◌≤◌, Bool, true, false}
+use Rattle.std.proofs.Common.{cond, not, eqb, List, [], ◌∷◌, length, take, drop, map, get_or}
+use Rattle.std.proofs.Common.{refl, sym, ap, ap₂, ◌∙◌, arith, w8, eq-eqb, ne_eqb, eqb-true}
+use Rattle.std.proofs.Common.{get_or-drop}
+use Rattle.std.specs.Int.Count.{count_trailing_zeros}
+use Rattle.std.specs.List.{common_prefix_len, prefix_len}
+use Rattle.std.specs.Simd.Lanes.{zip2, mask_l, top}
+use Rattle.std.proofs.lemmas.List.{get_or-take, length-map}
+use Rattle.std.proofs.lemmas.List.Sums.{common_prefix_len-le}
+use Rattle.std.proofs.lemmas.Simd.{tops_compared, mask_l-mod, first_set_mask_l}
+use Rattle.unix_bytes.proofs.HitLemmas.{by_test, length-window}
+
+-- the bytes are the same up to n, where a string ends or they differ
+pub common_prefix_len-is : (a b : List ℕ) (n : ℕ) → n ≤ length a → n ≤ length b
+    → ((k : ℕ) → k < n → get_or a k 0 ≡ get_or b k 0)
+    → (n < length a → n < length b → eqb (get_or a n 0) (get_or b n 0) ≡ false)
+    → n ≡ common_prefix_len eqb a b
+common_prefix_len-is [] b n l m same differs = omega arith
+common_prefix_len-is (x ∷ a) [] n l m same differs = omega arith
+common_prefix_len-is (x ∷ a) (y ∷ b) zero l m same differs =
+    rw (differs (omega arith) (omega arith)) refl
+common_prefix_len-is (x ∷ a) (y ∷ b) (suc n) l m same differs =
+    let first : eqb x y ≡ true = eq-eqb x y (same 0 (omega arith)) in
+    let next : n ≡ common_prefix_len eqb a b =
+    common_prefix_len-is a b n (omega arith) (omega arith) (λ k h. same (suc k) (omega arith))
+    (λ i j. differs (omega arith) (omega arith)) in
+    let total : suc n ≡ 1 + common_prefix_len eqb a b = omega arith in
+    rw first total
+
+common_prefix_len-same : (a b : List ℕ) (k : ℕ) → k < common_prefix_len eqb a b
+    → get_or a k 0 ≡ get_or b k 0
+common_prefix_len-same [] b k l = absurd (omega arith)
+common_prefix_len-same (x ∷ a) [] k l = absurd (omega arith)
+common_prefix_len-same (x ∷ a) (y ∷ b) zero l = by_test (eqb x y) (λ e. eqb-true x y e)
+    (λ e. let m : 0 < 0 = rw e at l in absurd (omega arith))
+common_prefix_len-same (x ∷ a) (y ∷ b) (suc k) l = by_test (eqb x y)
+    (λ e. let m : suc k < 1 + common_prefix_len eqb a b = rw e at l in
+    common_prefix_len-same a b k (omega arith))
+    (λ e. let m : suc k < 0 = rw e at l in absurd (omega arith))
+
+common_prefix_len-differs : (a b : List ℕ) (n : ℕ) → n ≡ common_prefix_len eqb a b → n < length a
+    → n < length b → eqb (get_or a n 0) (get_or b n 0) ≡ false
+common_prefix_len-differs [] b n e l m = absurd (omega arith)
+common_prefix_len-differs (x ∷ a) [] n e l m = absurd (omega arith)
+common_prefix_len-differs (x ∷ a) (y ∷ b) zero e l m = by_test (eqb x y)
+    (λ same. let f : 0 ≡ 1 + common_prefix_len eqb a b = rw same at e in absurd (omega arith))
+    (λ other. other)
+common_prefix_len-differs (x ∷ a) (y ∷ b) (suc n) e l m = by_test (eqb x y)
+    (λ same. let f : suc n ≡ 1 + common_prefix_len eqb a b = rw same at e in
+    common_prefix_len-differs a b n (omega arith) (omega arith) (omega arith))
+    (λ other. let f : suc n ≡ 0 = rw other at e in absurd (omega arith))
+
+abbrev differ : ℕ × ℕ → Bool
+differ pair = not (eqb pair.0 pair.1)
+
+abbrev pairs : List ℕ → List ℕ → List (ℕ × ℕ)
+pairs a b = zip2 (λ x y. (x, y)) a b
+
+zip2-pairs : (a b : List ℕ) → zip2 (λ x y. not (eqb x y)) a b ≡ map differ (pairs a b)
+zip2-pairs [] b = refl
+zip2-pairs (x ∷ a) [] = refl
+zip2-pairs (x ∷ a) (y ∷ b) = ap (λ ts. not (eqb x y) ∷ ts) (zip2-pairs a b)
+
+prefix_len-pairs : (a b : List ℕ)
+    → prefix_len (λ pair. not (differ pair)) (pairs a b) ≡ common_prefix_len eqb a b
+prefix_len-pairs [] b = refl
+prefix_len-pairs (x ∷ a) [] = refl
+prefix_len-pairs (x ∷ a) (y ∷ b) =
+    by_test (eqb x y) (λ e. rw e (ap (λ n. 1 + n) (prefix_len-pairs a b))) (λ e. rw e refl)
+
+length-pairs : (a b : List ℕ) → length a ≡ length b → length (pairs a b) ≡ length a
+length-pairs [] b e = refl
+length-pairs (x ∷ a) [] e = absurd (omega arith)
+length-pairs (x ∷ a) (y ∷ b) e = ap (λ n. suc n) (length-pairs a b (omega arith))
+
+-- a bit for each pair of bytes, the lowest for the first: set where they differ
+abbrev other_mask : List ℕ → List ℕ → ℕ
+other_mask a b = mask_l (map (top 7) (zip2 (λ x y. cond (not (eqb x y)) 255 0) a b)) % 2 ^ 64
+
+other_mask-pairs : (a b : List ℕ) → length a ≡ 16 → length b ≡ 16
+    → other_mask a b ≡ mask_l (map differ (pairs a b))
+other_mask-pairs a b l m =
+    let few : length (map differ (pairs a b)) ≤ 64 =
+    omega (arith, length-map (pairs a b) differ, length-pairs a b (l ∙ sym m)) in
+    ap (λ ts. mask_l ts % 2 ^ 64) (tops_compared w8 (λ x y. not (eqb x y)) a b ∙ zip2-pairs a b)
+    ∙ mask_l-mod (map differ (pairs a b)) 64 few
+
+first_other : (a b : List ℕ) → length a ≡ 16 → length b ≡ 16
+    → cond (eqb (other_mask a b) 0) 16 (count_trailing_zeros 64 (other_mask a b))
+    ≡ common_prefix_len eqb a b
+first_other a b l m =
+    ap (λ n. cond (eqb n 0) 16 (count_trailing_zeros 64 n)) (other_mask-pairs a b l m)
+    ∙ first_set_mask_l differ (pairs a b) 16 (length-pairs a b (l ∙ sym m) ∙ l) (omega arith)
+    ∙ prefix_len-pairs a b
+
+-- n bytes of the sixteen from `at` on come before the first that differ
+pub record CommonInLanes (a b : List ℕ) (at n : ℕ) : Type 0 where
+  pub in_range : n ≤ 16
+  pub same : (k : ℕ) → at ≤ k → k < at + n → get_or a k 0 ≡ get_or b k 0
+  pub differs : n < 16 → eqb (get_or a (at + n) 0) (get_or b (at + n) 0) ≡ false
+
+abbrev window : ℕ → List ℕ → List ℕ
+window at s = take 16 (drop at s)
+
+get_or-window : (at k : ℕ) (s : List ℕ) → k < 16 → get_or (window at s) k 0 ≡ get_or s (at + k) 0
+get_or-window at k s l = get_or-take 16 (drop at s) k 0 l ∙ get_or-drop at s k 0
+
+in_lanes : (a b : List ℕ) (at n : ℕ) → at + 16 ≤ length a → at + 16 ≤ length b
+    → n ≡ common_prefix_len eqb (window at a) (window at b) → CommonInLanes a b at n
+in_lanes a b at n l m is =
+    let few : n ≤ 16 = omega (
+      arith,
+      (common_prefix_len-le eqb (window at a) (window at b)).0,
+      length-window at a l,
+    ) in
+    record {
+      in_range = few;
+      same = λ k from to.
+          let back : at + (k - at) ≡ k = omega arith in
+          ap (λ i. get_or a i 0) (sym back)
+          ∙ sym (get_or-window at (k - at) a (omega arith))
+          ∙ common_prefix_len-same (window at a) (window at b) (k - at) (omega arith)
+          ∙ get_or-window at (k - at) b (omega arith)
+          ∙ ap (λ i. get_or b i 0) back;
+      differs = λ short.
+          sym (ap₂ eqb (get_or-window at n a short) (get_or-window at n b short))
+          ∙ common_prefix_len-differs (window at a) (window at b) n is
+          (omega (arith, length-window at a l)) (omega (arith, length-window at b m));
+    }
+
+-- no bit is set
+pub none_other : (a b : List ℕ) (at : ℕ) → at + 16 ≤ length a → at + 16 ≤ length b
+    → other_mask (window at a) (window at b) ≡ 0 → CommonInLanes a b at 16
+none_other a b at l m none =
+    let mask = other_mask (window at a) (window at b) in
+    in_lanes a b at 16 l m
+    (sym (ap (λ c. cond c 16 (count_trailing_zeros 64 mask)) (eq-eqb mask 0 none))
+    ∙ first_other (window at a) (window at b) (length-window at a l) (length-window at b m))
+
+-- the lowest bit is set for the first pair that differs
+pub some_other : (a b : List ℕ) (at : ℕ) → at + 16 ≤ length a → at + 16 ≤ length b
+    → (other_mask (window at a) (window at b) ≡ 0 → ⊥)
+    → CommonInLanes a b at (count_trailing_zeros 64 (other_mask (window at a) (window at b)))
+some_other a b at l m some =
+    let mask = other_mask (window at a) (window at b) in
+    in_lanes a b at (count_trailing_zeros 64 mask) l m
+    (sym (ap (λ c. cond c 16 (count_trailing_zeros 64 mask)) (ne_eqb mask 0 some))
+    ∙ first_other (window at a) (window at b) (length-window at a l) (length-window at b m))
