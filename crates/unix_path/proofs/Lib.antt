@@ -29,3 +29,5 @@ pub mod PrefixLemmas
 pub mod SuffixLemmas
 pub mod GapLemmas
 pub mod EditLemmas
+pub mod FrontLemmas
+pub mod DifferLemmas

@@ -16,3 +16,4 @@ pub mod Ancestors
 pub mod Hashed
 pub mod OrderLaws
 pub mod Places
+pub mod Fronts

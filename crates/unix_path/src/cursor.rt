@@ -10,3 +10,4 @@ pub use component::Component;
 pub use components::Components;
 pub use iter::Iter;
 pub use parents::Ancestors;
+pub(crate) use steps::idle_len;

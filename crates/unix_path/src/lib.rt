@@ -2,6 +2,7 @@
 #![tactic(auto)]
 
 pub mod buf;
+mod compare;
 pub mod cursor;
 pub mod display;
 pub mod json;

@@ -11,24 +11,11 @@ ghost use Rattle.unix_path.specs.Order.{values_cmp};
 ghost use Rattle.unix_path.specs.OrderLaws.{values_cmp-total, is_eq-values_cmp};
 ghost use Rattle.unix_path.specs.Hashed.{hash_input_of};
 
+use crate::compare::{compare, is_same};
 use crate::cursor::Components;
 use crate::path::Path;
 use std::cmp::Ordering;
 use std::hash::{Hash, Hasher};
-
-// By the first values that differ; a walk with none left comes first.
-fn compare_parts<'a>(a: Components<'a>, b: Components<'a>) -> Ordering
-    ensures { result ≡ values_cmp (cursor_values a.entry) (cursor_values b.entry) }
-{
-    Iterator::cmp(a, b)
-}
-
-// By their values, as `compare_parts` has it.
-fn compare_paths<'a>(a: Path<'a>, b: Path<'a>) -> Ordering
-    ensures { result ≡ values_cmp (values a.entry.bytes.now) (values b.entry.bytes.now) }
-{
-    compare_parts(a.components(), b.components())
-}
 
 // Feeds the hasher the parts that are left, one after the other.
 fn feed_parts<H: Hasher>(parts: Components<'_>, state: &mut H)
@@ -51,7 +38,7 @@ impl PartialEq for Components<'_> {
             ≡ is_eq (values_cmp (cursor_values self.now) (cursor_values other.now)) }
         ensures same { IsTrue result ↔ (cursor_values self.now ≡ cursor_values other.now) }
     {
-        compare_parts(*self, *other).is_eq()
+        is_same(self.as_path().bytes, other.as_path().bytes)
     }
 }
 
@@ -65,7 +52,7 @@ impl PartialOrd for Components<'_> {
     ghost laws = { partial_order_from_total (Cmp.on_total cursor_values values_cmp-total) };
 
     fn partial_cmp(&self, other: &Self) -> Option<Ordering> {
-        Some(compare_parts(*self, *other))
+        Some(compare(self.as_path().bytes, other.as_path().bytes))
     }
 }
 
@@ -81,7 +68,7 @@ impl Ord for Components<'_> {
     ghost matches_eq = { Prim.search (comparing, rules) };
 
     fn cmp(&self, other: &Self) -> Ordering {
-        compare_parts(*self, *other)
+        compare(self.as_path().bytes, other.as_path().bytes)
     }
 }
 
@@ -97,7 +84,7 @@ impl PartialEq for Path<'_> {
             ≡ is_eq (values_cmp (values self.now.bytes.now) (values other.now.bytes.now)) }
         ensures same { IsTrue result ↔ SameValues self.now.bytes.now other.now.bytes.now }
     {
-        compare_paths(*self, *other).is_eq()
+        is_same(self.bytes, other.bytes)
     }
 }
 
@@ -113,7 +100,7 @@ impl PartialOrd for Path<'_> {
         (Cmp.on_total (λ path. values path.bytes.now) values_cmp-total) };
 
     fn partial_cmp(&self, other: &Self) -> Option<Ordering> {
-        Some(compare_paths(*self, *other))
+        Some(compare(self.bytes, other.bytes))
     }
 }
 
@@ -128,7 +115,7 @@ impl Ord for Path<'_> {
     ghost matches_eq = { Prim.search (comparing, rules) };
 
     fn cmp(&self, other: &Self) -> Ordering {
-        compare_paths(*self, *other)
+        compare(self.bytes, other.bytes)
     }
 }
 

@@ -61,7 +61,7 @@ fn is_idle(path: &[u8], i: usize) -> bool
 
 // How many bytes stand before the next part.
 #[inline]
-fn idle_len(path: &[u8]) -> usize
+pub(crate) fn idle_len(path: &[u8]) -> usize
     ensures in_range { result ≤ length path.now }
     ensures idle { (at : ℕ) →
         inner_parts at path.now ≡ inner_parts (at + result) (drop result path.now) }

@@ -6,7 +6,7 @@ use Rattle.unix_path.specs.Views.{value_of}
 use Rattle.unix_path.specs.Order.{value_cmp}
 use Rattle.unix_path.proofs.CursorLemmas.{GivesFirstPart, Components-yields}
 use Rattle.unix_path.proofs.ComponentLemmas.{cmp-values}
-use Rattle.unix_path.proofs.order.compare_parts.Goals as goal
+use Rattle.unix_path.proofs.compare.compare_parts.Goals as goal
 
 pub returns : goal.returns
 returns c =

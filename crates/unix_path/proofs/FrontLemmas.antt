@@ -1,0 +1,128 @@
+-- The values behind a common front, and their order.
+use Rattle.std.proofs.Common.{◌≡◌, ℕ, ◌+◌, ◌-◌, ◌<◌, ◌≤◌, List, [], ◌∷◌, ◌++◌, length, get_or}
+use Rattle.std.proofs.Common.{take, drop, map, refl, sym, ap, ap₂, ◌∙◌, arith, append_assoc}
+use Rattle.std.proofs.Common.{append-nil, take-append-drop, zero, suc, eqb, eqb-true, take_all, false}
+use Rattle.std.proofs.Common.{Equal}
+use Rattle.std.specs.List.{common_prefix_len}
+use Rattle.std.specs.Ordering.{ordering_then}
+use Rattle.std.proofs.lemmas.Cmp.{tied_itself}
+use Rattle.std.proofs.lemmas.List.{map-append, take_more}
+use Rattle.unix_path.specs.Parts.{slash, Part, Value, RootDir, inner_parts, leading_part, parts}
+use Rattle.unix_path.specs.Parts.{values}
+use Rattle.unix_path.specs.Fronts.{inner_values}
+use Rattle.unix_path.specs.Order.{values_cmp}
+use Rattle.unix_path.specs.OrderLaws.{value_cmp-total, values_cmp-total}
+use Rattle.unix_path.specs.Steps.{is_idle}
+use Rattle.unix_path.proofs.CaseLemmas.{by_test}
+use Rattle.unix_path.proofs.IdleLemmas.{parts-busy}
+use Rattle.unix_path.proofs.CutLemmas.{inner_parts-append, leading_part-append}
+use Rattle.unix_path.proofs.PartLemmas.{parts-root}
+use Rattle.unix_path.proofs.PieceLemmas.{inner_parts-nil}
+use Rattle.unix_path.proofs.PlaceLemmas.{values-inner_parts}
+
+-- a front that is no longer than the common one
+pub take-common : (a b : List ℕ) (n : ℕ) → n ≤ common_prefix_len eqb a b → take n a ≡ take n b
+take-common [] [] n l = refl
+take-common [] (y ∷ b) zero l = refl
+take-common [] (y ∷ b) (suc n) l = absurd (omega arith)
+take-common (x ∷ a) [] zero l = refl
+take-common (x ∷ a) [] (suc n) l = absurd (omega arith)
+take-common (x ∷ a) (y ∷ b) zero l = refl
+take-common (x ∷ a) (y ∷ b) (suc n) l = by_test (eqb x y)
+    (λ e. let m : suc n ≤ 1 + common_prefix_len eqb a b = rw e at l in
+    ap₂ (λ z zs. z ∷ zs) (eqb-true x y e) (take-common a b n (omega arith)))
+    (λ e. let m : suc n ≤ 0 = rw e at l in absurd (omega arith))
+
+pub values-leading : (s : List ℕ)
+    → values s ≡ map (λ (p : Part). p.value) (leading_part s) ++ inner_values s
+unfolding values parts
+values-leading s = map-append (λ (p : Part). p.value) (leading_part s) (inner_parts 0 s)
+
+pub values-slash : (a b : List ℕ) → 0 < length a
+    → values (a ++ slash ∷ b) ≡ values a ++ inner_values b
+values-slash a b l =
+    let lead = map (λ (p : Part). p.value) (leading_part a) in
+    values-leading (a ++ slash ∷ b)
+    ∙ ap₂ (λ x y. map (λ (p : Part). p.value) x ++ y) (leading_part-append a b l)
+    (ap (map (λ (p : Part). p.value)) (inner_parts-append 0 a b)
+    ∙ map-append (λ (p : Part). p.value) (inner_parts 0 a) (inner_parts (0 + length a + 1) b)
+    ∙ ap (λ vs. inner_values a ++ vs) (values-inner_parts (0 + length a + 1) b))
+    ∙ sym (append_assoc lead (inner_values a) (inner_values b))
+    ∙ ap (λ vs. vs ++ inner_values b) (sym (values-leading a))
+
+values-root : (b : List ℕ) → values (slash ∷ b) ≡ RootDir ∷ inner_values b
+unfolding values
+values-root b = ap (map (λ (p : Part). p.value)) (parts-root (slash ∷ b) refl)
+    ∙ ap (λ vs. RootDir ∷ vs) (values-inner_parts 1 b)
+
+pub inner_values-nil : inner_values [] ≡ []
+inner_values-nil = ap (map (λ (p : Part). p.value)) (inner_parts-nil 0)
+
+-- behind a string that ends in a slash
+pub values-past_slash : (f b : List ℕ)
+    → values ((f ++ slash ∷ []) ++ b) ≡ values (f ++ slash ∷ []) ++ inner_values b
+values-past_slash [] b = values-root b
+    ∙ sym (ap (λ vs. vs ++ inner_values b)
+    (values-root [] ∙ ap (λ vs. RootDir ∷ vs) inner_values-nil))
+values-past_slash (x ∷ f) b =
+    ap values (append_assoc (x ∷ f) (slash ∷ []) b) ∙ values-slash (x ∷ f) b (omega arith)
+    ∙ sym (ap (λ vs. vs ++ inner_values b) (values-slash (x ∷ f) [] (omega arith)
+    ∙ ap (λ vs. values (x ∷ f) ++ vs) inner_values-nil ∙ append-nil (values (x ∷ f))))
+
+-- what two lists both begin with doesn't count
+values_cmp-front : (v w x : List Value) → values_cmp (v ++ w) (v ++ x) ≡ values_cmp w x
+values_cmp-front [] w x = refl
+values_cmp-front (y ∷ v) w x =
+    ap (λ o. ordering_then o (values_cmp (v ++ w) (v ++ x))) (tied_itself value_cmp-total y)
+    ∙ values_cmp-front v w x
+
+-- nor does a common front that ends in a slash
+pub values_cmp-past_slash : (f a b : List ℕ)
+    → values_cmp (values ((f ++ slash ∷ []) ++ a)) (values ((f ++ slash ∷ []) ++ b))
+    ≡ values_cmp (inner_values a) (inner_values b)
+values_cmp-past_slash f a b =
+    ap₂ values_cmp (values-past_slash f a) (values-past_slash f b)
+    ∙ values_cmp-front (values (f ++ slash ∷ [])) (inner_values a) (inner_values b)
+
+take-past_slash : (s : List ℕ) (n : ℕ) → 0 < n → n ≤ length s → get_or s (n - 1) 0 ≡ slash
+    → take n s ≡ take (n - 1) s ++ slash ∷ []
+take-past_slash s n some l is =
+    let i = n - 1 in
+    ap (λ k. take k s) {x = n} {y = i + 1} (omega arith) ∙ take_more s i 0 (omega arith)
+    ∙ ap (λ b. take i s ++ b ∷ []) is
+
+-- the order of two strings that are the same up to a place just after a slash
+pub values_cmp-behind : (a b : List ℕ) (n : ℕ) → 0 < n → n ≤ length a → take n a ≡ take n b
+    → get_or a (n - 1) 0 ≡ slash
+    → values_cmp (inner_values (drop n a)) (inner_values (drop n b))
+    ≡ values_cmp (values a) (values b)
+values_cmp-behind a b n some l same is =
+    let f = take (n - 1) a in
+    let front = take-past_slash a n some l is in
+    let first : a ≡ (f ++ slash ∷ []) ++ drop n a =
+    sym (take-append-drop n a) ∙ ap (λ t. t ++ drop n a) front in
+    let second : b ≡ (f ++ slash ∷ []) ++ drop n b =
+    sym (take-append-drop n b) ∙ ap (λ t. t ++ drop n b) (sym same ∙ front) in
+    sym (ap₂ (λ x y. values_cmp (values x) (values y)) first second
+    ∙ values_cmp-past_slash f (drop n a) (drop n b))
+
+-- where the common front is all of both, they are the same
+pub common_prefix_len-whole : (a b : List ℕ) → common_prefix_len eqb a b ≡ length a
+    → common_prefix_len eqb a b ≡ length b → a ≡ b
+common_prefix_len-whole a b e f =
+    sym (take_all (length a) a (omega arith)) ∙ take-common a b (length a) (omega (arith, e))
+    ∙ take_all (length a) b (omega (arith, e, f))
+
+pub values_cmp-equal_strings : (a b : List ℕ) → a ≡ b → Equal ≡ values_cmp (values a) (values b)
+values_cmp-equal_strings a b e =
+    sym (ap (λ t. values_cmp (values a) (values t)) (sym e)
+    ∙ tied_itself values_cmp-total (values a))
+
+-- what follows its first bytes that don't count reads as the string's pieces
+pub values-idle : (s : List ℕ) (n : ℕ) → inner_parts 0 s ≡ inner_parts (0 + n) (drop n s)
+    → (0 < length (drop n s) → is_idle (drop n s) 0 ≡ false)
+    → values (drop n s) ≡ inner_values s
+unfolding values
+values-idle s n same busy =
+    ap (map (λ (p : Part). p.value)) (parts-busy (drop n s) busy)
+    ∙ sym (ap (map (λ (p : Part). p.value)) same ∙ values-inner_parts (0 + n) (drop n s))

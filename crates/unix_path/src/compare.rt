@@ -1,0 +1,93 @@
+//! The order of two paths, found behind the bytes that both begin with.
+ghost use Rattle.std.specs.Prelude.{◌≡◌, ℕ, ◌+◌, ◌<◌, ◌≤◌, ◌==◌, false, length, take, drop, IsTrue};
+ghost use Rattle.std.specs.Prelude.{slice_index};
+ghost use Rattle.std.specs.Ordering.{is_eq};
+ghost use Rattle.std.specs.List.{position_or_len};
+ghost use Rattle.unix_path.specs.Parts.{slash, dot, is_slash, values};
+ghost use Rattle.unix_path.specs.Cursor.{cursor_values};
+ghost use Rattle.unix_path.specs.Fronts.{inner_values, piece_rank};
+ghost use Rattle.unix_path.specs.Order.{values_cmp};
+
+use crate::cursor::{Components, idle_len};
+use std::cmp::Ordering;
+use unix_bytes::search::{common_len, past_last};
+
+// By the first values that differ; a walk with none left comes first.
+fn compare_parts<'a>(a: Components<'a>, b: Components<'a>) -> Ordering
+    ensures { result ≡ values_cmp (cursor_values a.entry) (cursor_values b.entry) }
+{
+    Iterator::cmp(a, b)
+}
+
+// The walk over what follows a slash, where neither a root nor a leading `.` counts.
+fn inner_walk(bytes: &[u8]) -> Components<'_>
+    ensures { cursor_values result ≡ inner_values bytes.now }
+{
+    Components::new(&bytes[idle_len(bytes)..])
+}
+
+// Whether a name stands at `at` that doesn't begin with a dot.
+#[inline]
+fn begins_name(bytes: &[u8], at: usize) -> bool
+    ensures in_range { IsTrue result → at < length bytes.now }
+    ensures no_slash { IsTrue result → (slice_index bytes.now at == slash) ≡ false }
+    ensures no_dot { IsTrue result → (slice_index bytes.now at == dot) ≡ false }
+{
+    at < bytes.len() && bytes[at] != b'/' && bytes[at] != b'.'
+}
+
+// One more than the byte at `at`, or 0 where a piece ends there: at a slash, or at the end.
+#[inline]
+fn piece_rank(bytes: &[u8], at: usize) -> u16
+    ensures { result ≡ piece_rank bytes.now at }
+{
+    if at < bytes.len() && bytes[at] != b'/' {
+        1 + u16::from(bytes[at])
+    } else {
+        0
+    }
+}
+
+// By the parts behind `dir`, where the bytes are the same up to `front` and hold no slash between.
+fn compare_behind(a: &[u8], b: &[u8], dir: usize, front: usize) -> Ordering
+    requires in_order { dir ≤ front }
+    requires in_first { front ≤ length a.now }
+    requires in_second { front ≤ length b.now }
+    requires same { take front a.now ≡ take front b.now }
+    requires no_slash { position_or_len is_slash (drop dir (take front a.now))
+        ≡ length (drop dir (take front a.now)) }
+    ensures { result
+        ≡ values_cmp (inner_values (drop dir a.now)) (inner_values (drop dir b.now)) }
+{
+    if begins_name(a, dir) && begins_name(b, dir) {
+        let first = piece_rank(a, front);
+        let second = piece_rank(b, front);
+        if first != second {
+            return first.cmp(&second);
+        }
+    }
+    compare_parts(inner_walk(&a[dir..]), inner_walk(&b[dir..]))
+}
+
+// By their values: what both begin with, up to its last slash, is skipped.
+pub(crate) fn compare(a: &[u8], b: &[u8]) -> Ordering
+    ensures { result ≡ values_cmp (values a.now) (values b.now) }
+{
+    let front = common_len(a, b);
+    if front == a.len() && front == b.len() {
+        return Ordering::Equal;
+    }
+    let dir = past_last(&a[..front], b'/');
+    if dir == 0 {
+        compare_parts(Components::new(a), Components::new(b))
+    } else {
+        compare_behind(a, b, dir, front)
+    }
+}
+
+// Whether they have the same values.
+pub(crate) fn is_same(a: &[u8], b: &[u8]) -> bool
+    ensures { result ≡ is_eq (values_cmp (values a.now) (values b.now)) }
+{
+    a == b || compare(a, b).is_eq()
+}
