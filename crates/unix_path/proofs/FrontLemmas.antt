@@ -9,7 +9,13 @@ use Rattle.std.proofs.lemmas.Cmp.{tied_itself}
 use Rattle.std.proofs.lemmas.List.{map-append, take_more}
 use Rattle.unix_path.specs.Parts.{slash, Part, Value, RootDir, inner_parts, leading_part, parts}
 use Rattle.unix_path.specs.Parts.{values}
-use Rattle.unix_path.specs.Fronts.{inner_values}
+use Rattle.unix_path.specs.Fronts.{inner_values, common_dir_of}
+use Rattle.unix_path.specs.Names.{past_last}
+use Rattle.unix_path.specs.Parts.{is_slash}
+use Rattle.unix_path.proofs.NameLemmas.{past_last-is}
+use Rattle.std.proofs.lemmas.List.Sums.{fails_before_first}
+use Rattle.std.specs.List.{position_or_len}
+use Rattle.std.proofs.Common.{not, get_or-drop, length-drop}
 use Rattle.unix_path.specs.Order.{values_cmp}
 use Rattle.unix_path.specs.OrderLaws.{value_cmp-total, values_cmp-total}
 use Rattle.unix_path.specs.Steps.{is_idle}
@@ -126,3 +132,20 @@ unfolding values
 values-idle s n same busy =
     ap (map (λ (p : Part). p.value)) (parts-busy (drop n s) busy)
     ∙ sym (ap (map (λ (p : Part). p.value)) same ∙ values-inner_parts (0 + n) (drop n s))
+
+-- the place just after the common front's last slash, found in that front
+pub common_dir_of-is : (a b : List ℕ) (front n : ℕ) → front ≡ common_prefix_len eqb a b
+    → n ≤ length (take front a) → (0 < n → get_or (take front a) (n - 1) 0 ≡ slash)
+    → position_or_len is_slash (drop n (take front a)) ≡ length (drop n (take front a))
+    → n ≡ common_dir_of a b
+unfolding common_dir_of
+common_dir_of-is a b front n is l after none =
+    let s = take front a in
+    past_last-is is_slash s n l
+    (λ k from to.
+    let back : n + (k - n) ≡ k = omega arith in
+    ap (λ z. not (is_slash z))
+    (ap (λ i. get_or s i 0) (sym back) ∙ sym (get_or-drop n s (k - n) 0))
+    ∙ ap not (fails_before_first is_slash (drop n s) (k - n) 0 (omega (arith, length-drop n s))))
+    (λ some. ap (λ z. not (is_slash z)) (after some))
+    ∙ ap (λ m. past_last is_slash (take m a)) is

@@ -2,8 +2,9 @@
 //!
 //! More methods of `Path` stand by their subject: `path/parents.rt` has the parent and the
 //! ancestors, `path/file_name.rt` the file name, its stem and its extension, `path/prefix.rt` what
-//! begins and ends a path, `display.rt` its text, and `buf.rt` with `buf/` the copies that own
-//! their bytes. `order.rt` has its equality, order and hash; `json.rt` and `kept/` convert from it.
+//! begins and ends a path, `path/common_dir.rt` how far two are written alike, `display.rt` its
+//! text, and `buf.rt` with `buf/` the copies that own their bytes. `order.rt` has its equality,
+//! order and hash; `json.rt` and `kept/` convert from it.
 ghost use Rattle.std.specs.Prelude.{◌≡◌, ◌↔◌, ◌<◌, ◌^◌, not, [], ◌∷◌, length, map};
 ghost use Rattle.std.specs.Prelude.{IsTrue, IsFalse};
 ghost use Rattle.unix_path.specs.Parts.{RootDir, slash, values, value_bytes, is_rooted};
@@ -17,6 +18,7 @@ ghost use Rattle.unix_bytes.specs.declared.bytes.UnixStr.{UnixStr};
 ghost use Rattle.unix_path.specs.Prefixes.{Begins};
 ghost use Rattle.unix_path.specs.Places.{LiesIn};
 
+mod common_dir;
 mod file_name;
 mod parents;
 mod prefix;
