@@ -131,6 +131,33 @@ fn rows_of_the_order(rt: HostRuntime) {
     }
 }
 
+// The order of two paths, and the place just after the last slash of what both begin with.
+static COMMON_DIRS: [(&str, &str, Ordering, usize); 14] = [
+    ("a/./b", "a/b", Ordering::Equal, 2),
+    ("a/b", "ab", Ordering::Less, 0),
+    ("a/bc", "a/b", Ordering::Greater, 2),
+    ("/./a", "/a", Ordering::Equal, 1),
+    ("./a", "a", Ordering::Less, 0),
+    ("a/.", "a/..", Ordering::Less, 2),
+    (".a", ".", Ordering::Greater, 0),
+    ("a/", "a/.", Ordering::Equal, 2),
+    ("a//b", "a/b", Ordering::Equal, 2),
+    ("//", "/", Ordering::Equal, 1),
+    ("x/y/a", "x/y/a", Ordering::Equal, 4),
+    ("x/+", "x/..", Ordering::Greater, 2),
+    ("x/a/b", "x/a.b", Ordering::Less, 2),
+    ("a longer name/of/two/parts", "a longer name/of//two/partial", Ordering::Greater, 17),
+];
+
+#[test]
+fn rows_of_common_dirs(rt: HostRuntime) {
+    for row in COMMON_DIRS.iter() {
+        let (p, q) = (path(row.0), path(row.1));
+        assert!(rt; is_ordered(row.0, row.1, row.2), "{} {}", row.0, row.1);
+        assert!(rt; p.common_dir(q) == row.3 && q.common_dir(p) == row.3, "{}", row.3);
+    }
+}
+
 #[test]
 fn walks_are_equal_by_what_is_left(rt: HostRuntime) {
     let mut walk = path("x/a/b").components();
