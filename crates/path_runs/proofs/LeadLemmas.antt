@@ -13,7 +13,9 @@ use Rattle.unix_path.proofs.PartLemmas.{root_first, root_first-values, values-ni
 use Rattle.unix_path.proofs.PieceLemmas.{first_piece, slice_split-first}
 use Rattle.path_runs.specs.JoinLaws.{drop_dot, drop_lead, values_added}
 use Rattle.path_runs.proofs.AssociativeLemmas.{join_of-nil}
-use Rattle.path_runs.proofs.ValueLemmas.{body, body-nil, values-leading, append_values}
+use Rattle.unix_path.specs.Fronts.{inner_values}
+use Rattle.unix_path.proofs.FrontLemmas.{inner_values-nil, values-leading}
+use Rattle.path_runs.proofs.ValueLemmas.{append_values}
 use Rattle.path_runs.proofs.ValueLemmas.{values-join_of, values-join_of_rootless}
 
 -- a value that can stand behind another
@@ -34,9 +36,9 @@ inner_pieces at (p ∷ ps) =
     by_value true = tt
     by_value false = tt
 
-body-inner : (s : List ℕ) → AllByRecursion IsInner (body s)
+inner_values-inner : (s : List ℕ) → AllByRecursion IsInner (inner_values s)
 unfolding inner_parts
-body-inner s = inner_pieces 0 (slice_split is_slash s)
+inner_values-inner s = inner_pieces 0 (slice_split is_slash s)
 
 -- neither the root nor a dot stands first
 pub record HasNoLead (vs : List Value) : Type 0 where
@@ -51,8 +53,8 @@ inner-no_lead (CurDir ∷ vs) h = absurd h.0
 inner-no_lead (ParentDir ∷ vs) h = record { no_lead = refl; no_dot = refl; no_root = refl }
 inner-no_lead (Normal name ∷ vs) h = record { no_lead = refl; no_dot = refl; no_root = refl }
 
-body-no_lead : (s : List ℕ) → HasNoLead (body s)
-body-no_lead s = inner-no_lead (body s) (body-inner s)
+inner_values-no_lead : (s : List ℕ) → HasNoLead (inner_values s)
+inner_values-no_lead s = inner-no_lead (inner_values s) (inner_values-inner s)
 
 -- the first piece is `.`
 abbrev pub dot_first : List (List ℕ) → Bool
@@ -71,8 +73,8 @@ leading_values s = by_test (is_rooted s) (λ e. rw e refl)
     (λ d. rw d refl) (λ d. rw d refl)))
 
 pub values-lead : (s : List ℕ)
-    → values s ≡ lead_by (is_rooted s) (dot_first (slice_split is_slash s)) ++ body s
-values-lead s = values-leading s ∙ ap (λ vs. vs ++ body s) (leading_values s)
+    → values s ≡ lead_by (is_rooted s) (dot_first (slice_split is_slash s)) ++ inner_values s
+values-lead s = values-leading s ∙ ap (λ vs. vs ++ inner_values s) (leading_values s)
 
 drop_lead-lead_by : (c d : Bool) (vs : List Value) → HasNoLead vs
     → drop_lead (lead_by c d ++ vs) ≡ vs
@@ -80,9 +82,9 @@ drop_lead-lead_by true d vs h = refl
 drop_lead-lead_by false true vs h = refl
 drop_lead-lead_by false false vs h = h.no_lead
 
-pub drop_lead-values : (s : List ℕ) → drop_lead (values s) ≡ body s
+pub drop_lead-values : (s : List ℕ) → drop_lead (values s) ≡ inner_values s
 drop_lead-values s =
-    ap drop_lead (values-lead s) ∙ drop_lead-lead_by (is_rooted s) _ (body s) (body-no_lead s)
+    ap drop_lead (values-lead s) ∙ drop_lead-lead_by (is_rooted s) _ (inner_values s) (inner_values-no_lead s)
 
 same_tail : {x y : Value} {xs ys : List Value} → x ∷ xs ≡ y ∷ ys → xs ≡ ys
 same_tail e = cc
@@ -98,18 +100,18 @@ inner_lead false false (v ∷ vs) x xs h e = subst (AllByRecursion IsInner) (sam
 pub inner-behind : (s : List ℕ) (x : Value) (xs : List Value) → values s ≡ x ∷ xs
     → AllByRecursion IsInner xs
 inner-behind s x xs e =
-    inner_lead (is_rooted s) _ (body s) x xs (body-inner s) (sym (values-lead s) ∙ e)
+    inner_lead (is_rooted s) _ (inner_values s) x xs (inner_values-inner s) (sym (values-lead s) ∙ e)
 
 drop_dot-lead_by : (d : Bool) (vs : List Value) → HasNoLead vs
     → drop_dot (lead_by false d ++ vs) ≡ vs
 drop_dot-lead_by true vs h = refl
 drop_dot-lead_by false vs h = h.no_dot
 
-pub drop_dot-values : (s : List ℕ) → is_rooted s ≡ false → drop_dot (values s) ≡ body s
+pub drop_dot-values : (s : List ℕ) → is_rooted s ≡ false → drop_dot (values s) ≡ inner_values s
 drop_dot-values s r =
     ap drop_dot (values-lead s
-    ∙ ap (λ c. lead_by c (dot_first (slice_split is_slash s)) ++ body s) r)
-    ∙ drop_dot-lead_by (dot_first (slice_split is_slash s)) (body s) (body-no_lead s)
+    ∙ ap (λ c. lead_by c (dot_first (slice_split is_slash s)) ++ inner_values s) r)
+    ∙ drop_dot-lead_by (dot_first (slice_split is_slash s)) (inner_values s) (inner_values-no_lead s)
 
 -- what a join adds behind the values of its first path
 pub values-join_of_values_added : (a b : List ℕ) → is_rooted b ≡ false
@@ -134,7 +136,7 @@ joins_same a b c d e f = by_test (is_rooted c)
     root : is_rooted c ≡ is_rooted d
     root = roots_same c d f
 
-    bodies : body c ≡ body d
+    bodies : inner_values c ≡ inner_values d
     bodies = sym (drop_lead-values c) ∙ ap drop_lead f ∙ drop_lead-values d
 
     append_same : (vs : List Value) → append_values vs c ≡ append_values vs d
@@ -146,4 +148,4 @@ values-join_of_nil a = values-join_of_rootless a [] refl ∙ nothing (values a)
   where
     nothing : (vs : List Value) → append_values vs [] ≡ vs
     nothing [] = values-nil
-    nothing (v ∷ vs) = ap (λ b. (v ∷ vs) ++ b) body-nil ∙ append-nil (v ∷ vs)
+    nothing (v ∷ vs) = ap (λ b. (v ∷ vs) ++ b) inner_values-nil ∙ append-nil (v ∷ vs)

@@ -7,7 +7,7 @@ use Rattle.unix_path.specs.Parts.{is_slash, slash, Part, Value, RootDir, CurDir,
 use Rattle.unix_path.specs.Parts.{counts, value_of_piece, inner_parts, is_rooted, values}
 use Rattle.unix_path.proofs.CaseLemmas.{by_test}
 use Rattle.path_runs.proofs.LeadLemmas.{dot_first, lead_by, values-lead}
-use Rattle.path_runs.proofs.ValueLemmas.{body}
+use Rattle.unix_path.specs.Fronts.{inner_values}
 
 -- the values of the pieces that count
 abbrev pub names_of : List (List ℕ) → List Value
@@ -20,16 +20,16 @@ names_of-parts at (p ∷ ps) =
     let next = names_of-parts (at + length p + 1) ps in
     by_test (counts p) (λ e. rw e (ap (λ vs. value_of_piece p ∷ vs) next)) (λ e. rw e next)
 
-body-pieces : (s : List ℕ) → body s ≡ names_of (slice_split is_slash s)
+inner_values-pieces : (s : List ℕ) → inner_values s ≡ names_of (slice_split is_slash s)
 unfolding inner_parts
-body-pieces s = names_of-parts 0 (slice_split is_slash s)
+inner_values-pieces s = names_of-parts 0 (slice_split is_slash s)
 
 values-pieces : (s : List ℕ)
     → values s ≡ lead_by (is_rooted s) (dot_first (slice_split is_slash s)) ++ names_of
     (slice_split is_slash s)
 values-pieces s = values-lead s
     ∙ ap (λ vs. lead_by (is_rooted s) (dot_first (slice_split is_slash s)) ++ vs)
-    (body-pieces s)
+    (inner_values-pieces s)
 
 -- behind the root
 pub values-rooted : (t : List ℕ) → values (slash ∷ t) ≡ RootDir ∷ names_of (slice_split is_slash t)

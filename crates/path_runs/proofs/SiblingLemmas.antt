@@ -18,7 +18,8 @@ use Rattle.path_runs.specs.EditLaws.{IsOneName}
 use Rattle.path_runs.proofs.AssociativeLemmas.{sep, is_open-sep, join_of-sep}
 use Rattle.path_runs.proofs.BehindLemmas.{rest-behind, rest-sep, values-sep}
 use Rattle.path_runs.proofs.LeadLemmas.{drop_lead-values}
-use Rattle.path_runs.proofs.ValueLemmas.{body, append_values, values-join_of_rootless}
+use Rattle.unix_path.specs.Fronts.{inner_values}
+use Rattle.path_runs.proofs.ValueLemmas.{append_values, values-join_of_rootless}
 
 pub parent_of-name : (s name : List ℕ) (vs : List Value) → values s ≡ vs ++ Normal name ∷ []
     → parent_of s ≡ Some (rest s 0 1)
@@ -42,7 +43,7 @@ pub values-join_of_one : (s n name : List ℕ) → IsOneName n name
 values-join_of_one s n name e =
     values-join_of_rootless s n (one_rootless n name e) ∙ append_one (values s)
   where
-    bodies : body n ≡ Normal name ∷ []
+    bodies : inner_values n ≡ Normal name ∷ []
     bodies = sym (drop_lead-values n) ∙ ap drop_lead e
 
     append_one : (vs : List Value) → append_values vs n ≡ vs ++ Normal name ∷ []

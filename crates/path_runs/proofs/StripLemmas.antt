@@ -13,7 +13,8 @@ use Rattle.path_runs.specs.JoinLaws.{drop_lead}
 use Rattle.path_runs.proofs.AssociativeLemmas.{join_of-nil}
 use Rattle.path_runs.proofs.LeadLemmas.{IsInner, inner-no_lead, inner-behind}
 use Rattle.path_runs.proofs.LeadLemmas.{drop_lead-values}
-use Rattle.path_runs.proofs.ValueLemmas.{body, some_values, append_values, values-join_of_rootless}
+use Rattle.unix_path.specs.Fronts.{inner_values}
+use Rattle.path_runs.proofs.ValueLemmas.{some_values, append_values, values-join_of_rootless}
 
 middle-append : (vs ws : List Value) → middle (length vs) 0 (vs ++ ws) ≡ ws
 middle-append vs ws =
@@ -38,7 +39,7 @@ join_behind s base r v vs more is left all =
     let inner = inner-no_lead more (inner-end vs more (inner-behind s v (vs ++ more) (sym all))) in
     let rootless : is_rooted r ≡ false =
     sym (root_first-values r) ∙ ap root_first left ∙ inner.no_root in
-    let bodies : body r ≡ more = sym (drop_lead-values r) ∙ ap drop_lead left ∙ inner.no_lead in
+    let bodies : inner_values r ≡ more = sym (drop_lead-values r) ∙ ap drop_lead left ∙ inner.no_lead in
     values-join_of_rootless base r rootless ∙ ap (λ ws. append_values ws r) is
     ∙ ap (λ ws. v ∷ vs ++ ws) bodies ∙ all
 

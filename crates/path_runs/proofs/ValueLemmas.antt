@@ -1,55 +1,15 @@
--- The values of what stands behind a slash, and of a join.
-use Rattle.std.proofs.Common.{◌≡◌, ℕ, ◌+◌, ◌<◌, true, false, eqb, List, [], ◌∷◌, ◌++◌, length}
-use Rattle.std.proofs.Common.{get_or, map, refl, sym, ap, ap₂, ◌∙◌, arith, append_assoc, append-nil}
+-- The values of what stands behind an open string, and of a join.
+use Rattle.std.proofs.Common.{◌≡◌, ℕ, ◌<◌, true, false, eqb, List, [], ◌∷◌, ◌++◌, length}
+use Rattle.std.proofs.Common.{get_or, map, refl, sym, ap, ◌∙◌, arith, append_assoc}
 use Rattle.std.proofs.Common.{eqb-true}
-use Rattle.std.proofs.lemmas.List.{map-append}
-use Rattle.unix_path.specs.Parts.{slash, is_rooted, Part, Value, RootDir, inner_parts, leading_part}
-use Rattle.unix_path.specs.Parts.{parts, values}
+use Rattle.unix_path.specs.Parts.{slash, is_rooted, Part, Value}
+use Rattle.unix_path.specs.Parts.{values}
 use Rattle.unix_path.specs.Joins.{is_open, join_of}
 use Rattle.unix_path.proofs.CaseLemmas.{by_test}
-use Rattle.unix_path.proofs.CutLemmas.{inner_parts-append, leading_part-append}
+use Rattle.unix_path.proofs.FrontLemmas.{values-past_slash, values-slash}
+use Rattle.unix_path.specs.Fronts.{inner_values}
 use Rattle.unix_path.proofs.JoinLemmas.{join_of_open, join_of_closed}
 use Rattle.unix_path.proofs.PartLemmas.{parts-root, parts-name, values-nil}
-use Rattle.unix_path.proofs.PieceLemmas.{inner_parts-nil}
-use Rattle.unix_path.proofs.PlaceLemmas.{values-inner_parts}
-
--- the values of the pieces that count, without a leading root or dot
-abbrev pub body : List ℕ → List Value
-body s = map (λ (p : Part). p.value) (inner_parts 0 s)
-
-pub values-leading : (s : List ℕ)
-    → values s ≡ map (λ (p : Part). p.value) (leading_part s) ++ body s
-unfolding values parts
-values-leading s = map-append (λ (p : Part). p.value) (leading_part s) (inner_parts 0 s)
-
-values-slash : (a b : List ℕ) → 0 < length a → values (a ++ slash ∷ b) ≡ values a ++ body b
-values-slash a b l =
-    let lead = map (λ (p : Part). p.value) (leading_part a) in
-    values-leading (a ++ slash ∷ b)
-    ∙ ap₂ (λ x y. map (λ (p : Part). p.value) x ++ y) (leading_part-append a b l)
-    (ap (map (λ (p : Part). p.value)) (inner_parts-append 0 a b)
-    ∙ map-append (λ (p : Part). p.value) (inner_parts 0 a) (inner_parts (0 + length a + 1) b)
-    ∙ ap (λ vs. body a ++ vs) (values-inner_parts (0 + length a + 1) b))
-    ∙ sym (append_assoc lead (body a) (body b))
-    ∙ ap (λ vs. vs ++ body b) (sym (values-leading a))
-
-values-root : (b : List ℕ) → values (slash ∷ b) ≡ RootDir ∷ body b
-unfolding values
-values-root b = ap (map (λ (p : Part). p.value)) (parts-root (slash ∷ b) refl)
-    ∙ ap (λ vs. RootDir ∷ vs) (values-inner_parts 1 b)
-
-pub body-nil : body [] ≡ []
-body-nil = ap (map (λ (p : Part). p.value)) (inner_parts-nil 0)
-
--- behind a string that ends in a slash
-pub values-past_slash : (f b : List ℕ)
-    → values ((f ++ slash ∷ []) ++ b) ≡ values (f ++ slash ∷ []) ++ body b
-values-past_slash [] b = values-root b
-    ∙ sym (ap (λ vs. vs ++ body b) (values-root [] ∙ ap (λ vs. RootDir ∷ vs) body-nil))
-values-past_slash (x ∷ f) b =
-    ap values (append_assoc (x ∷ f) (slash ∷ []) b) ∙ values-slash (x ∷ f) b (omega arith)
-    ∙ sym (ap (λ vs. vs ++ body b) (values-slash (x ∷ f) [] (omega arith)
-    ∙ ap (λ vs. values (x ∷ f) ++ vs) body-nil ∙ append-nil (values (x ∷ f))))
 
 pub ends_open : (u : List ℕ) → is_open u ≡ true → 0 < length u
     → (f : List ℕ) × (f ++ slash ∷ [] ≡ u)
@@ -60,11 +20,11 @@ ends_open (x ∷ y ∷ u) o l =
     (x ∷ more.0, ap (λ z. x ∷ z) more.1)
 
 values-open : (u b : List ℕ) → is_open u ≡ true → 0 < length u
-    → values (u ++ b) ≡ values u ++ body b
+    → values (u ++ b) ≡ values u ++ inner_values b
 values-open u b o l =
     let cut = ends_open u o l in
     ap (λ u. values (u ++ b)) (sym cut.1) ∙ values-past_slash cut.0 b
-    ∙ ap (λ u. values u ++ body b) cut.1
+    ∙ ap (λ u. values u ++ inner_values b) cut.1
 
 pub not_open : (a : List ℕ) → is_open a ≡ false → 0 < length a
 not_open [] o = absurd (let d : true ≡ false = o in cc)
@@ -72,7 +32,7 @@ not_open (x ∷ a) o = omega arith
 
 -- behind a path that isn't empty
 pub values-join_of : (a b : List ℕ) → 0 < length a → is_rooted b ≡ false
-    → values (join_of a b) ≡ values a ++ body b
+    → values (join_of a b) ≡ values a ++ inner_values b
 values-join_of a b l r = by_test (is_open a)
     (λ o. ap values (join_of_open a b r o) ∙ values-open a b o l)
     (λ o. ap values (join_of_closed a b r o ∙ append_assoc a (slash ∷ []) b)
@@ -89,12 +49,12 @@ some_values s l = by_test (eqb (get_or s 0 0) 47)
 -- the values of a join: some values, and behind them those of b without a leading root or dot
 abbrev pub append_values : List Value → List ℕ → List Value
 append_values [] b = values b
-append_values (v ∷ vs) b = (v ∷ vs) ++ body b
+append_values (v ∷ vs) b = (v ∷ vs) ++ inner_values b
 
-append_values-some : (s b : List ℕ) → 0 < length s → values s ++ body b ≡ append_values (values s) b
+append_values-some : (s b : List ℕ) → 0 < length s → values s ++ inner_values b ≡ append_values (values s) b
 append_values-some s b l =
     let some = some_values s l in
-    ap (λ vs. vs ++ body b) some.2 ∙ sym (ap (λ vs. append_values vs b) some.2)
+    ap (λ vs. vs ++ inner_values b) some.2 ∙ sym (ap (λ vs. append_values vs b) some.2)
 
 pub values-append_open : (u b : List ℕ) → is_open u ≡ true
     → values (u ++ b) ≡ append_values (values u) b

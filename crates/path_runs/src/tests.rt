@@ -7,6 +7,7 @@ mod edits;
 mod facts;
 mod fits;
 mod loops;
+mod pairs;
 mod tables;
 mod walks;
 

@@ -1,43 +1,22 @@
 -- The values behind a common front, and their order.
-use Rattle.std.proofs.Common.{◌≡◌, ℕ, ◌+◌, ◌-◌, ◌<◌, ◌≤◌, List, [], ◌∷◌, ◌++◌, length, get_or}
-use Rattle.std.proofs.Common.{take, drop, map, refl, sym, ap, ap₂, ◌∙◌, arith, append_assoc}
-use Rattle.std.proofs.Common.{append-nil, take-append-drop, zero, suc, eqb, eqb-true, take_all, false}
 use Rattle.std.proofs.Common.{Equal}
-use Rattle.std.specs.List.{common_prefix_len}
-use Rattle.std.specs.Ordering.{ordering_then}
+use Rattle.std.proofs.Common.{append-nil, take-append-drop, false}
+use Rattle.std.proofs.Common.{take, drop, map, refl, sym, ap, ap₂, ◌∙◌, arith, append_assoc}
+use Rattle.std.proofs.Common.{◌≡◌, ℕ, ◌+◌, ◌-◌, ◌<◌, ◌≤◌, List, [], ◌∷◌, ◌++◌, length, get_or}
 use Rattle.std.proofs.lemmas.Cmp.{tied_itself}
 use Rattle.std.proofs.lemmas.List.{map-append, take_more}
-use Rattle.unix_path.specs.Parts.{slash, Part, Value, RootDir, inner_parts, leading_part, parts}
-use Rattle.unix_path.specs.Parts.{values}
-use Rattle.unix_path.specs.Fronts.{inner_values, common_dir_of}
-use Rattle.unix_path.specs.Names.{past_last}
-use Rattle.unix_path.specs.Parts.{is_slash}
-use Rattle.unix_path.proofs.NameLemmas.{past_last-is}
-use Rattle.std.proofs.lemmas.List.Sums.{fails_before_first}
-use Rattle.std.specs.List.{position_or_len}
-use Rattle.std.proofs.Common.{not, get_or-drop, length-drop}
-use Rattle.unix_path.specs.Order.{values_cmp}
-use Rattle.unix_path.specs.OrderLaws.{value_cmp-total, values_cmp-total}
-use Rattle.unix_path.specs.Steps.{is_idle}
-use Rattle.unix_path.proofs.CaseLemmas.{by_test}
-use Rattle.unix_path.proofs.IdleLemmas.{parts-busy}
+use Rattle.std.specs.Ordering.{ordering_then}
 use Rattle.unix_path.proofs.CutLemmas.{inner_parts-append, leading_part-append}
+use Rattle.unix_path.proofs.IdleLemmas.{parts-busy}
 use Rattle.unix_path.proofs.PartLemmas.{parts-root}
 use Rattle.unix_path.proofs.PieceLemmas.{inner_parts-nil}
 use Rattle.unix_path.proofs.PlaceLemmas.{values-inner_parts}
-
--- a front that is no longer than the common one
-pub take-common : (a b : List ℕ) (n : ℕ) → n ≤ common_prefix_len eqb a b → take n a ≡ take n b
-take-common [] [] n l = refl
-take-common [] (y ∷ b) zero l = refl
-take-common [] (y ∷ b) (suc n) l = absurd (omega arith)
-take-common (x ∷ a) [] zero l = refl
-take-common (x ∷ a) [] (suc n) l = absurd (omega arith)
-take-common (x ∷ a) (y ∷ b) zero l = refl
-take-common (x ∷ a) (y ∷ b) (suc n) l = by_test (eqb x y)
-    (λ e. let m : suc n ≤ 1 + common_prefix_len eqb a b = rw e at l in
-    ap₂ (λ z zs. z ∷ zs) (eqb-true x y e) (take-common a b n (omega arith)))
-    (λ e. let m : suc n ≤ 0 = rw e at l in absurd (omega arith))
+use Rattle.unix_path.specs.Fronts.{inner_values}
+use Rattle.unix_path.specs.Order.{values_cmp}
+use Rattle.unix_path.specs.OrderLaws.{value_cmp-total, values_cmp-total}
+use Rattle.unix_path.specs.Parts.{slash, Part, Value, RootDir, inner_parts, leading_part, parts}
+use Rattle.unix_path.specs.Parts.{values}
+use Rattle.unix_path.specs.Steps.{is_idle}
 
 pub values-leading : (s : List ℕ)
     → values s ≡ map (λ (p : Part). p.value) (leading_part s) ++ inner_values s
@@ -90,6 +69,14 @@ values_cmp-past_slash f a b =
     ap₂ values_cmp (values-past_slash f a) (values-past_slash f b)
     ∙ values_cmp-front (values (f ++ slash ∷ [])) (inner_values a) (inner_values b)
 
+pub values_cmp-slash : (f a b : List ℕ)
+    → values_cmp (values (f ++ slash ∷ a)) (values (f ++ slash ∷ b))
+    ≡ values_cmp (inner_values a) (inner_values b)
+values_cmp-slash f a b =
+    ap₂ (λ x y. values_cmp (values x) (values y)) (sym (append_assoc f (slash ∷ []) a))
+    (sym (append_assoc f (slash ∷ []) b))
+    ∙ values_cmp-past_slash f a b
+
 take-past_slash : (s : List ℕ) (n : ℕ) → 0 < n → n ≤ length s → get_or s (n - 1) 0 ≡ slash
     → take n s ≡ take (n - 1) s ++ slash ∷ []
 take-past_slash s n some l is =
@@ -112,13 +99,6 @@ values_cmp-behind a b n some l same is =
     sym (ap₂ (λ x y. values_cmp (values x) (values y)) first second
     ∙ values_cmp-past_slash f (drop n a) (drop n b))
 
--- where the common front is all of both, they are the same
-pub common_prefix_len-whole : (a b : List ℕ) → common_prefix_len eqb a b ≡ length a
-    → common_prefix_len eqb a b ≡ length b → a ≡ b
-common_prefix_len-whole a b e f =
-    sym (take_all (length a) a (omega arith)) ∙ take-common a b (length a) (omega (arith, e))
-    ∙ take_all (length a) b (omega (arith, e, f))
-
 pub values_cmp-equal_strings : (a b : List ℕ) → a ≡ b → Equal ≡ values_cmp (values a) (values b)
 values_cmp-equal_strings a b e =
     sym (ap (λ t. values_cmp (values a) (values t)) (sym e)
@@ -132,20 +112,3 @@ unfolding values
 values-idle s n same busy =
     ap (map (λ (p : Part). p.value)) (parts-busy (drop n s) busy)
     ∙ sym (ap (map (λ (p : Part). p.value)) same ∙ values-inner_parts (0 + n) (drop n s))
-
--- the place just after the common front's last slash, found in that front
-pub common_dir_of-is : (a b : List ℕ) (front n : ℕ) → front ≡ common_prefix_len eqb a b
-    → n ≤ length (take front a) → (0 < n → get_or (take front a) (n - 1) 0 ≡ slash)
-    → position_or_len is_slash (drop n (take front a)) ≡ length (drop n (take front a))
-    → n ≡ common_dir_of a b
-unfolding common_dir_of
-common_dir_of-is a b front n is l after none =
-    let s = take front a in
-    past_last-is is_slash s n l
-    (λ k from to.
-    let back : n + (k - n) ≡ k = omega arith in
-    ap (λ z. not (is_slash z))
-    (ap (λ i. get_or s i 0) (sym back) ∙ sym (get_or-drop n s (k - n) 0))
-    ∙ ap not (fails_before_first is_slash (drop n s) (k - n) 0 (omega (arith, length-drop n s))))
-    (λ some. ap (λ z. not (is_slash z)) (after some))
-    ∙ ap (λ m. past_last is_slash (take m a)) is

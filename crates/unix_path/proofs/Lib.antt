@@ -30,4 +30,5 @@ pub mod SuffixLemmas
 pub mod GapLemmas
 pub mod EditLemmas
 pub mod FrontLemmas
+pub mod CommonDirLemmas
 pub mod DifferLemmas

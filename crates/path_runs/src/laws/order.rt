@@ -4,7 +4,7 @@ ghost use Rattle.std.specs.Cmp.{IsTotalOrder};
 ghost use Rattle.std.specs.declared.cmp.Ordering.TheVariants.{Equal};
 ghost use Rattle.unix_path.specs.Parts.{Value};
 ghost use Rattle.unix_path.specs.Order.{values_cmp};
-ghost use Rattle.path_runs.specs.OrderLaws.{PrefixBothWays};
+ghost use Rattle.path_runs.specs.OrderLaws.{OrderBehindCommonDir, OrderBehindSlash, PrefixBothWays};
 
 /// The order of lists of values is total, and only equal lists tie in it.
 ///
@@ -25,4 +25,16 @@ pub fn order_total()
 /// `a/./b` starts with `a//b`, and `a//b` starts with `a/./b`; they are equal.
 pub fn prefix_both_ways()
     ensures { PrefixBothWays }
+{}
+
+/// Two paths that begin with the same bytes and then a slash are in the order of what follows it,
+/// where neither a root nor a leading `.` counts.
+///
+/// So they are in the order of what follows their `common_dir`, unless that is 0. Calling it does
+/// nothing. Not in Rust's std.
+///
+/// `x/./b` and `x//a` are in the order of `b` and `a`.
+pub fn order_behind_front()
+    ensures slash { OrderBehindSlash }
+    ensures common_dir { OrderBehindCommonDir }
 {}

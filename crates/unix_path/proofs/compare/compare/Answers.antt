@@ -1,6 +1,6 @@
 use Rattle.std.proofs.Common.{arith, sym, ◌∙◌, ◌-◌, ◌≤◌, length-take-le}
 use Rattle.std.proofs.lemmas.List.{get_or-take}
-use Rattle.unix_path.proofs.FrontLemmas.{common_prefix_len-whole, take-common}
+use Rattle.unix_path.proofs.CommonDirLemmas.{common_prefix_len-whole, take-common}
 use Rattle.unix_path.proofs.FrontLemmas.{values_cmp-behind, values_cmp-equal_strings}
 use Rattle.unix_path.proofs.compare.compare.Goals as goal
 

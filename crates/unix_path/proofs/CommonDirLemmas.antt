@@ -1,0 +1,95 @@
+-- The common front of two strings, and the place just after its last slash.
+use Rattle.std.proofs.Common.{Bool, true, length-take-le}
+use Rattle.std.proofs.Common.{zero, suc, eqb, eqb-true, take_all, false}
+use Rattle.std.proofs.Common.{not, get_or-drop, length-drop}
+use Rattle.std.proofs.Common.{take, drop, refl, sym, ap, ap₂, ◌∙◌, arith}
+use Rattle.std.proofs.Common.{◌≡◌, ℕ, ◌+◌, ◌-◌, ◌<◌, ◌≤◌, List, [], ◌∷◌, length, get_or}
+use Rattle.std.proofs.lemmas.List.Sums.{common_prefix_len-le, prefix_len_stops}
+use Rattle.std.proofs.lemmas.List.Sums.{fails_before_first}
+use Rattle.std.proofs.lemmas.List.{get_or-reverse, length-reverse, get_or-take}
+use Rattle.std.specs.List.{common_prefix_len}
+use Rattle.std.specs.List.{position_or_len}
+use Rattle.std.specs.List.{suffix_len}
+use Rattle.std.specs.Prelude.{reverse}
+use Rattle.unix_path.proofs.CaseLemmas.{by_test}
+use Rattle.unix_path.proofs.NameLemmas.{past_last-is}
+use Rattle.unix_path.specs.Fronts.{inner_values, common_dir_of}
+use Rattle.unix_path.specs.Names.{past_last}
+use Rattle.unix_path.specs.Order.{values_cmp}
+use Rattle.unix_path.specs.Parts.{is_slash}
+use Rattle.unix_path.specs.Parts.{slash}
+use Rattle.unix_path.specs.Parts.{values}
+use Rattle.unix_path.proofs.FrontLemmas.{values_cmp-behind}
+
+-- a front that is no longer than the common one
+pub take-common : (a b : List ℕ) (n : ℕ) → n ≤ common_prefix_len eqb a b → take n a ≡ take n b
+take-common [] [] n l = refl
+take-common [] (y ∷ b) zero l = refl
+take-common [] (y ∷ b) (suc n) l = absurd (omega arith)
+take-common (x ∷ a) [] zero l = refl
+take-common (x ∷ a) [] (suc n) l = absurd (omega arith)
+take-common (x ∷ a) (y ∷ b) zero l = refl
+take-common (x ∷ a) (y ∷ b) (suc n) l = by_test (eqb x y)
+    (λ e. let m : suc n ≤ 1 + common_prefix_len eqb a b = rw e at l in
+    ap₂ (λ z zs. z ∷ zs) (eqb-true x y e) (take-common a b n (omega arith)))
+    (λ e. let m : suc n ≤ 0 = rw e at l in absurd (omega arith))
+
+-- where the common front is all of both, they are the same
+pub common_prefix_len-whole : (a b : List ℕ) → common_prefix_len eqb a b ≡ length a
+    → common_prefix_len eqb a b ≡ length b → a ≡ b
+common_prefix_len-whole a b e f =
+    sym (take_all (length a) a (omega arith)) ∙ take-common a b (length a) (omega (arith, e))
+    ∙ take_all (length a) b (omega (arith, e, f))
+
+-- the place just after the common front's last slash, found in that front
+pub common_dir_of-is : (a b : List ℕ) (front n : ℕ) → front ≡ common_prefix_len eqb a b
+    → n ≤ length (take front a) → (0 < n → get_or (take front a) (n - 1) 0 ≡ slash)
+    → position_or_len is_slash (drop n (take front a)) ≡ length (drop n (take front a))
+    → n ≡ common_dir_of a b
+unfolding common_dir_of
+common_dir_of-is a b front n is l after none =
+    let s = take front a in
+    past_last-is is_slash s n l
+    (λ k from to.
+    let back : n + (k - n) ≡ k = omega arith in
+    ap (λ z. not (is_slash z))
+    (ap (λ i. get_or s i 0) (sym back) ∙ sym (get_or-drop n s (k - n) 0))
+    ∙ ap not (fails_before_first is_slash (drop n s) (k - n) 0 (omega (arith, length-drop n s))))
+    (λ some. ap (λ z. not (is_slash z)) (after some))
+    ∙ ap (λ m. past_last is_slash (take m a)) is
+
+past_last-le : (p : ℕ → Bool) (s : List ℕ) → past_last p s ≤ length s
+past_last-le p s = omega arith
+
+-- the byte before the place just after the last slash
+past_last-slash : (s : List ℕ) → 0 < past_last is_slash s
+    → get_or s (past_last is_slash s - 1) 0 ≡ slash
+past_last-slash s some =
+    let q : ℕ → Bool = λ b. not (is_slash b) in
+    let n = past_last is_slash s in
+    let m = suffix_len q s in
+    let short : m < length (reverse s) = omega (arith, length-reverse s) in
+    let here : get_or (reverse s) m 0 ≡ get_or s (n - 1) 0 =
+    get_or-reverse s m 0 (omega arith)
+    ∙ ap (λ k. get_or s k 0) {x = length s - 1 - m} {y = n - 1} (omega arith) in
+    eqb-true (get_or s (n - 1) 0) 47
+    (not_false (is_slash (get_or s (n - 1) 0))
+    (ap q (sym here) ∙ prefix_len_stops q (reverse s) 0 short))
+  where
+    not_false : (b : Bool) → not b ≡ false → b ≡ true
+    not_false true e = refl
+    not_false false e = cc
+
+-- the order of two strings that begin with the same bytes, up to a slash
+pub values_cmp-common_dir : (a b : List ℕ) → 0 < common_dir_of a b
+    → values_cmp (values a) (values b)
+    ≡ values_cmp (inner_values (drop (common_dir_of a b) a))
+    (inner_values (drop (common_dir_of a b) b))
+unfolding common_dir_of
+values_cmp-common_dir a b some =
+    let m = common_prefix_len eqb a b in
+    let range = common_prefix_len-le eqb a b in
+    let n = past_last is_slash (take m a) in
+    let inside : n ≤ m = omega (arith, past_last-le is_slash (take m a), length-take-le m a range.0) in
+    sym (values_cmp-behind a b n some (omega (arith, range.0)) (take-common a b n inside)
+    (sym (get_or-take m a (n - 1) 0 (omega arith)) ∙ past_last-slash (take m a) some))
