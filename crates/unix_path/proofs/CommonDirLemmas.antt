@@ -1,25 +1,18 @@
 -- The common front of two strings, and the place just after its last slash.
-use Rattle.std.proofs.Common.{Bool, true, length-take-le}
-use Rattle.std.proofs.Common.{zero, suc, eqb, eqb-true, take_all, false}
-use Rattle.std.proofs.Common.{not, get_or-drop, length-drop}
-use Rattle.std.proofs.Common.{take, drop, refl, sym, ap, ap₂, ◌∙◌, arith}
-use Rattle.std.proofs.Common.{◌≡◌, ℕ, ◌+◌, ◌-◌, ◌<◌, ◌≤◌, List, [], ◌∷◌, length, get_or}
-use Rattle.std.proofs.lemmas.List.Sums.{common_prefix_len-le, prefix_len_stops}
-use Rattle.std.proofs.lemmas.List.Sums.{fails_before_first}
-use Rattle.std.proofs.lemmas.List.{get_or-reverse, length-reverse, get_or-take}
-use Rattle.std.specs.List.{common_prefix_len}
-use Rattle.std.specs.List.{position_or_len}
-use Rattle.std.specs.List.{suffix_len}
+use Rattle.std.proofs.Common.{Bool, true, length-take-le, zero, suc, eqb, eqb-true, take_all, false}
+use Rattle.std.proofs.Common.{not, get_or-drop, length-drop, take, drop, refl, sym, ap, ap₂, ◌∙◌}
+use Rattle.std.proofs.Common.{arith, ◌≡◌, ℕ, ◌+◌, ◌-◌, ◌<◌, ◌≤◌, List, [], ◌∷◌, length, get_or}
+use Rattle.std.specs.List.{common_prefix_len, position_or_len, suffix_len}
 use Rattle.std.specs.Prelude.{reverse}
-use Rattle.unix_path.proofs.CaseLemmas.{by_test}
-use Rattle.unix_path.proofs.NameLemmas.{past_last-is}
+use Rattle.std.proofs.lemmas.List.{get_or-reverse, length-reverse, get_or-take}
+use Rattle.std.proofs.lemmas.List.Sums.{common_prefix_len-le, prefix_len_stops, fails_before_first}
 use Rattle.unix_path.specs.Fronts.{inner_values, common_dir_of}
 use Rattle.unix_path.specs.Names.{past_last}
 use Rattle.unix_path.specs.Order.{values_cmp}
-use Rattle.unix_path.specs.Parts.{is_slash}
-use Rattle.unix_path.specs.Parts.{slash}
-use Rattle.unix_path.specs.Parts.{values}
+use Rattle.unix_path.specs.Parts.{is_slash, slash, values}
+use Rattle.unix_path.proofs.CaseLemmas.{by_test}
 use Rattle.unix_path.proofs.FrontLemmas.{values_cmp-behind}
+use Rattle.unix_path.proofs.NameLemmas.{past_last-is}
 
 -- a front that is no longer than the common one
 pub take-common : (a b : List ℕ) (n : ℕ) → n ≤ common_prefix_len eqb a b → take n a ≡ take n b

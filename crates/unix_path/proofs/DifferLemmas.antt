@@ -1,20 +1,20 @@
 -- The order of two strings whose first pieces are names that differ.
-use Rattle.std.proofs.Common.{◌≡◌, ℕ, zero, suc, ◌+◌, ◌-◌, ◌<◌, ◌≤◌, false, true, eqb}
-use Rattle.std.proofs.Common.{ltb, List, [], ◌∷◌, length, get_or, take, drop, map, refl, sym, ap, ap₂}
-use Rattle.std.proofs.Common.{◌∙◌, arith, Ordering, Less, Greater, ltb-true, ltb-false}
-use Rattle.std.proofs.Common.{get_or-drop, length-drop, length-take-le, ◌==◌, if◌then◌else◌}
-use Rattle.std.specs.Ordering.{nat_cmp, ordering_then}
+use Rattle.std.proofs.Common.{◌≡◌, ℕ, zero, suc, ◌+◌, ◌-◌, ◌<◌, ◌≤◌, false, true, eqb, ltb, List}
+use Rattle.std.proofs.Common.{[], ◌∷◌, length, get_or, take, drop, map, refl, sym, ap, ap₂, ◌∙◌}
+use Rattle.std.proofs.Common.{arith, Ordering, Less, Greater, ltb-true, ltb-false, get_or-drop}
+use Rattle.std.proofs.Common.{length-drop, length-take-le, ◌==◌, if◌then◌else◌}
 use Rattle.std.specs.Cmp.{nat_cmp_is}
 use Rattle.std.specs.Cmp.Lexicographic.{slice_cmp}
 use Rattle.std.specs.List.{position_or_len}
+use Rattle.std.specs.Ordering.{nat_cmp, ordering_then}
 use Rattle.std.specs.Str.{bytes_eq}
 use Rattle.std.proofs.lemmas.Cmp.{tied_itself, nat_cmp_total}
 use Rattle.std.proofs.lemmas.List.{get_or-take}
 use Rattle.std.proofs.lemmas.List.Sums.{fails_before_first}
-use Rattle.unix_path.specs.Parts.{Part, Value, Normal, parent_dir, value_of_piece, inner_parts}
-use Rattle.unix_path.specs.Parts.{is_slash, slash}
 use Rattle.unix_path.specs.Fronts.{inner_values, piece_rank}
 use Rattle.unix_path.specs.Order.{values_cmp}
+use Rattle.unix_path.specs.Parts.{Part, Value, Normal, parent_dir, value_of_piece, inner_parts}
+use Rattle.unix_path.specs.Parts.{is_slash, slash}
 use Rattle.unix_path.specs.Steps.{is_idle}
 use Rattle.unix_path.proofs.CaseLemmas.{by_test, take-suc_cons}
 use Rattle.unix_path.proofs.IdleLemmas.{inner_parts_busy}
@@ -41,16 +41,14 @@ nat_cmp-differ : (x y : ℕ) (o : Ordering) → (x ≡ y → ⊥)
 nat_cmp-differ x y o differs = by_test (ltb x y)
     (λ e.
     let l = ltb-true x y e in
-    let less : nat_cmp x y ≡ Less = sym (nat_cmp_is x y Less l) in
-    (
+    let less : nat_cmp x y ≡ Less = sym (nat_cmp_is x y Less l) in (
       ap (λ r. ordering_then r o) less ∙ sym less,
       less ∙ nat_cmp_is (1 + x) (1 + y) Less (omega arith),
     ))
     (λ e.
     let l = ltb-false x y e in
     let more : y < x = omega (arith, differs) in
-    let greater : nat_cmp x y ≡ Greater = sym (nat_cmp_is x y Greater more) in
-    (
+    let greater : nat_cmp x y ≡ Greater = sym (nat_cmp_is x y Greater more) in (
       ap (λ r. ordering_then r o) greater ∙ sym greater,
       greater ∙ nat_cmp_is (1 + x) (1 + y) Greater (omega arith),
     ))
@@ -132,8 +130,7 @@ inner_values-name (x ∷ s) name =
     let busy : is_idle (x ∷ s) 0 ≡ false = rw (slash, dot) refl in
     let other : bytes_eq (x ∷ first_piece s) parent_dir ≡ false = rw dot refl in
     let value : value_of_piece (x ∷ first_piece s) ≡ Normal (x ∷ first_piece s) = rw other refl in
-    let piece = first_piece-other x s slash in
-    (
+    let piece = first_piece-other x s slash in (
       more,
       ap (map (λ (p : Part). p.value)) (inner_parts_busy 0 (x ∷ s) (omega arith) busy)
           ∙ ap (λ v. v ∷ more) (ap value_of_piece piece ∙ value ∙ ap Normal (sym piece)),

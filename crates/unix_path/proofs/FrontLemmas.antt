@@ -1,22 +1,21 @@
 -- The values behind a common front, and their order.
-use Rattle.std.proofs.Common.{Equal}
-use Rattle.std.proofs.Common.{append-nil, take-append-drop, false}
-use Rattle.std.proofs.Common.{take, drop, map, refl, sym, ap, ap₂, ◌∙◌, arith, append_assoc}
-use Rattle.std.proofs.Common.{◌≡◌, ℕ, ◌+◌, ◌-◌, ◌<◌, ◌≤◌, List, [], ◌∷◌, ◌++◌, length, get_or}
+use Rattle.std.proofs.Common.{Equal, append-nil, take-append-drop, false, take, drop, map, refl}
+use Rattle.std.proofs.Common.{sym, ap, ap₂, ◌∙◌, arith, append_assoc, ◌≡◌, ℕ, ◌+◌, ◌-◌, ◌<◌, ◌≤◌}
+use Rattle.std.proofs.Common.{List, [], ◌∷◌, ◌++◌, length, get_or}
+use Rattle.std.specs.Ordering.{ordering_then}
 use Rattle.std.proofs.lemmas.Cmp.{tied_itself}
 use Rattle.std.proofs.lemmas.List.{map-append, take_more}
-use Rattle.std.specs.Ordering.{ordering_then}
-use Rattle.unix_path.proofs.CutLemmas.{inner_parts-append, leading_part-append}
-use Rattle.unix_path.proofs.IdleLemmas.{parts-busy}
-use Rattle.unix_path.proofs.PartLemmas.{parts-root}
-use Rattle.unix_path.proofs.PieceLemmas.{inner_parts-nil}
-use Rattle.unix_path.proofs.PlaceLemmas.{values-inner_parts}
 use Rattle.unix_path.specs.Fronts.{inner_values}
 use Rattle.unix_path.specs.Order.{values_cmp}
 use Rattle.unix_path.specs.OrderLaws.{value_cmp-total, values_cmp-total}
 use Rattle.unix_path.specs.Parts.{slash, Part, Value, RootDir, inner_parts, leading_part, parts}
 use Rattle.unix_path.specs.Parts.{values}
 use Rattle.unix_path.specs.Steps.{is_idle}
+use Rattle.unix_path.proofs.CutLemmas.{inner_parts-append, leading_part-append}
+use Rattle.unix_path.proofs.IdleLemmas.{parts-busy}
+use Rattle.unix_path.proofs.PartLemmas.{parts-root}
+use Rattle.unix_path.proofs.PieceLemmas.{inner_parts-nil}
+use Rattle.unix_path.proofs.PlaceLemmas.{values-inner_parts}
 
 pub values-leading : (s : List ℕ)
     → values s ≡ map (λ (p : Part). p.value) (leading_part s) ++ inner_values s

@@ -146,7 +146,12 @@ static COMMON_DIRS: [(&str, &str, Ordering, usize); 14] = [
     ("x/y/a", "x/y/a", Ordering::Equal, 4),
     ("x/+", "x/..", Ordering::Greater, 2),
     ("x/a/b", "x/a.b", Ordering::Less, 2),
-    ("a longer name/of/two/parts", "a longer name/of//two/partial", Ordering::Greater, 17),
+    (
+        "a longer name/of/two/parts",
+        "a longer name/of//two/partial",
+        Ordering::Greater,
+        17,
+    ),
 ];
 
 #[test]
@@ -154,7 +159,11 @@ fn rows_of_common_dirs(rt: HostRuntime) {
     for row in COMMON_DIRS.iter() {
         let (p, q) = (path(row.0), path(row.1));
         assert!(rt; is_ordered(row.0, row.1, row.2), "{} {}", row.0, row.1);
-        assert!(rt; p.common_dir(q) == row.3 && q.common_dir(p) == row.3, "{}", row.3);
+        assert!(rt;
+            p.common_dir(q) == row.3 && q.common_dir(p) == row.3,
+            "{}",
+            row.3
+        );
     }
 }
 
