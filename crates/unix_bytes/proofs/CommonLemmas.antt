@@ -1,4 +1,4 @@
--- How far two strings are the same, and sixteen bytes of each compared at once.
+-- How far two strings are the same, and several bytes of each compared at once.
 use Rattle.std.proofs.Common.{◌≡◌, ℕ, zero, suc, ◌+◌, ◌-◌, ◌^◌, ◌%◌, ◌<◌, ◌≤◌, Bool, true, false}
 use Rattle.std.proofs.Common.{cond, not, eqb, List, [], ◌∷◌, length, take, drop, map, get_or}
 use Rattle.std.proofs.Common.{refl, sym, ap, ap₂, ◌∙◌, arith, w8, eq-eqb, ne_eqb, eqb-true}
@@ -9,7 +9,8 @@ use Rattle.std.specs.Simd.Lanes.{zip2, mask_l, top}
 use Rattle.std.proofs.lemmas.List.{get_or-take, length-map}
 use Rattle.std.proofs.lemmas.List.Sums.{common_prefix_len-le}
 use Rattle.std.proofs.lemmas.Simd.{tops_compared, mask_l-mod, first_set_mask_l}
-use Rattle.unix_bytes.proofs.HitLemmas.{by_test, length-window}
+use Rattle.std.proofs.Common.{length-drop, length-take-le}
+use Rattle.unix_bytes.proofs.HitLemmas.{by_test}
 
 -- the bytes are the same up to n, where a string ends or they differ
 pub common_prefix_len-is : (a b : List ℕ) (n : ℕ) → n ≤ length a → n ≤ length b
@@ -78,72 +79,79 @@ length-pairs (x ∷ a) (y ∷ b) e = ap (λ n. suc n) (length-pairs a b (omega a
 abbrev other_mask : List ℕ → List ℕ → ℕ
 other_mask a b = mask_l (map (top 7) (zip2 (λ x y. cond (not (eqb x y)) 255 0) a b)) % 2 ^ 64
 
-other_mask-pairs : (a b : List ℕ) → length a ≡ 16 → length b ≡ 16
+other_mask-pairs : (a b : List ℕ) (n : ℕ) → n ≤ 64 → length a ≡ n → length b ≡ n
     → other_mask a b ≡ mask_l (map differ (pairs a b))
-other_mask-pairs a b l m =
-    let few : length (map differ (pairs a b)) ≤ 64 =
+other_mask-pairs a b n few l m =
+    let size : length (map differ (pairs a b)) ≤ 64 =
     omega (arith, length-map (pairs a b) differ, length-pairs a b (l ∙ sym m)) in
     ap (λ ts. mask_l ts % 2 ^ 64) (tops_compared w8 (λ x y. not (eqb x y)) a b ∙ zip2-pairs a b)
-    ∙ mask_l-mod (map differ (pairs a b)) 64 few
+    ∙ mask_l-mod (map differ (pairs a b)) 64 size
 
-first_other : (a b : List ℕ) → length a ≡ 16 → length b ≡ 16
-    → cond (eqb (other_mask a b) 0) 16 (count_trailing_zeros 64 (other_mask a b))
+first_other : (a b : List ℕ) (n : ℕ) → n ≤ 64 → length a ≡ n → length b ≡ n
+    → cond (eqb (other_mask a b) 0) n (count_trailing_zeros 64 (other_mask a b))
     ≡ common_prefix_len eqb a b
-first_other a b l m =
-    ap (λ n. cond (eqb n 0) 16 (count_trailing_zeros 64 n)) (other_mask-pairs a b l m)
-    ∙ first_set_mask_l differ (pairs a b) 16 (length-pairs a b (l ∙ sym m) ∙ l) (omega arith)
+first_other a b n few l m =
+    ap (λ k. cond (eqb k 0) n (count_trailing_zeros 64 k)) (other_mask-pairs a b n few l m)
+    ∙ first_set_mask_l differ (pairs a b) n (length-pairs a b (l ∙ sym m) ∙ l) few
     ∙ prefix_len-pairs a b
 
--- n bytes of the sixteen from `at` on come before the first that differ
-pub record CommonInLanes (a b : List ℕ) (at n : ℕ) : Type 0 where
-  pub in_range : n ≤ 16
-  pub same : (k : ℕ) → at ≤ k → k < at + n → get_or a k 0 ≡ get_or b k 0
-  pub differs : n < 16 → eqb (get_or a (at + n) 0) (get_or b (at + n) 0) ≡ false
+-- so many bytes of the n from `at` on come before the first that differ
+pub record CommonInLanes (a b : List ℕ) (n at len : ℕ) : Type 0 where
+  pub in_range : len ≤ n
+  pub same : (k : ℕ) → at ≤ k → k < at + len → get_or a k 0 ≡ get_or b k 0
+  pub differs : len < n → eqb (get_or a (at + len) 0) (get_or b (at + len) 0) ≡ false
 
-abbrev window : ℕ → List ℕ → List ℕ
-window at s = take 16 (drop at s)
+abbrev window : ℕ → ℕ → List ℕ → List ℕ
+window n at s = take n (drop at s)
 
-get_or-window : (at k : ℕ) (s : List ℕ) → k < 16 → get_or (window at s) k 0 ≡ get_or s (at + k) 0
-get_or-window at k s l = get_or-take 16 (drop at s) k 0 l ∙ get_or-drop at s k 0
+length-window : (n at : ℕ) (s : List ℕ) → at + n ≤ length s → length (window n at s) ≡ n
+length-window n at s l = length-take-le n (drop at s) (omega (arith, length-drop at s))
 
-in_lanes : (a b : List ℕ) (at n : ℕ) → at + 16 ≤ length a → at + 16 ≤ length b
-    → n ≡ common_prefix_len eqb (window at a) (window at b) → CommonInLanes a b at n
-in_lanes a b at n l m is =
-    let few : n ≤ 16 = omega (
+get_or-window : (n at k : ℕ) (s : List ℕ) → k < n
+    → get_or (window n at s) k 0 ≡ get_or s (at + k) 0
+get_or-window n at k s l = get_or-take n (drop at s) k 0 l ∙ get_or-drop at s k 0
+
+in_lanes : (a b : List ℕ) (n at len : ℕ) → at + n ≤ length a → at + n ≤ length b
+    → len ≡ common_prefix_len eqb (window n at a) (window n at b) → CommonInLanes a b n at len
+in_lanes a b n at len l m is =
+    let few : len ≤ n = omega (
       arith,
-      (common_prefix_len-le eqb (window at a) (window at b)).0,
-      length-window at a l,
+      (common_prefix_len-le eqb (window n at a) (window n at b)).0,
+      length-window n at a l,
     ) in
     record {
       in_range = few;
       same = λ k from to.
           let back : at + (k - at) ≡ k = omega arith in
           ap (λ i. get_or a i 0) (sym back)
-          ∙ sym (get_or-window at (k - at) a (omega arith))
-          ∙ common_prefix_len-same (window at a) (window at b) (k - at) (omega arith)
-          ∙ get_or-window at (k - at) b (omega arith)
+          ∙ sym (get_or-window n at (k - at) a (omega arith))
+          ∙ common_prefix_len-same (window n at a) (window n at b) (k - at) (omega arith)
+          ∙ get_or-window n at (k - at) b (omega arith)
           ∙ ap (λ i. get_or b i 0) back;
       differs = λ short.
-          sym (ap₂ eqb (get_or-window at n a short) (get_or-window at n b short))
-          ∙ common_prefix_len-differs (window at a) (window at b) n is
-          (omega (arith, length-window at a l)) (omega (arith, length-window at b m));
+          sym (ap₂ eqb (get_or-window n at len a short) (get_or-window n at len b short))
+          ∙ common_prefix_len-differs (window n at a) (window n at b) len is
+          (omega (arith, length-window n at a l)) (omega (arith, length-window n at b m));
     }
 
 -- no bit is set
-pub none_other : (a b : List ℕ) (at : ℕ) → at + 16 ≤ length a → at + 16 ≤ length b
-    → other_mask (window at a) (window at b) ≡ 0 → CommonInLanes a b at 16
-none_other a b at l m none =
-    let mask = other_mask (window at a) (window at b) in
-    in_lanes a b at 16 l m
-    (sym (ap (λ c. cond c 16 (count_trailing_zeros 64 mask)) (eq-eqb mask 0 none))
-    ∙ first_other (window at a) (window at b) (length-window at a l) (length-window at b m))
+pub none_other : (a b : List ℕ) (n at : ℕ) → n ≤ 64 → at + n ≤ length a → at + n ≤ length b
+    → other_mask (window n at a) (window n at b) ≡ 0 → CommonInLanes a b n at n
+none_other a b n at few l m none =
+    let mask = other_mask (window n at a) (window n at b) in
+    in_lanes a b n at n l m
+    (sym (ap (λ c. cond c n (count_trailing_zeros 64 mask)) (eq-eqb mask 0 none))
+    ∙ first_other (window n at a) (window n at b) n few (length-window n at a l)
+    (length-window n at b m))
 
 -- the lowest bit is set for the first pair that differs
-pub some_other : (a b : List ℕ) (at : ℕ) → at + 16 ≤ length a → at + 16 ≤ length b
-    → (other_mask (window at a) (window at b) ≡ 0 → ⊥)
-    → CommonInLanes a b at (count_trailing_zeros 64 (other_mask (window at a) (window at b)))
-some_other a b at l m some =
-    let mask = other_mask (window at a) (window at b) in
-    in_lanes a b at (count_trailing_zeros 64 mask) l m
-    (sym (ap (λ c. cond c 16 (count_trailing_zeros 64 mask)) (ne_eqb mask 0 some))
-    ∙ first_other (window at a) (window at b) (length-window at a l) (length-window at b m))
+pub some_other : (a b : List ℕ) (n at : ℕ) → n ≤ 64 → at + n ≤ length a → at + n ≤ length b
+    → (other_mask (window n at a) (window n at b) ≡ 0 → ⊥)
+    → CommonInLanes a b n at
+    (count_trailing_zeros 64 (other_mask (window n at a) (window n at b)))
+some_other a b n at few l m some =
+    let mask = other_mask (window n at a) (window n at b) in
+    in_lanes a b n at (count_trailing_zeros 64 mask) l m
+    (sym (ap (λ c. cond c n (count_trailing_zeros 64 mask)) (ne_eqb mask 0 some))
+    ∙ first_other (window n at a) (window n at b) n few (length-window n at a l)
+    (length-window n at b m))

@@ -1,6 +1,6 @@
 //! The first and the last place of a byte, and how far two byte strings are the same.
 ghost use Rattle.std.specs.Prelude.{◌≡◌, ℕ, ◌+◌, ◌-◌, ◌<◌, ◌≤◌, ◌==◌, false, length, take, drop};
-ghost use Rattle.std.specs.Prelude.{slice_index, nat_eq, min};
+ghost use Rattle.std.specs.Prelude.{slice_index, nat_eq, min, IsTrue};
 ghost use Rattle.std.specs.List.{position_or_len, common_prefix_len};
 ghost use Rattle.unix_bytes.specs.Lanes.{hit_mask};
 
@@ -158,6 +158,32 @@ fn common_in_lanes(a: &[u8], b: &[u8], at: usize) -> usize
     }
 }
 
+// False only where some of the 64 bytes from `at` on differ.
+#[inline(always)]
+fn is_common_block(a: &[u8], b: &[u8], at: usize) -> bool
+    requires in_first { at + 64 ≤ length a.now }
+    requires in_second { at + 64 ≤ length b.now }
+    ensures { IsTrue result → ((k : ℕ) → at ≤ k → k < at + 64 →
+        slice_index a.now k ≡ slice_index b.now k) }
+{
+    let other = u8x64::from_slice(&a[at..]).simd_ne(u8x64::from_slice(&b[at..]));
+    other.to_bitmask() == 0
+}
+
+// How many bytes the two begin with alike, as far as blocks of 64 say.
+#[inline]
+fn common_blocks_len(a: &[u8], b: &[u8], most: usize) -> usize
+    requires { most ≡ min (length a.now) (length b.now) }
+    ensures in_range { result ≤ most }
+    ensures same { (k : ℕ) → k < result → slice_index a.now k ≡ slice_index b.now k }
+{
+    let mut len = 0;
+    while 64 <= most - len && is_common_block(a, b, len) {
+        len += 64;
+    }
+    len
+}
+
 /// How many bytes the two begin with alike: the length of their longest common front. Does not
 /// allocate. Not in Rust's std.
 ///
@@ -174,7 +200,7 @@ pub fn common_len(a: &[u8], b: &[u8]) -> usize
         return common_in_few(a, b, most);
     }
     let last = most - 16;
-    let mut len = 0;
+    let mut len = common_blocks_len(a, b, most);
     while len < last {
         let common = common_in_lanes(a, b, len);
         if common < 16 {

@@ -1,14 +1,15 @@
 //! The order of two paths, found behind the bytes that both begin with.
-ghost use Rattle.std.specs.Prelude.{◌≡◌, ℕ, ◌+◌, ◌<◌, ◌≤◌, ◌==◌, false, length, take, drop, IsTrue};
-ghost use Rattle.std.specs.Prelude.{slice_index};
+ghost use Rattle.std.specs.Prelude.{◌≡◌, ℕ, ◌+◌, ◌<◌, ◌≤◌, ◌==◌, false, length, take, drop};
+ghost use Rattle.std.specs.Prelude.{slice_index, IsTrue, ◌↔◌};
 ghost use Rattle.std.specs.Ordering.{is_eq};
 ghost use Rattle.std.specs.List.{position_or_len};
 ghost use Rattle.unix_path.specs.Parts.{slash, dot, is_slash, values};
 ghost use Rattle.unix_path.specs.Cursor.{cursor_values};
 ghost use Rattle.unix_path.specs.Fronts.{inner_values, piece_rank};
 ghost use Rattle.unix_path.specs.Order.{values_cmp};
+ghost use Rattle.unix_path.specs.Views.{value_of};
 
-use crate::cursor::{Components, idle_len};
+use crate::cursor::{Component, Components, idle_len};
 use std::cmp::Ordering;
 use unix_bytes::search::{common_len, past_last};
 
@@ -85,9 +86,48 @@ pub(crate) fn compare(a: &[u8], b: &[u8]) -> Ordering
     }
 }
 
-// Whether they have the same values.
+// Whether the two parts have the same value.
+#[inline]
+fn is_same_part<'a>(x: Component<'a>, y: Component<'a>) -> bool
+    ensures { IsTrue result ↔ (value_of x.entry ≡ value_of y.entry) }
+{
+    x == y
+}
+
+// False only where the last parts differ.
+#[inline]
+fn may_be_same(a: &[u8], b: &[u8]) -> bool
+    ensures { values a.now ≡ values b.now → IsTrue result }
+{
+    let (mut first, mut second) = (Components::new(a), Components::new(b));
+    let Some(x) = first.next_back() else {
+        return true;
+    };
+    let Some(y) = second.next_back() else {
+        return true;
+    };
+    is_same_part(x, y)
+}
+
+// Whether the bytes are the same. The last of them is asked first: in most that differ it does.
+#[inline]
+fn has_same_bytes(a: &[u8], b: &[u8]) -> bool
+    ensures { IsTrue result → a.now ≡ b.now }
+{
+    let len = a.len();
+    if len != b.len() || (len > 0 && a[len - 1] != b[len - 1]) {
+        return false;
+    }
+    common_len(a, b) == len
+}
+
+// Whether they have the same values. Of paths that differ the last parts mostly do, and these are
+// found without what stands before them.
 pub(crate) fn is_same(a: &[u8], b: &[u8]) -> bool
     ensures { result ≡ is_eq (values_cmp (values a.now) (values b.now)) }
 {
-    a == b || compare(a, b).is_eq()
+    if has_same_bytes(a, b) {
+        return true;
+    }
+    may_be_same(a, b) && compare(a, b).is_eq()
 }

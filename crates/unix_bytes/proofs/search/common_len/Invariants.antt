@@ -1,9 +1,9 @@
-use Rattle.std.proofs.Common.{◌≡◌, ℕ, ◌+◌, ◌-◌, ◌<◌, get_or}
+use Rattle.std.proofs.Common.{◌≡◌, ℕ, ◌+◌, ◌-◌, ◌<◌, ◌≤◌, get_or}
 use Rattle.unix_bytes.proofs.search.common_len.Given as goal
 
 abbrev pub invariant-loop-len : goal.invariant-loop-len
 invariant-loop-len l = record {
-  in_range : l.len < l.last + 16;
+  in_range : l.len ≤ l.last + 16;
   same : (k : ℕ) → k < l.len → get_or l.a k 0 ≡ get_or l.b k 0;
 }
 
