@@ -123,7 +123,8 @@ pub fn past_last(bytes: &[u8], byte: u8) -> usize
     past_last_in_few(bytes, end, byte)
 }
 
-// How many bytes the two begin with alike, where one has fewer than 16; `most` is the lesser length.
+// How many bytes the two begin with alike, where one has fewer than 16. The lesser length is
+// `most`.
 #[inline]
 fn common_in_few(a: &[u8], b: &[u8], most: usize) -> usize
     requires { most ≡ min (length a.now) (length b.now) }

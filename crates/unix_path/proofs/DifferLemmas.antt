@@ -168,7 +168,8 @@ values_cmp-differ a b d n l in_a in_b same none first second differs =
     let apart : piece_rank s i ≡ piece_rank t i → ⊥ =
     λ e. differs (sym (piece_rank-drop a d n l) ∙ e ∙ piece_rank-drop b d n l) in
     let front = drop d (take n a) in
-    let size : length front ≡ i = omega (arith, length-drop d (take n a), length-take-le n a in_a) in
+    let size : length front ≡ i =
+    omega (arith, length-drop d (take n a), length-take-le n a in_a) in
     let byte = λ (k : ℕ) (h : k < i). get_or-drop d (take n a) k 0
     ∙ get_or-take n a (d + k) 0 (omega arith) ∙ sym (get_or-drop d a k 0) in
     let other = λ (k : ℕ) (h : k < i). get_or-drop d (take n b) k 0
