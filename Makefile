@@ -3,7 +3,7 @@ PROGRAM = crates/pathtool/out/pathtool
 SOURCES := $(shell find crates.txt crates -name out -prune -o \
 	\( -name '*.rt' -o -name '*.antt' -o -name crates.txt \) -print)
 
-.PHONY: help run check test install
+.PHONY: help run check test install bench bench_tools
 
 help:
 	@echo 'make run      runs pathtool on standard input; proves and builds it first, which'
@@ -11,6 +11,9 @@ help:
 	@echo 'make check    proves all crates, and then only what changed; some five minutes'
 	@echo 'make test     the gate: every proof, test, wrong body and vector, from nothing;'
 	@echo '              docs/PROOFS.md says how long that takes'
+	@echo 'make bench    times the calls and pathtool beside Rust, some three minutes; builds first.'
+	@echo '              It needs rustc too; tools/bench/run has its options, as in'
+	@echo '              make bench only=parts,eq corpus=deep reps=15'
 	@echo 'make install  puts the program and its manual page below PREFIX (/usr/local),'
 	@echo '              proved and built first'
 	@echo 'Each needs rt, the command of the Rattle toolchain: '"$$(cat rattle-toolchain)"
@@ -27,6 +30,15 @@ check:
 
 test:
 	@tools/test
+
+# The options of tools/bench/run that were given.
+BENCH = $(foreach name,part only corpus reps folder,$(if $($(name)),'$(name)=$($(name))'))
+
+bench_tools:
+	@tools/bench/run --tools
+
+bench: bench_tools $(PROGRAM)
+	@tools/bench/run $(BENCH)
 
 install: $(PROGRAM)
 	@install -D -m 755 $(PROGRAM) $(DESTDIR)$(PREFIX)/bin/pathtool

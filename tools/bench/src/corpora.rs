@@ -1,0 +1,202 @@
+//! The four corpora, from fixed seeds: every run sees the same bytes.
+use crate::random::Random;
+use crate::rows::Other;
+
+pub struct Corpus {
+    pub name: &'static str,
+    pub paths: Vec<Vec<u8>>,
+}
+
+impl Corpus {
+    /// The second argument beside each path.
+    pub fn others(&self, other: Other) -> Vec<Vec<u8>> {
+        let mut random = Random(77);
+        let paths = self.paths.iter();
+        match other {
+            Other::Nothing => vec![],
+            Other::Same => self.paths.clone(),
+            Other::Next => {
+                let mut others = self.paths.clone();
+                others.rotate_left(1);
+                others
+            }
+            Other::Respelled => paths.map(|path| respelled(path, &mut random)).collect(),
+            Other::Front => paths.map(|path| at_middle(path).0.to_vec()).collect(),
+            Other::Behind => paths.map(|path| at_middle(path).1.to_vec()).collect(),
+            Other::Name => paths.map(|_| b"docs/notes.txt".to_vec()).collect(),
+            Other::Extension => paths.map(|_| b"orig".to_vec()).collect(),
+        }
+    }
+}
+
+/// All four corpora.
+pub fn corpora() -> Vec<Corpus> {
+    let realistic = realistic(40_000);
+    let non_utf8 = non_utf8(&realistic);
+    [
+        ("realistic", realistic),
+        ("adversarial", adversarial()),
+        ("deep", deep(500)),
+        ("non_utf8", non_utf8),
+    ]
+    .into_iter()
+    .map(|(name, paths)| Corpus { name, paths })
+    .collect()
+}
+
+/// What is before and behind the middle one of the path's slashes; all and all where it has none.
+fn at_middle(path: &[u8]) -> (&[u8], &[u8]) {
+    let slashes: Vec<usize> = (0..path.len()).filter(|at| path[*at] == b'/').collect();
+    match slashes.get(slashes.len() / 2) {
+        Some(at) => (&path[..*at], &path[at + 1..]),
+        None => (path, path),
+    }
+}
+
+/// The same parts, with more slashes and dots between them.
+fn respelled(path: &[u8], random: &mut Random) -> Vec<u8> {
+    let mut bytes = Vec::with_capacity(path.len() * 2);
+    for byte in path {
+        bytes.push(*byte);
+        if *byte == b'/' {
+            bytes.extend_from_slice(random.one_of(&["", "", "/", "./", "//./"]).as_bytes());
+        }
+    }
+    if !path.is_empty() {
+        bytes.extend_from_slice(random.one_of(&["", "/", "/."]).as_bytes());
+    }
+    bytes
+}
+
+#[rustfmt::skip]
+const WORDS: [&str; 48] = [
+    "accept", "async", "backend", "buffer", "build", "cache", "channel", "client", "codec",
+    "common", "config", "core", "decoder", "device", "driver", "engine", "event", "filter",
+    "format", "graph", "handler", "index", "input", "journal", "kernel", "layout", "memory",
+    "network", "object", "output", "packet", "parser", "plugin", "query", "queue", "record",
+    "render", "router", "schema", "server", "session", "signal", "socket", "storage", "stream",
+    "thread", "update", "vector",
+];
+
+#[rustfmt::skip]
+const ENDINGS: [&str; 12] = [
+    ".rs", ".c", ".h", ".cpp", ".py", ".md", ".json", ".tar.gz", ".test.ts", "", ".html", ".yaml",
+];
+
+/// A name of one to three words.
+fn name(random: &mut Random) -> String {
+    let mut name = random.one_of(&WORDS).to_string();
+    for _ in 0..random.below(3) {
+        name.push_str(random.one_of(&["_", "-"]));
+        name.push_str(random.one_of(&WORDS));
+    }
+    name
+}
+
+/// The sorted listing of a source tree, which grows at random folders until it has so many files.
+fn realistic(count: usize) -> Vec<Vec<u8>> {
+    let mut random = Random(1);
+    let mut folders = vec!["/home/build/checkout".to_string()];
+    let mut paths = vec![];
+    while paths.len() < count {
+        let (one, other) = (random.one_of(&folders), random.one_of(&folders));
+        let above = if one.len() < other.len() { one } else { other };
+        let folder = format!("{above}/{}", name(&mut random));
+        for _ in 0..1 + random.below(9) {
+            let file = name(&mut random);
+            paths.push(format!("{folder}/{file}{}", random.one_of(&ENDINGS)).into_bytes());
+        }
+        paths.push(folder.clone().into_bytes());
+        folders.push(folder);
+    }
+    paths.sort();
+    paths.dedup();
+    paths
+}
+
+#[rustfmt::skip]
+const PIECES: [&str; 16] = [
+    "/", ".", "./", "../", "/.", "/..", "a/", "//a", "a/./", "a//", "./.", "./../", ".../", "a",
+    "a.", "/././/",
+];
+
+/// What stands before and behind a run.
+#[rustfmt::skip]
+const ENDS: [(&str, &str); 5] = [("", ""), ("/", "/."), ("a", "/b"), ("../", "//"), ("./", "n.x")];
+
+/// Runs of each of the pieces, of 1 to 100,000 bytes; the longest with nothing at their ends.
+fn adversarial() -> Vec<Vec<u8>> {
+    let mut paths = vec![];
+    for piece in PIECES {
+        for len in [1, 4, 17, 65, 257, 1_000, 4_000, 10_000, 100_000] {
+            for (front, behind) in &ENDS[..if len > 10_000 { 1 } else { ENDS.len() }] {
+                let mut path = front.as_bytes().to_vec();
+                path.extend(piece.bytes().cycle().take(len));
+                path.extend_from_slice(behind.as_bytes());
+                paths.push(path);
+            }
+        }
+    }
+    Random(2).shuffle(&mut paths);
+    paths
+}
+
+/// Sorted paths of a thousand parts and 4,096 bytes; each goes another way from some part of one
+/// before it on.
+fn deep(count: usize) -> Vec<Vec<u8>> {
+    let mut random = Random(3);
+    let mut paths: Vec<Vec<u8>> = vec![];
+    while paths.len() < count {
+        let mut path = match paths.last() {
+            Some(last) => last[..random.below(4096)].to_vec(),
+            None => vec![],
+        };
+        while path.len() < 4096 {
+            path.push(b'/');
+            for _ in 0..1 + random.below(5) {
+                path.push(b'a' + random.below(26) as u8);
+            }
+        }
+        path.truncate(4096);
+        paths.push(path);
+    }
+    paths.sort();
+    paths
+}
+
+/// Bytes that are no UTF-8: alone, Latin-1, cut short, too long, a surrogate.
+#[rustfmt::skip]
+const BROKEN: [&[u8]; 7] = [
+    b"\xff", b"caf\xe9", b"\xe2\x82", b"\xc0\xaf", b"\xed\xa0\x80", b"\xf0\x9f\x93", b"\x80\x80",
+];
+
+/// Every second path of a listing with text of other scripts in it, and in three of four with bytes
+/// that are no UTF-8.
+fn non_utf8(listing: &[Vec<u8>]) -> Vec<Vec<u8>> {
+    let texts = ["naïve", "Übersicht", "файл", "文件夹", "λ", "📁"];
+    let mut random = Random(4);
+    let mut paths = vec![];
+    for path in listing.iter().step_by(2) {
+        let mut path = path.clone();
+        for _ in 0..1 + random.below(3) {
+            insert(&mut path, random.one_of(&texts).as_bytes(), &mut random);
+        }
+        if random.below(4) > 0 {
+            for _ in 0..1 + random.below(3) {
+                insert(&mut path, random.one_of(&BROKEN), &mut random);
+            }
+        }
+        paths.push(path);
+    }
+    paths.sort();
+    paths
+}
+
+/// Puts bytes behind some ASCII byte of the path.
+fn insert(path: &mut Vec<u8>, bytes: &[u8], random: &mut Random) {
+    let mut at = random.below(path.len());
+    while !path[at].is_ascii() {
+        at -= 1;
+    }
+    path.splice(at + 1..at + 1, bytes.iter().copied());
+}

@@ -1,0 +1,76 @@
+//! Lines for the two programs, from a fixed seed.
+use crate::corpora::corpora;
+use crate::random::Random;
+
+/// A group of commands, by a word for them.
+pub const GROUPS: [(&str, &str); 7] = [
+    ("walks", "parts back walk"),
+    ("names", "name stem ext"),
+    ("paths", "parent ancestors canon join strip"),
+    ("truths", "starts ends cmp"),
+    ("edits", "edit"),
+    ("texts", "show"),
+    ("all of them", ALL),
+];
+
+const ALL: &str =
+    "parts back walk name stem ext parent ancestors canon join strip starts ends cmp \
+    edit show";
+
+/// The paths that lines are made of: realistic ones, and of each eighth line broken ones.
+pub struct Paths {
+    realistic: Vec<Vec<u8>>,
+    broken: Vec<Vec<u8>>,
+}
+
+impl Paths {
+    pub fn new() -> Paths {
+        let mut corpora = corpora();
+        let broken = corpora.pop().expect("the last corpus").paths;
+        let realistic = corpora.swap_remove(0).paths;
+        Paths { realistic, broken }
+    }
+
+    /// So many bytes of lines, each with one of the commands.
+    pub fn lines(&self, commands: &str, len: usize) -> Vec<u8> {
+        let commands: Vec<&str> = commands.split_whitespace().collect();
+        let mut random = Random(8);
+        let mut lines = vec![];
+        while lines.len() < len {
+            let is_broken = random.below(8) == 0;
+            let source = if is_broken {
+                &self.broken
+            } else {
+                &self.realistic
+            };
+            let at = random.below(source.len());
+            let command = random.one_of(&commands);
+            lines.extend_from_slice(command.as_bytes());
+            lines.push(b'\t');
+            lines.extend_from_slice(&source[at]);
+            let next = &source[(at + 1) % source.len()];
+            push_fields(command, &source[at], next, &mut lines);
+            lines.push(b'\n');
+        }
+        lines
+    }
+}
+
+/// Adds the fields that the command has behind its path, each with a tab before it.
+fn push_fields(command: &str, path: &[u8], next: &[u8], line: &mut Vec<u8>) {
+    let half = path.len() / 2;
+    match command {
+        "walk" => line.extend_from_slice(b"\tffbfb"),
+        "join" => line.extend_from_slice(b"\tdocs/notes.txt"),
+        "strip" | "starts" => push_field(&path[..half], line),
+        "ends" => push_field(&path[half..], line),
+        "cmp" => push_field(next, line),
+        "edit" => line.extend_from_slice(b"\tpop\tpush:docs/notes\text:md\tname:index.html"),
+        _ => {}
+    }
+}
+
+fn push_field(field: &[u8], line: &mut Vec<u8>) {
+    line.push(b'\t');
+    line.extend_from_slice(field);
+}

@@ -1,0 +1,48 @@
+//! Times each public call beside std's on the same bytes, and `pathtool` beside a program over
+//! `std::path`; prints our time over std's, and what is above its target.
+mod calls;
+mod corpora;
+mod lines;
+mod options;
+mod ours;
+mod paths;
+mod programs;
+mod random;
+mod rows;
+mod sizes;
+mod std_calls;
+mod targets;
+mod texts;
+mod timing;
+
+use options::Options;
+use std::process::ExitCode;
+use timing::Score;
+
+fn main() -> ExitCode {
+    let options = match Options::read(std::env::args().skip(1)) {
+        Ok(options) => options,
+        Err(word) => {
+            eprintln!("no such option: {word}");
+            return ExitCode::from(2);
+        }
+    };
+    let mut score = Score::default();
+    if options.has_part("calls") {
+        paths::print(&options, &mut score);
+    }
+    if options.has_part("texts") {
+        texts::print(&options, &mut score);
+    }
+    if options.has_part("programs") {
+        programs::print(&options, &mut score);
+    }
+    if options.has_part("sizes") {
+        sizes::print(&options);
+    }
+    score.print();
+    if score.different > 0 {
+        return ExitCode::FAILURE;
+    }
+    ExitCode::SUCCESS
+}

@@ -1,0 +1,78 @@
+//! What the words of the command line ask for.
+
+/// Each option is a word `name=value`; a list has commas between.
+pub struct Options {
+    /// `calls`, `texts`, `programs` and `sizes`.
+    pub parts: Vec<String>,
+    /// How the names of the rows begin that are shown; none for all.
+    pub only: Vec<String>,
+    /// The corpora that are used; none for all.
+    pub corpora: Vec<String>,
+    pub reps: usize,
+    /// Where files may be written.
+    pub folder: String,
+    /// The programs that are compared, ours and Rust's.
+    pub programs: [String; 2],
+}
+
+fn list(value: &str) -> Vec<String> {
+    value.split(',').map(String::from).collect()
+}
+
+impl Options {
+    /// The options that these words set, or the first word that sets none.
+    pub fn read(words: impl Iterator<Item = String>) -> Result<Options, String> {
+        let mut options = Options {
+            parts: list("calls,texts,programs"),
+            only: vec![],
+            corpora: vec![],
+            reps: 9,
+            folder: ".".to_string(),
+            programs: ["pathtool".to_string(), "std_pathtool".to_string()],
+        };
+        for word in words {
+            if !options.set(&word) {
+                return Err(word);
+            }
+        }
+        Ok(options)
+    }
+
+    /// Sets the option that the word names; false if it names none.
+    fn set(&mut self, word: &str) -> bool {
+        let Some((name, value)) = word.split_once('=') else {
+            return false;
+        };
+        match name {
+            "part" => self.parts = list(value),
+            "only" => self.only = list(value),
+            "corpus" => self.corpora = list(value),
+            "reps" => match value.parse() {
+                Ok(reps) if reps > 0 => self.reps = reps,
+                _ => return false,
+            },
+            "folder" => self.folder = value.to_string(),
+            "pathtool" => self.programs[0] = value.to_string(),
+            "std_pathtool" => self.programs[1] = value.to_string(),
+            _ => return false,
+        }
+        true
+    }
+
+    pub fn has_part(&self, part: &str) -> bool {
+        self.parts.iter().any(|name| name == part)
+    }
+
+    pub fn has_row(&self, row: &str) -> bool {
+        self.only.is_empty() || self.only.iter().any(|name| row.starts_with(name.as_str()))
+    }
+
+    pub fn has_corpus(&self, corpus: &str) -> bool {
+        self.corpora.is_empty() || self.corpora.iter().any(|name| name == corpus)
+    }
+
+    /// The seconds that a ratio may take.
+    pub fn budget(&self) -> f64 {
+        self.reps as f64 * 0.1
+    }
+}

@@ -1,0 +1,81 @@
+//! The table of the calls over the four corpora.
+use crate::corpora::{corpora, Corpus};
+use crate::options::Options;
+use crate::random::Random;
+use crate::rows::{rows, Row};
+use crate::timing::{compare, Measure, Score};
+use std::ops::Range;
+
+/// The bytes of a slice that is timed at once.
+const SLICE: usize = 1 << 18;
+
+/// Prints a line for each row, with a ratio for each corpus.
+pub fn print(options: &Options, score: &mut Score) {
+    let mut corpora = corpora();
+    corpora.retain(|corpus| options.has_corpus(corpus.name));
+    print!("{:22}", "call");
+    for corpus in &corpora {
+        print!("{:14}", corpus.name);
+    }
+    println!();
+    for row in rows().iter().filter(|row| options.has_row(row.name)) {
+        print!("{:22}", row.name);
+        for corpus in &corpora {
+            let measure = measure(row, corpus, options);
+            let cell = score.cell(&measure, row.name, corpus.name, row.is_hash());
+            print!("{cell:14}");
+        }
+        println!();
+    }
+    println!();
+}
+
+/// The places of the paths in slices of about the same number of bytes.
+fn slices(paths: &[Vec<u8>]) -> Vec<Range<usize>> {
+    let mut slices = vec![];
+    let (mut start, mut bytes) = (0, 0);
+    for (at, path) in paths.iter().enumerate() {
+        bytes += path.len();
+        if bytes >= SLICE || at + 1 == paths.len() {
+            slices.push(start..at + 1);
+            (start, bytes) = (at + 1, 0);
+        }
+    }
+    slices
+}
+
+fn measure(row: &Row, corpus: &Corpus, options: &Options) -> Measure {
+    let paths = &corpus.paths;
+    let slices = slices(paths);
+    let budget = options.budget();
+    if row.is_sort() {
+        let orders = orders(&slices);
+        return compare(
+            options.reps,
+            budget,
+            slices.len(),
+            &|slice| row.ours.sort(&orders[slice], paths),
+            &|slice| row.std.sort(&orders[slice], paths),
+        );
+    }
+    let others = corpus.others(row.other);
+    let paths = |slice: usize| &paths[slices[slice].clone()];
+    let others = |slice: usize| others.get(slices[slice].clone()).unwrap_or(&[]);
+    compare(
+        options.reps,
+        budget,
+        slices.len(),
+        &|slice| row.ours.sum(paths(slice), others(slice)),
+        &|slice| row.std.sum(paths(slice), others(slice)),
+    )
+}
+
+/// The places of each slice in another order.
+fn orders(slices: &[Range<usize>]) -> Vec<Vec<usize>> {
+    let mut random = Random(5);
+    let mut orders: Vec<Vec<usize>> = slices.iter().map(|slice| slice.clone().collect()).collect();
+    for order in &mut orders {
+        random.shuffle(order);
+    }
+    orders
+}

@@ -1,0 +1,77 @@
+//! The table of `pathtool` beside a program over `std::path` that answers the same lines.
+use crate::lines::{Paths, GROUPS};
+use crate::options::Options;
+use crate::timing::{compare, Measure, Score};
+use std::fs::{read, write, File};
+use std::process::{Command, Stdio};
+
+/// The bytes of the lines of a group.
+const LEN: usize = 4 << 20;
+
+/// Prints a line for each group of commands.
+pub fn print(options: &Options, score: &mut Score) {
+    let paths = Paths::new();
+    println!("{:22}{:14}", "program", "4 MiB of lines");
+    for (group, commands) in GROUPS {
+        let input = format!("{}/lines", options.folder);
+        write(&input, paths.lines(commands, LEN)).expect("the folder can be written to");
+        let [ours, std] = &options.programs;
+        let outputs = [ours, std].map(|program| output(program, &input, &options.folder));
+        let is_same = outputs[0] == outputs[1];
+        let measure = compare(
+            options.reps * 2,
+            options.budget() * 10.0,
+            1,
+            &|_| run(ours, &input, Stdio::null()),
+            &|_| run(std, &input, Stdio::null()),
+        );
+        let measure = Measure { is_same, ..measure };
+        println!(
+            "{group:22}{}",
+            score.cell(&measure, "program", group, false)
+        );
+        if !is_same {
+            show_difference(&input, &outputs);
+        }
+    }
+    println!();
+}
+
+/// Runs the program on a file. The answer is its exit status.
+fn run(program: &str, input: &str, output: Stdio) -> u64 {
+    let input = File::open(input).expect("the lines are there");
+    let status = Command::new(program)
+        .stdin(input)
+        .stdout(output)
+        .status()
+        .unwrap_or_else(|error| panic!("{program}: {error}"));
+    u64::from(!status.success())
+}
+
+/// What the program writes.
+fn output(program: &str, input: &str, folder: &str) -> Vec<u8> {
+    let output = format!("{folder}/answers");
+    let file = File::create(&output).expect("the folder can be written to");
+    run(program, input, file.into());
+    read(&output).expect("the answers are there")
+}
+
+/// Prints the first line that is answered differently.
+fn show_difference(input: &str, outputs: &[Vec<u8>; 2]) {
+    let line = |bytes: &[u8], at: usize| {
+        let line = bytes
+            .split(|byte| *byte == b'\n')
+            .nth(at)
+            .unwrap_or_default();
+        String::from_utf8_lossy(line).into_owned()
+    };
+    let pairs = outputs[0].iter().zip(&outputs[1]);
+    let same = pairs.take_while(|(a, b)| a == b).count();
+    let at = outputs[0][..same]
+        .iter()
+        .filter(|byte| **byte == b'\n')
+        .count();
+    println!("  line:  {}", line(&read(input).unwrap_or_default(), at));
+    println!("  ours:  {}", line(&outputs[0], at));
+    println!("  std's: {}", line(&outputs[1], at));
+}

@@ -1,0 +1,240 @@
+//! Rust's side: the functions of `lib.rt.in` over `std::path`, as C functions too, so that both
+//! sides pay for the same call.
+use crate::calls::Start;
+use std::cmp::Ordering;
+use std::ffi::OsStr;
+use std::fmt::Write;
+use std::hash::{DefaultHasher, Hash, Hasher};
+use std::os::unix::ffi::OsStrExt;
+use std::path::{Path, PathBuf};
+use std::slice;
+
+/// The answer where there is none.
+const NONE: u64 = u64::MAX;
+
+unsafe fn bytes_of<'a>(start: Start, len: usize) -> &'a [u8] {
+    slice::from_raw_parts(start, len)
+}
+
+unsafe fn text_of<'a>(start: Start, len: usize) -> &'a OsStr {
+    OsStr::from_bytes(bytes_of(start, len))
+}
+
+unsafe fn path_of<'a>(start: Start, len: usize) -> &'a Path {
+    Path::new(text_of(start, len))
+}
+
+/// A number for some bytes: of their length, the first and the last.
+fn digest(bytes: &[u8]) -> u64 {
+    let (Some(first), Some(last)) = (bytes.first(), bytes.last()) else {
+        return 0;
+    };
+    let ends = u64::from(*first) * 256 + u64::from(*last);
+    (bytes.len() as u64).wrapping_mul(65_599).wrapping_add(ends)
+}
+
+/// The number of several answers, with one more behind them.
+fn added(sum: u64, bytes: &[u8]) -> u64 {
+    sum.wrapping_mul(31).wrapping_add(digest(bytes))
+}
+
+fn some(text: Option<&OsStr>) -> u64 {
+    text.map_or(NONE, |text| digest(text.as_bytes()))
+}
+
+fn made(path: &Path) -> u64 {
+    digest(path.as_os_str().as_bytes())
+}
+
+pub unsafe extern "C" fn parts(path: Start, len: usize) -> u64 {
+    let mut sum = 0;
+    for part in path_of(path, len).components() {
+        sum = added(sum, part.as_os_str().as_bytes());
+    }
+    sum
+}
+
+pub unsafe extern "C" fn parts_behind(path: Start, len: usize) -> u64 {
+    let mut sum = 0;
+    for part in path_of(path, len).components().rev() {
+        sum = added(sum, part.as_os_str().as_bytes());
+    }
+    sum
+}
+
+pub unsafe extern "C" fn parts_both(path: Start, len: usize) -> u64 {
+    let mut sum = 0;
+    let mut left = path_of(path, len).components();
+    while let Some(first) = left.next() {
+        sum = added(sum, first.as_os_str().as_bytes());
+        if let Some(last) = left.next_back() {
+            sum = added(sum, last.as_os_str().as_bytes());
+        }
+    }
+    sum
+}
+
+pub unsafe extern "C" fn as_path(path: Start, len: usize) -> u64 {
+    let mut left = path_of(path, len).components();
+    left.next();
+    made(left.as_path())
+}
+
+pub unsafe extern "C" fn parent(path: Start, len: usize) -> u64 {
+    some(path_of(path, len).parent().map(Path::as_os_str))
+}
+
+pub unsafe extern "C" fn ancestors(path: Start, len: usize) -> u64 {
+    let mut sum = 0;
+    for path in path_of(path, len).ancestors() {
+        sum = added(sum, path.as_os_str().as_bytes());
+    }
+    sum
+}
+
+pub unsafe extern "C" fn file_name(path: Start, len: usize) -> u64 {
+    some(path_of(path, len).file_name())
+}
+
+pub unsafe extern "C" fn file_stem(path: Start, len: usize) -> u64 {
+    some(path_of(path, len).file_stem())
+}
+
+pub unsafe extern "C" fn extension(path: Start, len: usize) -> u64 {
+    some(path_of(path, len).extension())
+}
+
+pub unsafe extern "C" fn starts_with(path: Start, len: usize, base: Start, base_len: usize) -> u64 {
+    path_of(path, len)
+        .starts_with(path_of(base, base_len))
+        .into()
+}
+
+pub unsafe extern "C" fn ends_with(path: Start, len: usize, child: Start, child_len: usize) -> u64 {
+    path_of(path, len)
+        .ends_with(path_of(child, child_len))
+        .into()
+}
+
+pub unsafe extern "C" fn strip_prefix(
+    path: Start,
+    len: usize,
+    base: Start,
+    base_len: usize,
+) -> u64 {
+    match path_of(path, len).strip_prefix(path_of(base, base_len)) {
+        Ok(rest) => made(rest),
+        Err(_) => NONE,
+    }
+}
+
+pub unsafe extern "C" fn eq(path: Start, len: usize, other: Start, other_len: usize) -> u64 {
+    (path_of(path, len) == path_of(other, other_len)).into()
+}
+
+pub unsafe extern "C" fn cmp(path: Start, len: usize, other: Start, other_len: usize) -> u64 {
+    match path_of(path, len).cmp(path_of(other, other_len)) {
+        Ordering::Less => 0,
+        Ordering::Equal => 1,
+        Ordering::Greater => 2,
+    }
+}
+
+/// A hasher that costs nothing: it counts the bytes that it is fed.
+struct Count(u64);
+
+impl Hasher for Count {
+    fn write(&mut self, bytes: &[u8]) {
+        self.0 = self.0.wrapping_add(bytes.len() as u64);
+    }
+
+    fn finish(&self) -> u64 {
+        self.0
+    }
+}
+
+pub unsafe extern "C" fn hash_cheap(path: Start, len: usize) -> u64 {
+    let mut hasher = Count(0);
+    path_of(path, len).hash(&mut hasher);
+    hasher.finish()
+}
+
+pub unsafe extern "C" fn hash_sip(path: Start, len: usize) -> u64 {
+    let mut hasher = DefaultHasher::new();
+    path_of(path, len).hash(&mut hasher);
+    hasher.finish()
+}
+
+pub unsafe extern "C" fn join(path: Start, len: usize, other: Start, other_len: usize) -> u64 {
+    made(&path_of(path, len).join(path_of(other, other_len)))
+}
+
+pub unsafe extern "C" fn with_file_name(
+    path: Start,
+    len: usize,
+    name: Start,
+    name_len: usize,
+) -> u64 {
+    made(&path_of(path, len).with_file_name(text_of(name, name_len)))
+}
+
+pub unsafe extern "C" fn with_extension(
+    path: Start,
+    len: usize,
+    end: Start,
+    end_len: usize,
+) -> u64 {
+    made(&path_of(path, len).with_extension(text_of(end, end_len)))
+}
+
+pub unsafe extern "C" fn push_pop(path: Start, len: usize, other: Start, other_len: usize) -> u64 {
+    let mut edited = path_of(path, len).to_path_buf();
+    let mut sum = 0;
+    for _ in 0..4 {
+        edited.push(path_of(other, other_len));
+        sum = added(sum, edited.as_os_str().as_bytes());
+        sum = sum.wrapping_add(edited.pop().into());
+        sum = added(sum, edited.as_os_str().as_bytes());
+    }
+    sum
+}
+
+pub unsafe extern "C" fn set_extension(path: Start, len: usize, end: Start, end_len: usize) -> u64 {
+    let mut edited = path_of(path, len).to_path_buf();
+    edited.set_extension(text_of(end, end_len));
+    made(&edited)
+}
+
+pub unsafe extern "C" fn canonical(path: Start, len: usize) -> u64 {
+    made(&path_of(path, len).components().collect::<PathBuf>())
+}
+
+pub unsafe extern "C" fn to_str(path: Start, len: usize) -> u64 {
+    match path_of(path, len).to_str() {
+        Some(text) => text.len() as u64,
+        None => NONE,
+    }
+}
+
+pub unsafe extern "C" fn to_string_lossy(path: Start, len: usize) -> u64 {
+    path_of(path, len).to_string_lossy().len() as u64
+}
+
+pub unsafe extern "C" fn display(path: Start, len: usize) -> u64 {
+    let mut text = String::new();
+    match write!(text, "{}", path_of(path, len).display()) {
+        Ok(()) => text.len() as u64,
+        Err(_) => NONE,
+    }
+}
+
+pub unsafe extern "C" fn chunks(bytes: Start, len: usize) -> u64 {
+    let mut sum: u64 = 0;
+    for chunk in bytes_of(bytes, len).utf8_chunks() {
+        sum = sum
+            .wrapping_mul(31)
+            .wrapping_add(chunk.valid().len() as u64)
+            .wrapping_add(chunk.invalid().len() as u64 * 7);
+    }
+    sum
+}

@@ -1,0 +1,124 @@
+//! The table of the calls that read text: scripts and lengths, and bytes that are no text.
+use crate::options::Options;
+use crate::random::Random;
+use crate::rows::texts;
+use crate::timing::{compare, Score};
+
+/// The bytes of a row's sources.
+const LEN: usize = 4096;
+
+/// A row's name, whether its bytes are broken, and the strings that are read.
+struct Sources {
+    name: String,
+    is_broken: bool,
+    strings: Vec<Vec<u8>>,
+}
+
+/// Prints a line for each kind of source, with a ratio for each call.
+pub fn print(options: &Options, score: &mut Score) {
+    let mut rows = texts();
+    rows.retain(|row| options.has_row(row.name));
+    if rows.is_empty() {
+        return;
+    }
+    print!("{:26}", "text");
+    for row in &rows {
+        print!("{:18}", row.name);
+    }
+    println!();
+    for sources in well_formed().iter().chain(&broken()) {
+        print!("{:26}", sources.name);
+        for row in &rows {
+            let measure = compare(
+                options.reps * 10,
+                options.budget(),
+                1,
+                &|_| row.ours.sum(&sources.strings, &[]),
+                &|_| row.std.sum(&sources.strings, &[]),
+            );
+            let corpus = if sources.is_broken { "broken" } else { "text" };
+            let cell = score.cell(&measure, row.name, corpus, false);
+            print!("{cell:18}");
+        }
+        println!();
+    }
+    println!();
+}
+
+const FRENCH: &str = "L'été, où l'âne brait, Noël s'ennuie à mâcher des bûches. ";
+
+/// A text of each script.
+const SCRIPTS: [(&str, &str); 5] = [
+    (
+        "ASCII",
+        "The listing of a folder, /opt/tool-1.2/readme.txt among it; ",
+    ),
+    ("French", FRENCH),
+    (
+        "Greek",
+        "Κάθε διαδρομή αρχίζει από τη ρίζα, και συνεχίζει. ",
+    ),
+    (
+        "Chinese",
+        "每条路径都从根开始然后经过许多目录最后到达一个文件",
+    ),
+    ("emoji", "🌲🌳📁📂🗂🔑🧭"),
+];
+
+/// Text of several scripts, in strings of several lengths.
+fn well_formed() -> Vec<Sources> {
+    let mut random = Random(6);
+    let widths: String = (0..LEN)
+        .map(|_| random.one_of(&['m', 'ß', '語', '🌲']))
+        .collect();
+    let mut all = vec![];
+    for (script, text) in SCRIPTS.into_iter().chain([("all widths", widths.as_str())]) {
+        for len in [8, 16, 25, 50, LEN] {
+            let strings = (0..LEN / len).map(|at| taken(text, at, len)).collect();
+            let name = format!("{script}, {len} bytes");
+            all.push(Sources {
+                name,
+                is_broken: false,
+                strings,
+            });
+        }
+    }
+    all
+}
+
+/// Whole characters of a text that goes on and on, from one of them on, up to so many bytes.
+fn taken(text: &str, from: usize, len: usize) -> Vec<u8> {
+    let mut taken = String::new();
+    for next in text.chars().cycle().skip(from) {
+        if taken.len() + next.len_utf8() > len {
+            break;
+        }
+        taken.push(next);
+    }
+    taken.into_bytes()
+}
+
+/// Bytes that are no UTF-8.
+#[rustfmt::skip]
+fn broken() -> Vec<Sources> {
+    let every = |step: usize| -> Vec<u8> {
+        let byte = |at: usize| if at % step == step - 1 { 0xFF } else { b'a' };
+        (0..LEN).map(byte).collect()
+    };
+    let latin = FRENCH.chars().map(|c| c as u8);
+    let mut random = Random(7);
+    let kinds = [
+        ("French in Latin-1", latin.cycle().take(LEN).collect()),
+        ("FF at each 25th byte", every(25)),
+        ("FF at each 4th byte", every(4)),
+        ("FF at each 2nd byte", every(2)),
+        ("FF alone", every(1)),
+        ("any bytes", (0..LEN).map(|_| random.below(256) as u8).collect()),
+    ];
+    let named = |(name, string): (&str, Vec<u8>)| Sources {
+        name: name.to_string(),
+        is_broken: true,
+        strings: vec![string],
+    };
+    kinds.into_iter().map(named).collect()
+}

@@ -1,0 +1,105 @@
+//! Our time over std's, and how it is shown.
+use crate::targets::target;
+use std::hint::black_box;
+use std::time::Instant;
+
+/// What a side does with a slice of the work; the number stands for its answers.
+pub type Work<'a> = &'a dyn Fn(usize) -> u64;
+
+/// Our time over std's, and whether both answered the same.
+pub struct Measure {
+    pub ratio: f64,
+    pub is_same: bool,
+}
+
+/// Each time is of at least so many seconds.
+const SHORTEST: f64 = 1e-4;
+
+/// The seconds that the work on this slice takes, done so many times.
+pub fn seconds(work: Work, slice: usize, rounds: usize) -> f64 {
+    let start = Instant::now();
+    for _ in 0..rounds {
+        black_box(work(slice));
+    }
+    start.elapsed().as_secs_f64()
+}
+
+/// Our time over std's on one slice. The sides run right after each other and in turns, so that a
+/// busy machine slows both, and neither finds the bytes nearer than the other does.
+fn ratio_on(slice: usize, ours: Work, std: Work) -> f64 {
+    let once = seconds(ours, slice, 1).min(seconds(std, slice, 1));
+    let rounds = (SHORTEST / once).ceil() as usize;
+    let [a, b, c, d] = [ours, std, std, ours].map(|work| seconds(work, slice, rounds));
+    (a + d) / (b + c)
+}
+
+/// The middle one of the numbers.
+pub fn median(mut numbers: Vec<f64>) -> f64 {
+    numbers.sort_by(f64::total_cmp);
+    numbers[numbers.len() / 2]
+}
+
+/// The median of the ratios on each of the slices, over and over: `reps` times each, or fewer once
+/// `budget` seconds have passed.
+pub fn compare(reps: usize, budget: f64, slices: usize, ours: Work, std: Work) -> Measure {
+    let is_same = (0..slices).all(|slice| ours(slice) == std(slice));
+    let start = Instant::now();
+    let mut ratios = vec![];
+    for _ in 0..reps {
+        ratios.extend((0..slices).map(|slice| ratio_on(slice, ours, std)));
+        if start.elapsed().as_secs_f64() > budget {
+            break;
+        }
+    }
+    let ratio = median(ratios);
+    Measure { ratio, is_same }
+}
+
+const LEGEND: &str = "\
+Each number is our time over that of std::path; where that is above its target, > and this follow.
+~ The answers differ on purpose: each side feeds a hasher in its own way. Our cheap one is
+  that of Rattle's maps, FoldHasher; Rust's only counts the bytes.";
+
+/// How many ratios were shown, and how many of them were marked.
+#[derive(Default)]
+pub struct Score {
+    pub shown: usize,
+    pub above: usize,
+    pub different: usize,
+}
+
+impl Score {
+    /// Prints what the numbers and marks were.
+    pub fn print(&self) {
+        if self.shown == 0 {
+            return;
+        }
+        println!("{} of {} are above their targets.", self.above, self.shown);
+        println!("{LEGEND}");
+        if self.different > 0 {
+            println!(
+                "DIFFERS: {} answers are not the same, and ought to be.",
+                self.different
+            );
+        }
+    }
+
+    /// The ratio, with its target behind it where it is above that, and a mark where the answers
+    /// differ: `~` where they do so on purpose, `DIFFERS` where they must not.
+    pub fn cell(&mut self, measure: &Measure, row: &str, corpus: &str, is_hash: bool) -> String {
+        let wanted = target(row, corpus);
+        let mut cell = format!("{:.2}", measure.ratio);
+        self.shown += 1;
+        if measure.ratio > wanted {
+            self.above += 1;
+            cell.push_str(&format!(" > {wanted}"));
+        }
+        if is_hash {
+            cell.push_str(" ~");
+        } else if !measure.is_same {
+            self.different += 1;
+            cell.push_str(" DIFFERS");
+        }
+        cell
+    }
+}
