@@ -1,6 +1,7 @@
 //! Times each public call beside std's on the same bytes, and `pathtool` beside a program over
 //! `std::path`; prints our time over std's, and what is above its target.
 mod calls;
+mod clock;
 mod corpora;
 mod lines;
 mod options;

@@ -1,5 +1,8 @@
 //! What the words of the command line ask for.
 
+use crate::clock;
+use crate::timing::Timer;
+
 /// Each option is a word `name=value`; a list has commas between.
 pub struct Options {
     /// `calls`, `texts`, `programs` and `sizes`.
@@ -71,8 +74,12 @@ impl Options {
         self.corpora.is_empty() || self.corpora.iter().any(|name| name == corpus)
     }
 
-    /// The seconds that a ratio may take.
-    pub fn budget(&self) -> f64 {
-        self.reps as f64 * 0.1
+    /// How the calls are timed.
+    pub fn timer(&self) -> Timer {
+        Timer {
+            reps: self.reps,
+            budget: self.reps as f64 * 0.1,
+            clock: clock::of_this_thread,
+        }
     }
 }

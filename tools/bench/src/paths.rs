@@ -3,7 +3,7 @@ use crate::corpora::{corpora, Corpus};
 use crate::options::Options;
 use crate::random::Random;
 use crate::rows::{rows, Row};
-use crate::timing::{compare, Measure, Score};
+use crate::timing::{Measure, Score};
 use std::ops::Range;
 
 /// The bytes of a slice that is timed at once.
@@ -47,12 +47,10 @@ fn slices(paths: &[Vec<u8>]) -> Vec<Range<usize>> {
 fn measure(row: &Row, corpus: &Corpus, options: &Options) -> Measure {
     let paths = &corpus.paths;
     let slices = slices(paths);
-    let budget = options.budget();
+    let timer = options.timer();
     if row.is_sort() {
         let orders = orders(&slices);
-        return compare(
-            options.reps,
-            budget,
+        return timer.compare(
             slices.len(),
             &|slice| row.ours.sort(&orders[slice], paths),
             &|slice| row.std.sort(&orders[slice], paths),
@@ -61,9 +59,7 @@ fn measure(row: &Row, corpus: &Corpus, options: &Options) -> Measure {
     let others = corpus.others(row.other);
     let paths = |slice: usize| &paths[slices[slice].clone()];
     let others = |slice: usize| others.get(slices[slice].clone()).unwrap_or(&[]);
-    compare(
-        options.reps,
-        budget,
+    timer.compare(
         slices.len(),
         &|slice| row.ours.sum(paths(slice), others(slice)),
         &|slice| row.std.sum(paths(slice), others(slice)),

@@ -1,30 +1,32 @@
 //! The table of `pathtool` beside a program over `std::path` that answers the same lines.
+use crate::clock;
 use crate::lines::{Paths, GROUPS};
 use crate::options::Options;
-use crate::timing::{compare, Measure, Score};
+use crate::timing::{Measure, Score, Timer};
 use std::fs::{read, write, File};
 use std::process::{Command, Stdio};
 
 /// The bytes of the lines of a group.
-const LEN: usize = 4 << 20;
+const LEN: usize = 2 << 20;
 
 /// Prints a line for each group of commands.
 pub fn print(options: &Options, score: &mut Score) {
     let paths = Paths::new();
-    println!("{:22}{:14}", "program", "4 MiB of lines");
+    let timer = Timer {
+        reps: options.reps * 4,
+        budget: options.reps as f64 * 0.5,
+        clock: clock::of_children,
+    };
+    println!("{:22}{:14}", "program", "2 MiB of lines");
     for (group, commands) in GROUPS {
         let input = format!("{}/lines", options.folder);
         write(&input, paths.lines(commands, LEN)).expect("the folder can be written to");
         let [ours, std] = &options.programs;
         let outputs = [ours, std].map(|program| output(program, &input, &options.folder));
         let is_same = outputs[0] == outputs[1];
-        let measure = compare(
-            options.reps * 2,
-            options.budget() * 10.0,
-            1,
-            &|_| run(ours, &input, Stdio::null()),
-            &|_| run(std, &input, Stdio::null()),
-        );
+        let measure = timer.compare(1, &|_| run(ours, &input, Stdio::null()), &|_| {
+            run(std, &input, Stdio::null())
+        });
         let measure = Measure { is_same, ..measure };
         println!(
             "{group:22}{}",

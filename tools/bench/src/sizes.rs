@@ -2,7 +2,7 @@
 use crate::corpora::Corpus;
 use crate::options::Options;
 use crate::rows::{rows, Other, Row};
-use crate::timing::seconds;
+use crate::timing::Timer;
 
 const SIZES: [usize; 4] = [10_000, 100_000, 1_000_000, 10_000_000];
 
@@ -20,7 +20,8 @@ const SHAPES: [(&str, &[u8]); 8] = [
 
 /// Prints a line for each call and shape, with the nanoseconds a byte at each size.
 pub fn print(options: &Options) {
-    let copies = SIZES.map(|size| copy_time(size, options.reps));
+    let timer = options.timer();
+    let copies = SIZES.map(|size| copy_time(size, &timer));
     println!("our nanoseconds a byte in paths of 10^4, 10^5, 10^6 and 10^7 bytes");
     println!("*: more than 1.3 times those in a path a tenth as long, and what a copy takes");
     println!("-: left out, since they grew threefold before\n");
@@ -31,7 +32,7 @@ pub fn print(options: &Options) {
             continue;
         }
         for (shape, piece) in SHAPES {
-            let times = times(row, piece, options.reps, &copies);
+            let times = times(row, piece, &timer, &copies);
             let line = shown(&times, &copies);
             grown += usize::from(line.contains('*'));
             println!("{:22}{shape:6}{line}", row.name);
@@ -61,7 +62,7 @@ fn shown(times: &[Option<f64>; 4], copies: &[f64; 4]) -> String {
 }
 
 /// The time a byte at each size; none behind one that grew threefold, which could take for ever.
-fn times(row: &Row, piece: &[u8], reps: usize, copies: &[f64; 4]) -> [Option<f64>; 4] {
+fn times(row: &Row, piece: &[u8], timer: &Timer, copies: &[f64; 4]) -> [Option<f64>; 4] {
     let mut times = [None; 4];
     for (at, size) in SIZES.into_iter().enumerate() {
         let path = piece.iter().copied().cycle().take(size).collect();
@@ -72,7 +73,12 @@ fn times(row: &Row, piece: &[u8], reps: usize, copies: &[f64; 4]) -> [Option<f64
         let others = corpus.others(row.other);
         let call = || row.ours.sum(&corpus.paths, &others);
         let before = at.checked_sub(1).and_then(|before| times[before]);
-        let time = settled(size, reps, before.map(|before| (before, copies[at])), &call);
+        let time = settled(
+            size,
+            timer,
+            before.map(|before| (before, copies[at])),
+            &call,
+        );
         times[at] = Some(time);
         if before.is_some_and(|before| time > 3.0 * before + copies[at]) {
             break;
@@ -82,30 +88,30 @@ fn times(row: &Row, piece: &[u8], reps: usize, copies: &[f64; 4]) -> [Option<f64
 }
 
 /// The least time, with a few more tries where it has grown, since other work may be at fault.
-fn settled(size: usize, reps: usize, before: Option<(f64, f64)>, call: &dyn Fn() -> u64) -> f64 {
-    let mut time = least(size, reps, call);
+fn settled(size: usize, timer: &Timer, before: Option<(f64, f64)>, call: &dyn Fn() -> u64) -> f64 {
+    let mut time = least(size, timer, call);
     for _ in 0..5 {
         if before.is_none_or(|(before, copy)| !is_grown(before, time, copy)) {
             break;
         }
-        time = time.min(least(size, reps, call));
+        time = time.min(least(size, timer, call));
     }
     time
 }
 
-fn copy_time(size: usize, reps: usize) -> f64 {
+fn copy_time(size: usize, timer: &Timer) -> f64 {
     let bytes = vec![b'a'; size];
-    least(size, reps, &|| {
+    least(size, timer, &|| {
         std::hint::black_box(bytes.clone()).len() as u64
     })
 }
 
 /// The least time of several runs, in nanoseconds a byte.
-fn least(size: usize, reps: usize, call: &dyn Fn() -> u64) -> f64 {
+fn least(size: usize, timer: &Timer, call: &dyn Fn() -> u64) -> f64 {
     let rounds = SIZES[3] / size / 10;
     let work = |_| call();
-    let best = (0..reps.min(5))
-        .map(|_| seconds(&work, 0, rounds.max(1)))
+    let best = (0..timer.reps.min(5))
+        .map(|_| timer.seconds(&work, 0, rounds.max(1)))
         .fold(f64::MAX, f64::min);
     best * 1e9 / (size * rounds.max(1)) as f64
 }

@@ -1,8 +1,8 @@
 //! The table of the calls that read text: scripts and lengths, and bytes that are no text.
 use crate::options::Options;
 use crate::random::Random;
-use crate::rows::texts;
-use crate::timing::{compare, Score};
+use crate::rows::{texts, Row};
+use crate::timing::{Score, Timer};
 
 /// The bytes of a row's sources.
 const LEN: usize = 4096;
@@ -21,6 +21,10 @@ pub fn print(options: &Options, score: &mut Score) {
     if rows.is_empty() {
         return;
     }
+    let timer = Timer {
+        reps: options.reps * 10,
+        ..options.timer()
+    };
     print!("{:26}", "text");
     for row in &rows {
         print!("{:18}", row.name);
@@ -29,39 +33,36 @@ pub fn print(options: &Options, score: &mut Score) {
     for sources in well_formed().iter().chain(&broken()) {
         print!("{:26}", sources.name);
         for row in &rows {
-            let measure = compare(
-                options.reps * 10,
-                options.budget(),
-                1,
-                &|_| row.ours.sum(&sources.strings, &[]),
-                &|_| row.std.sum(&sources.strings, &[]),
-            );
-            let corpus = if sources.is_broken { "broken" } else { "text" };
-            let cell = score.cell(&measure, row.name, corpus, false);
-            print!("{cell:18}");
+            print!("{:18}", sources.cell(row, &timer, score));
         }
         println!();
     }
     println!();
 }
 
+impl Sources {
+    /// The ratio of a call; none of `to_str`, which ends at the first byte that is no text.
+    fn cell(&self, row: &Row, timer: &Timer, score: &mut Score) -> String {
+        if self.is_broken && row.name == "to_str" {
+            return "-".to_string();
+        }
+        let ours = |_| row.ours.sum(&self.strings, &[]);
+        let std = |_| row.std.sum(&self.strings, &[]);
+        let measure = timer.compare(1, &ours, &std);
+        let corpus = if self.is_broken { "broken" } else { "text" };
+        score.cell(&measure, row.name, corpus, false)
+    }
+}
+
 const FRENCH: &str = "L'été, où l'âne brait, Noël s'ennuie à mâcher des bûches. ";
 
 /// A text of each script.
+#[rustfmt::skip]
 const SCRIPTS: [(&str, &str); 5] = [
-    (
-        "ASCII",
-        "The listing of a folder, /opt/tool-1.2/readme.txt among it; ",
-    ),
+    ("ASCII", "The listing of a folder, /opt/tool-1.2/readme.txt among it; "),
     ("French", FRENCH),
-    (
-        "Greek",
-        "Κάθε διαδρομή αρχίζει από τη ρίζα, και συνεχίζει. ",
-    ),
-    (
-        "Chinese",
-        "每条路径都从根开始然后经过许多目录最后到达一个文件",
-    ),
+    ("Greek", "Κάθε διαδρομή αρχίζει από τη ρίζα, και συνεχίζει. "),
+    ("Chinese", "每条路径都从根开始然后经过许多目录最后到达一个文件"),
     ("emoji", "🌲🌳📁📂🗂🔑🧭"),
 ];
 

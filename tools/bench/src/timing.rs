@@ -15,44 +15,54 @@ pub struct Measure {
 /// Each time is of at least so many seconds.
 const SHORTEST: f64 = 1e-4;
 
-/// The seconds that the work on this slice takes, done so many times.
-pub fn seconds(work: Work, slice: usize, rounds: usize) -> f64 {
-    let start = Instant::now();
-    for _ in 0..rounds {
-        black_box(work(slice));
-    }
-    start.elapsed().as_secs_f64()
+/// How work is timed.
+pub struct Timer {
+    /// How often each slice of the work is timed.
+    pub reps: usize,
+    /// After so many seconds no slice is timed any more.
+    pub budget: f64,
+    pub clock: fn() -> f64,
 }
 
-/// Our time over std's on one slice. The sides run right after each other and in turns, so that a
-/// busy machine slows both, and neither finds the bytes nearer than the other does.
-fn ratio_on(slice: usize, ours: Work, std: Work) -> f64 {
-    let once = seconds(ours, slice, 1).min(seconds(std, slice, 1));
-    let rounds = (SHORTEST / once).ceil() as usize;
-    let [a, b, c, d] = [ours, std, std, ours].map(|work| seconds(work, slice, rounds));
-    (a + d) / (b + c)
+impl Timer {
+    /// The median of the ratios on each of the slices, over and over.
+    pub fn compare(&self, slices: usize, ours: Work, std: Work) -> Measure {
+        let is_same = (0..slices).all(|slice| ours(slice) == std(slice));
+        let start = Instant::now();
+        let mut ratios = vec![];
+        for _ in 0..self.reps {
+            ratios.extend((0..slices).map(|slice| self.ratio_on(slice, ours, std)));
+            if start.elapsed().as_secs_f64() > self.budget {
+                break;
+            }
+        }
+        let ratio = median(ratios);
+        Measure { ratio, is_same }
+    }
+
+    /// Our time over std's on one slice. The sides run right after each other and in turns, so that
+    /// a busy machine slows both, and neither finds the bytes nearer than the other does.
+    fn ratio_on(&self, slice: usize, ours: Work, std: Work) -> f64 {
+        let [once, again] = [ours, std].map(|work| self.seconds(work, slice, 1));
+        let rounds = (SHORTEST / once.min(again)).ceil() as usize;
+        let [a, b, c, d] = [ours, std, std, ours].map(|work| self.seconds(work, slice, rounds));
+        (a + d) / (b + c)
+    }
+
+    /// The seconds that the work on this slice takes, done so many times.
+    pub fn seconds(&self, work: Work, slice: usize, rounds: usize) -> f64 {
+        let start = (self.clock)();
+        for _ in 0..rounds {
+            black_box(work(slice));
+        }
+        (self.clock)() - start
+    }
 }
 
 /// The middle one of the numbers.
-pub fn median(mut numbers: Vec<f64>) -> f64 {
+fn median(mut numbers: Vec<f64>) -> f64 {
     numbers.sort_by(f64::total_cmp);
     numbers[numbers.len() / 2]
-}
-
-/// The median of the ratios on each of the slices, over and over: `reps` times each, or fewer once
-/// `budget` seconds have passed.
-pub fn compare(reps: usize, budget: f64, slices: usize, ours: Work, std: Work) -> Measure {
-    let is_same = (0..slices).all(|slice| ours(slice) == std(slice));
-    let start = Instant::now();
-    let mut ratios = vec![];
-    for _ in 0..reps {
-        ratios.extend((0..slices).map(|slice| ratio_on(slice, ours, std)));
-        if start.elapsed().as_secs_f64() > budget {
-            break;
-        }
-    }
-    let ratio = median(ratios);
-    Measure { ratio, is_same }
 }
 
 const LEGEND: &str = "\
