@@ -1,11 +1,18 @@
 //! What the words of the command line ask for.
-
 use crate::clock;
 use crate::timing::Timer;
 
+const PARTS: [&str; 4] = ["calls", "texts", "programs", "sizes"];
+const CORPORA: [&str; 4] = ["realistic", "adversarial", "deep", "non_utf8"];
+
+/// Whether each of the words is one of the names.
+fn are_known(words: &[String], names: &[&str]) -> bool {
+    words.iter().all(|word| names.contains(&word.as_str()))
+}
+
 /// Each option is a word `name=value`; a list has commas between.
 pub struct Options {
-    /// `calls`, `texts`, `programs` and `sizes`.
+    /// What is timed.
     pub parts: Vec<String>,
     /// How the names of the rows begin that are shown; none for all.
     pub only: Vec<String>,
@@ -47,9 +54,15 @@ impl Options {
             return false;
         };
         match name {
-            "part" => self.parts = list(value),
+            "part" => {
+                self.parts = list(value);
+                return are_known(&self.parts, &PARTS);
+            }
             "only" => self.only = list(value),
-            "corpus" => self.corpora = list(value),
+            "corpus" => {
+                self.corpora = list(value);
+                return are_known(&self.corpora, &CORPORA);
+            }
             "reps" => match value.parse() {
                 Ok(reps) if reps > 0 => self.reps = reps,
                 _ => return false,

@@ -23,7 +23,7 @@ pub fn print(options: &Options) {
     let timer = options.timer();
     let copies = SIZES.map(|size| copy_time(size, &timer));
     println!("our nanoseconds a byte in paths of 10^4, 10^5, 10^6 and 10^7 bytes");
-    println!("*: more than 1.3 times those in a path a tenth as long, and what a copy takes");
+    println!("*: more than 1.3 times those in a path a tenth as long, and what three copies take");
     println!("-: left out, since they grew threefold before\n");
     println!("{:28}{}", "a copy", shown(&copies.map(Some), &copies));
     let mut grown = 0;
@@ -41,9 +41,10 @@ pub fn print(options: &Options) {
     println!("\n{grown} lines have a time a byte that grows\n");
 }
 
-/// Whether a byte takes longer than in a path a tenth as long.
+/// Whether a byte takes longer than in a path a tenth as long, by more than what memory costs: a
+/// text that is shown has up to three times as many bytes.
 fn is_grown(before: f64, now: f64, copy: f64) -> bool {
-    now > 1.3 * before + copy
+    now > 1.3 * before + 3.0 * copy
 }
 
 fn shown(times: &[Option<f64>; 4], copies: &[f64; 4]) -> String {
@@ -80,7 +81,7 @@ fn times(row: &Row, piece: &[u8], timer: &Timer, copies: &[f64; 4]) -> [Option<f
             &call,
         );
         times[at] = Some(time);
-        if before.is_some_and(|before| time > 3.0 * before + copies[at]) {
+        if before.is_some_and(|before| time > 3.0 * before + 3.0 * copies[at]) {
             break;
         }
     }
