@@ -3,6 +3,7 @@ use crate::corpora::Corpus;
 use crate::options::Options;
 use crate::rows::{rows, Other, Row};
 use crate::timing::Timer;
+use std::hint::black_box;
 
 const SIZES: [usize; 4] = [10_000, 100_000, 1_000_000, 10_000_000];
 
@@ -21,19 +22,17 @@ const SHAPES: [(&str, &[u8]); 8] = [
 /// Prints a line for each call and shape, with the nanoseconds a byte at each size.
 pub fn print(options: &Options) {
     let timer = options.timer();
-    let copies = SIZES.map(|size| copy_time(size, &timer));
+    let memory = memory(&timer);
     println!("our nanoseconds a byte in paths of 10^4, 10^5, 10^6 and 10^7 bytes");
-    println!("*: more than 1.3 times those in a path a tenth as long, and what three copies take");
+    println!("*: more than 1.3 times those in a path a tenth as long, and what memory costs");
     println!("-: left out, since they grew threefold before\n");
-    println!("{:28}{}", "a copy", shown(&copies.map(Some), &copies));
     let mut grown = 0;
     for row in rows().iter().filter(|row| options.has_row(row.name)) {
         if row.is_sort() || row.other == Other::Next {
             continue;
         }
         for (shape, piece) in SHAPES {
-            let times = times(row, piece, &timer, &copies);
-            let line = shown(&times, &copies);
+            let line = shown(&times(row, piece, &timer, &memory), &memory);
             grown += usize::from(line.contains('*'));
             println!("{:22}{shape:6}{line}", row.name);
         }
@@ -41,78 +40,76 @@ pub fn print(options: &Options) {
     println!("\n{grown} lines have a time a byte that grows\n");
 }
 
-/// Whether a byte takes longer than in a path a tenth as long, by more than what memory costs: a
-/// text that is shown has up to three times as many bytes.
-fn is_grown(before: f64, now: f64, copy: f64) -> bool {
-    now > 1.3 * before + 3.0 * copy
+/// Whether the time a byte at one size is more than so many times that at the size before, and what
+/// memory costs.
+fn is_grown(times: &[Option<f64>; 4], at: usize, factor: f64, memory: &[f64; 4]) -> bool {
+    if at == 0 {
+        return false;
+    }
+    let (Some(before), Some(now)) = (times[at - 1], times[at]) else {
+        return false;
+    };
+    now > factor * before + memory[at]
 }
 
-fn shown(times: &[Option<f64>; 4], copies: &[f64; 4]) -> String {
-    let mut line = String::new();
-    for (at, time) in times.iter().enumerate() {
-        let before = at.checked_sub(1).and_then(|before| times[before]);
-        line += &match (before, time) {
-            (Some(before), Some(now)) if is_grown(before, *now, copies[at]) => {
-                format!("{now:9.3} *")
-            }
-            (_, Some(now)) => format!("{now:9.3}  "),
-            (_, None) => format!("{:>9}  ", "-"),
-        };
-    }
-    line
+fn shown(times: &[Option<f64>; 4], memory: &[f64; 4]) -> String {
+    let cell = |at: usize| match times[at] {
+        Some(time) if is_grown(times, at, 1.3, memory) => format!("{time:9.3} *"),
+        Some(time) => format!("{time:9.3}  "),
+        None => format!("{:>9}  ", "-"),
+    };
+    (0..SIZES.len()).map(cell).collect()
 }
 
 /// The time a byte at each size; none behind one that grew threefold, which could take for ever.
-fn times(row: &Row, piece: &[u8], timer: &Timer, copies: &[f64; 4]) -> [Option<f64>; 4] {
+fn times(row: &Row, piece: &[u8], timer: &Timer, memory: &[f64; 4]) -> [Option<f64>; 4] {
     let mut times = [None; 4];
     for (at, size) in SIZES.into_iter().enumerate() {
         let path = piece.iter().copied().cycle().take(size).collect();
-        let corpus = Corpus {
-            name: "hostile",
-            paths: vec![path],
-        };
+        let (name, paths) = ("hostile", vec![path]);
+        let corpus = Corpus { name, paths };
         let others = corpus.others(row.other);
-        let call = || row.ours.sum(&corpus.paths, &others);
-        let before = at.checked_sub(1).and_then(|before| times[before]);
-        let time = settled(
-            size,
-            timer,
-            before.map(|before| (before, copies[at])),
-            &call,
-        );
-        times[at] = Some(time);
-        if before.is_some_and(|before| time > 3.0 * before + 3.0 * copies[at]) {
+        // A few more tries where it has grown, since other work may be at fault.
+        for _ in 0..5 {
+            let time = least(size, timer, &|| row.ours.sum(&corpus.paths, &others));
+            times[at] = Some(time.min(times[at].unwrap_or(f64::MAX)));
+            if !is_grown(&times, at, 1.3, memory) {
+                break;
+            }
+        }
+        if is_grown(&times, at, 3.0, memory) {
             break;
         }
     }
     times
 }
 
-/// The least time, with a few more tries where it has grown, since other work may be at fault.
-fn settled(size: usize, timer: &Timer, before: Option<(f64, f64)>, call: &dyn Fn() -> u64) -> f64 {
-    let mut time = least(size, timer, call);
-    for _ in 0..5 {
-        if before.is_none_or(|(before, copy)| !is_grown(before, time, copy)) {
-            break;
-        }
-        time = time.min(least(size, timer, call));
+/// What a byte may cost at each size beyond what it costs at the size before: to copy it, and to
+/// have three times as many in a string that grows, as text that is shown may.
+fn memory(timer: &Timer) -> [f64; 4] {
+    let copies = SIZES.map(|size| {
+        let bytes = vec![b'a'; size];
+        least(size, timer, &|| black_box(bytes.clone()).len() as u64)
+    });
+    let strings = SIZES.map(|size| {
+        least(size, timer, &|| {
+            let mut text = String::new();
+            (0..size).for_each(|_| text.push('\u{FFFD}'));
+            black_box(text).len() as u64
+        })
+    });
+    let mut memory = copies;
+    for at in 1..SIZES.len() {
+        memory[at] += 1.5 * (strings[at] - strings[at - 1]).max(0.0);
     }
-    time
-}
-
-fn copy_time(size: usize, timer: &Timer) -> f64 {
-    let bytes = vec![b'a'; size];
-    least(size, timer, &|| {
-        std::hint::black_box(bytes.clone()).len() as u64
-    })
+    memory
 }
 
 /// The least time of several runs, in nanoseconds a byte.
 fn least(size: usize, timer: &Timer, call: &dyn Fn() -> u64) -> f64 {
-    let rounds = SIZES[3] / size / 10;
-    let work = |_| call();
+    let rounds = (SIZES[2] / size).max(1);
     let best = (0..timer.reps.min(5))
-        .map(|_| timer.seconds(&work, 0, rounds.max(1)))
+        .map(|_| timer.seconds(&|_| call(), 0, rounds))
         .fold(f64::MAX, f64::min);
-    best * 1e9 / (size * rounds.max(1)) as f64
+    best * 1e9 / (size * rounds) as f64
 }
