@@ -22,7 +22,7 @@ pub fn print(options: &Options, score: &mut Score) {
         print!("{:22}", row.name);
         for corpus in &corpora {
             let measure = measure(row, corpus, options);
-            let cell = score.cell(&measure, row.name, corpus.name, row.is_hash());
+            let cell = score.cell(&measure, row.name, corpus.name);
             print!("{cell:14}");
         }
         println!();

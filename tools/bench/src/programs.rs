@@ -24,14 +24,13 @@ pub fn print(options: &Options, score: &mut Score) {
         let [ours, std] = &options.programs;
         let outputs = [ours, std].map(|program| output(program, &input, &options.folder));
         let is_same = outputs[0] == outputs[1];
-        let measure = timer.compare(1, &|_| run(ours, &input, Stdio::null()), &|_| {
-            run(std, &input, Stdio::null())
-        });
-        let measure = Measure { is_same, ..measure };
-        println!(
-            "{group:22}{}",
-            score.cell(&measure, "program", group, false)
-        );
+        let run_ours = |_| run(ours, &input, Stdio::null());
+        let run_std = |_| run(std, &input, Stdio::null());
+        let measure = Measure {
+            is_same,
+            ..timer.compare(1, &run_ours, &run_std)
+        };
+        println!("{group:22}{}", score.cell(&measure, "program", group));
         if !is_same {
             show_difference(&input, &outputs);
         }

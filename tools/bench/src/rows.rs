@@ -30,11 +30,6 @@ impl Row {
     pub fn is_sort(&self) -> bool {
         self.name == "sort"
     }
-
-    /// Whether the answers differ on purpose: each side feeds a hasher in its own way.
-    pub fn is_hash(&self) -> bool {
-        self.name.starts_with("hash")
-    }
 }
 
 fn one(name: &'static str, ours: OfOne, std: OfOne) -> Row {

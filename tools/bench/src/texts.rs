@@ -50,7 +50,7 @@ impl Sources {
         let std = |_| row.std.sum(&self.strings, &[]);
         let measure = timer.compare(1, &ours, &std);
         let corpus = if self.is_broken { "broken" } else { "text" };
-        score.cell(&measure, row.name, corpus, false)
+        score.cell(&measure, row.name, corpus)
     }
 }
 

@@ -1,5 +1,5 @@
 //! Our time over std's, and how it is shown.
-use crate::targets::target;
+use crate::targets::{may_differ, target};
 use std::hint::black_box;
 use std::time::Instant;
 
@@ -65,18 +65,18 @@ fn median(mut numbers: Vec<f64>) -> f64 {
     numbers[numbers.len() / 2]
 }
 
-const LEGEND: &str = "\
-Each number is our time over that of std::path; where that is above its target, > and this follow.
-~ The answers differ on purpose: each side feeds a hasher in its own way. Our cheap one is
-  that of Rattle's maps, FoldHasher; Rust's only counts the bytes.";
-
 /// How many ratios were shown, and how many of them were marked.
 #[derive(Default)]
 pub struct Score {
     pub shown: usize,
     pub above: usize,
+    pub on_purpose: usize,
     pub different: usize,
 }
+
+const ON_PURPOSE: &str = "\
+~ The answers differ on purpose: each side feeds a hasher in its own way. Our cheap one is
+  that of Rattle's maps, FoldHasher; Rust's only counts the bytes.";
 
 impl Score {
     /// Prints what the numbers and marks were.
@@ -84,11 +84,17 @@ impl Score {
         if self.shown == 0 {
             return;
         }
-        println!("{} of {} are above their targets.", self.above, self.shown);
-        println!("{LEGEND}");
+        println!("Each number is our time over that of std::path, and behind > stands its target");
+        println!(
+            "where it is above that, as {} of {} are.",
+            self.above, self.shown
+        );
+        if self.on_purpose > 0 {
+            println!("{ON_PURPOSE}");
+        }
         if self.different > 0 {
             println!(
-                "DIFFERS: {} answers are not the same, and ought to be.",
+                "DIFFERS: so many answers differ and must not: {}",
                 self.different
             );
         }
@@ -96,7 +102,7 @@ impl Score {
 
     /// The ratio, with its target behind it where it is above that, and a mark where the answers
     /// differ: `~` where they do so on purpose, `DIFFERS` where they must not.
-    pub fn cell(&mut self, measure: &Measure, row: &str, corpus: &str, is_hash: bool) -> String {
+    pub fn cell(&mut self, measure: &Measure, row: &str, corpus: &str) -> String {
         let wanted = target(row, corpus);
         let mut cell = format!("{:.2}", measure.ratio);
         self.shown += 1;
@@ -104,7 +110,8 @@ impl Score {
             self.above += 1;
             cell.push_str(&format!(" > {wanted}"));
         }
-        if is_hash {
+        if may_differ(row) {
+            self.on_purpose += 1;
             cell.push_str(" ~");
         } else if !measure.is_same {
             self.different += 1;
