@@ -32,56 +32,60 @@ pub fn print(options: &Options) {
             continue;
         }
         for (shape, piece) in SHAPES {
-            let line = shown(&times(row, piece, &timer, &memory), &memory);
-            grown += usize::from(line.contains('*'));
-            println!("{:22}{shape:6}{line}", row.name);
+            let times = times(&|at| time(row, piece, at, &timer), &memory);
+            grown += usize::from(times.iter().any(|time| time.is_grown));
+            println!("{:22}{shape:6}{}", row.name, shown(&times));
         }
     }
     println!("\n{grown} lines have a time a byte that grows\n");
 }
 
-/// Whether the time a byte at one size is more than so many times that at the size before, and what
-/// memory costs.
-fn is_grown(times: &[Option<f64>; 4], at: usize, factor: f64, memory: &[f64; 4]) -> bool {
-    if at == 0 {
-        return false;
-    }
-    let (Some(before), Some(now)) = (times[at - 1], times[at]) else {
-        return false;
-    };
-    now > factor * before + memory[at]
+/// The nanoseconds a byte at a size, and whether they grew.
+struct Time {
+    nanoseconds: f64,
+    is_grown: bool,
 }
 
-fn shown(times: &[Option<f64>; 4], memory: &[f64; 4]) -> String {
-    let cell = |at: usize| match times[at] {
-        Some(time) if is_grown(times, at, 1.3, memory) => format!("{time:9.3} *"),
-        Some(time) => format!("{time:9.3}  "),
+fn shown(times: &[Time]) -> String {
+    let cell = |at: usize| match times.get(at) {
+        Some(time) if time.is_grown => format!("{:9.3} *", time.nanoseconds),
+        Some(time) => format!("{:9.3}  ", time.nanoseconds),
         None => format!("{:>9}  ", "-"),
     };
     (0..SIZES.len()).map(cell).collect()
 }
 
-/// The time a byte at each size; none behind one that grew threefold, which could take for ever.
-fn times(row: &Row, piece: &[u8], timer: &Timer, memory: &[f64; 4]) -> [Option<f64>; 4] {
-    let mut times = [None; 4];
-    for (at, size) in SIZES.into_iter().enumerate() {
-        let path = piece.iter().copied().cycle().take(size).collect();
-        let (name, paths) = ("hostile", vec![path]);
-        let corpus = Corpus { name, paths };
-        let others = corpus.others(row.other);
-        // A few more tries where it has grown, since other work may be at fault.
-        for _ in 0..5 {
-            let time = least(size, timer, &|| row.ours.sum(&corpus.paths, &others));
-            times[at] = Some(time.min(times[at].unwrap_or(f64::MAX)));
-            if !is_grown(&times, at, 1.3, memory) {
+/// The time at each size; none behind one that grew threefold, which could take for ever.
+fn times(time: &dyn Fn(usize) -> f64, memory: &[f64; 4]) -> Vec<Time> {
+    let mut times: Vec<Time> = vec![];
+    for at in 0..SIZES.len() {
+        let mut now = time(at);
+        let mut before = times.last().map_or(now, |time| time.nanoseconds);
+        // Both sizes are timed anew where it grew, since other work may be at fault.
+        for _ in 0..4 {
+            if at == 0 || now <= 1.3 * before + memory[at] {
                 break;
             }
+            (before, now) = (time(at - 1), time(at));
         }
-        if is_grown(&times, at, 3.0, memory) {
+        times.push(Time {
+            nanoseconds: now,
+            is_grown: now > 1.3 * before + memory[at],
+        });
+        if now > 3.0 * before + memory[at] {
             break;
         }
     }
     times
+}
+
+/// Our time with a path of this shape and size.
+fn time(row: &Row, piece: &[u8], at: usize, timer: &Timer) -> f64 {
+    let path = piece.iter().copied().cycle().take(SIZES[at]).collect();
+    let (name, paths) = ("hostile", vec![path]);
+    let corpus = Corpus { name, paths };
+    let others = corpus.others(row.other);
+    least(SIZES[at], timer, &|| row.ours.sum(&corpus.paths, &others))
 }
 
 /// What a byte may cost at each size beyond what it costs at the size before: to copy it, and to
