@@ -5,10 +5,12 @@ use std::io::{self, BufWriter, Read, Write};
 use std::os::unix::ffi::OsStrExt;
 use std::path::{Path, PathBuf};
 
+/// The field as a string of the system.
 fn text(field: &[u8]) -> &OsStr {
     OsStr::from_bytes(field)
 }
 
+/// The field as a path.
 fn path(field: &[u8]) -> &Path {
     Path::new(text(field))
 }
@@ -34,14 +36,17 @@ fn push_option(item: Option<&OsStr>, answer: &mut Vec<u8>) {
     }
 }
 
+/// Adds the path.
 fn push_path(path: &Path, answer: &mut Vec<u8>) {
     answer.extend_from_slice(path.as_os_str().as_bytes());
 }
 
+/// Adds `true` or `false`.
 fn push_truth(is_so: bool, answer: &mut Vec<u8>) {
     answer.extend_from_slice(if is_so { b"true" } else { b"false" });
 }
 
+/// Adds `less`, `equal` or `greater`.
 fn push_order(order: Ordering, answer: &mut Vec<u8>) {
     answer.extend_from_slice(match order {
         Ordering::Less => b"less",
@@ -50,10 +55,12 @@ fn push_order(order: Ordering, answer: &mut Vec<u8>) {
     });
 }
 
+/// Adds that the line is no command.
 fn push_bad_command(answer: &mut Vec<u8>) {
     answer.extend_from_slice(b"bad command");
 }
 
+/// Adds what the turns take from both ends, and what they leave.
 fn push_walk(path: &Path, turns: &[u8], answer: &mut Vec<u8>) {
     let mut left = path.components();
     let (mut front, mut behind) = (vec![], vec![]);
@@ -94,6 +101,7 @@ fn push_edit(field: &[u8], edited: &mut PathBuf, answers: &mut Vec<u8>) -> bool 
     true
 }
 
+/// Adds the path after the edits, and what they answer.
 fn push_edited(path: &Path, fields: &[&[u8]], answer: &mut Vec<u8>) {
     let mut edited = path.to_path_buf();
     let mut answers = vec![];
@@ -106,6 +114,7 @@ fn push_edited(path: &Path, fields: &[&[u8]], answer: &mut Vec<u8>) {
     answer.extend_from_slice(&answers);
 }
 
+/// Adds the path as text.
 fn push_shown(path: &Path, answer: &mut Vec<u8>) {
     for chunk in path.as_os_str().as_bytes().utf8_chunks() {
         answer.extend_from_slice(chunk.valid().as_bytes());
@@ -115,6 +124,7 @@ fn push_shown(path: &Path, answer: &mut Vec<u8>) {
     }
 }
 
+/// Adds the answer to a line.
 fn push_answer(fields: &[&[u8]], answer: &mut Vec<u8>) {
     match fields {
         [b"parts", p] => push_list(path(p).iter(), answer),

@@ -2,6 +2,7 @@
 use crate::random::Random;
 use crate::rows::Other;
 
+/// A name and its paths.
 pub struct Corpus {
     pub name: &'static str,
     pub paths: Vec<Vec<u8>>,

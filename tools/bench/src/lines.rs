@@ -13,6 +13,7 @@ pub const GROUPS: [(&str, &str); 7] = [
     ("all of them", ALL),
 ];
 
+/// All commands that std::path answers alike.
 const ALL: &str =
     "parts back walk name stem ext parent ancestors canon join strip starts ends cmp \
     edit show";
@@ -70,6 +71,7 @@ fn push_fields(command: &str, path: &[u8], next: &[u8], line: &mut Vec<u8>) {
     }
 }
 
+/// Adds a tab and the field.
 fn push_field(field: &[u8], line: &mut Vec<u8>) {
     line.push(b'\t');
     line.extend_from_slice(field);

@@ -2,6 +2,7 @@
 use crate::clock;
 use crate::timing::Timer;
 
+/// What can be timed, and over what.
 const PARTS: [&str; 4] = ["calls", "texts", "programs", "sizes"];
 const CORPORA: [&str; 4] = ["realistic", "adversarial", "deep", "non_utf8"];
 
@@ -25,6 +26,7 @@ pub struct Options {
     pub programs: [String; 2],
 }
 
+/// The words between commas.
 fn list(value: &str) -> Vec<String> {
     value.split(',').map(String::from).collect()
 }
@@ -75,14 +77,17 @@ impl Options {
         true
     }
 
+    /// Whether that is timed.
     pub fn has_part(&self, part: &str) -> bool {
         self.parts.iter().any(|name| name == part)
     }
 
+    /// Whether the row is shown.
     pub fn has_row(&self, row: &str) -> bool {
         self.only.is_empty() || self.only.iter().any(|name| row.starts_with(name.as_str()))
     }
 
+    /// Whether the corpus is used.
     pub fn has_corpus(&self, corpus: &str) -> bool {
         self.corpora.is_empty() || self.corpora.iter().any(|name| name == corpus)
     }

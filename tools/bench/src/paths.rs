@@ -44,6 +44,7 @@ fn slices(paths: &[Vec<u8>]) -> Vec<Range<usize>> {
     slices
 }
 
+/// The ratio of the row on the corpus.
 fn measure(row: &Row, corpus: &Corpus, options: &Options) -> Measure {
     let paths = &corpus.paths;
     let slices = slices(paths);

@@ -1,5 +1,6 @@
 //! A small generator of numbers, so that every run sees the same bytes.
 
+/// The state of the generator.
 pub struct Random(pub u64);
 
 impl Random {

@@ -18,6 +18,7 @@ pub enum Other {
     Extension,
 }
 
+/// A call on both sides.
 pub struct Row {
     pub name: &'static str,
     pub ours: Call,
@@ -32,6 +33,7 @@ impl Row {
     }
 }
 
+/// A row of a call that takes a path alone.
 fn one(name: &'static str, ours: OfOne, std: OfOne) -> Row {
     let (ours, std, other) = (Call::One(ours), Call::One(std), Other::Nothing);
     Row {
@@ -42,6 +44,7 @@ fn one(name: &'static str, ours: OfOne, std: OfOne) -> Row {
     }
 }
 
+/// A row of a call that takes something else too.
 fn two(name: &'static str, ours: OfTwo, std: OfTwo, other: Other) -> Row {
     let (ours, std) = (Call::Two(ours), Call::Two(std));
     Row {
@@ -60,6 +63,7 @@ pub fn rows() -> Vec<Row> {
         .collect()
 }
 
+/// The walks over parts.
 fn walks() -> Vec<Row> {
     vec![
         one("parts", ours_parts, std::parts),
@@ -70,6 +74,7 @@ fn walks() -> Vec<Row> {
     ]
 }
 
+/// What is asked of a path.
 fn queries() -> Vec<Row> {
     let (front, behind) = (Other::Front, Other::Behind);
     vec![
@@ -83,6 +88,7 @@ fn queries() -> Vec<Row> {
     ]
 }
 
+/// Equality, order and hash.
 fn comparisons() -> Vec<Row> {
     vec![
         two("eq same", ours_eq, std::eq, Other::Same),
@@ -97,6 +103,7 @@ fn comparisons() -> Vec<Row> {
     ]
 }
 
+/// The edits and the copies.
 #[rustfmt::skip]
 fn edits() -> Vec<Row> {
     vec![

@@ -5,6 +5,7 @@ use crate::rows::{rows, Other, Row};
 use crate::timing::Timer;
 use std::hint::black_box;
 
+/// The bytes of the paths.
 const SIZES: [usize; 4] = [10_000, 100_000, 1_000_000, 10_000_000];
 
 /// What is repeated in a path, and a word for it.
@@ -46,6 +47,7 @@ struct Time {
     is_grown: bool,
 }
 
+/// A cell for each size.
 fn shown(times: &[Time]) -> String {
     let cell = |at: usize| match times.get(at) {
         Some(time) if time.is_grown => format!("{:9.3} *", time.nanoseconds),

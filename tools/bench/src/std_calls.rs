@@ -12,14 +12,17 @@ use std::slice;
 /// The answer where there is none.
 const NONE: u64 = u64::MAX;
 
+/// The bytes that were passed.
 unsafe fn bytes_of<'a>(start: Start, len: usize) -> &'a [u8] {
     slice::from_raw_parts(start, len)
 }
 
+/// They as a string of the system.
 unsafe fn text_of<'a>(start: Start, len: usize) -> &'a OsStr {
     OsStr::from_bytes(bytes_of(start, len))
 }
 
+/// They as a path.
 unsafe fn path_of<'a>(start: Start, len: usize) -> &'a Path {
     Path::new(text_of(start, len))
 }
@@ -38,14 +41,17 @@ fn added(sum: u64, bytes: &[u8]) -> u64 {
     sum.wrapping_mul(31).wrapping_add(digest(bytes))
 }
 
+/// The number of a string, or that there is none.
 fn some(text: Option<&OsStr>) -> u64 {
     text.map_or(NONE, |text| digest(text.as_bytes()))
 }
 
+/// The number of a path.
 fn made(path: &Path) -> u64 {
     digest(path.as_os_str().as_bytes())
 }
 
+/// The parts, front first.
 pub unsafe extern "C" fn parts(path: Start, len: usize) -> u64 {
     let mut sum = 0;
     for part in path_of(path, len).components() {
@@ -54,6 +60,7 @@ pub unsafe extern "C" fn parts(path: Start, len: usize) -> u64 {
     sum
 }
 
+/// The parts, the last first.
 pub unsafe extern "C" fn parts_behind(path: Start, len: usize) -> u64 {
     let mut sum = 0;
     for part in path_of(path, len).components().rev() {
@@ -62,6 +69,7 @@ pub unsafe extern "C" fn parts_behind(path: Start, len: usize) -> u64 {
     sum
 }
 
+/// The parts, in front and behind in turns.
 pub unsafe extern "C" fn parts_both(path: Start, len: usize) -> u64 {
     let mut sum = 0;
     let mut left = path_of(path, len).components();
@@ -74,16 +82,19 @@ pub unsafe extern "C" fn parts_both(path: Start, len: usize) -> u64 {
     sum
 }
 
+/// What is left after the first part.
 pub unsafe extern "C" fn as_path(path: Start, len: usize) -> u64 {
     let mut left = path_of(path, len).components();
     left.next();
     made(left.as_path())
 }
 
+/// The parent.
 pub unsafe extern "C" fn parent(path: Start, len: usize) -> u64 {
     some(path_of(path, len).parent().map(Path::as_os_str))
 }
 
+/// The path and all above it.
 pub unsafe extern "C" fn ancestors(path: Start, len: usize) -> u64 {
     let mut sum = 0;
     for path in path_of(path, len).ancestors() {
@@ -92,30 +103,36 @@ pub unsafe extern "C" fn ancestors(path: Start, len: usize) -> u64 {
     sum
 }
 
+/// The file name.
 pub unsafe extern "C" fn file_name(path: Start, len: usize) -> u64 {
     some(path_of(path, len).file_name())
 }
 
+/// Its stem.
 pub unsafe extern "C" fn file_stem(path: Start, len: usize) -> u64 {
     some(path_of(path, len).file_stem())
 }
 
+/// Its extension.
 pub unsafe extern "C" fn extension(path: Start, len: usize) -> u64 {
     some(path_of(path, len).extension())
 }
 
+/// Whether the base begins the path.
 pub unsafe extern "C" fn starts_with(path: Start, len: usize, base: Start, base_len: usize) -> u64 {
     path_of(path, len)
         .starts_with(path_of(base, base_len))
         .into()
 }
 
+/// Whether the child ends the path.
 pub unsafe extern "C" fn ends_with(path: Start, len: usize, child: Start, child_len: usize) -> u64 {
     path_of(path, len)
         .ends_with(path_of(child, child_len))
         .into()
 }
 
+/// What follows the base.
 pub unsafe extern "C" fn strip_prefix(
     path: Start,
     len: usize,
@@ -128,10 +145,12 @@ pub unsafe extern "C" fn strip_prefix(
     }
 }
 
+/// Whether the two are equal.
 pub unsafe extern "C" fn eq(path: Start, len: usize, other: Start, other_len: usize) -> u64 {
     (path_of(path, len) == path_of(other, other_len)).into()
 }
 
+/// 0, 1 or 2: less, equal or greater.
 pub unsafe extern "C" fn cmp(path: Start, len: usize, other: Start, other_len: usize) -> u64 {
     match path_of(path, len).cmp(path_of(other, other_len)) {
         Ordering::Less => 0,
@@ -153,22 +172,26 @@ impl Hasher for Count {
     }
 }
 
+/// What a cheap hasher makes of the path.
 pub unsafe extern "C" fn hash_cheap(path: Start, len: usize) -> u64 {
     let mut hasher = Count(0);
     path_of(path, len).hash(&mut hasher);
     hasher.finish()
 }
 
+/// What SipHash makes of the path.
 pub unsafe extern "C" fn hash_sip(path: Start, len: usize) -> u64 {
     let mut hasher = DefaultHasher::new();
     path_of(path, len).hash(&mut hasher);
     hasher.finish()
 }
 
+/// The join of the two.
 pub unsafe extern "C" fn join(path: Start, len: usize, other: Start, other_len: usize) -> u64 {
     made(&path_of(path, len).join(path_of(other, other_len)))
 }
 
+/// A copy with that file name.
 pub unsafe extern "C" fn with_file_name(
     path: Start,
     len: usize,
@@ -178,6 +201,7 @@ pub unsafe extern "C" fn with_file_name(
     made(&path_of(path, len).with_file_name(text_of(name, name_len)))
 }
 
+/// A copy with that extension.
 pub unsafe extern "C" fn with_extension(
     path: Start,
     len: usize,
@@ -187,6 +211,7 @@ pub unsafe extern "C" fn with_extension(
     made(&path_of(path, len).with_extension(text_of(end, end_len)))
 }
 
+/// Pushes and pops, four times.
 pub unsafe extern "C" fn push_pop(path: Start, len: usize, other: Start, other_len: usize) -> u64 {
     let mut edited = path_of(path, len).to_path_buf();
     let mut sum = 0;
@@ -199,16 +224,19 @@ pub unsafe extern "C" fn push_pop(path: Start, len: usize, other: Start, other_l
     sum
 }
 
+/// A copy whose extension is set.
 pub unsafe extern "C" fn set_extension(path: Start, len: usize, end: Start, end_len: usize) -> u64 {
     let mut edited = path_of(path, len).to_path_buf();
     edited.set_extension(text_of(end, end_len));
     made(&edited)
 }
 
+/// The shortest path with the same parts.
 pub unsafe extern "C" fn canonical(path: Start, len: usize) -> u64 {
     made(&path_of(path, len).components().collect::<PathBuf>())
 }
 
+/// The length of the text, if it is text.
 pub unsafe extern "C" fn to_str(path: Start, len: usize) -> u64 {
     match path_of(path, len).to_str() {
         Some(text) => text.len() as u64,
@@ -216,10 +244,12 @@ pub unsafe extern "C" fn to_str(path: Start, len: usize) -> u64 {
     }
 }
 
+/// The length of the lossy text.
 pub unsafe extern "C" fn to_string_lossy(path: Start, len: usize) -> u64 {
     path_of(path, len).to_string_lossy().len() as u64
 }
 
+/// The length of what is printed.
 pub unsafe extern "C" fn display(path: Start, len: usize) -> u64 {
     let mut text = String::new();
     match write!(text, "{}", path_of(path, len).display()) {
@@ -228,6 +258,7 @@ pub unsafe extern "C" fn display(path: Start, len: usize) -> u64 {
     }
 }
 
+/// The lengths of the chunks.
 pub unsafe extern "C" fn chunks(bytes: Start, len: usize) -> u64 {
     let mut sum: u64 = 0;
     for chunk in bytes_of(bytes, len).utf8_chunks() {

@@ -54,6 +54,7 @@ impl Sources {
     }
 }
 
+/// A text with letters that Latin-1 has.
 const FRENCH: &str = "L'été, où l'âne brait, Noël s'ennuie à mâcher des bûches. ";
 
 /// A text of each script.

@@ -74,6 +74,7 @@ pub struct Score {
     pub different: usize,
 }
 
+/// What the mark ~ says.
 const ON_PURPOSE: &str = "\
 ~ The answers differ on purpose: each side feeds a hasher in its own way. Our cheap one is
   that of Rattle's maps, FoldHasher; Rust's only counts the bytes.";
