@@ -84,7 +84,8 @@ drop_lead-lead_by false false vs h = h.no_lead
 
 pub drop_lead-values : (s : List ℕ) → drop_lead (values s) ≡ inner_values s
 drop_lead-values s =
-    ap drop_lead (values-lead s) ∙ drop_lead-lead_by (is_rooted s) _ (inner_values s) (inner_values-no_lead s)
+    ap drop_lead (values-lead s)
+    ∙ drop_lead-lead_by (is_rooted s) _ (inner_values s) (inner_values-no_lead s)
 
 same_tail : {x y : Value} {xs ys : List Value} → x ∷ xs ≡ y ∷ ys → xs ≡ ys
 same_tail e = cc
@@ -100,7 +101,8 @@ inner_lead false false (v ∷ vs) x xs h e = subst (AllByRecursion IsInner) (sam
 pub inner-behind : (s : List ℕ) (x : Value) (xs : List Value) → values s ≡ x ∷ xs
     → AllByRecursion IsInner xs
 inner-behind s x xs e =
-    inner_lead (is_rooted s) _ (inner_values s) x xs (inner_values-inner s) (sym (values-lead s) ∙ e)
+    inner_lead (is_rooted s) _ (inner_values s) x xs (inner_values-inner s)
+    (sym (values-lead s) ∙ e)
 
 drop_dot-lead_by : (d : Bool) (vs : List Value) → HasNoLead vs
     → drop_dot (lead_by false d ++ vs) ≡ vs
@@ -111,7 +113,8 @@ pub drop_dot-values : (s : List ℕ) → is_rooted s ≡ false → drop_dot (val
 drop_dot-values s r =
     ap drop_dot (values-lead s
     ∙ ap (λ c. lead_by c (dot_first (slice_split is_slash s)) ++ inner_values s) r)
-    ∙ drop_dot-lead_by (dot_first (slice_split is_slash s)) (inner_values s) (inner_values-no_lead s)
+    ∙ drop_dot-lead_by (dot_first (slice_split is_slash s)) (inner_values s)
+    (inner_values-no_lead s)
 
 -- what a join adds behind the values of its first path
 pub values-join_of_values_added : (a b : List ℕ) → is_rooted b ≡ false

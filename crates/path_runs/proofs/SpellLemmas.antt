@@ -12,11 +12,6 @@ use Rattle.unix_path.proofs.StemLemmas.{value_bytes-piece}
 use Rattle.path_runs.specs.Spelling.{row_of, spelling_of}
 use Rattle.path_runs.proofs.PieceValueLemmas.{names_of, values-rooted, values-rootless}
 
-pub value_bytes-piece : (p : List ℕ) → value_bytes (value_of_piece p) ≡ p
-value_bytes-piece p =
-    by_test (bytes_eq p parent_dir) (λ e. rw e (sym ((bytes_eq-Decides p parent_dir).0 e)))
-    (λ e. rw e refl)
-
 bytes_of_pieces : (ps : List (List ℕ)) → map value_bytes (map value_of_piece ps) ≡ ps
 bytes_of_pieces [] = refl
 bytes_of_pieces (p ∷ ps) = ap₂ (λ q qs. q ∷ qs) (value_bytes-piece p) (bytes_of_pieces ps)

@@ -39,7 +39,8 @@ join_behind s base r v vs more is left all =
     let inner = inner-no_lead more (inner-end vs more (inner-behind s v (vs ++ more) (sym all))) in
     let rootless : is_rooted r ≡ false =
     sym (root_first-values r) ∙ ap root_first left ∙ inner.no_root in
-    let bodies : inner_values r ≡ more = sym (drop_lead-values r) ∙ ap drop_lead left ∙ inner.no_lead in
+    let bodies : inner_values r ≡ more =
+    sym (drop_lead-values r) ∙ ap drop_lead left ∙ inner.no_lead in
     values-join_of_rootless base r rootless ∙ ap (λ ws. append_values ws r) is
     ∙ ap (λ ws. v ∷ vs ++ ws) bodies ∙ all
 

@@ -15,7 +15,7 @@ use Rattle.path_runs.proofs.FedLemmas.{zeros_and, zeros_and-cancel, concat-hash_
 use Rattle.path_runs.proofs.LeadLemmas.{dot_first}
 use Rattle.path_runs.proofs.PieceValueLemmas.{names_of, values-rooted, values-rootless}
 use Rattle.path_runs.proofs.PieceValueLemmas.{rooted_is, NoSlash, slice_split-no_slash}
-use Rattle.path_runs.proofs.SpellLemmas.{value_bytes-piece}
+use Rattle.unix_path.proofs.StemLemmas.{value_bytes-piece}
 
 -- the value of what stands before the first slash that is fed
 told_by : List ℕ → Value
@@ -60,7 +60,8 @@ piece_told p h d e = record {
   tells = rw (d, e) refl;
 }
 
-names_of-told : (ps : List (List ℕ)) → AllByRecursion NoSlash ps → AllByRecursion IsTold (names_of ps)
+names_of-told : (ps : List (List ℕ)) → AllByRecursion NoSlash ps
+    → AllByRecursion IsTold (names_of ps)
 names_of-told [] h = tt
 names_of-told (p ∷ ps) h =
     by (bytes_eq p []) (bytes_eq p cur_dir) refl refl (names_of-told ps h.1)

@@ -51,7 +51,8 @@ abbrev pub append_values : List Value → List ℕ → List Value
 append_values [] b = values b
 append_values (v ∷ vs) b = (v ∷ vs) ++ inner_values b
 
-append_values-some : (s b : List ℕ) → 0 < length s → values s ++ inner_values b ≡ append_values (values s) b
+append_values-some : (s b : List ℕ) → 0 < length s
+    → values s ++ inner_values b ≡ append_values (values s) b
 append_values-some s b l =
     let some = some_values s l in
     ap (λ vs. vs ++ inner_values b) some.2 ∙ sym (ap (λ vs. append_values vs b) some.2)

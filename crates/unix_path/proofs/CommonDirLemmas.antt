@@ -83,6 +83,7 @@ values_cmp-common_dir a b some =
     let m = common_prefix_len eqb a b in
     let range = common_prefix_len-le eqb a b in
     let n = past_last is_slash (take m a) in
-    let inside : n ≤ m = omega (arith, past_last-le is_slash (take m a), length-take-le m a range.0) in
+    let inside : n ≤ m =
+    omega (arith, past_last-le is_slash (take m a), length-take-le m a range.0) in
     sym (values_cmp-behind a b n some (omega (arith, range.0)) (take-common a b n inside)
     (sym (get_or-take m a (n - 1) 0 (omega arith)) ∙ past_last-slash (take m a) some))
