@@ -3,7 +3,6 @@ use Rattle.std.proofs.Common.{◌≡◌, List, ℕ, [], ◌∷◌, ◌++◌, Som
 use Rattle.unix_bytes.specs.declared.bytes.UnixStr.{UnixStr}
 use Rattle.unix_path.specs.Views.{value_of}
 use Rattle.unix_path.specs.Parts.{values}
-use Rattle.unix_path.specs.Rest.{rest}
 use Rattle.unix_path.specs.Parts as parts
 use Rattle.unix_path.specs.Names.{name_of, file_name_of}
 use Rattle.unix_path.proofs.ParentLemmas.{file_name_of-push}
@@ -27,18 +26,17 @@ value_of-other ParentDir h e = cc
 value_of-other (Normal name) h e = cc
 
 -- the last component tells the file name
-pub file_name_of-normal : {u : List ℕ} {x : Component} {name : UnixStr} (s w : List ℕ)
-    → u ≡ rest s 0 0 → values u ≡ values w ++ value_of x ∷ [] → x ≡ Normal name
+pub file_name_of-normal : {x : Component} {name : UnixStr} (s w : List ℕ)
+    → values s ≡ values w ++ value_of x ∷ [] → x ≡ Normal name
     → Some name.bytes.now ≡ file_name_of (values s)
-file_name_of-normal {u} {x} s w whole last is =
-    ap (λ x. name_of (value_of x)) (sym is)
-    ∙ file_name_of-push s u w (value_of x) whole last
+file_name_of-normal {x} s w last is =
+    ap (λ x. name_of (value_of x)) (sym is) ∙ file_name_of-push s w (value_of x) last
 
-pub file_name_of-other : {u : List ℕ} (s w : List ℕ) (x : Component) → u ≡ rest s 0 0
-    → values u ≡ values w ++ value_of x ∷ [] → ((name : UnixStr) → x ≡ Normal name → ⊥)
+pub file_name_of-other : (s w : List ℕ) (x : Component)
+    → values s ≡ values w ++ value_of x ∷ [] → ((name : UnixStr) → x ≡ Normal name → ⊥)
     → None ≡ file_name_of (values s)
-file_name_of-other {u} s w x whole last differs =
-    name_of-other x differs ∙ file_name_of-push s u w (value_of x) whole last
+file_name_of-other s w x last differs =
+    name_of-other x differs ∙ file_name_of-push s w (value_of x) last
 
 -- components are ordered as their values
 pub cmp-values : (x y : Component)

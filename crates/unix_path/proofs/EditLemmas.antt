@@ -6,12 +6,9 @@ use Rattle.std.proofs.Math.Dec.{eqb-suc-zero}
 use Rattle.std.specs.Option.{option_map_or}
 use Rattle.std.proofs.lemmas.Option.{none-some}
 use Rattle.unix_path.specs.Parts.{values}
-use Rattle.unix_path.specs.Rest.{rest}
 use Rattle.unix_path.specs.Parents.{parent_of}
 use Rattle.unix_path.specs.Names.{file_name_of}
 use Rattle.unix_path.specs.Edits.{popped_of, stem_end_of, dot_before, with_extension_of}
-use Rattle.unix_path.proofs.RestLemmas.{take-rest}
-use Rattle.unix_path.proofs.ParentLemmas.{parent_of-some}
 use Rattle.unix_path.proofs.StemLemmas.{stem_end_by}
 
 pub popped_of-none : (s : List ℕ) → None ≡ parent_of s → popped_of s ≡ s
@@ -19,12 +16,10 @@ unfolding popped_of
 popped_of-none s e = ap (λ o. unwrap_or o s) (sym e)
 
 -- a parent begins the path
-pub popped_of-some : (s parent : List ℕ) → Some parent ≡ parent_of s
-    → popped_of s ≡ take (length parent) s
+pub popped_of-some : (s : List ℕ) (len : ℕ) → Some (take len s) ≡ parent_of s
+    → popped_of s ≡ take len s
 unfolding popped_of
-popped_of-some s parent e =
-    let is : parent ≡ rest s 0 1 = parent_of-some s parent (sym e) in
-    ap (λ o. unwrap_or o s) (sym e) ∙ is ∙ sym (ap (λ w. take (length w) s) is ∙ take-rest s 1)
+popped_of-some s len e = ap (λ o. unwrap_or o s) (sym e)
 
 -- the path s with an extension behind this place
 abbrev pub with_extension_at : List ℕ → List ℕ → Option ℕ → List ℕ

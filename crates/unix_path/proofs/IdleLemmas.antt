@@ -16,7 +16,7 @@ use Rattle.unix_path.specs.Parts.{CurDir, inner_parts, cur_dir, is_slash, leadin
 use Rattle.unix_path.specs.Parts.{value_of_piece}
 use Rattle.unix_path.specs.Steps.{is_idle}
 
-idle_from : (b : ℕ) (s : List ℕ) → is_idle (b ∷ s) 0 ≡ true
+pub idle_from : (b : ℕ) (s : List ℕ) → is_idle (b ∷ s) 0 ≡ true
     → (b ≡ 47) ⊎ ((b ≡ 46) × (get_or s 0 47 ≡ 47))
 idle_from b s e =
     ⊎_elim (λ slash. inl (eqb-true b 47 slash))
@@ -51,7 +51,7 @@ inner_parts_idle_at at s i l e =
     inner_parts_idle (at + i) (drop i s) some (is_idle-drop s i ∙ e)
     ∙ ap₂ inner_parts {x = at + i + 1} {y = at + (i + 1)} (omega arith) (drop-drop 1 i s)
 
-first_piece_empty : (s : List ℕ) → bytes_eq (first_piece s) [] ≡ eqb (get_or s 0 47) 47
+pub first_piece_empty : (s : List ℕ) → bytes_eq (first_piece s) [] ≡ eqb (get_or s 0 47) 47
 first_piece_empty [] = refl
 first_piece_empty (b ∷ s) = by_test (eqb b 47)
     (λ e. ap (λ n. bytes_eq (take n (b ∷ s)) []) (position_or_len-slash b s e) ∙ sym e)
@@ -59,7 +59,7 @@ first_piece_empty (b ∷ s) = by_test (eqb b 47)
     ∙ ap (λ p. bytes_eq p []) (take-suc_cons (position_or_len is_slash s) b s) ∙ sym e)
 
 -- what stands at the start of a string that is not empty and not idle
-busy_parts : (s : List ℕ) → 0 < length s → is_idle s 0 ≡ false
+pub busy_parts : (s : List ℕ) → 0 < length s → is_idle s 0 ≡ false
     → (eqb (get_or s 0 0) 47 ≡ false) × (bytes_eq (first_piece s) cur_dir ≡ false)
 busy_parts [] l e = absurd (omega arith)
 busy_parts (b ∷ s) l e =

@@ -81,7 +81,7 @@ last_after_slash s start h some named no_dot =
     ∙ append-nil (inner_parts 0 x))))
 
 -- the last piece of a string that ends in a part, where a slash stands before it, counts
-last_counts : (s : List ℕ) (start : ℕ) → IsLastStart s start → 0 < start → start < length s
+pub last_counts : (s : List ℕ) (start : ℕ) → IsLastStart s start → 0 < start → start < length s
     → EndsInPart s → (bytes_eq (drop start s) [] ≡ false)
     × (bytes_eq (drop start s) cur_dir ≡ false)
 last_counts s start h some l ends =

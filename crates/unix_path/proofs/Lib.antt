@@ -8,6 +8,7 @@ pub mod TrimLemmas
 pub mod LastLemmas
 pub mod SpanLemmas
 pub mod StepLemmas
+pub mod LeadLemmas
 pub mod SplitLemmas
 pub mod MiddleLemmas
 pub mod RestLemmas
@@ -20,6 +21,7 @@ pub mod EndLemmas
 pub mod RootLemmas
 pub mod DepthLemmas
 pub mod ParentLemmas
+pub mod OffsetLemmas
 pub mod NameLemmas
 pub mod ComponentLemmas
 pub mod TieLemmas

@@ -22,10 +22,6 @@ values-whole s u e = ap values e ∙ values-rest s 0 0
 pub rest-whole_last : {u w : List ℕ} (s : List ℕ) → u ≡ rest s 0 0 → w ≡ rest u 0 1 → w ≡ rest s 0 1
 rest-whole_last s e r = r ∙ ap (λ u. rest u 0 1) e ∙ rest-rest s 0 0 0 1
 
--- the values of s, by those of its fresh walk
-values-by_whole : (s u : List ℕ) (vs : List Value) → u ≡ rest s 0 0 → values u ≡ vs → values s ≡ vs
-values-by_whole s u vs e is = sym (values-whole s u e) ∙ is
-
 pub parent_of-alone : (s : List ℕ) → depth_of s ≡ 0 → parent_of s ≡ None
 unfolding parent_of
 parent_of-alone s e = ap (λ n. cond (eqb n 0) None (Some (rest s 0 1))) e
@@ -43,34 +39,28 @@ parent_of-some s parent e = by (eqb (depth_of s) 0) e
     by true h = absurd (none-some parent h)
     by false h = sym (same_Some (rest s 0 1) parent h)
 
-pub parent_of-none : {u : List ℕ} (s : List ℕ) → u ≡ rest s 0 0 → values u ≡ []
-    → None ≡ parent_of s
-parent_of-none {u} s e is = sym (parent_of-alone s (depth_of-none s (values-by_whole s u [] e is)))
+pub parent_of-none : (s : List ℕ) → values s ≡ [] → None ≡ parent_of s
+parent_of-none s is = sym (parent_of-alone s (depth_of-none s is))
 
-pub parent_of-root : {u : List ℕ} (s w : List ℕ) → u ≡ rest s 0 0
-    → values u ≡ values w ++ RootDir ∷ [] → None ≡ parent_of s
-parent_of-root {u} s w e is =
-    sym (parent_of-alone s (depth_of-root s (values w) (values-by_whole s u _ e is)))
+pub parent_of-root : (s w : List ℕ) → values s ≡ values w ++ RootDir ∷ [] → None ≡ parent_of s
+parent_of-root s w is = sym (parent_of-alone s (depth_of-root s (values w) is))
 
-pub parent_of-push : {u w : List ℕ} (s : List ℕ) (v : Value) → u ≡ rest s 0 0
-    → values u ≡ values w ++ v ∷ [] → w ≡ rest u 0 1 → (v ≡ RootDir → ⊥) → Some w ≡ parent_of s
-parent_of-push {u} {w} s v e is r differs =
-    ap Some (rest-whole_last s e r)
-    ∙ sym (parent_of-deep s _ (depth_of-push s (values w) v (values-by_whole s u _ e is) differs))
+pub parent_of-push : {w : List ℕ} (s : List ℕ) (v : Value) → values s ≡ values w ++ v ∷ []
+    → w ≡ rest s 0 1 → (v ≡ RootDir → ⊥) → Some w ≡ parent_of s
+parent_of-push {w} s v is left differs =
+    ap Some left ∙ sym (parent_of-deep s _ (depth_of-push s (values w) v is differs))
 
-pub file_name_of-none : {u : List ℕ} (s : List ℕ) → u ≡ rest s 0 0 → values u ≡ []
-    → None ≡ file_name_of (values s)
+pub file_name_of-none : (s : List ℕ) → values s ≡ [] → None ≡ file_name_of (values s)
 unfolding file_name_of
-file_name_of-none {u} s e is = sym (ap file_name_of (values-by_whole s u [] e is))
+file_name_of-none s is = sym (ap file_name_of is)
 
 pub file_name_of-last : (vs : List Value) (v : Value) → file_name_of (vs ++ v ∷ []) ≡ name_of v
 unfolding file_name_of
 file_name_of-last vs v = ap (option_and_then name_of) (last_or-push None vs v)
 
-pub file_name_of-push : (s u w : List ℕ) (v : Value) → u ≡ rest s 0 0
-    → values u ≡ values w ++ v ∷ [] → name_of v ≡ file_name_of (values s)
-file_name_of-push s u w v e is =
-    sym (ap file_name_of (values-by_whole s u _ e is) ∙ file_name_of-last (values w) v)
+pub file_name_of-push : (s w : List ℕ) (v : Value) → values s ≡ values w ++ v ∷ []
+    → name_of v ≡ file_name_of (values s)
+file_name_of-push s w v is = sym (ap file_name_of is ∙ file_name_of-last (values w) v)
 
 pub before_name_of-none : (s : List ℕ) → None ≡ file_name_of (values s) → s ≡ before_name_of s
 unfolding before_name_of

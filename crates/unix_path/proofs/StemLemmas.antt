@@ -95,9 +95,9 @@ last_start_of-name s name e = by_last (snoc (parts s))
         let to : parts_end (parts s) ≡ p.end = ap parts_end n ∙ parts_end-append ps p in
         omega (arith, length-rest_whole s)
 
-pub length-name : {w : List ℕ} (s name : List ℕ) → Some name ≡ file_name_of (values s)
-    → w ≡ rest s 0 0 → length name ≤ length w
-length-name s name e whole = omega (arith, last_start_of-name s name e, ap length whole)
+pub length-name : (s name : List ℕ) (end : ℕ) → Some name ≡ file_name_of (values s)
+    → end ≡ length (rest s 0 0) → length name ≤ end
+length-name s name end e at = omega (arith, last_start_of-name s name e, at)
 
 -- where the stem of this name ends in s
 abbrev pub stem_end_by : List ℕ → Option (List ℕ) → Option ℕ
@@ -109,26 +109,23 @@ unfolding stem_end_of
 stem_end_of-none s e = ap (stem_end_by s) e
 
 -- the stem begins where the name does, and the name ends where a fresh cursor's rest ends
-pub stem_end_of-some : {w stem : List ℕ} (s name : List ℕ) → Some name ≡ file_name_of (values s)
-    → w ≡ rest s 0 0 → stem ≡ (split_name name).0
-    → Some (length w - length name + length stem) ≡ stem_end_of s
+pub stem_end_of-some : {stem : List ℕ} (s name : List ℕ) (end : ℕ)
+    → Some name ≡ file_name_of (values s) → end ≡ length (rest s 0 0)
+    → stem ≡ (split_name name).0 → Some (end - length name + length stem) ≡ stem_end_of s
 unfolding stem_end_of
-stem_end_of-some {w} {stem} s name e whole is =
-    let at = last_start_of-name s name e in
-    let end : length w - length name + length stem
+stem_end_of-some {stem} s name end e at is =
+    let start = last_start_of-name s name e in
+    let to : end - length name + length stem
     ≡ last_start_of (parts s) + length (split_name name).0 =
-    omega (arith, ap length whole, ap length is) in
-    ap Some end ∙ ap (stem_end_by s) e
+    omega (arith, at, ap length is) in
+    ap Some to ∙ ap (stem_end_by s) e
 
 pub length-rest_whole-le : (s : List ℕ) → length (rest s 0 0) ≤ length s
 length-rest_whole-le s =
     omega (arith, ap length (take-rest s 0), length-take (length (rest s 0 0)) s)
 
-pub stem_end-le : {w : List ℕ} (s name stem : List ℕ) → Some name ≡ file_name_of (values s)
-    → w ≡ rest s 0 0 → length stem ≤ length name → length w - length name + length stem ≤ length s
-stem_end-le s name stem e whole l = omega (
-  arith,
-  length-name s name e whole,
-  ap length whole,
-  length-rest_whole-le s,
-)
+pub stem_end-le : (s name stem : List ℕ) (end : ℕ) → Some name ≡ file_name_of (values s)
+    → end ≡ length (rest s 0 0) → length stem ≤ length name
+    → end - length name + length stem ≤ length s
+stem_end-le s name stem end e at l =
+    omega (arith, length-name s name end e at, at, length-rest_whole-le s)

@@ -1,5 +1,5 @@
 -- What a cursor stands for, and what each of its calls gives and leaves.
-use Rattle.std.specs.Prelude.{List, ℕ, ◌≡◌, Option, map}
+use Rattle.std.specs.Prelude.{List, ℕ, ◌≡◌, Option, map, slice_range}
 use Rattle.std.specs.Borrow.{Bor}
 use Rattle.std.specs.Iterator.{YieldsFirstBy, YieldsLastBy}
 use Rattle.unix_path.specs.Parts.{Value, values, value_bytes}
@@ -8,13 +8,13 @@ use Rattle.unix_path.specs.Places.{LiesIn}
 use Rattle.unix_path.specs.declared.cursor.components.Components.{Components}
 use Rattle.unix_path.specs.declared.cursor.iter.Iter.{Iter}
 
--- the string that a cursor stands for
-abbrev pub cursor_rest : Components → List ℕ
-cursor_rest c = c.path.now
+-- the string that a cursor stands for: its source between the two places
+unfoldable pub cursor_rest : Components → List ℕ
+cursor_rest c = slice_range c.source.now c.front c.back
 
 -- the slice that a cursor goes over, in which that string lies
 abbrev pub cursor_source : Components → Bor (List ℕ)
-cursor_source c = c.path
+cursor_source c = c.source
 
 -- the values that a cursor still gives
 abbrev pub cursor_values : Components → List Value

@@ -1,11 +1,13 @@
 -- Words of private steps. No public clause cites them.
 use Rattle.std.specs.Prelude.{◌≡◌, ◌<◌, ◌≤◌, nat_lt, ℕ, ◌+◌, ◌-◌, ◌==◌, Bool, false, ◌||◌, ◌&&◌}
-use Rattle.std.specs.Prelude.{List, [], ◌∷◌, ◌++◌, length, drop, slice_index, slice_index_or}
+use Rattle.std.specs.Prelude.{List, [], ◌∷◌, ◌++◌, length, take, drop, slice_index}
+use Rattle.std.specs.Prelude.{slice_index_or, slice_range}
 use Rattle.std.specs.Prelude.{Option, Some, None}
+use Rattle.std.proofs.Props.{props}
 use Rattle.std.specs.Prelude.{if◌then◌else◌}
 use Rattle.std.specs.List.{position_or_len}
 use Rattle.std.specs.Str.{bytes_eq}
-use Rattle.unix_path.specs.Parts.{parts, inner_parts, slash, is_slash, dot, cur_dir, Part, Value}
+use Rattle.unix_path.specs.Parts.{slash, is_slash, dot, cur_dir, Part, Value}
 use Rattle.unix_path.specs.Parts.{CurDir, value_of_piece}
 use Rattle.unix_path.specs.Parts.{values}
 use Rattle.unix_path.specs.Rest.{last_end, rest}
@@ -15,6 +17,18 @@ abbrev pub is_idle : List ℕ → ℕ → Bool
 is_idle s i =
     slice_index s i == slash
     || (slice_index s i == dot && slice_index_or s (i + 1) slash == slash)
+
+-- the first piece is `..`
+abbrev pub begins_with_parent : List ℕ → Bool
+begins_with_parent s =
+    slice_index s 0 == dot && (slice_index s 1 == dot && slice_index_or s 2 slash == slash)
+
+-- the last piece is `..`
+abbrev pub ends_with_parent : List ℕ → Bool
+ends_with_parent s =
+    slice_index s (length s - 1) == dot
+    && (nat_lt 1 (length s) && (slice_index s (length s - 2) == dot
+    && (length s == 2 || slice_index s (length s - 3) == slash)))
 
 -- i is not 0, and the byte at i is a slash, or a `.` after a slash
 abbrev pub is_trailing : List ℕ → ℕ → Bool
@@ -36,11 +50,6 @@ pub record IsLastStart (s : List ℕ) (start : ℕ) : Type 0 where
 abbrev pub first_value : List ℕ → Value
 first_value bytes = if bytes_eq bytes cur_dir then CurDir else value_of_piece bytes
 
--- the first part of s has this value and ends at `end`, and the others stand after it
-abbrev pub HasFirst : List ℕ → ℕ → Value → Type 0
-HasFirst s end v =
-    parts s ≡ record { start = 0; end = end; value = v } ∷ inner_parts end (drop end s)
-
 -- the end of the last of these parts
 abbrev pub parts_end : List Part → ℕ
 parts_end [] = 0
@@ -52,11 +61,43 @@ pub record TakesFirst (s t : List ℕ) (v : Value) : Type 0 where
   pub rest : rest s 1 0 ≡ t
   pub ends : EndsInPart t
 
+-- the first part of s, whose value is v, takes n bytes with what doesn't count after it
+pub record StepsFirst (s : List ℕ) (n : ℕ) (v : Value) : Type 0 where
+  pub in_range : n ≤ length s
+  pub takes : TakesFirst s (drop n s) v
+  pub busy : 0 < length (drop n s) → is_idle (drop n s) 0 ≡ false
+
 -- v is the last value of s, and t is what is left before it
 pub record TakesLast (s t : List ℕ) (v : Value) : Type 0 where
   pub value : values s ≡ values t ++ v ∷ []
   pub rest : rest s 0 1 ≡ t
   pub ends : EndsInPart t
+
+-- the last value of s is v: it ends at `end`, and what is left before it at `before`
+pub record HasLast (s : List ℕ) (before end : ℕ) (v : Value) : Type 0 where
+  pub in_range : before ≤ length s
+  pub value : values s ≡ values (take before s) ++ v ∷ []
+  pub before_is : take before s ≡ rest s 0 1
+  pub end_is : end ≡ length (rest s 0 0)
+
+-- what the fields of a walk say of each other: what is left stands between the two places and ends
+-- in a part, and the flags tell whether a root or a `.` that counts stands first
+pub record WalkFields (source : List ℕ) (front back : ℕ) (has_lead lead_left : Bool) : Type 0 where
+  pub in_order : front ≤ back
+  pub in_range : back ≤ length source
+  pub ends : EndsInPart (slice_range source front back)
+  pub has_lead_is : has_lead ≡ is_idle source 0
+  pub lead_left_is : lead_left ≡ is_idle (slice_range source front back) 0
+
+-- the same as one fact, which no search opens
+unfoldable pub IsWalk : List ℕ → ℕ → ℕ → Bool → Bool → Type 0
+IsWalk source front back has_lead lead_left = WalkFields source front back has_lead lead_left
+
+-- a fact, with no more than one proof
+pub IsWalk-prop : (source : List ℕ) (front back : ℕ) (has_lead lead_left : Bool)
+    → IsProp (IsWalk source front back has_lead lead_left)
+unfolding IsWalk
+IsWalk-prop source front back has_lead lead_left = hlevel props
 
 -- the byte between what is kept and what is added, where there is one
 abbrev pub gap_bytes : Option ℕ → List ℕ

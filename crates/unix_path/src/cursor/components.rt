@@ -1,13 +1,13 @@
 //! The walk over a path's parts.
-ghost use Rattle.std.specs.Prelude.{◌≡◌, ◌<◌, ◌^◌, length};
+ghost use Rattle.std.specs.Prelude.{◌≡◌, ◌≤◌, ◌<◌, ◌^◌, [], length, slice_range, None, IfSome};
 ghost use Rattle.unix_path.specs.Parts.{values};
 ghost use Rattle.unix_path.specs.Rest.{rest};
-ghost use Rattle.unix_path.specs.Steps.{EndsInPart};
+ghost use Rattle.unix_path.specs.Steps.{HasLast, IsWalk, IsWalk-prop};
 ghost use Rattle.unix_path.specs.Views.{value_of};
 ghost use Rattle.unix_path.specs.Places.{LiesIn};
 
 use crate::cursor::Component;
-use crate::cursor::steps::{first_step, last_step, trimmed_len};
+use crate::cursor::steps::{first_step, has_lead, last_step, trimmed_len};
 use crate::path::Path;
 use std::fmt;
 use std::iter::FusedIterator;
@@ -17,12 +17,28 @@ use std::iter::FusedIterator;
 /// It stands for the bytes that are left, from the first part not yet taken to the end of the last.
 /// It does not allocate, and copying it copies a view. An ended walk stays ended at both ends.
 /// As Rust's `Components`.
+// Only this file knows the fields, and it may change them: `cursor_rest` of specs/Cursor says what
+// they stand for, contracts and proofs elsewhere speak of a walk through that word alone, and only
+// the proofs of this file's functions unfold it.
 #[must_use]
 #[derive(Clone, Copy)]
 pub struct Components<'a> {
-    // What is left: empty, or beginning and ending with a part.
-    path: &'a [u8],
-    ghost ends: { EndsInPart path.now },
+    source: &'a [u8],
+    // What is left stands between these places of the source.
+    front: usize,
+    back: usize,
+    // Whether the source begins with a root or with a `.` that counts, and whether that is left.
+    has_lead: bool,
+    lead_left: bool,
+    ghost fields: { IsWalk source.now front back has_lead lead_left } by { IsWalk-prop _ _ _ _ _ },
+}
+
+// The last part of a path. It ends at `end`, and what is left before it at `before`.
+#[derive(Clone, Copy)]
+pub(crate) struct LastPart<'a> {
+    pub(crate) before: usize,
+    pub(crate) part: Component<'a>,
+    pub(crate) end: usize,
 }
 
 impl<'a> Components<'a> {
@@ -43,8 +59,24 @@ impl<'a> Components<'a> {
         ensures runs_back { EveryRun (GivesLast value_of cursor_values cursor_rest cursor_source)
             (λ run. ItemsMapToReversed run value_of (cursor_values run.from)) }
     {
-        let end = trimmed_len(path, path.len());
-        Components { path: &path[..end] }
+        Components::whole(path)
+    }
+
+    // The walk that stands for these bytes up to the end of their last part.
+    #[inline]
+    fn whole(path: &'a [u8]) -> Components<'a>
+        ensures rest { cursor_rest result ≡ rest path.now 0 0 }
+        ensures source { result.source ≡ path.entry }
+        ensures front { result.front ≡ 0 }
+    {
+        let lead = has_lead(path);
+        Components {
+            source: path,
+            front: 0,
+            back: trimmed_len(path, path.len()),
+            has_lead: lead,
+            lead_left: lead,
+        }
     }
 
     /// The bytes that are left, as a slice of the source, from the first part not yet taken to the
@@ -54,11 +86,52 @@ impl<'a> Components<'a> {
     /// For `/tmp//foo/` after one `next` it is `tmp//foo`.
     #[must_use]
     #[inline]
+    #[tactic(auto, unfolding(crate::specs::Cursor::cursor_rest, crate::specs::Steps::IsWalk))]
     pub fn as_path(&self) -> Path<'a>
         ensures bytes { result.bytes.now ≡ cursor_rest self.now }
         ensures place { LiesIn result.bytes (cursor_source self.now) }
     {
-        Path { bytes: self.path }
+        Path {
+            bytes: &self.source[self.front..self.back],
+        }
+    }
+
+    // Takes the last part that is left; where the first begins stays. Always inlined, as `next` is.
+    #[inline(always)]
+    #[tactic(auto, unfolding(crate::specs::Cursor::cursor_rest, crate::specs::Steps::IsWalk))]
+    fn take_last(&mut self) -> Option<Component<'a>>
+        ensures steps { GivesLast value_of cursor_values cursor_rest cursor_source
+            self.old result self.new }
+        ensures source { self.new.source ≡ self.old.source }
+        ensures front { self.new.front ≡ self.old.front }
+    {
+        let left = self.as_path().bytes;
+        if left.is_empty() {
+            return None;
+        }
+        let (len, last) = last_step(left);
+        self.back = self.front + len;
+        self.lead_left = self.lead_left && len > 0;
+        Some(last)
+    }
+
+    // The last part of these bytes, with its place.
+    #[inline]
+    pub(crate) fn last_part(path: &'a [u8]) -> Option<LastPart<'a>>
+        ensures none { result ≡ None → values path.now ≡ [] }
+        ensures some { IfSome result
+            (λ last. HasLast path.now last.before last.end (value_of last.part)) }
+    {
+        let mut walk = Components::whole(path);
+        let end = walk.back;
+        let Some(part) = walk.take_last() else {
+            return None;
+        };
+        Some(LastPart {
+            before: walk.back,
+            part,
+            end,
+        })
     }
 }
 
@@ -73,13 +146,17 @@ impl<'a> Iterator for Components<'a> {
 
     ghost remaining = { item_count cursor_values };
 
-    #[inline]
+    // Always inlined, so that a loop over the parts keeps the walk in registers.
+    #[inline(always)]
+    #[tactic(auto, unfolding(crate::specs::Cursor::cursor_rest, crate::specs::Steps::IsWalk))]
     fn next(&mut self) -> Option<Component<'a>> {
-        if self.path.is_empty() {
+        let left = self.as_path().bytes;
+        if left.is_empty() {
             return None;
         }
-        let (len, first) = first_step(self.path);
-        self.path = &self.path[len..];
+        let (len, first) = first_step(left, self.lead_left);
+        self.front += len;
+        self.lead_left = false;
         Some(first)
     }
 }
@@ -92,12 +169,7 @@ impl<'a> DoubleEndedIterator for Components<'a> {
 
     #[inline]
     fn next_back(&mut self) -> Option<Component<'a>> {
-        if self.path.is_empty() {
-            return None;
-        }
-        let (len, last) = last_step(self.path);
-        self.path = &self.path[..len];
-        Some(last)
+        self.take_last()
     }
 }
 

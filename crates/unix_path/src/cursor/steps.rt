@@ -1,54 +1,16 @@
 //! The first and the last part, found in bytes that hold just what is left of a walk.
-ghost use Rattle.std.specs.Prelude.{◌≡◌, ℕ, ◌+◌, ◌-◌, ◌<◌, ◌≤◌, false, List, [], ◌∷◌, ◌++◌, length};
+ghost use Rattle.std.specs.Prelude.{◌≡◌, ℕ, ◌+◌, ◌-◌, ◌<◌, ◌≤◌, true, false, length};
 ghost use Rattle.std.specs.Prelude.{take, drop};
-ghost use Rattle.std.specs.List.{position_or_len};
-ghost use Rattle.unix_path.specs.Parts.{is_slash, parts, inner_parts};
-ghost use Rattle.unix_path.specs.Steps.{HasFirst, is_idle, is_trailing, first_value, EndsInPart};
-ghost use Rattle.unix_path.specs.Steps.{IsLastStart};
-ghost use Rattle.unix_path.specs.Steps.{TakesFirst, TakesLast};
+ghost use Rattle.std.specs.Str.{bytes_eq};
+ghost use Rattle.unix_path.specs.Parts.{cur_dir, parts, inner_parts};
+ghost use Rattle.unix_path.specs.Steps.{begins_with_parent, ends_with_parent, is_idle};
+ghost use Rattle.unix_path.specs.Steps.{is_trailing, EndsInPart};
+ghost use Rattle.unix_path.specs.Steps.{StepsFirst, TakesLast};
 ghost use Rattle.unix_path.specs.Views.{value_of};
 
 use crate::cursor::Component;
 use unix_bytes::bytes::UnixStr;
-
-fn first_slash(bytes: &[u8]) -> usize
-    ensures { result ≡ position_or_len is_slash bytes.now }
-{
-    for (i, b) in bytes.iter().enumerate() {
-        if *b == b'/' {
-            return i;
-        }
-    }
-    bytes.len()
-}
-
-// The first piece of a path as a component: here `.` counts.
-#[inline]
-fn leading_component(name: &[u8]) -> Component<'_>
-    ensures { value_of result ≡ first_value name.now }
-{
-    if name == b".".as_slice() {
-        Component::CurDir
-    } else if name == b"..".as_slice() {
-        Component::ParentDir
-    } else {
-        Component::Normal(UnixStr { bytes: name })
-    }
-}
-
-// Where the first part of a path ends, and the part.
-#[inline]
-fn first_component(path: &[u8]) -> (usize, Component<'_>)
-    requires { 0 < length path.now }
-    ensures in_range { result.0 ≤ length path.now }
-    ensures first { HasFirst path.now result.0 (value_of result.1) }
-{
-    if path[0] == b'/' {
-        return (1, Component::RootDir);
-    }
-    let end = first_slash(path);
-    (end, leading_component(&path[..end]))
-}
+use unix_bytes::search::{first_place, past_last};
 
 // Whether the byte at `i` is a slash, or a `.` that a slash or the end follows.
 #[inline]
@@ -74,16 +36,80 @@ pub(crate) fn idle_len(path: &[u8]) -> usize
     len
 }
 
-// How many bytes the first part takes with what doesn't count after it, and the part.
+// Whether the path begins with a root or with a `.` that counts.
 #[inline]
-pub(super) fn first_step(path: &[u8]) -> (usize, Component<'_>)
-    requires some { 0 < length path.now }
-    requires ends { EndsInPart path.now }
-    ensures in_range { result.0 ≤ length path.now }
-    ensures takes { TakesFirst path.now (drop result.0 path.now) (value_of result.1) }
+pub(super) fn has_lead(path: &[u8]) -> bool
+    ensures { result ≡ is_idle path.now 0 }
 {
-    let (end, first) = first_component(path);
-    (end + idle_len(&path[end..]), first)
+    !path.is_empty() && is_idle(path, 0)
+}
+
+// The root or the `.` that a path begins with, and how many bytes it takes.
+#[inline]
+fn lead_step(path: &[u8]) -> (usize, Component<'_>)
+    requires some { 0 < length path.now }
+    requires lead { is_idle path.now 0 ≡ true }
+    requires ends { EndsInPart path.now }
+    ensures { StepsFirst path.now result.0 (value_of result.1) }
+{
+    let len = 1 + idle_len(&path[1..]);
+    if path[0] == b'/' {
+        (len, Component::RootDir)
+    } else {
+        (len, Component::CurDir)
+    }
+}
+
+// Whether the first piece is `..`.
+#[inline]
+fn begins_with_parent(path: &[u8]) -> bool
+    requires { 0 < length path.now }
+    ensures { result ≡ begins_with_parent path.now }
+{
+    path[0] == b'.' && path.len() > 1 && path[1] == b'.' && (path.len() == 2 || path[2] == b'/')
+}
+
+// The `..` that a path begins with, and how many bytes it takes.
+#[inline(always)]
+fn parent_step(path: &[u8]) -> (usize, Component<'_>)
+    requires parent { begins_with_parent path.now ≡ true }
+    requires ends { EndsInPart path.now }
+    ensures { StepsFirst path.now result.0 (value_of result.1) }
+{
+    (2 + idle_len(&path[2..]), Component::ParentDir)
+}
+
+// The name that a path begins with, and how many bytes it takes.
+#[inline(always)]
+fn name_step(path: &[u8]) -> (usize, Component<'_>)
+    requires some { 0 < length path.now }
+    requires busy { is_idle path.now 0 ≡ false }
+    requires no_parent { begins_with_parent path.now ≡ false }
+    requires ends { EndsInPart path.now }
+    ensures { StepsFirst path.now result.0 (value_of result.1) }
+{
+    let end = first_place(path, b'/');
+    let name = UnixStr {
+        bytes: &path[..end],
+    };
+    (end + idle_len(&path[end..]), Component::Normal(name))
+}
+
+// The first part, and how many bytes it takes with what doesn't count after it.
+#[inline(always)]
+pub(super) fn first_step(path: &[u8], has_lead: bool) -> (usize, Component<'_>)
+    requires some { 0 < length path.now }
+    requires lead { has_lead ≡ is_idle path.now 0 }
+    requires ends { EndsInPart path.now }
+    ensures { StepsFirst path.now result.0 (value_of result.1) }
+{
+    if has_lead {
+        lead_step(path)
+    } else if begins_with_parent(path) {
+        parent_step(path)
+    } else {
+        name_step(path)
+    }
 }
 
 // Whether the byte at `i`, which is not 0, is a slash, or a `.` after a slash.
@@ -110,29 +136,49 @@ pub(super) fn trimmed_len(path: &[u8], len: usize) -> usize
     end
 }
 
-// Where the last piece begins.
+// Whether the last piece is `..`.
 #[inline]
-fn last_start(path: &[u8]) -> usize
-    ensures { IsLastStart path.now result }
+fn ends_with_parent(path: &[u8]) -> bool
+    requires { 0 < length path.now }
+    ensures { result ≡ ends_with_parent path.now }
 {
-    let mut start = path.len();
-    while start > 0 && path[start - 1] != b'/' {
-        start -= 1;
-    }
-    start
+    let len = path.len();
+    path[len - 1] == b'.' && len > 1 && path[len - 2] == b'.' && (len == 2 || path[len - 3] == b'/')
 }
 
-// How many bytes stand before the last part, without what doesn't count before it, and the part.
-#[inline]
+// The root or the name that a path ends with, and how many bytes stand before it.
+#[inline(always)]
+fn last_name_step(path: &[u8]) -> (usize, Component<'_>)
+    requires some { 0 < length path.now }
+    requires no_dot { bytes_eq path.now cur_dir ≡ false }
+    requires no_parent { ends_with_parent path.now ≡ false }
+    requires ends { EndsInPart path.now }
+    ensures in_range { result.0 ≤ length path.now }
+    ensures takes { TakesLast path.now (take result.0 path.now) (value_of result.1) }
+{
+    let start = past_last(path, b'/');
+    if start == path.len() {
+        return (0, Component::RootDir);
+    }
+    let name = UnixStr {
+        bytes: &path[start..],
+    };
+    (trimmed_len(path, start), Component::Normal(name))
+}
+
+// The last part, and how many bytes stand before it, without what doesn't count there.
+#[inline(always)]
 pub(super) fn last_step(path: &[u8]) -> (usize, Component<'_>)
     requires some { 0 < length path.now }
     requires ends { EndsInPart path.now }
     ensures in_range { result.0 ≤ length path.now }
     ensures takes { TakesLast path.now (take result.0 path.now) (value_of result.1) }
 {
-    let start = last_start(path);
-    if start == path.len() {
-        return (0, Component::RootDir);
+    if path == b".".as_slice() {
+        (0, Component::CurDir)
+    } else if ends_with_parent(path) {
+        (trimmed_len(path, path.len() - 2), Component::ParentDir)
+    } else {
+        last_name_step(path)
     }
-    (trimmed_len(path, start), leading_component(&path[start..]))
 }

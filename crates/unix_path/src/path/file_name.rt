@@ -4,7 +4,7 @@ ghost use Rattle.unix_path.specs.Parts.{values};
 ghost use Rattle.unix_path.specs.Names.{file_name_of, stem_of, extension_of};
 ghost use Rattle.unix_path.specs.Edits.{before_name_of, stem_end_of};
 
-use crate::cursor::Component;
+use crate::cursor::{Component, Components};
 use crate::names::split_name;
 use crate::path::Path;
 use unix_bytes::bytes::UnixStr;
@@ -20,10 +20,10 @@ impl<'a> Path<'a> {
         ensures { option_map (λ name. name.bytes.now) result
             ≡ file_name_of (values self.now.bytes.now) }
     {
-        let Some(last) = self.components().next_back() else {
+        let Some(last) = Components::last_part(self.bytes) else {
             return None;
         };
-        match last {
+        match last.part {
             Component::Normal(name) => Some(name),
             _ => None,
         }
@@ -71,12 +71,13 @@ impl<'a> Path<'a> {
         ensures value { result.bytes.now ≡ before_name_of self.now.bytes.now }
         ensures begins { take (length result.bytes.now) self.now.bytes.now ≡ result.bytes.now }
     {
-        let mut left = self.components();
-        let Some(last) = left.next_back() else {
+        let Some(last) = Components::last_part(self.bytes) else {
             return *self;
         };
-        match last {
-            Component::Normal(_) => left.as_path(),
+        match last.part {
+            Component::Normal(_) => Path {
+                bytes: &self.bytes[..last.before],
+            },
             _ => *self,
         }
     }
@@ -87,14 +88,12 @@ impl<'a> Path<'a> {
         ensures value { result ≡ stem_end_of self.now.bytes.now }
         ensures in_range { IfSome result (λ end. end ≤ length self.now.bytes.now) }
     {
-        let mut left = self.components();
-        let name_end = left.as_path().bytes.len();
-        let Some(last) = left.next_back() else {
+        let Some(last) = Components::last_part(self.bytes) else {
             return None;
         };
-        match last {
+        match last.part {
             Component::Normal(name) => {
-                Some(name_end - name.bytes.len() + split_name(name.bytes).0.len())
+                Some(last.end - name.bytes.len() + split_name(name.bytes).0.len())
             }
             _ => None,
         }

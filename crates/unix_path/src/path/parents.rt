@@ -1,11 +1,11 @@
 //! The parent of a path, and its ancestors.
-ghost use Rattle.std.specs.Prelude.{◌≡◌, ◌<◌, ◌^◌, length, option_map, IfSome};
+ghost use Rattle.std.specs.Prelude.{◌≡◌, ◌<◌, ◌≤◌, ◌^◌, length, take, option_map, IfSome};
 ghost use Rattle.std.specs.Iterator.{YieldsFirstBy};
 ghost use Rattle.std.specs.Iterator.Runs.{EveryRun, ItemsMapTo};
 ghost use Rattle.unix_path.specs.Parents.{parent_of, ancestors_of};
 ghost use Rattle.unix_path.specs.Places.{LiesIn};
 
-use crate::cursor::{Ancestors, Component};
+use crate::cursor::{Ancestors, Component, Components};
 use crate::path::Path;
 
 impl<'a> Path<'a> {
@@ -25,13 +25,27 @@ impl<'a> Path<'a> {
         ensures value { option_map (λ path. path.bytes.now) result ≡ parent_of self.now.bytes.now }
         ensures place { IfSome result (λ path. LiesIn path.bytes self.now.bytes) }
     {
-        let mut left = self.components();
-        let Some(last) = left.next_back() else {
+        match self.parent_len() {
+            Some(len) => Some(Path {
+                bytes: &self.bytes[..len],
+            }),
+            None => None,
+        }
+    }
+
+    // How many bytes the parent has.
+    #[inline]
+    pub(crate) fn parent_len(&self) -> Option<usize>
+        ensures value { option_map (λ len. take len self.now.bytes.now) result
+            ≡ parent_of self.now.bytes.now }
+        ensures in_range { IfSome result (λ len. len ≤ length self.now.bytes.now) }
+    {
+        let Some(last) = Components::last_part(self.bytes) else {
             return None;
         };
-        match last {
+        match last.part {
             Component::RootDir => None,
-            _ => Some(left.as_path()),
+            _ => Some(last.before),
         }
     }
 

@@ -1,24 +1,27 @@
-use Rattle.std.proofs.Common.{◌-◌, get_or, take, sym, ap, ◌∙◌, subst, arith}
-use Rattle.std.proofs.lemmas.List.{take_rest}
+use Rattle.std.specs.Str.{bytes_eq}
+use Rattle.std.proofs.Common.{◌-◌, refl, length, take, sym, ap, ◌∙◌, subst, arith}
 use Rattle.unix_path.specs.Parts.{Value}
 use Rattle.unix_path.specs.Steps.{TakesLast}
-use Rattle.unix_path.proofs.StepLemmas.{takes_last, takes_root}
+use Rattle.unix_path.proofs.LeadLemmas.{length-with_parent, starts_dot, starts_parent}
+use Rattle.unix_path.proofs.StepLemmas.{takes_last}
 use Rattle.unix_path.proofs.cursor.steps.last_step.Goals as goal
 
-pub returns-then-start-path-clause-takes : goal.returns-then-start-path-clause-takes
-returns-then-start-path-clause-takes c =
+pub returns-then-eq-clause-takes : goal.returns-then-eq-clause-takes
+returns-then-eq-clause-takes c =
     let path = c.args.path.now in
-    takes_root path c.requires.some c.requires.ends
-    (ap (λ k. get_or path (k - 1) 0) (sym c.if-start-path.true)
-    ∙ c.last_start-start.ensures.after_slash (omega arith))
+    let last = starts_dot path (ap (bytes_eq path) (sym c.as_slice.ensures)
+    ∙ sym c.eq.ensures ∙ c.if-eq.true) in
+    subst (λ (v : Value). TakesLast path (take 0 path) v) last.1
+    (takes_last path 0 0 last.0 c.requires.some c.requires.ends (omega arith) refl
+    (λ l. absurd (omega arith)))
 
-pub returns-clause-takes : goal.returns-clause-takes
-returns-clause-takes c =
+pub returns-then-ends_with_parent-clause-takes : goal.returns-then-ends_with_parent-clause-takes
+returns-then-ends_with_parent-clause-takes c =
     let path = c.args.path.now in
     let end = c.trimmed_len in
-    let start = c.last_start-start in
-    let l = start.ensures.in_range in
-    let value = simp take_rest at c.leading_component.ensures in
-    subst (λ (v : Value). TakesLast path (take end.result path) v) (sym value)
-    (takes_last path start.result end.result start.ensures
-    (omega arith) c.requires.ends end.ensures.in_range end.ensures.same end.ensures.ends)
+    let is = sym c.ends_with_parent.ensures ∙ c.if-ends_with_parent.true in
+    let last = starts_parent path is in
+    subst (λ (v : Value). TakesLast path (take end.result path) v) last.1
+    (takes_last path (length path - 2) end.result last.0
+    (omega (arith, length-with_parent path is)) c.requires.ends end.ensures.in_range
+    end.ensures.same end.ensures.ends)

@@ -1,18 +1,20 @@
-use Rattle.unix_path.specs.Cursor.{cursor_rest}
+use Rattle.std.proofs.Common.{take, refl}
 use Rattle.unix_path.proofs.ComponentLemmas.{file_name_of-normal, file_name_of-other}
 use Rattle.unix_path.proofs.ParentLemmas.{file_name_of-none}
 use Rattle.unix_path.proofs.path.Path.file_name.Goals as goal
 
 pub returns-in_default : goal.returns-in_default
-returns-in_default c = file_name_of-none c.args.self.now.bytes.now c.components.ensures.rest
-    c.in_default.ensures.steps.item_is.0
+returns-in_default c =
+    file_name_of-none c.args.self.now.bytes.now (c.in_default.ensures.none refl)
 
 pub returns-in-Normal : goal.returns-in-Normal
 returns-in-Normal c =
-    file_name_of-normal c.args.self.now.bytes.now (cursor_rest c.next_back.new.self)
-    c.components.ensures.rest c.in-Some.ensures.steps.item_is c.in-Normal.is
+    let s = c.args.self.now.bytes.now in
+    file_name_of-normal s (take c.in-Some.last.before s) c.in-Some.ensures.some.value
+    c.in-Normal.is
 
-pub returns-in_default-last : goal.returns-in_default-last
-returns-in_default-last c =
-    file_name_of-other c.args.self.now.bytes.now (cursor_rest c.next_back.new.self) c.in-Some.last
-    c.components.ensures.rest c.in-Some.ensures.steps.item_is c.in_default-last.not-Normal
+pub returns-in_default-part : goal.returns-in_default-part
+returns-in_default-part c =
+    let s = c.args.self.now.bytes.now in
+    file_name_of-other s (take c.in-Some.last.before s) c.in-Some.last.part
+    c.in-Some.ensures.some.value c.in_default-part.not-Normal

@@ -1,5 +1,4 @@
-use Rattle.std.proofs.Common.{◌∙◌}
-use Rattle.unix_path.specs.Cursor.{cursor_rest}
+use Rattle.std.proofs.Common.{take, refl}
 use Rattle.unix_path.proofs.ComponentLemmas.{file_name_of-normal, file_name_of-other}
 use Rattle.unix_path.proofs.ParentLemmas.{file_name_of-none}
 use Rattle.unix_path.proofs.StemLemmas.{length-name, stem_end-le, stem_end_of-none}
@@ -8,32 +7,34 @@ use Rattle.unix_path.proofs.path.Path.stem_end.Goals as goal
 
 pub returns-in_default-clause-value : goal.returns-in_default-clause-value
 returns-in_default-clause-value c =
-    stem_end_of-none c.args.self.now.bytes.now
-    (file_name_of-none _ c.components-left.ensures.rest c.in_default.ensures.steps.item_is.0)
+    let s = c.args.self.now.bytes.now in
+    stem_end_of-none s (file_name_of-none s (c.in_default.ensures.none refl))
 
-pub returns-in_default-last-clause-value : goal.returns-in_default-last-clause-value
-returns-in_default-last-clause-value c =
-    stem_end_of-none c.args.self.now.bytes.now
-    (file_name_of-other _ (cursor_rest c.next_back.new.self) c.in-Some.last
-    c.components-left.ensures.rest c.in-Some.ensures.steps.item_is c.in_default-last.not-Normal)
+pub returns-in_default-part-clause-value : goal.returns-in_default-part-clause-value
+returns-in_default-part-clause-value c =
+    let s = c.args.self.now.bytes.now in
+    stem_end_of-none s (file_name_of-other s (take c.in-Some.last.before s)
+    c.in-Some.last.part c.in-Some.ensures.some.value c.in_default-part.not-Normal)
 
 pub overflow_sub-result : goal.overflow_sub-result
 overflow_sub-result c =
-    let whole = c.components-left.ensures.rest in
-    length-name c.args.self.now.bytes.now _
-    (file_name_of-normal _ (cursor_rest c.next_back.new.self) whole c.in-Some.ensures.steps.item_is
-    c.in-Normal.is) (c.as_path.ensures.bytes ∙ whole)
+    let s = c.args.self.now.bytes.now in
+    let last = c.in-Some.ensures.some in
+    length-name s _ c.in-Some.last.end
+    (file_name_of-normal s (take c.in-Some.last.before s) last.value c.in-Normal.is) last.end_is
 
 pub returns-in-Normal-clause-value : goal.returns-in-Normal-clause-value
 returns-in-Normal-clause-value c =
-    let whole = c.components-left.ensures.rest in
-    stem_end_of-some c.args.self.now.bytes.now _
-    (file_name_of-normal _ (cursor_rest c.next_back.new.self) whole c.in-Some.ensures.steps.item_is
-    c.in-Normal.is) (c.as_path.ensures.bytes ∙ whole) c.split_name.ensures.stem
+    let s = c.args.self.now.bytes.now in
+    let last = c.in-Some.ensures.some in
+    stem_end_of-some s _ c.in-Some.last.end
+    (file_name_of-normal s (take c.in-Some.last.before s) last.value c.in-Normal.is) last.end_is
+    c.split_name.ensures.stem
 
 pub returns-in-Normal-clause-in_range : goal.returns-in-Normal-clause-in_range
 returns-in-Normal-clause-in_range c =
-    let whole = c.components-left.ensures.rest in
-    stem_end-le c.args.self.now.bytes.now _ c.split_name.result.0.now
-    (file_name_of-normal _ (cursor_rest c.next_back.new.self) whole c.in-Some.ensures.steps.item_is
-    c.in-Normal.is) (c.as_path.ensures.bytes ∙ whole) c.split_name.ensures.in_range
+    let s = c.args.self.now.bytes.now in
+    let last = c.in-Some.ensures.some in
+    stem_end-le s _ c.split_name.result.0.now c.in-Some.last.end
+    (file_name_of-normal s (take c.in-Some.last.before s) last.value c.in-Normal.is) last.end_is
+    c.split_name.ensures.in_range

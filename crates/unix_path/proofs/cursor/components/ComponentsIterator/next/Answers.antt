@@ -1,20 +1,64 @@
-use Rattle.std.proofs.Common.{ap, ◌∙◌, sym, eqb-true}
+use Rattle.std.proofs.Common.{ap, ◌∙◌, sym, eqb-true, length, arith}
 use Rattle.std.proofs.lemmas.List.{nil_from_length}
 use Rattle.unix_path.specs.Parts.{values}
 use Rattle.unix_path.specs.Rest.{rest}
-use Rattle.unix_path.specs.Cursor.{cursor_source}
-use Rattle.unix_path.proofs.PartLemmas.{values-nil}
+use Rattle.unix_path.specs.Steps.{IsWalk}
+use Rattle.unix_path.specs.Cursor.{cursor_rest, cursor_source}
+use Rattle.unix_path.proofs.OffsetLemmas.{steps_forward}
+use Rattle.unix_path.proofs.PartLemmas.{values-nil, rest-nil}
 use Rattle.unix_path.proofs.SourceLemmas.{LiesIn-itself}
-use Rattle.unix_path.proofs.PartLemmas.{rest-nil}
 use Rattle.unix_path.proofs.cursor.components.ComponentsIterator.next.Goals as goal
 
 pub returns-then-is_empty-clause-steps : goal.returns-then-is_empty-clause-steps
 returns-then-is_empty-clause-steps c =
-    let none = nil_from_length _ (eqb-true _ 0 (sym c.is_empty.ensures ∙ c.if-is_empty.true)) in
+    let none = sym c.as_path.ensures.bytes
+    ∙ nil_from_length _ (eqb-true _ 0 (sym c.is_empty.ensures ∙ c.if-is_empty.true)) in
     let no_value = ap values none ∙ values-nil in
     record {
       item_is = (no_value, no_value);
-      rest_is = none
-          ∙ sym (ap (λ s. rest s 1 0) none ∙ rest-nil 1 0);
+      rest_is = none ∙ sym (ap (λ s. rest s 1 0) none ∙ rest-nil 1 0);
       place_is = LiesIn-itself (cursor_source c.args.self.now);
+    }
+
+pub invariant_of-self : goal.invariant_of-self
+unfolding cursor_rest IsWalk
+invariant_of-self c =
+    let s = c.args.self.now in
+    let step = rw c.as_path.ensures.bytes at c.first_step-len.ensures in
+    let next = steps_forward s.source.now s.front s.back c.first_step-len.result.0 _
+    s.fields.in_order s.fields.in_range step in
+    record {
+      fields = record {
+        in_order = next.in_order;
+        in_range = s.fields.in_range;
+        ends = next.takes.ends;
+        has_lead_is = s.fields.has_lead_is;
+        lead_left_is = next.lead;
+      };
+    }
+
+pub returns-clause-steps : goal.returns-clause-steps
+unfolding cursor_rest IsWalk
+returns-clause-steps c =
+    let s = c.args.self.now in
+    let step = rw c.as_path.ensures.bytes at c.first_step-len.ensures in
+    let next = steps_forward s.source.now s.front s.back c.first_step-len.result.0 _
+    s.fields.in_order s.fields.in_range step in
+    record {
+      item_is = next.takes.value;
+      rest_is = sym next.takes.rest;
+      place_is = LiesIn-itself (cursor_source s);
+    }
+
+pub returns-clause-goes : goal.returns-clause-goes
+unfolding cursor_rest IsWalk
+returns-clause-goes c =
+    let s = c.args.self.now in
+    let step = rw c.as_path.ensures.bytes at c.first_step-len.ensures in
+    let next = steps_forward s.source.now s.front s.back c.first_step-len.result.0 _
+    s.fields.in_order s.fields.in_range step in
+    record {
+      on = λ _. (tt, tt, omega (arith, ap length next.takes.value));
+      keeps = tt;
+      rests = λ _. tt;
     }

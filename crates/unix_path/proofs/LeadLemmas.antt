@@ -1,0 +1,210 @@
+-- The first part of a string, by what it begins with, and the last, by what it ends with.
+use Rattle.std.proofs.Common.{◌≡◌, ℕ, zero, suc, ◌+◌, ◌-◌, ◌≤◌, ◌<◌, true, false, ◌&&◌, ◌||◌}
+use Rattle.std.proofs.Common.{eqb, ltb, List, [], ◌∷◌, length, get_or, take, drop, refl, sym, ap, ap₂, subst}
+use Rattle.std.proofs.Common.{◌∙◌, ⊎_elim, arith, eqb-true, lt-ltb, ltb-true, drop-drop}
+use Rattle.std.proofs.Common.{length-drop, get_or-drop}
+use Rattle.std.specs.List.{position_or_len}
+use Rattle.std.specs.Str.{bytes_eq}
+use Rattle.std.proofs.lemmas.Bool.{or_cases, or_parts, and_parts, both_ways}
+use Rattle.std.proofs.lemmas.List.{drop_all, drop_more}
+use Rattle.std.proofs.lemmas.Slice.Eq.{bytes_eq-Decides}
+use Rattle.unix_path.proofs.LastLemmas.{last_counts}
+use Rattle.unix_path.proofs.CaseLemmas.{by_test, take-suc_cons}
+use Rattle.unix_path.proofs.IdleLemmas.{busy_parts, first_piece_empty, idle_from, is_idle-drop}
+use Rattle.unix_path.proofs.PartLemmas.{parts-name}
+use Rattle.unix_path.proofs.PieceLemmas.{first_piece, position_or_len-other, position_or_len-slash}
+use Rattle.unix_path.proofs.StepLemmas.{takes_first}
+use Rattle.unix_path.specs.Parts.{Value, CurDir, ParentDir, Normal, cur_dir, parent_dir}
+use Rattle.unix_path.specs.Parts.{inner_parts, is_slash, parts}
+use Rattle.unix_path.specs.Steps.{EndsInPart, IsLastStart, StepsFirst, TakesFirst}
+use Rattle.unix_path.specs.Steps.{begins_with_parent, ends_with_parent, first_value, is_idle}
+
+-- nothing, or a slash
+at_once : (s : List ℕ) → get_or s 0 47 ≡ 47 → position_or_len is_slash s ≡ 0
+at_once [] e = refl
+at_once (b ∷ s) e = position_or_len-slash b s (rw e refl)
+
+-- a dot, and then a slash or nothing
+parts-leading_dot : (s : List ℕ) → get_or s 0 47 ≡ 47
+    → parts (46 ∷ s) ≡ record { start = 0; end = 1; value = CurDir } ∷ inner_parts 1 s
+parts-leading_dot s e =
+    let one : position_or_len is_slash (46 ∷ s) ≡ 1 =
+    position_or_len-other 46 s refl ∙ ap (λ n. 1 + n) (at_once s e) in
+    parts-name (46 ∷ s) (omega arith) refl
+    ∙ ap (λ n. record { start = 0; end = n; value = first_value (take n (46 ∷ s)) }
+    ∷ inner_parts n (drop n (46 ∷ s))) one
+
+-- two dots, and then a slash or nothing
+parts-two_dots : (s : List ℕ) → get_or s 0 47 ≡ 47
+    → parts (46 ∷ 46 ∷ s) ≡ record { start = 0; end = 2; value = ParentDir } ∷ inner_parts 2 s
+parts-two_dots s e =
+    let two : position_or_len is_slash (46 ∷ 46 ∷ s) ≡ 2 =
+    position_or_len-other 46 (46 ∷ s) refl
+    ∙ ap (λ n. 1 + n) (position_or_len-other 46 s refl ∙ ap (λ n. 1 + n) (at_once s e)) in
+    parts-name (46 ∷ 46 ∷ s) (omega arith) refl
+    ∙ ap (λ n. record { start = 0; end = n; value = first_value (take n (46 ∷ 46 ∷ s)) }
+    ∷ inner_parts n (drop n (46 ∷ 46 ∷ s))) two
+
+-- a string that begins with a `.` that counts
+pub parts-dot_first : (s : List ℕ) → 0 < length s → is_idle s 0 ≡ true
+    → eqb (get_or s 0 0) 47 ≡ false
+    → parts s ≡ record { start = 0; end = 1; value = CurDir } ∷ inner_parts 1 (drop 1 s)
+parts-dot_first [] l e differs = absurd (omega arith)
+parts-dot_first (b ∷ s) l e differs =
+    ⊎_elim (λ is. absurd (slash_or_not b is differs))
+    (λ is. ap (λ b. parts (b ∷ s)) is.0 ∙ parts-leading_dot s is.1) (idle_from b s e)
+  where
+    slash_or_not : (b : ℕ) → b ≡ 47 → eqb b 47 ≡ false → ⊥
+    slash_or_not b is e = cc
+
+alone : (b : ℕ) → (eqb b 46 && false) ≡ true → ⊥
+alone b e = by_test (eqb b 46) (λ h. both_ways _ (rw h refl) e) (λ h. both_ways _ (rw h refl) e)
+
+-- a string that begins with `..`
+pub parts-parent_first : (s : List ℕ) → begins_with_parent s ≡ true
+    → parts s ≡ record { start = 0; end = 2; value = ParentDir } ∷ inner_parts 2 (drop 2 s)
+parts-parent_first [] e = cc
+parts-parent_first (b ∷ []) e = absurd (alone b e)
+parts-parent_first (b ∷ c ∷ s) e =
+    let first = and_parts (eqb b 46) (eqb c 46 && eqb (get_or s 0 47) 47) e in
+    let second = and_parts (eqb c 46) (eqb (get_or s 0 47) 47) first.1 in
+    ap₂ (λ b c. parts (b ∷ c ∷ s)) (eqb-true b 46 first.0) (eqb-true c 46 second.0)
+    ∙ parts-two_dots s (eqb-true _ 47 second.1)
+
+pub length-parent_first : (s : List ℕ) → begins_with_parent s ≡ true → 2 ≤ length s
+length-parent_first [] e = cc
+length-parent_first (b ∷ []) e = absurd (alone b e)
+length-parent_first (b ∷ c ∷ s) e = omega arith
+
+-- what is not idle doesn't begin with a slash
+pub busy_no_slash : (s : List ℕ) → is_idle s 0 ≡ false → eqb (get_or s 0 0) 47 ≡ false
+busy_no_slash s e = (or_parts (eqb (get_or s 0 0) 47) _ e).0
+
+first_piece_dot : (s : List ℕ)
+    → bytes_eq (first_piece s) cur_dir ≡ (eqb (get_or s 0 0) 46 && eqb (get_or s 1 47) 47)
+first_piece_dot [] = refl
+first_piece_dot (b ∷ s) = by_test (eqb b 47)
+    (λ e. ap (λ n. bytes_eq (take n (b ∷ s)) cur_dir) (position_or_len-slash b s e)
+    ∙ sym (ap (λ b. eqb b 46 && eqb (get_or s 0 47) 47) (eqb-true b 47 e)))
+    (λ e. ap (λ n. bytes_eq (take n (b ∷ s)) cur_dir) (position_or_len-other b s e)
+    ∙ ap (λ p. bytes_eq p cur_dir) (take-suc_cons (position_or_len is_slash s) b s)
+    ∙ ap (λ t. eqb b 46 && t) (first_piece_empty s))
+
+first_piece_parent : (s : List ℕ) → eqb (get_or s 0 0) 47 ≡ false
+    → bytes_eq (first_piece s) parent_dir ≡ begins_with_parent s
+first_piece_parent [] e = refl
+first_piece_parent (b ∷ s) e =
+    ap (λ n. bytes_eq (take n (b ∷ s)) parent_dir) (position_or_len-other b s e)
+    ∙ ap (λ p. bytes_eq p parent_dir) (take-suc_cons (position_or_len is_slash s) b s)
+    ∙ ap (λ t. eqb b 46 && t) (first_piece_dot s)
+
+-- a first piece that counts and isn't `..` is a name
+pub first_value-name : (s : List ℕ) → 0 < length s → is_idle s 0 ≡ false
+    → begins_with_parent s ≡ false → first_value (first_piece s) ≡ Normal (first_piece s)
+first_value-name s l busy e =
+    let is = busy_parts s l busy in
+    let no_parent : bytes_eq (first_piece s) parent_dir ≡ false =
+    first_piece_parent s is.0 ∙ e in
+    rw (is.1, no_parent) refl
+
+-- the first part of a string, with what doesn't count after it
+pub steps_first : (t : List ℕ) (e d : ℕ) (v : Value) → EndsInPart t → e ≤ length t
+    → parts t ≡ record { start = 0; end = e; value = v } ∷ inner_parts e (drop e t)
+    → d ≤ length (drop e t)
+    → inner_parts e (drop e t) ≡ inner_parts (e + d) (drop d (drop e t))
+    → (d < length (drop e t) → is_idle (drop e t) d ≡ false)
+    → StepsFirst t (e + d) v
+steps_first t e d v ends l first m idle busy =
+    let is = drop-drop d e t in
+    let next : 0 < length (drop d (drop e t)) → is_idle (drop d (drop e t)) 0 ≡ false =
+    λ some. is_idle-drop (drop e t) d ∙ busy (omega (arith, length-drop d (drop e t))) in
+    record {
+      in_range = omega (arith, length-drop e t);
+      takes = subst (λ u. TakesFirst t u v) is (takes_first t e d v ends l m first idle next);
+      busy = subst (λ u. 0 < length u → is_idle u 0 ≡ false) is next;
+    }
+
+no_dot_piece : (s : List ℕ) (start : ℕ) → IsLastStart s start → start < length s → EndsInPart s
+    → bytes_eq s cur_dir ≡ false → bytes_eq (drop start s) cur_dir ≡ false
+no_dot_piece s zero h l ends no_dot = no_dot
+no_dot_piece s (suc k) h l ends no_dot = (last_counts s (suc k) h (omega arith) l ends).1
+
+begins_piece : (s : List ℕ) (start : ℕ) → IsLastStart s start → length s ≡ start + 2
+    → (eqb (length s) 2 || eqb (get_or s (length s - 3) 0) 47) ≡ true
+begins_piece s zero h n = rw n refl
+begins_piece s (suc k) h n =
+    let slash : get_or s (length s - 3) 0 ≡ 47 =
+    ap (λ i. get_or s i 0) {x = length s - 3} {y = suc k - 1} (omega (arith, n))
+    ∙ h.after_slash (omega arith) in
+    by_test (eqb (length s) 2) (λ e. rw e refl) (λ e. rw (e, slash) refl)
+
+no_parent_piece : (s : List ℕ) (start : ℕ) → IsLastStart s start → start < length s
+    → ends_with_parent s ≡ false → bytes_eq (drop start s) parent_dir ≡ false
+no_parent_piece s start h l no_parent =
+    by_test (bytes_eq (drop start s) parent_dir)
+    (λ e.
+    let two = (bytes_eq-Decides (drop start s) parent_dir).0 e in
+    let n : length s ≡ start + 2 = omega (arith, ap length two, length-drop start s) in
+    let last : get_or s (length s - 1) 0 ≡ 46 =
+    ap (λ i. get_or s i 0) {x = length s - 1} {y = start + 1} (omega (arith, n))
+    ∙ sym (get_or-drop start s 1 0) ∙ ap (λ t. get_or t 1 0) two in
+    let before : get_or s (length s - 2) 0 ≡ 46 =
+    ap (λ i. get_or s i 0) {x = length s - 2} {y = start + 0} (omega (arith, n))
+    ∙ sym (get_or-drop start s 0 0) ∙ ap (λ t. get_or t 0 0) two in
+    let hit : ends_with_parent s ≡ true =
+    rw (last, before, begins_piece s start h n, lt-ltb 1 (length s) (omega (arith, n))) refl in
+    absurd (both_ways _ no_parent hit))
+    (λ e. e)
+
+-- the last piece of a string that ends in a part is a name, unless it is `.` or `..`
+pub last_name : (s : List ℕ) (start : ℕ) → IsLastStart s start → start < length s → EndsInPart s
+    → bytes_eq s cur_dir ≡ false → ends_with_parent s ≡ false
+    → first_value (drop start s) ≡ Normal (drop start s)
+last_name s start h l ends no_dot no_parent =
+    rw (no_dot_piece s start h l ends no_dot, no_parent_piece s start h l no_parent) refl
+
+pub length-with_parent : (s : List ℕ) → ends_with_parent s ≡ true → 1 < length s
+length-with_parent s e =
+    let all = and_parts (eqb (get_or s (length s - 1) 0) 46) _ e in
+    ltb-true _ _ (and_parts (ltb 1 (length s)) _ all.1).0
+
+-- the last piece is `..`
+pub starts_parent : (s : List ℕ) → ends_with_parent s ≡ true
+    → IsLastStart s (length s - 2) × (first_value (drop (length s - 2) s) ≡ ParentDir)
+starts_parent s e =
+    let n = length s in
+    let all = and_parts (eqb (get_or s (n - 1) 0) 46) _ e in
+    let more = and_parts (ltb 1 n) _ all.1 in
+    let some : 1 < n = length-with_parent s e in
+    let rest = and_parts (eqb (get_or s (n - 2) 0) 46) _ more.1 in
+    let next : drop (n - 2) s ≡ get_or s (n - 2) 0 ∷ drop (n - 2 + 1) s =
+    drop_more s (n - 2) 0 (omega arith) in
+    let last : drop (n - 2 + 1) s ≡ get_or s (n - 1) 0 ∷ [] =
+    ap (λ i. drop i s) {x = n - 2 + 1} {y = n - 1} (omega arith)
+    ∙ drop_more s (n - 1) 0 (omega arith)
+    ∙ ap (λ t. get_or s (n - 1) 0 ∷ t) (drop_all (n - 1 + 1) s (omega arith)) in
+    let is : drop (n - 2) s ≡ 46 ∷ 46 ∷ [] = next
+    ∙ ap₂ (λ b t. b ∷ t) (eqb-true _ 46 rest.0) (last ∙ ap (λ b. b ∷ []) (eqb-true _ 46 all.0)) in (
+      record {
+        in_range = omega arith;
+        after_slash = λ l. ⊎_elim (λ two. absurd (omega (arith, eqb-true n 2 two)))
+            (λ slash. ap (λ i. get_or s i 0) {x = n - 2 - 1} {y = n - 3} (omega arith)
+            ∙ eqb-true _ 47 slash)
+            (or_cases (eqb n 2) _ rest.1);
+        no_slash = rw is refl;
+      },
+      ap first_value is,
+    )
+
+-- the only piece is a `.`
+pub starts_dot : (s : List ℕ) → bytes_eq s cur_dir ≡ true
+    → IsLastStart s 0 × (first_value (drop 0 s) ≡ CurDir)
+starts_dot s e =
+    let is = (bytes_eq-Decides s cur_dir).0 e in (
+      record {
+        in_range = omega arith;
+        after_slash = λ l. absurd (omega arith);
+        no_slash = rw is refl;
+      },
+      ap first_value is,
+    )

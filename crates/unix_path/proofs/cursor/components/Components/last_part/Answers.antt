@@ -1,0 +1,32 @@
+use Rattle.std.proofs.Common.{length, ap, ap₂, ◌∙◌, sym, arith}
+use Rattle.std.specs.Prelude.{slice_range}
+use Rattle.unix_path.specs.Steps.{IsWalk}
+use Rattle.unix_path.specs.Cursor.{cursor_rest}
+use Rattle.unix_path.specs.Views.{value_of}
+use Rattle.unix_path.proofs.OffsetLemmas.{has_last, length-range, range-front}
+use Rattle.unix_path.proofs.ParentLemmas.{values-whole}
+use Rattle.unix_path.proofs.cursor.components.Components.last_part.Goals as goal
+
+pub returns-in_default-clause-none : goal.returns-in_default-clause-none
+returns-in_default-clause-none c none =
+    sym (values-whole c.args.path.now _ c.whole-walk.ensures.rest)
+    ∙ c.in_default.ensures.steps.item_is.0
+
+pub returns-clause-some : goal.returns-clause-some
+unfolding cursor_rest IsWalk
+returns-clause-some c =
+    let path = c.args.path.now in
+    let walk = c.whole-walk.result in
+    let left = c.take_last.new.self in
+    let last = c.in-Some.ensures in
+    let source = ap (λ b. b.now) last.source ∙ ap (λ b. b.now) c.whole-walk.ensures.source in
+    has_last path left.back walk.back (value_of c.in-Some.part) c.whole-walk.ensures.rest
+    last.steps.item_is last.steps.rest_is
+    (ap₂ (λ s n. slice_range s n left.back) source (last.front ∙ c.whole-walk.ensures.front)
+    ∙ range-front path left.back)
+    (omega (
+      arith,
+      length-range walk.source.now walk.front walk.back walk.fields.in_range,
+      c.whole-walk.ensures.front,
+    ))
+    (omega (arith, left.fields.in_range, ap length source))

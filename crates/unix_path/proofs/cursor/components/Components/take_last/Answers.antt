@@ -1,0 +1,62 @@
+use Rattle.std.specs.Prelude.{slice_range}
+use Rattle.std.proofs.Common.{◌≡◌, ◌+◌, ◌&&◌, ltb, ap, ◌∙◌, sym, eqb-true, arith}
+use Rattle.std.proofs.lemmas.List.{nil_from_length}
+use Rattle.unix_path.specs.Parts.{values}
+use Rattle.unix_path.specs.Rest.{rest}
+use Rattle.unix_path.specs.Steps.{IsWalk}
+use Rattle.unix_path.specs.Cursor.{cursor_rest, cursor_source}
+use Rattle.unix_path.specs.Steps.{is_idle}
+use Rattle.unix_path.proofs.OffsetLemmas.{steps_back}
+use Rattle.unix_path.proofs.PartLemmas.{values-nil, rest-nil}
+use Rattle.unix_path.proofs.SourceLemmas.{LiesIn-itself}
+use Rattle.unix_path.proofs.cursor.components.Components.take_last.Goals.{then-self, else-self}
+use Rattle.unix_path.proofs.cursor.components.Components.take_last.Goals as goal
+
+pub returns-then-is_empty-clause-steps : goal.returns-then-is_empty-clause-steps
+returns-then-is_empty-clause-steps c =
+    let none = sym c.as_path.ensures.bytes
+    ∙ nil_from_length _ (eqb-true _ 0 (sym c.is_empty.ensures ∙ c.if-is_empty.true)) in
+    let no_value = ap values none ∙ values-nil in
+    record {
+      item_is = (no_value, no_value);
+      rest_is = none ∙ sym (ap (λ s. rest s 0 1) none ∙ rest-nil 0 1);
+      place_is = LiesIn-itself (cursor_source c.args.self.now);
+    }
+
+pub invariant_of-self : goal.invariant_of-self
+unfolding cursor_rest IsWalk
+invariant_of-self c =
+    let s = c.args.self.now in
+    let len = c.last_step-len.result.0 in
+    let step = rw c.as_path.ensures.bytes at c.last_step-len.ensures in
+    let back = steps_back s.source.now s.front s.back len _ s.fields.in_order
+    s.fields.in_range step.in_range step.takes in
+    let was = sym s.fields.lead_left_is in
+    let left : c.if-self.self ≡ is_idle (slice_range s.source.now s.front (s.front + len)) 0 =
+    elim c.if-self.branch [
+      | then-self w ↦ w.self-is ∙ sym (ap (λ t. t && ltb 0 len) (was ∙ w.if-self.true)) ∙ back.lead
+      | else-self w ↦ w.self-is ∙ w.if-self.false
+          ∙ sym (ap (λ t. t && ltb 0 len) (was ∙ w.if-self.false)) ∙ back.lead
+    ] in
+    record {
+      fields = record {
+        in_order = omega arith;
+        in_range = omega (arith, back.in_order, s.fields.in_range);
+        ends = back.takes.ends;
+        has_lead_is = s.fields.has_lead_is;
+        lead_left_is = left;
+      };
+    }
+
+pub returns-clause-steps : goal.returns-clause-steps
+unfolding cursor_rest IsWalk
+returns-clause-steps c =
+    let s = c.args.self.now in
+    let step = rw c.as_path.ensures.bytes at c.last_step-len.ensures in
+    let back = steps_back s.source.now s.front s.back c.last_step-len.result.0 _ s.fields.in_order
+    s.fields.in_range step.in_range step.takes in
+    record {
+      item_is = back.takes.value;
+      rest_is = sym back.takes.rest;
+      place_is = LiesIn-itself (cursor_source s);
+    }

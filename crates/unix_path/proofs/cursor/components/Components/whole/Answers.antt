@@ -1,0 +1,38 @@
+use Rattle.std.proofs.Common.{length, sym, ap, ◌∙◌, arith, take_all, subst}
+use Rattle.unix_path.specs.Steps.{IsWalk}
+use Rattle.unix_path.specs.Cursor.{cursor_rest}
+use Rattle.unix_path.specs.Parts.{parts}
+use Rattle.unix_path.specs.Steps.{EndsInPart}
+use Rattle.unix_path.proofs.OffsetLemmas.{is_idle-same, range-front}
+use Rattle.unix_path.proofs.SpanLemmas.{rest-trimmed}
+use Rattle.unix_path.proofs.TrimLemmas.{EndsInPart-take}
+use Rattle.unix_path.proofs.cursor.components.Components.whole.Goals as goal
+
+pub invariant_of-result : goal.invariant_of-result
+unfolding IsWalk
+invariant_of-result c =
+    let path = c.args.path.now in
+    let back = c.trimmed_len in
+    let front = range-front path back.result in
+    let same = ap parts front ∙ back.ensures.same
+    ∙ ap parts (take_all (length path) path (omega arith)) in
+    record {
+      fields = record {
+        in_order = omega arith;
+        in_range = back.ensures.in_range;
+        ends = subst EndsInPart (sym front)
+            (EndsInPart-take path back.result back.ensures.in_range back.ensures.ends);
+        has_lead_is = c.has_lead-lead.ensures;
+        lead_left_is = c.has_lead-lead.ensures ∙ sym (is_idle-same _ path same);
+      };
+    }
+
+pub returns-clause-rest : goal.returns-clause-rest
+unfolding cursor_rest IsWalk
+returns-clause-rest c =
+    let path = c.args.path.now in
+    let back = c.trimmed_len in
+    range-front path back.result
+    ∙ sym (rest-trimmed path back.result back.ensures.in_range
+    (back.ensures.same ∙ ap parts (take_all (length path) path (omega arith)))
+    (EndsInPart-take path back.result back.ensures.in_range back.ensures.ends))
