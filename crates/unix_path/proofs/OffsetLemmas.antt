@@ -7,6 +7,8 @@ use Rattle.std.specs.Prelude.{slice_range}
 use Rattle.std.specs.List.{position_or_len}
 use Rattle.std.specs.Str.{bytes_eq}
 use Rattle.std.proofs.lemmas.List.{length-take, length-map, nil_from_length, drop-take}
+use Rattle.unix_path.specs.Cursor.{cursor_rest, cursor_source}
+use Rattle.unix_path.specs.declared.cursor.components.Components.{Components}
 use Rattle.unix_path.specs.Parts.{Value, RootDir, CurDir, ParentDir, Normal, parts, values}
 use Rattle.unix_path.specs.Parts.{cur_dir, parent_dir, is_slash}
 use Rattle.unix_path.specs.Steps.{is_idle, first_value, EndsInPart, parts_end}
@@ -33,6 +35,15 @@ range-take : (s : List ℕ) (a b n : ℕ) → n ≤ b - a
 range-take s a b n l =
     take-take n (b - a) (drop a s) l
     ∙ ap (λ k. take k (drop a s)) {x = n} {y = a + n - a} (omega arith)
+
+-- what is left of a walk is no longer than its source
+pub length-cursor_rest : (c : Components) → length (cursor_rest c) ≤ length (cursor_source c).now
+unfolding cursor_rest
+length-cursor_rest c = omega (
+  arith,
+  length-take (c.back - c.front) (drop c.front c.source.now),
+  length-drop c.front c.source.now,
+)
 
 pub range-front : (s : List ℕ) (n : ℕ) → slice_range s 0 n ≡ take n s
 range-front s n = ap (λ k. take k s) {x = n - 0} {y = n} (omega arith)
