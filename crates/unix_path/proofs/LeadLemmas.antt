@@ -1,7 +1,7 @@
 -- The first part of a string, by what it begins with, and the last, by what it ends with.
 use Rattle.std.proofs.Common.{◌≡◌, ℕ, zero, suc, ◌+◌, ◌-◌, ◌≤◌, ◌<◌, true, false, ◌&&◌, ◌||◌}
-use Rattle.std.proofs.Common.{eqb, ltb, List, [], ◌∷◌, length, get_or, take, drop, refl, sym, ap, ap₂, subst}
-use Rattle.std.proofs.Common.{◌∙◌, ⊎_elim, arith, eqb-true, lt-ltb, ltb-true, drop-drop}
+use Rattle.std.proofs.Common.{eqb, ltb, List, [], ◌∷◌, length, get_or, take, drop, refl, sym, ap}
+use Rattle.std.proofs.Common.{ap₂, subst, ◌∙◌, ⊎_elim, arith, eqb-true, lt-ltb, ltb-true, drop-drop}
 use Rattle.std.proofs.Common.{length-drop, get_or-drop}
 use Rattle.std.specs.List.{position_or_len}
 use Rattle.std.specs.Str.{bytes_eq}
