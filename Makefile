@@ -7,8 +7,8 @@ SOURCES := $(shell find crates.txt crates -name out -prune -o \
 
 help:
 	@echo 'make run      runs pathtool on standard input; proves and builds it first, which'
-	@echo '              takes some four minutes on four cores, and later only after a change'
-	@echo 'make check    proves all crates, and then only what changed; some five minutes'
+	@echo '              takes some five minutes on four cores, and later only after a change'
+	@echo 'make check    proves all crates, and then only what changed; some six minutes'
 	@echo 'make test     the gate: every proof, test, wrong body and vector, from nothing;'
 	@echo '              docs/PROOFS.md says how long that takes'
 	@echo 'make bench    times the calls and pathtool beside Rust, some three minutes; builds first.'
