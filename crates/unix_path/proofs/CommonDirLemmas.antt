@@ -73,17 +73,39 @@ past_last-slash s some =
     not_false true e = refl
     not_false false e = cc
 
--- the order of two strings that begin with the same bytes, up to a slash
-pub values_cmp-common_dir : (a b : List ℕ) → 0 < common_dir_of a b
-    → values_cmp (values a) (values b)
-    ≡ values_cmp (inner_values (drop (common_dir_of a b) a))
-    (inner_values (drop (common_dir_of a b) b))
+-- just before that place both strings have a slash, and the same bytes before it
+pub record CutsAlike (a b : List ℕ) (n : ℕ) : Type 0 where
+  pub in_first : n ≤ length a
+  pub in_second : n ≤ length b
+  pub same : take n a ≡ take n b
+  pub first_slash : get_or a (n - 1) 0 ≡ slash
+  pub second_slash : get_or b (n - 1) 0 ≡ slash
+
+pub common_dir_of-cuts : (a b : List ℕ) → 0 < common_dir_of a b → CutsAlike a b (common_dir_of a b)
 unfolding common_dir_of
-values_cmp-common_dir a b some =
+common_dir_of-cuts a b some =
     let m = common_prefix_len eqb a b in
     let range = common_prefix_len-le eqb a b in
     let n = past_last is_slash (take m a) in
     let inside : n ≤ m =
     omega (arith, past_last-le is_slash (take m a), length-take-le m a range.0) in
-    sym (values_cmp-behind a b n some (omega (arith, range.0)) (take-common a b n inside)
-    (sym (get_or-take m a (n - 1) 0 (omega arith)) ∙ past_last-slash (take m a) some))
+    let same = take-common a b n inside in
+    let here : get_or a (n - 1) 0 ≡ slash =
+    sym (get_or-take m a (n - 1) 0 (omega arith)) ∙ past_last-slash (take m a) some in
+    record {
+      in_first = omega (arith, range.0);
+      in_second = omega (arith, range.1);
+      same = same;
+      first_slash = here;
+      second_slash = sym (get_or-take n b (n - 1) 0 (omega arith))
+          ∙ ap (λ t. get_or t (n - 1) 0) (sym same) ∙ get_or-take n a (n - 1) 0 (omega arith) ∙ here;
+    }
+
+-- the order of two strings that begin with the same bytes, up to a slash
+pub values_cmp-common_dir : (a b : List ℕ) → 0 < common_dir_of a b
+    → values_cmp (values a) (values b)
+    ≡ values_cmp (inner_values (drop (common_dir_of a b) a))
+    (inner_values (drop (common_dir_of a b) b))
+values_cmp-common_dir a b some =
+    let cuts = common_dir_of-cuts a b some in
+    sym (values_cmp-behind a b (common_dir_of a b) some cuts.in_first cuts.same cuts.first_slash)

@@ -11,7 +11,8 @@ use Rattle.std.specs.Str.{bytes_eq}
 use Rattle.std.proofs.lemmas.Cmp.{tied_itself, nat_cmp_total}
 use Rattle.std.proofs.lemmas.List.{get_or-take}
 use Rattle.std.proofs.lemmas.List.Sums.{fails_before_first}
-use Rattle.unix_path.specs.Fronts.{inner_values, piece_rank}
+use Rattle.unix_path.specs.Fronts.{inner_values}
+use Rattle.unix_path.specs.Steps.{piece_rank}
 use Rattle.unix_path.specs.Order.{values_cmp}
 use Rattle.unix_path.specs.Parts.{Part, Value, Normal, parent_dir, value_of_piece, inner_parts}
 use Rattle.unix_path.specs.Parts.{is_slash, slash}

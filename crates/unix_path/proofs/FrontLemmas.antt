@@ -2,6 +2,7 @@
 use Rattle.std.proofs.Common.{Equal, append-nil, take-append-drop, false, take, drop, map, refl}
 use Rattle.std.proofs.Common.{sym, ap, ap₂, ◌∙◌, arith, append_assoc, ◌≡◌, ℕ, ◌+◌, ◌-◌, ◌<◌, ◌≤◌}
 use Rattle.std.proofs.Common.{List, [], ◌∷◌, ◌++◌, length, get_or}
+use Rattle.std.proofs.Common.{length-append}
 use Rattle.std.specs.Ordering.{ordering_then}
 use Rattle.std.proofs.lemmas.Cmp.{tied_itself}
 use Rattle.std.proofs.lemmas.List.{map-append, take_more}
@@ -22,36 +23,48 @@ pub values-leading : (s : List ℕ)
 unfolding values parts
 values-leading s = map-append (λ (p : Part). p.value) (leading_part s) (inner_parts 0 s)
 
-pub values-slash : (a b : List ℕ) → 0 < length a
-    → values (a ++ slash ∷ b) ≡ values a ++ inner_values b
-values-slash a b l =
-    let lead = map (λ (p : Part). p.value) (leading_part a) in
-    values-leading (a ++ slash ∷ b)
-    ∙ ap₂ (λ x y. map (λ (p : Part). p.value) x ++ y) (leading_part-append a b l)
-    (ap (map (λ (p : Part). p.value)) (inner_parts-append 0 a b)
-    ∙ map-append (λ (p : Part). p.value) (inner_parts 0 a) (inner_parts (0 + length a + 1) b)
-    ∙ ap (λ vs. inner_values a ++ vs) (values-inner_parts (0 + length a + 1) b))
-    ∙ sym (append_assoc lead (inner_values a) (inner_values b))
-    ∙ ap (λ vs. vs ++ inner_values b) (sym (values-leading a))
-
-values-root : (b : List ℕ) → values (slash ∷ b) ≡ RootDir ∷ inner_values b
-unfolding values
-values-root b = ap (map (λ (p : Part). p.value)) (parts-root (slash ∷ b) refl)
-    ∙ ap (λ vs. RootDir ∷ vs) (values-inner_parts 1 b)
-
 pub inner_values-nil : inner_values [] ≡ []
 inner_values-nil = ap (map (λ (p : Part). p.value)) (inner_parts-nil 0)
 
+parts-slash : (a b : List ℕ) → 0 < length a
+    → parts (a ++ slash ∷ b) ≡ parts a ++ inner_parts (0 + length a + 1) b
+unfolding parts
+parts-slash a b l =
+    ap₂ (λ x y. x ++ y) (leading_part-append a b l) (inner_parts-append 0 a b)
+    ∙ sym (append_assoc (leading_part a) (inner_parts 0 a) (inner_parts (0 + length a + 1) b))
+
+pub values-slash : (a b : List ℕ) → 0 < length a
+    → values (a ++ slash ∷ b) ≡ values a ++ inner_values b
+unfolding values
+values-slash a b l = ap (map (λ (p : Part). p.value)) (parts-slash a b l)
+    ∙ map-append (λ (p : Part). p.value) (parts a) (inner_parts (0 + length a + 1) b)
+    ∙ ap (λ vs. map (λ (p : Part). p.value) (parts a) ++ vs)
+    (values-inner_parts (0 + length a + 1) b)
+
 -- behind a string that ends in a slash
+pub parts-past_slash : (f b : List ℕ)
+    → parts ((f ++ slash ∷ []) ++ b)
+    ≡ parts (f ++ slash ∷ []) ++ inner_parts (length (f ++ slash ∷ [])) b
+parts-past_slash [] b = parts-root (slash ∷ b) refl
+    ∙ sym (ap (λ ps. ps ++ inner_parts 1 b) (parts-root (slash ∷ []) refl
+    ∙ ap (λ ps. record { start = 0; end = 1; value = RootDir } ∷ ps) (inner_parts-nil 1)))
+parts-past_slash (x ∷ f) b =
+    let n = 0 + length (x ∷ f) + 1 in
+    let alone : parts (x ∷ f ++ slash ∷ []) ≡ parts (x ∷ f) = parts-slash (x ∷ f) [] (omega arith)
+    ∙ ap (λ ps. parts (x ∷ f) ++ ps) (inner_parts-nil n) ∙ append-nil (parts (x ∷ f)) in
+    ap parts (append_assoc (x ∷ f) (slash ∷ []) b) ∙ parts-slash (x ∷ f) b (omega arith)
+    ∙ ap (λ k. parts (x ∷ f) ++ inner_parts k b) {x = n} {y = length (x ∷ f ++ slash ∷ [])}
+    (omega (arith, length-append (x ∷ f) (slash ∷ [])))
+    ∙ sym (ap (λ ps. ps ++ inner_parts (length (x ∷ f ++ slash ∷ [])) b) alone)
+
 pub values-past_slash : (f b : List ℕ)
     → values ((f ++ slash ∷ []) ++ b) ≡ values (f ++ slash ∷ []) ++ inner_values b
-values-past_slash [] b = values-root b
-    ∙ sym (ap (λ vs. vs ++ inner_values b)
-    (values-root [] ∙ ap (λ vs. RootDir ∷ vs) inner_values-nil))
-values-past_slash (x ∷ f) b =
-    ap values (append_assoc (x ∷ f) (slash ∷ []) b) ∙ values-slash (x ∷ f) b (omega arith)
-    ∙ sym (ap (λ vs. vs ++ inner_values b) (values-slash (x ∷ f) [] (omega arith)
-    ∙ ap (λ vs. values (x ∷ f) ++ vs) inner_values-nil ∙ append-nil (values (x ∷ f))))
+unfolding values
+values-past_slash f b =
+    let g = f ++ slash ∷ [] in
+    ap (map (λ (p : Part). p.value)) (parts-past_slash f b)
+    ∙ map-append (λ (p : Part). p.value) (parts g) (inner_parts (length g) b)
+    ∙ ap (λ vs. map (λ (p : Part). p.value) (parts g) ++ vs) (values-inner_parts (length g) b)
 
 -- what two lists both begin with doesn't count
 values_cmp-front : (v w x : List Value) → values_cmp (v ++ w) (v ++ x) ≡ values_cmp w x
@@ -76,7 +89,7 @@ values_cmp-slash f a b =
     (sym (append_assoc f (slash ∷ []) b))
     ∙ values_cmp-past_slash f a b
 
-take-past_slash : (s : List ℕ) (n : ℕ) → 0 < n → n ≤ length s → get_or s (n - 1) 0 ≡ slash
+pub take-past_slash : (s : List ℕ) (n : ℕ) → 0 < n → n ≤ length s → get_or s (n - 1) 0 ≡ slash
     → take n s ≡ take (n - 1) s ++ slash ∷ []
 take-past_slash s n some l is =
     let i = n - 1 in

@@ -33,4 +33,5 @@ pub mod GapLemmas
 pub mod EditLemmas
 pub mod FrontLemmas
 pub mod CommonDirLemmas
+pub mod BehindLemmas
 pub mod DifferLemmas

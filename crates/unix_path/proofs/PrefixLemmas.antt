@@ -3,16 +3,9 @@ use Rattle.std.proofs.Common.{◌≡◌, ℕ, ◌+◌, List, [], ◌∷◌, ◌+
 use Rattle.unix_path.specs.Parts.{Value, values}
 use Rattle.unix_path.specs.Rest.{rest}
 use Rattle.unix_path.specs.Prefixes.{Begins, stripped_of}
+use Rattle.unix_path.specs.Steps.{StripsOn}
 use Rattle.unix_path.proofs.RestLemmas.{rest-rest}
 use Rattle.unix_path.proofs.ParentLemmas.{values-whole}
-
--- u is what is left of s after as many values of base as aren't in `left`, and those were alike
-pub record StripsOn (s base u : List ℕ) (left : List Value) : Type 0 where
-  pub count : ℕ
-  pub rest_is : u ≡ rest s count 0
-  pub counts : count + length left ≡ length (values base)
-  pub onward : Begins left (values u) → Begins (values base) (values s)
-  pub back : Begins (values base) (values s) → Begins left (values u)
 
 pub strips_start : {s base u b : List ℕ} → u ≡ rest s 0 0 → b ≡ rest base 0 0
     → StripsOn s base u (values b)
@@ -28,12 +21,12 @@ strips_start {s} {base} {u} {b} e f =
           (subst (λ v. Begins v (values s)) (sym wanted) h);
     }
 
-begins_tail : (x y : Value) (v w : List Value) → Begins (x ∷ v) (y ∷ w) → (x ≡ y) × Begins v w
+pub begins_tail : (x y : Value) (v w : List Value) → Begins (x ∷ v) (y ∷ w) → (x ≡ y) × Begins v w
 begins_tail x y v w h =
     let e : x ∷ (v ++ h.0) ≡ y ∷ w = h.1 in
     (cc, (h.0, cc))
 
-begins_more : (x : Value) (v w : List Value) → Begins v w → Begins (x ∷ v) (x ∷ w)
+pub begins_more : (x : Value) (v w : List Value) → Begins v w → Begins (x ∷ v) (x ∷ w)
 begins_more x v w h = (h.0, ap (λ z. x ∷ z) h.1)
 
 pub strips_step : {s base u t : List ℕ} {x y : Value} {left more : List Value}

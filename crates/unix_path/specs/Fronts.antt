@@ -1,8 +1,7 @@
 -- The common front of two byte strings, and what follows it (not in Rust's std).
-use Rattle.std.specs.Prelude.{ℕ, ◌+◌, ◌==◌, List, take, map, nat_eq, slice_index_or}
-use Rattle.std.specs.Prelude.{if◌then◌else◌}
+use Rattle.std.specs.Prelude.{ℕ, List, take, map, nat_eq}
 use Rattle.std.specs.List.{common_prefix_len}
-use Rattle.unix_path.specs.Parts.{slash, is_slash, Value, inner_parts}
+use Rattle.unix_path.specs.Parts.{is_slash, Value, inner_parts}
 use Rattle.unix_path.specs.Names.{past_last}
 
 -- the longest string that a and b both begin with
@@ -17,7 +16,3 @@ common_dir_of a b = past_last is_slash (common_front a b)
 -- leading `.` does
 abbrev pub inner_values : List ℕ → List Value
 inner_values s = map (λ p. p.value) (inner_parts 0 s)
-
--- one more than the byte at i, or 0 where a piece ends there: at a slash, or at the end
-abbrev pub piece_rank : List ℕ → ℕ → ℕ
-piece_rank s i = let b = slice_index_or s i slash in if b == slash then 0 else 1 + b

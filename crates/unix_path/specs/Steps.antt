@@ -10,6 +10,7 @@ use Rattle.std.specs.Str.{bytes_eq}
 use Rattle.unix_path.specs.Parts.{slash, is_slash, dot, cur_dir, Part, Value}
 use Rattle.unix_path.specs.Parts.{CurDir, value_of_piece}
 use Rattle.unix_path.specs.Parts.{values}
+use Rattle.unix_path.specs.Prefixes.{Begins}
 use Rattle.unix_path.specs.Rest.{last_end, rest}
 
 -- the byte at i is a slash, or a `.` that a slash or the end follows
@@ -80,6 +81,14 @@ pub record HasLast (s : List ℕ) (before end : ℕ) (v : Value) : Type 0 where
   pub before_is : take before s ≡ rest s 0 1
   pub end_is : end ≡ length (rest s 0 0)
 
+-- u is what is left of s after as many values of base as aren't in `left`, and those were alike
+pub record StripsOn (s base u : List ℕ) (left : List Value) : Type 0 where
+  pub count : ℕ
+  pub rest_is : u ≡ rest s count 0
+  pub counts : count + length left ≡ length (values base)
+  pub onward : Begins left (values u) → Begins (values base) (values s)
+  pub back : Begins (values base) (values s) → Begins left (values u)
+
 -- what the fields of a walk say of each other: what is left stands between the two places and ends
 -- in a part, and the flags tell whether a root or a `.` that counts stands first
 pub record WalkFields (source : List ℕ) (front back : ℕ) (has_lead lead_left : Bool) : Type 0 where
@@ -98,6 +107,10 @@ pub IsWalk-prop : (source : List ℕ) (front back : ℕ) (has_lead lead_left : B
     → IsProp (IsWalk source front back has_lead lead_left)
 unfolding IsWalk
 IsWalk-prop source front back has_lead lead_left = hlevel props
+
+-- one more than the byte at i, or 0 where a piece ends there: at a slash, or at the end
+abbrev pub piece_rank : List ℕ → ℕ → ℕ
+piece_rank s i = let b = slice_index_or s i slash in if b == slash then 0 else 1 + b
 
 -- the byte between what is kept and what is added, where there is one
 abbrev pub gap_bytes : Option ℕ → List ℕ

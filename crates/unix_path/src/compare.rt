@@ -5,11 +5,13 @@ ghost use Rattle.std.specs.Ordering.{is_eq};
 ghost use Rattle.std.specs.List.{position_or_len};
 ghost use Rattle.unix_path.specs.Parts.{slash, dot, is_slash, values};
 ghost use Rattle.unix_path.specs.Cursor.{cursor_values};
-ghost use Rattle.unix_path.specs.Fronts.{inner_values, piece_rank};
+ghost use Rattle.unix_path.specs.Fronts.{inner_values};
 ghost use Rattle.unix_path.specs.Order.{values_cmp};
+ghost use Rattle.unix_path.specs.Steps.{piece_rank};
 ghost use Rattle.unix_path.specs.Views.{value_of};
 
-use crate::cursor::{Component, Components, idle_len};
+use crate::cursor::{Component, Components};
+use crate::path::walk_behind;
 use std::cmp::Ordering;
 use unix_bytes::search::{common_len, past_last};
 
@@ -18,13 +20,6 @@ fn compare_parts<'a>(a: Components<'a>, b: Components<'a>) -> Ordering
     ensures { result ≡ values_cmp (cursor_values a.entry) (cursor_values b.entry) }
 {
     Iterator::cmp(a, b)
-}
-
-// The walk over what follows a slash, where neither a root nor a leading `.` counts.
-fn inner_walk(bytes: &[u8]) -> Components<'_>
-    ensures { cursor_values result ≡ inner_values bytes.now }
-{
-    Components::new(&bytes[idle_len(bytes)..])
 }
 
 // Whether a name stands at `at` that doesn't begin with a dot.
@@ -67,7 +62,7 @@ fn compare_behind(a: &[u8], b: &[u8], dir: usize, front: usize) -> Ordering
             return first.cmp(&second);
         }
     }
-    compare_parts(inner_walk(&a[dir..]), inner_walk(&b[dir..]))
+    compare_parts(walk_behind(a, dir), walk_behind(b, dir))
 }
 
 // By their values: what both begin with, up to its last slash, is skipped.

@@ -167,7 +167,8 @@ impl<'a> DoubleEndedIterator for Components<'a> {
 
     ghost next_back_gives = { GivesLast value_of cursor_values cursor_rest cursor_source };
 
-    #[inline]
+    // Always inlined, as `next` is.
+    #[inline(always)]
     fn next_back(&mut self) -> Option<Component<'a>> {
         self.take_last()
     }

@@ -1,14 +1,15 @@
 //! Whether the parts of one path begin or end those of another, and what follows them.
 ghost use Rattle.std.specs.Prelude.{◌≡◌, ◌↔◌, IsTrue, IsOk, IfOk, IsSome, IfSome, Some, codes};
 ghost use Rattle.std.specs.Fmt.{padded};
-ghost use Rattle.unix_path.specs.Cursor.{cursor_rest, cursor_source};
+ghost use Rattle.unix_path.specs.Cursor.{cursor_rest, cursor_source, cursor_values};
 ghost use Rattle.unix_path.specs.Prefixes.{Begins, Ends, stripped_of};
 ghost use Rattle.unix_path.specs.Parts.{values};
+ghost use Rattle.unix_path.specs.Steps.{StripsOn};
 ghost use Rattle.unix_path.specs.Views.{value_of};
 ghost use Rattle.unix_path.specs.Places.{LiesIn};
 
 use crate::cursor::{Component, Components};
-use crate::path::Path;
+use crate::path::{Path, walk_behind};
 use std::error::Error;
 use std::fmt;
 
@@ -40,6 +41,20 @@ fn same_value(a: Component<'_>, b: Component<'_>) -> bool
     a == b
 }
 
+// The walks over the path and over the base, past what both begin with up to its last slash.
+#[inline]
+fn past_common<'a, 'b>(path: &'a [u8], base: &'b [u8]) -> (Components<'a>, Components<'b>)
+    ensures strips { StripsOn path.now base.now (cursor_rest result.0) (cursor_values result.1) }
+    ensures place { LiesIn (cursor_source result.0) path.entry }
+{
+    let dir = Path::from_bytes(path).common_dir(Path::from_bytes(base));
+    if dir == 0 {
+        (Components::new(path), Components::new(base))
+    } else {
+        (walk_behind(path, dir), walk_behind(base, dir))
+    }
+}
+
 // The walk over what follows `base`, where its parts begin the path's.
 #[inline]
 fn after_prefix<'a>(path: &'a [u8], base: &[u8]) -> Option<Components<'a>>
@@ -47,8 +62,8 @@ fn after_prefix<'a>(path: &'a [u8], base: &[u8]) -> Option<Components<'a>>
     ensures value { IfSome result (λ left. cursor_rest left ≡ stripped_of path.now base.now) }
     ensures place { IfSome result (λ left. LiesIn (cursor_source left) path.entry) }
 {
-    let mut left = Components::new(path);
-    for part in Components::new(base) {
+    let (mut left, wanted) = past_common(path, base);
+    for part in wanted {
         let Some(own) = left.next() else {
             return None;
         };

@@ -1,6 +1,7 @@
-use Rattle.std.proofs.Common.{◌∙◌, ap, refl}
-use Rattle.unix_path.specs.Cursor.{cursor_rest, cursor_source}
-use Rattle.unix_path.proofs.PrefixLemmas.{strips_start, strips_step, strips_end}
+use Rattle.std.proofs.Common.{refl, subst, sym}
+use Rattle.unix_path.specs.Cursor.{cursor_rest, cursor_source, cursor_values}
+use Rattle.unix_path.specs.Steps.{StripsOn}
+use Rattle.unix_path.proofs.PrefixLemmas.{strips_step, strips_end}
 use Rattle.unix_path.proofs.SourceLemmas.{LiesIn-itself, LiesIn-trans}
 use Rattle.unix_path.proofs.path.prefix.after_prefix.Goals as goal
 
@@ -8,10 +9,10 @@ pub loop-part-init : goal.loop-part-init
 loop-part-init c = record {
   can = tt;
   finite = tt;
-  so_far = strips_start c.new-left.ensures.rest
-      (ap cursor_rest c.into_iter-part-iterator.ensures.into_iter_gives
-      ∙ c.new-part-items.ensures.rest);
-  place = LiesIn-itself (cursor_source c.new-left.result);
+  so_far = subst (λ w. StripsOn c.args.path.now c.args.base.now
+      (cursor_rest c.past_common.result.0) (cursor_values w))
+      (sym c.into_iter-part-iterator.ensures.into_iter_gives) c.past_common.ensures.strips;
+  place = LiesIn-itself (cursor_source c.past_common.result.0);
 }
 
 pub loop-part-preserved : goal.loop-part-preserved

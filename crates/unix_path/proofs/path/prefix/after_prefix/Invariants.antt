@@ -1,6 +1,6 @@
 use Rattle.unix_path.specs.Cursor.{cursor_rest, cursor_source, cursor_values}
 use Rattle.unix_path.specs.Places.{LiesIn}
-use Rattle.unix_path.proofs.PrefixLemmas.{StripsOn}
+use Rattle.unix_path.specs.Steps.{StripsOn}
 use Rattle.unix_path.proofs.path.prefix.after_prefix.Given as goal
 
 abbrev pub invariant-loop-part : goal.invariant-loop-part
