@@ -19,7 +19,7 @@ use std::iter::FusedIterator;
 /// As Rust's `Components`.
 // Only this file knows the fields, and it may change them: `cursor_rest` of specs/Cursor says what
 // they stand for, contracts and proofs elsewhere speak of a walk through that word alone, and only
-// the proofs of this file's functions unfold it.
+// `OffsetLemmas` and the proofs of this file's functions unfold it.
 #[must_use]
 #[derive(Clone, Copy)]
 pub struct Components<'a> {
