@@ -2,7 +2,7 @@
 use Rattle.std.proofs.Common.{◌≡◌, ℕ, zero, suc, ◌+◌, ◌-◌, ◌≤◌, ◌<◌, true, false, ◌&&◌, ◌||◌}
 use Rattle.std.proofs.Common.{eqb, ltb, List, [], ◌∷◌, length, get_or, take, drop, refl, sym, ap}
 use Rattle.std.proofs.Common.{ap₂, subst, ◌∙◌, ⊎_elim, arith, eqb-true, lt-ltb, ltb-true, drop-drop}
-use Rattle.std.proofs.Common.{length-drop, get_or-drop}
+use Rattle.std.proofs.Common.{length-drop, get_or-drop, map}
 use Rattle.std.specs.List.{position_or_len}
 use Rattle.std.specs.Str.{bytes_eq}
 use Rattle.std.proofs.lemmas.Bool.{or_cases, or_parts, and_parts, both_ways}
@@ -11,11 +11,13 @@ use Rattle.std.proofs.lemmas.Slice.Eq.{bytes_eq-Decides}
 use Rattle.unix_path.proofs.LastLemmas.{last_counts}
 use Rattle.unix_path.proofs.CaseLemmas.{by_test, take-suc_cons}
 use Rattle.unix_path.proofs.IdleLemmas.{busy_parts, first_piece_empty, idle_from, is_idle-drop}
+use Rattle.unix_path.proofs.IdleLemmas.{parts-busy}
 use Rattle.unix_path.proofs.PartLemmas.{parts-name}
 use Rattle.unix_path.proofs.PieceLemmas.{first_piece, position_or_len-other, position_or_len-slash}
 use Rattle.unix_path.proofs.StepLemmas.{takes_first}
 use Rattle.unix_path.specs.Parts.{Value, CurDir, ParentDir, Normal, cur_dir, parent_dir}
-use Rattle.unix_path.specs.Parts.{inner_parts, is_slash, parts}
+use Rattle.unix_path.specs.Parts.{inner_parts, is_slash, parts, values}
+use Rattle.unix_path.proofs.PlaceLemmas.{values-inner_parts}
 use Rattle.unix_path.specs.Steps.{EndsInPart, IsLastStart, StepsFirst, TakesFirst}
 use Rattle.unix_path.specs.Steps.{begins_with_parent, ends_with_parent, first_value, is_idle}
 
@@ -108,19 +110,24 @@ first_value-name s l busy e =
     rw (is.1, no_parent) refl
 
 -- the first part of a string, with what doesn't count after it
-pub steps_first : (t : List ℕ) (e d : ℕ) (v : Value) → EndsInPart t → e ≤ length t
+pub steps_first : (t : List ℕ) (e d : ℕ) (v : Value) → e ≤ length t
     → parts t ≡ record { start = 0; end = e; value = v } ∷ inner_parts e (drop e t)
     → d ≤ length (drop e t)
     → inner_parts e (drop e t) ≡ inner_parts (e + d) (drop d (drop e t))
     → (d < length (drop e t) → is_idle (drop e t) d ≡ false)
     → StepsFirst t (e + d) v
-steps_first t e d v ends l first m idle busy =
+unfolding values
+steps_first t e d v l first m idle busy =
     let is = drop-drop d e t in
-    let next : 0 < length (drop d (drop e t)) → is_idle (drop d (drop e t)) 0 ≡ false =
+    let u = drop d (drop e t) in
+    let next : 0 < length u → is_idle u 0 ≡ false =
     λ some. is_idle-drop (drop e t) d ∙ busy (omega (arith, length-drop d (drop e t))) in
     record {
       in_range = omega (arith, length-drop e t);
-      takes = subst (λ u. TakesFirst t u v) is (takes_first t e d v ends l m first idle next);
+      value = ap (map (λ p. p.value)) first
+          ∙ ap (λ vs. v ∷ vs) (ap (map (λ p. p.value)) idle ∙ values-inner_parts (e + d) u
+          ∙ ap (map (λ p. p.value)) (sym (parts-busy u next)) ∙ ap values is);
+      takes = λ ends. subst (λ u. TakesFirst t u v) is (takes_first t e d v ends l m first idle next);
       busy = subst (λ u. 0 < length u → is_idle u 0 ≡ false) is next;
     }
 

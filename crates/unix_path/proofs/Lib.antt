@@ -35,3 +35,4 @@ pub mod FrontLemmas
 pub mod CommonDirLemmas
 pub mod BehindLemmas
 pub mod DifferLemmas
+pub mod ComparedLemmas

@@ -81,7 +81,7 @@ unfolding values
 is_idle-same s t e = is_idle-first s ∙ ap (λ ps. lead_first (map (λ p. p.value) ps)) e
     ∙ sym (is_idle-first t)
 
-not_idle : (u : List ℕ) → (0 < length u → is_idle u 0 ≡ false) → false ≡ is_idle u 0
+pub not_idle : (u : List ℕ) → (0 < length u → is_idle u 0 ≡ false) → false ≡ is_idle u 0
 not_idle [] h = refl
 not_idle (b ∷ u) h = sym (h (omega arith))
 
@@ -92,14 +92,14 @@ pub record StepsForward (s : List ℕ) (a b n : ℕ) (v : Value) : Type 0 where
   pub lead : false ≡ is_idle (slice_range s (a + n) b) 0
 
 pub steps_forward : (s : List ℕ) (a b n : ℕ) (v : Value) → a ≤ b → b ≤ length s
-    → StepsFirst (slice_range s a b) n v → StepsForward s a b n v
-steps_forward s a b n v in_order in_range step =
+    → EndsInPart (slice_range s a b) → StepsFirst (slice_range s a b) n v → StepsForward s a b n v
+steps_forward s a b n v in_order in_range ends step =
     let size = length-range s a b in_range in
     let l = step.in_range in
     let is = range-drop s a b n (omega arith) in
     record {
       in_order = omega arith;
-      takes = subst (λ u. TakesFirst (slice_range s a b) u v) is step.takes;
+      takes = subst (λ u. TakesFirst (slice_range s a b) u v) is (step.takes ends);
       lead = not_idle (slice_range s (a + n) b)
           (subst (λ u. 0 < length u → is_idle u 0 ≡ false) is step.busy);
     }

@@ -65,7 +65,8 @@ pub record TakesFirst (s t : List ℕ) (v : Value) : Type 0 where
 -- the first part of s, whose value is v, takes n bytes with what doesn't count after it
 pub record StepsFirst (s : List ℕ) (n : ℕ) (v : Value) : Type 0 where
   pub in_range : n ≤ length s
-  pub takes : TakesFirst s (drop n s) v
+  pub value : values s ≡ v ∷ values (drop n s)
+  pub takes : EndsInPart s → TakesFirst s (drop n s) v
   pub busy : 0 < length (drop n s) → is_idle (drop n s) 0 ≡ false
 
 -- v is the last value of s, and t is what is left before it

@@ -4,22 +4,47 @@ ghost use Rattle.std.specs.Prelude.{slice_index, IsTrue, ◌↔◌};
 ghost use Rattle.std.specs.Ordering.{is_eq};
 ghost use Rattle.std.specs.List.{position_or_len};
 ghost use Rattle.unix_path.specs.Parts.{slash, dot, is_slash, values};
-ghost use Rattle.unix_path.specs.Cursor.{cursor_values};
 ghost use Rattle.unix_path.specs.Fronts.{inner_values};
 ghost use Rattle.unix_path.specs.Order.{values_cmp};
-ghost use Rattle.unix_path.specs.Steps.{piece_rank};
+ghost use Rattle.unix_path.specs.Steps.{is_idle, piece_rank};
 ghost use Rattle.unix_path.specs.Views.{value_of};
 
-use crate::cursor::{Component, Components};
-use crate::path::walk_behind;
+use crate::cursor::{Component, Components, first_step, has_lead, idle_len};
 use std::cmp::Ordering;
 use unix_bytes::search::{common_len, past_last};
 
-// By the first values that differ; a walk with none left comes first.
-fn compare_parts<'a>(a: Components<'a>, b: Components<'a>) -> Ordering
-    ensures { result ≡ values_cmp (cursor_values a.entry) (cursor_values b.entry) }
+// By the first values that differ; where one side has no more, it comes first. Each flag tells
+// whether its side begins with a root or with a `.` that counts. A walk would look for the end of
+// the last part at once, which mostly needn't be known.
+fn compare_parts(a: &[u8], a_lead: bool, b: &[u8], b_lead: bool) -> Ordering
+    requires first_lead { a_lead ≡ is_idle a.now 0 }
+    requires second_lead { b_lead ≡ is_idle b.now 0 }
+    ensures { result ≡ values_cmp (values a.now) (values b.now) }
 {
-    Iterator::cmp(a, b)
+    let (mut x, mut y) = (a, b);
+    let (mut x_lead, mut y_lead) = (a_lead, b_lead);
+    while !x.is_empty() && !y.is_empty() {
+        let (x_len, first) = first_step(x, x_lead);
+        let (y_len, second) = first_step(y, y_lead);
+        let order = first.cmp(&second);
+        if order.is_ne() {
+            return order;
+        }
+        x = &x[x_len..];
+        y = &y[y_len..];
+        (x_lead, y_lead) = (false, false);
+    }
+    // One of them is empty.
+    x.len().cmp(&y.len())
+}
+
+// What follows the bytes that don't count, of a string that stands behind a slash.
+#[inline]
+fn past_idle(bytes: &[u8]) -> &[u8]
+    ensures values { values result.now ≡ inner_values bytes.now }
+    ensures lead { is_idle result.now 0 ≡ false }
+{
+    &bytes[idle_len(bytes)..]
 }
 
 // Whether a name stands at `at` that doesn't begin with a dot.
@@ -62,7 +87,7 @@ fn compare_behind(a: &[u8], b: &[u8], dir: usize, front: usize) -> Ordering
             return first.cmp(&second);
         }
     }
-    compare_parts(walk_behind(a, dir), walk_behind(b, dir))
+    compare_parts(past_idle(&a[dir..]), false, past_idle(&b[dir..]), false)
 }
 
 // By their values: what both begin with, up to its last slash, is skipped.
@@ -75,7 +100,7 @@ pub(crate) fn compare(a: &[u8], b: &[u8]) -> Ordering
     }
     let dir = past_last(&a[..front], b'/');
     if dir == 0 {
-        compare_parts(Components::new(a), Components::new(b))
+        compare_parts(a, has_lead(a), b, has_lead(b))
     } else {
         compare_behind(a, b, dir, front)
     }

@@ -38,7 +38,7 @@ pub(crate) fn idle_len(path: &[u8]) -> usize
 
 // Whether the path begins with a root or with a `.` that counts.
 #[inline]
-pub(super) fn has_lead(path: &[u8]) -> bool
+pub(crate) fn has_lead(path: &[u8]) -> bool
     ensures { result ≡ is_idle path.now 0 }
 {
     !path.is_empty() && is_idle(path, 0)
@@ -49,7 +49,6 @@ pub(super) fn has_lead(path: &[u8]) -> bool
 fn lead_step(path: &[u8]) -> (usize, Component<'_>)
     requires some { 0 < length path.now }
     requires lead { is_idle path.now 0 ≡ true }
-    requires ends { EndsInPart path.now }
     ensures { StepsFirst path.now result.0 (value_of result.1) }
 {
     let len = 1 + idle_len(&path[1..]);
@@ -73,7 +72,6 @@ fn begins_with_parent(path: &[u8]) -> bool
 #[inline(always)]
 fn parent_step(path: &[u8]) -> (usize, Component<'_>)
     requires parent { begins_with_parent path.now ≡ true }
-    requires ends { EndsInPart path.now }
     ensures { StepsFirst path.now result.0 (value_of result.1) }
 {
     (2 + idle_len(&path[2..]), Component::ParentDir)
@@ -85,7 +83,6 @@ fn name_step(path: &[u8]) -> (usize, Component<'_>)
     requires some { 0 < length path.now }
     requires busy { is_idle path.now 0 ≡ false }
     requires no_parent { begins_with_parent path.now ≡ false }
-    requires ends { EndsInPart path.now }
     ensures { StepsFirst path.now result.0 (value_of result.1) }
 {
     let end = first_place(path, b'/');
@@ -97,10 +94,9 @@ fn name_step(path: &[u8]) -> (usize, Component<'_>)
 
 // The first part, and how many bytes it takes with what doesn't count after it.
 #[inline(always)]
-pub(super) fn first_step(path: &[u8], has_lead: bool) -> (usize, Component<'_>)
+pub(crate) fn first_step(path: &[u8], has_lead: bool) -> (usize, Component<'_>)
     requires some { 0 < length path.now }
     requires lead { has_lead ≡ is_idle path.now 0 }
-    requires ends { EndsInPart path.now }
     ensures { StepsFirst path.now result.0 (value_of result.1) }
 {
     if has_lead {

@@ -1,17 +1,64 @@
-use Rattle.std.proofs.Common.{◌≡◌, subst}
-use Rattle.std.proofs.lemmas.Iterator.Search.{cmp_from_yields_List}
-use Rattle.std.proofs.lemmas.Iterator.{YieldsList}
-use Rattle.unix_path.specs.Cursor.{cursor_values}
+use Rattle.std.proofs.Common.{length, eqb-true, ◌∙◌, sym, refl, arith}
 use Rattle.unix_path.specs.Views.{value_of}
-use Rattle.unix_path.specs.Order.{value_cmp}
-use Rattle.unix_path.proofs.CursorLemmas.{GivesFirstPart, Components-yields}
+use Rattle.unix_path.proofs.ComparedLemmas.{compared_end, compared_first, compared_rest}
+use Rattle.unix_path.proofs.ComparedLemmas.{lead_behind, steps_smaller}
 use Rattle.unix_path.proofs.ComponentLemmas.{cmp-values}
+use Rattle.unix_path.proofs.compare.compare_parts.Goals.{else-loop-x_len-test}
+use Rattle.unix_path.proofs.compare.compare_parts.Goals.{then-loop-x_len-test+else-not-is_empty}
 use Rattle.unix_path.proofs.compare.compare_parts.Goals as goal
+
+pub loop-x_len-init : goal.loop-x_len-init
+loop-x_len-init c = record {
+  same = refl;
+  first_lead = c.requires.first_lead;
+  second_lead = c.requires.second_lead;
+}
+
+pub first_step-x_len-requires-clause-lead : goal.first_step-x_len-requires-clause-lead
+first_step-x_len-requires-clause-lead c = c.loop-x_len.invariant.first_lead
+
+pub first_step-y_len-requires-clause-lead : goal.first_step-y_len-requires-clause-lead
+first_step-y_len-requires-clause-lead c = c.loop-x_len.invariant.second_lead
+
+pub returns-then-is_ne : goal.returns-then-is_ne
+returns-then-is_ne c =
+    let first = c.first_step-x_len in
+    let second = c.first_step-y_len in
+    compared_first c.loop-x_len.x.now c.loop-x_len.y.now first.result.0 second.result.0
+    (value_of first.result.1) (value_of second.result.1) c.cmp-order.result first.ensures
+    second.ensures (c.cmp-order.ensures ∙ cmp-values first.result.1 second.result.1)
+    (sym c.is_ne.ensures ∙ c.if-is_ne.true)
+    ∙ c.loop-x_len.invariant.same
+
+pub loop-x_len-smaller : goal.loop-x_len-smaller
+loop-x_len-smaller c =
+    let first = c.first_step-x_len in
+    steps_smaller c.loop-x_len.x.now first.result.0 (value_of first.result.1) first.ensures
+
+pub loop-x_len-preserved : goal.loop-x_len-preserved
+loop-x_len-preserved c =
+    let first = c.first_step-x_len in
+    let second = c.first_step-y_len in
+    record {
+      same = compared_rest c.loop-x_len.x.now c.loop-x_len.y.now first.result.0 second.result.0
+          (value_of first.result.1) (value_of second.result.1) c.cmp-order.result first.ensures
+          second.ensures (c.cmp-order.ensures ∙ cmp-values first.result.1 second.result.1)
+          (sym c.is_ne.ensures ∙ c.if-is_ne.false)
+          ∙ c.loop-x_len.invariant.same;
+      first_lead = lead_behind c.loop-x_len.x.now first.result.0 _ first.ensures;
+      second_lead = lead_behind c.loop-x_len.y.now second.result.0 _ second.ensures;
+    }
 
 pub returns : goal.returns
 returns c =
-    cmp_from_yields_List (λ x y. y ≡ x) c.args.b value_cmp c.cmp.result c.cmp.ensures.ran
-    (Components-yields c.args.a)
-    (λ it e. subst (λ w. YieldsList GivesFirstPart value_of it (cursor_values w)) e
-    (Components-yields it))
-    cmp-values
+    let x = c.loop-x_len.x.now in
+    let y = c.loop-x_len.y.now in
+    c.cmp.ensures
+    ∙ compared_end x y
+    (λ some. elim c.loop-x_len-test.branch [
+      | then-loop-x_len-test+else-not-is_empty w ↦
+          eqb-true _ 0 (sym w.is_empty-in-loop-x_len.ensures ∙ w.if-not-is_empty.false)
+      | else-loop-x_len-test w ↦ absurd (omega (arith, some,
+          eqb-true (length x) 0 (sym c.is_empty.ensures ∙ w.loop-x_len-test.false)))
+    ])
+    ∙ c.loop-x_len.invariant.same

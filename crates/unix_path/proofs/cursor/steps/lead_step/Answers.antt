@@ -8,13 +8,13 @@ pub returns-then-path-eq47 : goal.returns-then-path-eq47
 returns-then-path-eq47 c =
     let path = c.args.path.now in
     let idle = simp take_rest at c.idle_len-len.ensures in
-    steps_first path 1 c.idle_len-len.result _ c.requires.ends (omega arith)
+    steps_first path 1 c.idle_len-len.result _ (omega arith)
     (parts-root path c.if-path-eq47.true) idle.in_range (idle.idle 1) idle.busy
 
 pub returns-else-path-eq47 : goal.returns-else-path-eq47
 returns-else-path-eq47 c =
     let path = c.args.path.now in
     let idle = simp take_rest at c.idle_len-len.ensures in
-    steps_first path 1 c.idle_len-len.result _ c.requires.ends (omega arith)
+    steps_first path 1 c.idle_len-len.result _ (omega arith)
     (parts-dot_first path c.requires.some c.requires.lead (ne_eqb _ _ c.if-path-eq47.false))
     idle.in_range (idle.idle 1) idle.busy

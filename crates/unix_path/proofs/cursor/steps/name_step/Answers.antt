@@ -13,7 +13,7 @@ returns c =
     let idle = simp take_rest at c.idle_len.ensures in
     let n = position_or_len is_slash path in
     let name = first_value-name path c.requires.some c.requires.busy c.requires.no_parent in
-    steps_first path end.result c.idle_len.result _ c.requires.ends end.ensures.in_range
+    steps_first path end.result c.idle_len.result _ end.ensures.in_range
     (parts-name path c.requires.some (busy_no_slash path c.requires.busy)
     ∙ ap (λ v. record { start = 0; end = n; value = v } ∷ inner_parts n (drop n path)) name
     ∙ ap (λ n. record { start = 0; end = n; value = Normal (take n path) }

@@ -26,7 +26,7 @@ invariant_of-self c =
     let s = c.args.self.now in
     let step = rw c.as_path.ensures.bytes at c.first_step-len.ensures in
     let next = steps_forward s.source.now s.front s.back c.first_step-len.result.0 _
-    s.fields.in_order s.fields.in_range step in
+    s.fields.in_order s.fields.in_range s.fields.ends step in
     record {
       fields = record {
         in_order = next.in_order;
@@ -43,7 +43,7 @@ returns-clause-steps c =
     let s = c.args.self.now in
     let step = rw c.as_path.ensures.bytes at c.first_step-len.ensures in
     let next = steps_forward s.source.now s.front s.back c.first_step-len.result.0 _
-    s.fields.in_order s.fields.in_range step in
+    s.fields.in_order s.fields.in_range s.fields.ends step in
     record {
       item_is = next.takes.value;
       rest_is = sym next.takes.rest;
@@ -56,7 +56,7 @@ returns-clause-goes c =
     let s = c.args.self.now in
     let step = rw c.as_path.ensures.bytes at c.first_step-len.ensures in
     let next = steps_forward s.source.now s.front s.back c.first_step-len.result.0 _
-    s.fields.in_order s.fields.in_range step in
+    s.fields.in_order s.fields.in_range s.fields.ends step in
     record {
       on = λ _. (tt, tt, omega (arith, ap length next.takes.value));
       keeps = tt;
