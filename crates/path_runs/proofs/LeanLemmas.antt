@@ -69,7 +69,7 @@ lean_row (q ∷ qs) = by_test (counts q) (λ e. rw e (lean_after q qs))
     (λ e. rw e (lean_first q qs (lean_row qs)))
 
 -- a string is its pieces, joined
-join_with_byte-pieces : (s : List ℕ) → join_with_byte slash (slice_split is_slash s) ≡ s
+pub join_with_byte-pieces : (s : List ℕ) → join_with_byte slash (slice_split is_slash s) ≡ s
 join_with_byte-pieces s = join_with_byte-slice_split 47 s
 
 lean_rooted : (t : List ℕ) → Leaner (spelling_of (values (slash ∷ t))) (slash ∷ t)

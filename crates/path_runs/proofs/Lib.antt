@@ -8,6 +8,7 @@ pub mod LeadLemmas
 pub mod PieceValueLemmas
 pub mod SpellLemmas
 pub mod LeanLemmas
+pub mod OwnSpellingLemmas
 pub mod ReadBackLemmas
 pub mod PlainLemmas
 pub mod JoinAllLemmas

@@ -1,15 +1,13 @@
-use Rattle.std.proofs.Common.{◌≡◌, ◌∙◌, List, ℕ, [], Option, ap, map, rules, tests}
+use Rattle.std.proofs.Common.{◌≡◌, ◌∙◌, List, ℕ, [], Option, ap, ap₂, map, rules, tests}
 use Rattle.std.specs.Iterator.{Drains}
 use Rattle.std.proofs.iter.Yields.{gives_Drains}
 use Rattle.std.proofs.lemmas.Iterator.{YieldsList, YieldsList-from_map_by}
 use Rattle.std.proofs.lemmas.Iterator.Consumers.{YieldsList-at}
-use Rattle.std.proofs.lemmas.Result.{IfOk-weaker}
-use Rattle.unix_path.specs.Buffers.{path_bytes}
+use Rattle.unix_path.specs.Cursor.{cursor_values}
 use Rattle.unix_path.specs.Joins.{join_all_of}
-use Rattle.unix_path.specs.Parts.{value_bytes, values}
+use Rattle.unix_path.specs.Parts.{value_bytes}
 use Rattle.unix_path.specs.declared.path.Path.{Path}
 use Rattle.unix_path.proofs.CursorLemmas.{Components-yields}
-use Rattle.path_runs.specs.Spelling.{spelling_of}
 use Rattle.path_runs.proofs.JoinAllLemmas.{join_all_of-values}
 use Rattle.path_runs.proofs.canonical.canonical.Goals as goal
 
@@ -20,16 +18,15 @@ map-drained {S} {A} {B} {steps} v xs ys {s} drains yields =
 
 pub returns : goal.returns
 returns c =
-    let s = c.args.path.bytes.now in
     let bytes_of : Path → List ℕ = λ path. path.bytes.now in
-    IfOk-weaker c.from_iter.result _ (λ p. path_bytes p ≡ spelling_of (values s))
-    (λ p joins. joins.bytes
-    ∙ ap (join_all_of [])
-    (map-drained bytes_of joins.paths _ joins.drained
+    let joins = c.in_ok-extend.ensures.ok in
+    let values_left = cursor_values c.components-parts.result in
+    joins.bytes
+    ∙ ap₂ join_all_of c.in_ok-spelled.ensures.bytes
+    (map-drained bytes_of joins.paths (map value_bytes values_left) joins.drained
     (YieldsList-from_map_by _ bytes_of value_bytes
-    (YieldsList-at c.map.ensures.source (Components-yields c.components.result))
+    (YieldsList-at c.map.ensures.source (Components-yields c.components-parts.result))
     c.map.ensures.closure
     (λ x r q k. search (rules, tests)))
-    ∙ ap (map value_bytes) c.components.ensures.values)
-    ∙ search join_all_of-values)
-    c.from_iter.ensures.ok
+    ∙ ap (map value_bytes) c.components-parts.ensures.values)
+    ∙ join_all_of-values c.args.path.bytes.now
