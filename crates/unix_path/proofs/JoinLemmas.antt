@@ -1,6 +1,7 @@
 -- Joins, case by case.
 use Rattle.std.proofs.Common.{◌≡◌, ℕ, suc, ◌-◌, true, false, eqb, List, [], ◌∷◌, ◌++◌, length}
 use Rattle.std.proofs.Common.{get_or, refl, sym, ap, ◌∙◌, arith, append_assoc}
+use Rattle.std.proofs.Common.{append-nil}
 use Rattle.unix_path.specs.Parts.{is_rooted}
 use Rattle.unix_path.specs.Joins.{is_open, join_of}
 
@@ -25,3 +26,5 @@ pub join_of_closed : (a b : List ℕ) → is_rooted b ≡ false → is_open a �
     → join_of a b ≡ (a ++ 47 ∷ []) ++ b
 unfolding join_of
 join_of_closed a b r o = rw (r, o) (sym (append_assoc a (47 ∷ []) b))
+
+pub ruleset rootless_joins = (join_of_open, join_of_closed, append-nil)

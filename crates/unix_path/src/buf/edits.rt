@@ -1,13 +1,13 @@
 //! Edits of owned paths, and edited copies of paths.
 ghost use Rattle.std.specs.Prelude.{◌≡◌, ◌+◌, ◌^◌, ◌<◌, ◌≤◌, [], ◌++◌, length, take};
-ghost use Rattle.std.specs.Prelude.{None, IfOk, OnOk, OnErr, IsOk, is_some};
+ghost use Rattle.std.specs.Prelude.{false, None, IfOk, OnOk, OnErr, IsOk, is_some};
 ghost use Rattle.unix_bytes.specs.Owned.{owned_bytes, owned_room, owned_capacity};
 ghost use Rattle.unix_path.specs.Buffers.{path_bytes, capacity};
 ghost use Rattle.unix_path.specs.Edits.{popped_of, with_name_of, dot_before, with_extension_of};
 ghost use Rattle.unix_path.specs.Joins.{is_open, join_of};
 ghost use Rattle.unix_path.specs.Parents.{parent_of};
 ghost use Rattle.unix_path.specs.Names.{file_name_of};
-ghost use Rattle.unix_path.specs.Parts.{values};
+ghost use Rattle.unix_path.specs.Parts.{is_rooted, values};
 ghost use Rattle.unix_path.specs.Steps.{gap_bytes};
 
 use crate::buf::PathBuf;
@@ -23,6 +23,20 @@ fn is_open(path: &[u8]) -> bool
     path.is_empty() || path[path.len() - 1] == b'/'
 }
 
+// The byte that a join puts between its base and a path without a root, if any.
+#[inline]
+#[tactic(auto, using(crate::proofs::JoinLemmas::rootless_joins))]
+fn join_gap(base: &[u8], path: Path<'_>) -> Option<u8>
+    requires { is_rooted path.bytes.now ≡ false }
+    ensures { join_of base.now path.entry.bytes.now
+        ≡ (base.now ++ gap_bytes result) ++ path.entry.bytes.now }
+{
+    if is_open(base) {
+        return None;
+    }
+    Some(b'/')
+}
+
 // How many bytes of its base a join keeps, and the byte that it puts between them and the path,
 // if any.
 #[inline]
@@ -35,10 +49,7 @@ fn join_cut(base: &[u8], path: Path<'_>) -> (usize, Option<u8>)
     if path.has_root() {
         return (0, None);
     }
-    if is_open(base) {
-        return (base.len(), None);
-    }
-    (base.len(), Some(b'/'))
+    (base.len(), join_gap(base, path))
 }
 
 // The dot before an extension, unless that is empty.
@@ -97,7 +108,8 @@ impl PathBuf {
     ///
     /// `/foo/bar` after a push of `./baz` is `/foo/bar/./baz`, and `foo` after a push of the empty
     /// path is `foo/`.
-    #[tactic(auto, using(crate::proofs::GapLemmas::beginnings))]
+    #[inline(always)]
+    #[tactic(auto, using(crate::proofs::JoinLemmas::join_of_rooted))]
     pub fn push(&mut self, path: Path<'_>) -> Result<(), AllocError>
         ensures ok { OnOk result
             (path_bytes self.new ≡ join_of (path_bytes self.old) path.entry.bytes.now) }
@@ -106,8 +118,23 @@ impl PathBuf {
             ≤ capacity self.old → IsOk result }
         ensures capacity { capacity self.old ≤ capacity self.new }
     {
-        let (keep, gap) = join_cut(self.as_path().bytes, path);
-        self.replace_end(keep, gap, path.bytes)
+        if path.has_root() {
+            return self.replace(path);
+        }
+        let gap = join_gap(self.as_path().bytes, path);
+        self.inner.reserve(total_len(0, gap, path.bytes))?;
+        push_end(&mut self.inner, gap, path.bytes)
+    }
+
+    // Replaces all bytes. It stands apart, so that what `push` inlines stays small.
+    #[inline(never)]
+    fn replace(&mut self, path: Path<'_>) -> Result<(), AllocError>
+        ensures ok { OnOk result (path_bytes self.new ≡ path.entry.bytes.now) }
+        ensures err { OnErr result (path_bytes self.new ≡ path_bytes self.old) }
+        ensures succeeds { length path.entry.bytes.now ≤ capacity self.old → IsOk result }
+        ensures capacity { capacity self.old ≤ capacity self.new }
+    {
+        self.replace_end(0, None, path.bytes)
     }
 
     /// Cuts the path to its parent and returns true. Returns false where there is none, and then
@@ -178,11 +205,29 @@ impl PathBuf {
             Some(end) => end,
             None => return Ok(false),
         };
-        self.replace_end(end, dot_before(extension.bytes), extension.bytes)?;
+        let gap = dot_before(extension.bytes);
+        self.reserve_end(end, gap, extension.bytes)?;
+        self.replace_end(end, gap, extension.bytes)?;
         Ok(true)
     }
 
+    // Makes room for the byte and the slice behind the first `keep` bytes, and for no more where it
+    // grows.
+    #[inline]
+    fn reserve_end(&mut self, keep: usize, gap: Option<u8>, more: &[u8]) -> Result<(), AllocError>
+        requires { keep ≤ length (path_bytes self.old) }
+        ensures bytes { path_bytes self.new ≡ path_bytes self.old }
+        ensures succeeds { length ((take keep (path_bytes self.old) ++ gap_bytes gap) ++ more.now)
+            ≤ capacity self.old → IsOk result }
+        ensures capacity { capacity self.old ≤ capacity self.new }
+    {
+        let len = self.inner.as_unix_str().len();
+        let growth = total_len(keep, gap, more).saturating_sub(len);
+        self.inner.reserve_exact(growth)
+    }
+
     // Cuts to `keep` bytes, and puts the byte and the slice behind them. The growth comes first.
+    #[inline]
     fn replace_end(&mut self, keep: usize, gap: Option<u8>, more: &[u8]) -> Result<(), AllocError>
         requires { keep ≤ length (path_bytes self.old) }
         ensures ok { OnOk result
