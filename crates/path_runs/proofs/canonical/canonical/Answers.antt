@@ -1,4 +1,4 @@
-use Rattle.std.proofs.Common.{◌≡◌, ◌∙◌, List, ℕ, [], Option, ap, ap₂, map, rules, tests}
+use Rattle.std.proofs.Common.{◌≡◌, ◌∙◌, List, ℕ, Option, ap, ap₂, map, rules, tests}
 use Rattle.std.specs.Iterator.{Drains}
 use Rattle.std.proofs.iter.Yields.{gives_Drains}
 use Rattle.std.proofs.lemmas.Iterator.{YieldsList, YieldsList-from_map_by}
