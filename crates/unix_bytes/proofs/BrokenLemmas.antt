@@ -21,7 +21,7 @@ broken_none [] e =
     ∙ ap length longest_front_of-nil
 broken_none (b ∷ bs) e = absurd (omega arith)
 
-broken_len-none : (s : List ℕ) → longest_len is_sequence s ≡ 0
+pub broken_len-none : (s : List ℕ) → longest_len is_sequence s ≡ 0
     → broken_len s ≡ length (longest_front_of s)
 broken_len-none s z = cond-false _ _ _ (is_sequence-longest_front_of s z)
 

@@ -1,6 +1,6 @@
 -- ASCII, sixteen bytes at a time.
 use Rattle.std.proofs.Common.{◌≡◌, ℕ, zero, suc, ◌+◌, ◌-◌, ◌<◌, ◌≤◌, List, [], ◌∷◌, length, take}
-use Rattle.std.proofs.Common.{drop, Bool, true, not, slice_index, add-zero, get_or-drop}
+use Rattle.std.proofs.Common.{drop, Bool, true, false, not, slice_index, add-zero, get_or-drop}
 use Rattle.std.proofs.Common.{get_or, sym, ap, ◌∙◌, subst, arith}
 use Rattle.std.proofs.Common.{length-drop, length-take-le}
 use Rattle.std.specs.List.{prefix_len}
@@ -8,7 +8,7 @@ use Rattle.std.specs.Str.{IsAscii}
 use Rattle.std.specs.Int.Count.{count_trailing_zeros}
 use Rattle.std.proofs.lemmas.Bool.Decides.{nat_tests}
 use Rattle.std.proofs.lemmas.List.{take-take, take_all, get_or-take}
-use Rattle.std.proofs.lemmas.List.Sums.{prefix_len-le-length, prefix_len_passes}
+use Rattle.std.proofs.lemmas.List.Sums.{prefix_len-le-length, prefix_len_passes, prefix_len_stops}
 use Rattle.std.proofs.lemmas.List.Folds.{length-prefix_len}
 use Rattle.std.proofs.lemmas.Str.Ascii.{IsAscii-from_all}
 use Rattle.std.proofs.lemmas.Str.{IsAscii-append, IsAscii-take}
@@ -22,6 +22,9 @@ is_narrow b = not (is_wide b)
 
 narrow : (b : ℕ) → is_narrow b ≡ true → b < 128
 narrow b h = grind (arith, nat_tests)
+
+not_narrow : (b : ℕ) → is_narrow b ≡ false → 0x80 ≤ b
+not_narrow b h = grind (arith, nat_tests)
 
 -- the first bytes that pass are ASCII
 narrow_prefix : (xs : List ℕ) → IsAscii (take (prefix_len is_narrow xs) xs)
@@ -102,6 +105,29 @@ ascii_prefix s i m l before mask some =
     let few : count_trailing_zeros 64 m ≤ 16 = omega (arith, prefix_len-le-length is_narrow xs) in (
       omega arith,
       more_ascii s i _ few before (subst (λ n. IsAscii (take n xs)) (sym e) (narrow_prefix xs)),
+    )
+
+pub none_is_ascii : (s : List ℕ) → IsAscii (take 0 s)
+none_is_ascii s = IsAscii-nil
+
+-- where some byte of the window is wide, the lowest bit is that of the first
+pub first_wide : (s : List ℕ) (m : ℕ) → 16 ≤ length s → m ≡ wide_mask (take 16 (drop 0 s))
+    → (m ≡ 0 → ⊥) → (count_trailing_zeros 64 m ≤ 16)
+    × (count_trailing_zeros 64 m < 16 → 0x80 ≤ slice_index s (count_trailing_zeros 64 m))
+first_wide s m l mask some =
+    let xs = take 16 s in
+    let w : length xs ≡ 16 = length-take-le 16 s l in
+    let nonzero : 0 < wide_mask xs = omega arith in
+    let n = prefix_len is_narrow xs in
+    let e : count_trailing_zeros 64 m ≡ n =
+    ap (count_trailing_zeros 64) mask ∙ trailing_mask_l is_wide 64 xs (omega arith) nonzero in (
+      omega (arith, prefix_len-le-length is_narrow xs),
+      λ few.
+          let within : n < 16 = omega arith in
+          let stop = prefix_len_stops is_narrow xs 0 (omega arith) in
+          let wide : 0x80 ≤ get_or xs n 0 = not_narrow (get_or xs n 0) stop in
+          subst (λ k. 0x80 ≤ get_or s k 0) (sym e)
+          (subst (λ b. 0x80 ≤ b) (get_or-take 16 s n 0 within) wide),
     )
 
 narrow_some : (s : List ℕ) → 0 < length s → slice_index s 0 < 128

@@ -7,5 +7,6 @@ pub mod lossy;
 pub mod search;
 #[cfg(test)]
 mod tests;
+mod shown;
 mod utf8;
 mod windows;

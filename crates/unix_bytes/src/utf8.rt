@@ -7,9 +7,9 @@ ghost use Rattle.unix_bytes.specs.Steps.{longest_len, broken_len};
 use crate::utf8::scans::{scan, scan_text};
 use std::str;
 
-mod ascii;
+pub(crate) mod ascii;
 mod classes;
-mod fronts;
+pub(crate) mod fronts;
 mod scans;
 
 // The bytes as text, where they are text.

@@ -17,7 +17,7 @@ pub(crate) fn wide_lanes(source: &[u8], at: usize) -> u64
 
 // The 64 bytes from the place on are ASCII.
 #[inline(always)]
-fn is_ascii_block(source: &[u8], at: usize) -> bool
+pub(crate) fn is_ascii_block(source: &[u8], at: usize) -> bool
     requires { at + 64 ≤ length source.now }
     ensures { IsTrue result → IsAscii (take 64 (drop at source.now)) }
 {
@@ -115,6 +115,21 @@ pub(crate) fn ascii_prefix_len(source: &[u8]) -> usize
     } else {
         short_ascii_len(source)
     }
+}
+
+// How many of the first 16 bytes are ASCII, up to the first that is not.
+#[inline(always)]
+pub(crate) fn ascii_in_sixteen(source: &[u8]) -> usize
+    requires { 16 ≤ length source.now }
+    ensures bound { result ≤ 16 }
+    ensures ascii { IsAscii (take result source.now) }
+    ensures wide { result < 16 → 0x80 ≤ slice_index source.now result }
+{
+    let wide = wide_lanes(source, 0);
+    if wide == 0 {
+        return 16;
+    }
+    wide.trailing_zeros() as usize
 }
 
 // How many of the first four bytes are ASCII, up to the first that is not.

@@ -1,0 +1,90 @@
+-- Lossy text that is written piece by piece.
+use Rattle.std.proofs.Common.{◌≡◌, ℕ, ◌+◌, ◌<◌, ◌≤◌, List, [], ◌∷◌, ◌++◌, length, take, drop, refl}
+use Rattle.std.proofs.Common.{sym, ap, ◌∙◌, subst, arith, append_assoc, take-append-drop}
+use Rattle.std.proofs.Common.{length-take-le, ⊎_elim, slice_index, slice_set}
+use Rattle.std.proofs.lemmas.List.{drop-drop, take-take, take_more_set}
+use Rattle.std.proofs.Math.Seq.{take-append-add}
+use Rattle.unix_bytes.specs.Utf8.{is_sequence, IsText}
+use Rattle.unix_bytes.specs.Lossy.{lossy_of, replacement}
+use Rattle.unix_bytes.specs.Steps.{longest_len, longest_front_of, broken_len}
+use Rattle.unix_bytes.specs.Shown.{Shows}
+use Rattle.unix_bytes.proofs.SequenceLemmas.{sequence_len}
+use Rattle.unix_bytes.proofs.LongestLemmas.{longest_len-longest}
+use Rattle.unix_bytes.proofs.TextLemmas.{IsText-append, IsText-sequence}
+use Rattle.unix_bytes.proofs.LossyLemmas.{lossy_of-append, lossy_of-none}
+use Rattle.unix_bytes.proofs.BrokenLemmas.{broken_none, none_in_front, broken_len-none}
+use Rattle.unix_bytes.proofs.BrokenLemmas.{broken_len_within}
+use Rattle.unix_bytes.proofs.StretchLemmas.{ascii_is_text, sequence_within}
+use Rattle.unix_bytes.proofs.LaneLemmas.{none_is_ascii, one_more_ascii}
+use Rattle.unix_bytes.proofs.LawLemmas.{replacement_is_sequence}
+
+pub shows_none : (s before : List ℕ) → Shows s before 0 before
+shows_none s before = record { lossy = refl; text = λ h. h }
+
+-- text is written as it is
+pub shows_text : (s before : List ℕ) (n : ℕ) (after : List ℕ) → IsText (take n s)
+    → after ≡ before ++ take n s → Shows s before n after
+shows_text s before n after h e = record {
+  lossy =
+      ap (λ t. t ++ lossy_of (drop n s)) e ∙ append_assoc before (take n s) (lossy_of (drop n s))
+      ∙ ap (λ t. before ++ t) (sym (lossy_of-append (take n s) (drop n s) h)
+      ∙ ap lossy_of (take-append-drop n s));
+  text = λ k. subst IsText (sym e) (IsText-append before (take n s) k h);
+}
+
+-- U+FFFD is written for a broken front
+pub shows_broken : (s before : List ℕ) (n : ℕ) (after : List ℕ) → (0 < n) × (n ≡ broken_len s)
+    → after ≡ before ++ replacement → Shows s before n after
+shows_broken [] before n after (some, is) e = absurd (omega (arith, broken_none [] refl))
+shows_broken (b ∷ bs) before n after (some, is) e =
+    let s = b ∷ bs in
+    let none : longest_len is_sequence s ≡ 0 = none_in_front s (omega arith) in
+    let len : length (longest_front_of s) ≡ n = sym (is ∙ broken_len-none s none) in
+    record {
+      lossy =
+          ap (λ t. t ++ lossy_of (drop n s)) e
+          ∙ append_assoc before replacement (lossy_of (drop n s))
+          ∙ ap (λ t. before ++ t) (ap (λ k. replacement ++ lossy_of (drop k s)) (sym len)
+          ∙ sym (lossy_of-none b bs none));
+      text = λ k. subst IsText (sym e)
+      (IsText-append before replacement k (IsText-sequence replacement replacement_is_sequence));
+    }
+
+-- a piece and then another
+pub shows_more : (s t before middle after : List ℕ) (n k : ℕ) → t ≡ drop n s
+    → Shows s before n middle → Shows t middle k after → Shows s before (n + k) after
+shows_more s t before middle after n k e p q = record {
+  lossy =
+      ap (λ u. after ++ lossy_of u) (sym (drop-drop k n s) ∙ ap (drop k) (sym e)) ∙ q.lossy
+      ∙ ap (λ u. middle ++ lossy_of u) e ∙ p.lossy;
+  text = λ h. q.text (p.text h);
+}
+
+-- of the bytes that were written at a place, the first
+pub fewer_placed : (out old s : List ℕ) (at n k : ℕ) → k ≤ n → at ≤ length old
+    → take (at + n) out ≡ take at old ++ take n s → take (at + k) out ≡ take at old ++ take k s
+fewer_placed out old s at n k few within e =
+    let long : length (take at old) ≡ at = length-take-le at old within in
+    sym (take-take (at + k) (at + n) out (omega arith)) ∙ ap (take (at + k)) e
+    ∙ ap (λ j. take (j + k) (take at old ++ take n s)) (sym long)
+    ∙ take-append-add (take at old) (take n s) k
+    ∙ ap (λ t. take at old ++ t) (take-take k n s few)
+
+-- one byte that was written at a place
+pub one_placed : (out s : List ℕ) (at : ℕ) → 0 < length s → at < length out
+    → take (at + 1) (slice_set out at (slice_index s 0)) ≡ take at out ++ take 1 s
+one_placed out [] at some within = absurd (omega arith)
+one_placed out (b ∷ bs) at some within = take_more_set out at b within
+
+pub first_is_text : (s : List ℕ) → slice_index s 0 < 0x80 → IsText (take 1 s)
+first_is_text s h = ascii_is_text (take 1 s) (one_more_ascii s 0 (none_is_ascii s) h)
+
+-- a sequence has four bytes at most
+pub sequence_is_short : (s : List ℕ) → longest_len is_sequence s ≤ 4
+sequence_is_short s =
+    ⊎_elim (λ z. omega arith)
+    (λ h. let few = sequence_len (take (longest_len is_sequence s) s) h in
+    omega (arith, length-take-le (longest_len is_sequence s) s (sequence_within s)))
+    (longest_len-longest is_sequence s).passes
+
+pub ruleset front_bounds = (sequence_is_short, broken_len_within)

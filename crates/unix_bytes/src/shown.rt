@@ -1,0 +1,144 @@
+//! Lossy text that is written into a buffer, a front at a time.
+ghost use Rattle.std.specs.Prelude.{◌≡◌, ℕ, ◌+◌, ◌≤◌, ◌<◌, ◌++◌, [], length, take, slice_index};
+ghost use Rattle.unix_bytes.specs.Shown.{Shows};
+
+use crate::utf8::ascii::{ascii_in_sixteen, is_ascii_block};
+use crate::utf8::fronts::{may_begin, wide_front};
+use std::simd::Simd;
+
+// Writes the bytes at the place.
+#[inline(always)]
+fn place(out: &mut [u8], at: usize, bytes: &[u8])
+    requires { at + length bytes.now ≤ length out.old }
+    ensures len { length out.new ≡ length out.old }
+    ensures placed { take (at + length bytes.now) out.new ≡ take at out.old ++ bytes.now }
+{
+    out[at..at + bytes.len()].copy_from_slice(bytes);
+}
+
+// Writes the first N bytes of the source at the place: one load and one store.
+#[inline(always)]
+fn place_first<const N: usize>(out: &mut [u8], at: usize, source: &[u8])
+    requires room { at + N ≤ length out.old }
+    requires some { N ≤ length source.now }
+    ensures len { length out.new ≡ length out.old }
+    ensures placed { (k : ℕ) → k ≤ N
+        → take (at + k) out.new ≡ take at out.old ++ take k source.now }
+{
+    Simd::<u8, N>::from_slice(source).copy_to_slice(&mut out[at..]);
+}
+
+// Writes the lossy text of the first front, which begins with no ASCII: how many bytes were read,
+// and where what was written ends.
+#[inline(always)]
+#[tactic(auto, using(crate::proofs::ShownLemmas::front_bounds))]
+fn show_front(source: &[u8], out: &mut [u8], at: usize) -> (usize, usize)
+    requires some { 4 ≤ length source.now }
+    requires wide { 0x80 ≤ slice_index source.now 0 }
+    requires room { at + 4 ≤ length out.old }
+    ensures len { length out.new ≡ length out.old }
+    ensures read { result.0 ≤ length source.now }
+    ensures end { result.1 ≤ length out.new }
+    ensures shown { Shows source.now (take at out.old) result.0 (take result.1 out.new) }
+{
+    match wide_front(source) {
+        Ok(size) => {
+            place_first::<4>(out, at, source);
+            (size, at + size)
+        }
+        Err(size) => {
+            place(out, at, "\u{FFFD}".as_bytes());
+            (size, at + 3)
+        }
+    }
+}
+
+// The bytes begin with 64 that are ASCII, or maybe with a sequence of two or more, so they are read
+// faster as one stretch of text. As many of the first 16 are ASCII as is said.
+#[inline(always)]
+fn is_stretch(source: &[u8], ascii: usize) -> bool
+    requires { 16 ≤ length source.now }
+{
+    match ascii {
+        0 => may_begin(source),
+        16 => 64 <= source.len() && is_ascii_block(source, 0),
+        _ => false,
+    }
+}
+
+// Writes the lossy text of up to 16 bytes of ASCII, and of the front behind them: how many bytes
+// were read, and where what was written ends. Reads nothing of a stretch.
+#[inline(always)]
+fn show_wide(source: &[u8], out: &mut [u8], at: usize) -> (usize, usize)
+    requires some { 20 ≤ length source.now }
+    requires room { at + 20 ≤ length out.old }
+    ensures len { length out.new ≡ length out.old }
+    ensures read { result.0 ≤ length source.now }
+    ensures end { result.1 ≤ length out.new }
+    ensures shown { Shows source.now (take at out.old) result.0 (take result.1 out.new) }
+{
+    let ascii = ascii_in_sixteen(source);
+    if is_stretch(source, ascii) {
+        return (0, at);
+    }
+    place_first::<16>(out, at, source);
+    if ascii == 16 {
+        return (16, at + 16);
+    }
+    let (size, end) = show_front(&source[ascii..], out, at + ascii);
+    (ascii + size, end)
+}
+
+// Writes the lossy text of the first byte, where it is ASCII, or else of the first front: how many
+// bytes were read, and where what was written ends.
+#[inline(never)]
+#[tactic(auto, using(crate::proofs::ShownLemmas::front_bounds))]
+fn show_narrow(source: &[u8], out: &mut [u8], at: usize) -> (usize, usize)
+    requires some { 0 < length source.now }
+    requires room { at + 4 ≤ length out.old }
+    ensures len { length out.new ≡ length out.old }
+    ensures read { result.0 ≤ length source.now }
+    ensures end { result.1 ≤ length out.new }
+    ensures shown { Shows source.now (take at out.old) result.0 (take result.1 out.new) }
+{
+    if source[0] < 0x80 {
+        out[at] = source[0];
+        return (1, at + 1);
+    }
+    match wide_front(source) {
+        Ok(size) => {
+            place(out, at, &source[..size]);
+            (size, at + size)
+        }
+        Err(size) => {
+            place(out, at, "\u{FFFD}".as_bytes());
+            (size, at + 3)
+        }
+    }
+}
+
+// Writes the lossy text of the first bytes: how many bytes were read, and how many written. Reads
+// on until fewer than 20 bytes can be written, or a stretch begins.
+pub(crate) fn show_first(source: &[u8], out: &mut [u8]) -> (usize, usize)
+    ensures len { length out.new ≡ length out.old }
+    ensures read { result.0 ≤ length source.now }
+    ensures end { result.1 ≤ length out.new }
+    ensures shown { Shows source.now [] result.0 (take result.1 out.new) }
+{
+    let mut read = 0;
+    let mut end = 0;
+    while read < source.len() && 20 <= out.len() - end {
+        let rest = &source[read..];
+        let (size, next) = if rest.len() < 20 {
+            show_narrow(rest, out, end)
+        } else {
+            show_wide(rest, out, end)
+        };
+        read += size;
+        end = next;
+        if size == 0 {
+            return (read, end);
+        }
+    }
+    (read, end)
+}
