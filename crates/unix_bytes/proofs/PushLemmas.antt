@@ -1,9 +1,9 @@
 -- The lossy text, built of what is split off at the beginning.
 use Rattle.std.proofs.Common.{◌≡◌, ℕ, ◌+◌, ◌<◌, ◌≤◌, List, [], ◌∷◌, ◌++◌, length, take, drop, refl}
 use Rattle.std.proofs.Common.{sym, ap, ◌∙◌, subst, arith, eqb, false, append_assoc, length-drop}
-use Rattle.std.proofs.Common.{length-take-le}
+use Rattle.std.proofs.Common.{length-take-le, eq-eqb, if◌then◌else◌}
 use Rattle.std.specs.Str.{IsUtf8}
-use Rattle.std.proofs.lemmas.Bool.{ne_eqb, cond-false, true≢false}
+use Rattle.std.proofs.lemmas.Bool.{ne_eqb, cond-true, cond-false, true≢false}
 use Rattle.std.proofs.lemmas.List.{nil_from_length, take_all, drop_all, take-take}
 use Rattle.std.proofs.Math.Seq.{take-append-add}
 use Rattle.std.proofs.lemmas.Str.{IsUtf8-append, IsUtf8-nil}
@@ -15,6 +15,7 @@ use Rattle.unix_bytes.proofs.TextLemmas.{IsUtf8-sequence, IsUtf8-from_IsText}
 use Rattle.unix_bytes.proofs.TextLemmas.{IsText-nil}
 use Rattle.unix_bytes.proofs.BrokenLemmas.{broken_len_within}
 use Rattle.unix_bytes.proofs.StretchLemmas.{text_within}
+use Rattle.unix_bytes.proofs.LossyLemmas.{is_text-from_IsText, is_text-not}
 use Rattle.unix_bytes.proofs.ChunkLemmas.{chunk_some, shown-chunks_of}
 use Rattle.unix_bytes.proofs.SplitLemmas.{first_split}
 use Rattle.unix_bytes.proofs.LawLemmas.{replacement_is_sequence, lossy_is_text}
@@ -101,6 +102,28 @@ lossy_of-split (x ∷ xs) valid broken rest v b r =
     let c : Chunk = record { valid = valid; broken = broken } in
     ap (λ t. shown_chunk c ++ t) (sym (shown-chunks_of rest))
     ∙ first_shown s c (chunks_of rest) (first_split s valid broken rest (omega arith) v b r)
+
+-- how bytes are shown of which nothing is broken
+pub split_padded : (pad : List ℕ → List ℕ) (s valid broken rest : List ℕ)
+    → valid ≡ take (longest_len is_text s) s
+    → broken ≡ take (broken_len (drop (longest_len is_text s) s)) (drop (longest_len is_text s) s)
+    → rest ≡ drop (broken_len (drop (longest_len is_text s) s)) (drop (longest_len is_text s) s)
+    → length broken ≡ 0 → pad valid ≡ (if is_text s then pad s else lossy_of s)
+split_padded pad s valid broken rest v b r none =
+    let (all, text) = split_only s valid broken rest v b r none in
+    ap pad all ∙ sym (cond-true _ _ _ (is_text-from_IsText s text))
+
+-- how bytes are shown of which some are broken
+pub split_styled : (pad : List ℕ → List ℕ) (s valid broken rest : List ℕ)
+    → valid ≡ take (longest_len is_text s) s
+    → broken ≡ take (broken_len (drop (longest_len is_text s) s)) (drop (longest_len is_text s) s)
+    → rest ≡ drop (broken_len (drop (longest_len is_text s) s)) (drop (longest_len is_text s) s)
+    → eqb (length broken) 0 ≡ false → lossy_of s ≡ (if is_text s then pad s else lossy_of s)
+split_styled pad s valid broken rest v b r some =
+    let no_text = is_text-not s (λ t.
+    let none = split_unbroken s valid broken rest v b r t in
+    true≢false (sym (eq-eqb (length broken) 0 none) ∙ some)) in
+    sym (cond-false _ _ _ no_text)
 
 -- what was pushed before, what is split off, and what follows it
 pub pushed_more : (items s valid broken rest : List ℕ)

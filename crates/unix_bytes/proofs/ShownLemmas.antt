@@ -1,8 +1,9 @@
 -- Lossy text that is written piece by piece.
 use Rattle.std.proofs.Common.{◌≡◌, ℕ, ◌+◌, ◌<◌, ◌≤◌, List, [], ◌∷◌, ◌++◌, length, take, drop, refl}
-use Rattle.std.proofs.Common.{sym, ap, ◌∙◌, subst, arith, append_assoc, take-append-drop}
+use Rattle.std.proofs.Common.{sym, ap, ◌∙◌, subst, arith, append_assoc, append-nil, take-append-drop}
 use Rattle.std.proofs.Common.{length-take-le, ⊎_elim, slice_index, slice_set}
-use Rattle.std.proofs.lemmas.List.{drop-drop, take-take, take_more_set}
+use Rattle.std.proofs.lemmas.List.{drop-drop, take-take, take_more_set, nil_from_length}
+use Rattle.std.specs.Str.{IsUtf8}
 use Rattle.std.proofs.Math.Seq.{take-append-add}
 use Rattle.unix_bytes.specs.Utf8.{is_sequence, IsText}
 use Rattle.unix_bytes.specs.Lossy.{lossy_of, replacement}
@@ -10,8 +11,9 @@ use Rattle.unix_bytes.specs.Steps.{longest_len, longest_front_of, broken_len}
 use Rattle.unix_bytes.specs.Shown.{Shows}
 use Rattle.unix_bytes.proofs.SequenceLemmas.{sequence_len}
 use Rattle.unix_bytes.proofs.LongestLemmas.{longest_len-longest}
-use Rattle.unix_bytes.proofs.TextLemmas.{IsText-append, IsText-sequence}
-use Rattle.unix_bytes.proofs.LossyLemmas.{lossy_of-append, lossy_of-none}
+use Rattle.unix_bytes.proofs.TextLemmas.{IsText-append, IsText-sequence, IsText-nil}
+use Rattle.unix_bytes.proofs.TextLemmas.{IsUtf8-from_IsText}
+use Rattle.unix_bytes.proofs.LossyLemmas.{lossy_of-append, lossy_of-none, lossy_of-nil}
 use Rattle.unix_bytes.proofs.BrokenLemmas.{broken_none, none_in_front, broken_len-none}
 use Rattle.unix_bytes.proofs.BrokenLemmas.{broken_len_within}
 use Rattle.unix_bytes.proofs.StretchLemmas.{ascii_is_text, sequence_within}
@@ -59,6 +61,25 @@ shows_more s t before middle after n k e p q = record {
       ∙ ap (λ u. middle ++ lossy_of u) e ∙ p.lossy;
   text = λ h. q.text (p.text h);
 }
+
+-- a piece, and the lossy text of what was not read, behind other bytes
+pub pushed_piece : (items piece s t : List ℕ) (n : ℕ) → t ≡ drop n s → Shows s [] n piece
+    → (items ++ piece) ++ lossy_of t ≡ items ++ lossy_of s
+pushed_piece items piece s t n e p =
+    append_assoc items piece (lossy_of t)
+    ∙ ap (λ u. items ++ u) (ap (λ u. piece ++ lossy_of u) e ∙ p.lossy)
+
+-- a piece that was made alone is text
+pub piece_is_utf8 : (s piece : List ℕ) (n : ℕ) → Shows s [] n piece → IsUtf8 piece
+piece_is_utf8 s piece n p = IsUtf8-from_IsText piece (p.text IsText-nil)
+
+-- where nothing is left, a piece is the whole
+pub last_piece : (s piece t : List ℕ) (n : ℕ) → t ≡ drop n s → length t ≡ 0 → Shows s [] n piece
+    → piece ≡ lossy_of s
+last_piece s piece t n e z p =
+    sym (append-nil piece)
+    ∙ ap (λ u. piece ++ u) (sym (ap lossy_of (sym e ∙ nil_from_length t z) ∙ lossy_of-nil))
+    ∙ p.lossy
 
 -- of the bytes that were written at a place, the first
 pub fewer_placed : (out old s : List ℕ) (at n k : ℕ) → k ≤ n → at ≤ length old

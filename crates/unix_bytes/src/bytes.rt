@@ -7,6 +7,7 @@ ghost use Rattle.unix_bytes.specs.Lossy.{lossy_of};
 ghost use Rattle.unix_bytes.specs.Chunks.{replacement_for};
 
 use crate::lossy::Utf8Lossy;
+use crate::shown::show_first;
 use crate::utf8::{split_text, to_text};
 use std::alloc::{AllocError, Global};
 use std::fmt;
@@ -123,7 +124,7 @@ impl<'a> UnixStr<'a> {
         if broken.is_empty() {
             return Ok(LossyText::Borrowed(text));
         }
-        let lossy = lossy_string(alloc, self.bytes.len(), text, broken, rest)?;
+        let lossy = lossy_string(alloc, text, broken, rest)?;
         Ok(LossyText::Owned(lossy))
     }
 }
@@ -153,11 +154,13 @@ impl fmt::Debug for UnixStr<'_> {
     }
 }
 
-// The text, U+FFFD unless nothing is broken, and the lossy text of the rest. Its capacity is at
-// first as many bytes as is said.
+// How many bytes of lossy text are made at once.
+const PIECE: usize = 256;
+
+// The text, U+FFFD unless nothing is broken, and the lossy text of the rest. The capacity is known
+// at once where the lossy text of the rest is one piece.
 fn lossy_string(
     alloc: Global,
-    capacity: usize,
     text: &str,
     broken: &[u8],
     rest: &[u8],
@@ -165,16 +168,21 @@ fn lossy_string(
     ensures { let whole = (text.now ++ replacement_for broken.now) ++ lossy_of rest.now in
         IfOk result (λ lossy. string_bytes lossy ≡ whole) }
 {
-    let mut bytes = Vec::with_capacity(alloc, capacity)?;
+    let mut piece = [0; PIECE];
+    let (read, written) = show_first(rest, &mut piece);
+    let left = &rest[read..];
+    let capacity = text.len().saturating_add(left.len());
+    let mut bytes = Vec::with_capacity(alloc, capacity.saturating_add(written + 3))?;
     bytes.extend_from_slice(text.as_bytes())?;
     push_broken(&mut bytes, broken)?;
-    push_lossy(&mut bytes, rest)?;
+    bytes.extend_from_slice(&piece[..written])?;
+    push_lossy(&mut bytes, left, &mut piece)?;
     // All that was pushed is text.
     Ok(unsafe { String::from_utf8_unchecked(bytes) })
 }
 
-// Adds the lossy text of the source.
-fn push_lossy(bytes: &mut Vec<u8>, source: &[u8]) -> Result<(), AllocError>
+// Adds the lossy text of the source, piece by piece.
+fn push_lossy(bytes: &mut Vec<u8>, source: &[u8], piece: &mut [u8]) -> Result<(), AllocError>
     ensures { OnOk result (bytes.new.items ≡ bytes.old.items ++ lossy_of source.now) }
 {
     let mut left = source;
@@ -182,7 +190,9 @@ fn push_lossy(bytes: &mut Vec<u8>, source: &[u8]) -> Result<(), AllocError>
         let (text, broken, rest) = split_text(left);
         push_prefix(bytes, left, text.len())?;
         push_broken(bytes, broken)?;
-        left = rest;
+        let (read, written) = show_first(rest, piece);
+        bytes.extend_from_slice(&piece[..written])?;
+        left = &rest[read..];
     }
     Ok(())
 }

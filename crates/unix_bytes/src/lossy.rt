@@ -2,6 +2,7 @@
 ghost use Rattle.std.specs.Prelude.{◌≡◌, ◌↔◌, ◌<◌, ◌≤◌, ℕ, ◌∷◌, List, [], Some, IsTrue, length};
 ghost use Rattle.std.specs.Prelude.{drop, take, ◌^◌, if◌then◌else◌};
 ghost use Rattle.std.specs.Fmt.{WritesOnOk, WritesStyledOnOk, padded};
+ghost use Rattle.std.specs.Str.{IsUtf8};
 ghost use Rattle.std.specs.Iterator.{YieldsFirstBy, item_count};
 ghost use Rattle.std.specs.List.{flat_map};
 ghost use Rattle.std.specs.Iterator.Runs.{EveryRun, ItemsMapTo};
@@ -9,9 +10,11 @@ ghost use Rattle.unix_bytes.specs.Utf8.{IsSequence, BeginsSequence};
 ghost use Rattle.unix_bytes.specs.Lossy.{is_text, lossy_of};
 ghost use Rattle.unix_bytes.specs.Chunks.{chunks_of, chunk_of, chunks_left, shown_chunk};
 
+use crate::shown::show_first;
 use crate::utf8::split_text;
 use std::fmt;
 use std::iter::FusedIterator;
+use std::str;
 
 /// How many bytes the well-formed sequences have that begin with `b`: 1 to 4, or 0 where no
 /// sequence begins with it.
@@ -135,19 +138,37 @@ fn write_chunk<W: fmt::Write>(chunk: Utf8LossyChunk<'_>, f: &mut fmt::Formatter<
     f.write_str("\u{FFFD}")
 }
 
-// Writes the chunks that are still to come: the text of each, and U+FFFD for its broken front.
-#[inline]
-fn write_chunks<W: fmt::Write>(
-    chunks: Utf8LossyChunksIter<'_>,
-    f: &mut fmt::Formatter<W>,
-) -> fmt::Result
-    ensures writes { WritesOnOk W.write_str_gives f.old result
-        (flat_map shown_chunk (chunks_left chunks.entry)) f.new }
-    ensures styled { WritesStyledOnOk W.write_str_gives f.old result
-        (flat_map shown_chunk (chunks_left chunks.entry)) f.new }
+// How many bytes of lossy text are written at once.
+const PIECE: usize = 256;
+
+// Writes bytes that are text.
+#[inline(always)]
+fn write_text<W: fmt::Write>(bytes: &[u8], f: &mut fmt::Formatter<W>) -> fmt::Result
+    requires { IsUtf8 bytes.now }
+    ensures writes { WritesOnOk W.write_str_gives f.old result bytes.now f.new }
+    ensures styled { WritesStyledOnOk W.write_str_gives f.old result bytes.now f.new }
 {
-    for chunk in chunks {
-        write_chunk(chunk, f)?;
+    f.write_str(unsafe { str::from_utf8_unchecked(bytes) })
+}
+
+// Writes the lossy text of the source, piece by piece.
+#[inline]
+fn write_lossy<W: fmt::Write>(source: &[u8], f: &mut fmt::Formatter<W>) -> fmt::Result
+    ensures writes { WritesOnOk W.write_str_gives f.old result (lossy_of source.now) f.new }
+    ensures styled { WritesStyledOnOk W.write_str_gives f.old result (lossy_of source.now) f.new }
+{
+    let mut piece = [0; PIECE];
+    let mut left = source;
+    while !left.is_empty() {
+        let (read, written) = show_first(left, &mut piece);
+        write_text(&piece[..written], f)?;
+        let behind = &left[read..];
+        if behind.is_empty() {
+            return Ok(());
+        }
+        let (valid, broken, rest) = split_text(behind);
+        write_chunk(Utf8LossyChunk { valid, broken }, f)?;
+        left = rest;
     }
     Ok(())
 }
@@ -164,15 +185,15 @@ impl fmt::Display for Utf8Lossy<'_> {
         Some (if is_text s then padded spec s else lossy_of s) };
 
     fn fmt<W: fmt::Write>(&self, f: &mut fmt::Formatter<W>) -> fmt::Result {
-        let mut chunks = self.chunks();
-        let Some(first) = chunks.next() else {
-            return f.pad("");
-        };
-        if first.broken.is_empty() {
-            return f.pad(first.valid);
+        let (valid, broken, rest) = split_text(self.bytes);
+        if broken.is_empty() {
+            return f.pad(valid);
         }
-        write_chunk(first, f)?;
-        write_chunks(chunks, f)
+        if valid.len() < PIECE / 4 {
+            return write_lossy(self.bytes, f);
+        }
+        write_chunk(Utf8LossyChunk { valid, broken }, f)?;
+        write_lossy(rest, f)
     }
 }
 

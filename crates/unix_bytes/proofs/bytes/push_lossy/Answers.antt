@@ -1,8 +1,9 @@
-use Rattle.std.proofs.Common.{◌++◌, sym, ap, ◌∙◌, append-nil}
+use Rattle.std.proofs.Common.{◌++◌, length, sym, ap, ◌∙◌, append-nil, arith, length-drop}
 use Rattle.std.proofs.lemmas.Bool.{eqb-true}
-use Rattle.std.proofs.lemmas.List.{nil_from_length}
+use Rattle.std.proofs.lemmas.List.{nil_from_length, take_rest}
 use Rattle.unix_bytes.specs.Lossy.{lossy_of}
 use Rattle.unix_bytes.proofs.LossyLemmas.{lossy_of-nil}
+use Rattle.unix_bytes.proofs.ShownLemmas.{pushed_piece}
 use Rattle.unix_bytes.proofs.PushLemmas.{pushed_more, split_smaller}
 use Rattle.unix_bytes.proofs.bytes.push_lossy.Goals as goal
 
@@ -10,14 +11,25 @@ pub loop-left-smaller : goal.loop-left-smaller
 loop-left-smaller c =
     let split = c.split_text.ensures in
     let some = sym c.is_empty.ensures ∙ c.loop-left-test.true in
-    split_smaller c.loop-left.left.now _ _ _ some split.valid split.broken split.rest
+    let rest = c.split_text.result.2.now in
+    let read = c.show_first-read.result.0 in
+    let less = split_smaller c.loop-left.left.now _ _ _ some split.valid split.broken split.rest in
+    omega (arith, less, ap length (take_rest rest read), length-drop read rest)
 
 pub loop-left-preserved : goal.loop-left-preserved
 loop-left-preserved c =
     let split = c.split_text.ensures in
+    let rest = c.split_text.result.2.now in
     let more = pushed_more c.loop-left.bytes.items c.loop-left.left.now _ _ _ split.valid
     split.broken split.rest in
-    rw (c.in_ok-push_broken.ensures, c.in_ok-push_prefix.ensures) (more ∙ c.loop-left.invariant)
+    let piece = pushed_piece _ _ rest _ _ (take_rest rest c.show_first-read.result.0)
+    c.show_first-read.ensures.shown in
+    rw (
+      c.in_ok-extend_from_slice.ensures.items,
+      c.in_ok-push_broken.ensures,
+      c.in_ok-push_prefix.ensures,
+    )
+    (piece ∙ more ∙ c.loop-left.invariant)
 
 pub returns : goal.returns
 returns c =

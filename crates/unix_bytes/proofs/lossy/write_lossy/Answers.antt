@@ -1,0 +1,96 @@
+use Rattle.std.proofs.Common.{◌≡◌, ◌++◌, true, refl, sym, ap, ◌∙◌, append_assoc, append-nil, arith}
+use Rattle.std.proofs.Common.{ℕ, List, length, length-drop, take}
+use Rattle.std.proofs.lemmas.Bool.{eqb-true}
+use Rattle.std.proofs.lemmas.List.{nil_from_length, take_rest}
+use Rattle.unix_bytes.specs.Lossy.{lossy_of}
+use Rattle.unix_bytes.specs.Chunks.{replacement_for}
+use Rattle.unix_bytes.proofs.LossyLemmas.{lossy_of-nil}
+use Rattle.unix_bytes.proofs.PushLemmas.{split_smaller, lossy_of-split}
+use Rattle.unix_bytes.proofs.ShownLemmas.{pushed_piece, piece_is_utf8, last_piece}
+use Rattle.unix_bytes.proofs.WriteLemmas.{written_append, written_same, styled_append, styled_same}
+use Rattle.unix_bytes.proofs.lossy.write_lossy.Goals as goal
+
+pub write_text-requires : goal.write_text-requires
+write_text-requires g c = piece_is_utf8 _ _ _ c.show_first-read.ensures.shown
+
+pub loop-left-smaller : goal.loop-left-smaller
+loop-left-smaller g c =
+    let split = c.split_text.ensures in
+    let left = c.loop-left.left.now in
+    let read = c.show_first-read.result.0 in
+    let some = sym c.is_empty-in-loop-left.ensures ∙ c.if-is_empty.false in
+    let less = split_smaller _ _ _ _ some split.valid split.broken split.rest in
+    omega (arith, less, ap length (take_rest left read), length-drop read left)
+
+pub loop-left-preserved : goal.loop-left-preserved
+loop-left-preserved g c =
+    let took = g.W.Write.write_str_gives in
+    let left = c.loop-left.left.now in
+    let split = c.split_text.ensures in
+    let rest = c.split_text.result.2.now in
+    let shown = c.split_text.result.0.now ++ replacement_for c.split_text.result.1.now in
+    let piece = take c.show_first-read.result.1 c.show_first-read.new.out in
+    let said : (bs : List ℕ) → bs ++ lossy_of left ≡ lossy_of c.args.source.now
+        → ((bs ++ piece) ++ shown) ++ lossy_of rest ≡ lossy_of c.args.source.now = λ bs e.
+    append_assoc (bs ++ piece) shown (lossy_of rest)
+    ∙ ap (λ t. (bs ++ piece) ++ t) (lossy_of-split _ _ _ _ split.valid split.broken split.rest)
+    ∙ pushed_piece bs piece left _ _ (take_rest left c.show_first-read.result.0)
+    c.show_first-read.ensures.shown ∙ e in
+    record {
+      plain = λ p.
+          let (bs, h, e) = c.loop-left.invariant.plain p in
+          let k = written_append took _ bs _ piece _ h
+          (c.in_ok-write_text.ensures.writes h.plain (refl {a = true})) in (
+            (bs ++ piece) ++ shown,
+            written_append took _ (bs ++ piece) _ shown _ k
+                (c.in_ok-write_chunk.ensures.writes k.plain (refl {a = true})),
+            said bs e,
+          );
+      styled = λ p.
+          let (bs, h, e) = c.loop-left.invariant.styled p in
+          let k = styled_append took _ bs _ piece _ h
+          (c.in_ok-write_text.ensures.styled h.flush (refl {a = true})) in (
+            (bs ++ piece) ++ shown,
+            styled_append took _ (bs ++ piece) _ shown _ k
+                (c.in_ok-write_chunk.ensures.styled k.flush (refl {a = true})),
+            said bs e,
+          );
+    }
+
+pub returns-then-is_empty-clause-writes : goal.returns-then-is_empty-clause-writes
+returns-then-is_empty-clause-writes g c = λ p q.
+    let took = g.W.Write.write_str_gives in
+    let left = c.loop-left.left.now in
+    let none = eqb-true _ 0 (sym c.is_empty-in-loop-left.ensures ∙ c.if-is_empty.true) in
+    let last = last_piece left _ _ _ (take_rest left c.show_first-read.result.0) none
+    c.show_first-read.ensures.shown in
+    let (bs, h, e) = c.loop-left.invariant.plain p in
+    written_same took _ _ _ _ (ap (λ t. bs ++ t) last ∙ e)
+    (written_append took _ bs _ _ _ h (c.in_ok-write_text.ensures.writes h.plain (refl {a = true})))
+
+pub returns-then-is_empty-clause-styled : goal.returns-then-is_empty-clause-styled
+returns-then-is_empty-clause-styled g c = λ p q.
+    let took = g.W.Write.write_str_gives in
+    let left = c.loop-left.left.now in
+    let none = eqb-true _ 0 (sym c.is_empty-in-loop-left.ensures ∙ c.if-is_empty.true) in
+    let last = last_piece left _ _ _ (take_rest left c.show_first-read.result.0) none
+    c.show_first-read.ensures.shown in
+    let (bs, h, e) = c.loop-left.invariant.styled p in
+    styled_same took _ _ _ _ (ap (λ t. bs ++ t) last ∙ e)
+    (styled_append took _ bs _ _ _ h (c.in_ok-write_text.ensures.styled h.flush (refl {a = true})))
+
+pub returns-clause-writes : goal.returns-clause-writes
+returns-clause-writes g c = λ p q.
+    let empty = eqb-true _ 0 (sym c.is_empty.ensures ∙ c.loop-left-test.false) in
+    let none = nil_from_length c.loop-left.left.now empty in
+    let (bs, h, e) = c.loop-left.invariant.plain p in
+    written_same g.W.Write.write_str_gives _ _ _ _
+    (sym (append-nil bs) ∙ ap (λ t. bs ++ t) (sym (ap lossy_of none ∙ lossy_of-nil)) ∙ e) h
+
+pub returns-clause-styled : goal.returns-clause-styled
+returns-clause-styled g c = λ p q.
+    let empty = eqb-true _ 0 (sym c.is_empty.ensures ∙ c.loop-left-test.false) in
+    let none = nil_from_length c.loop-left.left.now empty in
+    let (bs, h, e) = c.loop-left.invariant.styled p in
+    styled_same g.W.Write.write_str_gives _ _ _ _
+    (sym (append-nil bs) ∙ ap (λ t. bs ++ t) (sym (ap lossy_of none ∙ lossy_of-nil)) ∙ e) h
