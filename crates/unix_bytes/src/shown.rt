@@ -53,14 +53,14 @@ fn show_front(source: &[u8], out: &mut [u8], at: usize) -> (usize, usize)
     }
 }
 
-// The bytes begin with 64 that are ASCII, or maybe with a sequence of two or more, so they are read
-// faster as one stretch of text. As many of the first 16 are ASCII as is said.
+// The bytes begin with 64 that are ASCII, or maybe with a sequence of two or more and others behind
+// it, so they are read faster as one stretch. As many of the first 16 are ASCII as is said.
 #[inline(always)]
 fn is_stretch(source: &[u8], ascii: usize) -> bool
     requires { 16 ≤ length source.now }
 {
     match ascii {
-        0 => may_begin(source),
+        0 => may_begin(source) && 0x80 <= source[7],
         16 => 64 <= source.len() && is_ascii_block(source, 0),
         _ => false,
     }
@@ -89,10 +89,34 @@ fn show_wide(source: &[u8], out: &mut [u8], at: usize) -> (usize, usize)
     (ascii + size, end)
 }
 
-// Writes the lossy text of the first byte, where it is ASCII, or else of the first front: how many
-// bytes were read, and where what was written ends.
+// Writes the lossy text of the first front: how many bytes were read, and where what was written
+// ends.
 #[inline(never)]
 #[tactic(auto, using(crate::proofs::ShownLemmas::front_bounds))]
+fn show_last_front(source: &[u8], out: &mut [u8], at: usize) -> (usize, usize)
+    requires some { 0 < length source.now }
+    requires wide { 0x80 ≤ slice_index source.now 0 }
+    requires room { at + 4 ≤ length out.old }
+    ensures len { length out.new ≡ length out.old }
+    ensures read { result.0 ≤ length source.now }
+    ensures end { result.1 ≤ length out.new }
+    ensures shown { Shows source.now (take at out.old) result.0 (take result.1 out.new) }
+{
+    match wide_front(source) {
+        Ok(size) => {
+            place(out, at, &source[..size]);
+            (size, at + size)
+        }
+        Err(size) => {
+            place(out, at, "\u{FFFD}".as_bytes());
+            (size, at + 3)
+        }
+    }
+}
+
+// Writes the lossy text of the first byte, where it is ASCII, or else of the first front: how many
+// bytes were read, and where what was written ends.
+#[inline(always)]
 fn show_narrow(source: &[u8], out: &mut [u8], at: usize) -> (usize, usize)
     requires some { 0 < length source.now }
     requires room { at + 4 ≤ length out.old }
@@ -105,16 +129,7 @@ fn show_narrow(source: &[u8], out: &mut [u8], at: usize) -> (usize, usize)
         out[at] = source[0];
         return (1, at + 1);
     }
-    match wide_front(source) {
-        Ok(size) => {
-            place(out, at, &source[..size]);
-            (size, at + size)
-        }
-        Err(size) => {
-            place(out, at, "\u{FFFD}".as_bytes());
-            (size, at + 3)
-        }
-    }
+    show_last_front(source, out, at)
 }
 
 // Writes the lossy text of the first bytes: how many bytes were read, and how many written. Reads

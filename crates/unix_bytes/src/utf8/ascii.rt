@@ -131,13 +131,3 @@ pub(crate) fn ascii_in_sixteen(source: &[u8]) -> usize
     }
     wide.trailing_zeros() as usize
 }
-
-// How many of the first four bytes are ASCII, up to the first that is not.
-#[inline(always)]
-pub(crate) fn few_ascii(source: &[u8]) -> usize
-    requires { 4 ≤ length source.now }
-    ensures bound { result ≤ 4 }
-    ensures ascii { IsAscii (take result source.now) }
-{
-    short_ascii_len(&source[..4])
-}

@@ -4,13 +4,13 @@ ghost use Rattle.unix_bytes.specs.Utf8.{IsText};
 ghost use Rattle.unix_bytes.specs.Lossy.{is_text};
 ghost use Rattle.unix_bytes.specs.Steps.{longest_len, broken_len};
 
-use crate::utf8::ascii::{ascii_prefix_len, few_ascii, wide_lanes};
+use crate::utf8::ascii::{ascii_in_sixteen, ascii_prefix_len, wide_lanes};
 use crate::utf8::classes::{is_tail, leads_four, leads_two};
 use crate::utf8::fronts::{begins_four, may_begin, wide_front};
 use crate::windows::window_len;
 
 // The lengths of the longest prefix that is text, and of the broken front behind it. A byte that is
-// broken alone is found at once where at most three bytes of ASCII stand before it.
+// broken alone is found at once where fewer than 16 bytes of ASCII stand before it.
 #[inline(always)]
 #[tactic(auto, using(crate::proofs::StretchLemmas::none_is_text))]
 pub(crate) fn scan_text(source: &[u8]) -> (usize, usize)
@@ -20,11 +20,8 @@ pub(crate) fn scan_text(source: &[u8]) -> (usize, usize)
     if source.len() < 16 {
         return scan(source, 0);
     }
-    if 0x80 <= source[0] {
-        return scan_wide(source, 0);
-    }
-    let at = few_ascii(source);
-    if source[at] < 0x80 {
+    let at = ascii_in_sixteen(source);
+    if at == 16 {
         return scan(source, 0);
     }
     scan_wide(source, at)

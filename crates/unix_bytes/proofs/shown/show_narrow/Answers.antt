@@ -1,8 +1,5 @@
-use Rattle.std.proofs.Common.{◌≡◌, ◌+◌, ◌++◌, length, take, slice_index, ap, sym, ◌∙◌, arith, length-take-le}
-use Rattle.unix_bytes.proofs.LaneLemmas.{one_more_ascii}
-use Rattle.unix_bytes.proofs.StretchLemmas.{sequence_is_text, ascii_is_text}
-use Rattle.unix_bytes.proofs.ShownLemmas.{shows_text, shows_broken, sequence_is_short}
-use Rattle.unix_bytes.proofs.ShownLemmas.{one_placed, first_is_text}
+use Rattle.std.proofs.Common.{arith}
+use Rattle.unix_bytes.proofs.ShownLemmas.{shows_text, one_placed, first_is_text}
 use Rattle.unix_bytes.proofs.shown.show_narrow.Goals as goal
 
 pub returns-then-source-lt128-clause-shown : goal.returns-then-source-lt128-clause-shown
@@ -10,27 +7,3 @@ returns-then-source-lt128-clause-shown c =
     let s = c.args.source.now in
     shows_text s _ 1 _ (first_is_text s c.if-source-lt128.true)
     (one_placed c.args.out.now s c.args.at (omega arith) (omega arith))
-
-pub place-requires : goal.place-requires
-place-requires c =
-    let s = c.args.source.now in
-    omega (
-      arith,
-      c.in-Ok.ensures.sequence,
-      sequence_is_short s,
-      length-take-le c.in-Ok.size s c.in-Ok.ensures.within,
-    )
-
-pub returns-in-Ok-clause-shown : goal.returns-in-Ok-clause-shown
-returns-in-Ok-clause-shown c =
-    let s = c.args.source.now in
-    let n = c.in-Ok.size in
-    let sequence = c.in-Ok.ensures.sequence in
-    let long : length (take n s) ≡ n = length-take-le n s c.in-Ok.ensures.within in
-    shows_text s _ n _ (sequence_is_text s _ sequence.0 sequence.1)
-    (ap (λ k. take (c.args.at + k) c.place.new.out) (sym long) ∙ c.place.ensures.placed)
-
-pub returns-in-Err-clause-shown : goal.returns-in-Err-clause-shown
-returns-in-Err-clause-shown c =
-    shows_broken c.args.source.now _ c.in-Err.size _ c.in-Err.ensures.broken
-    (rw c.as_bytes.ensures.value at c.place-in-Err.ensures.placed)
