@@ -49,7 +49,7 @@ shows_broken (b ∷ bs) before n after (some, is) e =
           ∙ ap (λ t. before ++ t) (ap (λ k. replacement ++ lossy_of (drop k s)) (sym len)
           ∙ sym (lossy_of-none b bs none));
       text = λ k. subst IsText (sym e)
-      (IsText-append before replacement k (IsText-sequence replacement replacement_is_sequence));
+          (IsText-append before replacement k (IsText-sequence replacement replacement_is_sequence));
     }
 
 -- a piece and then another

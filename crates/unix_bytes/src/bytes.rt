@@ -159,12 +159,7 @@ const PIECE: usize = 256;
 
 // The text, U+FFFD unless nothing is broken, and the lossy text of the rest. The capacity is known
 // at once where the lossy text of the rest is one piece.
-fn lossy_string(
-    alloc: Global,
-    text: &str,
-    broken: &[u8],
-    rest: &[u8],
-) -> Result<String, AllocError>
+fn lossy_string(alloc: Global, text: &str, broken: &[u8], rest: &[u8]) -> Result<String, AllocError>
     ensures { let whole = (text.now ++ replacement_for broken.now) ++ lossy_of rest.now in
         IfOk result (λ lossy. string_bytes lossy ≡ whole) }
 {

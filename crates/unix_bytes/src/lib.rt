@@ -5,8 +5,8 @@ pub mod bytes;
 pub mod laws;
 pub mod lossy;
 pub mod search;
+mod shown;
 #[cfg(test)]
 mod tests;
-mod shown;
 mod utf8;
 mod windows;

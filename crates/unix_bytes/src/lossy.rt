@@ -12,9 +12,8 @@ ghost use Rattle.unix_bytes.specs.Chunks.{chunks_of, chunk_of, chunks_left, show
 
 use crate::shown::show_first;
 use crate::utf8::split_text;
-use std::fmt;
 use std::iter::FusedIterator;
-use std::str;
+use std::{fmt, str};
 
 /// How many bytes the well-formed sequences have that begin with `b`: 1 to 4, or 0 where no
 /// sequence begins with it.

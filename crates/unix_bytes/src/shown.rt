@@ -53,21 +53,17 @@ fn show_front(source: &[u8], out: &mut [u8], at: usize) -> (usize, usize)
     }
 }
 
-// The bytes begin with 64 that are ASCII, or maybe with a sequence of two or more and others behind
-// it, so they are read faster as one stretch. As many of the first 16 are ASCII as is said.
+// The bytes may begin with a sequence of two or more, and with others behind it.
 #[inline(always)]
-fn is_stretch(source: &[u8], ascii: usize) -> bool
-    requires { 16 ≤ length source.now }
+fn may_go_on(source: &[u8]) -> bool
+    requires { 8 ≤ length source.now }
 {
-    match ascii {
-        0 => may_begin(source) && 0x80 <= source[7],
-        16 => 64 <= source.len() && is_ascii_block(source, 0),
-        _ => false,
-    }
+    0x80 <= source[7] && may_begin(source)
 }
 
-// Writes the lossy text of up to 16 bytes of ASCII, and of the front behind them: how many bytes
-// were read, and where what was written ends. Reads nothing of a stretch.
+// Writes the lossy text of up to 16 bytes of ASCII and of the front behind them, or of the front
+// alone: how many bytes were read, and where what was written ends. Reads nothing of 64 bytes that
+// are ASCII, and of what may go on as text: that is read faster as one stretch.
 #[inline(always)]
 fn show_wide(source: &[u8], out: &mut [u8], at: usize) -> (usize, usize)
     requires some { 20 ≤ length source.now }
@@ -77,8 +73,14 @@ fn show_wide(source: &[u8], out: &mut [u8], at: usize) -> (usize, usize)
     ensures end { result.1 ≤ length out.new }
     ensures shown { Shows source.now (take at out.old) result.0 (take result.1 out.new) }
 {
+    if 0x80 <= source[0] {
+        if may_go_on(source) {
+            return (0, at);
+        }
+        return show_front(source, out, at);
+    }
     let ascii = ascii_in_sixteen(source);
-    if is_stretch(source, ascii) {
+    if ascii == 16 && 64 <= source.len() && is_ascii_block(source, 0) {
         return (0, at);
     }
     place_first::<16>(out, at, source);

@@ -31,7 +31,7 @@ loop-left-preserved g c =
     let shown = c.split_text.result.0.now ++ replacement_for c.split_text.result.1.now in
     let piece = take c.show_first-read.result.1 c.show_first-read.new.out in
     let said : (bs : List ℕ) → bs ++ lossy_of left ≡ lossy_of c.args.source.now
-        → ((bs ++ piece) ++ shown) ++ lossy_of rest ≡ lossy_of c.args.source.now = λ bs e.
+    → ((bs ++ piece) ++ shown) ++ lossy_of rest ≡ lossy_of c.args.source.now = λ bs e.
     append_assoc (bs ++ piece) shown (lossy_of rest)
     ∙ ap (λ t. (bs ++ piece) ++ t) (lossy_of-split _ _ _ _ split.valid split.broken split.rest)
     ∙ pushed_piece bs piece left _ _ (take_rest left c.show_first-read.result.0)

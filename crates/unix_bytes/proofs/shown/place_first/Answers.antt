@@ -1,4 +1,4 @@
-use Rattle.std.proofs.Common.{◌≡◌, ◌+◌, ◌++◌, length, take, arith, ap, sym, ◌∙◌, length-take-le}
+use Rattle.std.proofs.Common.{◌≡◌, ◌+◌, length, take, arith, length-take-le}
 use Rattle.std.proofs.lemmas.Simd.{take_more_put_chunk}
 use Rattle.unix_bytes.proofs.ShownLemmas.{fewer_placed}
 use Rattle.unix_bytes.proofs.shown.place_first.Goals as goal

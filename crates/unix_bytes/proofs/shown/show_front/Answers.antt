@@ -1,4 +1,3 @@
-use Rattle.std.proofs.Common.{take}
 use Rattle.unix_bytes.proofs.StretchLemmas.{sequence_is_text}
 use Rattle.unix_bytes.proofs.ShownLemmas.{shows_text, shows_broken, sequence_is_short}
 use Rattle.unix_bytes.proofs.shown.show_front.Goals as goal
