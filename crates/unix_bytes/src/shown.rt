@@ -53,17 +53,9 @@ fn show_front(source: &[u8], out: &mut [u8], at: usize) -> (usize, usize)
     }
 }
 
-// The bytes may begin with a sequence of two or more, and with others behind it.
-#[inline(always)]
-fn may_go_on(source: &[u8]) -> bool
-    requires { 8 ≤ length source.now }
-{
-    0x80 <= source[7] && may_begin(source)
-}
-
 // Writes the lossy text of up to 16 bytes of ASCII and of the front behind them, or of the front
 // alone: how many bytes were read, and where what was written ends. Reads nothing of 64 bytes that
-// are ASCII, and of what may go on as text: that is read faster as one stretch.
+// are ASCII, and of what may go on as other text: that is read faster as one stretch.
 #[inline(always)]
 fn show_wide(source: &[u8], out: &mut [u8], at: usize) -> (usize, usize)
     requires some { 20 ≤ length source.now }
@@ -74,7 +66,11 @@ fn show_wide(source: &[u8], out: &mut [u8], at: usize) -> (usize, usize)
     ensures shown { Shows source.now (take at out.old) result.0 (take result.1 out.new) }
 {
     if 0x80 <= source[0] {
-        if may_go_on(source) {
+        if !may_begin(source) {
+            place(out, at, "\u{FFFD}".as_bytes());
+            return (1, at + 3);
+        }
+        if 0x80 <= source[7] {
             return (0, at);
         }
         return show_front(source, out, at);
