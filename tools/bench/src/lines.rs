@@ -46,15 +46,20 @@ impl Paths {
             };
             let at = random.below(source.len());
             let command = random.one_of(&commands);
-            lines.extend_from_slice(command.as_bytes());
-            lines.push(b'\t');
-            lines.extend_from_slice(&source[at]);
             let next = &source[(at + 1) % source.len()];
-            push_fields(command, &source[at], next, &mut lines);
-            lines.push(b'\n');
+            push_line(command, &source[at], next, &mut lines);
         }
         lines
     }
+}
+
+/// Adds the line of the command for a path, beside which there is a next one.
+pub fn push_line(command: &str, path: &[u8], next: &[u8], lines: &mut Vec<u8>) {
+    lines.extend_from_slice(command.as_bytes());
+    lines.push(b'\t');
+    lines.extend_from_slice(path);
+    push_fields(command, path, next, lines);
+    lines.push(b'\n');
 }
 
 /// Adds the fields that the command has behind its path, each with a tab before it.

@@ -2,6 +2,7 @@
 //! `std::path`; prints our time over std's, and what is above its target.
 mod calls;
 mod clock;
+mod command_sizes;
 mod corpora;
 mod lines;
 mod options;
@@ -40,6 +41,7 @@ fn main() -> ExitCode {
     }
     if options.has_part("sizes") {
         sizes::print(&options);
+        command_sizes::print(&options);
     }
     score.print();
     if score.different > 0 {

@@ -39,7 +39,7 @@ pub fn print(options: &Options, score: &mut Score) {
 }
 
 /// Runs the program on a file. The answer is its exit status.
-fn run(program: &str, input: &str, output: Stdio) -> u64 {
+pub fn run(program: &str, input: &str, output: Stdio) -> u64 {
     let input = File::open(input).expect("the lines are there");
     let status = Command::new(program)
         .stdin(input)

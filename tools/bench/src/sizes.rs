@@ -6,10 +6,10 @@ use crate::timing::Timer;
 use std::hint::black_box;
 
 /// The bytes of the paths.
-const SIZES: [usize; 4] = [10_000, 100_000, 1_000_000, 10_000_000];
+pub const SIZES: [usize; 4] = [10_000, 100_000, 1_000_000, 10_000_000];
 
 /// What is repeated in a path, and a word for it.
-const SHAPES: [(&str, &[u8]); 8] = [
+pub const SHAPES: [(&str, &[u8]); 8] = [
     ("/", b"/"),
     (".", b"."),
     ("/.", b"/."),
@@ -42,13 +42,13 @@ pub fn print(options: &Options) {
 }
 
 /// The nanoseconds a byte at a size, and whether they grew.
-struct Time {
-    nanoseconds: f64,
-    is_grown: bool,
+pub struct Time {
+    pub nanoseconds: f64,
+    pub is_grown: bool,
 }
 
 /// A cell for each size.
-fn shown(times: &[Time]) -> String {
+pub fn shown(times: &[Time]) -> String {
     let cell = |at: usize| match times.get(at) {
         Some(time) if time.is_grown => format!("{:9.3} *", time.nanoseconds),
         Some(time) => format!("{:9.3}  ", time.nanoseconds),
@@ -58,7 +58,7 @@ fn shown(times: &[Time]) -> String {
 }
 
 /// The time at each size; none behind one that grew threefold, which could take for ever.
-fn times(time: &dyn Fn(usize) -> f64, memory: &[f64; 4]) -> Vec<Time> {
+pub fn times(time: &dyn Fn(usize) -> f64, memory: &[f64; 4]) -> Vec<Time> {
     let mut times: Vec<Time> = vec![];
     for at in 0..SIZES.len() {
         let mut now = time(at);
@@ -92,7 +92,7 @@ fn time(row: &Row, piece: &[u8], at: usize, timer: &Timer) -> f64 {
 
 /// What a byte may cost at each size beyond what it costs at the size before: to copy it, and to
 /// have three times as many in a string that grows, as text that is shown may.
-fn memory(timer: &Timer) -> [f64; 4] {
+pub fn memory(timer: &Timer) -> [f64; 4] {
     let copies = SIZES.map(|size| {
         let bytes = vec![b'a'; size];
         least(size, timer, &|| black_box(bytes.clone()).len() as u64)

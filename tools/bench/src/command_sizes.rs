@@ -1,0 +1,80 @@
+//! Hostile paths of 10^4 to 10^7 bytes for each command of `pathtool`: its time a byte.
+use crate::clock;
+use crate::lines::push_line;
+use crate::options::Options;
+use crate::programs::run;
+use crate::sizes::{memory, shown, times, SHAPES, SIZES};
+use crate::timing::Timer;
+use std::fs::write;
+use std::process::Stdio;
+
+/// Each command of the program.
+const COMMANDS: [&str; 17] = [
+    "parts",
+    "back",
+    "walk",
+    "parent",
+    "ancestors",
+    "name",
+    "stem",
+    "ext",
+    "canon",
+    "join",
+    "strip",
+    "starts",
+    "ends",
+    "cmp",
+    "edit",
+    "show",
+    "json",
+];
+
+/// Prints a line for each command and shape, with the nanoseconds a byte at each size.
+pub fn print(options: &Options) {
+    let timer = Timer {
+        clock: clock::of_children,
+        ..options.timer()
+    };
+    let time =
+        |command: &str, piece: &[u8], at: usize| nanoseconds(options, &timer, command, piece, at);
+    // An unknown command costs what reading does. An answer is made in buffers that grow too, in
+    // as many as four, and a long line's are new memory.
+    let reading: [f64; SIZES.len()] = std::array::from_fn(|at| time("unknown", b"a", at));
+    let fresh = memory(&options.timer());
+    let memory =
+        std::array::from_fn(|at| 4.0 * fresh[at] + (reading[at] - reading[at.max(1) - 1]).max(0.0));
+    println!("pathtool's nanoseconds a byte, its start left out; reading and * as above");
+    println!("ancestors of many parts are left out, since they are answered by their square\n");
+    let mut grown = 0;
+    for command in COMMANDS.iter().filter(|command| options.has_row(command)) {
+        for (shape, piece) in SHAPES {
+            if *command == "ancestors" && matches!(piece, b"a/" | b"../") {
+                continue;
+            }
+            let times = times(&|at| time(command, piece, at), &memory);
+            grown += usize::from(times.iter().any(|time| time.is_grown));
+            println!("{command:22}{shape:6}{}", shown(&times));
+        }
+    }
+    println!("\n{grown} lines have a time a byte that grows\n");
+}
+
+/// The program's least time of several runs in nanoseconds a byte: on a path of this shape and
+/// size, or on so many of them that they have 10^6 bytes.
+fn nanoseconds(options: &Options, timer: &Timer, command: &str, piece: &[u8], at: usize) -> f64 {
+    let path: Vec<u8> = piece.iter().copied().cycle().take(SIZES[at]).collect();
+    let mut lines = vec![];
+    while lines.len() < SIZES[2] {
+        push_line(command, &path, &path, &mut lines);
+    }
+    (least(options, timer, &lines) - least(options, timer, b"")) * 1e9 / lines.len() as f64
+}
+
+/// The least seconds that the program takes for these lines.
+fn least(options: &Options, timer: &Timer, lines: &[u8]) -> f64 {
+    let input = format!("{}/lines", options.folder);
+    write(&input, lines).expect("the folder can be written to");
+    (0..timer.reps.min(5))
+        .map(|_| timer.seconds(&|_| run(&options.programs[0], &input, Stdio::null()), 0, 1))
+        .fold(f64::MAX, f64::min)
+}
