@@ -3,7 +3,7 @@ PROGRAM = crates/pathtool/out/pathtool
 SOURCES := $(shell find crates.txt crates -name out -prune -o \
 	\( -name '*.rt' -o -name '*.antt' -o -name crates.txt \) -print)
 
-.PHONY: help run check test install bench bench_tools
+.PHONY: help run check test install bench bench_tools differential ends
 
 help:
 	@echo 'make run      runs pathtool on standard input; proves and builds it first, which'
@@ -14,6 +14,10 @@ help:
 	@echo 'make bench    times the calls and pathtool beside Rust, some three minutes; builds first.'
 	@echo '              It needs rustc too; tools/bench/run has its options, as in'
 	@echo '              make bench only=parts,eq corpus=deep reps=15'
+	@echo 'make differential  asks pathtool and Rust the same random lines, some quarter minute'
+	@echo '              for a million; builds first. It needs rustc too; prints its seed, as in'
+	@echo '              make differential LINES=1000000 SEED=20'
+	@echo 'make ends     runs pathtool with ends that fail, little memory and large inputs'
 	@echo 'make install  puts the program and its manual page below PREFIX (/usr/local),'
 	@echo '              proved and built first'
 	@echo 'Each needs rt, the command of the Rattle toolchain: '"$$(cat rattle-toolchain)"
@@ -39,6 +43,12 @@ bench_tools:
 
 bench: bench_tools $(PROGRAM)
 	@tools/bench/run $(BENCH)
+
+differential: $(PROGRAM)
+	@tools/differential $(if $(LINES),'lines=$(LINES)') $(if $(SEED),'seed=$(SEED)')
+
+ends: $(PROGRAM)
+	@tools/ends
 
 install: $(PROGRAM)
 	@install -D -m 755 $(PROGRAM) $(DESTDIR)$(PREFIX)/bin/pathtool
