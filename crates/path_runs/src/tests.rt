@@ -6,8 +6,14 @@ mod congruent;
 mod edits;
 mod facts;
 mod fits;
+mod long_runs;
 mod loops;
 mod pairs;
+mod plain;
+mod random;
+mod random_pairs;
+mod random_paths;
+mod short_walks;
 mod tables;
 mod walks;
 

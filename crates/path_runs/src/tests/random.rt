@@ -1,0 +1,46 @@
+//! Random bytes, the same from the same seed.
+use std::alloc::{AllocError, Global};
+
+// Where a letter is drawn from half of the time, so that strings have slashes and dots.
+static LETTERS: [u8; 8] = *b"//../.ab";
+
+// The numbers of splitmix64 from a seed.
+#[derive(Drop)]
+pub(super) struct Random {
+    state: u64,
+}
+
+impl Random {
+    pub(super) fn new(seed: u64) -> Random {
+        Random { state: seed }
+    }
+
+    pub(super) fn next(&mut self) -> u64 {
+        self.state = self.state.wrapping_add(0x9E37_79B9_7F4A_7C15);
+        let mixed = (self.state ^ self.state >> 30).wrapping_mul(0xBF58_476D_1CE4_E5B9);
+        let mixed = (mixed ^ mixed >> 27).wrapping_mul(0x94D0_49BB_1331_11EB);
+        mixed ^ mixed >> 31
+    }
+
+    // A byte, mostly a letter or mostly any.
+    fn byte(&mut self, is_plain: bool) -> u8 {
+        let word = self.next();
+        let is_letter = is_plain || word >> 32 & 3 == 0;
+        if is_letter {
+            LETTERS[(word & 7) as usize]
+        } else {
+            (word & 0xFF) as u8
+        }
+    }
+
+    // At most 64 bytes.
+    pub(super) fn string(&mut self, alloc: Global) -> Result<Vec<u8>, AllocError> {
+        let word = self.next();
+        let is_plain = word >> 32 & 1 == 0;
+        let mut bytes = Vec::new(alloc);
+        for _ in 0..word % 65 {
+            bytes.push(self.byte(is_plain))?;
+        }
+        Ok(bytes)
+    }
+}
