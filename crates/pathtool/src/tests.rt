@@ -1,5 +1,6 @@
 mod added;
 mod faults;
+mod refused;
 mod rows;
 
 use crate::run::{RunError, run};

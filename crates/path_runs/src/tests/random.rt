@@ -1,7 +1,7 @@
 //! Random bytes, the same from the same seed.
 use std::alloc::{AllocError, Global};
 
-// Where a letter is drawn from half of the time, so that strings have slashes and dots.
+// Half of the strings are over these letters, so that they have slashes and dots.
 static LETTERS: [u8; 8] = *b"//../.ab";
 
 // The numbers of splitmix64 from a seed.
@@ -22,7 +22,7 @@ impl Random {
         mixed ^ mixed >> 31
     }
 
-    // A byte, mostly a letter or mostly any.
+    // A letter in plain strings; else any byte, or a letter in one of four.
     fn byte(&mut self, is_plain: bool) -> u8 {
         let word = self.next();
         let is_letter = is_plain || word >> 32 & 3 == 0;
