@@ -83,7 +83,7 @@ mod tests {
     use std::test::Fail;
 
     // With another allocator than the C library's, as that of a checker of memory, this test fails,
-    // and the tests that take a `Drought` pass over the calls that should fail.
+    // and so do those of `memory_tests` that take a `Drought`.
     #[test]
     fn all_memory_is_taken_and_given_back(rt: HostRuntime) -> Result<(), Fail> {
         let alloc = rt.alloc();

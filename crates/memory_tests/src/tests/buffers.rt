@@ -1,4 +1,4 @@
-use memory_drought::Drought;
+use super::drought;
 use std::test::Fail;
 use unix_path::bytes::{LossyText, UnixStr, UnixString};
 use unix_path::{BoxedPath, CowPath, Path, PathBuf, RcPath};
@@ -15,14 +15,13 @@ fn after_reserve_pushes_do_not_allocate(rt: HostRuntime) -> Result<(), Fail> {
     pushed.reserve(6)?;
     extended.reserve(6)?;
     let parts = [path("a"), path("bc"), path("")];
-    if let Some(_drought) = Drought::begin(alloc)? {
-        for part in parts {
-            assert!(rt; pushed.push(part).is_ok());
-        }
-        assert!(rt; extended.extend(parts.iter().copied()).is_ok());
-        assert_eq!(rt; pushed.as_path().as_unix_str(), UnixStr::new("foo/a/bc/"));
-        assert_eq!(rt; extended.as_path().as_unix_str(), UnixStr::new("foo/a/bc/"));
+    let _dry = drought(alloc)?;
+    for part in parts {
+        assert!(rt; pushed.push(part).is_ok());
     }
+    assert!(rt; extended.extend(parts.iter().copied()).is_ok());
+    assert_eq!(rt; pushed.as_path().as_unix_str(), UnixStr::new("foo/a/bc/"));
+    assert_eq!(rt; extended.as_path().as_unix_str(), UnixStr::new("foo/a/bc/"));
     Ok(())
 }
 
@@ -42,19 +41,18 @@ fn within_the_capacity_edits_do_not_allocate(rt: HostRuntime) -> Result<(), Fail
     let alloc = rt.alloc();
     let mut buffer = PathBuf::with_capacity(alloc, 10)?;
     let capacity = buffer.capacity();
-    if let Some(_drought) = Drought::begin(alloc)? {
-        assert!(rt; buffer.push(path("/")).is_ok());
-        assert_eq!(rt; buffer.capacity(), capacity);
-        assert!(rt; buffer.shrink_to(capacity).is_ok());
-        assert!(rt; buffer.shrink_to(1000).is_ok());
-        assert_eq!(rt; buffer.capacity(), capacity);
-        assert!(rt; buffer.set_file_name(UnixStr::new("foo")).is_ok());
-        assert!(rt; buffer.set_extension(UnixStr::new("rs")).is_ok());
-        assert_eq!(rt; buffer.as_path().as_unix_str(), UnixStr::new("/foo.rs"));
-        assert!(rt; buffer.reserve(3).is_ok());
-        assert!(rt; buffer.reserve_exact(3).is_ok());
-        assert_eq!(rt; buffer.capacity(), capacity);
-    }
+    let _dry = drought(alloc)?;
+    assert!(rt; buffer.push(path("/")).is_ok());
+    assert_eq!(rt; buffer.capacity(), capacity);
+    assert!(rt; buffer.shrink_to(capacity).is_ok());
+    assert!(rt; buffer.shrink_to(1000).is_ok());
+    assert_eq!(rt; buffer.capacity(), capacity);
+    assert!(rt; buffer.set_file_name(UnixStr::new("foo")).is_ok());
+    assert!(rt; buffer.set_extension(UnixStr::new("rs")).is_ok());
+    assert_eq!(rt; buffer.as_path().as_unix_str(), UnixStr::new("/foo.rs"));
+    assert!(rt; buffer.reserve(3).is_ok());
+    assert!(rt; buffer.reserve_exact(3).is_ok());
+    assert_eq!(rt; buffer.capacity(), capacity);
     Ok(())
 }
 
@@ -69,18 +67,18 @@ fn a_failed_edit_keeps_the_bytes(rt: HostRuntime) -> Result<(), Fail> {
     let mut pushed = PathBuf::from_text(alloc, "ab")?;
     let mut named = PathBuf::from_text(alloc, "a/bb")?;
     let mut extended = PathBuf::from_text(alloc, "foo/.")?;
-    if let Some(_drought) = Drought::begin(alloc)? {
-        assert!(rt; pushed.push(rooted).is_err());
-        assert_eq!(rt; pushed.as_path().as_unix_str(), UnixStr::new("ab"));
-        assert!(rt; pushed.push(Path::new(name)).is_err());
-        assert!(rt; pushed.reserve(4096).is_err());
-        assert!(rt; pushed.reserve_exact(4096).is_err());
-        assert_eq!(rt; pushed.as_path().as_unix_str(), UnixStr::new("ab"));
-        assert!(rt; named.set_file_name(name).is_err());
-        assert_eq!(rt; named.as_path().as_unix_str(), UnixStr::new("a/bb"));
-        assert!(rt; extended.set_extension(name).is_err());
-        assert_eq!(rt; extended.as_path().as_unix_str(), UnixStr::new("foo/."));
-    }
+    let dry = drought(alloc)?;
+    assert!(rt; pushed.push(rooted).is_err());
+    assert_eq!(rt; pushed.as_path().as_unix_str(), UnixStr::new("ab"));
+    assert!(rt; pushed.push(Path::new(name)).is_err());
+    assert!(rt; pushed.reserve(4096).is_err());
+    assert!(rt; pushed.reserve_exact(4096).is_err());
+    assert_eq!(rt; pushed.as_path().as_unix_str(), UnixStr::new("ab"));
+    assert!(rt; named.set_file_name(name).is_err());
+    assert_eq!(rt; named.as_path().as_unix_str(), UnixStr::new("a/bb"));
+    assert!(rt; extended.set_extension(name).is_err());
+    assert_eq!(rt; extended.as_path().as_unix_str(), UnixStr::new("foo/."));
+    drop(dry);
     pushed.push(rooted)?;
     assert_eq!(rt; pushed.as_path().as_unix_str(), rooted.as_unix_str());
     named.set_file_name(name)?;
@@ -96,17 +94,16 @@ fn a_failed_copy_gives_no_path(rt: HostRuntime) -> Result<(), Fail> {
     let buffer = PathBuf::from_text(alloc, "foo")?;
     let view = buffer.as_path();
     let name = UnixStr::new("bar");
-    if let Some(_drought) = Drought::begin(alloc)? {
-        assert!(rt; buffer.clone().is_err());
-        assert!(rt; view.to_path_buf(alloc).is_err());
-        assert!(rt; view.join(alloc, path("bar")).is_err());
-        assert!(rt; view.with_file_name(alloc, name).is_err());
-        assert!(rt; view.with_extension(alloc, name).is_err());
-        assert!(rt; PathBuf::with_capacity(alloc, 3).is_err());
-        assert!(rt; PathBuf::from_unix_str(alloc, name).is_err());
-        assert!(rt; PathBuf::from_text(alloc, "bar").is_err());
-        assert!(rt; PathBuf::from_iter(alloc, [view].iter().copied()).is_err());
-    }
+    let _dry = drought(alloc)?;
+    assert!(rt; buffer.clone().is_err());
+    assert!(rt; view.to_path_buf(alloc).is_err());
+    assert!(rt; view.join(alloc, path("bar")).is_err());
+    assert!(rt; view.with_file_name(alloc, name).is_err());
+    assert!(rt; view.with_extension(alloc, name).is_err());
+    assert!(rt; PathBuf::with_capacity(alloc, 3).is_err());
+    assert!(rt; PathBuf::from_unix_str(alloc, name).is_err());
+    assert!(rt; PathBuf::from_text(alloc, "bar").is_err());
+    assert!(rt; PathBuf::from_iter(alloc, [view].iter().copied()).is_err());
     Ok(())
 }
 
@@ -116,28 +113,27 @@ fn promised_calls_of_paths_do_not_allocate(rt: HostRuntime) -> Result<(), Fail> 
     let text = UnixStr::new("/a/b.c").to_unix_string(alloc)?;
     let word = String::from_str(alloc, "..")?;
     let none: [Path<'_>; 0] = [];
-    if let Some(_drought) = Drought::begin(alloc)? {
-        assert!(rt; PathBuf::from_iter(alloc, none.iter().copied()).is_ok());
-        assert_eq!(rt; PathBuf::new(alloc).as_path(), path(""));
-        let mut buffer = PathBuf::from(text);
-        assert!(rt; buffer.extend(none.iter().copied()).is_ok());
-        let mut parts = (&buffer).into_iter();
-        assert_eq!(rt; parts.next(), Some(UnixStr::new("/")));
-        assert_eq!(rt; parts.next_back(), Some(UnixStr::new("b.c")));
-        assert_eq!(rt; buffer.set_extension(UnixStr::new("")).ok(), Some(true));
-        assert_eq!(rt; buffer.as_path().as_unix_str(), UnixStr::new("/a/b"));
-        assert!(rt; buffer.pop());
-        assert!(rt; buffer.pop());
-        assert!(rt; !buffer.pop());
-        assert_eq!(rt; buffer.as_path(), path("/"));
-        assert_eq!(rt; buffer.set_extension(UnixStr::new("d")).ok(), Some(false));
-        buffer.clear();
-        assert_eq!(rt; buffer.into_unix_string().as_unix_str(), UnixStr::new(""));
-        let mut up = PathBuf::from(word);
-        assert_eq!(rt; up.set_extension(UnixStr::new("d")).ok(), Some(false));
-        let back: UnixString = up.into();
-        assert_eq!(rt; back.as_unix_str(), UnixStr::new(".."));
-    }
+    let _dry = drought(alloc)?;
+    assert!(rt; PathBuf::from_iter(alloc, none.iter().copied()).is_ok());
+    assert_eq!(rt; PathBuf::new(alloc).as_path(), path(""));
+    let mut buffer = PathBuf::from(text);
+    assert!(rt; buffer.extend(none.iter().copied()).is_ok());
+    let mut parts = (&buffer).into_iter();
+    assert_eq!(rt; parts.next(), Some(UnixStr::new("/")));
+    assert_eq!(rt; parts.next_back(), Some(UnixStr::new("b.c")));
+    assert_eq!(rt; buffer.set_extension(UnixStr::new("")).ok(), Some(true));
+    assert_eq!(rt; buffer.as_path().as_unix_str(), UnixStr::new("/a/b"));
+    assert!(rt; buffer.pop());
+    assert!(rt; buffer.pop());
+    assert!(rt; !buffer.pop());
+    assert_eq!(rt; buffer.as_path(), path("/"));
+    assert_eq!(rt; buffer.set_extension(UnixStr::new("d")).ok(), Some(false));
+    buffer.clear();
+    assert_eq!(rt; buffer.into_unix_string().as_unix_str(), UnixStr::new(""));
+    let mut up = PathBuf::from(word);
+    assert_eq!(rt; up.set_extension(UnixStr::new("d")).ok(), Some(false));
+    let back: UnixString = up.into();
+    assert_eq!(rt; back.as_unix_str(), UnixStr::new(".."));
     Ok(())
 }
 
@@ -147,34 +143,32 @@ fn copies_of_no_bytes_do_not_allocate(rt: HostRuntime) -> Result<(), Fail> {
     let alloc = rt.alloc();
     let empty = path("");
     let none = UnixStr::new("");
-    if let Some(_drought) = Drought::begin(alloc)? {
-        let buffer = PathBuf::from_unix_str(alloc, none)?;
-        assert!(rt; PathBuf::from_text(alloc, "").is_ok());
-        assert!(rt; buffer.clone().is_ok());
-        assert!(rt; empty.to_path_buf(alloc).is_ok());
-        assert!(rt; empty.join(alloc, empty).is_ok());
-        assert!(rt; path("a").with_file_name(alloc, none).is_ok());
-        assert!(rt; empty.with_extension(alloc, UnixStr::new("b")).is_ok());
-        let boxed = BoxedPath::from_path(alloc, empty)?;
-        assert!(rt; boxed.clone().is_ok());
-        let owned = CowPath::from(buffer);
-        assert!(rt; owned.clone().is_ok());
-        assert!(rt; BoxedPath::from_cow(alloc, owned).is_ok());
-        assert!(rt; CowPath::from(empty).into_owned(alloc).is_ok());
-        assert!(rt; RcPath::from_path(alloc, empty).is_err());
-    }
+    let _dry = drought(alloc)?;
+    let buffer = PathBuf::from_unix_str(alloc, none)?;
+    assert!(rt; PathBuf::from_text(alloc, "").is_ok());
+    assert!(rt; buffer.clone().is_ok());
+    assert!(rt; empty.to_path_buf(alloc).is_ok());
+    assert!(rt; empty.join(alloc, empty).is_ok());
+    assert!(rt; path("a").with_file_name(alloc, none).is_ok());
+    assert!(rt; empty.with_extension(alloc, UnixStr::new("b")).is_ok());
+    let boxed = BoxedPath::from_path(alloc, empty)?;
+    assert!(rt; boxed.clone().is_ok());
+    let owned = CowPath::from(buffer);
+    assert!(rt; owned.clone().is_ok());
+    assert!(rt; BoxedPath::from_cow(alloc, owned).is_ok());
+    assert!(rt; CowPath::from(empty).into_owned(alloc).is_ok());
+    assert!(rt; RcPath::from_path(alloc, empty).is_err());
     Ok(())
 }
 
 #[test]
 fn a_text_is_borrowed_without_memory(rt: HostRuntime) -> Result<(), Fail> {
     let alloc = rt.alloc();
-    if let Some(_drought) = Drought::begin(alloc)? {
-        let Ok(LossyText::Borrowed(shown)) = path("ab").to_string_lossy(alloc) else {
-            panic!(rt; "the text isn't borrowed");
-        };
-        assert_eq!(rt; shown, "ab");
-    }
+    let _dry = drought(alloc)?;
+    let Ok(LossyText::Borrowed(shown)) = path("ab").to_string_lossy(alloc) else {
+        panic!(rt; "the text isn't borrowed");
+    };
+    assert_eq!(rt; shown, "ab");
     Ok(())
 }
 
@@ -182,9 +176,7 @@ fn a_text_is_borrowed_without_memory(rt: HostRuntime) -> Result<(), Fail> {
 #[test]
 fn a_failed_extend_keeps_the_pushes_before(rt: HostRuntime) -> Result<(), Fail> {
     let alloc = rt.alloc();
-    let Some(mut drought) = Drought::begin(alloc)? else {
-        return Ok(());
-    };
+    let mut dry = drought(alloc)?;
     let long = [b'x'; 4096];
     let long = Path::new(UnixStr::from_bytes(long.as_slice()));
     let items = [path("c"), long, long];
@@ -204,9 +196,9 @@ fn a_failed_extend_keeps_the_pushes_before(rt: HostRuntime) -> Result<(), Fail> 
         if result.is_ok() {
             break;
         }
-        assert!(rt; drought.ease());
+        assert!(rt; dry.ease());
     }
-    drop(drought);
+    drop(dry);
     assert_eq!(rt; seen.as_slice(), [true; 4].as_slice());
     Ok(())
 }
@@ -220,12 +212,10 @@ fn extend_stops_at_the_failed_push(rt: HostRuntime) -> Result<(), Fail> {
     let items = [path("c"), long, path("d")];
     let mut buffer = PathBuf::from_text(alloc, "ab")?;
     buffer.reserve(4)?;
-    let Some(drought) = Drought::begin(alloc)? else {
-        return Ok(());
-    };
+    let dry = drought(alloc)?;
     assert!(rt; buffer.extend(items.iter().copied()).is_err());
     assert_eq!(rt; buffer.as_path().as_unix_str(), UnixStr::new("ab/c"));
-    drop(drought);
+    drop(dry);
     buffer.extend(items.iter().copied())?;
     assert_eq!(rt; buffer.as_path().as_unix_str().len(), 4105);
     Ok(())

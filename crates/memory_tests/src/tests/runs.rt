@@ -1,4 +1,4 @@
-use memory_drought::Drought;
+use super::drought;
 use path_runs::canonical::canonical;
 use path_runs::edits::{Edit, apply, rejoin};
 use path_runs::walk::{Turn, walk};
@@ -18,14 +18,13 @@ fn a_failed_edit_leaves_those_before_it(rt: HostRuntime) -> Result<(), Fail> {
     let rooted = Path::new(UnixStr::from_bytes(rooted.as_slice()));
     let edits = [Edit::Push(path("c")), Edit::Push(rooted)];
     let mut buffer = PathBuf::from_text(alloc, "ab")?;
-    if let Some(mut drought) = Drought::begin(alloc)? {
-        drought.ease();
-        let error = apply(alloc, &mut buffer, edits.as_slice())
-            .err()
-            .ok_or("applied")?;
-        assert_eq!(rt; error.done, 1);
-        assert_eq!(rt; buffer.as_path().as_unix_str(), UnixStr::new("ab/c"));
-    }
+    let mut dry = drought(alloc)?;
+    dry.ease();
+    let error = apply(alloc, &mut buffer, edits.as_slice())
+        .err()
+        .ok_or("applied")?;
+    assert_eq!(rt; error.done, 1);
+    assert_eq!(rt; buffer.as_path().as_unix_str(), UnixStr::new("ab/c"));
     Ok(())
 }
 
@@ -33,25 +32,23 @@ fn a_failed_edit_leaves_those_before_it(rt: HostRuntime) -> Result<(), Fail> {
 fn answers_that_fail_leave_the_path(rt: HostRuntime) -> Result<(), Fail> {
     let alloc = rt.alloc();
     let mut buffer = PathBuf::from_text(alloc, "a/b")?;
-    if let Some(_drought) = Drought::begin(alloc)? {
-        let error = apply(alloc, &mut buffer, [Edit::Pop].as_slice())
-            .err()
-            .ok_or("applied")?;
-        assert_eq!(rt; error.done, 0);
-        assert_eq!(rt; buffer.as_path().as_unix_str(), UnixStr::new("a/b"));
-        assert!(rt; apply(alloc, &mut buffer, [].as_slice()).is_ok());
-    }
+    let _dry = drought(alloc)?;
+    let error = apply(alloc, &mut buffer, [Edit::Pop].as_slice())
+        .err()
+        .ok_or("applied")?;
+    assert_eq!(rt; error.done, 0);
+    assert_eq!(rt; buffer.as_path().as_unix_str(), UnixStr::new("a/b"));
+    assert!(rt; apply(alloc, &mut buffer, [].as_slice()).is_ok());
     Ok(())
 }
 
 #[test]
 fn walks_and_spellings_fail_without_memory(rt: HostRuntime) -> Result<(), Fail> {
     let alloc = rt.alloc();
-    if let Some(_drought) = Drought::begin(alloc)? {
-        assert!(rt; walk(alloc, path("/a"), [Turn::Back].as_slice()).is_err());
-        assert!(rt; canonical(alloc, path("/a")).is_err());
-        assert!(rt; rejoin(alloc, path("/a"), path("/")).is_err());
-        assert!(rt; matches!(rejoin(alloc, path("/a"), path("a")), Ok(None)));
-    }
+    let _dry = drought(alloc)?;
+    assert!(rt; walk(alloc, path("/a"), [Turn::Back].as_slice()).is_err());
+    assert!(rt; canonical(alloc, path("/a")).is_err());
+    assert!(rt; rejoin(alloc, path("/a"), path("/")).is_err());
+    assert!(rt; matches!(rejoin(alloc, path("/a"), path("a")), Ok(None)));
     Ok(())
 }

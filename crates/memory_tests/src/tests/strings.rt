@@ -1,4 +1,4 @@
-use memory_drought::Drought;
+use super::drought;
 use std::test::Fail;
 use unix_bytes::bytes::{LossyText, UnixStr, UnixString};
 
@@ -8,16 +8,15 @@ fn within_the_room_a_push_does_not_allocate(rt: HostRuntime) -> Result<(), Fail>
     let mut text = UnixStr::new("foo").to_unix_string(alloc)?;
     text.reserve(6)?;
     let capacity = text.capacity();
-    if let Some(_drought) = Drought::begin(alloc)? {
-        for more in ["/a", "/bc", "/"] {
-            assert!(rt; text.push(UnixStr::new(more)).is_ok());
-        }
-        assert_eq!(rt; text.as_unix_str(), UnixStr::new("foo/a/bc/"));
-        assert_eq!(rt; text.capacity(), capacity);
-        assert!(rt; text.shrink_to(capacity).is_ok());
-        assert!(rt; text.reserve(0).is_ok());
-        assert!(rt; text.reserve_exact(0).is_ok());
+    let _dry = drought(alloc)?;
+    for more in ["/a", "/bc", "/"] {
+        assert!(rt; text.push(UnixStr::new(more)).is_ok());
     }
+    assert_eq!(rt; text.as_unix_str(), UnixStr::new("foo/a/bc/"));
+    assert_eq!(rt; text.capacity(), capacity);
+    assert!(rt; text.shrink_to(capacity).is_ok());
+    assert!(rt; text.reserve(0).is_ok());
+    assert!(rt; text.reserve_exact(0).is_ok());
     Ok(())
 }
 
@@ -28,22 +27,22 @@ fn a_failed_push_keeps_the_bytes(rt: HostRuntime) -> Result<(), Fail> {
     let long = UnixStr::from_bytes(long.as_slice());
     let mut text = UnixStr::new("foo").to_unix_string(alloc)?;
     let foo = UnixStr::new("foo");
-    if let Some(_drought) = Drought::begin(alloc)? {
-        assert!(rt; text.push(long).is_err());
-        assert_eq!(rt; text.as_unix_str(), foo);
-        assert!(rt; text.reserve(4096).is_err());
-        assert_eq!(rt; text.as_unix_str(), foo);
-        assert!(rt; text.reserve_exact(4096).is_err());
-        assert_eq!(rt; text.as_unix_str(), foo);
-        assert!(rt; text.clone().is_err());
-        assert!(rt; long.to_unix_string(alloc).is_err());
-        assert!(rt; UnixString::with_capacity(alloc, 4096).is_err());
-        assert!(rt;
-            UnixStr::from_bytes(b"a\xff")
-                .to_string_lossy(alloc)
-                .is_err()
-        );
-    }
+    let dry = drought(alloc)?;
+    assert!(rt; text.push(long).is_err());
+    assert_eq!(rt; text.as_unix_str(), foo);
+    assert!(rt; text.reserve(4096).is_err());
+    assert_eq!(rt; text.as_unix_str(), foo);
+    assert!(rt; text.reserve_exact(4096).is_err());
+    assert_eq!(rt; text.as_unix_str(), foo);
+    assert!(rt; text.clone().is_err());
+    assert!(rt; long.to_unix_string(alloc).is_err());
+    assert!(rt; UnixString::with_capacity(alloc, 4096).is_err());
+    assert!(rt;
+        UnixStr::from_bytes(b"a\xff")
+            .to_string_lossy(alloc)
+            .is_err()
+    );
+    drop(dry);
     text.push(long)?;
     assert_eq!(rt; text.as_unix_str().len(), 4099);
     Ok(())
@@ -67,22 +66,21 @@ fn promised_calls_of_strings_do_not_allocate(rt: HostRuntime) -> Result<(), Fail
     let bytes = [1u8, 2].to_vec(alloc)?;
     let word = String::from_str(alloc, "foo")?;
     let mut text = foo.to_unix_string(alloc)?;
-    if let Some(_drought) = Drought::begin(alloc)? {
-        assert!(rt; UnixString::new(alloc).as_unix_str().is_empty());
-        assert!(rt; UnixString::with_capacity(alloc, 0).is_ok());
-        let from_bytes = UnixString::from(bytes);
-        assert_eq!(rt; from_bytes.as_unix_str().as_bytes(), [1u8, 2].as_slice());
-        assert_eq!(rt; from_bytes.into_bytes().as_slice(), [1u8, 2].as_slice());
-        assert_eq!(rt; UnixString::from(word), text);
-        let Ok(LossyText::Borrowed(shown)) = foo.to_string_lossy(alloc) else {
-            panic!(rt; "the text isn't borrowed");
-        };
-        assert_eq!(rt; shown, "foo");
-        text.truncate(1);
-        assert_eq!(rt; text.as_unix_str(), UnixStr::new("f"));
-        text.clear();
-        assert!(rt; text.as_unix_str().is_empty());
-    }
+    let _dry = drought(alloc)?;
+    assert!(rt; UnixString::new(alloc).as_unix_str().is_empty());
+    assert!(rt; UnixString::with_capacity(alloc, 0).is_ok());
+    let from_bytes = UnixString::from(bytes);
+    assert_eq!(rt; from_bytes.as_unix_str().as_bytes(), [1u8, 2].as_slice());
+    assert_eq!(rt; from_bytes.into_bytes().as_slice(), [1u8, 2].as_slice());
+    assert_eq!(rt; UnixString::from(word), text);
+    let Ok(LossyText::Borrowed(shown)) = foo.to_string_lossy(alloc) else {
+        panic!(rt; "the text isn't borrowed");
+    };
+    assert_eq!(rt; shown, "foo");
+    text.truncate(1);
+    assert_eq!(rt; text.as_unix_str(), UnixStr::new("f"));
+    text.clear();
+    assert!(rt; text.as_unix_str().is_empty());
     Ok(())
 }
 

@@ -1,0 +1,37 @@
+use super::drought;
+use serde_json::Value;
+use std::alloc::Global;
+use std::test::Fail;
+use unix_path::Path;
+use unix_path::json::{JsonError, from_json, to_json};
+
+// Bytes that aren't text are told before anything is requested.
+fn is_not_text(alloc: Global) -> bool {
+    matches!(
+        to_json(alloc, Path::from_bytes(b"f\xff")),
+        Err(JsonError::NotUtf8)
+    )
+}
+
+fn is_no_string(alloc: Global, value: &Value) -> bool {
+    matches!(from_json(alloc, value), Err(JsonError::NotString))
+}
+
+fn wants_memory(alloc: Global, value: &Value) -> bool {
+    matches!(
+        to_json(alloc, Path::from_text("a")),
+        Err(JsonError::Memory(_))
+    ) && matches!(from_json(alloc, value), Err(JsonError::Memory(_)))
+}
+
+#[test]
+fn errors_of_json_without_memory(rt: HostRuntime) -> Result<(), Fail> {
+    let alloc = rt.alloc();
+    let number = Value::from_str(alloc, "7")?;
+    let text = Value::from_str(alloc, "\"a\"")?;
+    let _dry = drought(alloc)?;
+    assert!(rt; is_not_text(alloc));
+    assert!(rt; is_no_string(alloc, &number));
+    assert!(rt; wants_memory(alloc, &text));
+    Ok(())
+}

@@ -1,0 +1,66 @@
+use super::super::drought;
+use super::{debug_has, hash_same, path};
+use path_runs::canonical::canonical;
+use path_runs::edits::{Edit, apply, rejoin};
+use path_runs::walk::{Turn, walk};
+use std::alloc::Global;
+use std::test::Fail;
+use unix_path::PathBuf;
+use unix_path::bytes::UnixStr;
+
+// Where there is no room, there is none to give back.
+fn stays_full(mut full: PathBuf) -> bool {
+    full.shrink_to_fit().is_ok()
+        && full.shrink_to(0).is_ok()
+        && full.reserve(0).is_ok()
+        && full.reserve_exact(0).is_ok()
+        && full.capacity() == 3
+        && full.into_boxed_path().is_ok()
+}
+
+fn is_read(buffer: &PathBuf) -> bool {
+    *buffer == *buffer
+        && debug_has(buffer, 5)
+        && hash_same(buffer, &path("foo"))
+        && buffer.as_path() == path("foo")
+}
+
+// Within its length, an edit needs no room.
+fn is_edited(mut buffer: PathBuf) -> bool {
+    buffer.set_file_name(UnixStr::new("bar")).is_ok()
+        && buffer.set_file_name(UnixStr::new("b")).is_ok()
+        && buffer.set_extension(UnixStr::new("c")).is_ok()
+        && buffer.push(path("/d")).is_ok()
+        && buffer.as_path() == path("/d")
+}
+
+fn runs_over_nothing(alloc: Global) -> bool {
+    let walked = walk(alloc, path("a/b"), &[]);
+    let ended = walk(alloc, path(""), [Turn::Front, Turn::Back].as_slice());
+    walked.is_ok() && ended.is_ok() && canonical(alloc, path("")).is_ok()
+}
+
+fn joins_nothing(alloc: Global) -> bool {
+    matches!(rejoin(alloc, path("a"), path("b")), Ok(None))
+        && matches!(rejoin(alloc, path(""), path("")), Ok(Some(_)))
+}
+
+fn applies_nothing(alloc: Global, buffer: &mut PathBuf) -> bool {
+    let none: [Edit<'_>; 0] = [];
+    apply(alloc, buffer, none.as_slice()).is_ok()
+}
+
+#[test]
+fn buffers_need_no_memory(rt: HostRuntime) -> Result<(), Fail> {
+    let alloc = rt.alloc();
+    let mut foo = PathBuf::from_text(alloc, "foo")?;
+    let full = PathBuf::from_text(alloc, "foo")?;
+    let _dry = drought(alloc)?;
+    assert!(rt; is_read(&foo));
+    assert!(rt; stays_full(full));
+    assert!(rt; runs_over_nothing(alloc));
+    assert!(rt; joins_nothing(alloc));
+    assert!(rt; applies_nothing(alloc, &mut foo));
+    assert!(rt; is_edited(foo));
+    Ok(())
+}

@@ -1,0 +1,97 @@
+use super::super::drought;
+use super::{debug_has, display_has, hash_same, is_view, path};
+use std::cmp::Ordering;
+use std::test::Fail;
+use unix_path::bytes::UnixStr;
+use unix_path::{Component, Display, Path, StripPrefixError, is_separator};
+
+fn is_made() -> bool {
+    Path::new(UnixStr::new("/a")) == path("/a")
+        && Path::from_bytes(b"/a") == path("/a")
+        && is_separator('/')
+        && path("/a").is_absolute()
+        && path("/a").has_root()
+        && path("a").is_relative()
+}
+
+fn is_shown() -> bool {
+    path("a").to_str() == Some("a")
+        && display_has(&path("a").display(), 1)
+        && display_has(&Display::from_bytes(b"a\xff"), 4)
+        && debug_has(&Display::from_bytes(b"a"), 3)
+        && debug_has(&path("/a"), 4)
+}
+
+fn has_names() -> bool {
+    path("a/b.c").file_name() == Some(UnixStr::new("b.c"))
+        && path("a/b.c").file_stem() == Some(UnixStr::new("b"))
+        && path("a/b.c").extension() == Some(UnixStr::new("c"))
+}
+
+fn has_parents() -> bool {
+    let mut ancestors = path("a/b").ancestors();
+    path("a/b").parent() == Some(path("a"))
+        && ancestors.next() == Some(path("a/b"))
+        && ancestors.next() == Some(path("a"))
+        && path("a/b").common_dir(path("a/c")) == 2
+}
+
+fn has_prefixes() -> bool {
+    path("a//b").starts_with(path("a"))
+        && path("a/b").ends_with(path("b"))
+        && path("a//b").strip_prefix(path("a")) == Ok(path("b"))
+        && path("a").strip_prefix(path("b")).is_err()
+}
+
+fn is_printed(error: &StripPrefixError) -> bool {
+    display_has(error, 16)
+}
+
+fn is_compared() -> bool {
+    path("a//b") == path("a/b")
+        && path("a/b").cmp(&path("a.b")) == Ordering::Less
+        && hash_same(&path("a//b"), &path("a/b"))
+}
+
+fn is_walked() -> bool {
+    let mut parts = path("/a/b").components();
+    parts.next() == Some(Component::RootDir)
+        && parts.next_back() == Some(Component::Normal(UnixStr::new("b")))
+        && is_view(parts.as_path(), "a")
+        && parts == path("a").components()
+        && debug_has(&parts, 25)
+}
+
+fn is_listed() -> bool {
+    let mut names = path("/a/b").iter();
+    names.next() == Some(UnixStr::new("/"))
+        && names.next_back() == Some(UnixStr::new("b"))
+        && is_view(names.as_path(), "a")
+        && debug_has(&names, 11)
+}
+
+fn has_parts() -> bool {
+    let part = Component::Normal(UnixStr::new("a"));
+    part.as_unix_str() == UnixStr::new("a")
+        && is_view(part.as_path(), "a")
+        && hash_same(&part, &Component::Normal(UnixStr::new("a")))
+}
+
+#[test]
+fn views_need_no_memory(rt: HostRuntime) -> Result<(), Fail> {
+    let Err(error) = path("a").strip_prefix(path("b")) else {
+        return Err(Fail::new("a prefix"));
+    };
+    let _dry = drought(rt.alloc())?;
+    assert!(rt; is_made());
+    assert!(rt; is_shown());
+    assert!(rt; has_names());
+    assert!(rt; has_parents());
+    assert!(rt; has_prefixes());
+    assert!(rt; is_printed(&error));
+    assert!(rt; is_compared());
+    assert!(rt; is_walked());
+    assert!(rt; is_listed());
+    assert!(rt; has_parts());
+    Ok(())
+}

@@ -1,0 +1,139 @@
+use super::{holds, path, told};
+use std::alloc::{AllocError, Global};
+use std::test::Fail;
+use unix_path::PathBuf;
+use unix_path::bytes::UnixStr;
+
+// `foo`, and room for 97 bytes more.
+fn roomy_foo(alloc: Global) -> Result<PathBuf, AllocError> {
+    let mut buffer = PathBuf::with_capacity(alloc, 100)?;
+    buffer.push(path("foo"))?;
+    Ok(buffer)
+}
+
+// Of an edit of the path `before`.
+fn told_edit(
+    edited: Result<(), AllocError>,
+    buffer: &PathBuf,
+    before: &str,
+    after: &str,
+) -> Result<(), Fail> {
+    let is_made = edited.is_ok();
+    told(is_made, holds(buffer, if is_made { after } else { before }))
+}
+
+#[test]
+fn path_pushed(rt: HostRuntime) -> Result<(), Fail> {
+    let mut buffer = PathBuf::from_text(rt.alloc(), "ab")?;
+    let edited = buffer.push(path("cd"));
+    told_edit(edited, &buffer, "ab", "ab/cd")
+}
+
+#[test]
+fn rooted_path_pushed(rt: HostRuntime) -> Result<(), Fail> {
+    let mut buffer = PathBuf::from_text(rt.alloc(), "ab")?;
+    let edited = buffer.push(path("/cd"));
+    told_edit(edited, &buffer, "ab", "/cd")
+}
+
+#[test]
+fn name_set(rt: HostRuntime) -> Result<(), Fail> {
+    let mut buffer = PathBuf::from_text(rt.alloc(), "a/bb")?;
+    let edited = buffer.set_file_name(UnixStr::new("ccc"));
+    told_edit(edited, &buffer, "a/bb", "a/ccc")
+}
+
+#[test]
+fn extension_set(rt: HostRuntime) -> Result<(), Fail> {
+    let mut buffer = PathBuf::from_text(rt.alloc(), "foo/.")?;
+    let answer = buffer.set_extension(UnixStr::new("bar"));
+    let is_false = matches!(answer, Ok(false));
+    let is_made = answer.is_ok();
+    let text = if is_made { "foo.bar" } else { "foo/." };
+    told(is_made, !is_false && holds(&buffer, text))
+}
+
+#[test]
+fn path_with_room(rt: HostRuntime) -> Result<(), Fail> {
+    let mut buffer = PathBuf::from_text(rt.alloc(), "foo")?;
+    let is_made = buffer.reserve(6).is_ok();
+    let has_room = buffer.capacity() >= 9;
+    told(is_made, has_room == is_made && holds(&buffer, "foo"))
+}
+
+#[test]
+fn path_with_exact_room(rt: HostRuntime) -> Result<(), Fail> {
+    let mut buffer = PathBuf::from_text(rt.alloc(), "foo")?;
+    let is_made = buffer.reserve_exact(6).is_ok();
+    let capacity = if is_made { 9 } else { 3 };
+    told(
+        is_made,
+        buffer.capacity() == capacity && holds(&buffer, "foo"),
+    )
+}
+
+#[test]
+fn path_without_room(rt: HostRuntime) -> Result<(), Fail> {
+    let mut buffer = roomy_foo(rt.alloc())?;
+    let is_made = buffer.shrink_to_fit().is_ok();
+    let capacity = if is_made { 3 } else { 100 };
+    told(
+        is_made,
+        buffer.capacity() == capacity && holds(&buffer, "foo"),
+    )
+}
+
+#[test]
+fn path_with_less_room(rt: HostRuntime) -> Result<(), Fail> {
+    let mut buffer = roomy_foo(rt.alloc())?;
+    let is_made = buffer.shrink_to(5).is_ok();
+    let capacity = if is_made { 5 } else { 100 };
+    told(
+        is_made,
+        buffer.capacity() == capacity && holds(&buffer, "foo"),
+    )
+}
+
+// What `ab` is after no push, and after each of three, all of which grow it.
+const EXTENDED: [&str; 4] = [
+    "ab",
+    "ab/c",
+    "ab/c/0123456789",
+    "ab/c/0123456789/0123456789012345678901234567890123456789",
+];
+
+// Whether the path holds what the pushes before the refused one left: the next is longer than its
+// capacity.
+fn is_cut_short(buffer: &PathBuf) -> bool {
+    let [none, one, two, three] = EXTENDED;
+    let next = if holds(buffer, none) {
+        one
+    } else if holds(buffer, one) {
+        two
+    } else if holds(buffer, two) {
+        three
+    } else {
+        return false;
+    };
+    buffer.capacity() < next.len()
+}
+
+#[test]
+fn path_extended(rt: HostRuntime) -> Result<(), Fail> {
+    let mut buffer = PathBuf::from_text(rt.alloc(), "ab")?;
+    let items = [
+        path("c"),
+        path("0123456789"),
+        path("0123456789012345678901234567890123456789"),
+    ];
+    let is_made = buffer.extend(items.iter().copied()).is_ok();
+    let [_, _, _, whole] = EXTENDED;
+    told(
+        is_made,
+        if is_made {
+            holds(&buffer, whole)
+        } else {
+            is_cut_short(&buffer)
+        },
+    )
+}

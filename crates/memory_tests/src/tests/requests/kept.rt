@@ -1,0 +1,93 @@
+use super::{path, told, told_path};
+use std::alloc::{AllocError, Global};
+use std::test::Fail;
+use unix_path::bytes::UnixStr;
+use unix_path::{BoxedPath, CowPath, PathBuf, RcPath};
+
+// `foo/`, and room for 96 bytes more.
+fn roomy_foo(alloc: Global) -> Result<PathBuf, AllocError> {
+    let mut buffer = PathBuf::with_capacity(alloc, 100)?;
+    buffer.push(path("foo/"))?;
+    Ok(buffer)
+}
+
+// Of a call that gives the boxed path `foo/`.
+fn told_boxed(given: Result<BoxedPath, AllocError>) -> Result<(), Fail> {
+    match given {
+        Ok(boxed) => told(true, boxed.as_path().as_unix_str() == UnixStr::new("foo/")),
+        Err(AllocError) => told(false, true),
+    }
+}
+
+// Of a call that gives the shared path `foo/`.
+fn told_shared(given: Result<RcPath, AllocError>) -> Result<(), Fail> {
+    match given {
+        Ok(shared) => told(true, shared.as_path().as_unix_str() == UnixStr::new("foo/")),
+        Err(AllocError) => told(false, true),
+    }
+}
+
+#[test]
+fn boxed_from_view(rt: HostRuntime) -> Result<(), Fail> {
+    told_boxed(BoxedPath::from_path(rt.alloc(), path("foo/")))
+}
+
+#[test]
+fn boxed_from_buffer(rt: HostRuntime) -> Result<(), Fail> {
+    told_boxed(BoxedPath::from_path_buf(roomy_foo(rt.alloc())?))
+}
+
+#[test]
+fn boxed_from_borrowed(rt: HostRuntime) -> Result<(), Fail> {
+    let borrowed = CowPath::Borrowed(path("foo/"));
+    told_boxed(BoxedPath::from_cow(rt.alloc(), borrowed))
+}
+
+#[test]
+fn boxed_from_owned(rt: HostRuntime) -> Result<(), Fail> {
+    let owned = CowPath::Owned(roomy_foo(rt.alloc())?);
+    told_boxed(BoxedPath::from_cow(rt.alloc(), owned))
+}
+
+#[test]
+fn buffer_boxed(rt: HostRuntime) -> Result<(), Fail> {
+    told_boxed(roomy_foo(rt.alloc())?.into_boxed_path())
+}
+
+#[test]
+fn boxed_copied(rt: HostRuntime) -> Result<(), Fail> {
+    let boxed = BoxedPath::from_path(rt.alloc(), path("foo/"))?;
+    told_boxed(boxed.clone())
+}
+
+#[test]
+fn boxed_unboxed(rt: HostRuntime) -> Result<(), Fail> {
+    let boxed = BoxedPath::from_path(rt.alloc(), path("foo/"))?;
+    told_path(boxed.into_path_buf(rt.alloc()), "foo/")
+}
+
+#[test]
+fn shared_from_view(rt: HostRuntime) -> Result<(), Fail> {
+    told_shared(RcPath::from_path(rt.alloc(), path("foo/")))
+}
+
+#[test]
+fn shared_from_buffer(rt: HostRuntime) -> Result<(), Fail> {
+    let buffer = PathBuf::from_text(rt.alloc(), "foo/")?;
+    told_shared(RcPath::from_path_buf(rt.alloc(), buffer))
+}
+
+#[test]
+fn shared_again(rt: HostRuntime) -> Result<(), Fail> {
+    let shared = RcPath::from_path(rt.alloc(), path("foo/"))?;
+    told_shared(shared.clone())
+}
+
+#[test]
+fn owned_copied(rt: HostRuntime) -> Result<(), Fail> {
+    let owned = CowPath::Owned(PathBuf::from_text(rt.alloc(), "foo/")?);
+    match owned.clone() {
+        Ok(copy) => told(true, copy.as_path().as_unix_str() == UnixStr::new("foo/")),
+        Err(AllocError) => told(false, true),
+    }
+}

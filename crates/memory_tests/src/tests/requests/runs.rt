@@ -1,0 +1,73 @@
+use super::{holds, path, told, told_path};
+use path_runs::canonical::canonical;
+use path_runs::edits::{Edit, apply, rejoin};
+use path_runs::walk::{Turn, walk};
+use std::alloc::AllocError;
+use std::test::Fail;
+use unix_path::PathBuf;
+use unix_path::bytes::UnixStr;
+
+// The canonical spelling of `SOURCE`.
+const SPELLING: &str = "./01234567/0123456789/0123456789012345678901234567890123456789";
+
+const SOURCE: &str = ".//01234567/./0123456789//0123456789012345678901234567890123456789/.";
+
+#[test]
+fn path_spelled(rt: HostRuntime) -> Result<(), Fail> {
+    told_path(canonical(rt.alloc(), path(SOURCE)), SPELLING)
+}
+
+#[test]
+fn path_rejoined(rt: HostRuntime) -> Result<(), Fail> {
+    match rejoin(rt.alloc(), path("/a//b/."), path("/a/")) {
+        Ok(Some(joined)) => told_path(Ok(joined), "/a/b"),
+        Ok(None) => told(true, false),
+        Err(AllocError) => told(false, true),
+    }
+}
+
+#[test]
+fn path_walked(rt: HostRuntime) -> Result<(), Fail> {
+    let turns = [
+        Turn::Front,
+        Turn::Back,
+        Turn::Front,
+        Turn::Front,
+        Turn::Front,
+        Turn::Front,
+    ];
+    match walk(rt.alloc(), path("/a/b/c/d/e/f"), turns.as_slice()) {
+        Ok(walked) => {
+            let is_right = walked.front.len() == 5 && walked.behind.len() == 1;
+            told(true, is_right && walked.rest == path("e"))
+        }
+        Err(AllocError) => told(false, true),
+    }
+}
+
+// What `ab` is after so many of the edits.
+fn edited_text(done: usize) -> &'static str {
+    match done {
+        0 => "ab",
+        1 => "ab/c",
+        2 => "",
+        _ => "01234567890123456789",
+    }
+}
+
+#[test]
+fn edits_applied(rt: HostRuntime) -> Result<(), Fail> {
+    let edits = [
+        Edit::Push(path("c")),
+        Edit::Clear,
+        Edit::SetFileName(UnixStr::new("01234567890123456789")),
+    ];
+    let mut buffer = PathBuf::from_text(rt.alloc(), "ab")?;
+    match apply(rt.alloc(), &mut buffer, edits.as_slice()) {
+        Ok(answers) => told(true, answers.len() == 3 && holds(&buffer, edited_text(3))),
+        Err(error) => told(
+            false,
+            error.done < 3 && holds(&buffer, edited_text(error.done)),
+        ),
+    }
+}
