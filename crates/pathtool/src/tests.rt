@@ -1,6 +1,6 @@
 mod added;
 mod faults;
-mod refused;
+mod memory;
 mod rows;
 
 use crate::run::{RunError, run};
