@@ -1,6 +1,7 @@
 mod added;
 mod faults;
 mod memory;
+mod refused;
 mod rows;
 
 use crate::run::{RunError, run};

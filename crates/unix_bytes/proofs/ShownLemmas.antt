@@ -1,6 +1,7 @@
 -- Lossy text that is written piece by piece.
 use Rattle.std.proofs.Common.{◌≡◌, ℕ, ◌+◌, ◌<◌, ◌≤◌, List, [], ◌∷◌, ◌++◌, length, take, drop, refl}
-use Rattle.std.proofs.Common.{sym, ap, ◌∙◌, subst, arith, append_assoc, append-nil, take-append-drop}
+use Rattle.std.proofs.Common.{sym, ap, ◌∙◌, subst, arith, append_assoc, append-nil}
+use Rattle.std.proofs.Common.{take-append-drop}
 use Rattle.std.proofs.Common.{length-take-le, ⊎_elim, slice_index, slice_set}
 use Rattle.std.proofs.lemmas.List.{drop-drop, take-take, take_more_set, nil_from_length}
 use Rattle.std.specs.Str.{IsUtf8}
@@ -49,7 +50,8 @@ shows_broken (b ∷ bs) before n after (some, is) e =
           ∙ ap (λ t. before ++ t) (ap (λ k. replacement ++ lossy_of (drop k s)) (sym len)
           ∙ sym (lossy_of-none b bs none));
       text = λ k. subst IsText (sym e)
-          (IsText-append before replacement k (IsText-sequence replacement replacement_is_sequence));
+          (IsText-append before replacement k
+          (IsText-sequence replacement replacement_is_sequence));
     }
 
 -- a piece and then another

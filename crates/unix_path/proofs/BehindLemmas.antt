@@ -1,5 +1,6 @@
 -- What is left of a string behind a place just after one of its slashes.
-use Rattle.std.proofs.Common.{◌≡◌, ℕ, false, ◌+◌, ◌-◌, ◌<◌, ◌≤◌, List, [], ◌∷◌, ◌++◌, length, get_or}
+use Rattle.std.proofs.Common.{◌≡◌, ℕ, false, ◌+◌, ◌-◌, ◌<◌, ◌≤◌, List, [], ◌∷◌, ◌++◌, length}
+use Rattle.std.proofs.Common.{get_or}
 use Rattle.std.proofs.Common.{take, drop, map, sym, ap, subst, ◌∙◌, arith, take_all, drop-drop}
 use Rattle.std.proofs.Common.{length-append, length-take-le, take-append-drop, drop_at}
 use Rattle.std.proofs.lemmas.List.{length-map}

@@ -98,7 +98,8 @@ common_dir_of-cuts a b some =
       same = same;
       first_slash = here;
       second_slash = sym (get_or-take n b (n - 1) 0 (omega arith))
-          ∙ ap (λ t. get_or t (n - 1) 0) (sym same) ∙ get_or-take n a (n - 1) 0 (omega arith) ∙ here;
+          ∙ ap (λ t. get_or t (n - 1) 0) (sym same)
+          ∙ get_or-take n a (n - 1) 0 (omega arith) ∙ here;
     }
 
 -- the order of two strings that begin with the same bytes, up to a slash

@@ -127,7 +127,8 @@ steps_first t e d v l first m idle busy =
       value = ap (map (λ p. p.value)) first
           ∙ ap (λ vs. v ∷ vs) (ap (map (λ p. p.value)) idle ∙ values-inner_parts (e + d) u
           ∙ ap (map (λ p. p.value)) (sym (parts-busy u next)) ∙ ap values is);
-      takes = λ ends. subst (λ u. TakesFirst t u v) is (takes_first t e d v ends l m first idle next);
+      takes = λ ends. subst (λ u. TakesFirst t u v) is
+          (takes_first t e d v ends l m first idle next);
       busy = subst (λ u. 0 < length u → is_idle u 0 ≡ false) is next;
     }
 

@@ -13,7 +13,8 @@ pub returns-then-ascii-eq16-2-clause-shown : goal.returns-then-ascii-eq16-2-clau
 returns-then-ascii-eq16-2-clause-shown c =
     let s = c.args.source.now in
     let ascii = c.ascii_in_sixteen-ascii.ensures in
-    subst (λ n. Shows s (take c.args.at c.args.out.now) n (take (c.args.at + n) c.place_first.new.out))
+    subst (λ n. Shows s (take c.args.at c.args.out.now) n
+    (take (c.args.at + n) c.place_first.new.out))
     c.if-ascii-eq16-2.true
     (shows_text s _ _ _ (ascii_is_text _ ascii.ascii) (c.place_first.ensures.placed _ ascii.bound))
 
@@ -28,7 +29,8 @@ returns-clause-shown c =
 pub returns-then-not-may_begin-clause-shown : goal.returns-then-not-may_begin-clause-shown
 returns-then-not-may_begin-clause-shown c =
     let s = c.args.source.now in
-    let end = λ (h : HasBegun s 2). true≢false (sym (c.may_begin.ensures h) ∙ c.if-not-may_begin.true) in
+    let end = λ (h : HasBegun s 2).
+    true≢false (sym (c.may_begin.ensures h) ∙ c.if-not-may_begin.true) in
     let one = one_byte_broken s (omega arith) end (omega arith) in
     shows_broken s _ 1 _ (omega arith, sym one)
     (rw c.as_bytes.ensures.value at c.place.ensures.placed)

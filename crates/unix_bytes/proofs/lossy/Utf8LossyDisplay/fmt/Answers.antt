@@ -20,7 +20,8 @@ returns-then-is_empty-clause-styled g c = λ p q.
     let split = c.split_text.ensures in
     let none = eqb-true _ 0 (sym c.is_empty.ensures ∙ c.if-is_empty.true) in
     styled_same g.W.Write.write_str_gives _ _ _ _
-    (split_padded (padded _) c.args.self.now.bytes.now _ _ _ split.valid split.broken split.rest none)
+    (split_padded (padded _) c.args.self.now.bytes.now _ _ _ split.valid split.broken
+    split.rest none)
     (c.pad.ensures.styled p q)
 
 pub returns-then-valid-clause-styled : goal.returns-then-valid-clause-styled

@@ -6,5 +6,6 @@ pub returns : goal.returns
 returns c =
     let path = c.args.path.now in
     let idle = simp take_rest at c.idle_len.ensures in
-    steps_first path 2 c.idle_len.result _ (length-parent_first path c.requires.parent) (parts-parent_first path c.requires.parent)
+    steps_first path 2 c.idle_len.result _ (length-parent_first path c.requires.parent)
+    (parts-parent_first path c.requires.parent)
     idle.in_range (idle.idle 2) idle.busy
