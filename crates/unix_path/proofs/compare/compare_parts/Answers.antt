@@ -58,7 +58,10 @@ returns c =
     (λ some. elim c.loop-x_len-test.branch [
       | then-loop-x_len-test+else-not-is_empty w ↦
           eqb-true _ 0 (sym w.is_empty-in-loop-x_len.ensures ∙ w.if-not-is_empty.false)
-      | else-loop-x_len-test w ↦ absurd (omega (arith, some,
-          eqb-true (length x) 0 (sym c.is_empty.ensures ∙ w.loop-x_len-test.false)))
+      | else-loop-x_len-test w ↦ absurd (omega (
+        arith,
+        some,
+        eqb-true (length x) 0 (sym c.is_empty.ensures ∙ w.loop-x_len-test.false),
+      ))
     ])
     ∙ c.loop-x_len.invariant.same
