@@ -1,9 +1,9 @@
 mod buffers;
 mod json;
-mod promised;
 mod requests;
 mod runs;
 mod strings;
+mod without_memory;
 
 use memory_drought::Drought;
 use std::alloc::Global;

@@ -57,7 +57,7 @@ pub fn canonical(alloc: Global, path: Path<'_>) -> Result<PathBuf, AllocError>
     if is_spelled(whole) {
         return whole.to_path_buf(alloc);
     }
-    let mut spelled = PathBuf::with_capacity(alloc, whole.as_unix_str().len())?;
-    spelled.extend(parts.map(|part| part.as_path()))?;
-    Ok(spelled)
+    let mut spelling = PathBuf::with_capacity(alloc, whole.as_unix_str().len())?;
+    spelling.extend(parts.map(|part| part.as_path()))?;
+    Ok(spelling)
 }

@@ -1,7 +1,7 @@
 mod added;
 mod faults;
 mod memory;
-mod refused;
+mod refusals;
 mod rows;
 
 use crate::run::{RunError, run};

@@ -22,7 +22,7 @@ pub mod WriteLemmas
 pub mod LawLemmas
 pub mod PartitionLemmas
 pub mod OnlyLemmas
-pub mod ShownLemmas
+pub mod PrinterLemmas
 pub mod PushLemmas
 pub mod HitLemmas
 pub mod CommonLemmas

@@ -8,5 +8,5 @@ pub mod Owned
 pub mod Steps
 pub mod Lanes
 pub mod Windows
-pub mod Shown
+pub mod Printer
 pub mod Laws

@@ -7,7 +7,7 @@ ghost use Rattle.unix_bytes.specs.Lossy.{lossy_of};
 ghost use Rattle.unix_bytes.specs.Chunks.{replacement_for};
 
 use crate::lossy::Utf8Lossy;
-use crate::shown::show_first;
+use crate::printer::show_first;
 use crate::utf8::{split_text, to_text};
 use std::alloc::{AllocError, Global};
 use std::fmt;

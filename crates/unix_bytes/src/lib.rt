@@ -4,8 +4,8 @@
 pub mod bytes;
 pub mod laws;
 pub mod lossy;
+mod printer;
 pub mod search;
-mod shown;
 #[cfg(test)]
 mod tests;
 mod utf8;

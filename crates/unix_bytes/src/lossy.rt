@@ -10,7 +10,7 @@ ghost use Rattle.unix_bytes.specs.Utf8.{IsSequence, BeginsSequence};
 ghost use Rattle.unix_bytes.specs.Lossy.{is_text, lossy_of};
 ghost use Rattle.unix_bytes.specs.Chunks.{chunks_of, chunk_of, chunks_left, shown_chunk};
 
-use crate::shown::show_first;
+use crate::printer::show_first;
 use crate::utf8::split_text;
 use std::iter::FusedIterator;
 use std::{fmt, str};

@@ -22,7 +22,7 @@ returns c =
     let joins = c.in_ok-extend.ensures.ok in
     let values_left = cursor_values c.components-parts.result in
     joins.bytes
-    ∙ ap₂ join_all_of c.in_ok-spelled.ensures.bytes
+    ∙ ap₂ join_all_of c.in_ok-spelling.ensures.bytes
     (map-drained bytes_of joins.paths (map value_bytes values_left) joins.drained
     (YieldsList-from_map_by _ bytes_of value_bytes
     (YieldsList-at c.map.ensures.source (Components-yields c.components-parts.result))

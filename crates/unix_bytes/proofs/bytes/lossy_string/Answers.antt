@@ -4,7 +4,7 @@ use Rattle.std.proofs.lemmas.List.{take_rest}
 use Rattle.unix_bytes.specs.Lossy.{lossy_of}
 use Rattle.unix_bytes.specs.Chunks.{replacement_for}
 use Rattle.unix_bytes.proofs.PushLemmas.{pushed_is_utf8}
-use Rattle.unix_bytes.proofs.ShownLemmas.{pushed_piece}
+use Rattle.unix_bytes.proofs.PrinterLemmas.{pushed_piece}
 use Rattle.unix_bytes.proofs.bytes.lossy_string.Goals as goal
 
 pub from_utf8_unchecked-requires : goal.from_utf8_unchecked-requires
@@ -19,7 +19,7 @@ from_utf8_unchecked-requires c =
       c.as_bytes.ensures.value,
     )
     (subst IsUtf8 (sym (pushed_piece _ _ rest _ _ (take_rest rest c.show_first-read.result.0)
-    c.show_first-read.ensures.shown)) (pushed_is_utf8 c.args.text.now c.args.broken.now rest
+    c.show_first-read.ensures.lossy)) (pushed_is_utf8 c.args.text.now c.args.broken.now rest
     c.utf8.text))
 
 pub returns : goal.returns
@@ -36,5 +36,5 @@ returns c =
       c.as_bytes.ensures.value,
     )
     (pushed_piece _ _ rest _ _ (take_rest rest c.show_first-read.result.0)
-    c.show_first-read.ensures.shown) in
+    c.show_first-read.ensures.lossy) in
     ap (λ v. v.items) c.from_utf8_unchecked.ensures.value ∙ pushed

@@ -3,7 +3,7 @@ use Rattle.std.proofs.lemmas.Bool.{eqb-true}
 use Rattle.std.proofs.lemmas.List.{nil_from_length, take_rest}
 use Rattle.unix_bytes.specs.Lossy.{lossy_of}
 use Rattle.unix_bytes.proofs.LossyLemmas.{lossy_of-nil}
-use Rattle.unix_bytes.proofs.ShownLemmas.{pushed_piece}
+use Rattle.unix_bytes.proofs.PrinterLemmas.{pushed_piece}
 use Rattle.unix_bytes.proofs.PushLemmas.{pushed_more, split_smaller}
 use Rattle.unix_bytes.proofs.bytes.push_lossy.Goals as goal
 
@@ -23,7 +23,7 @@ loop-left-preserved c =
     let more = pushed_more c.loop-left.bytes.items c.loop-left.left.now _ _ _ split.valid
     split.broken split.rest in
     let piece = pushed_piece _ _ rest _ _ (take_rest rest c.show_first-read.result.0)
-    c.show_first-read.ensures.shown in
+    c.show_first-read.ensures.lossy in
     rw (
       c.in_ok-extend_from_slice.ensures.items,
       c.in_ok-push_broken.ensures,

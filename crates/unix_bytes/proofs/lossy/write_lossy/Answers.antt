@@ -6,12 +6,12 @@ use Rattle.unix_bytes.specs.Lossy.{lossy_of}
 use Rattle.unix_bytes.specs.Chunks.{replacement_for}
 use Rattle.unix_bytes.proofs.LossyLemmas.{lossy_of-nil}
 use Rattle.unix_bytes.proofs.PushLemmas.{split_smaller, lossy_of-split}
-use Rattle.unix_bytes.proofs.ShownLemmas.{pushed_piece, piece_is_utf8, last_piece}
+use Rattle.unix_bytes.proofs.PrinterLemmas.{pushed_piece, piece_is_utf8, last_piece}
 use Rattle.unix_bytes.proofs.WriteLemmas.{written_append, written_same, styled_append, styled_same}
 use Rattle.unix_bytes.proofs.lossy.write_lossy.Goals as goal
 
 pub write_text-requires : goal.write_text-requires
-write_text-requires g c = piece_is_utf8 _ _ _ c.show_first-read.ensures.shown
+write_text-requires g c = piece_is_utf8 _ _ _ c.show_first-read.ensures.lossy
 
 pub loop-left-smaller : goal.loop-left-smaller
 loop-left-smaller g c =
@@ -28,21 +28,21 @@ loop-left-preserved g c =
     let left = c.loop-left.left.now in
     let split = c.split_text.ensures in
     let rest = c.split_text.result.2.now in
-    let shown = c.split_text.result.0.now ++ replacement_for c.split_text.result.1.now in
+    let chunk = c.split_text.result.0.now ++ replacement_for c.split_text.result.1.now in
     let piece = take c.show_first-read.result.1 c.show_first-read.new.out in
     let said : (bs : List ℕ) → bs ++ lossy_of left ≡ lossy_of c.args.source.now
-    → ((bs ++ piece) ++ shown) ++ lossy_of rest ≡ lossy_of c.args.source.now = λ bs e.
-    append_assoc (bs ++ piece) shown (lossy_of rest)
+    → ((bs ++ piece) ++ chunk) ++ lossy_of rest ≡ lossy_of c.args.source.now = λ bs e.
+    append_assoc (bs ++ piece) chunk (lossy_of rest)
     ∙ ap (λ t. (bs ++ piece) ++ t) (lossy_of-split _ _ _ _ split.valid split.broken split.rest)
     ∙ pushed_piece bs piece left _ _ (take_rest left c.show_first-read.result.0)
-    c.show_first-read.ensures.shown ∙ e in
+    c.show_first-read.ensures.lossy ∙ e in
     record {
       plain = λ p.
           let (bs, h, e) = c.loop-left.invariant.plain p in
           let k = written_append took _ bs _ piece _ h
           (c.in_ok-write_text.ensures.writes h.plain (refl {a = true})) in (
-            (bs ++ piece) ++ shown,
-            written_append took _ (bs ++ piece) _ shown _ k
+            (bs ++ piece) ++ chunk,
+            written_append took _ (bs ++ piece) _ chunk _ k
                 (c.in_ok-write_chunk.ensures.writes k.plain (refl {a = true})),
             said bs e,
           );
@@ -50,8 +50,8 @@ loop-left-preserved g c =
           let (bs, h, e) = c.loop-left.invariant.styled p in
           let k = styled_append took _ bs _ piece _ h
           (c.in_ok-write_text.ensures.styled h.flush (refl {a = true})) in (
-            (bs ++ piece) ++ shown,
-            styled_append took _ (bs ++ piece) _ shown _ k
+            (bs ++ piece) ++ chunk,
+            styled_append took _ (bs ++ piece) _ chunk _ k
                 (c.in_ok-write_chunk.ensures.styled k.flush (refl {a = true})),
             said bs e,
           );
@@ -63,7 +63,7 @@ returns-then-is_empty-clause-writes g c = λ p q.
     let left = c.loop-left.left.now in
     let none = eqb-true _ 0 (sym c.is_empty-in-loop-left.ensures ∙ c.if-is_empty.true) in
     let last = last_piece left _ _ _ (take_rest left c.show_first-read.result.0) none
-    c.show_first-read.ensures.shown in
+    c.show_first-read.ensures.lossy in
     let (bs, h, e) = c.loop-left.invariant.plain p in
     written_same took _ _ _ _ (ap (λ t. bs ++ t) last ∙ e)
     (written_append took _ bs _ _ _ h (c.in_ok-write_text.ensures.writes h.plain (refl {a = true})))
@@ -74,7 +74,7 @@ returns-then-is_empty-clause-styled g c = λ p q.
     let left = c.loop-left.left.now in
     let none = eqb-true _ 0 (sym c.is_empty-in-loop-left.ensures ∙ c.if-is_empty.true) in
     let last = last_piece left _ _ _ (take_rest left c.show_first-read.result.0) none
-    c.show_first-read.ensures.shown in
+    c.show_first-read.ensures.lossy in
     let (bs, h, e) = c.loop-left.invariant.styled p in
     styled_same took _ _ _ _ (ap (λ t. bs ++ t) last ∙ e)
     (styled_append took _ bs _ _ _ h (c.in_ok-write_text.ensures.styled h.flush (refl {a = true})))

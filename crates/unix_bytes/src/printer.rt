@@ -1,6 +1,6 @@
 //! Lossy text that is written into a buffer, a front at a time.
 ghost use Rattle.std.specs.Prelude.{◌≡◌, ℕ, ◌+◌, ◌≤◌, ◌<◌, ◌++◌, [], length, take, slice_index};
-ghost use Rattle.unix_bytes.specs.Shown.{Shows};
+ghost use Rattle.unix_bytes.specs.Printer.{Shows};
 
 use crate::utf8::ascii::{ascii_in_sixteen, is_ascii_block};
 use crate::utf8::fronts::{may_begin, wide_front};
@@ -11,7 +11,7 @@ use std::simd::Simd;
 fn place(out: &mut [u8], at: usize, bytes: &[u8])
     requires { at + length bytes.now ≤ length out.old }
     ensures len { length out.new ≡ length out.old }
-    ensures placed { take (at + length bytes.now) out.new ≡ take at out.old ++ bytes.now }
+    ensures bytes { take (at + length bytes.now) out.new ≡ take at out.old ++ bytes.now }
 {
     out[at..at + bytes.len()].copy_from_slice(bytes);
 }
@@ -22,7 +22,7 @@ fn place_first<const N: usize>(out: &mut [u8], at: usize, source: &[u8])
     requires room { at + N ≤ length out.old }
     requires some { N ≤ length source.now }
     ensures len { length out.new ≡ length out.old }
-    ensures placed { (k : ℕ) → k ≤ N
+    ensures bytes { (k : ℕ) → k ≤ N
         → take (at + k) out.new ≡ take at out.old ++ take k source.now }
 {
     Simd::<u8, N>::from_slice(source).copy_to_slice(&mut out[at..]);
@@ -31,7 +31,7 @@ fn place_first<const N: usize>(out: &mut [u8], at: usize, source: &[u8])
 // Writes the lossy text of the first front, which begins with no ASCII: how many bytes were read,
 // and where what was written ends.
 #[inline(always)]
-#[tactic(auto, using(crate::proofs::ShownLemmas::front_bounds))]
+#[tactic(auto, using(crate::proofs::PrinterLemmas::front_bounds))]
 fn show_front(source: &[u8], out: &mut [u8], at: usize) -> (usize, usize)
     requires some { 4 ≤ length source.now }
     requires wide { 0x80 ≤ slice_index source.now 0 }
@@ -39,7 +39,7 @@ fn show_front(source: &[u8], out: &mut [u8], at: usize) -> (usize, usize)
     ensures len { length out.new ≡ length out.old }
     ensures read { result.0 ≤ length source.now }
     ensures end { result.1 ≤ length out.new }
-    ensures shown { Shows source.now (take at out.old) result.0 (take result.1 out.new) }
+    ensures lossy { Shows source.now (take at out.old) result.0 (take result.1 out.new) }
 {
     match wide_front(source) {
         Ok(size) => {
@@ -63,7 +63,7 @@ fn show_wide(source: &[u8], out: &mut [u8], at: usize) -> (usize, usize)
     ensures len { length out.new ≡ length out.old }
     ensures read { result.0 ≤ length source.now }
     ensures end { result.1 ≤ length out.new }
-    ensures shown { Shows source.now (take at out.old) result.0 (take result.1 out.new) }
+    ensures lossy { Shows source.now (take at out.old) result.0 (take result.1 out.new) }
 {
     if 0x80 <= source[0] {
         if !may_begin(source) {
@@ -90,7 +90,7 @@ fn show_wide(source: &[u8], out: &mut [u8], at: usize) -> (usize, usize)
 // Writes the lossy text of the first front: how many bytes were read, and where what was written
 // ends.
 #[inline(never)]
-#[tactic(auto, using(crate::proofs::ShownLemmas::front_bounds))]
+#[tactic(auto, using(crate::proofs::PrinterLemmas::front_bounds))]
 fn show_last_front(source: &[u8], out: &mut [u8], at: usize) -> (usize, usize)
     requires some { 0 < length source.now }
     requires wide { 0x80 ≤ slice_index source.now 0 }
@@ -98,7 +98,7 @@ fn show_last_front(source: &[u8], out: &mut [u8], at: usize) -> (usize, usize)
     ensures len { length out.new ≡ length out.old }
     ensures read { result.0 ≤ length source.now }
     ensures end { result.1 ≤ length out.new }
-    ensures shown { Shows source.now (take at out.old) result.0 (take result.1 out.new) }
+    ensures lossy { Shows source.now (take at out.old) result.0 (take result.1 out.new) }
 {
     match wide_front(source) {
         Ok(size) => {
@@ -121,7 +121,7 @@ fn show_narrow(source: &[u8], out: &mut [u8], at: usize) -> (usize, usize)
     ensures len { length out.new ≡ length out.old }
     ensures read { result.0 ≤ length source.now }
     ensures end { result.1 ≤ length out.new }
-    ensures shown { Shows source.now (take at out.old) result.0 (take result.1 out.new) }
+    ensures lossy { Shows source.now (take at out.old) result.0 (take result.1 out.new) }
 {
     if source[0] < 0x80 {
         out[at] = source[0];
@@ -136,7 +136,7 @@ pub(crate) fn show_first(source: &[u8], out: &mut [u8]) -> (usize, usize)
     ensures len { length out.new ≡ length out.old }
     ensures read { result.0 ≤ length source.now }
     ensures end { result.1 ≤ length out.new }
-    ensures shown { Shows source.now [] result.0 (take result.1 out.new) }
+    ensures lossy { Shows source.now [] result.0 (take result.1 out.new) }
 {
     let mut read = 0;
     let mut end = 0;

@@ -1,6 +1,6 @@
 use Rattle.std.proofs.Common.{◌≡◌, ◌-◌, ◌≤◌, [], length, take}
-use Rattle.unix_bytes.specs.Shown.{Shows}
-use Rattle.unix_bytes.proofs.shown.show_first.Given as goal
+use Rattle.unix_bytes.specs.Printer.{Shows}
+use Rattle.unix_bytes.proofs.printer.show_first.Given as goal
 
 -- what is written is the lossy text of what is read
 abbrev pub invariant-loop-read : goal.invariant-loop-read
@@ -8,7 +8,7 @@ invariant-loop-read l = record {
   len : length l.out ≡ length l.initial.out;
   read : l.read ≤ length l.source;
   end : l.end ≤ length l.out;
-  shown : Shows l.source [] l.read (take l.end l.out);
+  lossy : Shows l.source [] l.read (take l.end l.out);
 }
 
 abbrev pub decreases-loop-read : goal.decreases-loop-read

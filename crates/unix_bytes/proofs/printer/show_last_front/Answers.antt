@@ -1,7 +1,7 @@
 use Rattle.std.proofs.Common.{◌≡◌, ◌+◌, length, take, ap, sym, ◌∙◌, arith, length-take-le}
 use Rattle.unix_bytes.proofs.StretchLemmas.{sequence_is_text}
-use Rattle.unix_bytes.proofs.ShownLemmas.{shows_text, shows_broken, sequence_is_short}
-use Rattle.unix_bytes.proofs.shown.show_last_front.Goals as goal
+use Rattle.unix_bytes.proofs.PrinterLemmas.{shows_text, shows_broken, sequence_is_short}
+use Rattle.unix_bytes.proofs.printer.show_last_front.Goals as goal
 
 pub place-requires : goal.place-requires
 place-requires c =
@@ -13,16 +13,16 @@ place-requires c =
       length-take-le c.in-Ok.size s c.in-Ok.ensures.within,
     )
 
-pub returns-in-Ok-clause-shown : goal.returns-in-Ok-clause-shown
-returns-in-Ok-clause-shown c =
+pub returns-in-Ok-clause-lossy : goal.returns-in-Ok-clause-lossy
+returns-in-Ok-clause-lossy c =
     let s = c.args.source.now in
     let n = c.in-Ok.size in
     let sequence = c.in-Ok.ensures.sequence in
     let long : length (take n s) ≡ n = length-take-le n s c.in-Ok.ensures.within in
     shows_text s _ n _ (sequence_is_text s _ sequence.0 sequence.1)
-    (ap (λ k. take (c.args.at + k) c.place.new.out) (sym long) ∙ c.place.ensures.placed)
+    (ap (λ k. take (c.args.at + k) c.place.new.out) (sym long) ∙ c.place.ensures.bytes)
 
-pub returns-in-Err-clause-shown : goal.returns-in-Err-clause-shown
-returns-in-Err-clause-shown c =
+pub returns-in-Err-clause-lossy : goal.returns-in-Err-clause-lossy
+returns-in-Err-clause-lossy c =
     shows_broken c.args.source.now _ c.in-Err.size _ c.in-Err.ensures.broken
-    (rw c.as_bytes.ensures.value at c.place-in-Err.ensures.placed)
+    (rw c.as_bytes.ensures.value at c.place-in-Err.ensures.bytes)

@@ -9,7 +9,7 @@ use Rattle.std.proofs.Math.Seq.{take-append-add}
 use Rattle.unix_bytes.specs.Utf8.{is_sequence, IsText}
 use Rattle.unix_bytes.specs.Lossy.{lossy_of, replacement}
 use Rattle.unix_bytes.specs.Steps.{longest_len, longest_front_of, broken_len}
-use Rattle.unix_bytes.specs.Shown.{Shows}
+use Rattle.unix_bytes.specs.Printer.{Shows}
 use Rattle.unix_bytes.proofs.SequenceLemmas.{sequence_len}
 use Rattle.unix_bytes.proofs.LongestLemmas.{longest_len-longest}
 use Rattle.unix_bytes.proofs.TextLemmas.{IsText-append, IsText-sequence, IsText-nil}
@@ -84,9 +84,9 @@ last_piece s piece t n e z p =
     ∙ p.lossy
 
 -- of the bytes that were written at a place, the first
-pub fewer_placed : (out old s : List ℕ) (at n k : ℕ) → k ≤ n → at ≤ length old
+pub takes_fewer : (out old s : List ℕ) (at n k : ℕ) → k ≤ n → at ≤ length old
     → take (at + n) out ≡ take at old ++ take n s → take (at + k) out ≡ take at old ++ take k s
-fewer_placed out old s at n k few within e =
+takes_fewer out old s at n k few within e =
     let long : length (take at old) ≡ at = length-take-le at old within in
     sym (take-take (at + k) (at + n) out (omega arith)) ∙ ap (take (at + k)) e
     ∙ ap (λ j. take (j + k) (take at old ++ take n s)) (sym long)
@@ -94,10 +94,10 @@ fewer_placed out old s at n k few within e =
     ∙ ap (λ t. take at old ++ t) (take-take k n s few)
 
 -- one byte that was written at a place
-pub one_placed : (out s : List ℕ) (at : ℕ) → 0 < length s → at < length out
+pub takes_one : (out s : List ℕ) (at : ℕ) → 0 < length s → at < length out
     → take (at + 1) (slice_set out at (slice_index s 0)) ≡ take at out ++ take 1 s
-one_placed out [] at some within = absurd (omega arith)
-one_placed out (b ∷ bs) at some within = take_more_set out at b within
+takes_one out [] at some within = absurd (omega arith)
+takes_one out (b ∷ bs) at some within = take_more_set out at b within
 
 pub first_is_text : (s : List ℕ) → slice_index s 0 < 0x80 → IsText (take 1 s)
 first_is_text s h = ascii_is_text (take 1 s) (one_more_ascii s 0 (none_is_ascii s) h)
