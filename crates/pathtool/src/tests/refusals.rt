@@ -49,8 +49,9 @@ fn one_refused_write_ends_a_display(rt: HostRuntime) -> Result<(), Fail> {
     let mut writer = Refusing::at(rt.alloc(), u32::MAX);
     assert!(rt; write!(writer, "{}", path.display()).is_ok());
     assert_eq!(rt; writer.text.as_str(), whole);
-    assert_eq!(rt; writer.writes, 3);
-    for refused in 0..3u32 {
+    let count = writer.writes;
+    assert!(rt; count > 0);
+    for refused in 0..count {
         let mut writer = Refusing::at(rt.alloc(), refused);
         let answer = write!(writer, "{}", path.display());
         assert!(rt; is_ended(&writer, answer, whole), "{refused}");
