@@ -55,15 +55,6 @@ window_len s i l = length-take-le 16 (drop i s) (omega (arith, length-drop i s))
 pub fewer_ascii : (s : List ℕ) (i j : ℕ) → i ≤ j → IsAscii (take j s) → IsAscii (take i s)
 fewer_ascii s i j le h = subst IsAscii (take-take i j s le) (IsAscii-take (take j s) i h)
 
--- a prefix that is ASCII of a prefix is one of the whole
-pub fewer_first : (s t : List ℕ) (i n : ℕ) → t ≡ take n s → n ≤ length s → i ≤ length t
-    → IsAscii (take i t) → (i ≤ length s) × IsAscii (take i s)
-fewer_first s t i n e within few h =
-    let l : i ≤ n = omega (arith, ap length e, length-take-le n s within) in (
-      omega arith,
-      subst IsAscii (ap (take i) e ∙ take-take i n s l) h,
-    )
-
 -- a block behind ASCII
 block_behind : (s : List ℕ) (i n : ℕ) → IsAscii (take i s) → IsAscii (take n (drop i s))
     → IsAscii (take (i + n) s)

@@ -21,9 +21,6 @@ use Rattle.unix_bytes.proofs.StretchLemmas.{ascii_is_text, sequence_within}
 use Rattle.unix_bytes.proofs.LaneLemmas.{none_is_ascii, one_more_ascii}
 use Rattle.unix_bytes.proofs.LawLemmas.{replacement_is_sequence}
 
-pub shows_none : (s before : List ℕ) → Shows s before 0 before
-shows_none s before = record { lossy = refl; text = λ h. h }
-
 -- text is written as it is
 pub shows_text : (s before : List ℕ) (n : ℕ) (after : List ℕ) → IsText (take n s)
     → after ≡ before ++ take n s → Shows s before n after

@@ -7,7 +7,7 @@ ghost use Rattle.unix_bytes.specs.Lossy.{lossy_of};
 ghost use Rattle.unix_bytes.specs.Chunks.{replacement_for};
 
 use crate::lossy::Utf8Lossy;
-use crate::printer::show_first;
+use crate::printer::{PIECE, show_first};
 use crate::utf8::{split_text, to_text};
 use std::alloc::{AllocError, Global};
 use std::fmt;
@@ -153,9 +153,6 @@ impl fmt::Debug for UnixStr<'_> {
         fmt::Debug::fmt(&Utf8Lossy::from_bytes(self.bytes), f)
     }
 }
-
-// How many bytes of lossy text are made at once.
-const PIECE: usize = 256;
 
 // The text, U+FFFD unless nothing is broken, and the lossy text of the rest. The capacity is known
 // at once where the lossy text of the rest is one piece.

@@ -10,7 +10,7 @@ ghost use Rattle.unix_bytes.specs.Utf8.{IsSequence, BeginsSequence};
 ghost use Rattle.unix_bytes.specs.Lossy.{is_text, lossy_of};
 ghost use Rattle.unix_bytes.specs.Chunks.{chunks_of, chunk_of, chunks_left, shown_chunk};
 
-use crate::printer::show_first;
+use crate::printer::{PIECE, show_first};
 use crate::utf8::split_text;
 use std::iter::FusedIterator;
 use std::{fmt, str};
@@ -136,9 +136,6 @@ fn write_chunk<W: fmt::Write>(chunk: Utf8LossyChunk<'_>, f: &mut fmt::Formatter<
     }
     f.write_str("\u{FFFD}")
 }
-
-// How many bytes of lossy text are written at once.
-const PIECE: usize = 256;
 
 // Writes bytes that are text.
 #[inline(always)]

@@ -6,6 +6,9 @@ use crate::utf8::ascii::{ascii_in_sixteen, is_ascii_block};
 use crate::utf8::fronts::{may_begin, wide_front};
 use std::simd::Simd;
 
+// How many bytes of lossy text are made at once.
+pub(crate) const PIECE: usize = 256;
+
 // Writes the bytes at the place.
 #[inline(always)]
 fn place(out: &mut [u8], at: usize, bytes: &[u8])
