@@ -5,10 +5,12 @@ pub mod PartLemmas
 pub mod IdleLemmas
 pub mod CutLemmas
 pub mod TrimLemmas
+pub mod TrailingLemmas
 pub mod LastLemmas
 pub mod SpanLemmas
 pub mod StepLemmas
 pub mod LeadLemmas
+pub mod LastPieceLemmas
 pub mod SplitLemmas
 pub mod MiddleLemmas
 pub mod RestLemmas

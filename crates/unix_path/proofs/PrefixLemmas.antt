@@ -5,21 +5,6 @@ use Rattle.unix_path.specs.Rest.{rest}
 use Rattle.unix_path.specs.Prefixes.{Begins, stripped_of}
 use Rattle.unix_path.specs.Steps.{StripsOn}
 use Rattle.unix_path.proofs.RestLemmas.{rest-rest}
-use Rattle.unix_path.proofs.ParentLemmas.{values-whole}
-
-pub strips_start : {s base u b : List ℕ} → u ≡ rest s 0 0 → b ≡ rest base 0 0
-    → StripsOn s base u (values b)
-strips_start {s} {base} {u} {b} e f =
-    let wanted : values b ≡ values base = values-whole base b f in
-    let whole : values u ≡ values s = values-whole s u e in
-    record {
-      count = 0;
-      rest_is = e;
-      counts = omega (arith, ap length wanted);
-      onward = λ h. subst (λ v. Begins v (values s)) wanted (subst (Begins (values b)) whole h);
-      back = λ h. subst (Begins (values b)) (sym whole)
-          (subst (λ v. Begins v (values s)) (sym wanted) h);
-    }
 
 pub begins_tail : (x y : Value) (v w : List Value) → Begins (x ∷ v) (y ∷ w) → (x ≡ y) × Begins v w
 begins_tail x y v w h =

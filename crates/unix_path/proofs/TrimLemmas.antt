@@ -66,6 +66,13 @@ parts_trailing s i l e =
     ∙ ap parts (sym before))
     is.1
 
+-- without its last byte, which doesn't count
+pub parts_shorter : (s : List ℕ) (n : ℕ) → 0 < n → n ≤ length s → is_trailing s (n - 1) ≡ true
+    → parts (take (n - 1) s) ≡ parts (take n s)
+parts_shorter s n some l e =
+    sym (parts_trailing s (n - 1) (omega arith) e)
+    ∙ ap (λ k. parts (take k s)) {x = n - 1 + 1} {y = n} (omega arith)
+
 -- what is left from any place on still ends in a part
 pub EndsInPart-drop : (s : List ℕ) (i : ℕ) → i ≤ length s → EndsInPart s → EndsInPart (drop i s)
 EndsInPart-drop s i l ends some =

@@ -1,5 +1,5 @@
 //! The first and the last part, found in bytes that hold just what is left of a walk.
-ghost use Rattle.std.specs.Prelude.{◌≡◌, ℕ, ◌+◌, ◌-◌, ◌<◌, ◌≤◌, true, false, length};
+ghost use Rattle.std.specs.Prelude.{◌≡◌, ℕ, ◌+◌, ◌-◌, ◌<◌, ◌≤◌, true, false, length, IsTrue};
 ghost use Rattle.std.specs.Prelude.{take, drop};
 ghost use Rattle.std.specs.Str.{bytes_eq};
 ghost use Rattle.unix_path.specs.Parts.{cur_dir, parts, inner_parts};
@@ -9,6 +9,7 @@ ghost use Rattle.unix_path.specs.Steps.{StepsFirst, TakesLast};
 ghost use Rattle.unix_path.specs.Views.{value_of};
 
 use crate::cursor::Component;
+use std::simd::prelude::*;
 use unix_bytes::bytes::UnixStr;
 use unix_bytes::search::{first_place, past_last};
 
@@ -117,7 +118,39 @@ fn is_trailing(path: &[u8], i: usize) -> bool
     0 < i && (path[i] == b'/' || (path[i] == b'.' && path[i - 1] == b'/'))
 }
 
-// Where the last part among the first `len` bytes ends.
+// True only where each of the 16 bytes from `at` on, which is not 0, is a slash, or a `.` after a
+// slash.
+#[inline]
+fn is_trailing_block(path: &[u8], at: usize) -> bool
+    requires behind { 0 < at }
+    requires in_range { at + 16 ≤ length path.now }
+    ensures { IsTrue result → ((k : ℕ) → at ≤ k → k < at + 16 → is_trailing path.now k ≡ true) }
+{
+    let slash = u8x16::splat(b'/');
+    let here = u8x16::from_slice(&path[at..]);
+    let before = u8x16::from_slice(&path[at - 1..]);
+    let is_no_dot = here.simd_ne(u8x16::splat(b'.'));
+    let other = here.simd_ne(slash) & (is_no_dot | before.simd_ne(slash));
+    other.to_bitmask() == 0
+}
+
+// Where the last part among the first `len` bytes ends, or some bytes further on: as far as blocks
+// of 16 say.
+#[inline(never)]
+fn trimmed_blocks_len(path: &[u8], len: usize) -> usize
+    requires { len ≤ length path.now }
+    ensures in_range { result ≤ len }
+    ensures same { parts (take result path.now) ≡ parts (take len path.now) }
+{
+    let mut end = len;
+    while end > 16 && is_trailing_block(path, end - 16) {
+        end -= 16;
+    }
+    end
+}
+
+// Where the last part among the first `len` bytes ends. Blocks are looked at where there is much
+// behind it, which is rare.
 #[inline]
 pub(super) fn trimmed_len(path: &[u8], len: usize) -> usize
     requires { len ≤ length path.now }
@@ -128,6 +161,9 @@ pub(super) fn trimmed_len(path: &[u8], len: usize) -> usize
     let mut end = len;
     while end > 0 && is_trailing(path, end - 1) {
         end -= 1;
+        if len - end == 8 {
+            end = trimmed_blocks_len(path, end);
+        }
     }
     end
 }

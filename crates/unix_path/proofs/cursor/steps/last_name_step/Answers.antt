@@ -2,7 +2,7 @@ use Rattle.std.proofs.Common.{◌-◌, get_or, take, sym, ap, ◌∙◌, subst, 
 use Rattle.std.proofs.lemmas.List.{take_rest}
 use Rattle.unix_path.specs.Parts.{Value}
 use Rattle.unix_path.specs.Steps.{IsLastStart, TakesLast}
-use Rattle.unix_path.proofs.LeadLemmas.{last_name}
+use Rattle.unix_path.proofs.LastPieceLemmas.{last_name}
 use Rattle.unix_path.proofs.StepLemmas.{takes_last, takes_root}
 use Rattle.unix_path.proofs.cursor.steps.last_name_step.Goals as goal
 

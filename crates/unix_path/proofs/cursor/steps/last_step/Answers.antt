@@ -2,7 +2,7 @@ use Rattle.std.specs.Str.{bytes_eq}
 use Rattle.std.proofs.Common.{◌-◌, refl, length, take, sym, ap, ◌∙◌, subst, arith}
 use Rattle.unix_path.specs.Parts.{Value}
 use Rattle.unix_path.specs.Steps.{TakesLast}
-use Rattle.unix_path.proofs.LeadLemmas.{length-with_parent, starts_dot, starts_parent}
+use Rattle.unix_path.proofs.LastPieceLemmas.{length-with_parent, starts_dot, starts_parent}
 use Rattle.unix_path.proofs.StepLemmas.{takes_last}
 use Rattle.unix_path.proofs.cursor.steps.last_step.Goals as goal
 

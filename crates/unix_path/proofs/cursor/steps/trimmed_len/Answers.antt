@@ -1,16 +1,27 @@
-use Rattle.std.proofs.Common.{◌+◌, ◌-◌, take, sym, ap, ◌∙◌, arith}
+use Rattle.std.proofs.Common.{◌≡◌, ◌-◌, take, sym, ◌∙◌, arith}
 use Rattle.unix_path.specs.Parts.{parts}
-use Rattle.unix_path.proofs.TrimLemmas.{parts_trailing}
+use Rattle.unix_path.proofs.TrimLemmas.{parts_shorter}
 use Rattle.unix_path.proofs.cursor.steps.trimmed_len.Goals as goal
+use Rattle.unix_path.proofs.cursor.steps.trimmed_len.Goals.{Then-is_trailing}
+
+shorter : (c : Then-is_trailing)
+    → parts (take (c.loop-end.end - 1) c.args.path.now) ≡ parts (take c.args.len c.args.path.now)
+shorter c =
+    parts_shorter c.args.path.now c.loop-end.end (omega arith) (omega arith)
+    (sym c.is_trailing.ensures ∙ c.if-is_trailing.true)
+    ∙ c.loop-end.invariant.same
 
 pub loop-end-preserved : goal.loop-end-preserved
 loop-end-preserved c =
-    let path = c.args.path.now in
-    let end = c.loop-end.end in
     record {
       in_range = omega arith;
-      same = sym (parts_trailing path (end - 1) (omega arith)
-          (sym c.is_trailing.ensures ∙ c.if-is_trailing.true))
-          ∙ ap (λ k. parts (take k path)) {x = end - 1 + 1} {y = end} (omega arith)
-          ∙ c.loop-end.invariant.same;
+      same = shorter (goal.at.loop-end-preserved c).Then-is_trailing;
+    }
+
+pub loop-end-preserved-then-len-end-eq8 : goal.loop-end-preserved-then-len-end-eq8
+loop-end-preserved-then-len-end-eq8 c =
+    record {
+      in_range = omega (arith, c.trimmed_blocks_len-end.ensures.in_range);
+      same = c.trimmed_blocks_len-end.ensures.same
+          ∙ shorter (goal.at.loop-end-preserved-then-len-end-eq8 c).Then-is_trailing;
     }
