@@ -42,19 +42,45 @@ fn is_ended(writer: &Refusing, answer: fmt::Result, whole: &str) -> bool {
         && whole.starts_with(writer.text.as_str())
 }
 
-#[test]
-fn one_refused_write_ends_a_display(rt: HostRuntime) -> Result<(), Fail> {
-    let path = Path::from_bytes(b"a\xFFb");
-    let whole = "a\u{FFFD}b";
-    let mut writer = Refusing::at(rt.alloc(), u32::MAX);
-    assert!(rt; write!(writer, "{}", path.display()).is_ok());
-    assert_eq!(rt; writer.text.as_str(), whole);
-    let count = writer.writes;
-    assert!(rt; count > 0);
-    for refused in 0..count {
-        let mut writer = Refusing::at(rt.alloc(), refused);
-        let answer = write!(writer, "{}", path.display());
-        assert!(rt; is_ended(&writer, answer, whole), "{refused}");
+// How many writes the display makes, if it gives this text and ends at each write that is refused.
+fn writes_of(alloc: Global, path: Path<'_>, whole: &str) -> Option<u32> {
+    let mut writer = Refusing::at(alloc, u32::MAX);
+    if write!(writer, "{}", path.display()).is_err() || writer.text.as_str() != whole {
+        return None;
     }
+    let count = writer.writes;
+    for refused in 0..count {
+        let mut writer = Refusing::at(alloc, refused);
+        let answer = write!(writer, "{}", path.display());
+        if !is_ended(&writer, answer, whole) {
+            return None;
+        }
+    }
+    Some(count)
+}
+
+#[test]
+fn one_refused_write_ends_a_display(rt: HostRuntime) {
+    let path = Path::from_bytes(b"a\xFFb");
+    let writes = writes_of(rt.alloc(), path, "a\u{FFFD}b");
+    assert!(rt; matches!(writes, Some(count) if count > 0));
+}
+
+// Pieces of 400 bytes of text, each with a byte behind it that is none.
+#[test]
+fn each_refused_write_ends_a_long_display(rt: HostRuntime) -> Result<(), Fail> {
+    let alloc = rt.alloc();
+    let mut bytes = Vec::new(alloc);
+    let mut whole = String::new(alloc);
+    for letter in ["a", "b", "c", "d"] {
+        for _ in 0..400 {
+            bytes.extend_from_slice(letter.as_bytes())?;
+            whole.push_str(letter)?;
+        }
+        bytes.push(0xFF)?;
+        whole.push_str("\u{FFFD}")?;
+    }
+    let writes = writes_of(alloc, Path::from_bytes(&bytes), whole.as_str());
+    assert!(rt; matches!(writes, Some(count) if count > 4));
     Ok(())
 }
