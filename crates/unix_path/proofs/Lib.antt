@@ -33,6 +33,7 @@ pub mod PrefixLemmas
 pub mod SuffixLemmas
 pub mod GapLemmas
 pub mod EditLemmas
+pub mod NameEndLemmas
 pub mod FrontLemmas
 pub mod CommonDirLemmas
 pub mod BehindLemmas

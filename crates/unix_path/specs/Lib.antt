@@ -5,6 +5,7 @@ pub mod Names
 pub mod Prefixes
 pub mod Joins
 pub mod Edits
+pub mod Extensions
 pub mod Buffers
 pub mod Kept
 pub mod Json

@@ -1,8 +1,8 @@
--- The file name of a path, and its stem and extension (Rust's `Path::file_name`,
--- `Path::file_stem`, `Path::extension`).
-use Rattle.std.specs.Prelude.{ℕ, ◌-◌, nat_lt, Bool, ◌==◌, not, List, length, take, drop}
+-- The file name of a path, its stem, extension and prefix (Rust's `Path::file_name`,
+-- `Path::file_stem`, `Path::extension`, `Path::file_prefix`).
+use Rattle.std.specs.Prelude.{ℕ, ◌+◌, ◌-◌, nat_lt, Bool, ◌==◌, not, List, length, take, drop}
 use Rattle.std.specs.Prelude.{Option, Some, None, option_map, option_and_then, if◌then◌else◌}
-use Rattle.std.specs.List.{last_or, suffix_len}
+use Rattle.std.specs.List.{last_or, suffix_len, position_or_len}
 use Rattle.unix_path.specs.Parts.{dot, Value, Normal}
 
 -- the bytes of a name; other values have none
@@ -32,3 +32,11 @@ stem_of vs = option_map (λ name. (split_name name).0) (file_name_of vs)
 -- the file name's bytes after its last dot
 abbrev pub extension_of : List Value → Option (List ℕ)
 extension_of vs = option_and_then (λ name. (split_name name).1) (file_name_of vs)
+
+-- a name up to its first dot at place 1 or later; all of it where there is none
+abbrev pub name_prefix : List ℕ → List ℕ
+name_prefix name = take (1 + position_or_len (λ b. b == dot) (drop 1 name)) name
+
+-- the file name up to its first dot at place 1 or later
+abbrev pub file_prefix_of : List Value → Option (List ℕ)
+file_prefix_of vs = option_map name_prefix (file_name_of vs)

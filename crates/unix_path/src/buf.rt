@@ -6,12 +6,14 @@ ghost use Rattle.unix_path.specs.Rest.{rest};
 
 mod conversions;
 mod edits;
+mod extensions;
 mod many;
 mod order;
 mod room;
 
 use crate::cursor::Iter;
 use crate::path::Path;
+pub use extensions::ExtensionError;
 use std::alloc::{AllocError, Global};
 use std::fmt;
 use unix_bytes::bytes::{UnixStr, UnixString};

@@ -11,7 +11,7 @@ mod names;
 mod order;
 pub mod path;
 
-pub use buf::PathBuf;
+pub use buf::{ExtensionError, PathBuf};
 pub use cursor::{Ancestors, Component, Components, Iter};
 pub use display::Display;
 pub use kept::{BoxedPath, CowPath, RcPath};

@@ -1,6 +1,8 @@
-//! The cut of a file name at its last dot.
+//! The cuts of a file name at its dots.
 ghost use Rattle.std.specs.Prelude.{◌≡◌, ◌≤◌, ◌==◌, length, option_map};
-ghost use Rattle.unix_path.specs.Names.{past_last, split_name};
+ghost use Rattle.unix_path.specs.Names.{past_last, split_name, name_prefix};
+
+use unix_bytes::search::first_place;
 
 // The place just after the last such byte, or 0 where there is none.
 #[inline]
@@ -27,4 +29,13 @@ pub(crate) fn split_name(name: &[u8]) -> (&[u8], Option<&[u8]>)
         return (name, None);
     }
     (&name[..after - 1], Some(&name[after..]))
+}
+
+// A file name up to its first dot after its first byte.
+#[inline]
+pub(crate) fn name_prefix(name: &[u8]) -> &[u8]
+    ensures { result.now ≡ name_prefix name.now }
+{
+    let first = name.len().min(1);
+    &name[..first + first_place(&name[first..], b'.')]
 }

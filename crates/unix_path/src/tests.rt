@@ -2,6 +2,7 @@
 mod buffers;
 mod display;
 mod edits;
+mod extensions;
 mod json;
 mod kept_order;
 mod kept_paths;

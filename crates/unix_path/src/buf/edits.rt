@@ -1,13 +1,13 @@
-//! Edits of owned paths, and edited copies of paths.
+//! Edits of owned paths, and edited copies of paths. Those of an extension stand in
+//! `buf/extensions.rt`.
 ghost use Rattle.std.specs.Prelude.{◌≡◌, ◌+◌, ◌^◌, ◌<◌, ◌≤◌, [], ◌++◌, length, take};
-ghost use Rattle.std.specs.Prelude.{false, None, IfOk, OnOk, OnErr, IsOk, is_some};
+ghost use Rattle.std.specs.Prelude.{false, IfOk, OnOk, OnErr, IsOk, is_some};
 ghost use Rattle.unix_bytes.specs.Owned.{owned_bytes, owned_room, owned_capacity};
 ghost use Rattle.unix_path.specs.Buffers.{path_bytes, capacity};
-ghost use Rattle.unix_path.specs.Edits.{popped_of, with_name_of, dot_before, with_extension_of};
+ghost use Rattle.unix_path.specs.Edits.{popped_of, with_name_of};
 ghost use Rattle.unix_path.specs.Joins.{is_open, join_of};
 ghost use Rattle.unix_path.specs.Parents.{parent_of};
-ghost use Rattle.unix_path.specs.Names.{file_name_of};
-ghost use Rattle.unix_path.specs.Parts.{is_rooted, values};
+ghost use Rattle.unix_path.specs.Parts.{is_rooted};
 ghost use Rattle.unix_path.specs.Steps.{gap_bytes};
 
 use crate::buf::PathBuf;
@@ -52,20 +52,9 @@ fn join_cut(base: &[u8], path: Path<'_>) -> (usize, Option<u8>)
     (base.len(), join_gap(base, path))
 }
 
-// The dot before an extension, unless that is empty.
-#[inline]
-fn dot_before(extension: &[u8]) -> Option<u8>
-    ensures { gap_bytes result ≡ dot_before extension.now }
-{
-    if extension.is_empty() {
-        return None;
-    }
-    Some(b'.')
-}
-
 // How many bytes these are in all.
 #[inline]
-fn total_len(keep: usize, gap: Option<u8>, more: &[u8]) -> usize
+pub(super) fn total_len(keep: usize, gap: Option<u8>, more: &[u8]) -> usize
     requires { keep < 2 ^ 63 }
     ensures { result ≡ keep + length (gap_bytes gap) + length more.now }
 {
@@ -90,7 +79,12 @@ fn push_end(text: &mut UnixString, gap: Option<u8>, more: &[u8]) -> Result<(), A
 }
 
 // A copy of the three, by one allocation, or by none if they have no bytes.
-fn copy_of(alloc: Global, base: &[u8], gap: Option<u8>, more: &[u8]) -> Result<PathBuf, AllocError>
+pub(super) fn copy_of(
+    alloc: Global,
+    base: &[u8],
+    gap: Option<u8>,
+    more: &[u8],
+) -> Result<PathBuf, AllocError>
     ensures { IfOk result (λ p. path_bytes p ≡ (base.now ++ gap_bytes gap) ++ more.now) }
 {
     let mut inner = UnixString::with_capacity(alloc, total_len(base.len(), gap, more))?;
@@ -177,58 +171,14 @@ impl PathBuf {
         self.replace_end(keep, gap, name.bytes)
     }
 
-    /// Replaces what stands behind the stem of the file name by a dot and the extension, or by
-    /// nothing for an empty extension, and returns true. Returns false where there is no file name,
-    /// and then leaves the bytes as they were.
-    ///
-    /// The extension isn't looked into: one with a `/` adds parts. Allocates, once, only where the
-    /// result is longer than the capacity. If the allocation fails, the bytes stay as they were. As
-    /// Rust's `PathBuf::set_extension`.
-    ///
-    /// `foo.rs/.` with the extension `txt` is `foo.txt`.
-    #[tactic(auto, using(crate::proofs::EditLemmas::extension_cases))]
-    pub fn set_extension(&mut self, extension: UnixStr<'_>) -> Result<bool, AllocError>
-        ensures value { IfOk result
-            (λ answer. answer ≡ is_some (file_name_of (values (path_bytes self.old)))) }
-        ensures ok { OnOk result
-            (path_bytes self.new
-            ≡ with_extension_of (path_bytes self.old) extension.entry.bytes.now) }
-        ensures err { OnErr result (path_bytes self.new ≡ path_bytes self.old) }
-        ensures succeeds { length (with_extension_of
-            (path_bytes self.old) extension.entry.bytes.now) ≤ capacity self.old → IsOk result }
-        ensures succeeds_nameless { file_name_of (values (path_bytes self.old)) ≡ None
-            → IsOk result }
-        ensures succeeds_empty { extension.entry.bytes.now ≡ [] → IsOk result }
-        ensures capacity { capacity self.old ≤ capacity self.new }
-    {
-        let end = match self.as_path().stem_end() {
-            Some(end) => end,
-            None => return Ok(false),
-        };
-        let gap = dot_before(extension.bytes);
-        self.reserve_end(end, gap, extension.bytes)?;
-        self.replace_end(end, gap, extension.bytes)?;
-        Ok(true)
-    }
-
-    // Makes room for the byte and the slice behind the first `keep` bytes, and for no more where it
-    // grows.
-    #[inline]
-    fn reserve_end(&mut self, keep: usize, gap: Option<u8>, more: &[u8]) -> Result<(), AllocError>
-        requires { keep ≤ length (path_bytes self.old) }
-        ensures bytes { path_bytes self.new ≡ path_bytes self.old }
-        ensures succeeds { length ((take keep (path_bytes self.old) ++ gap_bytes gap) ++ more.now)
-            ≤ capacity self.old → IsOk result }
-        ensures capacity { capacity self.old ≤ capacity self.new }
-    {
-        let len = self.inner.as_unix_str().len();
-        let growth = total_len(keep, gap, more).saturating_sub(len);
-        self.inner.reserve_exact(growth)
-    }
-
     // Cuts to `keep` bytes, and puts the byte and the slice behind them. The growth comes first.
     #[inline]
-    fn replace_end(&mut self, keep: usize, gap: Option<u8>, more: &[u8]) -> Result<(), AllocError>
+    pub(super) fn replace_end(
+        &mut self,
+        keep: usize,
+        gap: Option<u8>,
+        more: &[u8],
+    ) -> Result<(), AllocError>
         requires { keep ≤ length (path_bytes self.old) }
         ensures ok { OnOk result
             (path_bytes self.new ≡ (take keep (path_bytes self.old) ++ gap_bytes gap) ++ more.now) }
@@ -273,27 +223,5 @@ impl<'a> Path<'a> {
             (λ p. path_bytes p ≡ with_name_of self.now.bytes.now name.entry.bytes.now) }
     {
         self.before_name().join(alloc, Path::new(name))
-    }
-
-    /// A copy of the path, with this extension as `PathBuf::set_extension` sets it.
-    ///
-    /// Allocates once, or not at all for an empty result; fails if the allocation fails. As Rust's
-    /// `Path::with_extension`.
-    ///
-    /// `foo.rs` with the extension `txt` is `foo.txt`, and `..` stays `..`.
-    #[tactic(auto, using(crate::proofs::EditLemmas::extension_cases))]
-    pub fn with_extension(
-        &self,
-        alloc: Global,
-        extension: UnixStr<'_>,
-    ) -> Result<PathBuf, AllocError>
-        ensures { IfOk result
-            (λ p. path_bytes p ≡ with_extension_of self.now.bytes.now extension.entry.bytes.now) }
-    {
-        let Some(end) = self.stem_end() else {
-            return self.to_path_buf(alloc);
-        };
-        let gap = dot_before(extension.bytes);
-        copy_of(alloc, &self.bytes[..end], gap, extension.bytes)
     }
 }

@@ -1,11 +1,12 @@
-//! The file name of a path, its stem and its extension.
+//! The file name of a path, its stem, its extension and its prefix.
 ghost use Rattle.std.specs.Prelude.{◌≡◌, ◌≤◌, length, take, option_map, IfSome};
 ghost use Rattle.unix_path.specs.Parts.{values};
-ghost use Rattle.unix_path.specs.Names.{file_name_of, stem_of, extension_of};
+ghost use Rattle.unix_path.specs.Names.{file_name_of, stem_of, extension_of, file_prefix_of};
 ghost use Rattle.unix_path.specs.Edits.{before_name_of, stem_end_of};
+ghost use Rattle.unix_path.specs.Extensions.{name_end_of};
 
 use crate::cursor::{Component, Components};
-use crate::names::split_name;
+use crate::names::{name_prefix, split_name};
 use crate::path::Path;
 use unix_bytes::bytes::UnixStr;
 
@@ -65,6 +66,24 @@ impl<'a> Path<'a> {
         }
     }
 
+    /// The file name up to its first dot after its first byte; all of it where there is none.
+    /// `None` where there is no file name. Does not allocate. As Rust's `Path::file_prefix`.
+    ///
+    /// For `foo.tar.gz` it is `foo`, and for `.foo.rs` it is `.foo`.
+    #[must_use]
+    #[inline]
+    pub fn file_prefix(&self) -> Option<UnixStr<'a>>
+        ensures { option_map (λ prefix. prefix.bytes.now) result
+            ≡ file_prefix_of (values self.now.bytes.now) }
+    {
+        match self.file_name() {
+            Some(name) => Some(UnixStr {
+                bytes: name_prefix(name.bytes),
+            }),
+            None => None,
+        }
+    }
+
     // What stands before the file name, or all of the path where there is none.
     #[inline]
     pub(crate) fn before_name(&self) -> Path<'a>
@@ -95,6 +114,21 @@ impl<'a> Path<'a> {
             Component::Normal(name) => {
                 Some(last.end - name.bytes.len() + split_name(name.bytes).0.len())
             }
+            _ => None,
+        }
+    }
+
+    // Where the file name ends.
+    #[inline]
+    pub(crate) fn name_end(&self) -> Option<usize>
+        ensures value { result ≡ name_end_of self.now.bytes.now }
+        ensures in_range { IfSome result (λ end. end ≤ length self.now.bytes.now) }
+    {
+        let Some(last) = Components::last_part(self.bytes) else {
+            return None;
+        };
+        match last.part {
+            Component::Normal(_) => Some(last.end),
             _ => None,
         }
     }

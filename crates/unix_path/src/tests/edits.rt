@@ -1,13 +1,13 @@
-//! Rows of pushes, pops, file names and extensions, and of edits that follow one another.
+//! Rows of pushes, pops and file names, and of edits that follow one another.
 use super::views::path;
-use crate::{Component, Path, PathBuf};
+use crate::{Path, PathBuf};
 use std::alloc::{AllocError, Global};
 use std::process::Abort;
 use std::test::Fail;
 use unix_bytes::bytes::UnixStr;
 
 // Whether the path has these bytes.
-fn has_bytes(found: &PathBuf, wanted: &str) -> bool {
+pub(super) fn has_bytes(found: &PathBuf, wanted: &str) -> bool {
     found.as_path().as_unix_str() == UnixStr::new(wanted)
 }
 
@@ -123,82 +123,6 @@ fn a_file_name_is_replaced_or_added(rt: HostRuntime) -> Result<(), Fail> {
             row.1
         );
     }
-    Ok(())
-}
-
-static EXTENSIONS: [(&str, &str, &str, bool); 19] = [
-    ("foo", "txt", "foo.txt", true),
-    ("foo.bar", "txt", "foo.txt", true),
-    ("foo.bar.baz", "txt", "foo.bar.txt", true),
-    (".test", "txt", ".test.txt", true),
-    ("foo.txt", "", "foo", true),
-    ("foo", "", "foo", true),
-    ("", "foo", "", false),
-    (".", "foo", ".", false),
-    ("foo/", "bar", "foo.bar", true),
-    ("foo/.", "bar", "foo.bar", true),
-    ("..", "foo", "..", false),
-    ("foo/..", "bar", "foo/..", false),
-    ("/", "foo", "/", false),
-    ("...", "", "..", true),
-    ("..foo", "", ".", true),
-    ("a/..foo", "", "a/.", true),
-    ("a", "x/y", "a.x/y", true),
-    ("foo.rs", "txt", "foo.txt", true),
-    ("foo.rs/.", "txt", "foo.txt", true),
-];
-
-// Whether a new extension makes `new` of `old` and answers so; as a copy it makes `new` too.
-fn takes_extension(
-    alloc: Global,
-    old: &str,
-    extension: &str,
-    new: &str,
-    answer: bool,
-) -> Result<bool, AllocError> {
-    let mut buffer = PathBuf::from_text(alloc, old)?;
-    let is_answered = buffer.set_extension(UnixStr::new(extension))? == answer;
-    let copied = path(old).with_extension(alloc, UnixStr::new(extension))?;
-    Ok(is_answered && has_bytes(&buffer, new) && has_bytes(&copied, new))
-}
-
-#[test]
-fn an_extension_is_put_behind_the_stem(rt: HostRuntime) -> Result<(), Fail> {
-    for row in EXTENSIONS.iter() {
-        let is_taken = takes_extension(rt.alloc(), row.0, row.1, row.2, row.3)?;
-        assert!(rt; is_taken, "{} {}", row.0, row.1);
-    }
-    Ok(())
-}
-
-#[test]
-fn a_name_can_become_two_dots(rt: HostRuntime) -> Result<(), Fail> {
-    let mut dots = PathBuf::from_text(rt.alloc(), "...")?;
-    assert!(rt; dots.set_extension(UnixStr::new(""))?);
-    assert!(rt; dots.as_path().file_name().is_none());
-    Ok(())
-}
-
-#[test]
-fn a_name_can_vanish(rt: HostRuntime) -> Result<(), Fail> {
-    let alloc = rt.alloc();
-    let mut hidden = PathBuf::from_text(alloc, "a/..foo")?;
-    assert!(rt; hidden.set_extension(UnixStr::new(""))?);
-    assert_eq!(rt; hidden, PathBuf::from_text(alloc, "a")?);
-    Ok(())
-}
-
-#[test]
-fn an_extension_can_add_a_part(rt: HostRuntime) -> Result<(), Fail> {
-    let alloc = rt.alloc();
-    let mut split = PathBuf::from_text(alloc, "a")?;
-    assert!(rt; split.set_extension(UnixStr::new("x/y"))?);
-    let parts: Vec<Component<'_>> = split.as_path().components().collect(alloc)?;
-    let wanted = [
-        Component::Normal(UnixStr::new("a.x")),
-        Component::Normal(UnixStr::new("y")),
-    ];
-    assert_eq!(rt; parts.as_slice(), wanted.as_slice());
     Ok(())
 }
 

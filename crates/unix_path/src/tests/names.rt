@@ -1,4 +1,4 @@
-//! Rows of file names, stems and extensions.
+//! Rows of file names, stems, extensions and prefixes.
 use super::views::{path, view};
 
 // A path, its stem and its extension.
@@ -50,5 +50,27 @@ static NAMES: [(&str, Option<&str>); 10] = [
 fn file_names(rt: HostRuntime) {
     for row in NAMES.iter() {
         assert!(rt; path(row.0).file_name() == view(row.1), "{}", row.0);
+    }
+}
+
+static PREFIXES: [(&str, Option<&str>); 12] = [
+    ("foo.tar.gz", Some("foo")),
+    ("a/b.c/", Some("b")),
+    (".a.b", Some(".a")),
+    (".foo", Some(".foo")),
+    ("foo", Some("foo")),
+    ("foo.", Some("foo")),
+    ("..foo", Some(".")),
+    ("...", Some(".")),
+    ("a/.b..c/.", Some(".b")),
+    ("..", None),
+    ("/", None),
+    ("", None),
+];
+
+#[test]
+fn prefixes_of_file_names(rt: HostRuntime) {
+    for row in PREFIXES.iter() {
+        assert!(rt; path(row.0).file_prefix() == view(row.1), "{}", row.0);
     }
 }

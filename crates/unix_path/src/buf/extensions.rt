@@ -1,0 +1,243 @@
+//! Extensions set and added, in place and on copies of a path.
+ghost use Rattle.std.specs.Prelude.{◌≡◌, ◌≤◌, ◌↔◌, true, false, [], ◌++◌, length, take, None};
+ghost use Rattle.std.specs.Prelude.{Some, IfOk, IfErr, OnOk, OnErr, IsOk, IsErrOf, is_some};
+ghost use Rattle.std.specs.Fmt.{padded};
+ghost use Rattle.unix_path.specs.Buffers.{path_bytes, capacity};
+ghost use Rattle.unix_path.specs.Edits.{dot_before, with_extension_of};
+ghost use Rattle.unix_path.specs.Extensions.{has_slash, added_extension_of};
+ghost use Rattle.unix_path.specs.Names.{file_name_of};
+ghost use Rattle.unix_path.specs.Parts.{values};
+ghost use Rattle.unix_path.specs.Steps.{gap_bytes};
+
+use crate::buf::PathBuf;
+use crate::buf::edits::{copy_of, total_len};
+use crate::path::Path;
+use std::alloc::{AllocError, Global};
+use std::error::Error;
+use std::fmt;
+use unix_bytes::bytes::UnixStr;
+
+/// Why an extension couldn't be set or added.
+///
+/// Its text is padded like any text. Not in Rust's std, which panics where the extension holds a
+/// separator.
+#[derive(Debug, Drop)]
+pub enum ExtensionError {
+    /// The extension holds a `/`, and would add parts: `extension contains a separator`.
+    Separator,
+    /// An allocation failed: `out of memory`.
+    Memory(AllocError),
+}
+
+/// The texts that the variants name, padded by width, precision, fill and alignment. Does not
+/// allocate.
+///
+/// `ExtensionError::Separator` is printed as `extension contains a separator`.
+impl fmt::Display for ExtensionError {
+    ghost use Rattle.unix_path.specs.Extensions.{extension_error_text};
+
+    ghost output = { λ error. Some (extension_error_text error) };
+
+    ghost styled_output = { λ error spec. Some (padded spec (extension_error_text error)) };
+
+    fn fmt<W: fmt::Write>(&self, f: &mut fmt::Formatter<W>) -> fmt::Result {
+        f.pad(match self {
+            ExtensionError::Separator => "extension contains a separator",
+            ExtensionError::Memory(_) => "out of memory",
+        })
+    }
+}
+
+impl Error for ExtensionError {}
+
+/// `Memory`, with the error of the allocation. Does not allocate.
+///
+/// With it `?` works on a `PathBuf::push` where the function returns an `ExtensionError`.
+impl From<AllocError> for ExtensionError {
+    ghost use Rattle.unix_path.specs.declared.buf.extensions.ExtensionError.TheVariants.{Memory};
+
+    ghost from_gives = { λ error given. given ≡ Memory error };
+
+    fn from(error: AllocError) -> ExtensionError {
+        ExtensionError::Memory(error)
+    }
+}
+
+// The extension's bytes, unless one is a slash.
+#[inline]
+fn without_slash(extension: UnixStr<'_>) -> Result<&[u8], ExtensionError>
+    ensures ok { OnOk result (has_slash extension.entry.bytes.now ≡ false) }
+    ensures bytes { IfOk result (λ bytes. bytes.now ≡ extension.entry.bytes.now) }
+    ensures err { OnErr result (has_slash extension.entry.bytes.now ≡ true) }
+    ensures separator { IfErr result (λ error. error ≡ ExtensionError.Separator) }
+{
+    if extension.bytes.contains(&b'/') {
+        return Err(ExtensionError::Separator);
+    }
+    Ok(extension.bytes)
+}
+
+// The dot before an extension, unless that is empty.
+#[inline]
+fn dot_before(extension: &[u8]) -> Option<u8>
+    ensures { gap_bytes result ≡ dot_before extension.now }
+{
+    if extension.is_empty() {
+        return None;
+    }
+    Some(b'.')
+}
+
+impl PathBuf {
+    /// Replaces what stands behind the stem of the file name by a dot and the extension, or by
+    /// nothing for an empty extension, and returns true. Returns false where there is no file name,
+    /// and then leaves the bytes as they were.
+    ///
+    /// The error is `Separator` exactly where the extension holds a `/`, whether or not there is a
+    /// file name, and before anything is allocated; it is `Memory` where the allocation fails. Each
+    /// leaves the bytes as they were. Allocates, once, only where the result is longer than the
+    /// capacity. As Rust's `PathBuf::set_extension`, which panics for a separator.
+    ///
+    /// `foo.rs/.` with the extension `txt` is `foo.txt`.
+    #[tactic(auto, using(crate::proofs::EditLemmas::extension_cases))]
+    pub fn set_extension(&mut self, extension: UnixStr<'_>) -> Result<bool, ExtensionError>
+        ensures separator { IsErrOf result ExtensionError.Separator
+            ↔ (has_slash extension.entry.bytes.now ≡ true) }
+        ensures value { IfOk result
+            (λ answer. answer ≡ is_some (file_name_of (values (path_bytes self.old)))) }
+        ensures ok { OnOk result
+            (path_bytes self.new
+            ≡ with_extension_of (path_bytes self.old) extension.entry.bytes.now) }
+        ensures err { OnErr result (path_bytes self.new ≡ path_bytes self.old) }
+        ensures succeeds { has_slash extension.entry.bytes.now ≡ false
+            → length (with_extension_of (path_bytes self.old) extension.entry.bytes.now)
+            ≤ capacity self.old → IsOk result }
+        ensures succeeds_nameless { has_slash extension.entry.bytes.now ≡ false
+            → file_name_of (values (path_bytes self.old)) ≡ None → IsOk result }
+        ensures succeeds_empty { extension.entry.bytes.now ≡ [] → IsOk result }
+        ensures capacity { capacity self.old ≤ capacity self.new }
+    {
+        let new = without_slash(extension)?;
+        let Some(end) = self.as_path().stem_end() else {
+            return Ok(false);
+        };
+        self.replace_end_exact(end, dot_before(new), new)?;
+        Ok(true)
+    }
+
+    /// Puts a dot and the extension behind the file name, and returns true; the empty extension
+    /// adds nothing. Returns false where there is no file name. In both of these cases the bytes
+    /// stay as they were; otherwise what stands behind the file name goes.
+    ///
+    /// The error is `Separator` exactly where the extension holds a `/`, whether or not there is a
+    /// file name, and before anything is allocated; it is `Memory` where the allocation fails. Each
+    /// leaves the bytes as they were. Allocates, once, only where the result is longer than the
+    /// capacity. As Rust's `PathBuf::add_extension`, which panics for a separator.
+    ///
+    /// `foo.tar/.` with the extension `gz` added is `foo.tar.gz`.
+    #[tactic(auto, using(crate::proofs::NameEndLemmas::added_cases))]
+    pub fn add_extension(&mut self, extension: UnixStr<'_>) -> Result<bool, ExtensionError>
+        ensures separator { IsErrOf result ExtensionError.Separator
+            ↔ (has_slash extension.entry.bytes.now ≡ true) }
+        ensures value { IfOk result
+            (λ answer. answer ≡ is_some (file_name_of (values (path_bytes self.old)))) }
+        ensures ok { OnOk result
+            (path_bytes self.new
+            ≡ added_extension_of (path_bytes self.old) extension.entry.bytes.now) }
+        ensures err { OnErr result (path_bytes self.new ≡ path_bytes self.old) }
+        ensures succeeds { has_slash extension.entry.bytes.now ≡ false
+            → length (added_extension_of (path_bytes self.old) extension.entry.bytes.now)
+            ≤ capacity self.old → IsOk result }
+        ensures succeeds_nameless { has_slash extension.entry.bytes.now ≡ false
+            → file_name_of (values (path_bytes self.old)) ≡ None → IsOk result }
+        ensures succeeds_empty { extension.entry.bytes.now ≡ [] → IsOk result }
+        ensures capacity { capacity self.old ≤ capacity self.new }
+    {
+        let more = without_slash(extension)?;
+        let Some(end) = self.as_path().name_end() else {
+            return Ok(false);
+        };
+        if more.is_empty() {
+            return Ok(true);
+        }
+        self.replace_end_exact(end, Some(b'.'), more)?;
+        Ok(true)
+    }
+
+    // As `replace_end`, and grows by no more than it needs.
+    #[inline]
+    fn replace_end_exact(
+        &mut self,
+        keep: usize,
+        gap: Option<u8>,
+        more: &[u8],
+    ) -> Result<(), AllocError>
+        requires { keep ≤ length (path_bytes self.old) }
+        ensures ok { OnOk result
+            (path_bytes self.new ≡ (take keep (path_bytes self.old) ++ gap_bytes gap) ++ more.now) }
+        ensures err { OnErr result (path_bytes self.new ≡ path_bytes self.old) }
+        ensures succeeds { length ((take keep (path_bytes self.old) ++ gap_bytes gap) ++ more.now)
+            ≤ capacity self.old → IsOk result }
+        ensures capacity { capacity self.old ≤ capacity self.new }
+    {
+        let len = self.inner.as_unix_str().len();
+        let growth = total_len(keep, gap, more).saturating_sub(len);
+        self.inner.reserve_exact(growth)?;
+        self.replace_end(keep, gap, more)
+    }
+}
+
+impl<'a> Path<'a> {
+    /// A copy of the path, with this extension as `PathBuf::set_extension` sets it.
+    ///
+    /// The error is `Separator` exactly where the extension holds a `/`, before anything is
+    /// allocated, and `Memory` where the allocation fails. Allocates once, or not at all for an
+    /// empty result. As Rust's `Path::with_extension`, which panics for a separator.
+    ///
+    /// `foo.rs` with the extension `txt` is `foo.txt`, and `..` stays `..`.
+    #[tactic(auto, using(crate::proofs::EditLemmas::extension_cases))]
+    pub fn with_extension(
+        &self,
+        alloc: Global,
+        extension: UnixStr<'_>,
+    ) -> Result<PathBuf, ExtensionError>
+        ensures separator { IsErrOf result ExtensionError.Separator
+            ↔ (has_slash extension.entry.bytes.now ≡ true) }
+        ensures value { IfOk result
+            (λ p. path_bytes p ≡ with_extension_of self.now.bytes.now extension.entry.bytes.now) }
+    {
+        let bytes = without_slash(extension)?;
+        let Some(end) = self.stem_end() else {
+            return Ok(self.to_path_buf(alloc)?);
+        };
+        Ok(copy_of(alloc, &self.bytes[..end], dot_before(bytes), bytes)?)
+    }
+
+    /// A copy of the path, with this extension added as `PathBuf::add_extension` adds it.
+    ///
+    /// The error is `Separator` exactly where the extension holds a `/`, before anything is
+    /// allocated, and `Memory` where the allocation fails. Allocates once, or not at all for an
+    /// empty result. As Rust's `Path::with_added_extension`, which panics for a separator.
+    ///
+    /// `foo.tar` with the extension `gz` added is `foo.tar.gz`, and `..` stays `..`.
+    #[tactic(auto, using(crate::proofs::NameEndLemmas::added_cases))]
+    pub fn with_added_extension(
+        &self,
+        alloc: Global,
+        extension: UnixStr<'_>,
+    ) -> Result<PathBuf, ExtensionError>
+        ensures separator { IsErrOf result ExtensionError.Separator
+            ↔ (has_slash extension.entry.bytes.now ≡ true) }
+        ensures value { IfOk result
+            (λ p. path_bytes p ≡ added_extension_of self.now.bytes.now extension.entry.bytes.now) }
+    {
+        let bytes = without_slash(extension)?;
+        if bytes.is_empty() {
+            return Ok(self.to_path_buf(alloc)?);
+        }
+        let Some(end) = self.name_end() else {
+            return Ok(self.to_path_buf(alloc)?);
+        };
+        Ok(copy_of(alloc, &self.bytes[..end], Some(b'.'), bytes)?)
+    }
+}

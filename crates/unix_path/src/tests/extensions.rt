@@ -1,0 +1,170 @@
+//! Rows of extensions that are set, added and refused.
+use super::edits::has_bytes;
+use super::views::path;
+use crate::{ExtensionError, PathBuf};
+use std::alloc::{AllocError, Global};
+use std::error::Error;
+use std::test::Fail;
+use unix_bytes::bytes::UnixStr;
+
+static EXTENSIONS: [(&str, &str, &str, bool); 18] = [
+    ("foo", "txt", "foo.txt", true),
+    ("foo.bar", "txt", "foo.txt", true),
+    ("foo.bar.baz", "txt", "foo.bar.txt", true),
+    (".test", "txt", ".test.txt", true),
+    ("foo.txt", "", "foo", true),
+    ("foo", "", "foo", true),
+    ("", "foo", "", false),
+    (".", "foo", ".", false),
+    ("foo/", "bar", "foo.bar", true),
+    ("foo/.", "bar", "foo.bar", true),
+    ("..", "foo", "..", false),
+    ("foo/..", "bar", "foo/..", false),
+    ("/", "foo", "/", false),
+    ("...", "", "..", true),
+    ("..foo", "", ".", true),
+    ("a/..foo", "", "a/.", true),
+    ("foo.rs", "txt", "foo.txt", true),
+    ("foo.rs/.", "txt", "foo.txt", true),
+];
+
+// Whether a new extension makes `new` of `old` and answers so; as a copy it makes `new` too.
+fn takes_extension(
+    alloc: Global,
+    old: &str,
+    extension: &str,
+    new: &str,
+    answer: bool,
+) -> Result<bool, ExtensionError> {
+    let mut buffer = PathBuf::from_text(alloc, old)?;
+    let is_answered = buffer.set_extension(UnixStr::new(extension))? == answer;
+    let copied = path(old).with_extension(alloc, UnixStr::new(extension))?;
+    Ok(is_answered && has_bytes(&buffer, new) && has_bytes(&copied, new))
+}
+
+#[test]
+fn an_extension_is_put_behind_the_stem(rt: HostRuntime) -> Result<(), Fail> {
+    for row in EXTENSIONS.iter() {
+        let is_taken = takes_extension(rt.alloc(), row.0, row.1, row.2, row.3)?;
+        assert!(rt; is_taken, "{} {}", row.0, row.1);
+    }
+    Ok(())
+}
+
+#[test]
+fn a_name_can_become_two_dots(rt: HostRuntime) -> Result<(), Fail> {
+    let mut dots = PathBuf::from_text(rt.alloc(), "...")?;
+    assert!(rt; dots.set_extension(UnixStr::new(""))?);
+    assert!(rt; dots.as_path().file_name().is_none());
+    Ok(())
+}
+
+#[test]
+fn a_name_can_vanish(rt: HostRuntime) -> Result<(), Fail> {
+    let alloc = rt.alloc();
+    let mut hidden = PathBuf::from_text(alloc, "a/..foo")?;
+    assert!(rt; hidden.set_extension(UnixStr::new(""))?);
+    assert_eq!(rt; hidden, PathBuf::from_text(alloc, "a")?);
+    Ok(())
+}
+
+// A path, an extension, what the path becomes, and whether there is a file name.
+static ADDED: [(&str, &str, &str, bool); 13] = [
+    ("foo.tar", "gz", "foo.tar.gz", true),
+    ("foo.tar/.", "gz", "foo.tar.gz", true),
+    ("a/b//", "c", "a/b.c", true),
+    ("/a", "b.c", "/a.b.c", true),
+    (".foo", "rs", ".foo.rs", true),
+    ("foo.", "x", "foo..x", true),
+    ("foo", ".", "foo..", true),
+    ("a/.", "", "a/.", true),
+    ("..", "x", "..", false),
+    ("a/..", "x", "a/..", false),
+    (".", "x", ".", false),
+    ("/", "x", "/", false),
+    ("", "x", "", false),
+];
+
+// Whether an added extension makes `new` of `old` and answers so; as a copy it makes `new` too.
+fn adds_extension(
+    alloc: Global,
+    old: &str,
+    extension: &str,
+    new: &str,
+    answer: bool,
+) -> Result<bool, ExtensionError> {
+    let mut buffer = PathBuf::from_text(alloc, old)?;
+    let is_answered = buffer.add_extension(UnixStr::new(extension))? == answer;
+    let copied = path(old).with_added_extension(alloc, UnixStr::new(extension))?;
+    Ok(is_answered && has_bytes(&buffer, new) && has_bytes(&copied, new))
+}
+
+#[test]
+fn an_extension_is_added_behind_the_name(rt: HostRuntime) -> Result<(), Fail> {
+    for row in ADDED.iter() {
+        let is_added = adds_extension(rt.alloc(), row.0, row.1, row.2, row.3)?;
+        assert!(rt; is_added, "{} {}", row.0, row.1);
+    }
+    Ok(())
+}
+
+// Whether the extension is refused for its separator.
+fn is_separator<T>(answer: &Result<T, ExtensionError>) -> bool {
+    matches!(answer, Err(ExtensionError::Separator))
+}
+
+// Whether all four calls refuse the extension, and leave the path.
+fn is_refused(alloc: Global, old: &str, extension: &str) -> Result<bool, AllocError> {
+    let extension = UnixStr::new(extension);
+    let mut buffer = PathBuf::from_text(alloc, old)?;
+    Ok(
+        is_separator(&buffer.set_extension(extension))
+            && is_separator(&buffer.add_extension(extension))
+            && is_separator(&path(old).with_extension(alloc, extension))
+            && is_separator(&path(old).with_added_extension(alloc, extension))
+            && has_bytes(&buffer, old),
+    )
+}
+
+#[test]
+fn an_extension_with_a_separator_is_refused(rt: HostRuntime) -> Result<(), Fail> {
+    for row in [
+        ("a", "x/y"),
+        ("foo.rs/.", "/"),
+        ("foo.rs", "a/"),
+        ("foo.rs", "/a"),
+        ("..", "x/y"),
+        ("/", "x/y"),
+        ("", "/"),
+    ] {
+        assert!(rt;
+            is_refused(rt.alloc(), row.0, row.1)?,
+            "{} {}",
+            row.0,
+            row.1
+        );
+    }
+    Ok(())
+}
+
+fn text_of<E: Error>(alloc: Global, error: &E) -> Result<String, AllocError> {
+    format!(in alloc; "{error}|{error:>32}")
+}
+
+#[test]
+fn texts_of_refused_extensions(rt: HostRuntime) -> Result<(), Fail> {
+    let alloc = rt.alloc();
+    for (error, text) in [
+        (
+            ExtensionError::Separator,
+            "extension contains a separator|  extension contains a separator",
+        ),
+        (
+            ExtensionError::from(AllocError),
+            "out of memory|                   out of memory",
+        ),
+    ] {
+        assert_eq!(rt; text_of(alloc, &error)?.as_str(), text);
+    }
+    Ok(())
+}
