@@ -1,70 +1,31 @@
 -- What an edit leaves and answers depends on the path's values alone.
-use Rattle.std.proofs.Common.{◌≡◌, ℕ, ◌+◌, ◌-◌, Bool, true, false, cond, eqb, List, [], ◌∷◌, ◌++◌}
-use Rattle.std.proofs.Common.{length, take, Option, Some, None, is_some, unwrap_or}
-use Rattle.std.proofs.Common.{refl, sym, ap, ap₂, subst, ◌∙◌, append_assoc, length-append}
+use Rattle.std.proofs.Common.{◌≡◌, ℕ, ◌-◌, Bool, true, false, cond, eqb, List, [], ◌∷◌, ◌++◌}
+use Rattle.std.proofs.Common.{length, Option, Some, None, is_some, unwrap_or}
+use Rattle.std.proofs.Common.{refl, sym, ap, ap₂, subst, ◌∙◌}
 use Rattle.std.specs.List.{AllZip}
-use Rattle.std.proofs.lemmas.List.{take_at, same_from_push}
-use Rattle.unix_path.specs.Parts.{Normal, parts, values, SameValues}
+use Rattle.std.proofs.lemmas.List.{same_from_push}
+use Rattle.unix_path.specs.Parts.{Normal, values, SameValues}
 use Rattle.unix_path.specs.Rest.{rest}
 use Rattle.unix_path.specs.Parents.{depth_of, parent_of}
 use Rattle.unix_path.specs.Names.{file_name_of, split_name}
-use Rattle.unix_path.specs.Edits.{popped_of, before_name_of, with_name_of, last_start_of}
-use Rattle.unix_path.specs.Edits.{stem_end_of, dot_before, with_extension_of}
-use Rattle.unix_path.proofs.EditLemmas.{with_extension_at}
+use Rattle.unix_path.specs.Edits.{popped_of, before_name_of, with_name_of}
+use Rattle.unix_path.specs.Edits.{dot_before, with_extension_of}
+use Rattle.unix_path.specs.Extensions.{has_slash, added_extension_of}
+use Rattle.unix_path.proofs.CaseLemmas.{by_test}
 use Rattle.unix_path.proofs.MiddleLemmas.{middle}
 use Rattle.unix_path.proofs.RestLemmas.{values-rest}
-use Rattle.unix_path.proofs.StemLemmas.{stem_end_by}
 use Rattle.path_runs.specs.declared.edits.Answer.{Answer}
-use Rattle.path_runs.specs.declared.edits.Answer.TheVariants.{Flag}
-use Rattle.path_runs.specs.EditLists.{EditValue, Push, Pop, SetFileName, SetExtension, Clear}
+use Rattle.path_runs.specs.declared.edits.Answer.TheVariants.{Flag, Separator}
+use Rattle.path_runs.specs.EditLists.{EditValue, Push, Pop, SetFileName, SetExtension}
+use Rattle.path_runs.specs.EditLists.{AddExtension, Clear}
 use Rattle.path_runs.specs.EditLists.{edit_of, edits_of}
 use Rattle.path_runs.specs.EditLaws.{SameEdit}
-use Rattle.path_runs.proofs.DotLemmas.{stem_prefix}
+use Rattle.path_runs.proofs.ExtensionCutLemmas.{with_extension_of-none, values-with_extension_of}
+use Rattle.path_runs.proofs.ExtensionCutLemmas.{added_extension_of-nil, added_extension_of-none}
+use Rattle.path_runs.proofs.ExtensionCutLemmas.{values-added_extension_of}
 use Rattle.path_runs.proofs.LeadLemmas.{joins_same, roots_same}
-use Rattle.path_runs.proofs.NamedLemmas.{NamedCut, named_cut}
-use Rattle.path_runs.proofs.ValueLemmas.{append_values, values-append_open}
-
-take-stem_end : (s name : List ℕ) (c : NamedCut s name)
-    → take (last_start_of (parts s) + length (split_name name).0) s
-    ≡ c.prefix ++ (split_name name).0
-take-stem_end s name c =
-    let stem = (split_name name).0 in
-    let k = stem_prefix name in
-    let n = last_start_of (parts s) + length stem in
-    let size : length (c.prefix ++ stem) ≡ n =
-    length-append c.prefix stem ∙ ap (λ z. z + length stem) (sym c.start) in
-    ap (take n) (c.whole ∙ ap (λ z. (c.prefix ++ z) ++ c.back) k.1
-    ∙ regroup c.prefix stem k.0 c.back)
-    ∙ take_at (c.prefix ++ stem) (k.0 ++ c.back) n size
-  where
-    regroup : (f a b c : List ℕ) → (f ++ (a ++ b)) ++ c ≡ (f ++ a) ++ (b ++ c)
-    regroup f a b c = simp append_assoc
-
--- the bytes with an extension set
-pub with_extension_of-cut : (s name x : List ℕ) → file_name_of (values s) ≡ Some name
-    → (c : NamedCut s name)
-    → with_extension_of s x ≡ c.prefix ++ ((split_name name).0 ++ (dot_before x ++ x))
-unfolding with_extension_of stem_end_of
-with_extension_of-cut s name x e c =
-    ap (λ o. with_extension_at s x (stem_end_by s o)) e
-    ∙ ap (λ z. (z ++ dot_before x) ++ x) (take-stem_end s name c)
-    ∙ regroup c.prefix (split_name name).0 (dot_before x) x
-  where
-    regroup : (f a b c : List ℕ) → ((f ++ a) ++ b) ++ c ≡ f ++ (a ++ (b ++ c))
-    regroup f a b c = simp append_assoc
-
-values-with_extension_of : (s name x : List ℕ) → file_name_of (values s) ≡ Some name
-    → (c : NamedCut s name)
-    → values (with_extension_of s x)
-    ≡ append_values (values c.prefix) ((split_name name).0 ++ (dot_before x ++ x))
-values-with_extension_of s name x e c =
-    ap values (with_extension_of-cut s name x e c)
-    ∙ values-append_open c.prefix ((split_name name).0 ++ (dot_before x ++ x)) c.ends
-
-pub with_extension_of-none : (s x : List ℕ) → file_name_of (values s) ≡ None
-    → with_extension_of s x ≡ s
-unfolding with_extension_of stem_end_of
-with_extension_of-none s x e = ap (λ o. with_extension_at s x (stem_end_by s o)) e
+use Rattle.path_runs.proofs.NamedLemmas.{named_cut}
+use Rattle.path_runs.proofs.ValueLemmas.{append_values}
 
 pub depths_same : (s t : List ℕ) → SameValues s t → depth_of s ≡ depth_of t
 depths_same s t e = ap₂ (λ n rooted. n - cond rooted 1 0) (ap length e) (roots_same s t e)
@@ -127,12 +88,47 @@ pub with_extension_same : (s t x : List ℕ) → SameValues s t
 with_extension_same s t x e =
     extensions_same s t x (file_name_of (values t)) (ap file_name_of e) refl e
 
+added_same : (s t x : List ℕ) (o : Option (List ℕ)) → eqb (length x) 0 ≡ false
+    → file_name_of (values s) ≡ o → file_name_of (values t) ≡ o → SameValues s t
+    → SameValues (added_extension_of s x) (added_extension_of t x)
+added_same s t x None some n m e = ap values (added_extension_of-none s x n) ∙ e
+    ∙ sym (ap values (added_extension_of-none t x m))
+added_same s t x (Some name) some n m e =
+    let c = named_cut s name n in
+    let d = named_cut t name m in
+    let prefixes = same_from_push (values c.prefix) (values d.prefix) (Normal name) (Normal name)
+    (sym c.before ∙ e ∙ d.before) in
+    values-added_extension_of s name x some n c
+    ∙ ap (λ vs. append_values vs (name ++ 46 ∷ x)) prefixes.0
+    ∙ sym (values-added_extension_of t name x some m d)
+
+pub added_extension_same : (s t x : List ℕ) → SameValues s t
+    → SameValues (added_extension_of s x) (added_extension_of t x)
+added_extension_same s t x e = by_test (eqb (length x) 0)
+    (λ none. ap values (added_extension_of-nil s x none) ∙ e
+    ∙ sym (ap values (added_extension_of-nil t x none)))
+    (λ some. added_same s t x (file_name_of (values t)) some (ap file_name_of e) refl e)
+
+-- what an edit of the extension x leaves of s and answers: u, unless x has a slash
+abbrev pub unless_slash : List ℕ → List ℕ → List ℕ → List ℕ × Answer
+unless_slash s x u = cond (has_slash x) (s, Separator) (u, Flag (is_some (file_name_of (values s))))
+
+unless_slash_same : (s t x u v : List ℕ) → SameValues s t → SameValues u v
+    → Alike (unless_slash s x u) (unless_slash t x v)
+unless_slash_same s t x u v e f = by_test (has_slash x)
+    (λ y. rw y (e, refl))
+    (λ n. rw n (f, ap (λ vs. Flag (is_some (file_name_of vs))) e))
+
 one_same : (s t : List ℕ) (e : EditValue) → SameValues s t → Alike (edit_of s e) (edit_of t e)
 one_same s t (Push b) k = (joins_same s t b b k refl, refl)
 one_same s t Pop k = pop_same s t k
 one_same s t (SetFileName n) k = (with_name_same s t n k, refl)
 one_same s t (SetExtension x) k =
-    (with_extension_same s t x k, ap (λ vs. Flag (is_some (file_name_of vs))) k)
+    unless_slash_same s t x (with_extension_of s x) (with_extension_of t x) k
+    (with_extension_same s t x k)
+one_same s t (AddExtension x) k =
+    unless_slash_same s t x (added_extension_of s x) (added_extension_of t x) k
+    (added_extension_same s t x k)
 one_same s t Clear k = (refl, refl)
 
 edit_same : (s t : List ℕ) (d e : EditValue) → SameValues s t → SameEdit d e

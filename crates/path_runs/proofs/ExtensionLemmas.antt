@@ -8,13 +8,17 @@ use Rattle.unix_path.specs.Rest.{rest}
 use Rattle.unix_path.specs.Parents.{parent_of}
 use Rattle.unix_path.specs.Names.{file_name_of, split_name, stem_of, extension_of}
 use Rattle.unix_path.specs.Edits.{with_extension_of}
+use Rattle.unix_path.specs.Extensions.{has_slash}
 use Rattle.unix_path.specs.Joins.{is_open}
 use Rattle.unix_path.proofs.EditLemmas.{dot_before-some}
-use Rattle.path_runs.specs.declared.edits.Answer.TheVariants.{Flag}
+use Rattle.path_runs.specs.declared.edits.Answer.TheVariants.{Flag, Separator}
+use Rattle.path_runs.specs.EditLists.{SetExtension, edit_of}
 use Rattle.path_runs.specs.JoinLaws.{drop_lead}
 use Rattle.path_runs.specs.EditLaws.{HasNone, IsPlainExtension, TakesExtension}
+use Rattle.unix_path.proofs.CaseLemmas.{by_test}
 use Rattle.path_runs.proofs.BehindLemmas.{rest-behind}
-use Rattle.path_runs.proofs.CongruenceLemmas.{with_extension_of-cut}
+use Rattle.path_runs.proofs.CongruenceLemmas.{unless_slash}
+use Rattle.path_runs.proofs.ExtensionCutLemmas.{with_extension_of-cut}
 use Rattle.path_runs.proofs.DotLemmas.{SplitCase, Whole, Cut, split_case, split_name-dot}
 use Rattle.path_runs.proofs.DotLemmas.{stem_prefix}
 use Rattle.path_runs.proofs.LeadLemmas.{drop_lead-values}
@@ -106,15 +110,26 @@ some_name s e = by (file_name_of (values s)) refl e
     by None is e = absurd (cc)
     by (Some name) is e = (name, is)
 
+-- an extension that was set holds no slash
+taken : (s x t : List ℕ) → edit_of s (SetExtension x) ≡ (t, Flag true)
+    → (with_extension_of s x ≡ t) × (Flag (is_some (file_name_of (values s))) ≡ Flag true)
+taken s x t e =
+    let left : (unless_slash s x (with_extension_of s x)).0 ≡ t = ap (λ p. p.0) e in
+    let said : (unless_slash s x (with_extension_of s x)).1 ≡ Flag true = ap (λ p. p.1) e in
+    by_test (has_slash x)
+    (λ y. absurd (let no : Separator ≡ Flag true = rw y at said in cc))
+    (λ n. (rw n at left, rw n at said))
+
 -- the new file name of a path that takes an extension
 new_extension : (s x t : List ℕ) → TakesExtension s x t
     → (name : List ℕ) × (file_name_of (values s) ≡ Some name)
     × NewExtension s t (split_name name).0 x
 new_extension s x t h =
-    let name = some_name s (ap (λ p. p.1) h.1) in (
+    let is = taken s x t h.1 in
+    let name = some_name s is.1 in (
       name.0,
       name.1,
-      subst (λ u. NewExtension s u (split_name name.0).0 x) (ap (λ p. p.0) h.1)
+      subst (λ u. NewExtension s u (split_name name.0).0 x) is.0
           (set_extension s name.0 x name.1 h.0),
     )
 

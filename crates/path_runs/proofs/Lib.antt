@@ -16,6 +16,7 @@ pub mod ExtendLemmas
 pub mod EditListLemmas
 pub mod DotLemmas
 pub mod NamedLemmas
+pub mod ExtensionCutLemmas
 pub mod CongruenceLemmas
 pub mod StemNameLemmas
 pub mod StripLemmas

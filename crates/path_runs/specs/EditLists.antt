@@ -1,13 +1,14 @@
 -- Edits of a path and lists of them (Rust's `PathBuf::push`, `PathBuf::pop`,
--- `PathBuf::set_file_name`, `PathBuf::set_extension`, `PathBuf::clear`).
-use Rattle.std.specs.Prelude.{ℕ, List, [], ◌∷◌, Bool, true, false, is_some}
+-- `PathBuf::set_file_name`, `PathBuf::set_extension`, `PathBuf::add_extension`, `PathBuf::clear`).
+use Rattle.std.specs.Prelude.{ℕ, List, [], ◌∷◌, Bool, true, false, not, is_some, if◌then◌else◌}
 use Rattle.unix_path.specs.Parts.{values}
 use Rattle.unix_path.specs.Joins.{join_of}
 use Rattle.unix_path.specs.Parents.{parent_of}
 use Rattle.unix_path.specs.Names.{file_name_of}
 use Rattle.unix_path.specs.Edits.{popped_of, with_name_of, with_extension_of}
+use Rattle.unix_path.specs.Extensions.{has_slash, added_extension_of}
 use Rattle.path_runs.specs.declared.edits.Answer.{Answer}
-use Rattle.path_runs.specs.declared.edits.Answer.TheVariants.{Plain, Flag}
+use Rattle.path_runs.specs.declared.edits.Answer.TheVariants.{Plain, Flag, Separator}
 
 -- an edit, with the bytes that it holds
 pub data EditValue : Type 0 where
@@ -15,6 +16,7 @@ pub data EditValue : Type 0 where
   Pop : EditValue
   SetFileName : List ℕ → EditValue
   SetExtension : List ℕ → EditValue
+  AddExtension : List ℕ → EditValue
   Clear : EditValue
 
 -- what an edit leaves of the path s, and what it answers
@@ -23,7 +25,11 @@ edit_of s (Push b) = (join_of s b, Plain)
 edit_of s Pop = (popped_of s, Flag (is_some (parent_of s)))
 edit_of s (SetFileName name) = (with_name_of s name, Plain)
 edit_of s (SetExtension extension) =
-    (with_extension_of s extension, Flag (is_some (file_name_of (values s))))
+    if has_slash extension then (s, Separator)
+    else (with_extension_of s extension, Flag (is_some (file_name_of (values s))))
+edit_of s (AddExtension extension) =
+    if has_slash extension then (s, Separator)
+    else (added_extension_of s extension, Flag (is_some (file_name_of (values s))))
 edit_of s Clear = ([], Plain)
 
 -- what a list of edits leaves, each made on what the one before it left, and all their answers
@@ -34,9 +40,11 @@ edits_of s (e ∷ es) =
     let more = edits_of one.0 es in
     (more.0, one.1 ∷ more.1)
 
--- a push, a new file name, or an extension that isn't empty; no other edit allocates
+-- a push, a new file name, or an extension that isn't empty and holds no slash; no other edit
+-- allocates
 abbrev pub may_allocate : EditValue → Bool
 may_allocate (Push b) = true
 may_allocate (SetFileName name) = true
-may_allocate (SetExtension (b ∷ bs)) = true
+may_allocate (SetExtension (b ∷ bs)) = not (has_slash (b ∷ bs))
+may_allocate (AddExtension (b ∷ bs)) = not (has_slash (b ∷ bs))
 may_allocate _ = false

@@ -1,16 +1,17 @@
 //! Edits of a path, as values, and lists of them applied.
 ghost use Rattle.std.specs.Prelude.{◌≡◌, ◌↔◌, ◌<◌, [], true, length, take, slice_get, MatchOption};
 ghost use Rattle.std.specs.Prelude.{map, IsSome, IsOk, IfOk, IfErr, IfSome, OnOk, OnErr};
+ghost use Rattle.std.specs.Result.{result_ok};
 ghost use Rattle.unix_path.specs.Buffers.{path_bytes};
 ghost use Rattle.unix_path.specs.Joins.{join_of};
 ghost use Rattle.unix_path.specs.Prefixes.{Begins, stripped_of};
 ghost use Rattle.unix_path.specs.Parts.{values, SameValues};
-ghost use Rattle.path_runs.specs.EditViews.{edit_value};
+ghost use Rattle.path_runs.specs.EditViews.{edit_value, extension_answer};
 ghost use Rattle.path_runs.specs.EditLists.{edit_of, edits_of, may_allocate};
 
 use std::alloc::{AllocError, Global};
 use unix_bytes::bytes::UnixStr;
-use unix_path::{Path, PathBuf};
+use unix_path::{ExtensionError, Path, PathBuf};
 
 /// One edit of a path, with the bytes that it holds.
 ///
@@ -29,28 +30,44 @@ pub enum Edit<'a> {
     SetFileName(UnixStr<'a>),
     /// Replaces the extension of the file name, or adds one; the empty one removes it.
     SetExtension(UnixStr<'a>),
+    /// Puts a dot and the extension behind the file name; the empty one adds nothing.
+    AddExtension(UnixStr<'a>),
     /// Drops all bytes, which leaves the empty path.
     Clear,
 }
 
 /// What an edit answers. Not in Rust's std.
 ///
-/// For a pop of the path `/` it is `Flag(false)`.
+/// For a pop of the path `/` it is `Flag(false)`, and for the extension `x/y` it is `Separator`.
 #[derive(Clone, Copy, Debug, PartialEq, Eq)]
 pub enum Answer {
     /// Nothing: an edit of this kind always takes place.
     Plain,
     /// Whether the edit took place.
     Flag(bool),
+    /// The extension holds a `/`: the path stays as it was.
+    Separator,
 }
 
-/// The error of a list of edits: an allocation failed. Not in Rust's std.
+/// The error of a list of edits: an allocation failed. An edit that answers `Separator` is no error
+/// of the list. Not in Rust's std.
 ///
 /// `ApplyError { done: 1 }` says that the first edit was made, and that the second one failed.
 #[derive(Debug, Drop)]
 pub struct ApplyError {
     /// How many edits were made before the one that failed.
     pub done: usize,
+}
+
+// What an edit of the extension answers, unless an allocation failed.
+fn extension_answer(edited: Result<bool, ExtensionError>) -> Result<Answer, AllocError>
+    ensures { result_ok result ≡ extension_answer edited }
+{
+    match edited {
+        Ok(is_made) => Ok(Answer::Flag(is_made)),
+        Err(ExtensionError::Separator) => Ok(Answer::Separator),
+        Err(ExtensionError::Memory(error)) => Err(error),
+    }
 }
 
 // Makes one edit, and answers what it answers.
@@ -72,10 +89,8 @@ fn apply_one(path: &mut PathBuf, edit: &Edit<'_>) -> Result<Answer, AllocError>
             path.set_file_name(*name)?;
             Ok(Answer::Plain)
         }
-        Edit::SetExtension(extension) => {
-            let is_set = path.set_extension(*extension)?;
-            Ok(Answer::Flag(is_set))
-        }
+        Edit::SetExtension(extension) => extension_answer(path.set_extension(*extension)),
+        Edit::AddExtension(extension) => extension_answer(path.add_extension(*extension)),
         Edit::Clear => {
             path.clear();
             Ok(Answer::Plain)
@@ -88,8 +103,9 @@ fn apply_one(path: &mut PathBuf, edit: &Edit<'_>) -> Result<Answer, AllocError>
 /// Allocates once for all answers, before the first edit; then each edit allocates as the call of
 /// `PathBuf` does that it stands for. An empty list allocates nothing. If an allocation fails, the
 /// edits before it stay made, and the error has their number: 0 if the answers could not be
-/// allocated. An edit that fails leaves the bytes as they were. Not in Rust's std; each edit is the
-/// method of its name of Rust's `PathBuf`.
+/// allocated. An edit that fails leaves the bytes as they were. One whose extension holds a `/` does
+/// not fail: it is answered `Separator`, leaves the bytes as they were, and the next one is made.
+/// Not in Rust's std; each edit is the method of its name of Rust's `PathBuf`.
 ///
 /// For `foo/.` with the extension `bar`, a pop and a pop it leaves the empty path, and answers
 /// true, true and false.

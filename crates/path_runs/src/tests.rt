@@ -11,6 +11,7 @@ mod loops;
 mod pairs;
 mod plain;
 mod random;
+mod random_extensions;
 mod random_pairs;
 mod random_paths;
 mod short_walks;

@@ -1,11 +1,11 @@
 //! Laws of what is asked of a path.
 ghost use Rattle.std.specs.Prelude.{List, map, option_map, ℕ};
 ghost use Rattle.unix_path.specs.Edits.{with_extension_of, with_name_of};
+ghost use Rattle.unix_path.specs.Extensions.{added_extension_of};
 ghost use Rattle.unix_path.specs.Hashed.{hash_input_of};
 ghost use Rattle.unix_path.specs.Joins.{join_of};
 ghost use Rattle.unix_path.specs.Parents.{ancestors_of, parent_of};
-ghost use Rattle.unix_path.specs.Names.{extension_of, file_name_of};
-ghost use Rattle.unix_path.specs.Names.{stem_of};
+ghost use Rattle.unix_path.specs.Names.{extension_of, file_name_of, file_prefix_of, stem_of};
 ghost use Rattle.unix_path.specs.Prefixes.{stripped_of, Begins, Ends};
 ghost use Rattle.unix_path.specs.Order.{values_cmp};
 ghost use Rattle.unix_path.specs.Parts.{is_rooted, value_bytes, values, SameValues};
@@ -61,6 +61,7 @@ pub fn queries_congruent()
     ensures file_name { SameOnEqual (λ s. file_name_of (values s)) }
     ensures file_stem { SameOnEqual (λ s. stem_of (values s)) }
     ensures extension { SameOnEqual (λ s. extension_of (values s)) }
+    ensures file_prefix { SameOnEqual (λ s. file_prefix_of (values s)) }
     ensures items { SameOnEqual (λ s. map value_bytes (values s)) }
     ensures starts_with { HoldsOnEqualPairs (λ s base. Begins (values base) (values s)) }
     ensures ends_with { HoldsOnEqualPairs (λ s child. Ends (values child) (values s)) }
@@ -75,4 +76,6 @@ pub fn queries_congruent()
     ensures with_file_name { (name : List ℕ) → SameOnEqual (λ s. values (with_name_of s name)) }
     ensures with_extension { (extension : List ℕ)
         → SameOnEqual (λ s. values (with_extension_of s extension)) }
+    ensures with_added_extension { (extension : List ℕ)
+        → SameOnEqual (λ s. values (added_extension_of s extension)) }
 {}

@@ -39,6 +39,24 @@ fn equal_paths_stay_equal(rt: HostRuntime) -> Result<(), Fail> {
     assert_eq!(rt; longer.as_path(), shorter.as_path());
     let rows = [
         (
+            Edit::AddExtension(text("x/y")),
+            "a/./..foo",
+            "a/..foo",
+            Answer::Separator,
+        ),
+        (
+            Edit::AddExtension(text("x")),
+            "a/./..foo.x",
+            "a/..foo.x",
+            Answer::Flag(true),
+        ),
+        (
+            Edit::SetExtension(text("")),
+            "a/./..foo",
+            "a/..foo",
+            Answer::Flag(true),
+        ),
+        (
             Edit::SetExtension(text("")),
             "a/./.",
             "a/.",

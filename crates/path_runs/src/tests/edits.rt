@@ -21,6 +21,10 @@ fn extension(text: &str) -> Edit<'_> {
     Edit::SetExtension(UnixStr::new(text))
 }
 
+fn added(text: &str) -> Edit<'_> {
+    Edit::AddExtension(UnixStr::new(text))
+}
+
 // Whether the edits of this path leave these bytes and answer this.
 fn edits_give(
     alloc: Global,
@@ -64,7 +68,12 @@ fn rows_of_single_edits(rt: HostRuntime) -> Result<(), Fail> {
     let rows = [
         ("a/..foo", extension(""), "a/.", Answer::Flag(true)),
         ("a", push("b:c"), "a/b:c", Answer::Plain),
-        ("a", extension("x/y"), "a.x/y", Answer::Flag(true)),
+        ("a", extension("x/y"), "a", Answer::Separator),
+        ("..", extension("x/y"), "..", Answer::Separator),
+        ("..", added("x/y"), "..", Answer::Separator),
+        ("..", added("x"), "..", Answer::Flag(false)),
+        ("a/.", added(""), "a/.", Answer::Flag(true)),
+        ("foo.tar/.", added("gz"), "foo.tar.gz", Answer::Flag(true)),
         ("foo/.", extension("bar"), "foo.bar", Answer::Flag(true)),
         ("foo/..", extension("bar"), "foo/..", Answer::Flag(false)),
         ("...", extension(""), "..", Answer::Flag(true)),
@@ -96,6 +105,7 @@ fn rows_of_lists_of_edits(rt: HostRuntime) -> Result<(), Fail> {
     let answers = [yes, plain, yes, yes, yes, no];
     let short = [extension("bar"), pop, pop];
     let clear = [Edit::Clear, push("")];
+    let refused = [extension("x/y"), push("b")];
     assert!(rt;
         edits_give(
             alloc,
@@ -115,6 +125,15 @@ fn rows_of_lists_of_edits(rt: HostRuntime) -> Result<(), Fail> {
         )?
     );
     assert!(rt; edits_give(alloc, "a", clear.as_slice(), "", [plain, plain].as_slice())?);
+    assert!(rt;
+        edits_give(
+            alloc,
+            "a",
+            refused.as_slice(),
+            "a/b",
+            [Answer::Separator, plain].as_slice()
+        )?
+    );
     assert!(rt; edits_give(alloc, "a", [].as_slice(), "a", [].as_slice())?);
     Ok(())
 }

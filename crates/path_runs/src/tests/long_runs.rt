@@ -55,6 +55,10 @@ fn a_name_of_dots(rt: HostRuntime) -> Result<(), Fail> {
     assert!(rt; path.file_name() == Some(name));
     assert!(rt; path.file_stem() == Some(UnixStr::from_bytes(&stem)));
     assert!(rt; path.extension() == Some(UnixStr::new("")));
+    assert!(rt; path.file_prefix() == Some(UnixStr::new(".")));
+    let mut added = path.to_path_buf(rt.alloc())?;
+    assert!(rt; added.add_extension(UnixStr::new("x"))?);
+    assert_eq!(rt; added.as_path().as_unix_str().len(), 100_002);
     Ok(())
 }
 

@@ -69,3 +69,24 @@ pub(super) fn are_parts(components: &[Component<'_>], parts: &[Part<'_>]) -> boo
             .zip(parts)
             .all(|(component, part)| is_part(*component, *part))
 }
+
+// The place of a name's last dot, unless it is its first byte.
+pub(super) fn last_dot(name: &[u8]) -> Option<usize> {
+    let mut place = None;
+    for (at, byte) in name.iter().enumerate() {
+        if *byte == b'.' && at > 0 {
+            place = Some(at);
+        }
+    }
+    place
+}
+
+// The place of a name's first dot after its first byte.
+pub(super) fn first_dot(name: &[u8]) -> Option<usize> {
+    for (at, byte) in name.iter().enumerate() {
+        if *byte == b'.' && at > 0 {
+            return Some(at);
+        }
+    }
+    None
+}

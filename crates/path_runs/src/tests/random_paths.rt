@@ -1,5 +1,5 @@
 //! Random byte strings, each asked everything that a path answers, beside the plain reading.
-use super::plain::{Part, are_parts, is_name, left_between, parts_of};
+use super::plain::{Part, are_parts, first_dot, is_name, last_dot, left_between, parts_of};
 use super::random::Random;
 use crate::canonical::canonical;
 use std::alloc::{AllocError, Global};
@@ -44,34 +44,29 @@ fn has_parts<'a>(alloc: Global, path: Path<'a>, parts: &[Part<'a>]) -> Result<bo
     )
 }
 
-// The place of a name's last dot, unless it is its first byte.
-fn last_dot(name: &[u8]) -> Option<usize> {
-    let mut place = None;
-    for (at, byte) in name.iter().enumerate() {
-        if *byte == b'.' && at > 0 {
-            place = Some(at);
-        }
-    }
-    place
-}
-
-// Whether the file name is the last part, if that is a name, and is cut at its last dot.
+// Whether the file name is the last part, if that is a name, and is cut at its dots.
 fn has_name<'a>(path: Path<'a>, parts: &[Part<'a>]) -> bool {
     let name = match parts.last() {
         Some(part) if is_name(part.bytes) => part.bytes,
         _ => {
             return path.file_name().is_none()
                 && path.file_stem().is_none()
-                && path.extension().is_none();
+                && path.extension().is_none()
+                && path.file_prefix().is_none();
         }
     };
     let (stem, extension) = match last_dot(name) {
         Some(dot) => (name.get(..dot), name.get(dot.saturating_add(1)..)),
         None => (Some(name), None),
     };
+    let prefix = match first_dot(name) {
+        Some(dot) => name.get(..dot),
+        None => Some(name),
+    };
     bytes_of(path.file_name()) == Some(name)
         && bytes_of(path.file_stem()) == stem
         && bytes_of(path.extension()) == extension
+        && bytes_of(path.file_prefix()) == prefix
 }
 
 // Whether the canonical form is the parts with one slash between, and is its own.

@@ -1,11 +1,12 @@
 use Rattle.std.proofs.Common.{ap, ap₂, map}
 use Rattle.unix_path.specs.Hashed.{hash_input_of}
-use Rattle.unix_path.specs.Names.{file_name_of, stem_of, extension_of}
+use Rattle.unix_path.specs.Names.{file_name_of, stem_of, extension_of, file_prefix_of}
 use Rattle.unix_path.specs.Order.{values_cmp}
 use Rattle.unix_path.specs.Parts.{value_bytes}
 use Rattle.path_runs.proofs.AlikeLemmas.{prefixes_same, suffixes_same, equality_same}
 use Rattle.path_runs.proofs.AlikeLemmas.{parents_same, ancestors_same, stripped_of-same}
 use Rattle.path_runs.proofs.CongruenceLemmas.{rests_same, with_name_same, with_extension_same}
+use Rattle.path_runs.proofs.CongruenceLemmas.{added_extension_same}
 use Rattle.path_runs.proofs.LeadLemmas.{joins_same, roots_same}
 use Rattle.path_runs.proofs.laws.queries.queries_congruent.Goals as goal
 
@@ -15,6 +16,7 @@ returns c = record {
   file_name = λ s t e. ap file_name_of e;
   file_stem = λ s t e. ap stem_of e;
   extension = λ s t e. ap extension_of e;
+  file_prefix = λ s t e. ap file_prefix_of e;
   items = λ s t e. ap (map value_bytes) e;
   starts_with = prefixes_same;
   ends_with = suffixes_same;
@@ -28,4 +30,5 @@ returns c = record {
   join = λ s t u w e f. joins_same s t u w e f;
   with_file_name = λ name s t e. with_name_same s t name e;
   with_extension = λ x s t e. with_extension_same s t x e;
+  with_added_extension = λ x s t e. added_extension_same s t x e;
 }

@@ -1,0 +1,117 @@
+//! Random byte strings, set and added as extensions of others, beside the plain reading.
+use super::plain::{is_name, last_dot, parts_of};
+use super::random::Random;
+use std::alloc::{AllocError, Global};
+use std::test::Fail;
+use unix_path::bytes::UnixStr;
+use unix_path::{ExtensionError, Path, PathBuf};
+
+const STRINGS: u32 = 10_000;
+
+// A random extension; half of them have no slash.
+fn extension_from(alloc: Global, random: &mut Random) -> Result<Vec<u8>, AllocError> {
+    let keeps_slashes = random.next() >> 32 & 1 == 0;
+    let mut bytes = Vec::new(alloc);
+    for byte in random.string(alloc)?.iter() {
+        if keeps_slashes || *byte != b'/' {
+            bytes.push(*byte)?;
+        }
+    }
+    Ok(bytes)
+}
+
+// The places where the stem and the name of the file end, if the last part is a name.
+fn ends_of(alloc: Global, path: &[u8]) -> Result<Option<(usize, usize)>, AllocError> {
+    let parts = parts_of(alloc, path)?;
+    Ok(match parts.last() {
+        Some(part) if is_name(part.bytes) => {
+            let stem_len = last_dot(part.bytes).unwrap_or(part.bytes.len());
+            Some((part.start.saturating_add(stem_len), part.end))
+        }
+        _ => None,
+    })
+}
+
+// The path up to this place, and then a dot and the extension, unless that is empty.
+fn extended(
+    alloc: Global,
+    path: &[u8],
+    end: usize,
+    extension: &[u8],
+) -> Result<Vec<u8>, AllocError> {
+    let (front, _) = path.split_at(end.min(path.len()));
+    let mut bytes = Vec::from_slice(alloc, front)?;
+    if !extension.is_empty() {
+        bytes.push(b'.')?;
+        bytes.extend_from_slice(extension)?;
+    }
+    Ok(bytes)
+}
+
+// Whether the call refuses the extension for its separator, or else answers this.
+fn is_answered(edited: Result<bool, ExtensionError>, has_slash: bool, answer: bool) -> bool {
+    match edited {
+        Ok(is_made) => !has_slash && is_made == answer,
+        Err(ExtensionError::Separator) => has_slash,
+        Err(ExtensionError::Memory(_)) => false,
+    }
+}
+
+// Whether the call refuses the extension for its separator, or else gives these bytes.
+fn is_copied(copied: Result<PathBuf, ExtensionError>, has_slash: bool, bytes: &[u8]) -> bool {
+    match copied {
+        Ok(path) => !has_slash && path.as_path().as_unix_str().as_bytes() == bytes,
+        Err(ExtensionError::Separator) => has_slash,
+        Err(ExtensionError::Memory(_)) => false,
+    }
+}
+
+// Whether the extension is set and added as the plain reading has it.
+fn is_extended(alloc: Global, bytes: &[u8], extension: &[u8]) -> Result<bool, AllocError> {
+    let path = Path::from_bytes(bytes);
+    let ends = ends_of(alloc, bytes)?;
+    let has_slash = extension.contains(&b'/');
+    let (set, added) = match ends {
+        Some((stem, name)) if !has_slash => {
+            let added_end = if extension.is_empty() {
+                bytes.len()
+            } else {
+                name
+            };
+            (
+                extended(alloc, bytes, stem, extension)?,
+                extended(alloc, bytes, added_end, extension)?,
+            )
+        }
+        _ => (
+            Vec::from_slice(alloc, bytes)?,
+            Vec::from_slice(alloc, bytes)?,
+        ),
+    };
+    let text = UnixStr::from_bytes(extension);
+    let mut first = path.to_path_buf(alloc)?;
+    let mut second = path.to_path_buf(alloc)?;
+    Ok(
+        is_answered(first.set_extension(text), has_slash, ends.is_some())
+            && is_answered(second.add_extension(text), has_slash, ends.is_some())
+            && first.as_path().as_unix_str() == UnixStr::from_bytes(&set)
+            && second.as_path().as_unix_str() == UnixStr::from_bytes(&added)
+            && is_copied(path.with_extension(alloc, text), has_slash, &set)
+            && is_copied(path.with_added_extension(alloc, text), has_slash, &added),
+    )
+}
+
+#[test]
+fn random_strings_are_extensions(rt: HostRuntime) -> Result<(), Fail> {
+    let alloc = rt.alloc();
+    let mut random = Random::new(24);
+    for _ in 0..STRINGS {
+        let bytes = random.string(alloc)?;
+        let extension = extension_from(alloc, &mut random)?;
+        assert!(rt;
+            is_extended(alloc, &bytes, &extension)?,
+            "{bytes:?} {extension:?}"
+        );
+    }
+    Ok(())
+}
