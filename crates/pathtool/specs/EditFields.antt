@@ -1,13 +1,13 @@
--- Edits as fields of a line: `push:x`, `pop`, `name:x`, `ext:x` or `clear`.
+-- Edits as fields of a line: `push:x`, `pop`, `name:x`, `ext:x`, `add:x` or `clear`.
 use Rattle.std.specs.Prelude.{ℕ, ◌+◌, ◌==◌, Option, option_map, is_some, List, [], ◌∷◌, map, take}
 use Rattle.std.specs.Prelude.{drop, codes, if◌then◌else◌}
 use Rattle.std.specs.List.{position_or_len, filter_map, list_all}
 use Rattle.std.specs.Map.{lookup}
 use Rattle.std.specs.Str.{byte, bytes_eq}
-use Rattle.path_runs.specs.EditLists.{EditValue, Push, Pop, SetFileName, SetExtension, Clear}
-use Rattle.path_runs.specs.EditLists.{edits_of}
+use Rattle.path_runs.specs.EditLists.{EditValue, Push, Pop, SetFileName, SetExtension}
+use Rattle.path_runs.specs.EditLists.{AddExtension, Clear, edits_of}
 use Rattle.path_runs.specs.declared.edits.Answer.{Answer}
-use Rattle.path_runs.specs.declared.edits.Answer.TheVariants.{Plain, Flag}
+use Rattle.path_runs.specs.declared.edits.Answer.TheVariants.{Plain, Flag, Separator}
 use Rattle.pathtool.specs.Fields.{tabs, bad_command, truth}
 
 -- the edits by what their fields begin with, and what each is with the bytes behind that
@@ -17,6 +17,7 @@ edits_by_name =
     ∷ (codes "pop", λ _. Pop)
     ∷ (codes "name:", SetFileName)
     ∷ (codes "ext:", SetExtension)
+    ∷ (codes "add:", AddExtension)
     ∷ (codes "clear", λ _. Clear) ∷ []
 
 -- the edit that a field names, up to its first colon, unless it names none
@@ -29,6 +30,7 @@ edit_of_field field =
 abbrev pub answer_word : Answer → List ℕ
 answer_word Plain = codes "ok"
 answer_word (Flag is_so) = truth is_so
+answer_word Separator = codes "separator"
 
 -- the bytes after the edits that these fields name, and then what each of them answers
 abbrev pub edit_answer : List ℕ → List (List ℕ) → List ℕ

@@ -31,6 +31,8 @@ fn edit_by_name<'a>(name: &[u8], held: &'a [u8]) -> Option<Edit<'a>>
         Some(Edit::SetFileName(held))
     } else if is(name, b"ext:") {
         Some(Edit::SetExtension(held))
+    } else if is(name, b"add:") {
+        Some(Edit::AddExtension(held))
     } else if is(name, b"clear") {
         Some(Edit::Clear)
     } else {
@@ -73,6 +75,7 @@ fn answer_word(answer: Answer) -> &'static str
         Answer::Plain => "ok",
         Answer::Flag(true) => "true",
         Answer::Flag(false) => "false",
+        Answer::Separator => "separator",
     }
 }
 

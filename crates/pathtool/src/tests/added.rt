@@ -98,7 +98,7 @@ fn canonical_paths(rt: HostRuntime) -> Result<(), Fail> {
 
 #[test]
 fn paths_are_edited(rt: HostRuntime) -> Result<(), Fail> {
-    let rows: [(&[u8], Others, &[u8]); 13] = [
+    let rows: [(&[u8], Others, &[u8]); 16] = [
         (b"a", Others::None, b"a"),
         (b"a/..foo", Others::One(b"ext:"), b"a/.\ttrue"),
         (
@@ -112,14 +112,17 @@ fn paths_are_edited(rt: HostRuntime) -> Result<(), Fail> {
             b"/\ttrue\tok\ttrue\ttrue\ttrue\tfalse",
         ),
         (b"a", Others::One(b"push:b:c"), b"a/b:c\tok"),
-        (b"a", Others::One(b"ext:x/y"), b"a.x/y\ttrue"),
+        (b"a", Others::One(b"ext:x/y"), b"a\tseparator"),
+        (b"foo.tar/.", Others::One(b"add:gz"), b"foo.tar.gz\ttrue"),
+        (b"a/.", Others::One(b"add:"), b"a/.\ttrue"),
+        (b"..", Others::One(b"add:x"), b"..\tfalse"),
         (b"a", Others::Several(b"clear\tpush:"), b"\tok\tok"),
         (b"foo/..", Others::One(b"name:bar"), b"foo/../bar\tok"),
         (b"a", Others::One(b"pop:"), b"bad command"),
         (b"a", Others::Several(b"push:b\tpush"), b"bad command"),
         (b"a", Others::One(b""), b"bad command"),
         (b"a", Others::Several(b"clear:\tpop"), b"bad command"),
-        (b"a", Others::Several(b"pop\tadd:x"), b"bad command"),
+        (b"a", Others::Several(b"pop\tadd:x"), b"\ttrue\tfalse"),
     ];
     for (path, fields, edited) in rows {
         let mut answer = begun(rt.alloc())?;

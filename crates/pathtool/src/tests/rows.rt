@@ -45,12 +45,17 @@ fn walks_are_answered(rt: HostRuntime) -> Result<(), Fail> {
 
 #[test]
 fn edits_are_answered(rt: HostRuntime) -> Result<(), Fail> {
-    let rows: [(&[u8], &[u8]); 14] = [
+    let rows: [(&[u8], &[u8]); 19] = [
         (b"edit\tfoo/.\text:bar\tpop\tpop", b"\ttrue\ttrue\tfalse"),
         (b"edit\ta/b\tpop", b"a\ttrue"),
         (b"edit\ta/\text:.", b"a..\ttrue"),
         (b"edit\t.\tname:a", b"./a\tok"),
         (b"edit\t/\text:a", b"/\tfalse"),
+        (b"edit\ta\text:x/y\tpush:b", b"a/b\tseparator\tok"),
+        (b"edit\tfoo.tar/.\tadd:gz", b"foo.tar.gz\ttrue"),
+        (b"edit\ta/.\tadd:", b"a/.\ttrue"),
+        (b"edit\t..\tadd:x", b"..\tfalse"),
+        (b"edit\t..\tadd:x/y", b"..\tseparator"),
         (b"edit\taa\tpush:", b"aa/\tok"),
         (
             b"edit\t/a/\xe2\x82/\x80/\xd5/a\tpush:../",
@@ -58,7 +63,7 @@ fn edits_are_answered(rt: HostRuntime) -> Result<(), Fail> {
         ),
         (b"edit\t/.\tclear", b"\tok"),
         (b"edit\ta/b", b"a/b"),
-        (b"edit\ta/b\tpop\tadd:x", b"bad command"),
+        (b"edit\ta/b\tpop\tadd:x", b"a.x\ttrue\ttrue"),
         (b"edit\ta/b\tpop:", b"bad command"),
         (b"edit\ta/b\tpush", b"bad command"),
         (b"edit\t/\xc0///\x01\x02\tset:x\tpop", b"bad command"),
