@@ -79,13 +79,24 @@ fn push_walk(path: &Path, turns: &[u8], answer: &mut Vec<u8>) {
     push_list(items.chain(parts).chain(rest).chain(parts_behind), answer);
 }
 
+/// Edits the extension, and adds whether that was done; `separator` where the library panics.
+fn push_extended(extension: &[u8], answers: &mut Vec<u8>, edit: impl FnOnce(&OsStr) -> bool) {
+    if extension.contains(&b'/') {
+        answers.extend_from_slice(b"separator");
+    } else {
+        push_truth(edit(text(extension)), answers);
+    }
+}
+
 /// Does the edit, and adds what it answers; false where the field names none.
 fn push_edit(field: &[u8], edited: &mut PathBuf, answers: &mut Vec<u8>) -> bool {
     answers.push(b'\t');
     if field == b"pop" {
         push_truth(edited.pop(), answers);
     } else if let Some(extension) = field.strip_prefix(b"ext:") {
-        push_truth(edited.set_extension(text(extension)), answers);
+        push_extended(extension, answers, |text| edited.set_extension(text));
+    } else if let Some(extension) = field.strip_prefix(b"add:") {
+        push_extended(extension, answers, |text| edited.add_extension(text));
     } else {
         if field == b"clear" {
             edited.clear();

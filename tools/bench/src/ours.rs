@@ -11,6 +11,7 @@ extern "C" {
     pub fn ours_file_name(path: Start, len: usize) -> u64;
     pub fn ours_file_stem(path: Start, len: usize) -> u64;
     pub fn ours_extension(path: Start, len: usize) -> u64;
+    pub fn ours_file_prefix(path: Start, len: usize) -> u64;
     pub fn ours_starts_with(path: Start, len: usize, base: Start, base_len: usize) -> u64;
     pub fn ours_ends_with(path: Start, len: usize, child: Start, child_len: usize) -> u64;
     pub fn ours_strip_prefix(path: Start, len: usize, base: Start, base_len: usize) -> u64;
@@ -21,8 +22,10 @@ extern "C" {
     pub fn ours_join(path: Start, len: usize, other: Start, other_len: usize) -> u64;
     pub fn ours_with_file_name(path: Start, len: usize, name: Start, name_len: usize) -> u64;
     pub fn ours_with_extension(path: Start, len: usize, end: Start, end_len: usize) -> u64;
+    pub fn ours_with_added_extension(path: Start, len: usize, end: Start, end_len: usize) -> u64;
     pub fn ours_push_pop(path: Start, len: usize, other: Start, other_len: usize) -> u64;
     pub fn ours_set_extension(path: Start, len: usize, end: Start, end_len: usize) -> u64;
+    pub fn ours_add_extension(path: Start, len: usize, end: Start, end_len: usize) -> u64;
     pub fn ours_canonical(path: Start, len: usize) -> u64;
     pub fn ours_to_str(path: Start, len: usize) -> u64;
     pub fn ours_to_string_lossy(path: Start, len: usize) -> u64;

@@ -82,6 +82,7 @@ fn queries() -> Vec<Row> {
         one("file_name", ours_file_name, std::file_name),
         one("file_stem", ours_file_stem, std::file_stem),
         one("extension", ours_extension, std::extension),
+        one("file_prefix", ours_file_prefix, std::file_prefix),
         two("starts_with", ours_starts_with, std::starts_with, front),
         two("ends_with", ours_ends_with, std::ends_with, behind),
         two("strip_prefix", ours_strip_prefix, std::strip_prefix, front),
@@ -111,6 +112,13 @@ fn edits() -> Vec<Row> {
         two("with_file_name", ours_with_file_name, std::with_file_name, Other::Name),
         two("with_extension", ours_with_extension, std::with_extension, Other::Extension),
         two("set_extension", ours_set_extension, std::set_extension, Other::Extension),
+        two(
+            "with_added_extension",
+            ours_with_added_extension,
+            std::with_added_extension,
+            Other::Extension,
+        ),
+        two("add_extension", ours_add_extension, std::add_extension, Other::Extension),
         two("push and pop", ours_push_pop, std::push_pop, Other::Name),
         one("canonical", ours_canonical, std::canonical),
     ]

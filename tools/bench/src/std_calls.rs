@@ -118,6 +118,11 @@ pub unsafe extern "C" fn extension(path: Start, len: usize) -> u64 {
     some(path_of(path, len).extension())
 }
 
+/// Its file name up to its first dot.
+pub unsafe extern "C" fn file_prefix(path: Start, len: usize) -> u64 {
+    some(path_of(path, len).file_prefix())
+}
+
 /// Whether the base begins the path.
 pub unsafe extern "C" fn starts_with(path: Start, len: usize, base: Start, base_len: usize) -> u64 {
     path_of(path, len)
@@ -211,6 +216,16 @@ pub unsafe extern "C" fn with_extension(
     made(&path_of(path, len).with_extension(text_of(end, end_len)))
 }
 
+/// A copy with that extension added.
+pub unsafe extern "C" fn with_added_extension(
+    path: Start,
+    len: usize,
+    end: Start,
+    end_len: usize,
+) -> u64 {
+    made(&path_of(path, len).with_added_extension(text_of(end, end_len)))
+}
+
 /// Pushes and pops, four times.
 pub unsafe extern "C" fn push_pop(path: Start, len: usize, other: Start, other_len: usize) -> u64 {
     let mut edited = path_of(path, len).to_path_buf();
@@ -228,6 +243,13 @@ pub unsafe extern "C" fn push_pop(path: Start, len: usize, other: Start, other_l
 pub unsafe extern "C" fn set_extension(path: Start, len: usize, end: Start, end_len: usize) -> u64 {
     let mut edited = path_of(path, len).to_path_buf();
     edited.set_extension(text_of(end, end_len));
+    made(&edited)
+}
+
+/// A copy onto which the extension is added.
+pub unsafe extern "C" fn add_extension(path: Start, len: usize, end: Start, end_len: usize) -> u64 {
+    let mut edited = path_of(path, len).to_path_buf();
+    edited.add_extension(text_of(end, end_len));
     made(&edited)
 }
 

@@ -1,7 +1,8 @@
 use super::drought;
+use std::alloc::Global;
 use std::test::Fail;
 use unix_path::bytes::{LossyText, UnixStr, UnixString};
-use unix_path::{BoxedPath, CowPath, Path, PathBuf, RcPath};
+use unix_path::{BoxedPath, CowPath, ExtensionError, Path, PathBuf, RcPath};
 
 fn path(text: &str) -> Path<'_> {
     Path::from_text(text)
@@ -48,10 +49,11 @@ fn within_the_capacity_edits_do_not_allocate(rt: HostRuntime) -> Result<(), Fail
     assert!(rt; buffer.shrink_to(1000).is_ok());
     assert_eq!(rt; buffer.capacity(), capacity);
     assert!(rt; buffer.set_file_name(UnixStr::new("foo")).is_ok());
-    assert!(rt; buffer.set_extension(UnixStr::new("rs")).is_ok());
-    assert_eq!(rt; buffer.as_path().as_unix_str(), UnixStr::new("/foo.rs"));
-    assert!(rt; buffer.reserve(3).is_ok());
-    assert!(rt; buffer.reserve_exact(3).is_ok());
+    assert!(rt; buffer.set_extension(UnixStr::new("a")).is_ok());
+    assert!(rt; buffer.add_extension(UnixStr::new("c")).is_ok());
+    assert_eq!(rt; buffer.as_path().as_unix_str(), UnixStr::new("/foo.a.c"));
+    assert!(rt; buffer.reserve(2).is_ok());
+    assert!(rt; buffer.reserve_exact(2).is_ok());
     assert_eq!(rt; buffer.capacity(), capacity);
     Ok(())
 }
@@ -77,6 +79,7 @@ fn a_failed_edit_keeps_the_bytes(rt: HostRuntime) -> Result<(), Fail> {
     assert!(rt; named.set_file_name(name).is_err());
     assert_eq!(rt; named.as_path().as_unix_str(), UnixStr::new("a/bb"));
     assert!(rt; extended.set_extension(name).is_err());
+    assert!(rt; extended.add_extension(name).is_err());
     assert_eq!(rt; extended.as_path().as_unix_str(), UnixStr::new("foo/."));
     drop(dry);
     pushed.push(rooted)?;
@@ -100,6 +103,7 @@ fn a_failed_copy_gives_no_path(rt: HostRuntime) -> Result<(), Fail> {
     assert!(rt; view.join(alloc, path("bar")).is_err());
     assert!(rt; view.with_file_name(alloc, name).is_err());
     assert!(rt; view.with_extension(alloc, name).is_err());
+    assert!(rt; view.with_added_extension(alloc, name).is_err());
     assert!(rt; PathBuf::with_capacity(alloc, 3).is_err());
     assert!(rt; PathBuf::from_unix_str(alloc, name).is_err());
     assert!(rt; PathBuf::from_text(alloc, "bar").is_err());
@@ -122,18 +126,51 @@ fn promised_calls_of_paths_do_not_allocate(rt: HostRuntime) -> Result<(), Fail> 
     assert_eq!(rt; parts.next(), Some(UnixStr::new("/")));
     assert_eq!(rt; parts.next_back(), Some(UnixStr::new("b.c")));
     assert_eq!(rt; buffer.set_extension(UnixStr::new("")).ok(), Some(true));
+    assert_eq!(rt; buffer.add_extension(UnixStr::new("")).ok(), Some(true));
     assert_eq!(rt; buffer.as_path().as_unix_str(), UnixStr::new("/a/b"));
     assert!(rt; buffer.pop());
     assert!(rt; buffer.pop());
     assert!(rt; !buffer.pop());
     assert_eq!(rt; buffer.as_path(), path("/"));
     assert_eq!(rt; buffer.set_extension(UnixStr::new("d")).ok(), Some(false));
+    assert_eq!(rt; buffer.add_extension(UnixStr::new("d")).ok(), Some(false));
     buffer.clear();
     assert_eq!(rt; buffer.into_unix_string().as_unix_str(), UnixStr::new(""));
     let mut up = PathBuf::from(word);
     assert_eq!(rt; up.set_extension(UnixStr::new("d")).ok(), Some(false));
+    assert_eq!(rt; up.add_extension(UnixStr::new("d")).ok(), Some(false));
     let back: UnixString = up.into();
     assert_eq!(rt; back.as_unix_str(), UnixStr::new(".."));
+    Ok(())
+}
+
+// Whether the extension is refused for its separator, in place and in copies.
+fn is_separator(alloc: Global, buffer: &mut PathBuf, extension: &str) -> bool {
+    let extension = UnixStr::new(extension);
+    let copied = buffer.as_path().with_extension(alloc, extension);
+    let copied_more = buffer.as_path().with_added_extension(alloc, extension);
+    matches!(copied, Err(ExtensionError::Separator))
+        && matches!(copied_more, Err(ExtensionError::Separator))
+        && matches!(
+            buffer.set_extension(extension),
+            Err(ExtensionError::Separator)
+        )
+        && matches!(
+            buffer.add_extension(extension),
+            Err(ExtensionError::Separator)
+        )
+}
+
+#[test]
+fn separators_are_refused_without_memory(rt: HostRuntime) -> Result<(), Fail> {
+    let alloc = rt.alloc();
+    let mut named = PathBuf::from_text(alloc, "foo.rs/.")?;
+    let mut nameless = PathBuf::from_text(alloc, "..")?;
+    let _dry = drought(alloc)?;
+    assert!(rt; is_separator(alloc, &mut named, "x/y"));
+    assert!(rt; is_separator(alloc, &mut nameless, "x/y"));
+    assert_eq!(rt; named.as_path().as_unix_str(), UnixStr::new("foo.rs/."));
+    assert_eq!(rt; nameless.as_path().as_unix_str(), UnixStr::new(".."));
     Ok(())
 }
 
@@ -151,6 +188,7 @@ fn copies_of_no_bytes_do_not_allocate(rt: HostRuntime) -> Result<(), Fail> {
     assert!(rt; empty.join(alloc, empty).is_ok());
     assert!(rt; path("a").with_file_name(alloc, none).is_ok());
     assert!(rt; empty.with_extension(alloc, UnixStr::new("b")).is_ok());
+    assert!(rt; empty.with_added_extension(alloc, UnixStr::new("b")).is_ok());
     let boxed = BoxedPath::from_path(alloc, empty)?;
     assert!(rt; boxed.clone().is_ok());
     let owned = CowPath::from(buffer);

@@ -6,7 +6,7 @@ mod kept;
 mod runs;
 mod strings;
 
-use std::alloc::AllocError;
+use std::alloc::{AllocError, Global};
 use std::test::Fail;
 use unix_bytes::bytes::{UnixStr, UnixString};
 use unix_path::{Path, PathBuf};
@@ -17,6 +17,13 @@ fn path(text: &str) -> Path<'_> {
 
 fn holds(buffer: &PathBuf, text: &str) -> bool {
     buffer.as_path().as_unix_str() == UnixStr::new(text)
+}
+
+// The path, with a capacity of 100 bytes.
+fn roomy(alloc: Global, text: &str) -> Result<PathBuf, AllocError> {
+    let mut buffer = PathBuf::with_capacity(alloc, 100)?;
+    buffer.push(path(text))?;
+    Ok(buffer)
 }
 
 fn has_bytes(bytes: &UnixString, text: &str) -> bool {

@@ -16,14 +16,20 @@ fn a_failed_edit_leaves_those_before_it(rt: HostRuntime) -> Result<(), Fail> {
     let mut rooted = [b'x'; 4096];
     rooted[0] = b'/';
     let rooted = Path::new(UnixStr::from_bytes(rooted.as_slice()));
-    let edits = [Edit::Push(path("c")), Edit::Push(rooted)];
+    let separator = UnixStr::new("x/y");
+    let edits = [
+        Edit::Push(path("c")),
+        Edit::SetExtension(separator),
+        Edit::AddExtension(separator),
+        Edit::Push(rooted),
+    ];
     let mut buffer = PathBuf::from_text(alloc, "ab")?;
     let mut dry = drought(alloc)?;
     dry.ease();
     let error = apply(alloc, &mut buffer, edits.as_slice())
         .err()
         .ok_or("applied")?;
-    assert_eq!(rt; error.done, 1);
+    assert_eq!(rt; error.done, 3);
     assert_eq!(rt; buffer.as_path().as_unix_str(), UnixStr::new("ab/c"));
     Ok(())
 }

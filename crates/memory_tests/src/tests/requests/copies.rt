@@ -3,7 +3,7 @@ use serde_json::Value;
 use std::test::Fail;
 use unix_path::bytes::UnixStr;
 use unix_path::json::{JsonError, from_json, to_json};
-use unix_path::{CowPath, PathBuf};
+use unix_path::{CowPath, ExtensionError, PathBuf};
 
 #[test]
 fn path_with_capacity(rt: HostRuntime) -> Result<(), Fail> {
@@ -48,12 +48,30 @@ fn path_with_name(rt: HostRuntime) -> Result<(), Fail> {
     )
 }
 
+// Of a copy with another extension.
+fn told_extended(given: Result<PathBuf, ExtensionError>, text: &str) -> Result<(), Fail> {
+    match given {
+        Ok(buffer) => told_path(Ok(buffer), text),
+        Err(ExtensionError::Memory(error)) => told_path(Err(error), text),
+        Err(ExtensionError::Separator) => told(true, false),
+    }
+}
+
 #[test]
 fn path_with_extension(rt: HostRuntime) -> Result<(), Fail> {
     let extension = UnixStr::new("txt");
-    told_path(
+    told_extended(
         path("foo.rs").with_extension(rt.alloc(), extension),
         "foo.txt",
+    )
+}
+
+#[test]
+fn path_with_added_extension(rt: HostRuntime) -> Result<(), Fail> {
+    let extension = UnixStr::new("gz");
+    told_extended(
+        path("foo.tar").with_added_extension(rt.alloc(), extension),
+        "foo.tar.gz",
     )
 }
 

@@ -1,15 +1,8 @@
-use super::{holds, path, told};
-use std::alloc::{AllocError, Global};
+use super::{holds, path, roomy, told};
+use std::alloc::AllocError;
 use std::test::Fail;
-use unix_path::PathBuf;
 use unix_path::bytes::UnixStr;
-
-// `foo`, and room for 97 bytes more.
-fn roomy_foo(alloc: Global) -> Result<PathBuf, AllocError> {
-    let mut buffer = PathBuf::with_capacity(alloc, 100)?;
-    buffer.push(path("foo"))?;
-    Ok(buffer)
-}
+use unix_path::{ExtensionError, PathBuf};
 
 // Of an edit of the path `before`.
 fn told_edit(
@@ -43,14 +36,27 @@ fn name_set(rt: HostRuntime) -> Result<(), Fail> {
     told_edit(edited, &buffer, "a/bb", "a/ccc")
 }
 
+// Of an edit of the extension of `foo/.`.
+fn told_extension(edited: Result<bool, ExtensionError>, buffer: &PathBuf) -> Result<(), Fail> {
+    match edited {
+        Ok(is_made) => told(true, is_made && holds(buffer, "foo.bar")),
+        Err(ExtensionError::Memory(_)) => told(false, holds(buffer, "foo/.")),
+        Err(ExtensionError::Separator) => told(true, false),
+    }
+}
+
 #[test]
 fn extension_set(rt: HostRuntime) -> Result<(), Fail> {
     let mut buffer = PathBuf::from_text(rt.alloc(), "foo/.")?;
-    let answer = buffer.set_extension(UnixStr::new("bar"));
-    let is_false = matches!(answer, Ok(false));
-    let is_made = answer.is_ok();
-    let text = if is_made { "foo.bar" } else { "foo/." };
-    told(is_made, !is_false && holds(&buffer, text))
+    let edited = buffer.set_extension(UnixStr::new("bar"));
+    told_extension(edited, &buffer)
+}
+
+#[test]
+fn extension_added(rt: HostRuntime) -> Result<(), Fail> {
+    let mut buffer = PathBuf::from_text(rt.alloc(), "foo/.")?;
+    let edited = buffer.add_extension(UnixStr::new("bar"));
+    told_extension(edited, &buffer)
 }
 
 #[test]
@@ -74,7 +80,7 @@ fn path_with_exact_room(rt: HostRuntime) -> Result<(), Fail> {
 
 #[test]
 fn path_without_room(rt: HostRuntime) -> Result<(), Fail> {
-    let mut buffer = roomy_foo(rt.alloc())?;
+    let mut buffer = roomy(rt.alloc(), "foo")?;
     let is_made = buffer.shrink_to_fit().is_ok();
     let capacity = if is_made { 3 } else { 100 };
     told(
@@ -85,7 +91,7 @@ fn path_without_room(rt: HostRuntime) -> Result<(), Fail> {
 
 #[test]
 fn path_with_less_room(rt: HostRuntime) -> Result<(), Fail> {
-    let mut buffer = roomy_foo(rt.alloc())?;
+    let mut buffer = roomy(rt.alloc(), "foo")?;
     let is_made = buffer.shrink_to(5).is_ok();
     let capacity = if is_made { 5 } else { 100 };
     told(

@@ -1,15 +1,8 @@
-use super::{path, told, told_path};
-use std::alloc::{AllocError, Global};
+use super::{path, roomy, told, told_path};
+use std::alloc::AllocError;
 use std::test::Fail;
 use unix_path::bytes::UnixStr;
 use unix_path::{BoxedPath, CowPath, PathBuf, RcPath};
-
-// `foo/`, and room for 96 bytes more.
-fn roomy_foo(alloc: Global) -> Result<PathBuf, AllocError> {
-    let mut buffer = PathBuf::with_capacity(alloc, 100)?;
-    buffer.push(path("foo/"))?;
-    Ok(buffer)
-}
 
 // Of a call that gives the boxed path `foo/`.
 fn told_boxed(given: Result<BoxedPath, AllocError>) -> Result<(), Fail> {
@@ -34,7 +27,7 @@ fn boxed_from_view(rt: HostRuntime) -> Result<(), Fail> {
 
 #[test]
 fn boxed_from_buffer(rt: HostRuntime) -> Result<(), Fail> {
-    told_boxed(BoxedPath::from_path_buf(roomy_foo(rt.alloc())?))
+    told_boxed(BoxedPath::from_path_buf(roomy(rt.alloc(), "foo/")?))
 }
 
 #[test]
@@ -45,13 +38,13 @@ fn boxed_from_borrowed(rt: HostRuntime) -> Result<(), Fail> {
 
 #[test]
 fn boxed_from_owned(rt: HostRuntime) -> Result<(), Fail> {
-    let owned = CowPath::Owned(roomy_foo(rt.alloc())?);
+    let owned = CowPath::Owned(roomy(rt.alloc(), "foo/")?);
     told_boxed(BoxedPath::from_cow(rt.alloc(), owned))
 }
 
 #[test]
 fn buffer_boxed(rt: HostRuntime) -> Result<(), Fail> {
-    told_boxed(roomy_foo(rt.alloc())?.into_boxed_path())
+    told_boxed(roomy(rt.alloc(), "foo/")?.into_boxed_path())
 }
 
 #[test]

@@ -1,15 +1,8 @@
-use super::{has_bytes, told};
-use std::alloc::{AllocError, Global};
+use super::{has_bytes, roomy, told};
+use std::alloc::AllocError;
 use std::test::Fail;
 use unix_bytes::bytes::{LossyText, UnixStr, UnixString};
 use unix_path::Path;
-
-// `foo`, and room for 97 bytes more.
-fn roomy_foo(alloc: Global) -> Result<UnixString, AllocError> {
-    let mut bytes = UnixString::with_capacity(alloc, 100)?;
-    bytes.push(UnixStr::new("foo"))?;
-    Ok(bytes)
-}
 
 fn told_bytes(given: Result<UnixString, AllocError>, text: &str) -> Result<(), Fail> {
     match given {
@@ -72,7 +65,7 @@ fn bytes_with_exact_room(rt: HostRuntime) -> Result<(), Fail> {
 
 #[test]
 fn bytes_without_room(rt: HostRuntime) -> Result<(), Fail> {
-    let mut bytes = roomy_foo(rt.alloc())?;
+    let mut bytes = roomy(rt.alloc(), "foo")?.into_unix_string();
     let is_made = bytes.shrink_to_fit().is_ok();
     let capacity = if is_made { 3 } else { 100 };
     told(
@@ -83,7 +76,7 @@ fn bytes_without_room(rt: HostRuntime) -> Result<(), Fail> {
 
 #[test]
 fn bytes_with_less_room(rt: HostRuntime) -> Result<(), Fail> {
-    let mut bytes = roomy_foo(rt.alloc())?;
+    let mut bytes = roomy(rt.alloc(), "foo")?.into_unix_string();
     let is_made = bytes.shrink_to(5).is_ok();
     let capacity = if is_made { 5 } else { 100 };
     told(

@@ -30,6 +30,7 @@ fn is_edited(mut buffer: PathBuf) -> bool {
     buffer.set_file_name(UnixStr::new("bar")).is_ok()
         && buffer.set_file_name(UnixStr::new("b")).is_ok()
         && buffer.set_extension(UnixStr::new("c")).is_ok()
+        && buffer.add_extension(UnixStr::new("")).is_ok()
         && buffer.push(path("/d")).is_ok()
         && buffer.as_path() == path("/d")
 }

@@ -26,6 +26,7 @@ fn has_names() -> bool {
     path("a/b.c").file_name() == Some(UnixStr::new("b.c"))
         && path("a/b.c").file_stem() == Some(UnixStr::new("b"))
         && path("a/b.c").extension() == Some(UnixStr::new("c"))
+        && path("a/b.c").file_prefix() == Some(UnixStr::new("b"))
 }
 
 fn has_parents() -> bool {
