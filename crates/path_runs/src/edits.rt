@@ -103,9 +103,9 @@ fn apply_one(path: &mut PathBuf, edit: &Edit<'_>) -> Result<Answer, AllocError>
 /// Allocates once for all answers, before the first edit; then each edit allocates as the call of
 /// `PathBuf` does that it stands for. An empty list allocates nothing. If an allocation fails, the
 /// edits before it stay made, and the error has their number: 0 if the answers could not be
-/// allocated. An edit that fails leaves the bytes as they were. One whose extension holds a `/` does
-/// not fail: it is answered `Separator`, leaves the bytes as they were, and the next one is made.
-/// Not in Rust's std; each edit is the method of its name of Rust's `PathBuf`.
+/// allocated. An edit that fails leaves the bytes as they were. One whose extension holds a `/`
+/// does not fail: it is answered `Separator`, leaves the bytes as they were, and the next one is
+/// made. Not in Rust's std; each edit is the method of its name of Rust's `PathBuf`.
 ///
 /// For `foo/.` with the extension `bar`, a pop and a pop it leaves the empty path, and answers
 /// true, true and false.
