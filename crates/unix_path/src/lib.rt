@@ -17,6 +17,3 @@ pub use display::Display;
 pub use kept::{BoxedPath, CowPath, RcPath};
 pub use path::{MAIN_SEPARATOR, Path, StripPrefixError, is_separator};
 pub use unix_bytes::{bytes, lossy};
-
-#[cfg(test)]
-mod tests;

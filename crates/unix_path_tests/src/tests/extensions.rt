@@ -1,11 +1,11 @@
 //! Rows of extensions that are set, added and refused.
 use super::edits::has_bytes;
 use super::views::path;
-use crate::{ExtensionError, PathBuf};
 use std::alloc::{AllocError, Global};
 use std::error::Error;
 use std::test::Fail;
 use unix_bytes::bytes::UnixStr;
+use unix_path::{ExtensionError, PathBuf};
 
 static EXTENSIONS: [(&str, &str, &str, bool); 18] = [
     ("foo", "txt", "foo.txt", true),

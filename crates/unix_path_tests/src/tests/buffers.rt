@@ -1,10 +1,10 @@
 //! Rows of what a buffer is made of, of its room, and of how it compares.
 use super::edits::assert_bytes;
 use super::views::path;
-use crate::PathBuf;
 use std::alloc::{AllocError, Global};
 use std::test::Fail;
 use unix_bytes::bytes::{UnixStr, UnixString};
+use unix_path::PathBuf;
 
 #[test]
 fn conversions_keep_the_bytes(rt: HostRuntime) -> Result<(), Fail> {

@@ -1,10 +1,10 @@
 //! The debug and display texts.
-use crate::bytes::UnixStr;
-use crate::path::StripPrefixError;
-use crate::{Component, Path};
 use std::alloc::{AllocError, Global};
 use std::fmt;
 use std::test::Fail;
+use unix_bytes::bytes::UnixStr;
+use unix_path::path::StripPrefixError;
+use unix_path::{Component, Path};
 
 fn has_debug_text<T: fmt::Debug>(alloc: Global, value: &T, text: &str) -> Result<bool, AllocError> {
     Ok(format!(in alloc; "{value:?}")?.as_str() == text)

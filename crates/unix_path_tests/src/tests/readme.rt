@@ -1,7 +1,7 @@
 //! The example of the repository's first page.
-use crate::Path;
-use crate::bytes::UnixStr;
 use std::test::Fail;
+use unix_bytes::bytes::UnixStr;
+use unix_path::Path;
 
 #[test]
 fn example(rt: HostRuntime) -> Result<(), Fail> {

@@ -3,8 +3,8 @@ ghost use Rattle.std.specs.Prelude.{IfSome};
 ghost use Rattle.unix_path.specs.Places.{LiesIn};
 
 use super::views::{bytes, path, view};
-use crate::bytes::UnixStr;
-use crate::{Ancestors, Component, Path};
+use unix_bytes::bytes::UnixStr;
+use unix_path::{Ancestors, Component, Path};
 
 // The grandparent, in the path's own memory.
 fn grandparent<'a>(path: Path<'a>) -> Option<Path<'a>>

@@ -2,13 +2,13 @@
 ghost use Rattle.std.specs.Prelude.{◌≡◌, IfOk};
 ghost use Rattle.unix_path.specs.Buffers.{path_bytes};
 
-use crate::bytes::UnixStr;
-use crate::json::{JsonError, from_json, to_json};
-use crate::{Path, PathBuf};
 use serde_json::Value;
 use std::alloc::{AllocError, Global};
 use std::error::Error;
 use std::test::Fail;
+use unix_bytes::bytes::UnixStr;
+use unix_path::json::{JsonError, from_json, to_json};
+use unix_path::{Path, PathBuf};
 
 // What was written is read as the same bytes.
 fn reread(alloc: Global, path: Path<'_>) -> Result<PathBuf, JsonError>

@@ -1,7 +1,7 @@
 //! Rows of what is left of a walk, and the bytes of components.
 use super::views::path;
-use crate::Component;
-use crate::bytes::UnixStr;
+use unix_bytes::bytes::UnixStr;
+use unix_path::Component;
 
 // A path, how many parts are taken in front and behind, and what is left.
 static RESTS: [(&str, usize, usize, &str); 20] = [

@@ -1,7 +1,7 @@
 //! Rows of the parts of a path, from both ends.
 use super::views::{bytes, path, view};
-use crate::bytes::UnixStr;
-use crate::{Component, Path, is_separator};
+use unix_bytes::bytes::UnixStr;
+use unix_path::{Component, Path, is_separator};
 
 // A path, the bytes of its parts, its parent and its file name.
 type Parts = (
@@ -158,7 +158,7 @@ fn lists_of_parts(rt: HostRuntime) {
 
 #[test]
 fn separators(rt: HostRuntime) {
-    assert!(rt; crate::MAIN_SEPARATOR == '/' && is_separator('/'));
+    assert!(rt; unix_path::MAIN_SEPARATOR == '/' && is_separator('/'));
     assert!(rt; !is_separator('\\') && !is_separator('\u{2215}') && !is_separator('a'));
     assert!(rt; !is_separator('❤'));
 }

@@ -7,14 +7,14 @@ ghost use Rattle.unix_path.specs.Parts.{SameValues};
 use super::kept_paths::owners_of;
 use super::recording_hasher::RecordingHasher;
 use super::views::path;
-use crate::bytes::UnixStr;
-use crate::{BoxedPath, CowPath, Path, PathBuf};
 use std::alloc::{AllocError, Global};
 use std::cmp::Ordering;
 use std::collections::{BTreeMap, HashMap};
 use std::hash::Hash;
 use std::process::Abort;
 use std::test::Fail;
+use unix_bytes::bytes::UnixStr;
+use unix_path::{BoxedPath, CowPath, Path, PathBuf};
 
 fn same_boxed(a: &BoxedPath, b: &BoxedPath) -> bool
     ensures { IsTrue result ↔ SameValues (boxed_bytes a.now) (boxed_bytes b.now) }

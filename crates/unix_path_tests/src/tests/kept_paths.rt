@@ -4,12 +4,12 @@ ghost use Rattle.std.specs.Prelude.{◌≡◌, IsOk, IfOk};
 ghost use Rattle.unix_path.specs.Buffers.{path_bytes};
 
 use super::views::path;
-use crate::bytes::UnixStr;
-use crate::{BoxedPath, CowPath, Path, PathBuf, RcPath};
 use std::alloc::{AllocError, Global};
 use std::fmt;
 use std::process::Abort;
 use std::test::Fail;
+use unix_bytes::bytes::UnixStr;
+use unix_path::{BoxedPath, CowPath, Path, PathBuf, RcPath};
 
 // What does not allocate never fails.
 fn rewrap(alloc: Global, buffer: PathBuf) -> Result<PathBuf, AllocError>

@@ -1,8 +1,8 @@
 //! Rows of paths as text.
-use crate::bytes::{LossyText, UnixStr};
-use crate::{Display, Path};
 use std::alloc::{AllocError, Global};
 use std::test::Fail;
+use unix_bytes::bytes::{LossyText, UnixStr};
+use unix_path::{Display, Path};
 
 // Bytes, and their lossy text.
 static LOSSY_TEXTS: [(&[u8], &str); 7] = [

@@ -3,10 +3,10 @@ ghost use Rattle.std.specs.Prelude.{◌≡◌, IfOk, map};
 ghost use Rattle.unix_path.specs.Ancestors.{ancestors_left};
 
 use super::views::{bytes, path, view};
-use crate::bytes::UnixStr;
-use crate::{Ancestors, Path};
 use std::alloc::{AllocError, Global};
 use std::test::Fail;
+use unix_bytes::bytes::UnixStr;
+use unix_path::{Ancestors, Path};
 
 static PARENTS: [(&str, Option<&str>); 5] = [
     ("./foo/bar.txt", Some("./foo")),

@@ -1,6 +1,6 @@
 use Rattle.std.proofs.Common.{◌≡◌, ◌+◌, cond, nat_lt, fold, slice_set, length, ℕ}
-use Rattle.unix_path.specs.declared.tests.recording_hasher.RecordingHasher.{RecordingHasher}
-use Rattle.unix_path.proofs.tests.recording_hasher.RecordingHasherHasher.write.Given as goal
+use Rattle.unix_path_tests.specs.declared.tests.recording_hasher.RecordingHasher.{RecordingHasher}
+use Rattle.unix_path_tests.proofs.tests.recording_hasher.RecordingHasherHasher.write.Given as goal
 
 abbrev pub push : RecordingHasher → ℕ → RecordingHasher
 push state b =

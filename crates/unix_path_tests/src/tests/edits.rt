@@ -1,10 +1,10 @@
 //! Rows of pushes, pops and file names, and of edits that follow one another.
 use super::views::path;
-use crate::{Path, PathBuf};
 use std::alloc::{AllocError, Global};
 use std::process::Abort;
 use std::test::Fail;
 use unix_bytes::bytes::UnixStr;
+use unix_path::{Path, PathBuf};
 
 // Whether the path has these bytes.
 pub(super) fn has_bytes(found: &PathBuf, wanted: &str) -> bool {

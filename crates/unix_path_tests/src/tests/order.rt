@@ -11,12 +11,12 @@ ghost use Rattle.unix_path.specs.Views.{value_of};
 
 use super::recording_hasher::RecordingHasher;
 use super::views::path;
-use crate::bytes::UnixStr;
-use crate::{Component, Components, Path};
 use std::cmp::Ordering;
 use std::collections::{BTreeMap, HashMap};
 use std::hash::{Hash, Hasher};
 use std::test::Fail;
+use unix_bytes::bytes::UnixStr;
+use unix_path::{Component, Components, Path};
 
 fn same_names<'a>(a: UnixStr<'a>, b: UnixStr<'a>) -> bool
     ensures { IsTrue result ↔ (a.entry.bytes.now ≡ b.entry.bytes.now) }

@@ -1,6 +1,6 @@
 //! Rows of prefixes, suffixes and what stripping leaves.
 use super::views::{path, view};
-use crate::bytes::UnixStr;
+use unix_bytes::bytes::UnixStr;
 
 // A path, another, whether they are equal, whether the first starts and ends with the other, and
 // what stripping leaves.

@@ -1,6 +1,6 @@
 //! What rows of paths are read as.
-use crate::Path;
-use crate::bytes::UnixStr;
+use unix_bytes::bytes::UnixStr;
+use unix_path::Path;
 
 pub(super) fn path(text: &str) -> Path<'_> {
     Path::from_text(text)
