@@ -2,14 +2,13 @@
 use Rattle.std.proofs.Common.{◌≡◌, ℕ, zero, suc, ◌+◌, ◌-◌, ◌^◌, ◌%◌, ◌<◌, ◌≤◌, Bool, true, false}
 use Rattle.std.proofs.Common.{cond, not, eqb, List, [], ◌∷◌, length, take, drop, map, get_or}
 use Rattle.std.proofs.Common.{refl, sym, ap, ap₂, ◌∙◌, arith, w8, eq-eqb, ne_eqb, eqb-true}
-use Rattle.std.proofs.Common.{get_or-drop}
 use Rattle.std.specs.Int.Count.{count_trailing_zeros}
 use Rattle.std.specs.List.{common_prefix_len, prefix_len}
-use Rattle.std.specs.Simd.Lanes.{zip2, mask_l, top}
-use Rattle.std.proofs.lemmas.List.{get_or-take, length-map}
+use Rattle.std.specs.Simd.Lanes.{zip2, chunk, mask_l, top}
+use Rattle.std.proofs.lemmas.List.{length-map}
 use Rattle.std.proofs.lemmas.List.Sums.{common_prefix_len-le}
 use Rattle.std.proofs.lemmas.Simd.{tops_compared, mask_l-mod, first_set_mask_l}
-use Rattle.std.proofs.Common.{length-drop, length-take-le}
+use Rattle.std.proofs.lemmas.Simd.{length-chunk, get_or-chunk}
 use Rattle.unix_bytes.proofs.HitLemmas.{by_test}
 
 -- the bytes are the same up to n, where a string ends or they differ
@@ -101,57 +100,47 @@ pub record CommonInLanes (a b : List ℕ) (n at len : ℕ) : Type 0 where
   pub same : (k : ℕ) → at ≤ k → k < at + len → get_or a k 0 ≡ get_or b k 0
   pub differs : len < n → eqb (get_or a (at + len) 0) (get_or b (at + len) 0) ≡ false
 
-abbrev window : ℕ → ℕ → List ℕ → List ℕ
-window n at s = take n (drop at s)
-
-length-window : (n at : ℕ) (s : List ℕ) → at + n ≤ length s → length (window n at s) ≡ n
-length-window n at s l = length-take-le n (drop at s) (omega (arith, length-drop at s))
-
-get_or-window : (n at k : ℕ) (s : List ℕ) → k < n
-    → get_or (window n at s) k 0 ≡ get_or s (at + k) 0
-get_or-window n at k s l = get_or-take n (drop at s) k 0 l ∙ get_or-drop at s k 0
-
 in_lanes : (a b : List ℕ) (n at len : ℕ) → at + n ≤ length a → at + n ≤ length b
-    → len ≡ common_prefix_len eqb (window n at a) (window n at b) → CommonInLanes a b n at len
+    → len ≡ common_prefix_len eqb (chunk at n a) (chunk at n b) → CommonInLanes a b n at len
 in_lanes a b n at len l m is =
     let few : len ≤ n = omega (
       arith,
-      (common_prefix_len-le eqb (window n at a) (window n at b)).0,
-      length-window n at a l,
+      (common_prefix_len-le eqb (chunk at n a) (chunk at n b)).0,
+      length-chunk at n a l,
     ) in
     record {
       in_range = few;
       same = λ k from to.
           let back : at + (k - at) ≡ k = omega arith in
           ap (λ i. get_or a i 0) (sym back)
-          ∙ sym (get_or-window n at (k - at) a (omega arith))
-          ∙ common_prefix_len-same (window n at a) (window n at b) (k - at) (omega arith)
-          ∙ get_or-window n at (k - at) b (omega arith)
+          ∙ sym (get_or-chunk at n a (k - at) 0 (omega arith))
+          ∙ common_prefix_len-same (chunk at n a) (chunk at n b) (k - at) (omega arith)
+          ∙ get_or-chunk at n b (k - at) 0 (omega arith)
           ∙ ap (λ i. get_or b i 0) back;
       differs = λ short.
-          sym (ap₂ eqb (get_or-window n at len a short) (get_or-window n at len b short))
-          ∙ common_prefix_len-differs (window n at a) (window n at b) len is
-          (omega (arith, length-window n at a l)) (omega (arith, length-window n at b m));
+          sym (ap₂ eqb (get_or-chunk at n a len 0 short) (get_or-chunk at n b len 0 short))
+          ∙ common_prefix_len-differs (chunk at n a) (chunk at n b) len is
+          (omega (arith, length-chunk at n a l)) (omega (arith, length-chunk at n b m));
     }
 
 -- no bit is set
 pub none_other : (a b : List ℕ) (n at : ℕ) → n ≤ 64 → at + n ≤ length a → at + n ≤ length b
-    → other_mask (window n at a) (window n at b) ≡ 0 → CommonInLanes a b n at n
+    → other_mask (chunk at n a) (chunk at n b) ≡ 0 → CommonInLanes a b n at n
 none_other a b n at few l m none =
-    let mask = other_mask (window n at a) (window n at b) in
+    let mask = other_mask (chunk at n a) (chunk at n b) in
     in_lanes a b n at n l m
     (sym (ap (λ c. cond c n (count_trailing_zeros 64 mask)) (eq-eqb mask 0 none))
-    ∙ first_other (window n at a) (window n at b) n few (length-window n at a l)
-    (length-window n at b m))
+    ∙ first_other (chunk at n a) (chunk at n b) n few (length-chunk at n a l)
+    (length-chunk at n b m))
 
 -- the lowest bit is set for the first pair that differs
 pub some_other : (a b : List ℕ) (n at : ℕ) → n ≤ 64 → at + n ≤ length a → at + n ≤ length b
-    → (other_mask (window n at a) (window n at b) ≡ 0 → ⊥)
+    → (other_mask (chunk at n a) (chunk at n b) ≡ 0 → ⊥)
     → CommonInLanes a b n at
-    (count_trailing_zeros 64 (other_mask (window n at a) (window n at b)))
+    (count_trailing_zeros 64 (other_mask (chunk at n a) (chunk at n b)))
 some_other a b n at few l m some =
-    let mask = other_mask (window n at a) (window n at b) in
+    let mask = other_mask (chunk at n a) (chunk at n b) in
     in_lanes a b n at (count_trailing_zeros 64 mask) l m
     (sym (ap (λ c. cond c n (count_trailing_zeros 64 mask)) (ne_eqb mask 0 some))
-    ∙ first_other (window n at a) (window n at b) n few (length-window n at a l)
-    (length-window n at b m))
+    ∙ first_other (chunk at n a) (chunk at n b) n few (length-chunk at n a l)
+    (length-chunk at n b m))

@@ -2,14 +2,14 @@
 use Rattle.std.proofs.Common.{◌≡◌, ℕ, zero, suc, ◌+◌, ◌-◌, ◌%◌, ◌^◌, ◌<◌, ◌≤◌, true, false}
 use Rattle.std.proofs.Common.{cond, not, eqb, ◌&&◌, ◌||◌, List, length, take, drop, map}
 use Rattle.std.proofs.Common.{get_or, replicate, bit_and, bit_or, refl, sym, ap, ap₂, ◌∙◌, arith}
-use Rattle.std.proofs.Common.{lt-ltb, length-drop, length-take-le}
+use Rattle.std.proofs.Common.{lt-ltb}
 use Rattle.std.specs.List.{prefix_len}
-use Rattle.std.specs.Simd.Lanes.{zip2, mask_l, top}
+use Rattle.std.specs.Simd.Lanes.{zip2, chunk, mask_l, top}
 use Rattle.std.proofs.lemmas.Bool.{true≢false}
-use Rattle.std.proofs.lemmas.List.{length-map, length-replicate, get_or-take, get_or-replicate}
+use Rattle.std.proofs.lemmas.List.{length-map, length-replicate, get_or-replicate}
 use Rattle.std.proofs.lemmas.List.Sums.{prefix_len_passes}
-use Rattle.std.proofs.lemmas.Simd.{length-zip2, get_or-zip2, mask_l-mod, leading_from_mask_l}
-use Rattle.std.proofs.Common.{get_or-drop}
+use Rattle.std.proofs.lemmas.Simd.{length-chunk, get_or-chunk, length-zip2, get_or-zip2}
+use Rattle.std.proofs.lemmas.Simd.{mask_l-mod, leading_from_mask_l}
 use Rattle.unix_path.specs.Parts.{parts}
 use Rattle.unix_path.specs.Steps.{is_trailing}
 use Rattle.unix_path.proofs.CaseLemmas.{by_test}
@@ -97,29 +97,20 @@ module _ (here before : List ℕ) (m : length here ≡ 16) (n : length before �
       goes_on (get_or here i 0) (get_or before i 0)
       (ap (λ x. not (top 7 x)) (sym (stop_lane i few)) ∙ passes)
 
-abbrev window : ℕ → List ℕ → List ℕ
-window at s = take 16 (drop at s)
-
-length-window : (at : ℕ) (s : List ℕ) → at + 16 ≤ length s → length (window at s) ≡ 16
-length-window at s l = length-take-le 16 (drop at s) (omega (arith, length-drop at s))
-
-get_or-window : (at i : ℕ) (s : List ℕ) → i < 16 → get_or (window at s) i 0 ≡ get_or s (at + i) 0
-get_or-window at i s few = get_or-take 16 (drop at s) i 0 few ∙ get_or-drop at s i 0
-
 -- where no bit is set, all 16 bytes from `at` on are slashes, or dots after slashes
 pub trailing_block : (s : List ℕ) (at : ℕ) → 0 < at → at + 16 ≤ length s
-    → mask_l (map (top 7) (stop_lanes (window at s) (window (at - 1) s))) % 2 ^ 64 ≡ 0
+    → mask_l (map (top 7) (stop_lanes (chunk at 16 s) (chunk (at - 1) 16 s))) % 2 ^ 64 ≡ 0
     → (k : ℕ) → at ≤ k → k < at + 16 → is_trailing s k ≡ true
 trailing_block s at some l none k from to =
     let i = k - at in
-    let here : get_or (window at s) i 0 ≡ get_or s k 0 =
-    get_or-window at i s (omega arith)
+    let here : get_or (chunk at 16 s) i 0 ≡ get_or s k 0 =
+    get_or-chunk at 16 s i 0 (omega arith)
     ∙ ap (λ j. get_or s j 0) {x = at + i} {y = k} (omega arith) in
-    let before : get_or (window (at - 1) s) i 0 ≡ get_or s (k - 1) 0 =
-    get_or-window (at - 1) i s (omega arith)
+    let before : get_or (chunk (at - 1) 16 s) i 0 ≡ get_or s (k - 1) 0 =
+    get_or-chunk (at - 1) 16 s i 0 (omega arith)
     ∙ ap (λ j. get_or s j 0) {x = at - 1 + i} {y = k - 1} (omega arith) in
-    let passes = none_stops (window at s) (window (at - 1) s) (length-window at s l)
-    (length-window (at - 1) s (omega arith)) none i (omega arith) in
+    let passes = none_stops (chunk at 16 s) (chunk (at - 1) 16 s) (length-chunk at 16 s l)
+    (length-chunk (at - 1) 16 s (omega arith)) none i (omega arith) in
     let one : (eqb (get_or s k 0) 47 || (eqb (get_or s k 0) 46 && eqb (get_or s (k - 1) 0) 47))
     ≡ true =
     ap₂ (λ x y. eqb x 47 || (eqb x 46 && eqb y 47)) (sym here) (sym before) ∙ passes in
