@@ -1,7 +1,7 @@
 -- What an edit leaves and answers depends on the path's values alone.
 use Rattle.std.proofs.Common.{◌≡◌, ℕ, ◌-◌, Bool, true, false, cond, eqb, List, [], ◌∷◌, ◌++◌}
 use Rattle.std.proofs.Common.{length, Option, Some, None, is_some, unwrap_or}
-use Rattle.std.proofs.Common.{refl, sym, ap, ap₂, subst, ◌∙◌}
+use Rattle.std.proofs.Common.{refl, sym, ap, ap₂, subst, ◌∙◌, eqb-true}
 use Rattle.std.specs.List.{AllZip}
 use Rattle.std.proofs.lemmas.List.{same_from_push}
 use Rattle.unix_path.specs.Parts.{Normal, values, SameValues}
@@ -14,6 +14,8 @@ use Rattle.unix_path.specs.Extensions.{has_slash, added_extension_of}
 use Rattle.unix_path.proofs.CaseLemmas.{by_test}
 use Rattle.unix_path.proofs.MiddleLemmas.{middle}
 use Rattle.unix_path.proofs.RestLemmas.{values-rest}
+use Rattle.unix_path.proofs.NameEndLemmas.{name_end_of-none}
+use Rattle.unix_path.proofs.NameEndLemmas.{added_extension_of-nil, added_extension_of-none}
 use Rattle.path_runs.specs.declared.edits.Answer.{Answer}
 use Rattle.path_runs.specs.declared.edits.Answer.TheVariants.{Flag, Separator}
 use Rattle.path_runs.specs.EditLists.{EditValue, Push, Pop, SetFileName, SetExtension}
@@ -21,10 +23,9 @@ use Rattle.path_runs.specs.EditLists.{AddExtension, Clear}
 use Rattle.path_runs.specs.EditLists.{edit_of, edits_of}
 use Rattle.path_runs.specs.EditLaws.{SameEdit}
 use Rattle.path_runs.proofs.ExtensionCutLemmas.{with_extension_of-none, values-with_extension_of}
-use Rattle.path_runs.proofs.ExtensionCutLemmas.{added_extension_of-nil, added_extension_of-none}
 use Rattle.path_runs.proofs.ExtensionCutLemmas.{values-added_extension_of}
 use Rattle.path_runs.proofs.LeadLemmas.{joins_same, roots_same}
-use Rattle.path_runs.proofs.NamedLemmas.{named_cut}
+use Rattle.path_runs.proofs.NamedLemmas.{NamedCut, named_cut}
 use Rattle.path_runs.proofs.ValueLemmas.{append_values}
 
 pub depths_same : (s t : List ℕ) → SameValues s t → depth_of s ≡ depth_of t
@@ -69,45 +70,44 @@ pub with_name_same : (s t n : List ℕ) → SameValues s t
 with_name_same s t n e =
     joins_same (before_name_of s) (before_name_of t) n n (before_same s t e) refl
 
-extensions_same : (s t x : List ℕ) (o : Option (List ℕ)) → file_name_of (values s) ≡ o
-    → file_name_of (values t) ≡ o → SameValues s t
-    → SameValues (with_extension_of s x) (with_extension_of t x)
-extensions_same s t x None n m e = ap values (with_extension_of-none s x n) ∙ e
-    ∙ sym (ap values (with_extension_of-none t x m))
-extensions_same s t x (Some name) n m e =
-    let c = named_cut s name n in
-    let d = named_cut t name m in
+-- the edit f leaves a path without file name as it is, and otherwise turns its file name into n
+record Renames (f : List ℕ → List ℕ) (n : List ℕ → List ℕ) : Type 0 where
+  none : (s : List ℕ) → file_name_of (values s) ≡ None → f s ≡ s
+  some : (s name : List ℕ) → file_name_of (values s) ≡ Some name → (c : NamedCut s name)
+      → values (f s) ≡ append_values (values c.prefix) (n name)
+
+renames_same : (f n : List ℕ → List ℕ) → Renames f n → (s t : List ℕ) (o : Option (List ℕ))
+    → file_name_of (values s) ≡ o → file_name_of (values t) ≡ o → SameValues s t
+    → SameValues (f s) (f t)
+renames_same f n r s t None a b e = ap values (r.none s a) ∙ e ∙ sym (ap values (r.none t b))
+renames_same f n r s t (Some name) a b e =
+    let c = named_cut s name a in
+    let d = named_cut t name b in
     let prefixes = same_from_push (values c.prefix) (values d.prefix) (Normal name) (Normal name)
     (sym c.before ∙ e ∙ d.before) in
-    values-with_extension_of s name x n c
-    ∙ ap (λ vs. append_values vs ((split_name name).0 ++ (dot_before x ++ x))) prefixes.0
-    ∙ sym (values-with_extension_of t name x m d)
+    r.some s name a c
+    ∙ ap (λ vs. append_values vs (n name)) prefixes.0
+    ∙ sym (r.some t name b d)
 
 pub with_extension_same : (s t x : List ℕ) → SameValues s t
     → SameValues (with_extension_of s x) (with_extension_of t x)
 with_extension_same s t x e =
-    extensions_same s t x (file_name_of (values t)) (ap file_name_of e) refl e
-
-added_same : (s t x : List ℕ) (o : Option (List ℕ)) → eqb (length x) 0 ≡ false
-    → file_name_of (values s) ≡ o → file_name_of (values t) ≡ o → SameValues s t
-    → SameValues (added_extension_of s x) (added_extension_of t x)
-added_same s t x None some n m e = ap values (added_extension_of-none s x n) ∙ e
-    ∙ sym (ap values (added_extension_of-none t x m))
-added_same s t x (Some name) some n m e =
-    let c = named_cut s name n in
-    let d = named_cut t name m in
-    let prefixes = same_from_push (values c.prefix) (values d.prefix) (Normal name) (Normal name)
-    (sym c.before ∙ e ∙ d.before) in
-    values-added_extension_of s name x some n c
-    ∙ ap (λ vs. append_values vs (name ++ 46 ∷ x)) prefixes.0
-    ∙ sym (values-added_extension_of t name x some m d)
+    renames_same (λ s. with_extension_of s x) (λ name. (split_name name).0 ++ (dot_before x ++ x))
+    (record {
+      none = λ s none. with_extension_of-none s x none;
+      some = λ s name some c. values-with_extension_of s name x some c;
+    }) s t (file_name_of (values t)) (ap file_name_of e) refl e
 
 pub added_extension_same : (s t x : List ℕ) → SameValues s t
     → SameValues (added_extension_of s x) (added_extension_of t x)
 added_extension_same s t x e = by_test (eqb (length x) 0)
-    (λ none. ap values (added_extension_of-nil s x none) ∙ e
-    ∙ sym (ap values (added_extension_of-nil t x none)))
-    (λ some. added_same s t x (file_name_of (values t)) some (ap file_name_of e) refl e)
+    (λ empty. let is = eqb-true (length x) 0 empty in
+    ap values (added_extension_of-nil s x is) ∙ e ∙ sym (ap values (added_extension_of-nil t x is)))
+    (λ filled. renames_same (λ s. added_extension_of s x) (λ name. name ++ 46 ∷ x)
+    (record {
+      none = λ s none. added_extension_of-none s x (name_end_of-none s (sym none));
+      some = λ s name some c. values-added_extension_of s name x filled some c;
+    }) s t (file_name_of (values t)) (ap file_name_of e) refl e)
 
 -- what an edit of the extension x leaves of s and answers: u, unless x has a slash
 abbrev pub unless_slash : List ℕ → List ℕ → List ℕ → List ℕ × Answer

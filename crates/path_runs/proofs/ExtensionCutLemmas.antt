@@ -1,8 +1,8 @@
 -- The bytes and the values of a path with an extension set or added.
-use Rattle.std.proofs.Common.{◌≡◌, ℕ, ◌+◌, true, false, eqb, List, [], ◌∷◌, ◌++◌}
+use Rattle.std.proofs.Common.{◌≡◌, ℕ, ◌+◌, false, eqb, List, [], ◌∷◌, ◌++◌}
 use Rattle.std.proofs.Common.{length, take, Some, None}
 use Rattle.std.proofs.Common.{refl, sym, ap, ◌∙◌, append_assoc, length-append}
-use Rattle.std.proofs.lemmas.Bool.{cond-true, cond-false}
+use Rattle.std.proofs.lemmas.Bool.{cond-false}
 use Rattle.std.proofs.lemmas.List.{take_at}
 use Rattle.unix_path.specs.Parts.{parts, values}
 use Rattle.unix_path.specs.Names.{file_name_of, split_name}
@@ -10,7 +10,6 @@ use Rattle.unix_path.specs.Edits.{last_start_of}
 use Rattle.unix_path.specs.Edits.{stem_end_of, dot_before, with_extension_of}
 use Rattle.unix_path.specs.Extensions.{name_end_of, added_extension_of}
 use Rattle.unix_path.proofs.EditLemmas.{with_extension_at}
-use Rattle.unix_path.proofs.CaseLemmas.{by_test}
 use Rattle.unix_path.proofs.NameEndLemmas.{name_end_by, added_extension_at}
 use Rattle.unix_path.proofs.StemLemmas.{stem_end_by}
 use Rattle.path_runs.proofs.DotLemmas.{stem_prefix}
@@ -87,14 +86,3 @@ pub values-added_extension_of : (s name x : List ℕ) → eqb (length x) 0 ≡ f
 values-added_extension_of s name x some e c =
     ap values (added_extension_of-cut s name x some e c)
     ∙ values-append_open c.prefix (name ++ 46 ∷ x) c.ends
-
-pub added_extension_of-nil : (s x : List ℕ) → eqb (length x) 0 ≡ true → added_extension_of s x ≡ s
-unfolding added_extension_of
-added_extension_of-nil s x e = cond-true _ _ _ e
-
-pub added_extension_of-none : (s x : List ℕ) → file_name_of (values s) ≡ None
-    → added_extension_of s x ≡ s
-unfolding added_extension_of name_end_of
-added_extension_of-none s x e =
-    ap (λ o. added_extension_at s x (name_end_by s o)) e
-    ∙ by_test (eqb (length x) 0) (λ e. rw e refl) (λ e. rw e refl)

@@ -111,9 +111,9 @@ some_name s e = by (file_name_of (values s)) refl e
     by (Some name) is e = (name, is)
 
 -- an extension that was set holds no slash
-taken : (s x t : List ℕ) → edit_of s (SetExtension x) ≡ (t, Flag true)
+set_without_slash : (s x t : List ℕ) → edit_of s (SetExtension x) ≡ (t, Flag true)
     → (with_extension_of s x ≡ t) × (Flag (is_some (file_name_of (values s))) ≡ Flag true)
-taken s x t e =
+set_without_slash s x t e =
     let left : (unless_slash s x (with_extension_of s x)).0 ≡ t = ap (λ p. p.0) e in
     let said : (unless_slash s x (with_extension_of s x)).1 ≡ Flag true = ap (λ p. p.1) e in
     by_test (has_slash x)
@@ -125,7 +125,7 @@ new_extension : (s x t : List ℕ) → TakesExtension s x t
     → (name : List ℕ) × (file_name_of (values s) ≡ Some name)
     × NewExtension s t (split_name name).0 x
 new_extension s x t h =
-    let is = taken s x t h.1 in
+    let is = set_without_slash s x t h.1 in
     let name = some_name s is.1 in (
       name.0,
       name.1,
