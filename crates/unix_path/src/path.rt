@@ -1,10 +1,10 @@
 //! The view of a path.
 //!
 //! More methods of `Path` stand by their subject: `path/parents.rt` has the parent and the
-//! ancestors, `path/file_name.rt` the file name, its stem and its extension, `path/prefix.rt` what
-//! begins and ends a path, `path/common_dir.rt` how far two are written alike, `display.rt` its
-//! text, and `buf.rt` with `buf/` the copies that own their bytes. `order.rt` has its equality,
-//! order and hash; `json.rt` and `kept/` convert from it.
+//! ancestors, `path/file_name.rt` the file name, its stem, its prefix and its extension,
+//! `path/prefix.rt` what begins and ends a path, `path/common_dir.rt` how far two are written
+//! alike, `display.rt` its text, and `buf.rt` with `buf/` the copies that own their bytes.
+//! `order.rt` has its equality, order and hash; `json.rt` and `kept/` convert from it.
 ghost use Rattle.std.specs.Prelude.{◌≡◌, ◌↔◌, ◌<◌, ◌^◌, not, [], ◌∷◌, length, map};
 ghost use Rattle.std.specs.Prelude.{IsTrue, IsFalse};
 ghost use Rattle.unix_path.specs.Parts.{RootDir, slash, values, value_bytes, is_rooted};

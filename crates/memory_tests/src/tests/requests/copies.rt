@@ -49,7 +49,7 @@ fn path_with_name(rt: HostRuntime) -> Result<(), Fail> {
 }
 
 // Of a copy with another extension.
-fn told_extended(given: Result<PathBuf, ExtensionError>, text: &str) -> Result<(), Fail> {
+fn told_copy(given: Result<PathBuf, ExtensionError>, text: &str) -> Result<(), Fail> {
     match given {
         Ok(buffer) => told_path(Ok(buffer), text),
         Err(ExtensionError::Memory(error)) => told_path(Err(error), text),
@@ -60,7 +60,7 @@ fn told_extended(given: Result<PathBuf, ExtensionError>, text: &str) -> Result<(
 #[test]
 fn path_with_extension(rt: HostRuntime) -> Result<(), Fail> {
     let extension = UnixStr::new("txt");
-    told_extended(
+    told_copy(
         path("foo.rs").with_extension(rt.alloc(), extension),
         "foo.txt",
     )
@@ -69,7 +69,7 @@ fn path_with_extension(rt: HostRuntime) -> Result<(), Fail> {
 #[test]
 fn path_with_added_extension(rt: HostRuntime) -> Result<(), Fail> {
     let extension = UnixStr::new("gz");
-    told_extended(
+    told_copy(
         path("foo.tar").with_added_extension(rt.alloc(), extension),
         "foo.tar.gz",
     )
