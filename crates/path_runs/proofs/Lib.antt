@@ -2,6 +2,7 @@ pub mod TogetherLemmas
 pub mod WalkLemmas
 pub mod WalkStepLemmas
 pub mod OrderLemmas
+pub mod IntervalLemmas
 pub mod AssociativeLemmas
 pub mod ValueLemmas
 pub mod LeadLemmas

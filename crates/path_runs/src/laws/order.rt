@@ -5,6 +5,7 @@ ghost use Rattle.std.specs.declared.cmp.Ordering.TheVariants.{Equal};
 ghost use Rattle.unix_path.specs.Parts.{Value};
 ghost use Rattle.unix_path.specs.Order.{values_cmp};
 ghost use Rattle.path_runs.specs.OrderLaws.{OrderBehindCommonDir, OrderBehindSlash, PrefixBothWays};
+ghost use Rattle.path_runs.specs.OrderLaws.{UnderIsInterval, BaseBeforeUnder};
 
 /// The order of lists of values is total, and only equal lists tie in it.
 ///
@@ -25,6 +26,26 @@ pub fn order_total()
 /// `a/./b` starts with `a//b`, and `a//b` starts with `a/./b`; they are equal.
 pub fn prefix_both_ways()
     ensures { PrefixBothWays }
+{}
+
+/// What lies between two lists of values that begin with a third begins with it too.
+///
+/// So in the order of paths those that start with a base stand side by side. Calling it does
+/// nothing. Not in Rust's std.
+///
+/// What lies between `a/b` and `a/b/c/d` in the order starts with `a/b`.
+pub fn under_is_interval()
+    ensures { UnderIsInterval }
+{}
+
+/// A list of values is not greater than those that it begins.
+///
+/// So a base stands before all paths that start with it, but those that equal it. Calling it does
+/// nothing. Not in Rust's std.
+///
+/// `a/b` is less than `a/b/c`, which starts with it.
+pub fn base_before_under()
+    ensures { BaseBeforeUnder }
 {}
 
 /// Two paths that begin with the same bytes and then a slash are in the order of what follows it,

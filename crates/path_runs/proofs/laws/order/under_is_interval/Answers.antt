@@ -1,0 +1,5 @@
+use Rattle.path_runs.proofs.IntervalLemmas.{begins_between}
+use Rattle.path_runs.proofs.laws.order.under_is_interval.Goals as goal
+
+pub returns : goal.returns
+returns c = begins_between
