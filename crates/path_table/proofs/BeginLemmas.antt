@@ -1,0 +1,30 @@
+-- The test whether values begin with a base's, and the fact.
+use Rattle.std.proofs.Common.{◌≡◌, ◌++◌, ◌∙◌, true, false, List, Bool, sym, ap, drop, length}
+use Rattle.std.proofs.Common.{refl, take-append-drop}
+use Rattle.std.proofs.Math.Seq.{take-append_seam}
+use Rattle.std.proofs.lemmas.Cmp.{tied_itself}
+use Rattle.std.specs.Ordering.{is_eq}
+use Rattle.unix_bytes.specs.Begins.{Begins}
+use Rattle.unix_path.specs.Order.{values_cmp}
+use Rattle.unix_path.specs.OrderLaws.{values_cmp-total, is_eq-values_cmp}
+use Rattle.unix_path.specs.Parts.{Value}
+use Rattle.path_table.specs.Table.{is_under}
+
+pub begins_from_under : (base v : List Value) → is_under base v ≡ true → Begins base v
+begins_from_under base v is =
+    let n = length base in
+    (drop n v, ap (λ t. t ++ drop n v) (is_eq-values_cmp base _ is) ∙ take-append-drop n v)
+
+pub under_from_begins : (base v : List Value) → Begins base v → is_under base v ≡ true
+under_from_begins base v begins =
+    ap (is_under base) (sym begins.1)
+    ∙ ap (λ t. is_eq (values_cmp base t)) (take-append_seam base begins.0)
+    ∙ ap is_eq (tied_itself values_cmp-total base)
+
+-- where values don't begin with base's, the test answers false
+pub not_under : (base v : List Value) → (Begins base v → ⊥) → is_under base v ≡ false
+not_under base v apart = by (is_under base v) refl
+  where
+    by : (b : Bool) → is_under base v ≡ b → b ≡ false
+    by true is = absurd (apart (begins_from_under base v is))
+    by false is = refl

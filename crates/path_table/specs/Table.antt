@@ -1,0 +1,35 @@
+-- Tables of files by path, as rows of values. Not in Rust's std.
+use Rattle.std.specs.Prelude.{Bool, List, Option, drop, length, map, take}
+use Rattle.std.specs.Borrow.{Bor}
+use Rattle.std.specs.BTreeMap.{is_at}
+use Rattle.std.specs.List.{filter}
+use Rattle.std.specs.Map.{lookup}
+use Rattle.std.specs.Ordering.{is_eq}
+use Rattle.unix_path.specs.Buffers.{path_bytes}
+use Rattle.unix_path.specs.Order.{values_cmp}
+use Rattle.unix_path.specs.Parts.{Value, values}
+use Rattle.unix_path.specs.declared.path.Path.{Path}
+use Rattle.path_runs.specs.TableLaws.{rows_of}
+use Rattle.path_table.specs.declared.table.PathTable.{PathTable}
+
+-- the values of each path of the table, in path order, with what the table has at that path
+abbrev pub table_of : {V : Type 0} → PathTable V → List (List Value × V)
+table_of table = rows_of path_bytes table.files.entries
+
+-- what the rows have at these values
+abbrev pub value_at : {V : Type 0} → List Value → List (List Value × V) → Option V
+value_at v rows = lookup (is_at (values_cmp v)) rows
+
+-- whether v begins with base: its first values are base's
+abbrev pub is_under : List Value → List Value → Bool
+is_under base v = is_eq (values_cmp base (take (length base) v))
+
+-- the rows whose values begin with base's, in their order, with that beginning removed
+abbrev pub entries_under : {V : Type 0} → List Value → List (List Value × V)
+    → List (List Value × V)
+entries_under base rows =
+    map (λ row. (drop (length base) row.0, row.1)) (filter (λ row. is_under base row.0) rows)
+
+-- the values of each path of an answer, with the value that is lent beside it
+abbrev pub answer_rows : {V : Type 0} → List (Path × Bor V) → List (List Value × V)
+answer_rows answers = map (λ answer. (values answer.0.bytes.now, answer.1.now)) answers

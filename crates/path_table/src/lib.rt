@@ -1,0 +1,6 @@
+//! Tables of files by path, where equal paths are one key.
+#![tactic(auto)]
+
+pub mod table;
+
+pub use table::PathTable;
