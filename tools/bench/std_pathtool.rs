@@ -1,7 +1,9 @@
 //! The program over `std::path`: answers the lines of `pathtool`, all but `json`.
 use std::cmp::Ordering;
+use std::collections::BTreeSet;
 use std::ffi::OsStr;
 use std::io::{self, BufWriter, Read, Write};
+use std::ops::Bound::{Included, Unbounded};
 use std::os::unix::ffi::OsStrExt;
 use std::path::{Path, PathBuf};
 
@@ -125,6 +127,22 @@ fn push_edited(path: &Path, fields: &[&[u8]], answer: &mut Vec<u8>) {
     answer.extend_from_slice(&answers);
 }
 
+/// The shortest path with the same parts.
+fn canonical(path: &Path) -> PathBuf {
+    path.components().collect()
+}
+
+/// Adds what follows the base in those of the paths that start with it.
+fn push_under(base: &Path, fields: &[&[u8]], answer: &mut Vec<u8>) {
+    let paths: BTreeSet<PathBuf> = fields.iter().map(|field| path(field).into()).collect();
+    let rests: Vec<PathBuf> = paths
+        .range::<Path, _>((Included(base), Unbounded))
+        .map_while(|path| path.strip_prefix(base).ok())
+        .map(canonical)
+        .collect();
+    push_list(rests.iter().map(|rest| rest.as_os_str()), answer);
+}
+
 /// Adds the path as text.
 fn push_shown(path: &Path, answer: &mut Vec<u8>) {
     for chunk in path.as_os_str().as_bytes().utf8_chunks() {
@@ -146,7 +164,7 @@ fn push_answer(fields: &[&[u8]], answer: &mut Vec<u8>) {
         [b"name", p] => push_option(path(p).file_name(), answer),
         [b"stem", p] => push_option(path(p).file_stem(), answer),
         [b"ext", p] => push_option(path(p).extension(), answer),
-        [b"canon", p] => push_path(&path(p).components().collect::<PathBuf>(), answer),
+        [b"canon", p] => push_path(&canonical(path(p)), answer),
         [b"join", p, q] => push_path(&path(p).join(path(q)), answer),
         [b"strip", p, base] => match path(p).strip_prefix(path(base)) {
             Ok(rest) => push_option(Some(rest.as_os_str()), answer),
@@ -156,6 +174,7 @@ fn push_answer(fields: &[&[u8]], answer: &mut Vec<u8>) {
         [b"ends", p, q] => push_truth(path(p).ends_with(path(q)), answer),
         [b"cmp", p, q] => push_order(path(p).cmp(path(q)), answer),
         [b"edit", p, edits @ ..] => push_edited(path(p), edits, answer),
+        [b"under", base, paths @ ..] => push_under(path(base), paths, answer),
         [b"show", p] => push_shown(path(p), answer),
         _ => push_bad_command(answer),
     }

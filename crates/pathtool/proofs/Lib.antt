@@ -10,3 +10,4 @@ pub mod LoopLemmas
 pub mod FieldLemmas
 pub mod WordLemmas
 pub mod TakenLemmas
+pub mod TableLemmas

@@ -18,6 +18,7 @@ use Rattle.unix_path.specs.Joins.{join_of}
 use Rattle.path_runs.specs.Spelling.{spelling_of}
 use Rattle.pathtool.specs.EditFields.{edit_answer}
 use Rattle.pathtool.specs.Quoted.{json_of}
+use Rattle.pathtool.specs.Tables.{under_answer}
 use Rattle.pathtool.specs.Walks.{part_bytes, walk_answer}
 use Rattle.pathtool.specs.Fields.{fields_of, tabs, bad_command, truth}
 
@@ -69,7 +70,8 @@ commands =
     ∷ (codes "ends", pair_answer (λ p q. truth (ends_with same (values p) (values q))))
     ∷ (codes "cmp", pair_answer (λ p q. order_text (values_cmp (values p) (values q))))
     ∷ (codes "walk", pair_answer walk_answer)
-    ∷ (codes "edit", λ p fields. Some (edit_answer p fields)) ∷ []
+    ∷ (codes "edit", λ p fields. Some (edit_answer p fields))
+    ∷ (codes "under", λ base paths. Some (under_answer base paths)) ∷ []
 
 -- the answer to a line with these fields
 abbrev pub answer_to : List (List ℕ) → List ℕ

@@ -1,6 +1,7 @@
 pub mod Fields
 pub mod EditFields
 pub mod Walks
+pub mod Tables
 pub mod Watched
 pub mod Answers
 pub mod Texts

@@ -1,16 +1,19 @@
 -- Words of the program's private steps. No public clause cites them.
 use Rattle.std.specs.Prelude.{ℕ, Bool, true, false, Option, Some, None, List, [], ◌∷◌, ◌++◌, map}
 use Rattle.std.specs.Prelude.{length, take, reverse}
+use Rattle.std.specs.Borrow.{Bor}
 use Rattle.std.specs.Fmt.{decimal}
 use Rattle.std.specs.List.{flat_map}
 use Rattle.std.specs.Str.{byte}
 use Rattle.unix_bytes.specs.declared.bytes.UnixStr.{UnixStr}
-use Rattle.unix_path.specs.Parts.{value_bytes}
+use Rattle.unix_path.specs.Parts.{values, value_bytes}
 use Rattle.unix_path.specs.Rest.{rest}
 use Rattle.unix_path.specs.Views.{value_of}
 use Rattle.unix_path.specs.declared.cursor.component.Component.{Component}
+use Rattle.unix_path.specs.declared.path.Path.{Path}
 use Rattle.path_runs.specs.EditLists.{EditValue, edits_of}
 use Rattle.path_runs.specs.declared.edits.Answer.{Answer}
+use Rattle.path_runs.specs.Spelling.{spelling_of}
 use Rattle.path_runs.specs.Turns.{front_turns, back_turns}
 use Rattle.path_runs.specs.declared.walk.Turn.{Turn}
 use Rattle.path_runs.specs.declared.walk.Walked.{Walked}
@@ -58,6 +61,10 @@ walk_of path turns =
     let k = front_turns (length parts) turns in
     let m = back_turns (length parts) turns in
     decimal k ∷ decimal m ∷ (take k parts ++ rest path k m ∷ take m (reverse parts))
+
+-- the canonical spelling of a path that a table answered
+abbrev pub spelled : Path × Bor (Unit {0}) → List ℕ
+spelled found = spelling_of (values found.0.bytes.now)
 
 -- an edit before others, where both are known
 abbrev pub edit_before : Option EditValue → Option (List EditValue) → Option (List EditValue)

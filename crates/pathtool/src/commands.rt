@@ -10,6 +10,7 @@ use crate::fields::{Line, Others, is, line_from};
 use crate::lists::{push_ancestors, push_back, push_parts};
 use crate::names::{push_extension, push_name, push_stem};
 use crate::paths::{push_canon, push_join, push_parent, push_stripped};
+use crate::tables::push_under;
 use crate::texts::{push_json, push_show};
 use crate::truths::{push_ends, push_order, push_starts};
 use crate::walks::push_walk;
@@ -36,6 +37,7 @@ fn push_answer_to(line: Line<'_>, answer: &mut Vec<u8>) -> Result<(), AllocError
     } = line;
     match others {
         _ if is(command, b"edit") => push_edit(path, others, answer),
+        _ if is(command, b"under") => push_under(path, others, answer),
 
         Others::None if is(command, b"parts") => push_parts(path, answer),
         Others::None if is(command, b"back") => push_back(path, answer),

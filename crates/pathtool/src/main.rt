@@ -8,6 +8,7 @@ mod lists;
 mod names;
 mod paths;
 mod run;
+mod tables;
 #[cfg(test)]
 mod tests;
 mod texts;

@@ -1,5 +1,6 @@
 use crate::run::{RunError, run};
 use crate::watched::Watched;
+use std::alloc::Global;
 use std::test::Fail;
 
 // The stored input, and its answers.
@@ -9,21 +10,33 @@ const INPUT: &[u8] = b"parts\t///foo///bar\nwalk\t/a/./b/../c\tfbfb\n\
 const OUTPUT: &[u8] = b"/\tfoo\tbar\n2\t2\t/\ta\tb\tc\t..\nprefix not found\n\
     \ttrue\ttrue\tfalse\nbad command\n-\n";
 
+// What stands under a base, of three paths of which two are equal.
+const UNDER: &[u8] = b"under\t/a\t/a//b/./c\t/d\t/a/b/c\n";
+
 // With ample memory here. tools/check_requests refuses one request after the other: then what was
 // written is a beginning of the output.
-#[test]
-fn stored_lines_answered(rt: HostRuntime) -> Result<(), Fail> {
-    let mut reader = Watched::new(INPUT);
-    let mut writer = Watched::new(Vec::<u8>::with_capacity(rt.alloc(), 128)?);
-    let result = run(rt.alloc(), &mut reader, &mut writer);
+fn answered(alloc: Global, input: &[u8], output: &[u8]) -> Result<(), Fail> {
+    let mut reader = Watched::new(input);
+    let mut writer = Watched::new(Vec::<u8>::with_capacity(alloc, 128)?);
+    let result = run(alloc, &mut reader, &mut writer);
     let has_failed = reader.failed() || writer.failed();
     let written = writer.into_inner();
-    if has_failed || !OUTPUT.starts_with(written.as_slice()) {
+    if has_failed || !output.starts_with(written.as_slice()) {
         return Err(Fail::new("wrong"));
     }
     match result {
-        Ok(()) if written.len() == OUTPUT.len() => Ok(()),
+        Ok(()) if written.len() == output.len() => Ok(()),
         Err(RunError::Memory) => Err(Fail::new("refused")),
         _ => Err(Fail::new("wrong")),
     }
+}
+
+#[test]
+fn stored_lines_answered(rt: HostRuntime) -> Result<(), Fail> {
+    answered(rt.alloc(), INPUT, OUTPUT)
+}
+
+#[test]
+fn under_answered(rt: HostRuntime) -> Result<(), Fail> {
+    answered(rt.alloc(), UNDER, b"b/c\n")
 }

@@ -73,6 +73,27 @@ fn edits_are_answered(rt: HostRuntime) -> Result<(), Fail> {
 }
 
 #[test]
+fn unders_are_answered(rt: HostRuntime) -> Result<(), Fail> {
+    let rows: [(&[u8], &[u8]); 14] = [
+        (b"under\t\t./a\ta\t/a", b"/a\t./a\ta"),
+        (b"under\t/a\t/a.b\t/a/b", b"b"),
+        (b"under\ta\ta/x\tb\ta\ta//x\ta/./b/..", b"\tb/..\tx"),
+        (b"under\ta/b\ta//b/c\ta/b/d\ta.b", b"c\td"),
+        (b"under\ta//.\ta/./c//d/.", b"c/d"),
+        (b"under\t.\t.//a/./b\ta", b"a/b"),
+        (b"under\t/\t/\t//a\ta", b"\ta"),
+        (b"under\ta\ta", b""),
+        (b"under\ta\tb", b""),
+        (b"under\t\xff\t\xff/\xc3\t\xc3", b"\xc3"),
+        (b"under\ta", b""),
+        (b"under\t", b""),
+        (b"under", b"bad command"),
+        (b"Under\ta\ta/b", b"bad command"),
+    ];
+    are_answered(&rt, rt.alloc(), &rows)
+}
+
+#[test]
 fn texts_are_answered(rt: HostRuntime) -> Result<(), Fail> {
     let rows: [(&[u8], &[u8]); 13] = [
         (b"show\ta\xff", b"a\xef\xbf\xbd"),

@@ -1,0 +1,20 @@
+-- The answer to what stands under a base among some paths. Not in Rust's std.
+use Rattle.std.specs.Prelude.{ℕ, List, [], map}
+use Rattle.std.specs.BTreeMap.{insert_entry}
+use Rattle.std.specs.List.{fold}
+use Rattle.unix_path.specs.Order.{values_cmp}
+use Rattle.unix_path.specs.Parts.{Value, values}
+use Rattle.path_runs.specs.Spelling.{spelling_of}
+use Rattle.path_table.specs.Table.{entries_under}
+use Rattle.pathtool.specs.Fields.{tabs}
+
+-- these entries, and each of the paths at its values where these aren't there yet
+abbrev pub entries_with : List (List Value × Unit {0}) → List (List ℕ)
+    → List (List Value × Unit {0})
+entries_with entries paths =
+    fold (λ entries path. insert_entry values_cmp entries (values path) tt) entries paths
+
+-- of the paths that start with the base what follows it, in order, each spelled the shortest way
+abbrev pub under_answer : List ℕ → List (List ℕ) → List ℕ
+under_answer base paths =
+    tabs (map (λ entry. spelling_of entry.0) (entries_under (values base) (entries_with [] paths)))
