@@ -9,7 +9,7 @@ use std::fs::write;
 use std::process::Stdio;
 
 /// Each command of the program.
-const COMMANDS: [&str; 17] = [
+const COMMANDS: [&str; 18] = [
     "parts",
     "back",
     "walk",
@@ -25,6 +25,7 @@ const COMMANDS: [&str; 17] = [
     "ends",
     "cmp",
     "edit",
+    "under",
     "show",
     "json",
 ];

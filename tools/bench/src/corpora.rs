@@ -95,7 +95,7 @@ fn name(random: &mut Random) -> String {
 }
 
 /// The sorted listing of a source tree, which grows at random folders until it has so many files.
-fn realistic(count: usize) -> Vec<Vec<u8>> {
+pub fn realistic(count: usize) -> Vec<Vec<u8>> {
     let mut random = Random(1);
     let mut folders = vec!["/home/build/checkout".to_string()];
     let mut paths = vec![];

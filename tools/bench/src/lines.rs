@@ -3,12 +3,13 @@ use crate::corpora::corpora;
 use crate::random::Random;
 
 /// A group of commands, by a word for them.
-pub const GROUPS: [(&str, &str); 7] = [
+pub const GROUPS: [(&str, &str); 8] = [
     ("walks", "parts back walk"),
     ("names", "name stem ext"),
     ("paths", "parent ancestors canon join strip"),
     ("truths", "starts ends cmp"),
     ("edits", "edit"),
+    ("tables", "under"),
     ("texts", "show"),
     ("all of them", ALL),
 ];
@@ -16,7 +17,7 @@ pub const GROUPS: [(&str, &str); 7] = [
 /// All commands that std::path answers alike.
 const ALL: &str =
     "parts back walk name stem ext parent ancestors canon join strip starts ends cmp \
-    edit show";
+    edit under show";
 
 /// The paths that lines are made of: realistic ones, and of each eighth line broken ones.
 pub struct Paths {
@@ -71,9 +72,19 @@ fn push_fields(command: &str, path: &[u8], next: &[u8], line: &mut Vec<u8>) {
         "strip" | "starts" => push_field(&path[..half], line),
         "ends" => push_field(&path[half..], line),
         "cmp" => push_field(next, line),
+        "under" => push_paths(path, next, line),
         "edit" => line.extend_from_slice(b"\tpop\tpush:docs/notes\text:md\tname:index.html"),
         _ => {}
     }
+}
+
+/// Adds paths of which some stand under the first, each with a tab before it.
+fn push_paths(path: &[u8], next: &[u8], line: &mut Vec<u8>) {
+    push_field(path, line);
+    line.extend_from_slice(b"//docs/notes.txt");
+    push_field(next, line);
+    push_field(path, line);
+    line.extend_from_slice(b"/./docs/index.html");
 }
 
 /// Adds a tab and the field.

@@ -10,9 +10,12 @@ mod ours;
 mod paths;
 mod programs;
 mod random;
+mod resident;
 mod rows;
 mod sizes;
 mod std_calls;
+mod std_tables;
+mod tables;
 mod targets;
 mod texts;
 mod timing;
@@ -35,6 +38,9 @@ fn main() -> ExitCode {
     }
     if options.has_part("texts") {
         texts::print(&options, &mut score);
+    }
+    if options.has_part("tables") {
+        tables::print(&options, &mut score);
     }
     if options.has_part("programs") {
         programs::print(&options, &mut score);

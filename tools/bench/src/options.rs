@@ -3,7 +3,7 @@ use crate::clock;
 use crate::timing::Timer;
 
 /// What can be timed, and over what.
-const PARTS: [&str; 4] = ["calls", "texts", "programs", "sizes"];
+const PARTS: [&str; 5] = ["calls", "texts", "tables", "programs", "sizes"];
 const CORPORA: [&str; 4] = ["realistic", "adversarial", "deep", "non_utf8"];
 
 /// Whether each of the words is one of the names.
@@ -35,7 +35,7 @@ impl Options {
     /// The options that these words set, or the first word that sets none.
     pub fn read(words: impl Iterator<Item = String>) -> Result<Options, String> {
         let mut options = Options {
-            parts: list("calls,texts,programs"),
+            parts: list("calls,texts,tables,programs"),
             only: vec![],
             corpora: vec![],
             reps: 9,

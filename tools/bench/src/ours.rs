@@ -31,4 +31,14 @@ extern "C" {
     pub fn ours_to_string_lossy(path: Start, len: usize) -> u64;
     pub fn ours_display(path: Start, len: usize) -> u64;
     pub fn ours_chunks(bytes: Start, len: usize) -> u64;
+    pub fn ours_table_insert(lines: Start, len: usize) -> u64;
+    pub fn ours_table_get(lines: Start, len: usize, asked: Start, count: usize, rounds: u64)
+        -> u64;
+    pub fn ours_table_under(
+        lines: Start,
+        len: usize,
+        bases: Start,
+        count: usize,
+        rounds: u64,
+    ) -> u64;
 }

@@ -10,10 +10,10 @@ use std::path::{Path, PathBuf};
 use std::slice;
 
 /// The answer where there is none.
-const NONE: u64 = u64::MAX;
+pub const NONE: u64 = u64::MAX;
 
 /// The bytes that were passed.
-unsafe fn bytes_of<'a>(start: Start, len: usize) -> &'a [u8] {
+pub unsafe fn bytes_of<'a>(start: Start, len: usize) -> &'a [u8] {
     slice::from_raw_parts(start, len)
 }
 
@@ -23,7 +23,7 @@ unsafe fn text_of<'a>(start: Start, len: usize) -> &'a OsStr {
 }
 
 /// They as a path.
-unsafe fn path_of<'a>(start: Start, len: usize) -> &'a Path {
+pub unsafe fn path_of<'a>(start: Start, len: usize) -> &'a Path {
     Path::new(text_of(start, len))
 }
 
@@ -37,7 +37,7 @@ fn digest(bytes: &[u8]) -> u64 {
 }
 
 /// The number of several answers, with one more behind them.
-fn added(sum: u64, bytes: &[u8]) -> u64 {
+pub fn added(sum: u64, bytes: &[u8]) -> u64 {
     sum.wrapping_mul(31).wrapping_add(digest(bytes))
 }
 

@@ -25,6 +25,8 @@ const TARGETS: &[(&str, &str, f64)] = &[
     ("to_string_lossy", "broken", 0.8),
     ("display", "non_utf8", 0.5),
     ("display", "broken", 0.5),
+    ("table under", "", 0.8),
+    ("table memory", "", 1.1),
 ];
 
 /// The greatest ratio that is wanted of a row on a corpus: 1 where nothing else is said.

@@ -60,7 +60,7 @@ impl Timer {
 }
 
 /// The middle one of the numbers.
-fn median(mut numbers: Vec<f64>) -> f64 {
+pub fn median(mut numbers: Vec<f64>) -> f64 {
     numbers.sort_by(f64::total_cmp);
     numbers[numbers.len() / 2]
 }

@@ -1,0 +1,171 @@
+//! The table of a `PathTable` beside a `BTreeMap` of Rust: what is put in, looked up and found under
+//! a directory, and the memory that it takes.
+use crate::calls::Start;
+use crate::corpora::realistic;
+use crate::options::Options;
+use crate::ours::{ours_table_get, ours_table_insert, ours_table_under};
+use crate::random::Random;
+use crate::resident;
+use crate::std_tables as std_side;
+use crate::timing::{median, Measure, Score, Timer};
+use std::time::Instant;
+
+/// How many paths are in a table, and under how many directories it is asked what stands there.
+const PATHS: usize = 200_000;
+const DIRECTORIES: usize = 2_000;
+
+type OfLines = unsafe extern "C" fn(Start, usize) -> u64;
+type OfAsked = unsafe extern "C" fn(Start, usize, Start, usize, u64) -> u64;
+
+/// The order in which paths are put in, as lines; and lines that are looked up.
+struct Lines {
+    order: &'static str,
+    paths: Vec<u8>,
+    asked: Vec<u8>,
+    bases: Vec<u8>,
+}
+
+/// What is timed of a table.
+enum Work {
+    Insert(OfLines),
+    /// Look-ups of paths or of bases, so many times; the table is made before that.
+    Get(OfAsked, u64),
+    Under(OfAsked, u64),
+}
+
+/// Prints a line for each row, with a ratio for each order.
+pub fn print(options: &Options, score: &mut Score) {
+    if !NAMES.iter().any(|name| options.has_row(name)) {
+        return;
+    }
+    let all = lines();
+    print!("{:22}", "table");
+    for lines in &all {
+        print!("{:14}", lines.order);
+    }
+    println!();
+    for name in NAMES.into_iter().filter(|name| options.has_row(name)) {
+        print!("{name:22}");
+        for lines in &all {
+            let measure = lines.measure(name, options);
+            print!("{:14}", score.cell(&measure, name, lines.order));
+        }
+        println!();
+    }
+    println!();
+}
+
+const NAMES: [&str; 4] = ["table insert", "table get", "table under", "table memory"];
+
+/// The call of a row on both sides, ours first.
+fn works(name: &str) -> [Work; 2] {
+    match name {
+        "table get" => [Work::Get(ours_table_get, 5), Work::Get(std_side::get, 5)],
+        "table under" => [
+            Work::Under(ours_table_under, 20),
+            Work::Under(std_side::get_under, 20),
+        ],
+        _ => [
+            Work::Insert(ours_table_insert),
+            Work::Insert(std_side::insert),
+        ],
+    }
+}
+
+/// The lines of a listing in order, and in another order.
+fn lines() -> [Lines; 2] {
+    let mut random = Random(9);
+    let mut paths = realistic(PATHS + PATHS / 50);
+    paths.truncate(PATHS);
+    let folders: Vec<Vec<u8>> = (0..DIRECTORIES)
+        .map(|_| folder(&random.one_of(&paths)).to_vec())
+        .collect();
+    let in_order = joined(&paths);
+    random.shuffle(&mut paths);
+    let shuffled = joined(&paths);
+    [("in order", in_order), ("shuffled", shuffled.clone())].map(|(order, paths)| Lines {
+        order,
+        paths,
+        asked: shuffled.clone(),
+        bases: joined(&folders),
+    })
+}
+
+/// What stands before the path's last slash.
+fn folder(path: &[u8]) -> &[u8] {
+    let end = path.iter().rposition(|byte| *byte == b'/');
+    &path[..end.unwrap_or(0)]
+}
+
+/// The paths, with a newline between two of them.
+fn joined(paths: &[Vec<u8>]) -> Vec<u8> {
+    paths.join(&b'\n')
+}
+
+impl Lines {
+    /// Our time over std's, or our memory over that of std.
+    fn measure(&self, name: &str, options: &Options) -> Measure {
+        let [ours, std] = works(name);
+        let is_same = self.answer(&ours, 1) == self.answer(&std, 1);
+        let ratio = if name == "table memory" {
+            self.memory(&ours) / self.memory(&std)
+        } else {
+            self.time_ratio(&ours, &std, &options.timer())
+        };
+        Measure { ratio, is_same }
+    }
+
+    /// The number of the answers, with so many rounds of look-ups as a share of those of the row.
+    fn answer(&self, work: &Work, share: u64) -> u64 {
+        let (start, len) = (self.paths.as_ptr(), self.paths.len());
+        match work {
+            Work::Insert(call) => unsafe { call(start, len) },
+            Work::Get(call, rounds) => unsafe {
+                call(
+                    start,
+                    len,
+                    self.asked.as_ptr(),
+                    self.asked.len(),
+                    rounds * share,
+                )
+            },
+            Work::Under(call, rounds) => unsafe {
+                call(
+                    start,
+                    len,
+                    self.bases.as_ptr(),
+                    self.bases.len(),
+                    rounds * share,
+                )
+            },
+        }
+    }
+
+    /// The median of the ratios of several rounds, in which the sides run in turns.
+    fn time_ratio(&self, ours: &Work, std: &Work, timer: &Timer) -> f64 {
+        let start = Instant::now();
+        let mut ratios = vec![];
+        for _ in 0..timer.reps {
+            let [a, b, c, d] = [ours, std, std, ours].map(|work| self.seconds(work, timer));
+            ratios.push((a + d) / (b + c));
+            if start.elapsed().as_secs_f64() > timer.budget * 10.0 {
+                break;
+            }
+        }
+        median(ratios)
+    }
+
+    /// The seconds that the work takes; of look-ups without the table that is made before.
+    fn seconds(&self, work: &Work, timer: &Timer) -> f64 {
+        let whole = timer.seconds(&|_| self.answer(work, 1), 0, 1);
+        match work {
+            Work::Insert(_) => whole,
+            _ => whole - timer.seconds(&|_| self.answer(work, 0), 0, 1),
+        }
+    }
+
+    /// The bytes that the process has more at most while the work is done.
+    fn memory(&self, work: &Work) -> f64 {
+        resident::most(|| self.answer(work, 1)) as f64
+    }
+}
