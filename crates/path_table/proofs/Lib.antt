@@ -1,3 +1,6 @@
 pub mod BeginLemmas
-pub mod FrontLemmas
-pub mod AnswerLemmas
+pub mod RowLemmas
+pub mod UnderLemmas
+pub mod LeftLemmas
+pub mod PartLemmas
+pub mod NextLemmas

@@ -24,12 +24,15 @@ value_at v rows = lookup (is_at (values_cmp v)) rows
 abbrev pub is_under : List Value → List Value → Bool
 is_under base v = is_eq (values_cmp base (take (length base) v))
 
+-- a row with as many values removed in front as base has
+abbrev pub row_under : {V : Type 0} → List Value → List Value × V → List Value × V
+row_under base row = (drop (length base) row.0, row.1)
+
 -- the rows whose values begin with base's, in their order, with that beginning removed
 abbrev pub entries_under : {V : Type 0} → List Value → List (List Value × V)
     → List (List Value × V)
-entries_under base rows =
-    map (λ row. (drop (length base) row.0, row.1)) (filter (λ row. is_under base row.0) rows)
+entries_under base rows = map (row_under base) (filter (λ row. is_under base row.0) rows)
 
--- the values of each path of an answer, with the value that is lent beside it
-abbrev pub answer_rows : {V : Type 0} → List (Path × Bor V) → List (List Value × V)
-answer_rows answers = map (λ answer. (values answer.0.bytes.now, answer.1.now)) answers
+-- the values of a path, with the value that is lent beside it
+abbrev pub answer_row : {V : Type 0} → Path × Bor V → List Value × V
+answer_row answer = (values answer.0.bytes.now, answer.1.now)

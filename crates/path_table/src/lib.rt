@@ -3,4 +3,4 @@
 
 pub mod table;
 
-pub use table::PathTable;
+pub use table::{PathTable, Under};

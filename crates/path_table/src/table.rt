@@ -1,16 +1,25 @@
 //! A table of files: values by path, over the standard library's ordered map.
-ghost use Rattle.std.specs.Prelude.{◌≡◌, IfOk, OnOk, OnErr, IsOk, IsSome, [], length};
+ghost use Rattle.std.specs.Prelude.{◌≡◌, ◌↔◌, ◌<◌, ◌^◌, [], length, is_some};
+ghost use Rattle.std.specs.Prelude.{IfOk, OnOk, OnErr, IsOk, IsSome, IsTrue};
 ghost use Rattle.std.specs.BTreeMap.{insert_entry, is_at};
-ghost use Rattle.std.specs.Map.{remove_entry};
+ghost use Rattle.std.specs.List.Sorted.{IsStrictlySortedBy};
+ghost use Rattle.std.specs.Map.{keys_of, remove_entry};
+ghost use Rattle.std.specs.Map.Iter.{ShowsInOrder, ShowsInReverse, deref_pair};
 ghost use Rattle.std.specs.Option.{option_copied};
 ghost use Rattle.unix_path.specs.Buffers.{path_bytes};
 ghost use Rattle.unix_path.specs.Order.{values_cmp};
 ghost use Rattle.unix_path.specs.Parts.{values};
-ghost use Rattle.path_table.specs.Table.{answer_rows, entries_under, table_of, value_at};
+ghost use Rattle.unix_path.specs.declared.buf.PathBuf.{PathBuf};
+ghost use Rattle.path_runs.specs.TableLaws.{rows_of};
+ghost use Rattle.path_table.specs.Table.{answer_row, entries_under, table_of, value_at};
+
+mod under;
 
 use path_runs::laws;
 use std::alloc::{AllocError, Global};
 use std::collections::BTreeMap;
+use std::collections::btree_map::Iter;
+pub use under::Under;
 use unix_path::{Path, PathBuf};
 
 /// Values by path, where equal paths are one key.
@@ -95,32 +104,50 @@ impl<V> PathTable<V> {
         self.files.len()
     }
 
-    /// The files under `base`, in path order: what follows `base` in each path, and its value.
+    /// Whether there are no files. Does not allocate. As Rust's `BTreeMap::is_empty`.
     ///
-    /// Whole parts count: `a.b` isn't under `a`. A file at `base` itself comes first, with the
-    /// empty path. Starts at `base` and stops at the first path that doesn't start with it.
-    /// Allocates as the list of answers grows; fails if an allocation fails, and the list is
-    /// dropped. Not in Rust's std.
-    ///
-    /// With 1 at `a//b/c` and 2 at `a/b/d`, under `a/b` they are `c` with 1 and `d` with 2.
-    pub fn under<'a>(
-        &'a self,
-        alloc: Global,
-        base: &PathBuf,
-    ) -> Result<Vec<(Path<'a>, &'a V)>, AllocError>
-        ensures { IfOk result (λ found. answer_rows found.items
-            ≡ entries_under (values (path_bytes base.now)) (table_of self.entry.now)) }
+    /// It is true of a new table.
+    #[must_use]
+    pub fn is_empty(&self) -> bool
+        ensures { IsTrue result ↔ (table_of self.now ≡ []) }
     {
-        laws::under_is_interval();
-        laws::base_before_under();
-        laws::rest_reads_again();
-        let mut found = Vec::new(alloc);
-        for (path, value) in self.files.range(base..) {
-            let Ok(rest) = path.as_path().strip_prefix(base.as_path()) else {
-                break;
-            };
-            found.push((rest, value))?;
-        }
-        Ok(found)
+        self.files.is_empty()
+    }
+
+    /// Removes all files. Does not allocate. As Rust's `BTreeMap::clear`.
+    ///
+    /// With 1 at `a/b`, it leaves no value at `a/b`.
+    pub fn clear(&mut self)
+    where
+        V: Drop,
+        ensures { table_of self.new ≡ [] }
+    {
+        self.files.clear();
+    }
+
+    /// The paths, as they were inserted, and their values, in path order. Does not allocate. As
+    /// Rust's `BTreeMap::iter`.
+    ///
+    /// With 1 at `a.b` and 2 at `a//b` it gives `a//b` with 2, and then `a.b` with 1.
+    pub fn iter(&self) -> Iter<'_, PathBuf, V>
+        ensures rows { rows_of path_bytes result ≡ table_of self.now }
+        ensures ordered { IsStrictlySortedBy values_cmp (keys_of (table_of self.now)) }
+        ensures runs { ShowsInOrder (deref_pair {K = PathBuf} {X = V}) }
+        ensures runs_back { ShowsInReverse (deref_pair {K = PathBuf} {X = V}) }
+        ensures fits { length (table_of self.now) < 2 ^ 63 }
+    {
+        self.files.iter()
+    }
+
+    /// Whether an equal path is in the table. Does not allocate. As Rust's
+    /// `BTreeMap::contains_key`.
+    ///
+    /// With 1 at `a/b`, it contains `a//b/`, and not `a`.
+    #[must_use]
+    pub fn contains(&self, path: &PathBuf) -> bool
+        ensures { result ≡ is_some (value_at (values (path_bytes path.now)) (table_of self.now)) }
+    {
+        laws::lookup_by_values::<V>();
+        self.files.contains_key(path)
     }
 }

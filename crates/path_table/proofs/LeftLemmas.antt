@@ -1,0 +1,15 @@
+-- What strip_prefix leaves of a path has the values that are left.
+use Rattle.std.proofs.Common.{◌≡◌, ◌∙◌, ℕ, ◌+◌, ◌-◌, ◌≤◌, List, drop, length, length-drop, arith}
+use Rattle.std.proofs.lemmas.List.{take_all}
+use Rattle.unix_path.specs.Parts.{values}
+use Rattle.unix_path.specs.Prefixes.{stripped_of}
+use Rattle.path_runs.specs.PartLaws.{RestHasValues}
+
+pub values-stripped_of : RestHasValues → (s base : List ℕ)
+    → values (stripped_of s base) ≡ drop (length (values base)) (values s)
+values-stripped_of again s base =
+    let n = length (values base) in
+    let left = drop n (values s) in
+    let fits : length left ≤ length (values s) - (n + 0) =
+    rw (length-drop n (values s)) (omega arith) in
+    again s n 0 ∙ take_all _ left fits

@@ -1,0 +1,48 @@
+-- The rows of the part of a table that is not below a base.
+use Rattle.std.proofs.Common.{◌≡◌, ◌∙◌, List, sym, ap, subst}
+use Rattle.std.proofs.lemmas.List.Elements.{filter_passes}
+use Rattle.std.proofs.lemmas.List.Kept.{IsStrictlySortedBy-filter}
+use Rattle.std.specs.List.{AllPass, filter}
+use Rattle.std.specs.List.Sorted.{IsStrictlySortedBy}
+use Rattle.std.specs.Map.{keys_of}
+use Rattle.std.specs.Ordering.{is_le, on}
+use Rattle.unix_path.specs.Buffers.{path_bytes}
+use Rattle.unix_path.specs.Order.{values_cmp}
+use Rattle.unix_path.specs.Parts.{Value, values}
+use Rattle.unix_path.specs.declared.buf.PathBuf.{PathBuf}
+use Rattle.path_runs.specs.OrderLaws.{BaseBeforeUnder}
+use Rattle.path_runs.specs.TableLaws.{rows_of}
+use Rattle.path_table.specs.Table.{entries_under}
+use Rattle.path_table.proofs.RowLemmas.{sorted-rows_of, rows_of-filter, keys_of-filter}
+use Rattle.path_table.proofs.UnderLemmas.{from_base, under_from_base}
+
+module _ {V : Type 0} (base : List Value) (entries part : List (PathBuf × V))
+    (is : part ≡ filter (λ e. is_le (values_cmp base (values (path_bytes e.0)))) entries) where
+  rows_are : rows_of path_bytes part ≡ from_base base (rows_of path_bytes entries)
+  rows_are =
+      ap (rows_of path_bytes) is ∙ rows_of-filter (λ v. is_le (values_cmp base v)) entries
+
+  keys_are : keys_of (rows_of path_bytes part)
+      ≡ filter (λ v. is_le (values_cmp base v)) (keys_of (rows_of path_bytes entries))
+  keys_are =
+      ap keys_of rows_are
+      ∙ keys_of-filter (λ v. is_le (values_cmp base v)) (rows_of path_bytes entries)
+
+  pub part_ordered : IsStrictlySortedBy (on (λ p. values (path_bytes p)) values_cmp)
+      (keys_of entries) → IsStrictlySortedBy values_cmp (keys_of (rows_of path_bytes part))
+  part_ordered sorted =
+      subst (IsStrictlySortedBy values_cmp) (sym keys_are)
+      (IsStrictlySortedBy-filter values_cmp (λ v. is_le (values_cmp base v)) _
+      (sorted-rows_of entries sorted))
+
+  pub part_from_base : AllPass (λ v. is_le (values_cmp base v)) (keys_of (rows_of path_bytes part))
+  part_from_base =
+      subst (AllPass (λ v. is_le (values_cmp base v))) (sym keys_are)
+      (filter_passes (λ v. is_le (values_cmp base v)) _)
+
+  pub part_under : BaseBeforeUnder
+      → entries_under base (rows_of path_bytes part)
+      ≡ entries_under base (rows_of path_bytes entries)
+  part_under before =
+      ap (entries_under base) rows_are
+      ∙ under_from_base base before (rows_of path_bytes entries)

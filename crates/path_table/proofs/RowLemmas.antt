@@ -1,0 +1,55 @@
+-- The rows of a table ascend, and what is left of its paths by their values is left of its rows.
+use Rattle.std.proofs.Common.{◌≡◌, ◌∷◌, [], List, Bool, true, false, cond, refl, ap, Less}
+use Rattle.std.specs.List.{AllByRecursion, filter}
+use Rattle.std.specs.List.Sorted.{IsStrictlySortedBy}
+use Rattle.std.specs.Map.{keys_of}
+use Rattle.std.specs.Ordering.{on}
+use Rattle.unix_path.specs.Buffers.{path_bytes}
+use Rattle.unix_path.specs.Order.{values_cmp}
+use Rattle.unix_path.specs.Parts.{Value, values}
+use Rattle.unix_path.specs.declared.buf.PathBuf.{PathBuf}
+use Rattle.path_runs.specs.TableLaws.{rows_of}
+
+module _ {V : Type 0} where
+  ascend_behind : (v : List Value) (entries : List (PathBuf × V))
+      → AllByRecursion (λ p. values_cmp v (values (path_bytes p)) ≡ Less) (keys_of entries)
+      → AllByRecursion (λ w. values_cmp v w ≡ Less) (keys_of (rows_of path_bytes entries))
+  ascend_behind v [] behind = tt
+  ascend_behind v (e ∷ entries) behind = (behind.0, ascend_behind v entries behind.1)
+
+  -- rows of paths in order are in order
+  pub sorted-rows_of : (entries : List (PathBuf × V))
+      → IsStrictlySortedBy (on (λ p. values (path_bytes p)) values_cmp) (keys_of entries)
+      → IsStrictlySortedBy values_cmp (keys_of (rows_of path_bytes entries))
+  unfolding IsStrictlySortedBy
+  sorted-rows_of [] sorted = tt
+  sorted-rows_of (e ∷ entries) sorted =
+      (ascend_behind (values (path_bytes e.0)) entries sorted.0, sorted-rows_of entries sorted.1)
+
+  -- a test of the values leaves of the entries what it leaves of the rows
+  pub rows_of-filter : (test : List Value → Bool) (entries : List (PathBuf × V))
+      → rows_of path_bytes (filter (λ e. test (values (path_bytes e.0))) entries)
+      ≡ filter (λ row. test row.0) (rows_of path_bytes entries)
+  rows_of-filter test [] = refl
+  rows_of-filter test (e ∷ entries) =
+      let row : List Value × V = (values (path_bytes e.0), e.1) in
+      let kept = filter (λ e. test (values (path_bytes e.0))) entries in
+      let kept_rows = filter (λ row. test row.0) (rows_of path_bytes entries) in
+      elim (test row.0) as (λ b.
+      rows_of path_bytes (cond b (e ∷ kept) kept) ≡ cond b (row ∷ kept_rows) kept_rows) [
+        | true ↦ ap (λ rows. row ∷ rows) (rows_of-filter test entries)
+        | false ↦ rows_of-filter test entries
+      ]
+
+  -- and of their values
+  pub keys_of-filter : (test : List Value → Bool) (rows : List (List Value × V))
+      → keys_of (filter (λ row. test row.0) rows) ≡ filter test (keys_of rows)
+  keys_of-filter test [] = refl
+  keys_of-filter test (row ∷ rows) =
+      let kept : List (List Value × V) = filter (λ row. test row.0) rows in
+      elim (test row.0) as (λ b.
+      keys_of (cond b (row ∷ kept) kept)
+      ≡ cond b (row.0 ∷ filter test (keys_of rows)) (filter test (keys_of rows))) [
+        | true ↦ ap (λ keys. row.0 ∷ keys) (keys_of-filter test rows)
+        | false ↦ keys_of-filter test rows
+      ]

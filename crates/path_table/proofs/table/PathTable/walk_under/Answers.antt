@@ -1,0 +1,36 @@
+use Rattle.std.proofs.Common.{◌≡◌, ◌∙◌, ap, length, rules}
+use Rattle.std.proofs.iter.runs.Sources.{from_front}
+use Rattle.std.specs.Iterator.{YieldsFirstBy}
+use Rattle.std.specs.List.{filter}
+use Rattle.std.specs.Ordering.{is_le}
+use Rattle.unix_path.specs.Order.{values_cmp}
+use Rattle.unix_path.specs.Buffers.{path_bytes}
+use Rattle.unix_path.specs.Parts.{values}
+use Rattle.path_runs.specs.TableLaws.{rows_of}
+use Rattle.path_table.specs.Table.{answer_row, entries_under}
+use Rattle.path_table.specs.Under.{under_left}
+use Rattle.path_table.proofs.PartLemmas.{part_ordered, part_from_base, part_under}
+use Rattle.path_table.proofs.table.PathTable.walk_under.Goals as goal
+
+pub invariant_of-result : goal.invariant_of-result
+invariant_of-result g c =
+    let base = values c.as_path.result.bytes.now in
+    let all = c.args.self.now.files.entries in
+    let is : c.range.result ≡ filter (λ e. is_le (values_cmp base (values (path_bytes e.0)))) all =
+    rw c.as_path.ensures (search rules) in
+    record {
+      ordered = part_ordered base all c.range.result is c.range.ensures.ordered;
+      from_base = part_from_base base all c.range.result is;
+    }
+
+pub returns-clause-left : goal.returns-clause-left
+returns-clause-left g c =
+    let base = values (path_bytes c.args.base.now) in
+    ap (λ s. entries_under (values s) (rows_of path_bytes c.range.result)) c.as_path.ensures
+    ∙ part_under base c.args.self.now.files.entries c.range.result (search rules)
+    c.base_before_under.ensures
+
+pub returns-clause-runs : goal.returns-clause-runs
+returns-clause-runs g c =
+    from_front (YieldsFirstBy answer_row under_left) answer_row under_left
+    (λ s t h. ap length h.0) (λ s x t h. h)

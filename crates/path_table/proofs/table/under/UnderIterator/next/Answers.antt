@@ -1,0 +1,53 @@
+use Rattle.std.proofs.Common.{◌≡◌, ◌∷◌, ◌∙◌, ap, rules, sym}
+use Rattle.std.specs.Ordering.{is_le}
+use Rattle.unix_path.specs.Buffers.{path_bytes}
+use Rattle.unix_path.specs.Order.{values_cmp}
+use Rattle.unix_path.specs.Parts.{values}
+use Rattle.unix_path.specs.Prefixes.{stripped_of}
+use Rattle.path_runs.specs.TableLaws.{rows_of}
+use Rattle.path_table.specs.Table.{entries_under}
+use Rattle.path_table.proofs.LeftLemmas.{values-stripped_of}
+use Rattle.path_table.proofs.NextLemmas.{next_ordered, next_passes, none_left, one_fewer}
+use Rattle.path_table.proofs.UnderLemmas.{first_under}
+use Rattle.path_table.proofs.table.under.UnderIterator.next.Goals as goal
+
+pub invariant_of-self : goal.invariant_of-self
+invariant_of-self g c =
+    let walk = c.args.self.now in
+    record {
+      ordered = next_ordered walk.files c.next.new.self c.next.result c.next.ensures.steps
+          walk.ordered;
+      from_base = next_passes walk.files c.next.new.self
+          (λ v. is_le (values_cmp (values walk.base.bytes.now) v)) c.next.result c.next.ensures.steps
+          walk.from_base;
+    }
+
+pub returns-in-Ok : goal.returns-in-Ok
+returns-in-Ok g c =
+    let base = c.args.self.now.base.bytes.now in
+    let path = path_bytes c.in_ok-path.path.now in
+    let value = c.in_ok-path.value.now in
+    let new = entries_under (values base) (rows_of path_bytes c.next.new.self) in
+    let stripped : c.in-Ok.rest.bytes.now ≡ stripped_of path base = search rules in
+    let step : entries_under (values base) (rows_of path_bytes c.args.self.now.files)
+    ≡ (values c.in-Ok.rest.bytes.now, value) ∷ new =
+    ap (λ es. entries_under (values base) (rows_of path_bytes es)) c.in_ok-path.ensures.steps
+    ∙ first_under (values base) (values path, value) (rows_of path_bytes c.next.new.self)
+    (search rules)
+    ∙ ap (λ v. (v, value) ∷ new)
+    (sym (ap values stripped ∙ values-stripped_of c.rest_reads_again.ensures.values path base)) in
+    record {
+      steps = step;
+      goes = record {
+        on = λ f. (tt, tt, one_fewer _ _ new step);
+        keeps = tt;
+        rests = λ f. tt;
+      };
+    }
+
+pub returns-in-Err-clause-steps : goal.returns-in-Err-clause-steps
+returns-in-Err-clause-steps g c =
+    let walk = c.args.self.now in
+    none_left walk.files c.next.new.self c.under_is_interval.ensures (values walk.base.bytes.now)
+    (c.in_ok-path.path.now, c.in_ok-path.value.now) c.in_ok-path.ensures.steps walk.ordered
+    walk.from_base (search rules)
