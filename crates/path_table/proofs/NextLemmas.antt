@@ -1,6 +1,6 @@
 -- A call of `next` leaves rows that ascend and are not below the base.
-use Rattle.std.proofs.Common.{◌≡◌, ◌∷◌, ◌∙◌, ◌<◌, [], List, Bool, true, Option, Some, None, ap, sym, subst}
-use Rattle.std.proofs.Common.{length, arith}
+use Rattle.std.proofs.Common.{◌≡◌, ◌∷◌, ◌∙◌, ◌<◌, [], List, Bool, true, Option, Some, None}
+use Rattle.std.proofs.Common.{ap, sym, subst, length, arith}
 use Rattle.std.proofs.lemmas.List.Elements.{All-nil, All-head, All-rest}
 use Rattle.std.specs.Borrow.{Bor}
 use Rattle.std.specs.List.{AllPass}
@@ -15,11 +15,8 @@ use Rattle.unix_path.specs.Parts.{Value, values}
 use Rattle.unix_path.specs.declared.buf.PathBuf.{PathBuf}
 use Rattle.path_runs.specs.TableLaws.{rows_of}
 use Rattle.path_runs.specs.OrderLaws.{UnderIsInterval}
-use Rattle.path_table.specs.Table.{entries_under}
+use Rattle.path_table.specs.Table.{NoneBefore, entries_under, paths_of}
 use Rattle.path_table.proofs.UnderLemmas.{none_under, skip_under}
-
-abbrev pub paths_of : {V : Type 0} → List (PathBuf × V) → List (List Value)
-paths_of entries = keys_of (rows_of path_bytes entries)
 
 -- what stands behind the first of values in order is in order
 sorted_behind : (v : List Value) (vs : List (List Value))
@@ -37,31 +34,34 @@ module _ {V : Type 0} (old new : List (PathBuf × V)) where
       sorted_behind (values (path_bytes e.0.now)) (paths_of new)
       (subst (λ es. IsStrictlySortedBy values_cmp (paths_of es)) some sorted)
 
-  pub next_passes : (test : List Value → Bool) (r : Option (Bor PathBuf × Bor V))
-      → TakesFirst deref_pair old r new → AllPass test (paths_of old) → AllPass test (paths_of new)
-  next_passes test None none all =
-      subst (λ es. AllPass test (paths_of es)) (sym none.1) (All-nil _)
-  next_passes test (Some e) some all =
-      All-rest (λ v. test v ≡ true) (values (path_bytes e.0.now)) (paths_of new) (paths_of old) (ap paths_of some) all
+  pub next_not_before : (base : List Value) (r : Option (Bor PathBuf × Bor V))
+      → TakesFirst deref_pair old r new
+      → NoneBefore base (paths_of old) → NoneBefore base (paths_of new)
+  next_not_before base None none from =
+      subst (λ es. NoneBefore base (paths_of es)) (sym none.1) (All-nil _)
+  next_not_before base (Some e) some from =
+      All-rest (λ v. is_le (values_cmp base v) ≡ true) (values (path_bytes e.0.now))
+      (paths_of new) (paths_of old) (ap paths_of some) from
 
   -- where the first of what was left isn't under base, nothing was, and nothing is
   pub none_left : UnderIsInterval → (base : List Value) (e : PathBuf × V) → old ≡ e ∷ new
-      → IsStrictlySortedBy values_cmp (paths_of old)
-      → AllPass (λ v. is_le (values_cmp base v)) (paths_of old)
+      → IsStrictlySortedBy values_cmp (paths_of old) → NoneBefore base (paths_of old)
       → (Begins base (values (path_bytes e.0)) → ⊥)
       → (entries_under base (rows_of path_bytes old) ≡ [])
       × (entries_under base (rows_of path_bytes new) ≡ [])
   none_left interval base e next sorted from apart =
       let row : List Value × V = (values (path_bytes e.0), e.1) in
       let rows = rows_of path_bytes new in
-      let keys = ap paths_of next in
-      let none = none_under base interval row rows (subst (IsStrictlySortedBy values_cmp) keys sorted)
-      (All-head (λ v. is_le (values_cmp base v) ≡ true) row.0 (paths_of new)
-      (subst (AllPass (λ v. is_le (values_cmp base v))) keys from)) apart in (
+      let paths = ap paths_of next in
+      let ordered = subst (IsStrictlySortedBy values_cmp) paths sorted in
+      let first = All-head (λ v. is_le (values_cmp base v) ≡ true) row.0 (paths_of new)
+      (subst (NoneBefore base) paths from) in
+      let none = none_under base interval row rows ordered first apart in (
         ap (λ es. entries_under base (rows_of path_bytes es)) next
             ∙ skip_under base row rows apart ∙ none,
         none,
       )
 
+-- behind the first of a list there is one item fewer
 pub one_fewer : {A : Type 0} (x : A) (old new : List A) → old ≡ x ∷ new → length new < length old
 one_fewer x old new next = rw next (omega arith)

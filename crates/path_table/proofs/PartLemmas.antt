@@ -12,7 +12,7 @@ use Rattle.unix_path.specs.Parts.{Value, values}
 use Rattle.unix_path.specs.declared.buf.PathBuf.{PathBuf}
 use Rattle.path_runs.specs.OrderLaws.{BaseBeforeUnder}
 use Rattle.path_runs.specs.TableLaws.{rows_of}
-use Rattle.path_table.specs.Table.{entries_under}
+use Rattle.path_table.specs.Table.{NoneBefore, entries_under, paths_of}
 use Rattle.path_table.proofs.RowLemmas.{sorted-rows_of, rows_of-filter, keys_of-filter}
 use Rattle.path_table.proofs.UnderLemmas.{from_base, under_from_base}
 
@@ -29,15 +29,15 @@ module _ {V : Type 0} (base : List Value) (entries part : List (PathBuf × V))
       ∙ keys_of-filter (λ v. is_le (values_cmp base v)) (rows_of path_bytes entries)
 
   pub part_ordered : IsStrictlySortedBy (on (λ p. values (path_bytes p)) values_cmp)
-      (keys_of entries) → IsStrictlySortedBy values_cmp (keys_of (rows_of path_bytes part))
+      (keys_of entries) → IsStrictlySortedBy values_cmp (paths_of part)
   part_ordered sorted =
       subst (IsStrictlySortedBy values_cmp) (sym keys_are)
       (IsStrictlySortedBy-filter values_cmp (λ v. is_le (values_cmp base v)) _
       (sorted-rows_of entries sorted))
 
-  pub part_from_base : AllPass (λ v. is_le (values_cmp base v)) (keys_of (rows_of path_bytes part))
+  pub part_from_base : NoneBefore base (paths_of part)
   part_from_base =
-      subst (AllPass (λ v. is_le (values_cmp base v))) (sym keys_are)
+      subst (NoneBefore base) (sym keys_are)
       (filter_passes (λ v. is_le (values_cmp base v)) _)
 
   pub part_under : BaseBeforeUnder

@@ -2,7 +2,8 @@
 use Rattle.std.proofs.Common.{◌≡◌, ◌∷◌, [], List, Bool, true, false, cond, refl, ap, Less}
 use Rattle.std.specs.List.{AllByRecursion, filter}
 use Rattle.std.specs.List.Sorted.{IsStrictlySortedBy}
-use Rattle.std.specs.Map.{keys_of}
+use Rattle.std.specs.BTreeMap.{is_at}
+use Rattle.std.specs.Map.{keys_of, set_value}
 use Rattle.std.specs.Ordering.{on}
 use Rattle.unix_path.specs.Buffers.{path_bytes}
 use Rattle.unix_path.specs.Order.{values_cmp}
@@ -52,4 +53,21 @@ module _ {V : Type 0} where
       ≡ cond b (row.0 ∷ filter test (keys_of rows)) (filter test (keys_of rows))) [
         | true ↦ ap (λ keys. row.0 ∷ keys) (keys_of-filter test rows)
         | false ↦ keys_of-filter test rows
+      ]
+
+  -- a value written by a path is written by its values
+  pub rows_of-set_value : (v : List Value) (entries : List (PathBuf × V)) (x : V)
+      → rows_of path_bytes
+      (set_value (is_at (λ p. values_cmp v (values (path_bytes p)))) entries x)
+      ≡ set_value (is_at (values_cmp v)) (rows_of path_bytes entries) x
+  rows_of-set_value v [] x = refl
+  rows_of-set_value v (e ∷ entries) x =
+      let w = values (path_bytes e.0) in
+      let written = set_value (is_at (λ p. values_cmp v (values (path_bytes p)))) entries x in
+      elim (is_at (values_cmp v) w) as (λ b.
+      rows_of path_bytes (cond b ((e.0, x) ∷ entries) (e ∷ written))
+      ≡ cond b ((w, x) ∷ rows_of path_bytes entries)
+      ((w, e.1) ∷ set_value (is_at (values_cmp v)) (rows_of path_bytes entries) x)) [
+        | true ↦ refl
+        | false ↦ ap (λ rows. (w, e.1) ∷ rows) (rows_of-set_value v entries x)
       ]

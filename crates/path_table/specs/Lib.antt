@@ -1,2 +1,3 @@
 pub mod Table
 pub mod Under
+pub mod Lent

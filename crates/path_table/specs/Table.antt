@@ -2,12 +2,13 @@
 use Rattle.std.specs.Prelude.{Bool, List, Option, drop, length, map, take}
 use Rattle.std.specs.Borrow.{Bor}
 use Rattle.std.specs.BTreeMap.{is_at}
-use Rattle.std.specs.List.{filter}
-use Rattle.std.specs.Map.{lookup}
-use Rattle.std.specs.Ordering.{is_eq}
+use Rattle.std.specs.List.{AllPass, filter}
+use Rattle.std.specs.Map.{keys_of, lookup}
+use Rattle.std.specs.Ordering.{is_eq, is_le}
 use Rattle.unix_path.specs.Buffers.{path_bytes}
 use Rattle.unix_path.specs.Order.{values_cmp}
 use Rattle.unix_path.specs.Parts.{Value, values}
+use Rattle.unix_path.specs.declared.buf.PathBuf.{PathBuf}
 use Rattle.unix_path.specs.declared.path.Path.{Path}
 use Rattle.path_runs.specs.TableLaws.{rows_of}
 use Rattle.path_table.specs.declared.table.PathTable.{PathTable}
@@ -19,6 +20,14 @@ table_of table = rows_of path_bytes table.files.entries
 -- what the rows have at these values
 abbrev pub value_at : {V : Type 0} → List Value → List (List Value × V) → Option V
 value_at v rows = lookup (is_at (values_cmp v)) rows
+
+-- the values of the paths of these entries
+abbrev pub paths_of : {V : Type 0} → List (PathBuf × V) → List (List Value)
+paths_of entries = keys_of (rows_of path_bytes entries)
+
+-- none of these values stands before base's in path order
+abbrev pub NoneBefore : List Value → List (List Value) → Type 0
+NoneBefore base paths = AllPass (λ v. is_le (values_cmp base v)) paths
 
 -- whether v begins with base: its first values are base's
 abbrev pub is_under : List Value → List Value → Bool

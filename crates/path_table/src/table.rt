@@ -1,11 +1,12 @@
 //! A table of files: values by path, over the standard library's ordered map.
 ghost use Rattle.std.specs.Prelude.{◌≡◌, ◌↔◌, ◌<◌, ◌^◌, [], length, is_some};
 ghost use Rattle.std.specs.Prelude.{IfOk, OnOk, OnErr, IsOk, IsSome, IsTrue};
+ghost use Rattle.std.specs.Borrow.{sem};
 ghost use Rattle.std.specs.BTreeMap.{insert_entry, is_at};
 ghost use Rattle.std.specs.List.Sorted.{IsStrictlySortedBy};
 ghost use Rattle.std.specs.Map.{keys_of, remove_entry};
 ghost use Rattle.std.specs.Map.Iter.{ShowsInOrder, ShowsInReverse, deref_pair};
-ghost use Rattle.std.specs.Option.{option_copied};
+ghost use Rattle.std.specs.Option.{option_copied, option_copied_mut};
 ghost use Rattle.unix_path.specs.Buffers.{path_bytes};
 ghost use Rattle.unix_path.specs.Order.{values_cmp};
 ghost use Rattle.unix_path.specs.Parts.{values};
@@ -19,6 +20,7 @@ use path_runs::laws;
 use std::alloc::{AllocError, Global};
 use std::collections::BTreeMap;
 use std::collections::btree_map::Iter;
+use std::fmt;
 pub use under::Under;
 use unix_path::{Path, PathBuf};
 
@@ -32,6 +34,8 @@ pub struct PathTable<V> {
 }
 
 impl<V> PathTable<V> {
+    ghost use Rattle.path_table.specs.Lent.{lends_value};
+
     /// A table without files. Does not allocate.
     ///
     /// At `a` it has no value.
@@ -78,6 +82,20 @@ impl<V> PathTable<V> {
     {
         laws::lookup_by_values::<V>();
         self.files.get(path)
+    }
+
+    /// The value at the path that is equal to this one, to be written. Does not allocate. As
+    /// Rust's `BTreeMap::get_mut`.
+    ///
+    /// With 1 at `a/b`, writing 2 through that of `a//b` leaves 2 at `a/b`.
+    pub fn get_mut(&mut self, path: &PathBuf) -> Option<&mut V>
+        ensures* writes_back { sem 𝓛 (lends_value V.row self.entry
+            (values (path_bytes path.now)) result) }
+        ensures value { option_copied_mut result
+            ≡ value_at (values (path_bytes path.now)) (table_of self.old) }
+    {
+        laws::lookup_by_values::<V>();
+        self.files.get_mut(path)
     }
 
     /// Removes the path that is equal to this one, and gives its value. Does not allocate. As
@@ -149,5 +167,14 @@ impl<V> PathTable<V> {
     {
         laws::lookup_by_values::<V>();
         self.files.contains_key(path)
+    }
+}
+
+/// The paths and their values, in path order. As Rust's `BTreeMap` shows them.
+///
+/// With 1 at `a/b` it is `{"a/b": 1}`.
+impl<V: fmt::Debug> fmt::Debug for PathTable<V> {
+    fn fmt<W: fmt::Write>(&self, f: &mut fmt::Formatter<W>) -> fmt::Result {
+        self.files.fmt(f)
     }
 }

@@ -1,14 +1,11 @@
 //! The walk over the files under a base.
 ghost use Rattle.std.specs.Prelude.{◌≡◌};
-ghost use Rattle.std.specs.List.{AllPass};
 ghost use Rattle.std.specs.List.Sorted.{IsStrictlySortedBy};
-ghost use Rattle.std.specs.Map.{keys_of};
-ghost use Rattle.std.specs.Ordering.{is_le};
 ghost use Rattle.std.proofs.Props.{props};
 ghost use Rattle.unix_path.specs.Buffers.{path_bytes};
 ghost use Rattle.unix_path.specs.Order.{values_cmp};
 ghost use Rattle.unix_path.specs.Parts.{values};
-ghost use Rattle.path_runs.specs.TableLaws.{rows_of};
+ghost use Rattle.path_table.specs.Table.{NoneBefore, paths_of};
 
 use super::PathTable;
 use path_runs::laws;
@@ -28,9 +25,8 @@ use unix_path::{Path, PathBuf};
 pub struct Under<'a, 'b, V> {
     files: Range<'a, PathBuf, V>,
     base: Path<'b>,
-    ghost ordered: { IsStrictlySortedBy values_cmp (keys_of (rows_of path_bytes files)) } by { Prim.hlevel props },
-    ghost from_base: { AllPass (λ v. is_le (values_cmp (values base.bytes.now) v))
-        (keys_of (rows_of path_bytes files)) } by { Prim.hlevel props },
+    ghost ordered: { IsStrictlySortedBy values_cmp (paths_of files) } by { Prim.hlevel props },
+    ghost from_base: { NoneBefore (values base.bytes.now) (paths_of files) } by { Prim.hlevel props },
 }
 
 impl<V> PathTable<V> {

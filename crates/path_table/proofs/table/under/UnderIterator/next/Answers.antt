@@ -7,7 +7,7 @@ use Rattle.unix_path.specs.Prefixes.{stripped_of}
 use Rattle.path_runs.specs.TableLaws.{rows_of}
 use Rattle.path_table.specs.Table.{entries_under}
 use Rattle.path_table.proofs.LeftLemmas.{values-stripped_of}
-use Rattle.path_table.proofs.NextLemmas.{next_ordered, next_passes, none_left, one_fewer}
+use Rattle.path_table.proofs.NextLemmas.{next_ordered, next_not_before, none_left, one_fewer}
 use Rattle.path_table.proofs.UnderLemmas.{first_under}
 use Rattle.path_table.proofs.table.under.UnderIterator.next.Goals as goal
 
@@ -17,9 +17,8 @@ invariant_of-self g c =
     record {
       ordered = next_ordered walk.files c.next.new.self c.next.result c.next.ensures.steps
           walk.ordered;
-      from_base = next_passes walk.files c.next.new.self
-          (λ v. is_le (values_cmp (values walk.base.bytes.now) v)) c.next.result c.next.ensures.steps
-          walk.from_base;
+      from_base = next_not_before walk.files c.next.new.self (values walk.base.bytes.now)
+          c.next.result c.next.ensures.steps walk.from_base;
     }
 
 pub returns-in-Ok : goal.returns-in-Ok
