@@ -4,3 +4,4 @@ pub mod UnderLemmas
 pub mod LeftLemmas
 pub mod PartLemmas
 pub mod NextLemmas
+pub mod UpdateLemmas

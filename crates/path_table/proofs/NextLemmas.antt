@@ -1,11 +1,9 @@
 -- A call of `next` leaves rows that ascend and are not below the base.
-use Rattle.std.proofs.Common.{◌≡◌, ◌∷◌, ◌∙◌, ◌<◌, [], List, Bool, true, Option, Some, None}
+use Rattle.std.proofs.Common.{◌≡◌, ◌∷◌, ◌∙◌, ◌<◌, [], List, true, Option, Some, None}
 use Rattle.std.proofs.Common.{ap, sym, subst, length, arith}
 use Rattle.std.proofs.lemmas.List.Elements.{All-nil, All-head, All-rest}
 use Rattle.std.specs.Borrow.{Bor}
-use Rattle.std.specs.List.{AllPass}
 use Rattle.std.specs.List.Sorted.{IsStrictlySortedBy}
-use Rattle.std.specs.Map.{keys_of}
 use Rattle.std.specs.Ordering.{is_le}
 use Rattle.unix_bytes.specs.Begins.{Begins}
 use Rattle.std.specs.Map.Iter.{TakesFirst, deref_pair}

@@ -1,8 +1,11 @@
 -- The rows of the part of a table that is not below a base.
-use Rattle.std.proofs.Common.{◌≡◌, ◌∙◌, List, sym, ap, subst}
+use Rattle.std.proofs.Common.{◌≡◌, ◌∙◌, ◌≤◌, List, Bool, sym, ap, subst, length}
+use Rattle.std.proofs.Common.{arith}
+use Rattle.std.proofs.lemmas.List.{length-map}
+use Rattle.std.proofs.lemmas.List.Sums.{length-filter, count_by-le-length}
 use Rattle.std.proofs.lemmas.List.Elements.{filter_passes}
 use Rattle.std.proofs.lemmas.List.Kept.{IsStrictlySortedBy-filter}
-use Rattle.std.specs.List.{AllPass, filter}
+use Rattle.std.specs.List.{count_by, filter}
 use Rattle.std.specs.List.Sorted.{IsStrictlySortedBy}
 use Rattle.std.specs.Map.{keys_of}
 use Rattle.std.specs.Ordering.{is_le, on}
@@ -12,7 +15,7 @@ use Rattle.unix_path.specs.Parts.{Value, values}
 use Rattle.unix_path.specs.declared.buf.PathBuf.{PathBuf}
 use Rattle.path_runs.specs.OrderLaws.{BaseBeforeUnder}
 use Rattle.path_runs.specs.TableLaws.{rows_of}
-use Rattle.path_table.specs.Table.{NoneBefore, entries_under, paths_of}
+use Rattle.path_table.specs.Table.{NoneBefore, entries_under, is_under, paths_of, row_under}
 use Rattle.path_table.proofs.RowLemmas.{sorted-rows_of, rows_of-filter, keys_of-filter}
 use Rattle.path_table.proofs.UnderLemmas.{from_base, under_from_base}
 
@@ -46,3 +49,15 @@ module _ {V : Type 0} (base : List Value) (entries part : List (PathBuf × V))
   part_under before =
       ap (entries_under base) rows_are
       ∙ under_from_base base before (rows_of path_bytes entries)
+
+-- no more of the files are under a base than there are
+pub fewer_under : {V : Type 0} (base : List Value) (part : List (PathBuf × V))
+    → length (entries_under base (rows_of path_bytes part)) ≤ length part
+fewer_under {V} base part =
+    let rows : List (List Value × V) = rows_of path_bytes part in
+    let test : List Value × V → Bool = λ row. is_under base row.0 in
+    let kept : length (entries_under base rows) ≡ count_by test rows =
+    length-map (filter test rows) (row_under base) ∙ length-filter test rows in
+    let all : length rows ≡ length part =
+    length-map part (λ e. (values (path_bytes e.0), e.1)) in
+    omega (arith, kept, all, count_by-le-length test rows)

@@ -1,5 +1,5 @@
 -- Tables of files by path, as rows of values. Not in Rust's std.
-use Rattle.std.specs.Prelude.{Bool, List, Option, drop, length, map, take}
+use Rattle.std.specs.Prelude.{◌≡◌, Bool, List, Option, drop, length, map, take}
 use Rattle.std.specs.Borrow.{Bor}
 use Rattle.std.specs.BTreeMap.{is_at}
 use Rattle.std.specs.List.{AllPass, filter}
@@ -20,6 +20,11 @@ table_of table = rows_of path_bytes table.files.entries
 -- what the rows have at these values
 abbrev pub value_at : {V : Type 0} → List Value → List (List Value × V) → Option V
 value_at v rows = lookup (is_at (values_cmp v)) rows
+
+-- at all values but w the two have the same
+abbrev pub SameElsewhere : {V : Type 0} → List Value → List (List Value × V)
+    → List (List Value × V) → Type 0
+SameElsewhere w old new = (v : List Value) → ¬ (v ≡ w) → value_at v new ≡ value_at v old
 
 -- the values of the paths of these entries
 abbrev pub paths_of : {V : Type 0} → List (PathBuf × V) → List (List Value)

@@ -4,3 +4,6 @@
 pub mod table;
 
 pub use table::{PathTable, Under};
+
+#[cfg(test)]
+mod tests;

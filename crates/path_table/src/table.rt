@@ -12,7 +12,7 @@ ghost use Rattle.unix_path.specs.Order.{values_cmp};
 ghost use Rattle.unix_path.specs.Parts.{values};
 ghost use Rattle.unix_path.specs.declared.buf.PathBuf.{PathBuf};
 ghost use Rattle.path_runs.specs.TableLaws.{rows_of};
-ghost use Rattle.path_table.specs.Table.{answer_row, entries_under, table_of, value_at};
+ghost use Rattle.path_table.specs.Table.{SameElsewhere, table_of, value_at};
 
 mod under;
 
@@ -62,6 +62,10 @@ impl<V> PathTable<V> {
             ≡ insert_entry values_cmp (table_of self.old) (values (path_bytes path)) value) }
         ensures old { IfOk result (λ old. old
             ≡ value_at (values (path_bytes path)) (table_of self.old)) }
+        ensures found { OnOk result
+            (value_at (values (path_bytes path)) (table_of self.new) ≡ Some value) }
+        ensures others { OnOk result
+            (SameElsewhere (values (path_bytes path)) (table_of self.old) (table_of self.new)) }
         ensures err { OnErr result (table_of self.new ≡ table_of self.old) }
         ensures succeeds { IsSome (value_at (values (path_bytes path)) (table_of self.old))
             → IsOk result }
@@ -107,6 +111,9 @@ impl<V> PathTable<V> {
         ensures rows { table_of self.new
             ≡ remove_entry (is_at (values_cmp (values (path_bytes path.now))))
             (table_of self.old) }
+        ensures gone { value_at (values (path_bytes path.now)) (table_of self.new) ≡ None }
+        ensures others { SameElsewhere (values (path_bytes path.now))
+            (table_of self.old) (table_of self.new) }
     {
         laws::lookup_by_values::<V>();
         laws::remove_by_values::<V>();

@@ -26,11 +26,11 @@ pub struct Under<'a, 'b, V> {
     files: Range<'a, PathBuf, V>,
     base: Path<'b>,
     ghost ordered: { IsStrictlySortedBy values_cmp (paths_of files) } by { Prim.hlevel props },
-    ghost from_base: { NoneBefore (values base.bytes.now) (paths_of files) } by { Prim.hlevel props },
+    ghost start: { NoneBefore (values base.bytes.now) (paths_of files) } by { Prim.hlevel props },
 }
 
 impl<V> PathTable<V> {
-    ghost use Rattle.std.specs.Prelude.{IfOk, map};
+    ghost use Rattle.std.specs.Prelude.{◌<◌, ◌^◌, IfOk, length, map};
     ghost use Rattle.std.specs.Iterator.{YieldsFirstBy};
     ghost use Rattle.std.specs.Iterator.Runs.{EveryRun, ItemsMapTo};
     ghost use Rattle.std.specs.Borrow.{Bor};
@@ -50,6 +50,7 @@ impl<V> PathTable<V> {
             ≡ entries_under (values (path_bytes base.now)) (table_of self.entry.now) }
         ensures runs { EveryRun {A = Path × Bor V} (YieldsFirstBy answer_row under_left)
             (λ run. ItemsMapTo run answer_row (under_left run.from)) }
+        ensures fits { length (under_left result) < 2 ^ 63 }
     {
         laws::base_before_under();
         Under {

@@ -1,4 +1,4 @@
-use Rattle.std.proofs.Common.{◌≡◌, ◌∙◌, ap, length, rules}
+use Rattle.std.proofs.Common.{◌≡◌, ◌∙◌, ap, length, rules, arith}
 use Rattle.std.proofs.iter.runs.Sources.{from_front}
 use Rattle.std.specs.Iterator.{YieldsFirstBy}
 use Rattle.std.specs.List.{filter}
@@ -10,6 +10,7 @@ use Rattle.path_runs.specs.TableLaws.{rows_of}
 use Rattle.path_table.specs.Table.{answer_row, entries_under}
 use Rattle.path_table.specs.Under.{under_left}
 use Rattle.path_table.proofs.PartLemmas.{part_ordered, part_from_base, part_under}
+use Rattle.path_table.proofs.PartLemmas.{fewer_under}
 use Rattle.path_table.proofs.table.PathTable.walk_under.Goals as goal
 
 pub invariant_of-result : goal.invariant_of-result
@@ -20,7 +21,7 @@ invariant_of-result g c =
     rw c.as_path.ensures (search rules) in
     record {
       ordered = part_ordered base all c.range.result is c.range.ensures.ordered;
-      from_base = part_from_base base all c.range.result is;
+      start = part_from_base base all c.range.result is;
     }
 
 pub returns-clause-left : goal.returns-clause-left
@@ -34,3 +35,11 @@ pub returns-clause-runs : goal.returns-clause-runs
 returns-clause-runs g c =
     from_front (YieldsFirstBy answer_row under_left) answer_row under_left
     (λ s t h. ap length h.0) (λ s x t h. h)
+
+pub returns-clause-fits : goal.returns-clause-fits
+returns-clause-fits g c =
+    omega (
+      arith,
+      c.range.ensures.fits,
+      fewer_under (values c.as_path.result.bytes.now) c.range.result,
+    )

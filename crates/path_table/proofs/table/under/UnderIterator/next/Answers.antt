@@ -1,7 +1,5 @@
 use Rattle.std.proofs.Common.{◌≡◌, ◌∷◌, ◌∙◌, ap, rules, sym}
-use Rattle.std.specs.Ordering.{is_le}
 use Rattle.unix_path.specs.Buffers.{path_bytes}
-use Rattle.unix_path.specs.Order.{values_cmp}
 use Rattle.unix_path.specs.Parts.{values}
 use Rattle.unix_path.specs.Prefixes.{stripped_of}
 use Rattle.path_runs.specs.TableLaws.{rows_of}
@@ -17,8 +15,8 @@ invariant_of-self g c =
     record {
       ordered = next_ordered walk.files c.next.new.self c.next.result c.next.ensures.steps
           walk.ordered;
-      from_base = next_not_before walk.files c.next.new.self (values walk.base.bytes.now)
-          c.next.result c.next.ensures.steps walk.from_base;
+      start = next_not_before walk.files c.next.new.self (values walk.base.bytes.now)
+          c.next.result c.next.ensures.steps walk.start;
     }
 
 pub returns-in-Ok : goal.returns-in-Ok
@@ -49,4 +47,4 @@ returns-in-Err-clause-steps g c =
     let walk = c.args.self.now in
     none_left walk.files c.next.new.self c.under_is_interval.ensures (values walk.base.bytes.now)
     (c.in_ok-path.path.now, c.in_ok-path.value.now) c.in_ok-path.ensures.steps walk.ordered
-    walk.from_base (search rules)
+    walk.start (search rules)

@@ -1,0 +1,6 @@
+use Rattle.std.proofs.Common.{rules}
+use Rattle.path_table.proofs.UpdateLemmas.{elsewhere-insert_entry}
+use Rattle.path_table.proofs.table.PathTable.insert.Goals as goal
+
+pub returns-clause-others : goal.returns-clause-others
+returns-clause-others g c = elsewhere-insert_entry _ c.args.value _ _ (search rules)

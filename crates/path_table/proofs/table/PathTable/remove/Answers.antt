@@ -1,0 +1,6 @@
+use Rattle.std.proofs.Common.{rules}
+use Rattle.path_table.proofs.UpdateLemmas.{elsewhere-remove_entry}
+use Rattle.path_table.proofs.table.PathTable.remove.Goals as goal
+
+pub returns-clause-others : goal.returns-clause-others
+returns-clause-others g c = elsewhere-remove_entry _ _ _ (search rules)
