@@ -1,0 +1,3 @@
+pub mod KeptLemmas
+pub mod SpelledLemmas
+pub mod ResolvedLemmas

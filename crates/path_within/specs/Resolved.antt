@@ -1,0 +1,68 @@
+-- Paths with each `..` taken against the name before it, by names alone (as Go's `path.Clean`, but
+-- for the empty path, which stays).
+use Rattle.std.specs.Prelude.{◌⊎◌, ◌<◌, ℕ, Bool, true, false, List, [], ◌∷◌}
+use Rattle.std.specs.Prelude.{⊤, count_by, is_some, reverse, take}
+use Rattle.unix_path.specs.Names.{name_of}
+use Rattle.unix_path.specs.Parts.{Value, RootDir, CurDir, ParentDir, Normal, values}
+use Rattle.unix_path.specs.Prefixes.{Begins}
+use Rattle.path_runs.specs.Spelling.{spelling_of}
+
+-- the values kept so far, the last first, after `..`: it takes a name away, is dropped behind the
+-- root, and stays behind another `..` or where nothing is kept
+abbrev pub up_from : List Value → List Value
+up_from (Normal name ∷ kept) = kept
+up_from (RootDir ∷ kept) = RootDir ∷ kept
+up_from kept = ParentDir ∷ kept
+
+-- the values kept so far, the last first, after one more: the root replaces all, `.` is dropped
+abbrev pub keep : List Value → Value → List Value
+keep kept RootDir = RootDir ∷ []
+keep kept CurDir = kept
+keep kept ParentDir = up_from kept
+keep kept (Normal name) = Normal name ∷ kept
+
+-- the values kept so far, the last first, after all of these
+abbrev pub kept_of : List Value → List Value → List Value
+kept_of kept [] = kept
+kept_of kept (v ∷ vs) = kept_of (keep kept v) vs
+
+-- the values with each `..` taken against the name before it
+unfoldable pub resolved_of : List Value → List Value
+resolved_of vs = reverse (kept_of [] vs)
+
+-- a path's values, resolved and spelled
+abbrev pub resolved_bytes_of : List ℕ → List ℕ
+resolved_bytes_of s = spelling_of (resolved_of (values s))
+
+-- all are names
+abbrev pub AreNames : List Value → Type 0
+AreNames [] = ⊤
+AreNames (Normal name ∷ vs) = AreNames vs
+AreNames vs = ⊥
+
+-- `..` any number of times, and then names
+abbrev pub AreUpsThenNames : List Value → Type 0
+AreUpsThenNames (ParentDir ∷ vs) = AreUpsThenNames vs
+AreUpsThenNames vs = AreNames vs
+
+-- no `.`, no `..` behind a name or the root, and a root only in front
+abbrev pub IsNormal : List Value → Type 0
+IsNormal (RootDir ∷ vs) = AreNames vs
+IsNormal vs = AreUpsThenNames vs
+
+-- the value is a name
+abbrev pub is_name : Value → Bool
+is_name v = is_some (name_of v)
+
+-- the value is `..`
+abbrev pub is_parent : Value → Bool
+is_parent ParentDir = true
+is_parent _ = false
+
+-- of some first values more are `..` than are names
+abbrev pub GoesAbove : List Value → Type 0
+GoesAbove vs = (n : ℕ) × (count_by is_name (take n vs) < count_by is_parent (take n vs))
+
+-- read from the left, it goes above where it starts, or it has a root
+abbrev pub Climbs : List Value → Type 0
+Climbs vs = Begins (RootDir ∷ []) vs ⊎ GoesAbove vs

@@ -1,0 +1,34 @@
+//! Laws of paths that are resolved by names.
+ghost use Rattle.path_within.specs.ResolvedLaws.{ResolvedIsNormal, ResolvedReadsBack};
+ghost use Rattle.path_within.specs.ResolvedLaws.{ResolvedAgain, ResolvedCongruent, ResolvedOfJoin};
+
+/// A resolved path has no `.`, no `..` behind a name or the root, and a root only in front.
+///
+/// Its spelling reads back as itself, and resolving it again changes no byte. Calling it does
+/// nothing. Not in Rust's std.
+///
+/// `a/../..//b/.` resolves to `../b`, which has the values `..` and `b` and resolves to itself.
+pub fn resolved_is_normal()
+    ensures normal { ResolvedIsNormal }
+    ensures values { ResolvedReadsBack }
+    ensures again { ResolvedAgain }
+{}
+
+/// Equal paths resolve to the same bytes.
+///
+/// Calling it does nothing. Not in Rust's std.
+///
+/// `a//../b` and `a/.././b/` both resolve to `b`.
+pub fn resolved_congruent()
+    ensures { ResolvedCongruent }
+{}
+
+/// Resolving a join is resolving it with the first path resolved.
+///
+/// The second path may not be resolved on its own before the join, since its `..` may take names of
+/// the first. Calling it does nothing. Not in Rust's std.
+///
+/// `a/./b` joined with `../c` resolves to `a/c`, and so does `a/b` joined with `../c`.
+pub fn resolved_of_join()
+    ensures { ResolvedOfJoin }
+{}

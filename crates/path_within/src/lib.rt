@@ -1,0 +1,7 @@
+//! Joins that stay under a root, `..` resolved by name, and the way from one path to another.
+#![tactic(auto)]
+
+pub mod laws;
+pub mod resolved;
+#[cfg(test)]
+mod tests;

@@ -1,0 +1,1 @@
+//! Paths with each `..` taken against the name before it.
