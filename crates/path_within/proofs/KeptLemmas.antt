@@ -150,3 +150,11 @@ resolved_of-append vs ws =
     ap reverse (kept_of-append [] (reverse ks) ws
     ∙ ap (λ js. kept_of js ws) (kept_of-kept ks (kept_all [] vs tt))
     ∙ sym (kept_of-append [] vs ws))
+
+pub names_reverse : (ks : List Value) → AreNames ks → AreNames (reverse ks)
+names_reverse [] h = tt
+names_reverse (Normal name ∷ ks) h = rw (reverse_onto ks (Normal name) [])
+    (names_push (reverse ks) name (names_reverse ks h))
+names_reverse (RootDir ∷ ks) h = absurd h
+names_reverse (CurDir ∷ ks) h = absurd h
+names_reverse (ParentDir ∷ ks) h = absurd h

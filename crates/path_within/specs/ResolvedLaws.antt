@@ -1,8 +1,11 @@
--- Laws of resolved paths. Not in Rust's std.
-use Rattle.std.specs.Prelude.{◌≡◌, ℕ, List}
-use Rattle.unix_path.specs.Parts.{values, SameValues}
+-- Laws of resolved paths, and of joins that stay within. Not in Rust's std.
+use Rattle.std.specs.Prelude.{◌≡◌, ◌++◌, ℕ, List, false}
 use Rattle.unix_path.specs.Joins.{join_of}
-use Rattle.path_within.specs.Resolved.{resolved_of, resolved_bytes_of, IsNormal}
+use Rattle.unix_path.specs.Parts.{values, SameValues}
+use Rattle.unix_path.specs.Prefixes.{Begins, stripped_of}
+use Rattle.path_runs.specs.JoinLaws.{drop_dot, values_added}
+use Rattle.path_within.specs.Resolved.{resolved_of, resolved_bytes_of, AreNames, IsNormal}
+use Rattle.path_within.specs.Resolved.{Climbs, has_root_or_up}
 
 -- what is resolved is normal
 abbrev pub ResolvedIsNormal : Type 0
@@ -27,3 +30,53 @@ abbrev pub ResolvedOfJoin : Type 0
 ResolvedOfJoin =
     (a b : List ℕ)
     → resolved_bytes_of (join_of a b) ≡ resolved_bytes_of (join_of (resolved_bytes_of a) b)
+
+-- behind a root stand the names of a request that doesn't climb, and nothing of the root goes
+abbrev pub WithinAddsNames : Type 0
+WithinAddsNames =
+    (a b : List ℕ) → (Climbs (values b) → ⊥)
+    → resolved_of (values (join_of a b)) ≡ resolved_of (values a) ++ resolved_of (values b)
+
+-- what a request that doesn't climb resolves to has names alone
+abbrev pub WithinHasNames : Type 0
+WithinHasNames = (b : List ℕ) → (Climbs (values b) → ⊥) → AreNames (resolved_of (values b))
+
+-- the resolved join starts with the resolved root
+abbrev pub WithinBegins : Type 0
+WithinBegins =
+    (a b : List ℕ) → (Climbs (values b) → ⊥)
+    → Begins (values (resolved_bytes_of a)) (values (resolved_bytes_of (join_of a b)))
+
+-- the resolved join without the resolved root is the resolved request
+abbrev pub WithinStripped : Type 0
+WithinStripped =
+    (a b : List ℕ) → (Climbs (values b) → ⊥)
+    → SameValues (stripped_of (resolved_bytes_of (join_of a b)) (resolved_bytes_of a))
+    (resolved_bytes_of b)
+
+-- a request with neither a root nor a `..` doesn't climb
+abbrev pub PlainStays : Type 0
+PlainStays = (b : List ℕ) → has_root_or_up (values b) ≡ false → Climbs (values b) → ⊥
+
+-- such a request is names alone, but for a leading dot
+abbrev pub PlainHasNames : Type 0
+PlainHasNames =
+    (b : List ℕ) → has_root_or_up (values b) ≡ false → AreNames (drop_dot (values b))
+
+-- a join with it has the root's own values, and then what it adds
+abbrev pub PlainAddsValues : Type 0
+PlainAddsValues =
+    (a b : List ℕ) → has_root_or_up (values b) ≡ false
+    → values (join_of a b) ≡ values a ++ values_added a b
+
+-- and starts with the root
+abbrev pub PlainBegins : Type 0
+PlainBegins =
+    (a b : List ℕ) → has_root_or_up (values b) ≡ false
+    → Begins (values a) (values (join_of a b))
+
+-- and without the root has what was added
+abbrev pub PlainStripped : Type 0
+PlainStripped =
+    (a b : List ℕ) → has_root_or_up (values b) ≡ false
+    → values (stripped_of (join_of a b) a) ≡ values_added a b

@@ -1,4 +1,6 @@
 //! Laws of resolved paths, over the definitions alone.
 mod resolved;
+mod within;
 
 pub use resolved::{resolved_congruent, resolved_is_normal, resolved_of_join};
+pub use within::{plain_stays_within, stays_within};

@@ -1,0 +1,55 @@
+-- Requests with neither a root nor a `..`.
+use Rattle.std.proofs.Common.{◌≡◌, ℕ, suc, Bool, true, false, List, [], ◌∷◌, refl, sym, ◌∙◌, ⊎_elim}
+use Rattle.std.specs.List.{AllByRecursion}
+use Rattle.unix_path.specs.Parts.{Value, RootDir, CurDir, ParentDir, Normal, is_rooted, values}
+use Rattle.unix_path.proofs.PartLemmas.{root_first, root_first-values}
+use Rattle.path_runs.specs.JoinLaws.{drop_dot}
+use Rattle.path_runs.proofs.LeadLemmas.{IsInner, inner-behind}
+use Rattle.path_within.specs.Resolved.{AreNames, Climbs, has_root_or_up}
+use Rattle.path_within.proofs.ClimbLemmas.{above_from, climbs_by_depth}
+
+no_root_first : (vs : List Value) → has_root_or_up vs ≡ false → root_first vs ≡ false
+no_root_first [] e = refl
+no_root_first (RootDir ∷ vs) e = absurd (let no : true ≡ false = e in cc)
+no_root_first (CurDir ∷ vs) e = refl
+no_root_first (ParentDir ∷ vs) e = refl
+no_root_first (Normal name ∷ vs) e = refl
+
+pub plain_rootless : (b : List ℕ) → has_root_or_up (values b) ≡ false → is_rooted b ≡ false
+plain_rootless b e = sym (root_first-values b) ∙ no_root_first (values b) e
+
+above_from-plain : (n : ℕ) (vs : List Value) → has_root_or_up vs ≡ false
+    → above_from n vs ≡ false
+above_from-plain n [] e = refl
+above_from-plain n (RootDir ∷ vs) e = absurd (let no : true ≡ false = e in cc)
+above_from-plain n (CurDir ∷ vs) e = above_from-plain n vs e
+above_from-plain n (ParentDir ∷ vs) e = absurd (let no : true ≡ false = e in cc)
+above_from-plain n (Normal name ∷ vs) e = above_from-plain (suc n) vs e
+
+contradiction : {P : Type 0} (c : Bool) → c ≡ true → c ≡ false → P
+contradiction c e f = absurd (let no : true ≡ false = sym e ∙ f in cc)
+
+pub plain_stays : (b : List ℕ) → has_root_or_up (values b) ≡ false → Climbs (values b) → ⊥
+plain_stays b e h = ⊎_elim
+    (λ r. contradiction (is_rooted b) r (plain_rootless b e))
+    (λ a. contradiction (above_from 0 (values b)) a (above_from-plain 0 (values b) e))
+    ((climbs_by_depth b).0 h)
+
+inner_names : (vs : List Value) → AllByRecursion IsInner vs → has_root_or_up vs ≡ false
+    → AreNames vs
+inner_names [] h e = tt
+inner_names (RootDir ∷ vs) h e = absurd h.0
+inner_names (CurDir ∷ vs) h e = absurd h.0
+inner_names (ParentDir ∷ vs) h e = absurd (let no : true ≡ false = e in cc)
+inner_names (Normal name ∷ vs) h e = inner_names vs h.1 e
+
+pub plain_names : (b : List ℕ) → has_root_or_up (values b) ≡ false
+    → AreNames (drop_dot (values b))
+plain_names b plain = by (values b) refl plain
+  where
+    by : (vs : List Value) → values b ≡ vs → has_root_or_up vs ≡ false → AreNames (drop_dot vs)
+    by [] e h = tt
+    by (RootDir ∷ vs) e h = absurd (let no : true ≡ false = h in cc)
+    by (CurDir ∷ vs) e h = inner_names vs (inner-behind b CurDir vs e) h
+    by (ParentDir ∷ vs) e h = absurd (let no : true ≡ false = h in cc)
+    by (Normal name ∷ vs) e h = inner_names vs (inner-behind b (Normal name) vs e) h
