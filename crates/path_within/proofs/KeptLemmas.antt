@@ -4,18 +4,7 @@ use Rattle.std.proofs.lemmas.Grind.{reverse_onto}
 use Rattle.unix_path.specs.Parts.{Value, RootDir, CurDir, ParentDir, Normal}
 use Rattle.path_within.specs.Resolved.{up_from, keep, kept_of, resolved_of, AreNames}
 use Rattle.path_within.specs.Resolved.{AreUpsThenNames, IsNormal}
-
--- all are `..`
-abbrev pub AreUps : List Value → Type 0
-AreUps [] = Unit {0}
-AreUps (ParentDir ∷ vs) = AreUps vs
-AreUps vs = ⊥
-
--- the values, the last first, are such as are kept: names, and before them the root alone or `..`
-abbrev pub IsKept : List Value → Type 0
-IsKept (Normal name ∷ ks) = IsKept ks
-IsKept (RootDir ∷ ks) = ks ≡ []
-IsKept ks = AreUps ks
+use Rattle.path_within.specs.Steps.{AreUps, IsKept}
 
 pub kept_ups : (ks : List Value) → AreUps ks → IsKept ks
 kept_ups [] h = tt
@@ -45,7 +34,7 @@ pub kept_of-append : (ks vs ws : List Value) → kept_of ks (vs ++ ws) ≡ kept_
 kept_of-append ks [] ws = refl
 kept_of-append ks (v ∷ vs) ws = kept_of-append (keep ks v) vs ws
 
-up_behind : (ks : List Value) → AreUps ks → up_from ks ≡ ParentDir ∷ ks
+pub up_behind : (ks : List Value) → AreUps ks → up_from ks ≡ ParentDir ∷ ks
 up_behind [] h = refl
 up_behind (ParentDir ∷ ks) h = refl
 up_behind (RootDir ∷ ks) h = absurd h
@@ -59,7 +48,7 @@ keep_last CurDir ks h = absurd h
 keep_last ParentDir ks h = up_behind ks h
 keep_last (Normal name) ks h = refl
 
-kept_tail : (v : Value) (ks : List Value) → IsKept (v ∷ ks) → IsKept ks
+pub kept_tail : (v : Value) (ks : List Value) → IsKept (v ∷ ks) → IsKept ks
 kept_tail RootDir ks h = rw h tt
 kept_tail CurDir ks h = absurd h
 kept_tail ParentDir ks h = kept_ups ks h

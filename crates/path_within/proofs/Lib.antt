@@ -4,3 +4,7 @@ pub mod ResolvedLemmas
 pub mod ClimbLemmas
 pub mod RequestLemmas
 pub mod WithinLemmas
+pub mod SharedLemmas
+pub mod WayLemmas
+pub mod LeadsLemmas
+pub mod FloorLemmas

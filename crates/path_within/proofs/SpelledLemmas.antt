@@ -22,11 +22,8 @@ use Rattle.path_runs.proofs.PieceValueLemmas.{names_of, values-rooted, values-ro
 use Rattle.path_runs.proofs.PieceValueLemmas.{rooted_is, NoSlash, slice_split-no_slash}
 use Rattle.path_runs.proofs.ValueLemmas.{append_values, values-join_of_rootless}
 use Rattle.path_within.specs.Resolved.{up_from, keep, kept_of}
-use Rattle.path_within.proofs.KeptLemmas.{IsKept, kept_ups}
-
--- the value's bytes are a path of this value alone
-abbrev pub IsOne : Value → Type 0
-IsOne v = values (value_bytes v) ≡ v ∷ []
+use Rattle.path_within.specs.Steps.{AllOne, IsKept, IsOne, path_of}
+use Rattle.path_within.proofs.KeptLemmas.{kept_ups}
 
 root_one : IsOne RootDir
 root_one = values-rooted []
@@ -34,11 +31,8 @@ root_one = values-rooted []
 dot_one : IsOne CurDir
 dot_one = values-rootless (dot ∷ []) ((dot ∷ []) ∷ []) refl refl
 
-up_one : IsOne ParentDir
+pub up_one : IsOne ParentDir
 up_one = values-rootless (dot ∷ dot ∷ []) ((dot ∷ dot ∷ []) ∷ []) refl refl
-
-abbrev pub AllOne : List Value → Type 0
-AllOne vs = AllByRecursion IsOne vs
 
 one_piece : (p : List ℕ) → NoSlash p → bytes_eq p [] ≡ false → bytes_eq p cur_dir ≡ false
     → is_rooted p ≡ false → IsOne (value_of_piece p)
@@ -94,11 +88,6 @@ one_keep ks (Normal name) h k = (k, h)
 pub one_kept : (ks vs : List Value) → AllOne ks → AllOne vs → AllOne (kept_of ks vs)
 one_kept ks [] h k = h
 one_kept ks (v ∷ vs) h k = one_kept (keep ks v) vs (one_keep ks v h k.0) k.1
-
--- the values, the last first, each joined to those before it
-abbrev pub path_of : List Value → List ℕ
-path_of [] = []
-path_of (v ∷ ks) = join_of (path_of ks) (value_bytes v)
 
 append_inner : (vs : List Value) (b : List ℕ) (v : Value) → values b ≡ v ∷ []
     → inner_values b ≡ v ∷ [] → append_values vs b ≡ vs ++ v ∷ []

@@ -1,2 +1,4 @@
 pub mod Resolved
 pub mod ResolvedLaws
+pub mod WayLaws
+pub mod Steps

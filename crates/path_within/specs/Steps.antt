@@ -1,0 +1,36 @@
+-- Words of private steps. No public clause cites them.
+use Rattle.std.specs.Prelude.{◌≡◌, ℕ, List, [], ◌∷◌, ⊤}
+use Rattle.std.specs.List.{AllByRecursion}
+use Rattle.unix_path.specs.Joins.{join_of}
+use Rattle.unix_path.specs.Parts.{Value, RootDir, ParentDir, Normal, value_bytes, values}
+
+-- all are `..`
+abbrev pub AreUps : List Value → Type 0
+AreUps [] = ⊤
+AreUps (ParentDir ∷ vs) = AreUps vs
+AreUps vs = ⊥
+
+-- the values, the last first, are such as are kept: names, and before them the root alone or `..`
+abbrev pub IsKept : List Value → Type 0
+IsKept (Normal name ∷ ks) = IsKept ks
+IsKept (RootDir ∷ ks) = ks ≡ []
+IsKept ks = AreUps ks
+
+-- the value's bytes are a path of this value alone
+abbrev pub IsOne : Value → Type 0
+IsOne v = values (value_bytes v) ≡ v ∷ []
+
+-- all are so
+abbrev pub AllOne : List Value → Type 0
+AllOne vs = AllByRecursion IsOne vs
+
+-- the values, the last first, each joined to those before it
+abbrev pub path_of : List Value → List ℕ
+path_of [] = []
+path_of (v ∷ ks) = join_of (path_of ks) (value_bytes v)
+
+-- the bytes spell these values, which are kept ones, the last first
+pub record Spells (bytes : List ℕ) (ks : List Value) : Type 0 where
+  pub kept : IsKept ks
+  pub one : AllOne ks
+  pub is : bytes ≡ path_of ks
