@@ -1,6 +1,6 @@
 -- What climbs, read from the left by a depth, and what the values of a path that doesn't leave.
 use Rattle.std.proofs.Common.{◌≡◌, ℕ, suc, zero, ◌+◌, ◌<◌, Bool, true, false, cond}
-use Rattle.std.proofs.Common.{List, [], ◌∷◌, ◌++◌, length, take, refl, sym, ap, ◌∙◌, arith}
+use Rattle.std.proofs.Common.{List, [], ◌∷◌, ◌++◌, length, take, refl, sym, ap, ap₂, ◌∙◌, arith}
 use Rattle.std.proofs.Common.{inl, inr, ⊎_elim, ◌⊎◌, ◌↔◌}
 use Rattle.std.specs.List.{AllByRecursion, count_by}
 use Rattle.std.proofs.lemmas.List.Sums.{sum_by-cons}
@@ -85,6 +85,22 @@ climbs_by_depth s = let root = rooted-Begins s (is_rooted s) refl in (
   λ h. ⊎_elim (λ r. inl (root.1 r)) (λ a. inr (goes-above (values s) a)) h,
   λ h. ⊎_elim (λ r. inl (root.0 r)) (λ a. inr (above-goes (values s) a)) h,
 )
+
+-- `..` at depth 0
+pub climbs_here : (s : List ℕ) (n : ℕ) (v : Value) (left more : List Value)
+    → above_from n left ≡ above_from 0 (values s) → n ≡ 0 → left ≡ v ∷ more → v ≡ ParentDir
+    → Climbs (values s)
+climbs_here s n v left more h none e up =
+    (climbs_by_depth s).1 (inr (sym h ∙ ap₂ above_from none (e ∙ ap (λ v. v ∷ more) up)))
+
+-- no root, and nothing is left
+pub climbs_nowhere : (s : List ℕ) (n : ℕ) (left : List Value)
+    → above_from n left ≡ above_from 0 (values s) → left ≡ [] → is_rooted s ≡ false
+    → Climbs (values s) → false ≡ true
+climbs_nowhere s n left h e r climbs = ⊎_elim
+    (λ rooted. sym r ∙ rooted)
+    (λ above. sym (ap (above_from n) e) ∙ h ∙ above)
+    ((climbs_by_depth s).0 climbs)
 
 -- no value is the root
 abbrev pub NoRoots : List Value → Type 0

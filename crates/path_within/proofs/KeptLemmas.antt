@@ -20,7 +20,7 @@ kept_up (CurDir ∷ ks) h = absurd h
 kept_up (ParentDir ∷ ks) h = h
 kept_up (Normal name ∷ ks) h = h
 
-kept_one : (ks : List Value) (v : Value) → IsKept ks → IsKept (keep ks v)
+pub kept_one : (ks : List Value) (v : Value) → IsKept ks → IsKept (keep ks v)
 kept_one ks RootDir h = refl
 kept_one ks CurDir h = h
 kept_one ks ParentDir h = kept_up ks h
@@ -68,7 +68,7 @@ ups_push (RootDir ∷ vs) h = absurd h
 ups_push (CurDir ∷ vs) h = absurd h
 ups_push (Normal name ∷ vs) h = absurd h
 
-ups_reverse : (ks : List Value) → AreUps ks → AreUps (reverse ks)
+pub ups_reverse : (ks : List Value) → AreUps ks → AreUps (reverse ks)
 ups_reverse [] h = tt
 ups_reverse (ParentDir ∷ ks) h = rw (reverse_onto ks ParentDir [])
     (ups_push (reverse ks) (ups_reverse ks h))

@@ -8,3 +8,5 @@ pub mod SharedLemmas
 pub mod WayLemmas
 pub mod LeadsLemmas
 pub mod FloorLemmas
+pub mod PopLemmas
+pub mod StepLemmas

@@ -25,7 +25,7 @@ use Rattle.path_within.specs.Resolved.{up_from, keep, kept_of}
 use Rattle.path_within.specs.Steps.{AllOne, IsKept, IsOne, path_of}
 use Rattle.path_within.proofs.KeptLemmas.{kept_ups}
 
-root_one : IsOne RootDir
+pub root_one : IsOne RootDir
 root_one = values-rooted []
 
 dot_one : IsOne CurDir

@@ -3,5 +3,8 @@
 
 pub mod laws;
 pub mod resolved;
+pub mod within;
+
+pub use within::WithinError;
 #[cfg(test)]
 mod tests;

@@ -1,1 +1,66 @@
 //! Paths with each `..` taken against the name before it.
+ghost use Rattle.std.specs.Prelude.{◌≡◌, List, IfOk, OnOk};
+ghost use Rattle.unix_path.specs.Buffers.{path_bytes};
+ghost use Rattle.unix_path.specs.Parts.{Value, values};
+ghost use Rattle.unix_path.specs.Views.{value_of};
+ghost use Rattle.path_within.specs.Resolved.{keep, kept_of, up_from, resolved_bytes_of};
+ghost use Rattle.path_within.specs.Steps.{IsOne, Spells};
+
+use std::alloc::{AllocError, Global};
+use unix_path::{Component, Path, PathBuf};
+
+// Takes `..` against what is kept: a name goes, the root stays, and any other end gets `..`.
+fn keep_up(kept: &mut PathBuf) -> Result<(), AllocError>
+    ensures ok { OnOk result ((ks : List Value)
+        → Spells (path_bytes kept.old) ks → Spells (path_bytes kept.new) (up_from ks)) }
+{
+    if kept.as_path().file_name().is_some() {
+        kept.pop();
+        return Ok(());
+    }
+    if kept.as_path().has_root() {
+        return Ok(());
+    }
+    kept.push(Component::ParentDir.as_path())
+}
+
+// Keeps one part more.
+fn keep(kept: &mut PathBuf, part: Component<'_>) -> Result<(), AllocError>
+    ensures ok { OnOk result ((ks : List Value)
+        → Spells (path_bytes kept.old) ks → IsOne (value_of part.entry)
+        → Spells (path_bytes kept.new) (keep ks (value_of part.entry))) }
+{
+    match part {
+        Component::CurDir => Ok(()),
+        Component::ParentDir => keep_up(kept),
+        Component::RootDir | Component::Normal(_) => kept.push(part.as_path()),
+    }
+}
+
+// Keeps the parts of a path behind what is kept.
+pub(crate) fn keep_all(kept: &mut PathBuf, path: Path<'_>) -> Result<(), AllocError>
+    ensures ok { OnOk result ((ks : List Value) → Spells (path_bytes kept.old) ks
+        → Spells (path_bytes kept.new) (kept_of ks (values path.entry.bytes.now))) }
+{
+    for part in path.components() {
+        keep(kept, part)?;
+    }
+    Ok(())
+}
+
+/// The path with each `..` taken against the name before it, and spelled canonically: `.` goes, and
+/// so does `..` behind the root. Without a root, `..` with no name before it stays in front.
+///
+/// It goes by names alone: where a part before a `..` may be a link, only the system knows where
+/// that `..` leads. The empty path stands for here. Allocates once, as many bytes as the path has,
+/// or not at all for the empty path; fails if the allocation fails. Not in Rust's std; as Go's
+/// `path.Clean`, which gives `.` for the empty path.
+///
+/// For `a/../..//b/.` it is `../b`, for `/../a` it is `/a`, and for `a/..` the empty path.
+pub fn resolved(alloc: Global, path: Path<'_>) -> Result<PathBuf, AllocError>
+    ensures { IfOk result (λ p. path_bytes p ≡ resolved_bytes_of path.entry.bytes.now) }
+{
+    let mut kept = PathBuf::with_capacity(alloc, path.as_unix_str().len())?;
+    keep_all(&mut kept, path)?;
+    Ok(kept)
+}

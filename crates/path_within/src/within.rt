@@ -1,0 +1,160 @@
+//! Joins that stay under a root.
+ghost use Rattle.std.specs.Prelude.{◌≡◌, ◌↔◌, true, IfOk, IsErrOf, IsTrue, Some};
+ghost use Rattle.std.specs.Fmt.{padded};
+ghost use Rattle.unix_path.specs.Buffers.{path_bytes};
+ghost use Rattle.unix_path.specs.Joins.{join_of};
+ghost use Rattle.unix_path.specs.Parts.{values};
+ghost use Rattle.unix_path.specs.Views.{value_of};
+ghost use Rattle.path_within.specs.Resolved.{Climbs, has_root_or_up, is_root_or_up};
+ghost use Rattle.path_within.specs.Resolved.{resolved_bytes_of};
+
+use crate::resolved::keep_all;
+use std::alloc::{AllocError, Global};
+use std::error::Error;
+use std::fmt;
+use unix_path::{Component, Path, PathBuf};
+
+/// Why a request couldn't be joined to its root.
+///
+/// Its text is padded like any text. Not in Rust's std.
+#[derive(Debug, Drop)]
+pub enum WithinError {
+    /// The request would leave the root: `path leaves its root`.
+    Escapes,
+    /// An allocation failed: `out of memory`.
+    Memory(AllocError),
+}
+
+/// The texts that the variants name, padded by width, precision, fill and alignment. Does not
+/// allocate.
+///
+/// `WithinError::Escapes` is printed as `path leaves its root`.
+impl fmt::Display for WithinError {
+    ghost use Rattle.path_within.specs.Errors.{within_error_text};
+
+    ghost output = { λ error. Some (within_error_text error) };
+
+    ghost styled_output = { λ error spec. Some (padded spec (within_error_text error)) };
+
+    fn fmt<W: fmt::Write>(&self, f: &mut fmt::Formatter<W>) -> fmt::Result {
+        f.pad(match self {
+            WithinError::Escapes => "path leaves its root",
+            WithinError::Memory(_) => "out of memory",
+        })
+    }
+}
+
+impl Error for WithinError {}
+
+/// `Memory`, with the error of the allocation. Does not allocate.
+///
+/// With it `?` works on a `Path::join` where the function returns a `WithinError`.
+impl From<AllocError> for WithinError {
+    ghost use Rattle.path_within.specs.declared.within.WithinError.TheVariants.{Memory};
+
+    ghost from_gives = { λ error given. given ≡ Memory error };
+
+    fn from(error: AllocError) -> WithinError {
+        WithinError::Memory(error)
+    }
+}
+
+/// Whether the path has a root or, read from the left, ever goes above where it starts: some of its
+/// first parts then hold more `..` than names, even if later names come down again.
+///
+/// It goes by names alone: where a part may be a link, only the system knows where `..` leads. Does
+/// not allocate. Not in Rust's std; Go's `filepath.IsLocal` is its opposite, but for the empty
+/// path, which doesn't climb.
+///
+/// For `a/../../root/x` and `/a` it is true; for `a/../..foo` it is false.
+#[must_use]
+pub fn climbs(path: Path<'_>) -> bool
+    ensures { IsTrue result ↔ Climbs (values path.entry.bytes.now) }
+{
+    if path.has_root() {
+        return true;
+    }
+    let mut depth = 0_usize;
+    for part in path.components() {
+        match part {
+            Component::RootDir | Component::CurDir => {}
+            Component::Normal(_) => depth += 1,
+            Component::ParentDir => {
+                if depth == 0 {
+                    return true;
+                }
+                depth -= 1;
+            }
+        }
+    }
+    false
+}
+
+/// The request joined to the root, and resolved, so that it stays under the resolved root.
+///
+/// The error is `Escapes` exactly where the request climbs, before anything is allocated, and
+/// `Memory` where the allocation fails. It goes by names alone: where a part of the root or of the
+/// request may be a link, take `join_plain` and let the system refuse links. Allocates once, one
+/// byte more than both paths have; fails if the allocation fails. Not in Rust's std.
+///
+/// `/srv/www` with `a/../b` is `/srv/www/b`, and with `a/../../x` it is refused.
+pub fn join_within(
+    alloc: Global,
+    root: Path<'_>,
+    request: Path<'_>,
+) -> Result<PathBuf, WithinError>
+    ensures escapes { IsErrOf result WithinError.Escapes
+        ↔ Climbs (values request.entry.bytes.now) }
+    ensures bytes { IfOk result (λ p. path_bytes p
+        ≡ resolved_bytes_of (join_of root.entry.bytes.now request.entry.bytes.now)) }
+{
+    if climbs(request) {
+        return Err(WithinError::Escapes);
+    }
+    let len = root.as_unix_str().len() + 1 + request.as_unix_str().len();
+    let mut kept = PathBuf::with_capacity(alloc, len)?;
+    keep_all(&mut kept, root)?;
+    keep_all(&mut kept, request)?;
+    Ok(kept)
+}
+
+// Whether the part is the root or `..`.
+#[inline]
+fn is_root_or_up(part: Component<'_>) -> bool
+    ensures { result ≡ is_root_or_up (value_of part.entry) }
+{
+    matches!(part, Component::RootDir | Component::ParentDir)
+}
+
+// Whether the root or a `..` is among the parts.
+#[inline]
+fn has_root_or_up(path: Path<'_>) -> bool
+    ensures { result ≡ has_root_or_up (values path.entry.bytes.now) }
+{
+    path.components().any(is_root_or_up)
+}
+
+/// The request joined to the root, both as they stand, where the request has neither a root nor a
+/// `..`.
+///
+/// It is for roots where links may stand: what is joined goes down by names alone, and no `..` of
+/// the root is touched. The error is `Escapes` exactly where the request has a root or any `..`,
+/// before anything is allocated, and `Memory` where the allocation fails. Allocates once, as many
+/// bytes as the join has, or not at all for an empty join. Not in Rust's std.
+///
+/// `/srv/../www` with `./a` is `/srv/../www/./a`, and with `a/../b` it is refused.
+pub fn join_plain(
+    alloc: Global,
+    root: Path<'_>,
+    request: Path<'_>,
+) -> Result<PathBuf, WithinError>
+    ensures escapes { IsErrOf result WithinError.Escapes
+        ↔ (has_root_or_up (values request.entry.bytes.now) ≡ true) }
+    ensures bytes { IfOk result (λ p. path_bytes p
+        ≡ join_of root.entry.bytes.now request.entry.bytes.now) }
+{
+    if has_root_or_up(request) {
+        return Err(WithinError::Escapes);
+    }
+    Ok(root.join(alloc, request)?)
+}
