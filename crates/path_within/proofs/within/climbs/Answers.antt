@@ -8,7 +8,7 @@ pub returns-then-depth-eq0 : goal.returns-then-depth-eq0
 returns-then-depth-eq0 c = (
   λ h. climbs_here c.args.path.bytes.now c.loop-part.depth (value_of c.in-Some.part)
       (cursor_values c.loop-part.part-iterator) (cursor_values c.next.new.self)
-      c.loop-part.invariant.1.1.0 c.if-depth-eq0.true c.in-Some.ensures.steps.item_is
+      c.loop-part.invariant.2 c.if-depth-eq0.true c.in-Some.ensures.steps.item_is
       (ap value_of c.in-ParentDir.is),
   λ h. refl,
 )
@@ -17,6 +17,6 @@ pub returns : goal.returns
 returns c = (
   λ h. absurd (cc),
   climbs_nowhere c.args.path.bytes.now c.loop-part.depth (cursor_values c.loop-part.part-iterator)
-      c.loop-part.invariant.1.1.0 c.in-None.ensures.steps.item_is.0
+      c.loop-part.invariant.2 c.in-None.ensures.steps.item_is.0
       (sym c.has_root.ensures.value ∙ c.if-has_root.false),
 )

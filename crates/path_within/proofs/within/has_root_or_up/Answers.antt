@@ -1,0 +1,11 @@
+use Rattle.std.proofs.Common.{rules, tests, ap, ◌∙◌}
+use Rattle.std.proofs.lemmas.Iterator.Search.{any_from_yields_List}
+use Rattle.unix_path.proofs.CursorLemmas.{Components-yields}
+use Rattle.path_within.specs.Resolved.{has_root_or_up, is_root_or_up}
+use Rattle.path_within.proofs.within.has_root_or_up.Goals as goal
+
+pub returns : goal.returns
+returns c =
+    any_from_yields_List is_root_or_up _ _ c.any.result c.any.ensures.ran
+    (Components-yields c.components.result) (λ x r q k. search (rules, tests))
+    ∙ ap has_root_or_up c.components.ensures.values
