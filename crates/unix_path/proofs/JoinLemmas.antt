@@ -1,7 +1,7 @@
 -- Joins, case by case.
 use Rattle.std.proofs.Common.{◌≡◌, ℕ, suc, ◌-◌, true, false, eqb, List, [], ◌∷◌, ◌++◌, length}
 use Rattle.std.proofs.Common.{get_or, refl, sym, ap, ◌∙◌, arith, append_assoc}
-use Rattle.std.proofs.Common.{append-nil}
+use Rattle.std.proofs.Common.{append-nil, length-append, ◌+◌}
 use Rattle.unix_path.specs.Parts.{is_rooted}
 use Rattle.unix_path.specs.Joins.{is_open, join_of}
 
@@ -28,3 +28,20 @@ unfolding join_of
 join_of_closed a b r o = rw (r, o) (sym (append_assoc a (47 ∷ []) b))
 
 pub ruleset rootless_joins = (join_of_open, join_of_closed, append-nil)
+
+pub length-join_of_open : (a b : List ℕ) → is_rooted b ≡ false → is_open a ≡ true
+    → length (join_of a b) ≡ length a + length b
+length-join_of_open a b r o = ap length (join_of_open a b r o) ∙ length-append a b
+
+pub length-join_of_closed : (a b : List ℕ) → is_rooted b ≡ false → is_open a ≡ false
+    → length (join_of a b) ≡ length a + (1 + length b)
+length-join_of_closed a b r o =
+    omega (
+      arith,
+      ap length (join_of_closed a b r o),
+      length-append (a ++ 47 ∷ []) b,
+      length-append a (47 ∷ []),
+    )
+
+pub ruleset push_cases =
+    (join_of_rooted, join_of_open, join_of_closed, length-join_of_open, length-join_of_closed)

@@ -103,7 +103,7 @@ impl PathBuf {
     /// `/foo/bar` after a push of `./baz` is `/foo/bar/./baz`, and `foo` after a push of the empty
     /// path is `foo/`.
     #[inline(always)]
-    #[tactic(auto, using(crate::proofs::JoinLemmas::join_of_rooted))]
+    #[tactic(auto, using(crate::proofs::JoinLemmas::push_cases))]
     pub fn push(&mut self, path: Path<'_>) -> Result<(), AllocError>
         ensures ok { OnOk result
             (path_bytes self.new ≡ join_of (path_bytes self.old) path.entry.bytes.now) }
@@ -115,9 +115,13 @@ impl PathBuf {
         if path.has_root() {
             return self.replace(path);
         }
-        let gap = join_gap(self.as_path().bytes, path);
-        self.inner.reserve(total_len(0, gap, path.bytes))?;
-        push_end(&mut self.inner, gap, path.bytes)
+        if is_open(self.as_path().bytes) {
+            return self.inner.push(path.as_unix_str());
+        }
+        // The room for both comes first, so that a refusal leaves the bytes as they were.
+        self.inner.reserve(1 + path.bytes.len())?;
+        self.inner.push(UnixStr::from_bytes(b"/"))?;
+        self.inner.push(path.as_unix_str())
     }
 
     // Replaces all bytes. It stands apart, so that what `push` inlines stays small.

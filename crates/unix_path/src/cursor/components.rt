@@ -115,8 +115,9 @@ impl<'a> Components<'a> {
         Some(last)
     }
 
-    // The last part of these bytes, with its place.
-    #[inline]
+    // The last part of these bytes, with its place. Always inlined, so that nothing is made that a
+    // caller doesn't ask for.
+    #[inline(always)]
     pub(crate) fn last_part(path: &'a [u8]) -> Option<LastPart<'a>>
         ensures none { result ≡ None → values path.now ≡ [] }
         ensures some { IfSome result
