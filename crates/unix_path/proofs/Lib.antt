@@ -6,6 +6,7 @@ pub mod IdleLemmas
 pub mod CutLemmas
 pub mod TrimLemmas
 pub mod TrailingLemmas
+pub mod IdleBlockLemmas
 pub mod LastLemmas
 pub mod SpanLemmas
 pub mod StepLemmas

@@ -9,7 +9,7 @@ ghost use Rattle.unix_path.specs.Order.{values_cmp};
 ghost use Rattle.unix_path.specs.Steps.{is_idle, piece_rank};
 ghost use Rattle.unix_path.specs.Views.{value_of};
 
-use crate::cursor::{Component, Components, first_step, has_lead, idle_len};
+use crate::cursor::{Component, Components, has_lead, long_first_step, long_idle_len};
 use std::cmp::Ordering;
 use unix_bytes::search::{common_len, past_last};
 
@@ -24,8 +24,8 @@ fn compare_parts(a: &[u8], a_lead: bool, b: &[u8], b_lead: bool) -> Ordering
     let (mut x, mut y) = (a, b);
     let (mut x_lead, mut y_lead) = (a_lead, b_lead);
     while !x.is_empty() && !y.is_empty() {
-        let (x_len, first) = first_step(x, x_lead);
-        let (y_len, second) = first_step(y, y_lead);
+        let (x_len, first) = long_first_step(x, x_lead);
+        let (y_len, second) = long_first_step(y, y_lead);
         let order = first.cmp(&second);
         if order.is_ne() {
             return order;
@@ -44,7 +44,7 @@ fn past_idle(bytes: &[u8]) -> &[u8]
     ensures values { values result.now ≡ inner_values bytes.now }
     ensures lead { is_idle result.now 0 ≡ false }
 {
-    &bytes[idle_len(bytes)..]
+    &bytes[long_idle_len(bytes)..]
 }
 
 // Whether a name stands at `at` that doesn't begin with a dot.

@@ -10,4 +10,4 @@ pub use component::Component;
 pub use components::Components;
 pub use iter::Iter;
 pub use parents::Ancestors;
-pub(crate) use steps::{first_step, has_lead, idle_len};
+pub(crate) use steps::{has_lead, idle_len, long_first_step, long_idle_len};

@@ -1,6 +1,6 @@
 //! The first and the last part, found in bytes that hold just what is left of a walk.
 ghost use Rattle.std.specs.Prelude.{◌≡◌, ℕ, ◌+◌, ◌-◌, ◌<◌, ◌≤◌, true, false, length, IsTrue};
-ghost use Rattle.std.specs.Prelude.{take, drop};
+ghost use Rattle.std.specs.Prelude.{◌∷◌, take, drop};
 ghost use Rattle.std.specs.Str.{bytes_eq};
 ghost use Rattle.unix_path.specs.Parts.{cur_dir, parts, inner_parts};
 ghost use Rattle.unix_path.specs.Steps.{begins_with_parent, ends_with_parent, is_idle};
@@ -22,6 +22,37 @@ fn is_idle(path: &[u8], i: usize) -> bool
     path[i] == b'/' || (path[i] == b'.' && (i + 1 == path.len() || path[i + 1] == b'/'))
 }
 
+// True only where each of the 16 bytes from `at` on is a slash, or a `.` before a slash.
+#[inline]
+fn is_idle_block(path: &[u8], at: usize) -> bool
+    requires { at + 16 < length path.now }
+    ensures { IsTrue result → ((k : ℕ) → at ≤ k → k < at + 16 → is_idle path.now k ≡ true) }
+{
+    let slash = u8x16::splat(b'/');
+    let here = u8x16::from_slice(&path[at..]);
+    let next = u8x16::from_slice(&path[at + 1..]);
+    let is_no_dot = here.simd_ne(u8x16::splat(b'.'));
+    let other = here.simd_ne(slash) & (is_no_dot | next.simd_ne(slash));
+    other.to_bitmask() == 0
+}
+
+// How many bytes stand before the next part, or some bytes fewer, where those before `start` don't
+// count: as far as blocks of 16 say.
+#[inline(never)]
+fn idle_blocks_len(path: &[u8], start: usize) -> usize
+    requires { start ≤ length path.now }
+    ensures forward { start ≤ result }
+    ensures in_range { result ≤ length path.now }
+    ensures idle { (at : ℕ) → inner_parts (at + start) (drop start path.now)
+        ≡ inner_parts (at + result) (drop result path.now) }
+{
+    let mut len = start;
+    while path.len() - len > 16 && is_idle_block(path, len) {
+        len += 16;
+    }
+    len
+}
+
 // How many bytes stand before the next part.
 #[inline]
 pub(crate) fn idle_len(path: &[u8]) -> usize
@@ -37,12 +68,46 @@ pub(crate) fn idle_len(path: &[u8]) -> usize
     len
 }
 
+// The same, for where they may be many: beyond eight, blocks are looked at. A walk would take
+// longer by it, since there are few between two parts.
+#[inline]
+pub(crate) fn long_idle_len(path: &[u8]) -> usize
+    ensures in_range { result ≤ length path.now }
+    ensures idle { (at : ℕ) →
+        inner_parts at path.now ≡ inner_parts (at + result) (drop result path.now) }
+    ensures busy { result < length path.now → is_idle path.now result ≡ false }
+{
+    let mut len = 0;
+    while len < path.len() && is_idle(path, len) {
+        len += 1;
+        if len == 8 {
+            len = idle_blocks_len(path, len);
+        }
+    }
+    len
+}
+
 // Whether the path begins with a root or with a `.` that counts.
 #[inline]
 pub(crate) fn has_lead(path: &[u8]) -> bool
     ensures { result ≡ is_idle path.now 0 }
 {
     !path.is_empty() && is_idle(path, 0)
+}
+
+// The root or the `.` that a path begins with.
+#[inline]
+fn lead(path: &[u8]) -> Component<'_>
+    requires some { 0 < length path.now }
+    requires lead { is_idle path.now 0 ≡ true }
+    ensures { parts path.now ≡ record { start = 0; end = 1; value = value_of result }
+        ∷ inner_parts 1 (drop 1 path.now) }
+{
+    if path[0] == b'/' {
+        Component::RootDir
+    } else {
+        Component::CurDir
+    }
 }
 
 // The root or the `.` that a path begins with, and how many bytes it takes.
@@ -52,12 +117,7 @@ fn lead_step(path: &[u8]) -> (usize, Component<'_>)
     requires lead { is_idle path.now 0 ≡ true }
     ensures { StepsFirst path.now result.0 (value_of result.1) }
 {
-    let len = 1 + idle_len(&path[1..]);
-    if path[0] == b'/' {
-        (len, Component::RootDir)
-    } else {
-        (len, Component::CurDir)
-    }
+    (1 + idle_len(&path[1..]), lead(path))
 }
 
 // Whether the first piece is `..`.
@@ -106,6 +166,20 @@ pub(crate) fn first_step(path: &[u8], has_lead: bool) -> (usize, Component<'_>)
         parent_step(path)
     } else {
         name_step(path)
+    }
+}
+
+// The same, for where many bytes that don't count may follow a root or a `.`.
+#[inline(always)]
+pub(crate) fn long_first_step(path: &[u8], has_lead: bool) -> (usize, Component<'_>)
+    requires some { 0 < length path.now }
+    requires lead { has_lead ≡ is_idle path.now 0 }
+    ensures { StepsFirst path.now result.0 (value_of result.1) }
+{
+    if has_lead {
+        (1 + long_idle_len(&path[1..]), lead(path))
+    } else {
+        first_step(path, false)
     }
 }
 

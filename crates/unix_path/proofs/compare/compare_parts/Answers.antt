@@ -14,16 +14,16 @@ loop-x_len-init c = record {
   second_lead = c.requires.second_lead;
 }
 
-pub first_step-x_len-requires-clause-lead : goal.first_step-x_len-requires-clause-lead
-first_step-x_len-requires-clause-lead c = c.loop-x_len.invariant.first_lead
+pub long_first_step-x_len-requires-clause-lead : goal.long_first_step-x_len-requires-clause-lead
+long_first_step-x_len-requires-clause-lead c = c.loop-x_len.invariant.first_lead
 
-pub first_step-y_len-requires-clause-lead : goal.first_step-y_len-requires-clause-lead
-first_step-y_len-requires-clause-lead c = c.loop-x_len.invariant.second_lead
+pub long_first_step-y_len-requires-clause-lead : goal.long_first_step-y_len-requires-clause-lead
+long_first_step-y_len-requires-clause-lead c = c.loop-x_len.invariant.second_lead
 
 pub returns-then-is_ne : goal.returns-then-is_ne
 returns-then-is_ne c =
-    let first = c.first_step-x_len in
-    let second = c.first_step-y_len in
+    let first = c.long_first_step-x_len in
+    let second = c.long_first_step-y_len in
     compared_first c.loop-x_len.x.now c.loop-x_len.y.now first.result.0 second.result.0
     (value_of first.result.1) (value_of second.result.1) c.cmp-order.result first.ensures
     second.ensures (c.cmp-order.ensures ∙ cmp-values first.result.1 second.result.1)
@@ -32,13 +32,13 @@ returns-then-is_ne c =
 
 pub loop-x_len-smaller : goal.loop-x_len-smaller
 loop-x_len-smaller c =
-    let first = c.first_step-x_len in
+    let first = c.long_first_step-x_len in
     steps_smaller c.loop-x_len.x.now first.result.0 (value_of first.result.1) first.ensures
 
 pub loop-x_len-preserved : goal.loop-x_len-preserved
 loop-x_len-preserved c =
-    let first = c.first_step-x_len in
-    let second = c.first_step-y_len in
+    let first = c.long_first_step-x_len in
+    let second = c.long_first_step-y_len in
     record {
       same = compared_rest c.loop-x_len.x.now c.loop-x_len.y.now first.result.0 second.result.0
           (value_of first.result.1) (value_of second.result.1) c.cmp-order.result first.ensures

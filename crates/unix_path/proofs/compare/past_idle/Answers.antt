@@ -8,8 +8,8 @@ use Rattle.unix_path.proofs.compare.past_idle.Goals as goal
 pub returns-clause-values : goal.returns-clause-values
 returns-clause-values c =
     let s : List ℕ = c.args.bytes.now in
-    let n : ℕ = c.idle_len.result in
-    let idle = c.idle_len.ensures in
+    let n : ℕ = c.long_idle_len.result in
+    let idle = c.long_idle_len.ensures in
     ap values (take_rest s n)
     ∙ values-idle s n (idle.idle 0)
     (λ some. is_idle-drop s n ∙ idle.busy (omega (arith, length-drop n s)))

@@ -1,0 +1,10 @@
+use Rattle.std.proofs.Common.{arith}
+use Rattle.std.proofs.lemmas.List.{take_rest}
+use Rattle.unix_path.proofs.LeadLemmas.{steps_first}
+use Rattle.unix_path.proofs.cursor.steps.long_first_step.Goals as goal
+
+pub returns-then-has_lead : goal.returns-then-has_lead
+returns-then-has_lead c =
+    let idle = simp take_rest at c.long_idle_len.ensures in
+    steps_first c.args.path.now 1 c.long_idle_len.result _ (omega arith)
+    c.lead.ensures idle.in_range (idle.idle 1) idle.busy
