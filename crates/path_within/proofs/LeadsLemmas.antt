@@ -80,7 +80,7 @@ is_way ks js steps h normal one e =
           ∙ kept_rest js f y h cut.second;
     }
 
-way_is : (from to : List ℕ) (steps : List Value) → way_of (values from) (values to) ≡ Some steps
+pub way_is : (from to : List ℕ) (steps : List Value) → way_of (values from) (values to) ≡ Some steps
     → IsWay (kept_of [] (values from)) (kept_of [] (values to)) steps
 unfolding way_of resolved_of
 way_is from to steps e =

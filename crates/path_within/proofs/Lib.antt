@@ -10,3 +10,5 @@ pub mod LeadsLemmas
 pub mod FloorLemmas
 pub mod PopLemmas
 pub mod StepLemmas
+pub mod SkipLemmas
+pub mod FoundLemmas

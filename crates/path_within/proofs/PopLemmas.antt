@@ -1,6 +1,6 @@
 -- What is spelled, after one more part: a push, or a pop of the last name.
-use Rattle.std.proofs.Common.{◌≡◌, ◌≢◌, ◌⊎◌, ◌<◌, ℕ, Bool, true, false, List, [], ◌∷◌, ◌++◌, length}
-use Rattle.std.proofs.Common.{map, reverse, refl, sym, ap, subst, ◌∙◌, ⊎_elim, arith}
+use Rattle.std.proofs.Common.{◌≡◌, ℕ, Bool, true, false, List, [], ◌∷◌, ◌++◌, length}
+use Rattle.std.proofs.Common.{reverse, refl, sym, ap, ◌∙◌, ⊎_elim, arith}
 use Rattle.std.proofs.Common.{Option, Some, None, is_some, option_map, unwrap_or}
 use Rattle.std.proofs.lemmas.Grind.{reverse_onto}
 use Rattle.unix_bytes.specs.declared.bytes.UnixStr.{UnixStr}
@@ -21,9 +21,9 @@ use Rattle.path_runs.proofs.AssociativeLemmas.{sep, is_open-sep, join_of-sep}
 use Rattle.path_runs.proofs.BehindLemmas.{rest-behind, rest-sep, values-sep}
 use Rattle.path_runs.proofs.LeanLemmas.{spelling_of-shortest}
 use Rattle.path_runs.proofs.SiblingLemmas.{parent_of-name, values-join_of_one}
-use Rattle.path_within.specs.Resolved.{keep, kept_of, up_from}
+use Rattle.path_within.specs.Resolved.{keep, up_from}
 use Rattle.path_within.specs.Steps.{AllOne, AreUps, IsKept, IsOne, path_of, Spells}
-use Rattle.path_within.proofs.KeptLemmas.{kept_one, ups_reverse}
+use Rattle.path_within.proofs.KeptLemmas.{ups_reverse}
 use Rattle.path_within.proofs.SpelledLemmas.{root_one, up_one, path_of-spelled, values-path_of}
 
 -- what is kept ends in its last part
@@ -31,7 +31,7 @@ rest-path_of : (ks : List Value) → IsKept ks → AllOne ks → rest (path_of k
 rest-path_of ks h k =
     let s = path_of ks in
     let own : s ≡ spelling_of (values s) =
-        path_of-spelled ks h k ∙ ap spelling_of (sym (values-path_of ks h k)) in
+    path_of-spelled ks h k ∙ ap spelling_of (sym (values-path_of ks h k)) in
     ⊎_elim (λ same. same ∙ sym own)
     (λ longer. absurd (omega (arith, longer, ap length own, length-rest_whole-le s)))
     (spelling_of-shortest s (rest s 0 0) (values-whole s (rest s 0 0) refl))
@@ -43,8 +43,8 @@ rest-name s name e =
     let rootless : is_rooted name ≡ false = sym (root_first-values name) ∙ ap root_first e in
     let is = join_of-sep s name rootless in
     let all : values (u ++ name) ≡ values u ++ Normal name ∷ [] =
-        ap values (sym is) ∙ values-join_of_one s name name e
-        ∙ ap (λ vs. vs ++ Normal name ∷ []) (sym (values-sep s)) in
+    ap values (sym is) ∙ values-join_of_one s name name e
+    ∙ ap (λ vs. vs ++ Normal name ∷ []) (sym (values-sep s)) in
     ap (λ t. rest t 0 1) is ∙ rest-behind u name (Normal name) (is_open-sep s) all ∙ rest-sep s
 
 popped_of-name : (ks : List Value) (name : List ℕ) → IsKept ks → AllOne ks → IsOne (Normal name)

@@ -29,14 +29,14 @@ same_value-self v = tie (value_cmp v v) (value_cmp-total.antisymm v v)
 abbrev pub shared : List Value → List Value → ℕ
 shared v w = common_prefix_len same_value v w
 
-drop-more : (x : Value) (xs : List Value) (n : ℕ) → drop (1 + n) (x ∷ xs) ≡ drop n xs
+pub drop-more : (x : Value) (xs : List Value) (n : ℕ) → drop (1 + n) (x ∷ xs) ≡ drop n xs
 drop-more x xs n = ap (λ k. drop k (x ∷ xs)) (let e : 1 + n ≡ suc n = omega arith in e)
 
-shared-yes : (x y : Value) (xs ys : List Value) → same_value x y ≡ true
+pub shared-yes : (x y : Value) (xs ys : List Value) → same_value x y ≡ true
     → shared (x ∷ xs) (y ∷ ys) ≡ 1 + shared xs ys
 shared-yes x y xs ys e = rw e refl
 
-shared-no : (x y : Value) (xs ys : List Value) → same_value x y ≡ false
+pub shared-no : (x y : Value) (xs ys : List Value) → same_value x y ≡ false
     → shared (x ∷ xs) (y ∷ ys) ≡ 0
 shared-no x y xs ys e = rw e refl
 
@@ -112,14 +112,14 @@ list_any-roots (CurDir ∷ vs) h = list_any-roots vs h
 list_any-roots (ParentDir ∷ vs) h = list_any-roots vs h
 list_any-roots (Normal name ∷ vs) h = list_any-roots vs h
 
-names_all : (vs : List Value) → list_all is_name vs ≡ true → AreNames vs
+pub names_all : (vs : List Value) → list_all is_name vs ≡ true → AreNames vs
 names_all [] e = tt
 names_all (Normal name ∷ vs) e = names_all vs e
 names_all (RootDir ∷ vs) e = absurd (let no : false ≡ true = e in cc)
 names_all (CurDir ∷ vs) e = absurd (let no : false ≡ true = e in cc)
 names_all (ParentDir ∷ vs) e = absurd (let no : false ≡ true = e in cc)
 
-no_roots_any : (vs : List Value) → list_any is_root vs ≡ false → NoRoots vs
+pub no_roots_any : (vs : List Value) → list_any is_root vs ≡ false → NoRoots vs
 no_roots_any [] e = tt
 no_roots_any (RootDir ∷ vs) e = absurd (let no : true ≡ false = e in cc)
 no_roots_any (CurDir ∷ vs) e = no_roots_any vs e

@@ -1,12 +1,11 @@
 -- The parts of a path, kept one after the other.
-use Rattle.std.proofs.Common.{◌≡◌, List, [], ◌∷◌, ℕ, refl, sym, ap, subst, ◌∙◌}
+use Rattle.std.proofs.Common.{◌≡◌, List, [], ◌∷◌, ℕ, refl, sym, ap, ap₂, subst, ◌∙◌}
 use Rattle.unix_path.specs.Joins.{join_of}
 use Rattle.unix_path.specs.Parts.{Value, values}
-use Rattle.path_runs.specs.Spelling.{spelling_of}
-use Rattle.path_within.specs.Resolved.{keep, kept_of, resolved_of, resolved_bytes_of}
+use Rattle.path_within.specs.Resolved.{keep, kept_of, up_from, resolved_of, resolved_bytes_of}
 use Rattle.path_within.specs.Steps.{AllOne, IsOne, Spells}
-use Rattle.path_within.proofs.KeptLemmas.{kept_all}
 use Rattle.path_within.proofs.ResolvedLemmas.{kept_of-join}
+use Rattle.path_within.proofs.SharedLemmas.{ups_of}
 use Rattle.path_within.proofs.SpelledLemmas.{path_of-spelled, values_one}
 
 -- s spells what was kept, and these values of all are left
@@ -41,12 +40,40 @@ keeps_last {ks} {s} {left} {all} h e =
 pub spells_nothing : {s : List ℕ} → s ≡ [] → Spells s []
 spells_nothing e = record { kept = tt; one = tt; is = e }
 
-pub spells_resolved : {t : List ℕ} (s : List ℕ) → Spells t (kept_of [] (values s))
-    → t ≡ resolved_bytes_of s
+pub spells_resolved : {t : List ℕ} {vs : List Value} (s : List ℕ) → vs ≡ values s
+    → Spells t (kept_of [] vs) → t ≡ resolved_bytes_of s
 unfolding resolved_of
-spells_resolved s h = h.is ∙ path_of-spelled (kept_of [] (values s)) h.kept h.one
+spells_resolved {t} {vs} s e h =
+    let all = subst (λ vs. Spells t (kept_of [] vs)) e h in
+    all.is ∙ path_of-spelled (kept_of [] (values s)) all.kept all.one
 
 -- the parts of one path, and then those of another, are those of their join
-pub spells_join : {t : List ℕ} (a b : List ℕ)
-    → Spells t (kept_of (kept_of [] (values a)) (values b)) → t ≡ resolved_bytes_of (join_of a b)
-spells_join {t} a b h = spells_resolved (join_of a b) (subst (Spells t) (sym (kept_of-join a b)) h)
+pub spells_join : {t : List ℕ} {vs ws : List Value} (a b : List ℕ) → vs ≡ values a
+    → ws ≡ values b → Spells t (kept_of (kept_of [] vs) ws) → t ≡ resolved_bytes_of (join_of a b)
+spells_join {t} a b e f h = spells_resolved (join_of a b) refl (subst (Spells t)
+    (ap₂ (λ vs ws. kept_of (kept_of [] vs) ws) e f ∙ sym (kept_of-join a b)) h)
+
+-- s spells what was kept, and as many `..` are left of all
+pub record KeepsUps (ks : List Value) (s : List ℕ) (left all : List Value) : Type 0 where
+  pub so_far : List Value
+  pub spells : Spells s so_far
+  pub onward : kept_of so_far (ups_of left) ≡ kept_of ks (ups_of all)
+
+pub ups_first : {ks left : List Value} {s : List ℕ} (all : List Value) → left ≡ all → Spells s ks
+    → KeepsUps ks s left all
+ups_first {ks} all e h =
+    record { so_far = ks; spells = h; onward = ap (λ vs. kept_of ks (ups_of vs)) e }
+
+pub ups_next : {ks : List Value} {s t : List ℕ} {left all : List Value} (v : Value)
+    (more : List Value) → KeepsUps ks s left all → left ≡ v ∷ more
+    → ((js : List Value) → Spells s js → Spells t (up_from js)) → KeepsUps ks t more all
+ups_next v more h e step = record {
+  so_far = up_from h.so_far;
+  spells = step h.so_far h.spells;
+  onward = sym (ap (λ vs. kept_of h.so_far (ups_of vs)) e) ∙ h.onward;
+}
+
+pub ups_last : {ks : List Value} {s : List ℕ} {left all : List Value}
+    → KeepsUps ks s left all → left ≡ [] → Spells s (kept_of ks (ups_of all))
+ups_last {ks} {s} h e =
+    subst (Spells s) (sym (ap (λ vs. kept_of h.so_far (ups_of vs)) e) ∙ h.onward) h.spells

@@ -3,8 +3,10 @@
 
 pub mod laws;
 pub mod resolved;
+pub mod way;
 pub mod within;
 
 pub use within::WithinError;
+
 #[cfg(test)]
 mod tests;

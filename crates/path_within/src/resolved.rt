@@ -1,16 +1,17 @@
 //! Paths with each `..` taken against the name before it.
 ghost use Rattle.std.specs.Prelude.{◌≡◌, List, IfOk, OnOk};
 ghost use Rattle.unix_path.specs.Buffers.{path_bytes};
-ghost use Rattle.unix_path.specs.Parts.{Value, values};
+ghost use Rattle.unix_path.specs.Cursor.{cursor_values};
+ghost use Rattle.unix_path.specs.Parts.{Value};
 ghost use Rattle.unix_path.specs.Views.{value_of};
 ghost use Rattle.path_within.specs.Resolved.{keep, kept_of, up_from, resolved_bytes_of};
 ghost use Rattle.path_within.specs.Steps.{IsOne, Spells};
 
 use std::alloc::{AllocError, Global};
-use unix_path::{Component, Path, PathBuf};
+use unix_path::{Component, Components, Path, PathBuf};
 
 // Takes `..` against what is kept: a name goes, the root stays, and any other end gets `..`.
-fn keep_up(kept: &mut PathBuf) -> Result<(), AllocError>
+pub(crate) fn keep_up(kept: &mut PathBuf) -> Result<(), AllocError>
     ensures ok { OnOk result ((ks : List Value)
         → Spells (path_bytes kept.old) ks → Spells (path_bytes kept.new) (up_from ks)) }
 {
@@ -37,12 +38,12 @@ fn keep(kept: &mut PathBuf, part: Component<'_>) -> Result<(), AllocError>
     }
 }
 
-// Keeps the parts of a path behind what is kept.
-pub(crate) fn keep_all(kept: &mut PathBuf, path: Path<'_>) -> Result<(), AllocError>
+// Keeps these parts behind what is kept.
+pub(crate) fn keep_all(kept: &mut PathBuf, parts: Components<'_>) -> Result<(), AllocError>
     ensures ok { OnOk result ((ks : List Value) → Spells (path_bytes kept.old) ks
-        → Spells (path_bytes kept.new) (kept_of ks (values path.entry.bytes.now))) }
+        → Spells (path_bytes kept.new) (kept_of ks (cursor_values parts.entry))) }
 {
-    for part in path.components() {
+    for part in parts {
         keep(kept, part)?;
     }
     Ok(())
@@ -61,6 +62,6 @@ pub fn resolved(alloc: Global, path: Path<'_>) -> Result<PathBuf, AllocError>
     ensures { IfOk result (λ p. path_bytes p ≡ resolved_bytes_of path.entry.bytes.now) }
 {
     let mut kept = PathBuf::with_capacity(alloc, path.as_unix_str().len())?;
-    keep_all(&mut kept, path)?;
+    keep_all(&mut kept, path.components())?;
     Ok(kept)
 }

@@ -98,11 +98,7 @@ pub fn climbs(path: Path<'_>) -> bool
 /// byte more than both paths have; fails if the allocation fails. Not in Rust's std.
 ///
 /// `/srv/www` with `a/../b` is `/srv/www/b`, and with `a/../../x` it is refused.
-pub fn join_within(
-    alloc: Global,
-    root: Path<'_>,
-    request: Path<'_>,
-) -> Result<PathBuf, WithinError>
+pub fn join_within(alloc: Global, root: Path<'_>, request: Path<'_>) -> Result<PathBuf, WithinError>
     ensures escapes { IsErrOf result WithinError.Escapes
         ↔ Climbs (values request.entry.bytes.now) }
     ensures bytes { IfOk result (λ p. path_bytes p
@@ -113,8 +109,8 @@ pub fn join_within(
     }
     let len = root.as_unix_str().len() + 1 + request.as_unix_str().len();
     let mut kept = PathBuf::with_capacity(alloc, len)?;
-    keep_all(&mut kept, root)?;
-    keep_all(&mut kept, request)?;
+    keep_all(&mut kept, root.components())?;
+    keep_all(&mut kept, request.components())?;
     Ok(kept)
 }
 
@@ -143,11 +139,7 @@ fn has_root_or_up(path: Path<'_>) -> bool
 /// bytes as the join has, or not at all for an empty join. Not in Rust's std.
 ///
 /// `/srv/../www` with `./a` is `/srv/../www/./a`, and with `a/../b` it is refused.
-pub fn join_plain(
-    alloc: Global,
-    root: Path<'_>,
-    request: Path<'_>,
-) -> Result<PathBuf, WithinError>
+pub fn join_plain(alloc: Global, root: Path<'_>, request: Path<'_>) -> Result<PathBuf, WithinError>
     ensures escapes { IsErrOf result WithinError.Escapes
         ↔ (has_root_or_up (values request.entry.bytes.now) ≡ true) }
     ensures bytes { IfOk result (λ p. path_bytes p

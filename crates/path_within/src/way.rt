@@ -1,0 +1,131 @@
+//! The way from one path to another.
+ghost use Rattle.std.specs.Prelude.{◌≡◌, ◌&&◌, not, List, IfOk, OnOk, drop, map, option_map};
+ghost use Rattle.std.specs.List.{common_prefix_len, list_all, list_any};
+ghost use Rattle.unix_path.specs.Buffers.{path_bytes};
+ghost use Rattle.unix_path.specs.Cursor.{cursor_values};
+ghost use Rattle.unix_path.specs.Parts.{Value, ParentDir, values};
+ghost use Rattle.unix_path.specs.Views.{value_of};
+ghost use Rattle.path_runs.specs.Spelling.{spelling_of};
+ghost use Rattle.path_within.specs.Resolved.{is_name, is_root, kept_of, same_value, way_of};
+ghost use Rattle.path_within.specs.Steps.{Spells};
+
+use crate::resolved::{keep_all, keep_up, resolved};
+use std::alloc::{AllocError, Global};
+use unix_path::{Component, Components, Path, PathBuf};
+
+// Whether the two parts are equal.
+#[inline]
+fn is_same(first: Component<'_>, second: Component<'_>) -> bool
+    ensures { result ≡ same_value (value_of first.entry) (value_of second.entry) }
+{
+    first.cmp(&second).is_eq()
+}
+
+// What is left of two walks behind the parts that both begin with.
+fn skip_shared<'a, 'b>(from: Components<'a>, to: Components<'b>) -> (Components<'a>, Components<'b>)
+    ensures first { let n = common_prefix_len same_value
+        (cursor_values from.entry) (cursor_values to.entry) in
+        cursor_values result.0 ≡ drop n (cursor_values from.entry) }
+    ensures second { let n = common_prefix_len same_value
+        (cursor_values from.entry) (cursor_values to.entry) in
+        cursor_values result.1 ≡ drop n (cursor_values to.entry) }
+{
+    let mut left = from;
+    let mut onward = to;
+    loop {
+        let mut left_next = left;
+        let mut onward_next = onward;
+        let Some(first) = left_next.next() else {
+            return (left, onward);
+        };
+        let Some(second) = onward_next.next() else {
+            return (left, onward);
+        };
+        if !is_same(first, second) {
+            return (left, onward);
+        }
+        left = left_next;
+        onward = onward_next;
+    }
+}
+
+// Whether the part is a name.
+#[inline]
+fn is_name(part: Component<'_>) -> bool
+    ensures { result ≡ is_name (value_of part.entry) }
+{
+    matches!(part, Component::Normal(_))
+}
+
+// Whether the part is the root.
+#[inline]
+fn is_root(part: Component<'_>) -> bool
+    ensures { result ≡ is_root (value_of part.entry) }
+{
+    matches!(part, Component::RootDir)
+}
+
+// Whether all these parts are names.
+#[inline]
+fn are_names(parts: Components<'_>) -> bool
+    ensures { result ≡ list_all is_name (cursor_values parts.entry) }
+{
+    let mut parts = parts;
+    parts.all(is_name)
+}
+
+// Whether the root is among these parts.
+#[inline]
+fn has_root(parts: Components<'_>) -> bool
+    ensures { result ≡ list_any is_root (cursor_values parts.entry) }
+{
+    let mut parts = parts;
+    parts.any(is_root)
+}
+
+// Whether a way leads from what is left of the first path to what is left of the other.
+#[inline]
+fn leads(left: Components<'_>, onward: Components<'_>) -> bool
+    ensures { result ≡ (list_all is_name (cursor_values left.entry)
+        && not (list_any is_root (cursor_values onward.entry))) }
+{
+    are_names(left) && !has_root(onward)
+}
+
+// Keeps `..` once for each of these parts behind what is kept.
+fn keep_ups(kept: &mut PathBuf, parts: Components<'_>) -> Result<(), AllocError>
+    ensures ok { OnOk result ((ks : List Value) → Spells (path_bytes kept.old) ks
+        → Spells (path_bytes kept.new)
+        (kept_of ks (map (λ v. ParentDir) (cursor_values parts.entry)))) }
+{
+    for _part in parts {
+        keep_up(kept)?;
+    }
+    Ok(())
+}
+
+/// The way by names from one path to another: `..` for each name of the first that the other
+/// doesn't share, and then what is left of the other, both resolved.
+///
+/// None exactly where one has a root and the other has none, or where what is left of the first
+/// holds a `..`: then no path without a root leads there. For equal paths it is the empty path. It
+/// goes by names alone: where a part may be a link, only the system knows where `..` leads.
+/// Allocates both paths resolved, and the way as it grows; fails if an allocation fails. Not in
+/// Rust's std; as Python's `PurePath.relative_to` with `walk_up`, which doesn't resolve.
+///
+/// From `/a/b/c` to `/a/d` it is `../../d`; from `../x` to `y` there is none.
+pub fn way(alloc: Global, from: Path<'_>, to: Path<'_>) -> Result<Option<PathBuf>, AllocError>
+    ensures { IfOk result (λ found. option_map path_bytes found
+        ≡ option_map spelling_of (way_of (values from.entry.bytes.now) (values to.entry.bytes.now))) }
+{
+    let from = resolved(alloc, from)?;
+    let to = resolved(alloc, to)?;
+    let (left, onward) = skip_shared(from.as_path().components(), to.as_path().components());
+    if !leads(left, onward) {
+        return Ok(None);
+    }
+    let mut kept = PathBuf::new(alloc);
+    keep_ups(&mut kept, left)?;
+    keep_all(&mut kept, onward)?;
+    Ok(Some(kept))
+}
