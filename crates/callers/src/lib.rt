@@ -1,9 +1,10 @@
-//! Small users of paths: a safe join, a mapper of URLs, a manifest, a tree of files and an index.
+//! Small users of paths: a safe join, two mappers of URLs, a manifest, a tree of files and an index.
 #![tactic(auto)]
 
 pub mod index;
 pub mod manifest;
 pub mod safe;
+pub mod site;
 #[cfg(test)]
 mod tests;
 pub mod tree;

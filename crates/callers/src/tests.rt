@@ -2,8 +2,10 @@
 use crate::index::{place_of, value_at};
 use crate::manifest::normalise;
 use crate::safe::{safe_join, stays_below};
+use crate::site::file_of;
 use crate::tree::Tree;
 use crate::url::map_url;
+use path_within::WithinError;
 use std::alloc::{AllocError, Global};
 use std::collections::BTreeMap;
 use std::test::Fail;
@@ -31,6 +33,18 @@ static URLS: [(&'static str, Option<&'static str>); 5] = [
     ("/static/../a", None),
 ];
 
+// A URL's path, and its file with the prefix `/static` and the root `/srv/./www`, with `..` taken
+// against the name before it; `refused` where it would leave the root.
+static FILES: [(&'static str, Option<&'static str>); 7] = [
+    ("/static/css/../a.css", Some("/srv/www/a.css")),
+    ("/static//x/./y/", Some("/srv/www/x/y")),
+    ("/static", Some("/srv/www")),
+    ("/static/..foo", Some("/srv/www/..foo")),
+    ("/staticx/a", None),
+    ("/static/../a", Some("refused")),
+    ("/static/a/../../www/a", Some("refused")),
+];
+
 // Whether the path that was found has the bytes that are wanted.
 fn is(found: Option<PathBuf>, want: Option<&str>) -> bool {
     match (found, want) {
@@ -50,6 +64,26 @@ fn requests_stay_below(rt: HostRuntime) -> Result<(), Fail> {
             want.is_some(),
             "{request}"
         );
+    }
+    Ok(())
+}
+
+// Whether the file that a URL's path names is the one that is wanted.
+fn names(found: Result<Option<PathBuf>, WithinError>, want: Option<&str>) -> bool {
+    match found {
+        Ok(found) => is(found, want),
+        Err(WithinError::Escapes) => want == Some("refused"),
+        Err(WithinError::Memory(_)) => false,
+    }
+}
+
+#[test]
+fn urls_name_files(rt: HostRuntime) -> Result<(), Fail> {
+    let prefix = Path::from_text("/static");
+    let root = Path::from_text("/srv/./www");
+    for (url, want) in FILES {
+        let found = file_of(rt.alloc(), prefix, root, Path::from_text(url));
+        assert!(rt; names(found, want), "{url}");
     }
     Ok(())
 }

@@ -4,10 +4,12 @@ ghost use Rattle.std.specs.Fmt.{padded};
 ghost use Rattle.unix_path.specs.Buffers.{path_bytes};
 ghost use Rattle.unix_path.specs.Joins.{join_of};
 ghost use Rattle.unix_path.specs.Parts.{values};
+ghost use Rattle.unix_path.specs.Prefixes.{Begins};
 ghost use Rattle.unix_path.specs.Views.{value_of};
 ghost use Rattle.path_within.specs.Resolved.{Climbs, has_root_or_up, is_root_or_up};
 ghost use Rattle.path_within.specs.Resolved.{resolved_bytes_of};
 
+use crate::laws;
 use crate::resolved::keep_all;
 use std::alloc::{AllocError, Global};
 use std::error::Error;
@@ -103,6 +105,8 @@ pub fn join_within(alloc: Global, root: Path<'_>, request: Path<'_>) -> Result<P
         ↔ Climbs (values request.entry.bytes.now) }
     ensures bytes { IfOk result (λ p. path_bytes p
         ≡ resolved_bytes_of (join_of root.entry.bytes.now request.entry.bytes.now)) }
+    ensures within { IfOk result (λ p. Begins (values (resolved_bytes_of root.entry.bytes.now))
+        (values (path_bytes p))) }
 {
     if climbs(request) {
         return Err(WithinError::Escapes);
@@ -144,9 +148,12 @@ pub fn join_plain(alloc: Global, root: Path<'_>, request: Path<'_>) -> Result<Pa
         ↔ (has_root_or_up (values request.entry.bytes.now) ≡ true) }
     ensures bytes { IfOk result (λ p. path_bytes p
         ≡ join_of root.entry.bytes.now request.entry.bytes.now) }
+    ensures within { IfOk result (λ p. Begins (values root.entry.bytes.now)
+        (values (path_bytes p))) }
 {
     if has_root_or_up(request) {
         return Err(WithinError::Escapes);
     }
+    laws::plain_stays_within();
     Ok(root.join(alloc, request)?)
 }

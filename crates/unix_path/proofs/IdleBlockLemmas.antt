@@ -22,8 +22,9 @@ idle_block s at l none k from to =
     get_or-chunk (at + 1) 16 s i 0 (omega arith)
     ∙ ap (λ j. get_or s j 0) {x = at + 1 + i} {y = k + 1} (omega arith)
     ∙ get_or_default s (k + 1) 0 47 (omega arith) in
-    let passes = none_stops (chunk at 16 s) (chunk (at + 1) 16 s) (length-chunk at 16 s (omega arith))
-    (length-chunk (at + 1) 16 s (omega arith)) none i (omega arith) in
+    let passes = none_stops (chunk at 16 s) (chunk (at + 1) 16 s)
+    (length-chunk at 16 s (omega arith)) (length-chunk (at + 1) 16 s (omega arith)) none i
+    (omega arith) in
     ap₂ (λ x y. eqb x 47 || (eqb x 46 && eqb y 47)) (sym here) (sym next) ∙ passes
 
 -- so many bytes that don't count may be skipped
