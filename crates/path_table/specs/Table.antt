@@ -1,5 +1,5 @@
 -- Tables of files by path, as rows of values. Not in Rust's std.
-use Rattle.std.specs.Prelude.{◌≡◌, Bool, List, Option, drop, length, map, take}
+use Rattle.std.specs.Prelude.{◌≡◌, ℕ, Bool, List, Option, drop, length, map, take}
 use Rattle.std.specs.Borrow.{Bor}
 use Rattle.std.specs.BTreeMap.{is_at}
 use Rattle.std.specs.List.{AllPass, filter}
@@ -16,6 +16,10 @@ use Rattle.path_table.specs.declared.table.PathTable.{PathTable}
 -- the values of each path of the table, in path order, with what the table has at that path
 abbrev pub table_of : {V : Type 0} → PathTable V → List (List Value × V)
 table_of table = rows_of path_bytes table.files.entries
+
+-- the bytes of each path of the table as it was inserted, in path order
+abbrev pub key_bytes : {V : Type 0} → PathTable V → List (List ℕ)
+key_bytes table = map path_bytes (keys_of table.files.entries)
 
 -- what the rows have at these values
 abbrev pub value_at : {V : Type 0} → List Value → List (List Value × V) → Option V

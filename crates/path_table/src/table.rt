@@ -1,5 +1,5 @@
 //! A table of files: values by path, over the standard library's ordered map.
-ghost use Rattle.std.specs.Prelude.{◌≡◌, ◌↔◌, ◌<◌, ◌^◌, [], length, is_some};
+ghost use Rattle.std.specs.Prelude.{◌≡◌, ◌↔◌, ◌<◌, ◌^◌, [], length, is_some, map};
 ghost use Rattle.std.specs.Prelude.{IfOk, OnOk, OnErr, IsOk, IsSome, IsTrue};
 ghost use Rattle.std.specs.Borrow.{sem};
 ghost use Rattle.std.specs.BTreeMap.{insert_entry, is_at};
@@ -12,7 +12,7 @@ ghost use Rattle.unix_path.specs.Order.{values_cmp};
 ghost use Rattle.unix_path.specs.Parts.{values};
 ghost use Rattle.unix_path.specs.declared.buf.PathBuf.{PathBuf};
 ghost use Rattle.path_runs.specs.TableLaws.{rows_of};
-ghost use Rattle.path_table.specs.Table.{SameElsewhere, table_of, value_at};
+ghost use Rattle.path_table.specs.Table.{SameElsewhere, key_bytes, table_of, value_at};
 
 mod under;
 
@@ -66,7 +66,10 @@ impl<V> PathTable<V> {
             (value_at (values (path_bytes path)) (table_of self.new) ≡ Some value) }
         ensures others { OnOk result
             (SameElsewhere (values (path_bytes path)) (table_of self.old) (table_of self.new)) }
+        ensures key_stays { IfOk result (λ old.
+            IsSome old → key_bytes self.new ≡ key_bytes self.old) }
         ensures err { OnErr result (table_of self.new ≡ table_of self.old) }
+        ensures err_keys { OnErr result (key_bytes self.new ≡ key_bytes self.old) }
         ensures succeeds { IsSome (value_at (values (path_bytes path)) (table_of self.old))
             → IsOk result }
     {
@@ -156,6 +159,7 @@ impl<V> PathTable<V> {
     /// With 1 at `a.b` and 2 at `a//b` it gives `a//b` with 2, and then `a.b` with 1.
     pub fn iter(&self) -> Iter<'_, PathBuf, V>
         ensures rows { rows_of path_bytes result ≡ table_of self.now }
+        ensures keys { map path_bytes (keys_of result) ≡ key_bytes self.now }
         ensures ordered { IsStrictlySortedBy values_cmp (keys_of (table_of self.now)) }
         ensures runs { ShowsInOrder (deref_pair {K = PathBuf} {X = V}) }
         ensures runs_back { ShowsInReverse (deref_pair {K = PathBuf} {X = V}) }
