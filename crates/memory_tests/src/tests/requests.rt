@@ -5,6 +5,7 @@ mod edits;
 mod kept;
 mod runs;
 mod strings;
+mod tables;
 
 use std::alloc::{AllocError, Global};
 use std::test::Fail;

@@ -1,6 +1,7 @@
 // Calls that promise to succeed without memory, while every request is refused.
 mod kept;
 mod owned;
+mod tables;
 mod texts;
 mod views;
 

@@ -1,0 +1,102 @@
+use super::{holds, path, roomy, told};
+use path_table::PathTable;
+use std::alloc::{AllocError, Global};
+use std::test::Fail;
+use unix_path::{Path, PathBuf};
+
+// As many paths as fit one node of the table.
+const TEXTS: [&str; 11] = [
+    "/", "a/b", "a/b/c", "a/b//d/.", "a.b", "b", "c", "d", "e", "f", "g",
+];
+
+// A table of the first paths, with the place of each among them.
+fn filled(alloc: Global, count: usize) -> Result<PathTable<usize>, AllocError> {
+    let mut table = PathTable::new(alloc);
+    for place in 0..count.min(TEXTS.len()) {
+        table.insert(PathBuf::from_text(alloc, TEXTS[place])?, place)?;
+    }
+    Ok(table)
+}
+
+// Whether the table has each of the paths. The key has room for them.
+fn has_each(table: &PathTable<usize>, mut key: PathBuf) -> Result<bool, AllocError> {
+    for place in 0..TEXTS.len() {
+        key.clear();
+        key.push(path(TEXTS[place]))?;
+        if table.get(&key) != Some(&place) {
+            return Ok(false);
+        }
+    }
+    Ok(true)
+}
+
+fn has_at(found: &[(Path<'_>, &usize)], place: usize, rest: &str, value: usize) -> bool {
+    match found.get(place) {
+        Some(entry) => entry.0 == path(rest) && *entry.1 == value,
+        None => false,
+    }
+}
+
+// What stands under `a/b`.
+fn are_under(found: &[(Path<'_>, &usize)]) -> bool {
+    found.len() == 3
+        && has_at(found, 0, "", 1)
+        && has_at(found, 1, "c", 2)
+        && has_at(found, 2, "d", 3)
+}
+
+#[test]
+fn first_path_inserted(rt: HostRuntime) -> Result<(), Fail> {
+    let alloc = rt.alloc();
+    let mut table = PathTable::new(alloc);
+    let key = PathBuf::from_text(alloc, "a//b")?;
+    match table.insert(PathBuf::from_text(alloc, "a/b")?, 7usize) {
+        Ok(before) => told(true, before.is_none() && table.get(&key) == Some(&7)),
+        Err(AllocError) => {
+            let is_empty = table.get(&key).is_none() && table.len() == 0;
+            told(false, is_empty && table.under(alloc, &key)?.is_empty())
+        }
+    }
+}
+
+#[test]
+fn path_inserted(rt: HostRuntime) -> Result<(), Fail> {
+    let alloc = rt.alloc();
+    let mut table = filled(alloc, TEXTS.len())?;
+    let key = roomy(alloc, "a/c")?;
+    match table.insert(PathBuf::from_text(alloc, "a/c")?, 7) {
+        Ok(before) => {
+            let is_in = before.is_none() && table.get(&key) == Some(&7);
+            told(true, is_in && table.len() == 12 && has_each(&table, key)?)
+        }
+        Err(AllocError) => {
+            let is_without = table.get(&key).is_none() && table.len() == TEXTS.len();
+            let base = PathBuf::from_text(alloc, "a/b")?;
+            let is_under = are_under(table.under(alloc, &base)?.as_slice());
+            told(false, is_without && is_under && has_each(&table, key)?)
+        }
+    }
+}
+
+// The value takes the place of the one that an equal path has.
+#[test]
+fn equal_path_inserted(rt: HostRuntime) -> Result<(), Fail> {
+    let alloc = rt.alloc();
+    let mut table = filled(alloc, 2)?;
+    let key = PathBuf::from_text(alloc, "a/b")?;
+    match table.insert(PathBuf::from_text(alloc, "a//b/.")?, 7) {
+        Ok(before) => told(true, before == Some(1) && table.get(&key) == Some(&7)),
+        Err(AllocError) => told(false, table.get(&key) == Some(&1)),
+    }
+}
+
+#[test]
+fn paths_under_a_base(rt: HostRuntime) -> Result<(), Fail> {
+    let alloc = rt.alloc();
+    let table = filled(alloc, 4)?;
+    let base = PathBuf::from_text(alloc, "a/b/")?;
+    match table.under(alloc, &base) {
+        Ok(found) => told(true, are_under(found.as_slice())),
+        Err(AllocError) => told(false, table.len() == 4 && holds(&base, "a/b/")),
+    }
+}
