@@ -115,8 +115,8 @@ fn keep_ups(kept: &mut PathBuf, parts: Components<'_>) -> Result<(), AllocError>
 ///
 /// From `/a/b/c` to `/a/d` it is `../../d`; from `../x` to `y` there is none.
 pub fn way(alloc: Global, from: Path<'_>, to: Path<'_>) -> Result<Option<PathBuf>, AllocError>
-    ensures { IfOk result (λ found. option_map path_bytes found
-        ≡ option_map spelling_of (way_of (values from.entry.bytes.now) (values to.entry.bytes.now))) }
+    ensures { let steps = way_of (values from.entry.bytes.now) (values to.entry.bytes.now) in
+        IfOk result (λ found. option_map path_bytes found ≡ option_map spelling_of steps) }
 {
     let from = resolved(alloc, from)?;
     let to = resolved(alloc, to)?;

@@ -8,5 +8,6 @@ abbrev pub invariant-loop-part : goal.invariant-loop-part
 invariant-loop-part l =
     (goal.iterator-loop-part).can_next l.part-iterator
     × (goal.iterator-loop-part).is_finite l.part-iterator
-    × (above_from l.depth (cursor_values l.part-iterator) ≡ above_from 0 (values l.fn.path.bytes.now))
+    × (above_from l.depth (cursor_values l.part-iterator)
+    ≡ above_from 0 (values l.fn.path.bytes.now))
     × (l.depth + length (cursor_values l.part-iterator) < 2 ^ 64)

@@ -1,0 +1,83 @@
+//! A plain reading of paths, for tests alone: it cuts at every slash and keeps a list of pieces.
+use std::alloc::{AllocError, Global};
+
+// Whether the path begins with a slash.
+pub(super) fn is_rooted(path: &[u8]) -> bool {
+    path.first() == Some(&b'/')
+}
+
+// Whether the piece is `..`.
+pub(super) fn is_up(piece: &[u8]) -> bool {
+    piece == b"..".as_slice()
+}
+
+// Whether the piece is empty or `.`.
+fn is_idle(piece: &[u8]) -> bool {
+    piece.is_empty() || piece == b".".as_slice()
+}
+
+// The pieces that are left of a path, but for its root, where each `..` takes a name away.
+pub(super) fn pieces_left<'a>(alloc: Global, path: &'a [u8]) -> Result<Vec<&'a [u8]>, AllocError> {
+    let mut pieces: Vec<&'a [u8]> = Vec::new(alloc);
+    for piece in path.split(|byte| *byte == b'/') {
+        let has_name = match pieces.last() {
+            Some(last) => !is_up(last),
+            None => false,
+        };
+        if is_idle(piece) || is_up(piece) && !has_name && is_rooted(path) {
+            continue;
+        }
+        if is_up(piece) && has_name {
+            pieces.pop();
+        } else {
+            pieces.push(piece)?;
+        }
+    }
+    Ok(pieces)
+}
+
+// The root, if there is one, and then the pieces with a slash between neighbours.
+pub(super) fn spelled(
+    alloc: Global,
+    rooted: bool,
+    pieces: &[&[u8]],
+) -> Result<Vec<u8>, AllocError> {
+    let mut bytes = Vec::new(alloc);
+    if rooted {
+        bytes.push(b'/')?;
+    }
+    for (at, piece) in pieces.iter().enumerate() {
+        if at > 0 {
+            bytes.push(b'/')?;
+        }
+        bytes.extend_from_slice(piece)?;
+    }
+    Ok(bytes)
+}
+
+// The path resolved.
+pub(super) fn resolved_of(alloc: Global, path: &[u8]) -> Result<Vec<u8>, AllocError> {
+    let pieces = pieces_left(alloc, path)?;
+    spelled(alloc, is_rooted(path), pieces.as_slice())
+}
+
+// Whether the path has a root, or some first pieces have more `..` than names.
+pub(super) fn climbs(path: &[u8]) -> bool {
+    let mut names = 0_usize;
+    let mut ups = 0_usize;
+    let mut is_above = is_rooted(path);
+    for piece in path.split(|byte| *byte == b'/') {
+        if is_up(piece) {
+            ups = ups.saturating_add(1);
+        } else if !is_idle(piece) {
+            names = names.saturating_add(1);
+        }
+        is_above = is_above || ups > names;
+    }
+    is_above
+}
+
+// Whether the path has a root or a `..`.
+pub(super) fn has_root_or_up(path: &[u8]) -> bool {
+    is_rooted(path) || path.split(|byte| *byte == b'/').any(is_up)
+}
