@@ -6,6 +6,7 @@ mod kept;
 mod runs;
 mod strings;
 mod tables;
+mod within;
 
 use std::alloc::{AllocError, Global};
 use std::test::Fail;
