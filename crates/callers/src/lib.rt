@@ -1,4 +1,4 @@
-//! Small users of paths: a safe join, two mappers of URLs, a manifest, a tree of files and an index.
+//! Small users of paths: joins, mappers of URLs, a manifest, a tree of files and an index.
 #![tactic(auto)]
 
 pub mod index;
