@@ -5,8 +5,9 @@ use std::test::Fail;
 use unix_path::{Path, PathBuf};
 
 // As many paths as fit one node of the table.
-const TEXTS: [&str; 11] = [
-    "/", "a/b", "a/b/c", "a/b//d/.", "a.b", "b", "c", "d", "e", "f", "g",
+const TEXTS: [&str; 15] = [
+    "/", "a/b", "a/b/c", "a/b//d/.", "a/b/e", "a/b/f", "a/b/g", "a.b", "b", "c", "d", "e", "f",
+    "g", "h",
 ];
 
 // A table of the first paths, with the place of each among them.
@@ -39,10 +40,10 @@ fn has_at(found: &[(Path<'_>, &usize)], place: usize, rest: &str, value: usize) 
 
 // What stands under `a/b`.
 fn are_under(found: &[(Path<'_>, &usize)]) -> bool {
-    found.len() == 3
+    found.len() == 6
         && has_at(found, 0, "", 1)
-        && has_at(found, 1, "c", 2)
         && has_at(found, 2, "d", 3)
+        && has_at(found, 5, "g", 6)
 }
 
 #[test]
@@ -67,7 +68,7 @@ fn path_inserted(rt: HostRuntime) -> Result<(), Fail> {
     match table.insert(PathBuf::from_text(alloc, "a/c")?, 7) {
         Ok(before) => {
             let is_in = before.is_none() && table.get(&key) == Some(&7);
-            told(true, is_in && table.len() == 12 && has_each(&table, key)?)
+            told(true, is_in && table.len() == 16 && has_each(&table, key)?)
         }
         Err(AllocError) => {
             let is_without = table.get(&key).is_none() && table.len() == TEXTS.len();
@@ -93,10 +94,10 @@ fn equal_path_inserted(rt: HostRuntime) -> Result<(), Fail> {
 #[test]
 fn paths_under_a_base(rt: HostRuntime) -> Result<(), Fail> {
     let alloc = rt.alloc();
-    let table = filled(alloc, 4)?;
+    let table = filled(alloc, 7)?;
     let base = PathBuf::from_text(alloc, "a/b/")?;
     match table.under(alloc, &base) {
         Ok(found) => told(true, are_under(found.as_slice())),
-        Err(AllocError) => told(false, table.len() == 4 && holds(&base, "a/b/")),
+        Err(AllocError) => told(false, table.len() == 7 && holds(&base, "a/b/")),
     }
 }
