@@ -10,7 +10,7 @@ use Rattle.unix_path.specs.Order.{values_cmp}
 use Rattle.unix_path.specs.Parts.{Value, values}
 use Rattle.unix_path.specs.declared.path.Path.{Path}
 use Rattle.path_runs.specs.Spelling.{spelling_of}
-use Rattle.path_table.specs.Table.{answer_rows, entries_under}
+use Rattle.path_table.specs.Table.{answer_row, entries_under}
 use Rattle.pathtool.specs.Fields.{tabs}
 use Rattle.pathtool.specs.Tables.{entries_with, under_answer}
 use Rattle.pathtool.specs.Texts.{spelled, tab}
@@ -73,11 +73,10 @@ said_more text xs n d old said new is_first l first so_far is =
 pub under_answer-found : (base : List ℕ) (paths : List (List ℕ))
     (found : List (Path × Bor (Unit {0}))) (key : List ℕ) (table : List (List Value × Unit {0}))
     → key ≡ base → table ≡ entries_with [] paths
-    → answer_rows found ≡ entries_under (values key) table
+    → map answer_row found ≡ entries_under (values key) table
     → tabs (map spelled found) ≡ under_answer base paths
 under_answer-found base paths found key table same holds is =
     let spell = λ (row : List Value × Unit {0}). spelling_of row.0 in
-    ap tabs (sym (map-map spell (λ (answer : Path × Bor (Unit {0})).
-    (values answer.0.bytes.now, answer.1.now)) found)
+    ap tabs (sym (map-map spell answer_row found)
     ∙ ap (map spell)
     (is ∙ ap₂ (λ key table. entries_under (values key) table) same holds))
