@@ -1,6 +1,6 @@
 -- Sixteen bytes at once that are slashes, or dots after slashes.
 use Rattle.std.proofs.Common.{◌≡◌, ℕ, zero, suc, ◌+◌, ◌-◌, ◌%◌, ◌^◌, ◌<◌, ◌≤◌, true, false}
-use Rattle.std.proofs.Common.{cond, not, eqb, ◌&&◌, ◌||◌, List, length, take, drop, map}
+use Rattle.std.proofs.Common.{cond, not, eqb, ◌&&◌, ◌||◌, List, length, take, map}
 use Rattle.std.proofs.Common.{get_or, replicate, bit_and, bit_or, refl, sym, ap, ap₂, ◌∙◌, arith}
 use Rattle.std.proofs.Common.{lt-ltb}
 use Rattle.std.specs.List.{prefix_len}
