@@ -7,11 +7,11 @@ use Rattle.std.specs.declared.cmp.Ordering.{Ordering}
 use Rattle.std.specs.declared.cmp.Ordering.TheVariants.{Less, Equal, Greater}
 use Rattle.std.specs.List.{common_prefix_len, list_all, list_any}
 use Rattle.std.specs.Ordering.{is_eq, ordering_reverse}
-use Rattle.unix_path.specs.Order.{value_cmp}
+use Rattle.unix_path.specs.Order.{same_value, value_cmp}
 use Rattle.unix_path.specs.OrderLaws.{value_cmp-equal, value_cmp-total}
 use Rattle.unix_path.specs.Parts.{Value, RootDir, CurDir, ParentDir, Normal}
 use Rattle.unix_path.proofs.CaseLemmas.{by_test}
-use Rattle.path_within.specs.Resolved.{AreNames, is_name, is_root, same_value, steps_between}
+use Rattle.path_within.specs.Resolved.{AreNames, is_name, is_root, steps_between}
 use Rattle.path_within.proofs.ClimbLemmas.{NoRoots}
 
 pub same_value-equal : (v w : Value) → same_value v w ≡ true → v ≡ w

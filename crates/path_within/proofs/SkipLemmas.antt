@@ -2,7 +2,7 @@
 use Rattle.std.proofs.Common.{◌≡◌, true, false, List, [], ◌∷◌, drop, refl, sym, ap, ap₂, subst}
 use Rattle.std.proofs.Common.{◌∙◌}
 use Rattle.unix_path.specs.Parts.{Value}
-use Rattle.path_within.specs.Resolved.{same_value}
+use Rattle.unix_path.specs.Order.{same_value}
 use Rattle.path_within.proofs.SharedLemmas.{drop-more, shared, shared-no, shared-yes}
 
 -- what these two leave is what all of both leave

@@ -4,9 +4,8 @@ use Rattle.std.specs.Prelude.{◌⊎◌, ◌<◌, ℕ, Bool, true, false, not, �
 use Rattle.std.specs.Prelude.{List, [], ◌∷◌, ◌++◌, count_by, drop, map, reverse, take}
 use Rattle.std.specs.Prelude.{Option, Some, None, is_some, ⊤}
 use Rattle.std.specs.List.{common_prefix_len, list_all, list_any}
-use Rattle.std.specs.Ordering.{is_eq}
 use Rattle.unix_path.specs.Names.{name_of}
-use Rattle.unix_path.specs.Order.{value_cmp}
+use Rattle.unix_path.specs.Order.{same_value}
 use Rattle.unix_path.specs.Parts.{Value, RootDir, CurDir, ParentDir, Normal, values}
 use Rattle.unix_path.specs.Prefixes.{Begins}
 use Rattle.path_runs.specs.Spelling.{spelling_of}
@@ -85,10 +84,6 @@ is_root_or_up _ = false
 -- the root or a `..` is among the values
 abbrev pub has_root_or_up : List Value → Bool
 has_root_or_up vs = list_any is_root_or_up vs
-
--- the same value
-abbrev pub same_value : Value → Value → Bool
-same_value v w = is_eq (value_cmp v w)
 
 -- from the directory v to the path w, which have no first value in common: `..` for each name of
 -- v, and then w; none where v holds more than names, or w the root

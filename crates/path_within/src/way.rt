@@ -3,10 +3,11 @@ ghost use Rattle.std.specs.Prelude.{◌≡◌, ◌&&◌, not, List, IfOk, OnOk, 
 ghost use Rattle.std.specs.List.{common_prefix_len, list_all, list_any};
 ghost use Rattle.unix_path.specs.Buffers.{path_bytes};
 ghost use Rattle.unix_path.specs.Cursor.{cursor_values};
+ghost use Rattle.unix_path.specs.Order.{same_value};
 ghost use Rattle.unix_path.specs.Parts.{Value, ParentDir, values};
 ghost use Rattle.unix_path.specs.Views.{value_of};
 ghost use Rattle.path_runs.specs.Spelling.{spelling_of};
-ghost use Rattle.path_within.specs.Resolved.{is_name, is_root, kept_of, same_value, way_of};
+ghost use Rattle.path_within.specs.Resolved.{is_name, is_root, kept_of, way_of};
 ghost use Rattle.path_within.specs.Steps.{Spells};
 
 use crate::resolved::{keep_all, keep_up, resolved};

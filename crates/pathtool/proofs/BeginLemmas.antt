@@ -7,10 +7,10 @@ use Rattle.std.proofs.lemmas.Slice.Eq.{starts_is, ends_is}
 use Rattle.unix_path.proofs.CaseLemmas.{by_test}
 use Rattle.unix_path.specs.Parts.{Value, values}
 use Rattle.unix_path.specs.Prefixes.{Begins, Ends, stripped_of}
-use Rattle.unix_path.specs.Order.{value_cmp, values_cmp}
+use Rattle.unix_path.specs.Order.{same_value, value_cmp, values_cmp}
 use Rattle.unix_path.specs.OrderLaws.{is_eq-values_cmp}
 use Rattle.unix_path.proofs.TieLemmas.{values_cmp-same}
-use Rattle.pathtool.specs.Answers.{optional, same, strip_answer}
+use Rattle.pathtool.specs.Answers.{optional, strip_answer}
 
 is_eq-then_equal : (o : Ordering) → is_eq (ordering_then o Equal) ≡ is_eq o
 is_eq-then_equal Less = refl
@@ -18,24 +18,24 @@ is_eq-then_equal Equal = refl
 is_eq-then_equal Greater = refl
 
 -- the order of two lists of one value is that of the values
-is_eq-values_cmp-one : (v w : Value) → is_eq (values_cmp (v ∷ []) (w ∷ [])) ≡ same v w
+is_eq-values_cmp-one : (v w : Value) → is_eq (values_cmp (v ∷ []) (w ∷ [])) ≡ same_value v w
 is_eq-values_cmp-one v w = is_eq-then_equal (value_cmp v w)
 
-pub same-Decides : (v w : Value) → Decides (same v w) (v ≡ w)
-same-Decides v w = (
+pub same_value-Decides : (v w : Value) → Decides (same_value v w) (v ≡ w)
+same_value-Decides v w = (
   λ e. ap (λ vs. get_or vs 0 v)
       (is_eq-values_cmp (v ∷ []) (w ∷ []) (is_eq-values_cmp-one v w ∙ e)),
   λ e. sym (is_eq-values_cmp-one v w) ∙ values_cmp-same (v ∷ []) (w ∷ []) (ap (λ u. u ∷ []) e),
 )
 
-pub starts_with-Decides : (w v : List Value) → Decides (starts_with same w v) (Begins v w)
-starts_with-Decides w v = let (begins, begun) = starts_is same-Decides w v _ refl in (
+pub starts_with-Decides : (w v : List Value) → Decides (starts_with same_value w v) (Begins v w)
+starts_with-Decides w v = let (begins, begun) = starts_is same_value-Decides w v _ refl in (
   λ e. (drop (length v) w, sym (begins e)),
   λ (more, e). begun more (sym e),
 )
 
-pub ends_with-Decides : (w v : List Value) → Decides (ends_with same w v) (Ends v w)
-ends_with-Decides w v = let (ends, ended) = ends_is same-Decides w v _ refl in (
+pub ends_with-Decides : (w v : List Value) → Decides (ends_with same_value w v) (Ends v w)
+ends_with-Decides w v = let (ends, ended) = ends_is same_value-Decides w v _ refl in (
   λ e. (take (length w - length v) w, sym (ends e)),
   λ (front, e). ended front (sym e),
 )
@@ -48,5 +48,5 @@ strip_answer-ok path base left h e =
 
 pub strip_answer-refused : (path base : List ℕ) → (Begins (values base) (values path) → ⊥)
     → codes "prefix not found" ≡ strip_answer path base
-strip_answer-refused path base h = by_test (starts_with same (values path) (values base))
+strip_answer-refused path base h = by_test (starts_with same_value (values path) (values base))
     (λ e. absurd (h ((starts_with-Decides (values path) (values base)).0 e))) (λ e. rw e refl)

@@ -4,11 +4,12 @@ use Rattle.std.proofs.Common.{OnOk, Decides, codes, ap, sym, ◌∙◌}
 use Rattle.std.specs.List.{starts_with, ends_with}
 use Rattle.std.proofs.lemmas.Bool.Decides.{same_from_decides}
 use Rattle.unix_bytes.specs.declared.bytes.UnixStr.{UnixStr}
+use Rattle.unix_path.specs.Order.{same_value}
 use Rattle.unix_path.specs.Parts.{values}
 use Rattle.unix_path.specs.Prefixes.{Begins, Ends, stripped_of}
 use Rattle.json.specs.Print.{quoted}
 use Rattle.unix_bytes.specs.Utf8.{IsText}
-use Rattle.pathtool.specs.Answers.{optional, same, strip_answer}
+use Rattle.pathtool.specs.Answers.{optional, strip_answer}
 use Rattle.pathtool.specs.Fields.{truth}
 use Rattle.pathtool.specs.Quoted.{json_of}
 use Rattle.pathtool.proofs.BeginLemmas.{starts_with-Decides, ends_with-Decides}
@@ -38,18 +39,18 @@ adds_none r new old known k h = adds r new old (ap optional k) h
 pub adds_starts : {T E : Type 0} (r : Result T E) (new old : List ℕ) (is_so : Bool)
     (path base : List ℕ) → Decides is_so (Begins (values base) (values path))
     → OnOk r (new ≡ old ++ truth is_so)
-    → OnOk r (new ≡ old ++ truth (starts_with same (values path) (values base)))
+    → OnOk r (new ≡ old ++ truth (starts_with same_value (values path) (values base)))
 adds_starts r new old is_so path base d h = adds r new old
-    (ap truth (same_from_decides is_so (starts_with same (values path) (values base)) d
+    (ap truth (same_from_decides is_so (starts_with same_value (values path) (values base)) d
     (starts_with-Decides (values path) (values base)))) h
 
 -- the parts of one path end those of another, or don't
 pub adds_ends : {T E : Type 0} (r : Result T E) (new old : List ℕ) (is_so : Bool)
     (path child : List ℕ) → Decides is_so (Ends (values child) (values path))
     → OnOk r (new ≡ old ++ truth is_so)
-    → OnOk r (new ≡ old ++ truth (ends_with same (values path) (values child)))
+    → OnOk r (new ≡ old ++ truth (ends_with same_value (values path) (values child)))
 adds_ends r new old is_so path child d h = adds r new old
-    (ap truth (same_from_decides is_so (ends_with same (values path) (values child)) d
+    (ap truth (same_from_decides is_so (ends_with same_value (values path) (values child)) d
     (ends_with-Decides (values path) (values child)))) h
 
 -- what is left of a path whose first parts are those of the base

@@ -4,7 +4,6 @@ use Rattle.std.specs.Prelude.{Some, None, unwrap_or, if◌then◌else◌}
 use Rattle.std.specs.Option.{option_map_or, option_and_then}
 use Rattle.std.specs.declared.cmp.Ordering.{Ordering}
 use Rattle.std.specs.declared.cmp.Ordering.TheVariants.{Less, Equal, Greater}
-use Rattle.std.specs.Ordering.{is_eq}
 use Rattle.std.specs.List.{slice_split, flat_map, starts_with, ends_with}
 use Rattle.std.specs.Map.{lookup}
 use Rattle.std.specs.Str.{byte, bytes_eq}
@@ -12,7 +11,7 @@ use Rattle.unix_path.specs.Parts.{Value, values}
 use Rattle.unix_path.specs.Parents.{parent_of, ancestors_of}
 use Rattle.unix_path.specs.Names.{file_name_of, stem_of, extension_of}
 use Rattle.unix_path.specs.Prefixes.{stripped_of}
-use Rattle.unix_path.specs.Order.{value_cmp, values_cmp}
+use Rattle.unix_path.specs.Order.{same_value, values_cmp}
 use Rattle.unix_bytes.specs.Lossy.{lossy_of}
 use Rattle.unix_path.specs.Joins.{join_of}
 use Rattle.path_runs.specs.Spelling.{spelling_of}
@@ -31,14 +30,10 @@ order_text Less = codes "less"
 order_text Equal = codes "equal"
 order_text Greater = codes "greater"
 
--- the two values are equal
-abbrev pub same : Value → Value → Bool
-same v w = is_eq (value_cmp v w)
-
 -- what is left of a path after the parts of `base`, if these are its first
 abbrev pub strip_answer : List ℕ → List ℕ → List ℕ
 strip_answer path base =
-    if starts_with same (values path) (values base) then optional (Some (stripped_of path base))
+    if starts_with same_value (values path) (values base) then optional (Some (stripped_of path base))
     else codes "prefix not found"
 
 -- the answer of a command of a path, if no field follows
@@ -66,8 +61,8 @@ commands =
     ∷ (codes "json", path_answer json_of)
     ∷ (codes "join", pair_answer join_of)
     ∷ (codes "strip", pair_answer strip_answer)
-    ∷ (codes "starts", pair_answer (λ p q. truth (starts_with same (values p) (values q))))
-    ∷ (codes "ends", pair_answer (λ p q. truth (ends_with same (values p) (values q))))
+    ∷ (codes "starts", pair_answer (λ p q. truth (starts_with same_value (values p) (values q))))
+    ∷ (codes "ends", pair_answer (λ p q. truth (ends_with same_value (values p) (values q))))
     ∷ (codes "cmp", pair_answer (λ p q. order_text (values_cmp (values p) (values q))))
     ∷ (codes "walk", pair_answer walk_answer)
     ∷ (codes "edit", λ p fields. Some (edit_answer p fields))

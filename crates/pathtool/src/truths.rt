@@ -2,9 +2,9 @@
 ghost use Rattle.std.specs.Prelude.{◌≡◌, ◌++◌, OnOk};
 ghost use Rattle.std.specs.List.{starts_with, ends_with};
 ghost use Rattle.unix_path.specs.Parts.{values};
-ghost use Rattle.unix_path.specs.Order.{values_cmp};
+ghost use Rattle.unix_path.specs.Order.{same_value, values_cmp};
 ghost use Rattle.pathtool.specs.Fields.{truth};
-ghost use Rattle.pathtool.specs.Answers.{order_text, same};
+ghost use Rattle.pathtool.specs.Answers.{order_text};
 
 use std::alloc::AllocError;
 use std::cmp::Ordering;
@@ -30,7 +30,7 @@ fn push_truth(is_so: bool, answer: &mut Vec<u8>) -> Result<(), AllocError>
 #[tactic(auto, using(crate::proofs::SaidLemmas::adds_starts))]
 pub fn push_starts(path: Path<'_>, base: Path<'_>, answer: &mut Vec<u8>) -> Result<(), AllocError>
     ensures { OnOk result (answer.new.items ≡ answer.old.items
-        ++ truth (starts_with same (values path.entry.bytes.now)
+        ++ truth (starts_with same_value (values path.entry.bytes.now)
         (values base.entry.bytes.now))) }
 {
     push_truth(path.starts_with(base), answer)
@@ -45,7 +45,7 @@ pub fn push_starts(path: Path<'_>, base: Path<'_>, answer: &mut Vec<u8>) -> Resu
 #[tactic(auto, using(crate::proofs::SaidLemmas::adds_ends))]
 pub fn push_ends(path: Path<'_>, child: Path<'_>, answer: &mut Vec<u8>) -> Result<(), AllocError>
     ensures { OnOk result (answer.new.items ≡ answer.old.items
-        ++ truth (ends_with same (values path.entry.bytes.now)
+        ++ truth (ends_with same_value (values path.entry.bytes.now)
         (values child.entry.bytes.now))) }
 {
     push_truth(path.ends_with(child), answer)

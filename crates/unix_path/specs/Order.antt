@@ -1,8 +1,8 @@
 -- The order of values and of value lists (Rust's order of `Component` and `Path`).
-use Rattle.std.specs.Prelude.{◌≡◌, ℕ, List}
+use Rattle.std.specs.Prelude.{◌≡◌, ℕ, Bool, List}
 use Rattle.std.specs.declared.cmp.Ordering.{Ordering}
 use Rattle.std.specs.declared.cmp.Ordering.TheVariants.{Less}
-use Rattle.std.specs.Ordering.{nat_cmp, then_cmp, on}
+use Rattle.std.specs.Ordering.{is_eq, nat_cmp, then_cmp, on}
 use Rattle.std.specs.Cmp.Lexicographic.{slice_cmp}
 use Rattle.unix_path.specs.Parts.{Value, RootDir, CurDir, ParentDir, Normal, value_bytes}
 
@@ -16,6 +16,10 @@ rank (Normal name) = 3
 -- by their kind, and two names by their bytes
 abbrev pub value_cmp : Value → Value → Ordering
 value_cmp = then_cmp (on rank nat_cmp) (on value_bytes (slice_cmp nat_cmp))
+
+-- whether the two are the same value
+abbrev pub same_value : Value → Value → Bool
+same_value v w = is_eq (value_cmp v w)
 
 -- by the first values that differ; a list comes before those that it begins
 abbrev pub values_cmp : List Value → List Value → Ordering
