@@ -1,0 +1,37 @@
+/* Loaded before the C library: the request for memory with the number in REFUSED_REQUEST fails,
+ * counted from 1. At the end it tells on standard error how many requests there were. */
+#define _GNU_SOURCE
+#include <dlfcn.h>
+#include <stdbool.h>
+#include <stdio.h>
+#include <stdlib.h>
+
+static unsigned long requests;
+
+static bool is_refused(void)
+{
+    const char *number = getenv("REFUSED_REQUEST");
+    requests++;
+    return number != NULL && strtoul(number, NULL, 10) == requests;
+}
+
+void *malloc(size_t size)
+{
+    static void *(*next)(size_t);
+    if (next == NULL)
+        next = (void *(*)(size_t))dlsym(RTLD_NEXT, "malloc");
+    return is_refused() ? NULL : next(size);
+}
+
+void *realloc(void *old, size_t size)
+{
+    static void *(*next)(void *, size_t);
+    if (next == NULL)
+        next = (void *(*)(void *, size_t))dlsym(RTLD_NEXT, "realloc");
+    return is_refused() ? NULL : next(old, size);
+}
+
+__attribute__((destructor)) static void tell(void)
+{
+    fprintf(stderr, "requests: %lu\n", requests);
+}
