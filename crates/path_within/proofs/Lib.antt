@@ -10,5 +10,6 @@ pub mod LeadsLemmas
 pub mod FloorLemmas
 pub mod PopLemmas
 pub mod StepLemmas
+pub mod PlainLemmas
 pub mod SkipLemmas
 pub mod FoundLemmas

@@ -11,7 +11,7 @@ use Rattle.path_within.proofs.KeptLemmas.{kept_of-append, kept_of-kept}
 use Rattle.path_within.proofs.KeptLemmas.{kept_tail, up_behind}
 use Rattle.path_within.proofs.SharedLemmas.{ups_of}
 
-kept_of-names : (ks vs : List Value) → AreNames vs → kept_of ks vs ≡ reverse vs ++ ks
+pub kept_of-names : (ks vs : List Value) → AreNames vs → kept_of ks vs ≡ reverse vs ++ ks
 kept_of-names ks [] h = refl
 kept_of-names ks (Normal name ∷ vs) h =
     kept_of-names (Normal name ∷ ks) vs h

@@ -1,11 +1,11 @@
 //! Paths with each `..` taken against the name before it.
-ghost use Rattle.std.specs.Prelude.{◌≡◌, List, IfOk, OnOk};
+ghost use Rattle.std.specs.Prelude.{◌≡◌, true, IsTrue, List, IfOk, OnOk};
 ghost use Rattle.unix_path.specs.Buffers.{path_bytes};
 ghost use Rattle.unix_path.specs.Cursor.{cursor_values};
 ghost use Rattle.unix_path.specs.Parts.{Value};
 ghost use Rattle.unix_path.specs.Views.{value_of};
 ghost use Rattle.path_within.specs.Resolved.{keep, kept_of, up_from, resolved_bytes_of};
-ghost use Rattle.path_within.specs.Steps.{IsOne, Spells};
+ghost use Rattle.path_within.specs.Steps.{has_plain_pieces, IsOne, Spells};
 
 use std::alloc::{AllocError, Global};
 use unix_path::{Component, Components, Path, PathBuf};
@@ -49,6 +49,36 @@ pub(crate) fn keep_all(kept: &mut PathBuf, parts: Components<'_>) -> Result<(), 
     Ok(())
 }
 
+// Whether no piece is empty or begins with a dot. One pass, without a walk over the parts.
+#[inline]
+fn has_plain_pieces(bytes: &[u8]) -> bool
+    ensures { result ≡ has_plain_pieces true bytes.now }
+{
+    let mut begins = true;
+    for byte in bytes {
+        let is_slash = *byte == b'/';
+        if begins && (is_slash || *byte == b'.') {
+            return false;
+        }
+        begins = is_slash;
+    }
+    !begins
+}
+
+// True only for a path that is resolved as it stands; false too where a name begins with a dot.
+#[inline]
+fn is_resolved(path: Path<'_>) -> bool
+    ensures { IsTrue result
+        → resolved_bytes_of path.entry.bytes.now ≡ path.entry.bytes.now }
+{
+    let bytes = path.as_unix_str().as_bytes();
+    if path.has_root() {
+        has_plain_pieces(&bytes[1..])
+    } else {
+        has_plain_pieces(bytes)
+    }
+}
+
 /// The path with each `..` taken against the name before it, and spelled canonically: `.` goes, and
 /// so does `..` behind the root. Without a root, `..` with no name before it stays in front.
 ///
@@ -61,6 +91,9 @@ pub(crate) fn keep_all(kept: &mut PathBuf, parts: Components<'_>) -> Result<(), 
 pub fn resolved(alloc: Global, path: Path<'_>) -> Result<PathBuf, AllocError>
     ensures { IfOk result (λ p. path_bytes p ≡ resolved_bytes_of path.entry.bytes.now) }
 {
+    if is_resolved(path) {
+        return path.to_path_buf(alloc);
+    }
     let mut kept = PathBuf::with_capacity(alloc, path.as_unix_str().len())?;
     keep_all(&mut kept, path.components())?;
     Ok(kept)
