@@ -49,20 +49,20 @@ pub(crate) fn keep_all(kept: &mut PathBuf, parts: Components<'_>) -> Result<(), 
     Ok(())
 }
 
-// Whether no piece is empty or begins with a dot. One pass, without a walk over the parts.
+// Whether no piece is empty or begins with a dot. No test in it depends on a byte, so that it takes
+// the same time for any names.
 #[inline]
 fn has_plain_pieces(bytes: &[u8]) -> bool
     ensures { result ≡ has_plain_pieces true bytes.now }
 {
     let mut begins = true;
+    let mut is_plain = true;
     for byte in bytes {
         let is_slash = *byte == b'/';
-        if begins && (is_slash || *byte == b'.') {
-            return false;
-        }
+        is_plain &= !(begins & (is_slash | (*byte == b'.')));
         begins = is_slash;
     }
-    !begins
+    is_plain & !begins
 }
 
 // True only for a path that is resolved as it stands; false too where a name begins with a dot.

@@ -1,7 +1,8 @@
-use Rattle.std.proofs.Common.{◌≡◌, true, drop}
+use Rattle.std.proofs.Common.{◌≡◌, ◌&&◌, true, drop}
 use Rattle.path_within.specs.Steps.{has_plain_pieces}
 use Rattle.path_within.proofs.resolved.has_plain_pieces.Given as goal
 
 abbrev pub invariant-loop-byte : goal.invariant-loop-byte
 invariant-loop-byte l =
-    has_plain_pieces l.begins (drop l.byte-index l.bytes) ≡ has_plain_pieces true l.bytes
+    (l.is_plain && has_plain_pieces l.begins (drop l.byte-index l.bytes))
+    ≡ has_plain_pieces true l.bytes
