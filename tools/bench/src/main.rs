@@ -15,6 +15,7 @@ mod rows;
 mod sizes;
 mod std_calls;
 mod std_tables;
+mod std_within;
 mod tables;
 mod targets;
 mod texts;

@@ -27,6 +27,7 @@ extern "C" {
     pub fn ours_set_extension(path: Start, len: usize, end: Start, end_len: usize) -> u64;
     pub fn ours_add_extension(path: Start, len: usize, end: Start, end_len: usize) -> u64;
     pub fn ours_canonical(path: Start, len: usize) -> u64;
+    pub fn ours_resolved(path: Start, len: usize) -> u64;
     pub fn ours_to_str(path: Start, len: usize) -> u64;
     pub fn ours_to_string_lossy(path: Start, len: usize) -> u64;
     pub fn ours_display(path: Start, len: usize) -> u64;

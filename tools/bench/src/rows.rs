@@ -2,6 +2,7 @@
 use crate::calls::{Call, OfOne, OfTwo};
 use crate::ours::*;
 use crate::std_calls as std;
+use crate::std_within;
 
 /// What a call is given beside each path of a corpus.
 #[derive(Clone, Copy, PartialEq)]
@@ -121,6 +122,7 @@ fn edits() -> Vec<Row> {
         two("add_extension", ours_add_extension, std::add_extension, Other::Extension),
         two("push and pop", ours_push_pop, std::push_pop, Other::Name),
         one("canonical", ours_canonical, std::canonical),
+        one("resolved", ours_resolved, std_within::resolved),
     ]
 }
 

@@ -47,7 +47,7 @@ fn some(text: Option<&OsStr>) -> u64 {
 }
 
 /// The number of a path.
-fn made(path: &Path) -> u64 {
+pub fn made(path: &Path) -> u64 {
     digest(path.as_os_str().as_bytes())
 }
 

@@ -21,6 +21,7 @@ const TARGETS: &[(&str, &str, f64)] = &[
     ("hash, SipHash", "", 1.3),
     ("push and pop", "", 0.55),
     ("canonical", "", 0.65),
+    ("resolved", "", 0.7),
     ("to_string_lossy", "non_utf8", 0.8),
     ("to_string_lossy", "broken", 0.8),
     ("display", "non_utf8", 0.5),

@@ -1,0 +1,28 @@
+//! Rust's side of paths from outside: what a user of `std::path` writes, since it resolves nothing.
+use crate::calls::Start;
+use crate::std_calls::{made, path_of};
+use std::path::{Component, Path, PathBuf};
+
+/// The path with each `..` taken against the name before it.
+pub unsafe extern "C" fn resolved(path: Start, len: usize) -> u64 {
+    made(&resolved_path(path_of(path, len)))
+}
+
+/// A fold over the parts: a name is pushed, and `..` pops one, or stays where there is none to pop.
+fn resolved_path(path: &Path) -> PathBuf {
+    let mut kept = PathBuf::with_capacity(path.as_os_str().len());
+    for part in path.components() {
+        match part {
+            Component::CurDir => {}
+            Component::ParentDir => match kept.components().next_back() {
+                Some(Component::Normal(_)) => {
+                    kept.pop();
+                }
+                Some(Component::RootDir) => {}
+                _ => kept.push(".."),
+            },
+            part => kept.push(part),
+        }
+    }
+    kept
+}
