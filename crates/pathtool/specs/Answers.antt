@@ -33,7 +33,8 @@ order_text Greater = codes "greater"
 -- what is left of a path after the parts of `base`, if these are its first
 abbrev pub strip_answer : List ℕ → List ℕ → List ℕ
 strip_answer path base =
-    if starts_with same_value (values path) (values base) then optional (Some (stripped_of path base))
+    if starts_with same_value (values path) (values base)
+    then optional (Some (stripped_of path base))
     else codes "prefix not found"
 
 -- the answer of a command of a path, if no field follows
