@@ -1,0 +1,188 @@
+/* Unix paths as plain bytes: the calls of the library unix_path_c.
+ *
+ * A path is a pointer to its bytes and how many there are. It may hold any byte, NUL too, and
+ * needs none behind it. Its parts are the root, a leading `.`, and then each name and each `..`;
+ * paths are equal where their parts are. No file is touched: `..` is a part like a name, but for
+ * unix_path_resolved, unix_path_join_within and unix_path_climbs, which go by names alone.
+ *
+ * For every call:
+ *  - It returns, whatever the bytes are, and reads nothing but the bytes and records given to it.
+ *  - Lengths and places count bytes. A length is at most PTRDIFF_MAX.
+ *  - No pointer is null, also where the length beside it is 0.
+ *  - What a call writes (walk, part, place, out) overlaps nothing else that the call is given.
+ *  - Where a call answers false, its record stays as it was.
+ *  - No call keeps anything, so that threads may call at once. None allocates but
+ *    unix_path_resolved and unix_path_join_within, which give back what malloc gave them.
+ *
+ * The calls with `out` answer how many bytes their answer has. Where that is at most out_length,
+ * the answer stands at the beginning of out, and the bytes behind it stay as they were. Else
+ * nothing is written, and a second call with as much room as was answered gives all of it.
+ */
+#ifndef UNIX_PATH_H
+#define UNIX_PATH_H
+
+#include <stdbool.h>
+#include <stddef.h>
+#include <stdint.h>
+
+#ifdef __cplusplus
+extern "C" {
+#endif
+
+/* What unix_path_with_extension answers where the extension has a slash. Nothing is written. */
+#define UNIX_PATH_SEPARATOR SIZE_MAX
+/* What unix_path_join_within answers where the request climbs. Nothing is written or allocated. */
+#define UNIX_PATH_ESCAPES (SIZE_MAX - 1)
+/* What unix_path_resolved and unix_path_join_within answer where an allocation failed. Nothing is
+ * written. */
+#define UNIX_PATH_NO_MEMORY (SIZE_MAX - 2)
+
+/* What is left of a walk over a path: the bytes from front up to back, and none where they aren't
+ * in this order or end behind the path. So a record may hold anything. */
+typedef struct {
+    size_t front, back;
+} unix_path_walk;
+
+/* The kind of a part. */
+enum {
+    UNIX_PATH_ROOT_DIR = 0,
+    UNIX_PATH_CUR_DIR = 1,
+    UNIX_PATH_PARENT_DIR = 2,
+    UNIX_PATH_NORMAL = 3
+};
+
+/* A part of a path: where its bytes begin in the path, how many they are, and its kind. */
+typedef struct {
+    size_t start, length;
+    uint32_t kind;
+} unix_path_part;
+
+/* A place in a path: `length` bytes from `start` on, all inside the path. */
+typedef struct {
+    size_t start, length;
+} unix_path_place;
+
+/* Walks. The parts taken in front, those that are left and those taken behind are the path's
+ * parts, however the calls are mixed. */
+
+/* Begins a walk over the whole path. */
+void unix_path_components(const uint8_t *path, size_t path_length, unix_path_walk *walk);
+
+/* Takes the first part that is left; false where none is. For `/a` it gives the root, then `a`. */
+bool unix_path_next(const uint8_t *path, size_t path_length, unix_path_walk *walk,
+                    unix_path_part *part);
+
+/* Takes the last part that is left; false where none is. For `/a` it gives `a`, then the root. */
+bool unix_path_next_back(const uint8_t *path, size_t path_length, unix_path_walk *walk,
+                         unix_path_part *part);
+
+/* Where the path of the parts that are left stands. Of `a/./b/` before any part is taken it is
+ * `a/./b`, and after the first it is `b`. */
+void unix_path_as_path(const uint8_t *path, size_t path_length, const unix_path_walk *walk,
+                       unix_path_place *place);
+
+/* Places. An answer without bytes stands somewhere in the path. */
+
+/* The path without its last part; false for the root and for the empty path. It begins where the
+ * path begins. Of `/a//b/` it is `/a`, and of `a` it is empty. */
+bool unix_path_parent(const uint8_t *path, size_t path_length, unix_path_place *place);
+
+/* The last part, where it is a name; else false. Of `a/b.txt/.` it is `b.txt`. */
+bool unix_path_file_name(const uint8_t *path, size_t path_length, unix_path_place *place);
+
+/* The file name up to its last dot; all of it where that dot is its first byte or there is none.
+ * False where there is no file name. Of `a.tar.gz` it is `a.tar`, and of `.a` it is `.a`. */
+bool unix_path_file_stem(const uint8_t *path, size_t path_length, unix_path_place *place);
+
+/* What stands behind that dot; false where there is no such dot. Of `a.tar.gz` it is `gz`. */
+bool unix_path_extension(const uint8_t *path, size_t path_length, unix_path_place *place);
+
+/* The file name up to its first dot behind its first byte; all of it where there is none. False
+ * where there is no file name. Of `a.tar.gz` it is `a`, and of `.a.rs` it is `.a`. */
+bool unix_path_file_prefix(const uint8_t *path, size_t path_length, unix_path_place *place);
+
+/* What follows base in the path; false where the path doesn't start with base. Of `/a//b/` and
+ * `/a` it is `b`. */
+bool unix_path_strip_prefix(const uint8_t *path, size_t path_length, const uint8_t *base,
+                            size_t base_length, unix_path_place *place);
+
+/* Questions. */
+
+/* Whether the parts of b begin those of a: `/etc/passwd` starts with `/etc/`, and not with `/e`. */
+bool unix_path_starts_with(const uint8_t *a, size_t a_length, const uint8_t *b, size_t b_length);
+
+/* Whether the parts of b end those of a: `/etc/passwd` ends with `passwd`. */
+bool unix_path_ends_with(const uint8_t *a, size_t a_length, const uint8_t *b, size_t b_length);
+
+/* Whether the parts are the same: those of `a/./b//` and `a/b` are, of `./a` and `a` aren't. */
+bool unix_path_equal(const uint8_t *a, size_t a_length, const uint8_t *b, size_t b_length);
+
+/* The order by parts: -1, 0 or 1 where a is less than, equal to or greater than b. The root is
+ * less than `.`, that than `..`, and that than a name; `a/b` is less than `a.b`. */
+int32_t unix_path_compare(const uint8_t *a, size_t a_length, const uint8_t *b, size_t b_length);
+
+/* A number that is the same for equal paths, and in each run. Not made against chosen paths that
+ * share a number. */
+uint64_t unix_path_hash(const uint8_t *path, size_t path_length);
+
+/* Whether the bytes are UTF-8. */
+bool unix_path_is_utf8(const uint8_t *path, size_t path_length);
+
+/* Whether the path has a root, so that its first byte is a slash. */
+bool unix_path_is_absolute(const uint8_t *path, size_t path_length);
+
+/* Whether the path has a root or ever goes above where it starts, even if later names come down
+ * again. True for `/a` and `a/../../b`, and false for `a/../b`. */
+bool unix_path_climbs(const uint8_t *path, size_t path_length);
+
+/* The place just behind the last slash of the longest string that both begin with; 0 where that
+ * string has none. It counts bytes, not parts. For `a/./b` and `a/b` it is 2. */
+size_t unix_path_common_dir(const uint8_t *a, size_t a_length, const uint8_t *b, size_t b_length);
+
+/* New paths and text, written to out. */
+
+/* The path against base: path itself where it has a root, else base, a slash where base has bytes
+ * and none at its end, and path. `/a` with `./b` gives `/a/./b`, and with `/b` gives `/b`. */
+size_t unix_path_join(const uint8_t *base, size_t base_length, const uint8_t *path,
+                      size_t path_length, uint8_t *out, size_t out_length);
+
+/* The path with its file name replaced; name joined to it where it has none. `/a/b.txt` with `c`
+ * gives `/a/c`. */
+size_t unix_path_with_file_name(const uint8_t *path, size_t path_length, const uint8_t *name,
+                                size_t name_length, uint8_t *out, size_t out_length);
+
+/* The path with its extension replaced, or taken away where the new one is empty; the path as it
+ * is where it has no file name. UNIX_PATH_SEPARATOR where the extension has a slash. `a.rs` with
+ * `txt` gives `a.txt`. */
+size_t unix_path_with_extension(const uint8_t *path, size_t path_length, const uint8_t *extension,
+                                size_t extension_length, uint8_t *out, size_t out_length);
+
+/* The one shortest path with the same parts. Of `.//a/./b/` it is `./a/b`. It is never longer than
+ * the path. */
+size_t unix_path_canonical(const uint8_t *path, size_t path_length, uint8_t *out,
+                           size_t out_length);
+
+/* The path as UTF-8, with U+FFFD in the place of what isn't. It has at most three times as many
+ * bytes as the path. Where the length can't be counted it is SIZE_MAX. */
+size_t unix_path_to_string_lossy(const uint8_t *path, size_t path_length, uint8_t *out,
+                                 size_t out_length);
+
+/* The path with each `..` taken against the name before it, and spelled canonically: `.` goes, and
+ * so does `..` behind the root. It goes by names alone: where a part may be a link, only the system
+ * knows where `..` leads. UNIX_PATH_NO_MEMORY where an allocation failed. Of `a/../..//b/.` it is
+ * `../b`. */
+size_t unix_path_resolved(const uint8_t *path, size_t path_length, uint8_t *out,
+                          size_t out_length);
+
+/* The request joined to the root and resolved, so that it stays under the resolved root.
+ * UNIX_PATH_ESCAPES exactly where the request climbs, before anything is allocated, and
+ * UNIX_PATH_NO_MEMORY only where an allocation failed. It goes by names alone. `/srv` with
+ * `a/../b` gives `/srv/b`. */
+size_t unix_path_join_within(const uint8_t *root, size_t root_length, const uint8_t *request,
+                             size_t request_length, uint8_t *out, size_t out_length);
+
+#ifdef __cplusplus
+}
+#endif
+
+#endif
