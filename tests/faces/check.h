@@ -1,0 +1,79 @@
+// Checks that are counted, and memory beside which nothing can be read.
+#ifndef CHECK_H
+#define CHECK_H
+
+#include <stdio.h>
+#include <string.h>
+#include <sys/mman.h>
+
+#include "text.h"
+
+// How many checks of the running test failed, and how many tests passed and failed.
+static size_t wrong_checks, passed_tests, failed_tests;
+
+// Counts a check that doesn't hold, and says which; only the first few of a test.
+#define CHECK(holds, ...)                                                                          \
+    do {                                                                                           \
+        if (!(holds) && wrong_checks++ < 5) {                                                      \
+            printf("%s:%d: " #holds ": ", __FILE__, __LINE__);                                     \
+            printf(__VA_ARGS__);                                                                   \
+            printf("\n");                                                                          \
+        }                                                                                          \
+    } while (0)
+
+// Runs a test and says whether all its checks held.
+static inline void run(const char *name, void (*test)(void)) {
+    wrong_checks = 0;
+    test();
+    passed_tests += wrong_checks == 0;
+    failed_tests += wrong_checks != 0;
+    printf("%s: %s\n", wrong_checks == 0 ? "passed" : "failed", name);
+}
+
+// The counts of the tests, and the status to exit with.
+static inline int finish(void) {
+    printf("%zu passed, %zu failed\n", passed_tests, failed_tests);
+    return failed_tests != 0;
+}
+
+// Memory between two pages that can't be read.
+typedef struct {
+    uint8_t *begin;
+    size_t size;
+} fence;
+
+static inline fence new_fence(void) {
+    size_t page = 65536;
+    uint8_t *all = mmap(NULL, 3 * page, PROT_NONE, MAP_PRIVATE | MAP_ANONYMOUS, -1, 0);
+    if (all == MAP_FAILED || mprotect(all + page, page, PROT_READ | PROT_WRITE) != 0) {
+        perror("fence");
+        exit(1);
+    }
+    return (fence){all + page, page};
+}
+
+// A copy of the bytes behind which nothing can be read, or before which nothing can.
+static inline view fenced(fence around, view bytes, bool at_end) {
+    uint8_t *begin = at_end ? around.begin + around.size - bytes.length : around.begin;
+    memcpy(begin, bytes.bytes, bytes.length);
+    return (view){begin, bytes.length};
+}
+
+// Calls a function with each string of at most so many of these letters.
+static inline void each_string(const char *letters, size_t longest, void (*call)(view)) {
+    uint8_t bytes[16];
+    size_t places[16] = {0}, count = strlen(letters);
+    for (size_t length = 0; length <= longest;) {
+        for (size_t at = 0; at < length; at++) {
+            bytes[at] = (uint8_t)letters[places[at]];
+        }
+        call((view){bytes, length});
+        size_t at = 0;
+        while (at < length && ++places[at] == count) {
+            places[at++] = 0;
+        }
+        length += at == length;
+    }
+}
+
+#endif
