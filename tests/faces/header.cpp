@@ -1,0 +1,83 @@
+// The header in C++: each call has the type that it says, and links by its name.
+#include <array>
+#include <cstdio>
+#include <string>
+#include <string_view>
+
+#include "unix_path.h"
+
+namespace {
+
+const uint8_t *bytes(std::string_view text) {
+    return reinterpret_cast<const uint8_t *>(text.data());
+}
+
+using OfOne = size_t (*)(const uint8_t *, size_t, uint8_t *, size_t);
+using OfTwo = size_t (*)(const uint8_t *, size_t, const uint8_t *, size_t, uint8_t *, size_t);
+using Turn = bool (*)(const uint8_t *, size_t, unix_path_walk *, unix_path_part *);
+using Place = bool (*)(const uint8_t *, size_t, unix_path_place *);
+using Relation = bool (*)(const uint8_t *, size_t, const uint8_t *, size_t);
+using Truth = bool (*)(const uint8_t *, size_t);
+
+constexpr std::array<OfOne, 3> of_one{unix_path_canonical, unix_path_to_string_lossy,
+                                      unix_path_resolved};
+constexpr std::array<OfTwo, 4> of_two{unix_path_join, unix_path_with_file_name,
+                                      unix_path_with_extension, unix_path_join_within};
+constexpr std::array<Turn, 2> turns{unix_path_next, unix_path_next_back};
+constexpr std::array<Place, 5> places{unix_path_parent, unix_path_file_name, unix_path_file_stem,
+                                      unix_path_extension, unix_path_file_prefix};
+constexpr std::array<Relation, 3> relations{unix_path_starts_with, unix_path_ends_with,
+                                            unix_path_equal};
+constexpr std::array<Truth, 3> truths{unix_path_is_utf8, unix_path_is_absolute, unix_path_climbs};
+
+// The bytes that a call of one path gives.
+std::string written(OfOne call, std::string_view path) {
+    std::string out(call(bytes(path), path.size(), reinterpret_cast<uint8_t *>(out.data()), 0),
+                    '\0');
+    call(bytes(path), path.size(), reinterpret_cast<uint8_t *>(out.data()), out.size());
+    return out;
+}
+
+// How many of all calls are right on a path without a file name.
+int right_calls() {
+    std::string_view root = "/";
+    int right = 0;
+    for (OfOne call : of_one) {
+        right += written(call, root) == "/";
+    }
+    for (OfTwo call : of_two) {
+        uint8_t out[4] = {};
+        right += call(bytes(root), 1, bytes(root), 0, out, 4) == 1 && out[0] == '/';
+    }
+    for (Turn call : turns) {
+        unix_path_walk walk;
+        unix_path_part part;
+        unix_path_components(bytes(root), 1, &walk);
+        right += call(bytes(root), 1, &walk, &part) && part.kind == UNIX_PATH_ROOT_DIR;
+    }
+    for (Place call : places) {
+        unix_path_place place;
+        right += !call(bytes(root), 1, &place);
+    }
+    for (Relation call : relations) {
+        right += call(bytes(root), 1, bytes(root), 1);
+    }
+    for (Truth call : truths) {
+        right += call(bytes(root), 1);
+    }
+    return right;
+}
+
+}  // namespace
+
+int main() {
+    std::string_view path = ".//a/./b/", base = "./a";
+    unix_path_place rest;
+    bool strips = unix_path_strip_prefix(bytes(path), path.size(), bytes(base), base.size(), &rest);
+    bool is_right = written(unix_path_canonical, path) == "./a/b" && right_calls() == 20 && strips
+                    && path.substr(rest.start, rest.length) == "b"
+                    && unix_path_compare(bytes(path), path.size(), bytes(base), base.size()) == 1
+                    && unix_path_common_dir(bytes(path), path.size(), bytes(base), 3) == 2;
+    std::puts(is_right ? "1 passed, 0 failed" : "0 passed, 1 failed");
+    return is_right ? 0 : 1;
+}
