@@ -1,9 +1,11 @@
 PREFIX ?= /usr/local
 PROGRAM = crates/pathtool/out/pathtool
+LIBRARY = crates/unix_path_c/out/libunix_path_c.a
 SOURCES := $(shell find crates.txt crates -name out -prune -o \
 	\( -name '*.rt' -o -name '*.antt' -o -name crates.txt \) -print)
 
-.PHONY: help run check test install bench bench_tools differential ends
+.PHONY: help run check test lib test-faces install install_program install_library bench \
+	bench_tools differential ends
 
 help:
 	@echo 'make run      runs pathtool on standard input; proves and builds it first, which'
@@ -18,8 +20,12 @@ help:
 	@echo '              for a million; builds first. It needs rustc too; prints its seed, as in'
 	@echo '              make differential LINES=1000000 SEED=20'
 	@echo 'make ends     runs pathtool with ends that fail, little memory and large inputs'
-	@echo 'make install  puts the program and its manual page below PREFIX (/usr/local),'
-	@echo '              proved and built first'
+	@echo 'make lib      builds the library for C, proved first, and says where it stands'
+	@echo 'make test-faces  tries the calls from C and from Rust; builds the library first.'
+	@echo '              It needs cc, and cargo for those from Rust'
+	@echo 'make install  puts the program and its manual page, and the library with its header'
+	@echo '              and its pkg-config file, below PREFIX (/usr/local), proved and built'
+	@echo '              first; install_program and install_library put one of both'
 	@echo 'Each needs rt, the command of the Rattle toolchain: '"$$(cat rattle-toolchain)"
 
 # Proofs are told on standard error, so that standard output holds the answers alone.
@@ -50,8 +56,29 @@ differential: $(PROGRAM)
 ends: $(PROGRAM)
 	@tools/ends
 
-install: $(PROGRAM)
+$(LIBRARY): $(SOURCES)
+	@tools/library > /dev/null
+
+lib: $(LIBRARY)
+	@tools/library --join
+
+test-faces: $(if $(UNIX_PATH_LIB),,lib)
+	@tools/test_faces
+
+install: install_program install_library
+
+install_program: $(PROGRAM)
 	@install -D -m 755 $(PROGRAM) $(DESTDIR)$(PREFIX)/bin/pathtool
 	@install -D -m 644 man/pathtool.1 $(DESTDIR)$(PREFIX)/share/man/man1/pathtool.1
 	@echo 'installed $(DESTDIR)$(PREFIX)/bin/pathtool'
 	@echo 'installed $(DESTDIR)$(PREFIX)/share/man/man1/pathtool.1'
+
+install_library: $(LIBRARY)
+	@install -D -m 644 $(LIBRARY) $(DESTDIR)$(PREFIX)/lib/libunix_path_c.a
+	@install -D -m 644 include/unix_path.h $(DESTDIR)$(PREFIX)/include/unix_path.h
+	@install -d $(DESTDIR)$(PREFIX)/lib/pkgconfig
+	@sed 's|@PREFIX@|$(PREFIX)|' unix_path.pc.in \
+		> $(DESTDIR)$(PREFIX)/lib/pkgconfig/unix_path.pc
+	@echo 'installed $(DESTDIR)$(PREFIX)/lib/libunix_path_c.a'
+	@echo 'installed $(DESTDIR)$(PREFIX)/include/unix_path.h'
+	@echo 'installed $(DESTDIR)$(PREFIX)/lib/pkgconfig/unix_path.pc'
