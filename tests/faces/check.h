@@ -28,6 +28,7 @@ static inline void run(const char *name, void (*test)(void)) {
     passed_tests += wrong_checks == 0;
     failed_tests += wrong_checks != 0;
     printf("%s: %s\n", wrong_checks == 0 ? "passed" : "failed", name);
+    fflush(stdout);
 }
 
 // The counts of the tests, and the status to exit with.
