@@ -1,0 +1,98 @@
+//! Finds `libunix_path_c.a`, which the crate is linked with.
+use std::env;
+use std::path::{Path, PathBuf};
+use std::process::{exit, Command};
+
+/// The file that is looked for.
+const LIBRARY: &str = "libunix_path_c.a";
+
+fn main() {
+    println!("cargo:rerun-if-changed=build.rs");
+    for name in [
+        "UNIX_PATH_LIB_DIR",
+        "PKG_CONFIG",
+        "PKG_CONFIG_PATH",
+        "PKG_CONFIG_LIBDIR",
+    ] {
+        println!("cargo:rerun-if-env-changed={name}");
+    }
+    // The documentation alone needs no library.
+    if env::var_os("DOCS_RS").is_some() {
+        return;
+    }
+    let places = places();
+    match places
+        .iter()
+        .find(|place| place.folder.join(LIBRARY).is_file())
+    {
+        Some(place) => link(&place.folder),
+        None => refuse(&places),
+    }
+}
+
+/// A folder that may hold the library, and what named it.
+struct Place {
+    folder: PathBuf,
+    named_by: &'static str,
+}
+
+/// The folders, in the order in which they are looked at. A folder that the environment names is
+/// the only one.
+fn places() -> Vec<Place> {
+    if let Some(folder) = env::var_os("UNIX_PATH_LIB_DIR") {
+        return vec![Place {
+            folder: folder.into(),
+            named_by: "UNIX_PATH_LIB_DIR",
+        }];
+    }
+    let here = Path::new(env!("CARGO_MANIFEST_DIR"));
+    let built = here.join("../../crates/unix_path_c/out");
+    let mut places = vec![Place {
+        folder: built,
+        named_by: "this repository",
+    }];
+    let told = from_pkg_config().map(|folder| Place {
+        folder,
+        named_by: "pkg-config",
+    });
+    places.extend(told);
+    places
+}
+
+/// The folder that pkg-config knows; none where there is no pkg-config, or it doesn't know the
+/// library.
+fn from_pkg_config() -> Option<PathBuf> {
+    let program = env::var_os("PKG_CONFIG").unwrap_or_else(|| "pkg-config".into());
+    let told = Command::new(program)
+        .args(["--variable=libdir", "unix_path"])
+        .output()
+        .ok()?;
+    let folder = String::from_utf8(told.stdout).ok()?;
+    let is_known = told.status.success() && !folder.trim().is_empty();
+    is_known.then(|| folder.trim().into())
+}
+
+/// Tells cargo to link with the library in this folder.
+fn link(folder: &Path) {
+    println!("cargo:rerun-if-changed={}", folder.join(LIBRARY).display());
+    println!("cargo:rustc-link-search=native={}", folder.display());
+    println!("cargo:rustc-link-lib=static=unix_path_c");
+}
+
+/// Says where the library was looked for and what to do, and ends the build.
+fn refuse(places: &[Place]) -> ! {
+    eprintln!("{LIBRARY} was not found. Looked into:");
+    for place in places {
+        eprintln!(
+            "    {} (named by {})",
+            place.folder.display(),
+            place.named_by
+        );
+    }
+    eprintln!("Do one of these, and build again:");
+    eprintln!("  - in the repository of unix_path: make lib");
+    eprintln!("  - there: make install, so that `pkg-config unix_path` knows the library;");
+    eprintln!("    below another PREFIX also set PKG_CONFIG_PATH to PREFIX/lib/pkgconfig");
+    eprintln!("  - set UNIX_PATH_LIB_DIR to the folder that holds {LIBRARY}");
+    exit(1)
+}

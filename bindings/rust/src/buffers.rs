@@ -1,0 +1,138 @@
+//! Paths that are made of others, in a buffer of the caller.
+//!
+//! The answer stands at the beginning of the buffer, and the bytes behind it stay as they were.
+//! Where a call fails nothing is written.
+use crate::error::Error;
+use crate::ffi::{Make, MakeOfTwo, ESCAPES, NO_MEMORY, SEPARATOR};
+
+/// The answer of so many bytes, which stands in the buffer if it has room for all of them.
+fn answer(out: &[u8], needed: usize) -> Result<&[u8], Error> {
+    out.get(..needed).ok_or(Error::Short { needed })
+}
+
+/// `path` against `base`: it alone where it has a root, else behind `base`, with a slash between
+/// them where one is missing.
+///
+/// Fails only with `Short`. Does not allocate. As Rust's `Path::join`.
+///
+/// ```
+/// let mut out = [0; 16];
+/// assert_eq!(unix_path_rattle::join(b"/a", b"b", &mut out), Ok(&b"/a/b"[..]));
+/// assert_eq!(unix_path_rattle::join(b"/a", b"/b", &mut out), Ok(&b"/b"[..]));
+/// ```
+#[inline]
+pub fn join<'o>(base: &[u8], path: &[u8], out: &'o mut [u8]) -> Result<&'o [u8], Error> {
+    let needed = MakeOfTwo::JOIN.write(base, path, out);
+    answer(out, needed)
+}
+
+/// The path with `name` in place of its file name, or joined with it where it has none.
+///
+/// Fails only with `Short`. Does not allocate. As Rust's `Path::with_file_name`.
+///
+/// ```
+/// let mut out = [0; 16];
+/// assert_eq!(unix_path_rattle::with_file_name(b"/a/b", b"c", &mut out), Ok(&b"/a/c"[..]));
+/// ```
+#[inline]
+pub fn with_file_name<'o>(path: &[u8], name: &[u8], out: &'o mut [u8]) -> Result<&'o [u8], Error> {
+    let needed = MakeOfTwo::WITH_FILE_NAME.write(path, name, out);
+    answer(out, needed)
+}
+
+/// The path with `extension` in place of that of its file name, or behind it where it has none; an
+/// empty one takes it away. A path without a file name stays as it is.
+///
+/// Fails with `Separator` exactly where the extension has a slash, and with `Short`. Does not
+/// allocate. As Rust's `Path::with_extension`, which panics at a slash.
+///
+/// ```
+/// use unix_path_rattle::{with_extension, Error};
+/// let mut out = [0; 16];
+/// assert_eq!(with_extension(b"a/b.c", b"d", &mut out), Ok(&b"a/b.d"[..]));
+/// assert_eq!(with_extension(b"a/b.c", b"d/e", &mut out), Err(Error::Separator));
+/// ```
+#[inline]
+pub fn with_extension<'o>(
+    path: &[u8],
+    extension: &[u8],
+    out: &'o mut [u8],
+) -> Result<&'o [u8], Error> {
+    match MakeOfTwo::WITH_EXTENSION.write(path, extension, out) {
+        SEPARATOR => Err(Error::Separator),
+        needed => answer(out, needed),
+    }
+}
+
+/// The shortest path with the same parts.
+///
+/// It has at most as many bytes as the path. Fails only with `Short`. Does not allocate. As
+/// `path.components().collect::<PathBuf>()` in Rust.
+///
+/// ```
+/// let mut out = [0; 16];
+/// assert_eq!(unix_path_rattle::canonical(b".//a/./b/", &mut out), Ok(&b"./a/b"[..]));
+/// ```
+#[inline]
+pub fn canonical<'o>(path: &[u8], out: &'o mut [u8]) -> Result<&'o [u8], Error> {
+    let needed = Make::CANONICAL.write(path, out);
+    answer(out, needed)
+}
+
+/// The path as UTF-8, with U+FFFD for what isn't.
+///
+/// It has at most three times as many bytes as the path. Fails only with `Short`. Does not
+/// allocate. As Rust's `Path::to_string_lossy`.
+///
+/// ```
+/// let mut out = [0; 16];
+/// let text = unix_path_rattle::to_string_lossy(b"caf\xE9", &mut out).unwrap();
+/// assert_eq!(text, "caf\u{FFFD}".as_bytes());
+/// ```
+#[inline]
+pub fn to_string_lossy<'o>(path: &[u8], out: &'o mut [u8]) -> Result<&'o [u8], Error> {
+    let needed = Make::TO_STRING_LOSSY.write(path, out);
+    answer(out, needed)
+}
+
+/// The path with each `..` taken against the name before it, and spelled canonically: `.` goes, and
+/// so does `..` behind the root. The empty path stands for here.
+///
+/// It goes by names alone: where a part before a `..` may be a link, only the system knows where
+/// that `..` leads. It has at most as many bytes as the path. Fails with `NoMemory` where an
+/// allocation failed, and with `Short`. Not in Rust's std.
+///
+/// ```
+/// let mut out = [0; 16];
+/// assert_eq!(unix_path_rattle::resolved(b"a/../..//b/.", &mut out), Ok(&b"../b"[..]));
+/// assert_eq!(unix_path_rattle::resolved(b"/../a", &mut out), Ok(&b"/a"[..]));
+/// ```
+#[inline]
+pub fn resolved<'o>(path: &[u8], out: &'o mut [u8]) -> Result<&'o [u8], Error> {
+    match Make::RESOLVED.write(path, out) {
+        NO_MEMORY => Err(Error::NoMemory),
+        needed => answer(out, needed),
+    }
+}
+
+/// The request joined to the root, and resolved, so that it stays under the resolved root.
+///
+/// Fails with `Escapes` exactly where the request [climbs](crate::climbs), before anything is
+/// allocated, with `NoMemory` where an allocation failed, and with `Short`. It goes by names alone:
+/// where a part of the root or of the request may be a link, let the system refuse links. Not in
+/// Rust's std.
+///
+/// ```
+/// use unix_path_rattle::{join_within, Error};
+/// let mut out = [0; 16];
+/// assert_eq!(join_within(b"/srv/www", b"a/../b", &mut out), Ok(&b"/srv/www/b"[..]));
+/// assert_eq!(join_within(b"/srv/www", b"a/../../x", &mut out), Err(Error::Escapes));
+/// ```
+#[inline]
+pub fn join_within<'o>(root: &[u8], request: &[u8], out: &'o mut [u8]) -> Result<&'o [u8], Error> {
+    match MakeOfTwo::JOIN_WITHIN.write(root, request, out) {
+        ESCAPES => Err(Error::Escapes),
+        NO_MEMORY => Err(Error::NoMemory),
+        needed => answer(out, needed),
+    }
+}

@@ -1,0 +1,45 @@
+//! Paths as keys of maps: equal where their parts are.
+use core::cmp::Ordering;
+use core::hash::{Hash, Hasher};
+
+/// Bytes that are compared, ordered and hashed as paths, by their parts.
+///
+/// Not in Rust's std, whose `Path` is so of itself.
+///
+/// ```
+/// use std::collections::BTreeMap;
+/// use unix_path_rattle::ByParts;
+/// let mut sizes = BTreeMap::new();
+/// sizes.insert(ByParts("a//b"), 1);
+/// assert_eq!(sizes.get(&ByParts("a/b/.")), Some(&1));
+/// ```
+#[derive(Clone, Copy, Debug, Default)]
+pub struct ByParts<P>(pub P);
+
+impl<P: AsRef<[u8]>> PartialEq for ByParts<P> {
+    fn eq(&self, other: &Self) -> bool {
+        crate::equal(self.0.as_ref(), other.0.as_ref())
+    }
+}
+
+impl<P: AsRef<[u8]>> Eq for ByParts<P> {}
+
+impl<P: AsRef<[u8]>> PartialOrd for ByParts<P> {
+    fn partial_cmp(&self, other: &Self) -> Option<Ordering> {
+        Some(self.cmp(other))
+    }
+}
+
+impl<P: AsRef<[u8]>> Ord for ByParts<P> {
+    fn cmp(&self, other: &Self) -> Ordering {
+        crate::compare(self.0.as_ref(), other.0.as_ref())
+    }
+}
+
+/// One number is fed to the hasher, [`hash`](crate::hash); so whoever finds two paths with the same
+/// number has found a collision for each key of the hasher.
+impl<P: AsRef<[u8]>> Hash for ByParts<P> {
+    fn hash<H: Hasher>(&self, state: &mut H) {
+        state.write_u64(crate::hash(self.0.as_ref()));
+    }
+}

@@ -1,0 +1,143 @@
+//! The parts of a path, one by one from either end.
+use crate::ffi::{Part, Step, Walk};
+use core::cmp::Ordering;
+use core::fmt;
+use core::hash::{Hash, Hasher};
+use core::iter::FusedIterator;
+
+/// A part of a path. The order of parts is that of the variants, and that of names is by bytes.
+///
+/// As Rust's `std::path::Component`, without prefixes.
+#[derive(Clone, Copy, Debug, PartialEq, Eq, PartialOrd, Ord, Hash)]
+pub enum Component<'a> {
+    /// The root: the path begins with `/`.
+    RootDir,
+    /// A `.` that stands first. Others are dropped.
+    CurDir,
+    /// A `..`, which is kept.
+    ParentDir,
+    /// A name.
+    Normal(&'a [u8]),
+}
+
+impl<'a> Component<'a> {
+    /// The part's bytes: `/`, `.`, `..` or the name. As Rust's `Component::as_os_str`.
+    ///
+    /// ```
+    /// use unix_path_rattle::Component;
+    /// assert_eq!(Component::RootDir.as_bytes(), b"/");
+    /// assert_eq!(Component::Normal(b"a").as_bytes(), b"a");
+    /// ```
+    #[must_use]
+    pub fn as_bytes(self) -> &'a [u8] {
+        match self {
+            Component::RootDir => b"/",
+            Component::CurDir => b".",
+            Component::ParentDir => b"..",
+            Component::Normal(name) => name,
+        }
+    }
+
+    /// The part that the library told of this path.
+    fn told(part: Part, path: &'a [u8]) -> Option<Component<'a>> {
+        match part.kind {
+            Part::ROOT_DIR => Some(Component::RootDir),
+            Part::CUR_DIR => Some(Component::CurDir),
+            Part::PARENT_DIR => Some(Component::ParentDir),
+            Part::NORMAL => part.of(path).map(Component::Normal),
+            _ => None,
+        }
+    }
+}
+
+/// The parts of a path, from either end; [`components`](crate::components) makes it.
+///
+/// It is the path and two places in it: no call of it allocates. Two are compared and hashed by the
+/// parts that they have left. As Rust's `std::path::Components`.
+#[derive(Clone)]
+pub struct Components<'a> {
+    path: &'a [u8],
+    walk: Walk,
+}
+
+impl<'a> Components<'a> {
+    #[inline]
+    pub(crate) fn new(path: &'a [u8]) -> Components<'a> {
+        Components {
+            path,
+            walk: Walk::new(path),
+        }
+    }
+
+    /// What is left of the path, from the start of the first part left to the end of the last.
+    ///
+    /// As Rust's `Components::as_path`.
+    ///
+    /// ```
+    /// let mut parts = unix_path_rattle::components(b"/tmp//foo/./bar.txt/");
+    /// parts.next();
+    /// parts.next_back();
+    /// assert_eq!(parts.as_path(), b"tmp//foo");
+    /// ```
+    #[must_use]
+    #[inline]
+    pub fn as_path(&self) -> &'a [u8] {
+        self.walk.left(self.path).unwrap_or_default()
+    }
+
+    #[inline]
+    fn step(&mut self, step: Step) -> Option<Component<'a>> {
+        let part = step.take(self.path, &mut self.walk)?;
+        Component::told(part, self.path)
+    }
+}
+
+impl<'a> Iterator for Components<'a> {
+    type Item = Component<'a>;
+
+    #[inline]
+    fn next(&mut self) -> Option<Component<'a>> {
+        self.step(Step::NEXT)
+    }
+}
+
+impl DoubleEndedIterator for Components<'_> {
+    #[inline]
+    fn next_back(&mut self) -> Option<Self::Item> {
+        self.step(Step::NEXT_BACK)
+    }
+}
+
+impl FusedIterator for Components<'_> {}
+
+impl fmt::Debug for Components<'_> {
+    fn fmt(&self, f: &mut fmt::Formatter<'_>) -> fmt::Result {
+        f.debug_list().entries(self.clone()).finish()
+    }
+}
+
+impl PartialEq for Components<'_> {
+    fn eq(&self, other: &Self) -> bool {
+        crate::equal(self.as_path(), other.as_path())
+    }
+}
+
+impl Eq for Components<'_> {}
+
+impl PartialOrd for Components<'_> {
+    fn partial_cmp(&self, other: &Self) -> Option<Ordering> {
+        Some(self.cmp(other))
+    }
+}
+
+impl Ord for Components<'_> {
+    fn cmp(&self, other: &Self) -> Ordering {
+        crate::compare(self.as_path(), other.as_path())
+    }
+}
+
+impl Hash for Components<'_> {
+    fn hash<H: Hasher>(&self, state: &mut H) {
+        state.write_u64(crate::hash(self.as_path()));
+    }
+}

@@ -1,0 +1,281 @@
+//! The calls of `libunix_path_c`, by what they are given and answer: all `unsafe` code of the crate.
+//!
+//! A type of this module is a shape of calls, and its constants are the calls of that shape, as
+//! `include/unix_path.h` declares them. Only this module makes values of these types.
+//!
+//! Each `unsafe` block rests on the same promises of the library: a call reads the slices that it
+//! is given, and nothing else; it writes the record or the buffer that it is given, and nothing
+//! else; it keeps no pointer; it returns. A slice of Rust is never null, even where it is empty, has
+//! at most `isize::MAX` bytes, and one that is written to shares no byte with the others.
+use core::cmp::Ordering;
+
+type Start = *const u8;
+
+/// What is left of a walk, as the library keeps it.
+#[repr(C)]
+#[derive(Clone, Copy, Debug)]
+pub(crate) struct Walk {
+    front: usize,
+    back: usize,
+}
+
+/// Where a part stands, and of which kind it is.
+#[repr(C)]
+pub(crate) struct Part {
+    start: usize,
+    length: usize,
+    /// One of the constants of `Part`.
+    pub kind: u32,
+}
+
+/// Where an answer stands in a path.
+#[repr(C)]
+struct Place {
+    start: usize,
+    length: usize,
+}
+
+type TruthOfOne = unsafe extern "C" fn(Start, usize) -> bool;
+type TruthOfTwo = unsafe extern "C" fn(Start, usize, Start, usize) -> bool;
+type StepOfWalk = unsafe extern "C" fn(Start, usize, *mut Walk, *mut Part) -> bool;
+type PlaceInOne = unsafe extern "C" fn(Start, usize, *mut Place) -> bool;
+type BytesOfOne = unsafe extern "C" fn(Start, usize, *mut u8, usize) -> usize;
+type BytesOfTwo = unsafe extern "C" fn(Start, usize, Start, usize, *mut u8, usize) -> usize;
+
+#[rustfmt::skip]
+extern "C" {
+    fn unix_path_components(path: Start, path_length: usize, walk: *mut Walk);
+    fn unix_path_next(path: Start, path_length: usize, walk: *mut Walk, part: *mut Part) -> bool;
+    fn unix_path_next_back(path: Start, path_length: usize, walk: *mut Walk, part: *mut Part)
+        -> bool;
+    fn unix_path_as_path(path: Start, path_length: usize, walk: *const Walk, place: *mut Place);
+
+    fn unix_path_parent(path: Start, path_length: usize, place: *mut Place) -> bool;
+    fn unix_path_file_name(path: Start, path_length: usize, place: *mut Place) -> bool;
+    fn unix_path_file_stem(path: Start, path_length: usize, place: *mut Place) -> bool;
+    fn unix_path_extension(path: Start, path_length: usize, place: *mut Place) -> bool;
+    fn unix_path_file_prefix(path: Start, path_length: usize, place: *mut Place) -> bool;
+    fn unix_path_strip_prefix(path: Start, path_length: usize, base: Start, base_length: usize,
+        place: *mut Place) -> bool;
+
+    fn unix_path_starts_with(a: Start, a_length: usize, b: Start, b_length: usize) -> bool;
+    fn unix_path_ends_with(a: Start, a_length: usize, b: Start, b_length: usize) -> bool;
+    fn unix_path_equal(a: Start, a_length: usize, b: Start, b_length: usize) -> bool;
+    fn unix_path_compare(a: Start, a_length: usize, b: Start, b_length: usize) -> i32;
+    fn unix_path_hash(path: Start, path_length: usize) -> u64;
+    fn unix_path_is_utf8(path: Start, path_length: usize) -> bool;
+    fn unix_path_is_absolute(path: Start, path_length: usize) -> bool;
+    fn unix_path_climbs(path: Start, path_length: usize) -> bool;
+    fn unix_path_common_dir(a: Start, a_length: usize, b: Start, b_length: usize) -> usize;
+
+    fn unix_path_join(base: Start, base_length: usize, path: Start, path_length: usize,
+        out: *mut u8, out_length: usize) -> usize;
+    fn unix_path_with_file_name(path: Start, path_length: usize, name: Start, name_length: usize,
+        out: *mut u8, out_length: usize) -> usize;
+    fn unix_path_with_extension(path: Start, path_length: usize, extension: Start,
+        extension_length: usize, out: *mut u8, out_length: usize) -> usize;
+    fn unix_path_canonical(path: Start, path_length: usize, out: *mut u8, out_length: usize)
+        -> usize;
+    fn unix_path_to_string_lossy(path: Start, path_length: usize, out: *mut u8, out_length: usize)
+        -> usize;
+    fn unix_path_resolved(path: Start, path_length: usize, out: *mut u8, out_length: usize)
+        -> usize;
+    fn unix_path_join_within(root: Start, root_length: usize, request: Start,
+        request_length: usize, out: *mut u8, out_length: usize) -> usize;
+}
+
+/// `with_extension` answers so for an extension with a slash.
+pub(crate) const SEPARATOR: usize = usize::MAX;
+/// `join_within` answers so for a request that climbs.
+pub(crate) const ESCAPES: usize = usize::MAX - 1;
+/// `resolved` and `join_within` answer so where an allocation failed.
+pub(crate) const NO_MEMORY: usize = usize::MAX - 2;
+
+/// The bytes between two places, or none where they don't lie in the path: what the library answers
+/// is never trusted.
+fn cut(path: &[u8], start: usize, length: usize) -> Option<&[u8]> {
+    path.get(start..start.checked_add(length)?)
+}
+
+impl Place {
+    const NOWHERE: Place = Place {
+        start: 0,
+        length: 0,
+    };
+
+    fn of(self, path: &[u8]) -> Option<&[u8]> {
+        cut(path, self.start, self.length)
+    }
+}
+
+impl Part {
+    pub const ROOT_DIR: u32 = 0;
+    pub const CUR_DIR: u32 = 1;
+    pub const PARENT_DIR: u32 = 2;
+    pub const NORMAL: u32 = 3;
+
+    pub fn of(self, path: &[u8]) -> Option<&[u8]> {
+        cut(path, self.start, self.length)
+    }
+}
+
+impl Walk {
+    /// The walk over all parts of the path.
+    #[inline]
+    pub fn new(path: &[u8]) -> Walk {
+        let mut walk = Walk { front: 0, back: 0 };
+        // SAFETY: the slice is read, and the record is written.
+        unsafe { unix_path_components(path.as_ptr(), path.len(), &mut walk) };
+        walk
+    }
+
+    /// What is left of the path.
+    #[inline]
+    pub fn left(self, path: &[u8]) -> Option<&[u8]> {
+        let mut place = Place::NOWHERE;
+        // SAFETY: the slice and the walk are read, and the place is written.
+        unsafe { unix_path_as_path(path.as_ptr(), path.len(), &self, &mut place) };
+        place.of(path)
+    }
+}
+
+/// Calls that take a part of what is left of a walk.
+pub(crate) struct Step(StepOfWalk);
+
+impl Step {
+    pub const NEXT: Step = Step(unix_path_next);
+    pub const NEXT_BACK: Step = Step(unix_path_next_back);
+
+    #[inline]
+    pub fn take(self, path: &[u8], walk: &mut Walk) -> Option<Part> {
+        let mut part = Part {
+            start: 0,
+            length: 0,
+            kind: 0,
+        };
+        // SAFETY: the slice is read, and both records are written. For a walk over another path,
+        // which no caller in this crate has, the answer may be another one, and no more.
+        let is_taken = unsafe { (self.0)(path.as_ptr(), path.len(), walk, &mut part) };
+        is_taken.then_some(part)
+    }
+}
+
+/// Calls that find something in a path.
+pub(crate) struct Find(PlaceInOne);
+
+impl Find {
+    pub const PARENT: Find = Find(unix_path_parent);
+    pub const FILE_NAME: Find = Find(unix_path_file_name);
+    pub const FILE_STEM: Find = Find(unix_path_file_stem);
+    pub const EXTENSION: Find = Find(unix_path_extension);
+    pub const FILE_PREFIX: Find = Find(unix_path_file_prefix);
+
+    #[inline]
+    pub fn find(self, path: &[u8]) -> Option<&[u8]> {
+        let mut place = Place::NOWHERE;
+        // SAFETY: the slice is read, and the place is written.
+        let is_there = unsafe { (self.0)(path.as_ptr(), path.len(), &mut place) };
+        if is_there {
+            place.of(path)
+        } else {
+            None
+        }
+    }
+}
+
+#[inline]
+pub(crate) fn strip_prefix<'a>(path: &'a [u8], base: &[u8]) -> Option<&'a [u8]> {
+    let (start, length) = (path.as_ptr(), path.len());
+    let mut place = Place::NOWHERE;
+    // SAFETY: the slices are read, and the place is written.
+    let is_there =
+        unsafe { unix_path_strip_prefix(start, length, base.as_ptr(), base.len(), &mut place) };
+    if is_there {
+        place.of(path)
+    } else {
+        None
+    }
+}
+
+/// Questions about a path.
+pub(crate) struct Ask(TruthOfOne);
+
+impl Ask {
+    pub const IS_UTF8: Ask = Ask(unix_path_is_utf8);
+    pub const IS_ABSOLUTE: Ask = Ask(unix_path_is_absolute);
+    pub const CLIMBS: Ask = Ask(unix_path_climbs);
+
+    #[inline]
+    pub fn ask(self, path: &[u8]) -> bool {
+        // SAFETY: the slice is read.
+        unsafe { (self.0)(path.as_ptr(), path.len()) }
+    }
+}
+
+/// Questions about two paths.
+pub(crate) struct AskTwo(TruthOfTwo);
+
+impl AskTwo {
+    pub const STARTS_WITH: AskTwo = AskTwo(unix_path_starts_with);
+    pub const ENDS_WITH: AskTwo = AskTwo(unix_path_ends_with);
+    pub const EQUAL: AskTwo = AskTwo(unix_path_equal);
+
+    #[inline]
+    pub fn ask(self, a: &[u8], b: &[u8]) -> bool {
+        // SAFETY: the slices are read.
+        unsafe { (self.0)(a.as_ptr(), a.len(), b.as_ptr(), b.len()) }
+    }
+}
+
+#[inline]
+pub(crate) fn compare(a: &[u8], b: &[u8]) -> Ordering {
+    // SAFETY: the slices are read.
+    unsafe { unix_path_compare(a.as_ptr(), a.len(), b.as_ptr(), b.len()) }.cmp(&0)
+}
+
+#[inline]
+pub(crate) fn hash(path: &[u8]) -> u64 {
+    // SAFETY: the slice is read.
+    unsafe { unix_path_hash(path.as_ptr(), path.len()) }
+}
+
+#[inline]
+pub(crate) fn common_dir(a: &[u8], b: &[u8]) -> usize {
+    // SAFETY: the slices are read.
+    unsafe { unix_path_common_dir(a.as_ptr(), a.len(), b.as_ptr(), b.len()) }
+}
+
+/// Calls that write what they make of a path, and answer its length or one of the constants above.
+#[derive(Clone, Copy)]
+pub(crate) struct Make(BytesOfOne);
+
+impl Make {
+    pub const CANONICAL: Make = Make(unix_path_canonical);
+    pub const TO_STRING_LOSSY: Make = Make(unix_path_to_string_lossy);
+    pub const RESOLVED: Make = Make(unix_path_resolved);
+
+    #[inline]
+    pub fn write(self, path: &[u8], out: &mut [u8]) -> usize {
+        // SAFETY: the slice is read, and the buffer is written.
+        unsafe { (self.0)(path.as_ptr(), path.len(), out.as_mut_ptr(), out.len()) }
+    }
+}
+
+/// Calls that write what they make of a path and something else.
+#[derive(Clone, Copy)]
+pub(crate) struct MakeOfTwo(BytesOfTwo);
+
+impl MakeOfTwo {
+    pub const JOIN: MakeOfTwo = MakeOfTwo(unix_path_join);
+    pub const WITH_FILE_NAME: MakeOfTwo = MakeOfTwo(unix_path_with_file_name);
+    pub const WITH_EXTENSION: MakeOfTwo = MakeOfTwo(unix_path_with_extension);
+    pub const JOIN_WITHIN: MakeOfTwo = MakeOfTwo(unix_path_join_within);
+
+    #[inline]
+    pub fn write(self, path: &[u8], other: &[u8], out: &mut [u8]) -> usize {
+        let (start, length) = (path.as_ptr(), path.len());
+        let (out, out_length) = (out.as_mut_ptr(), out.len());
+        // SAFETY: the slices are read, and the buffer is written.
+        unsafe { (self.0)(start, length, other.as_ptr(), other.len(), out, out_length) }
+    }
+}

@@ -1,0 +1,67 @@
+//! Unix paths as plain bytes, over `libunix_path_c`, a static library whose calls are proved.
+//!
+//! Paths are `&[u8]`, on any platform that the library is built for. What is found in a path lies
+//! in it; what is made of paths is written into a buffer of the caller:
+//!
+//! ```
+//! use unix_path_rattle::{components, join, parent, Component, Error};
+//!
+//! let path = b"/tmp//foo/./bar.txt";
+//! assert_eq!(parent(path), Some(&b"/tmp//foo"[..]));
+//! assert_eq!(components(path).next_back(), Some(Component::Normal(b"bar.txt")));
+//!
+//! let mut out = [0; 8];
+//! assert_eq!(join(b"/tmp", b"foo", &mut out), Ok(&b"/tmp/foo"[..]));
+//! assert_eq!(join(b"/tmp/", b"foo.txt", &mut out), Err(Error::Short { needed: 12 }));
+//! ```
+//!
+//! With the feature `alloc` the calls of [`owned`] give a `Vec<u8>`; with `std`, the default, those
+//! of [`os`] take and give `Path` and `OsStr` on Unix. No call of any of them panics, and lack of
+//! memory is an answer, [`Error::NoMemory`].
+//!
+//! # What is proved
+//!
+//! That each call of the library returns what its contract says, on all bytes; the contracts stand
+//! in `crates/unix_path_c`. This crate isn't proved: it passes the slices, and cuts the answers out
+//! of them with a test of their bounds, so that a wrong library would give wrong answers, and could
+//! do harm only by what it reads and writes itself.
+//!
+//! # Building
+//!
+//! The library is taken from the folder that `UNIX_PATH_LIB_DIR` names, else from
+//! `crates/unix_path_c/out` of this repository, else from where `pkg-config unix_path` says.
+#![no_std]
+#![deny(
+    missing_docs,
+    missing_debug_implementations,
+    unsafe_code,
+    unsafe_op_in_unsafe_fn
+)]
+
+#[cfg(feature = "alloc")]
+extern crate alloc;
+#[cfg(feature = "std")]
+extern crate std;
+
+mod buffers;
+mod by_parts;
+mod components;
+mod error;
+#[allow(unsafe_code)]
+mod ffi;
+#[cfg(all(feature = "std", unix))]
+pub mod os;
+#[cfg(feature = "alloc")]
+pub mod owned;
+mod queries;
+
+pub use buffers::{
+    canonical, join, join_within, resolved, to_string_lossy, with_extension, with_file_name,
+};
+pub use by_parts::ByParts;
+pub use components::{Component, Components};
+pub use error::Error;
+pub use queries::{
+    climbs, common_dir, compare, components, ends_with, equal, extension, file_name, file_prefix,
+    file_stem, hash, is_absolute, is_utf8, parent, starts_with, strip_prefix,
+};

@@ -1,0 +1,109 @@
+//! The calls that make a path, with an answer in memory of its own.
+//!
+//! Each fails with [`Error::NoMemory`] where an allocation failed, and never with
+//! [`Error::Short`].
+use crate::error::Error;
+use alloc::string::String;
+use alloc::vec::Vec;
+
+/// What the call writes, in so much memory; an error of the call is passed on.
+fn filled<M>(room: usize, make: &M) -> Result<Vec<u8>, Error>
+where
+    M: Fn(&mut [u8]) -> Result<&[u8], Error>,
+{
+    let mut bytes = Vec::new();
+    bytes.try_reserve_exact(room).map_err(|_| Error::NoMemory)?;
+    bytes.resize(room, 0);
+    let length = make(&mut bytes)?.len();
+    bytes.truncate(length);
+    Ok(bytes)
+}
+
+/// What the call writes, in so much memory or, where that is too little, as much as it needs.
+fn made<M>(room: usize, make: M) -> Result<Vec<u8>, Error>
+where
+    M: Fn(&mut [u8]) -> Result<&[u8], Error>,
+{
+    match filled(room, &make) {
+        Err(Error::Short { needed }) => filled(needed, &make),
+        made => made,
+    }
+}
+
+/// As [`join`](crate::join), in memory of its own.
+///
+/// ```
+/// assert_eq!(unix_path_rattle::owned::join(b"/a", b"b").unwrap(), b"/a/b");
+/// ```
+pub fn join(base: &[u8], path: &[u8]) -> Result<Vec<u8>, Error> {
+    made(base.len() + 1 + path.len(), |out| {
+        crate::join(base, path, out)
+    })
+}
+
+/// As [`with_file_name`](crate::with_file_name), in memory of its own.
+///
+/// ```
+/// assert_eq!(unix_path_rattle::owned::with_file_name(b"/a/b", b"c").unwrap(), b"/a/c");
+/// ```
+pub fn with_file_name(path: &[u8], name: &[u8]) -> Result<Vec<u8>, Error> {
+    made(path.len() + 1 + name.len(), |out| {
+        crate::with_file_name(path, name, out)
+    })
+}
+
+/// As [`with_extension`](crate::with_extension), in memory of its own.
+///
+/// ```
+/// use unix_path_rattle::{owned, Error};
+/// assert_eq!(owned::with_extension(b"a/b.c", b"d").unwrap(), b"a/b.d");
+/// assert_eq!(owned::with_extension(b"a/b.c", b"d/e"), Err(Error::Separator));
+/// ```
+pub fn with_extension(path: &[u8], extension: &[u8]) -> Result<Vec<u8>, Error> {
+    made(path.len() + 1 + extension.len(), |out| {
+        crate::with_extension(path, extension, out)
+    })
+}
+
+/// As [`canonical`](crate::canonical), in memory of its own.
+///
+/// ```
+/// assert_eq!(unix_path_rattle::owned::canonical(b".//a/./b/").unwrap(), b"./a/b");
+/// ```
+pub fn canonical(path: &[u8]) -> Result<Vec<u8>, Error> {
+    made(path.len(), |out| crate::canonical(path, out))
+}
+
+/// As [`to_string_lossy`](crate::to_string_lossy), as text of its own.
+///
+/// ```
+/// assert_eq!(unix_path_rattle::owned::to_string_lossy(b"caf\xE9").unwrap(), "caf\u{FFFD}");
+/// ```
+pub fn to_string_lossy(path: &[u8]) -> Result<String, Error> {
+    let bytes = made(path.len(), |out| crate::to_string_lossy(path, out))?;
+    // It is text; were it none, Rust would make it so.
+    Ok(String::from_utf8(bytes)
+        .unwrap_or_else(|error| String::from_utf8_lossy(error.as_bytes()).into_owned()))
+}
+
+/// As [`resolved`](crate::resolved), in memory of its own.
+///
+/// ```
+/// assert_eq!(unix_path_rattle::owned::resolved(b"/a/../b/.").unwrap(), b"/b");
+/// ```
+pub fn resolved(path: &[u8]) -> Result<Vec<u8>, Error> {
+    made(path.len(), |out| crate::resolved(path, out))
+}
+
+/// As [`join_within`](crate::join_within), in memory of its own.
+///
+/// ```
+/// use unix_path_rattle::{owned, Error};
+/// assert_eq!(owned::join_within(b"/srv/www", b"a/../b").unwrap(), b"/srv/www/b");
+/// assert_eq!(owned::join_within(b"/srv/www", b"/etc"), Err(Error::Escapes));
+/// ```
+pub fn join_within(root: &[u8], request: &[u8]) -> Result<Vec<u8>, Error> {
+    made(root.len() + 1 + request.len(), |out| {
+        crate::join_within(root, request, out)
+    })
+}

@@ -1,0 +1,222 @@
+//! What is asked of a path or of two. Answers lie in the path; nothing allocates.
+use crate::components::Components;
+use crate::ffi::{self, Ask, AskTwo, Find};
+use core::cmp::Ordering;
+
+/// The parts of the path, one by one from either end.
+///
+/// Slashes in a row are one, a trailing slash is dropped, and so is each `.` but one that stands
+/// first. As Rust's `Path::components`.
+///
+/// ```
+/// use unix_path_rattle::{components, Component::*};
+/// assert!(components(b"/tmp//./a/..").eq([RootDir, Normal(b"tmp"), Normal(b"a"), ParentDir]));
+/// assert_eq!(components(b"./a/").next_back(), Some(Normal(b"a")));
+/// ```
+#[must_use]
+#[inline]
+pub fn components(path: &[u8]) -> Components<'_> {
+    Components::new(path)
+}
+
+/// The path without its last part, unless that is the root or there is none.
+///
+/// As Rust's `Path::parent`.
+///
+/// ```
+/// assert_eq!(unix_path_rattle::parent(b"/a//b/"), Some(&b"/a"[..]));
+/// assert_eq!(unix_path_rattle::parent(b"/"), None);
+/// ```
+#[must_use]
+#[inline]
+pub fn parent(path: &[u8]) -> Option<&[u8]> {
+    Find::PARENT.find(path)
+}
+
+/// The last part, where it is a name. As Rust's `Path::file_name`.
+///
+/// ```
+/// assert_eq!(unix_path_rattle::file_name(b"foo.txt/."), Some(&b"foo.txt"[..]));
+/// assert_eq!(unix_path_rattle::file_name(b"foo/.."), None);
+/// ```
+#[must_use]
+#[inline]
+pub fn file_name(path: &[u8]) -> Option<&[u8]> {
+    Find::FILE_NAME.find(path)
+}
+
+/// The file name up to its last dot; all of it where it has none or that dot stands first.
+///
+/// As Rust's `Path::file_stem`.
+///
+/// ```
+/// assert_eq!(unix_path_rattle::file_stem(b"a/foo.tar.gz"), Some(&b"foo.tar"[..]));
+/// assert_eq!(unix_path_rattle::file_stem(b"a/.foo"), Some(&b".foo"[..]));
+/// ```
+#[must_use]
+#[inline]
+pub fn file_stem(path: &[u8]) -> Option<&[u8]> {
+    Find::FILE_STEM.find(path)
+}
+
+/// The file name behind its last dot; none where it has none or that dot stands first.
+///
+/// As Rust's `Path::extension`.
+///
+/// ```
+/// assert_eq!(unix_path_rattle::extension(b"a/foo.tar.gz"), Some(&b"gz"[..]));
+/// assert_eq!(unix_path_rattle::extension(b"a/.foo"), None);
+/// assert_eq!(unix_path_rattle::extension(b"a/foo."), Some(&b""[..]));
+/// ```
+#[must_use]
+#[inline]
+pub fn extension(path: &[u8]) -> Option<&[u8]> {
+    Find::EXTENSION.find(path)
+}
+
+/// The file name up to its first dot behind its first byte; all of it where it has none.
+///
+/// As Rust's `Path::file_prefix`.
+///
+/// ```
+/// assert_eq!(unix_path_rattle::file_prefix(b"a/foo.tar.gz"), Some(&b"foo"[..]));
+/// assert_eq!(unix_path_rattle::file_prefix(b"a/.foo.gz"), Some(&b".foo"[..]));
+/// ```
+#[must_use]
+#[inline]
+pub fn file_prefix(path: &[u8]) -> Option<&[u8]> {
+    Find::FILE_PREFIX.find(path)
+}
+
+/// What follows `base` in `path`; none where [`starts_with`] is false.
+///
+/// As Rust's `Path::strip_prefix`, but that where nothing follows, the empty answer may stand
+/// elsewhere in the path.
+///
+/// ```
+/// assert_eq!(unix_path_rattle::strip_prefix(b"/a//b/", b"/a"), Some(&b"b"[..]));
+/// assert_eq!(unix_path_rattle::strip_prefix(b"/ab", b"/a"), None);
+/// ```
+#[must_use]
+#[inline]
+pub fn strip_prefix<'a>(path: &'a [u8], base: &[u8]) -> Option<&'a [u8]> {
+    ffi::strip_prefix(path, base)
+}
+
+/// Whether the parts of `base` begin those of `path`. As Rust's `Path::starts_with`.
+///
+/// ```
+/// assert!(unix_path_rattle::starts_with(b"/etc//passwd", b"/etc/"));
+/// assert!(!unix_path_rattle::starts_with(b"/etc/passwd", b"/e"));
+/// ```
+#[must_use]
+#[inline]
+pub fn starts_with(path: &[u8], base: &[u8]) -> bool {
+    AskTwo::STARTS_WITH.ask(path, base)
+}
+
+/// Whether the parts of `child` end those of `path`. As Rust's `Path::ends_with`.
+///
+/// ```
+/// assert!(unix_path_rattle::ends_with(b"/etc/passwd", b"passwd/"));
+/// assert!(!unix_path_rattle::ends_with(b"/etc/passwd", b"/passwd"));
+/// ```
+#[must_use]
+#[inline]
+pub fn ends_with(path: &[u8], child: &[u8]) -> bool {
+    AskTwo::ENDS_WITH.ask(path, child)
+}
+
+/// Whether the two have the same parts. As `==` of Rust's `Path`.
+///
+/// ```
+/// assert!(unix_path_rattle::equal(b"a//b/.", b"a/b"));
+/// assert!(!unix_path_rattle::equal(b"./a", b"a"));
+/// ```
+#[must_use]
+#[inline]
+pub fn equal(a: &[u8], b: &[u8]) -> bool {
+    AskTwo::EQUAL.ask(a, b)
+}
+
+/// The order of the two by their parts. As `cmp` of Rust's `Path`.
+///
+/// ```
+/// use std::cmp::Ordering::{Equal, Less};
+/// assert_eq!(unix_path_rattle::compare(b"a/b", b"a.b"), Less);
+/// assert_eq!(unix_path_rattle::compare(b"a//b/", b"a/b"), Equal);
+/// ```
+#[must_use]
+#[inline]
+pub fn compare(a: &[u8], b: &[u8]) -> Ordering {
+    ffi::compare(a, b)
+}
+
+/// A number that equal paths share, the same in every run and on every machine.
+///
+/// It has no key: where an enemy chooses the paths, feed it to a hasher that has one, or hash the
+/// canonical bytes.
+///
+/// ```
+/// assert_eq!(unix_path_rattle::hash(b"a//b/."), unix_path_rattle::hash(b"a/b"));
+/// ```
+#[must_use]
+#[inline]
+pub fn hash(path: &[u8]) -> u64 {
+    ffi::hash(path)
+}
+
+/// Whether the path's bytes are UTF-8.
+///
+/// ```
+/// assert!(unix_path_rattle::is_utf8("/tmp/é".as_bytes()));
+/// assert!(!unix_path_rattle::is_utf8(b"/tmp/\xE9"));
+/// ```
+#[must_use]
+#[inline]
+pub fn is_utf8(path: &[u8]) -> bool {
+    Ask::IS_UTF8.ask(path)
+}
+
+/// Whether the path begins with a slash. As Rust's `Path::is_absolute`.
+///
+/// ```
+/// assert!(unix_path_rattle::is_absolute(b"/a"));
+/// assert!(!unix_path_rattle::is_absolute(b"a/"));
+/// ```
+#[must_use]
+#[inline]
+pub fn is_absolute(path: &[u8]) -> bool {
+    Ask::IS_ABSOLUTE.ask(path)
+}
+
+/// Whether the path has a root or, read from the left, ever goes above where it starts.
+///
+/// It goes by names alone: where a part may be a link, only the system knows where `..` leads. Not
+/// in Rust's std.
+///
+/// ```
+/// assert!(unix_path_rattle::climbs(b"a/../../root/x"));
+/// assert!(unix_path_rattle::climbs(b"/a"));
+/// assert!(!unix_path_rattle::climbs(b"a/../..foo"));
+/// ```
+#[must_use]
+#[inline]
+pub fn climbs(path: &[u8]) -> bool {
+    Ask::CLIMBS.ask(path)
+}
+
+/// The front of `a` up to and with the last slash of what both begin with, byte by byte; empty
+/// where that has no slash.
+///
+/// Not in Rust's std.
+///
+/// ```
+/// assert_eq!(unix_path_rattle::common_dir(b"x/ab", b"x/ac"), b"x/");
+/// assert_eq!(unix_path_rattle::common_dir(b"a/b", b"ab"), b"");
+/// ```
+#[must_use]
+#[inline]
+pub fn common_dir<'a>(a: &'a [u8], b: &[u8]) -> &'a [u8] {
+    a.get(..ffi::common_dir(a, b)).unwrap_or_default()
+}
