@@ -1,19 +1,24 @@
 //! Finds `libunix_path_c.a`, which the crate is linked with.
 use std::env;
+use std::iter::once;
 use std::path::{Path, PathBuf};
 use std::process::{exit, Command};
+
+/// What decides where the library is found.
+const VARIABLES: [&str; 5] = [
+    "UNIX_PATH_LIB_DIR",
+    "UNIX_PATH_LIB",
+    "PKG_CONFIG",
+    "PKG_CONFIG_PATH",
+    "PKG_CONFIG_LIBDIR",
+];
 
 /// The file that is looked for.
 const LIBRARY: &str = "libunix_path_c.a";
 
 fn main() {
     println!("cargo:rerun-if-changed=build.rs");
-    for name in [
-        "UNIX_PATH_LIB_DIR",
-        "PKG_CONFIG",
-        "PKG_CONFIG_PATH",
-        "PKG_CONFIG_LIBDIR",
-    ] {
+    for name in VARIABLES {
         println!("cargo:rerun-if-env-changed={name}");
     }
     // The documentation alone needs no library.
@@ -36,27 +41,37 @@ struct Place {
     named_by: &'static str,
 }
 
-/// The folders, in the order in which they are looked at. A folder that the environment names is
-/// the only one.
+/// The folders, in the order in which they are looked at. One that the environment names is the
+/// only one.
 fn places() -> Vec<Place> {
-    if let Some(folder) = env::var_os("UNIX_PATH_LIB_DIR") {
-        return vec![Place {
-            folder: folder.into(),
-            named_by: "UNIX_PATH_LIB_DIR",
-        }];
+    if let Some(place) = from_environment() {
+        return vec![place];
     }
     let here = Path::new(env!("CARGO_MANIFEST_DIR"));
-    let built = here.join("../../crates/unix_path_c/out");
-    let mut places = vec![Place {
-        folder: built,
+    let built = Place {
+        folder: here.join("../../crates/unix_path_c/out"),
         named_by: "this repository",
-    }];
+    };
     let told = from_pkg_config().map(|folder| Place {
         folder,
         named_by: "pkg-config",
     });
-    places.extend(told);
-    places
+    once(built).chain(told).collect()
+}
+
+/// The folder that `UNIX_PATH_LIB_DIR` names, or that of the file that `UNIX_PATH_LIB` names.
+fn from_environment() -> Option<Place> {
+    if let Some(folder) = env::var_os("UNIX_PATH_LIB_DIR") {
+        return Some(Place {
+            folder: folder.into(),
+            named_by: "UNIX_PATH_LIB_DIR",
+        });
+    }
+    let file = PathBuf::from(env::var_os("UNIX_PATH_LIB")?);
+    Some(Place {
+        folder: file.parent()?.to_path_buf(),
+        named_by: "UNIX_PATH_LIB",
+    })
 }
 
 /// The folder that pkg-config knows; none where there is no pkg-config, or it doesn't know the
@@ -93,6 +108,6 @@ fn refuse(places: &[Place]) -> ! {
     eprintln!("  - in the repository of unix_path: make lib");
     eprintln!("  - there: make install, so that `pkg-config unix_path` knows the library;");
     eprintln!("    below another PREFIX also set PKG_CONFIG_PATH to PREFIX/lib/pkgconfig");
-    eprintln!("  - set UNIX_PATH_LIB_DIR to the folder that holds {LIBRARY}");
+    eprintln!("  - set UNIX_PATH_LIB_DIR to the absolute path of the folder that holds {LIBRARY}");
     exit(1)
 }

@@ -1,0 +1,79 @@
+//! Answers to lists of edits.
+use unix_path_rattle::{self as paths, owned, Error};
+
+/// The path onto whose file name the extension is added; the face has no call for it.
+fn with_added_extension(path: &[u8], extension: &[u8]) -> Result<Vec<u8>, Error> {
+    if extension.contains(&b'/') {
+        return Err(Error::Separator);
+    }
+    if extension.is_empty() || paths::file_name(path).is_none() {
+        return Ok(path.to_vec());
+    }
+    // Nothing stands before the first part, so this goes up to the end of the file name.
+    Ok([paths::components(path).as_path(), b".", extension].concat())
+}
+
+/// Does the edit of an extension, and gives its word.
+fn edit_extension(
+    edited: &mut Vec<u8>,
+    extension: &[u8],
+    edit: fn(&[u8], &[u8]) -> Result<Vec<u8>, Error>,
+) -> Result<&'static str, Error> {
+    let is_named = paths::file_name(edited).is_some();
+    match edit(edited, extension) {
+        Err(Error::Separator) => return Ok("separator"),
+        made => *edited = made?,
+    }
+    Ok(if is_named { "true" } else { "false" })
+}
+
+/// Takes the last part away, and gives the word for whether there was one.
+fn pop(edited: &mut Vec<u8>) -> &'static str {
+    match paths::parent(edited).map(<[u8]>::len) {
+        Some(length) => {
+            edited.truncate(length);
+            "true"
+        }
+        None => "false",
+    }
+}
+
+/// Does the edit that the field names, and gives its word; none where it names none.
+fn edit(edited: &mut Vec<u8>, field: &[u8]) -> Result<Option<&'static str>, Error> {
+    let mut cut = field.splitn(2, |byte| *byte == b':');
+    let word = match (cut.next(), cut.next()) {
+        (Some(b"pop"), None) => pop(edited),
+        (Some(b"clear"), None) => {
+            edited.clear();
+            "ok"
+        }
+        (Some(b"push"), Some(more)) => {
+            *edited = owned::join(edited, more)?;
+            "ok"
+        }
+        (Some(b"name"), Some(name)) => {
+            *edited = owned::with_file_name(edited, name)?;
+            "ok"
+        }
+        (Some(b"ext"), Some(new)) => edit_extension(edited, new, owned::with_extension)?,
+        (Some(b"add"), Some(new)) => edit_extension(edited, new, with_added_extension)?,
+        _ => return Ok(None),
+    };
+    Ok(Some(word))
+}
+
+/// Adds the path after the edits, and the word of each; false where a field names no edit.
+pub fn push_edited(path: &[u8], fields: &[&[u8]], answer: &mut Vec<u8>) -> Result<bool, Error> {
+    let mut edited = path.to_vec();
+    let mut words = vec![];
+    for field in fields {
+        let Some(word) = edit(&mut edited, field)? else {
+            return Ok(false);
+        };
+        words.push(b'\t');
+        words.extend_from_slice(word.as_bytes());
+    }
+    answer.extend(edited);
+    answer.extend(words);
+    Ok(true)
+}

@@ -1,0 +1,56 @@
+//! Answers that are lists, with a tab between two items.
+use std::iter::{once, successors};
+use unix_path_rattle::{self as paths, owned, ByParts, Component, Error};
+
+/// Adds the items.
+pub fn push_list<'a>(items: impl Iterator<Item = &'a [u8]>, answer: &mut Vec<u8>) {
+    for (place, item) in items.enumerate() {
+        if place > 0 {
+            answer.push(b'\t');
+        }
+        answer.extend_from_slice(item);
+    }
+}
+
+/// Adds the bytes of the parts.
+pub fn push_parts<'a>(parts: impl Iterator<Item = Component<'a>>, answer: &mut Vec<u8>) {
+    push_list(parts.map(Component::as_bytes), answer);
+}
+
+/// Adds the path, its parent, the parent of that, and so on.
+pub fn push_ancestors(path: &[u8], answer: &mut Vec<u8>) {
+    push_list(successors(Some(path), |path| paths::parent(path)), answer);
+}
+
+/// Adds what the turns take from both ends, and what they leave; false where one is no turn.
+pub fn push_walk(path: &[u8], turns: &[u8], answer: &mut Vec<u8>) -> bool {
+    let mut left = paths::components(path);
+    let (mut front, mut behind) = (vec![], vec![]);
+    for turn in turns {
+        match turn {
+            b'f' => front.extend(left.next()),
+            b'b' => behind.extend(left.next_back()),
+            _ => return false,
+        }
+    }
+    let counts = format!("{}\t{}", front.len(), behind.len());
+    let front = front.into_iter().map(Component::as_bytes);
+    let behind = behind.into_iter().map(Component::as_bytes);
+    let items = once(counts.as_bytes()).chain(front);
+    push_list(items.chain(once(left.as_path())).chain(behind), answer);
+    true
+}
+
+/// Adds what follows the base in those of the paths that start with it, in order, each once and
+/// spelled canonically.
+pub fn push_under(base: &[u8], others: &[&[u8]], answer: &mut Vec<u8>) -> Result<(), Error> {
+    let mut others: Vec<_> = others.iter().copied().map(ByParts).collect();
+    others.sort();
+    others.dedup();
+    let rests = others
+        .into_iter()
+        .filter_map(|path| paths::strip_prefix(path.0, base));
+    let rests = rests.map(owned::canonical).collect::<Result<Vec<_>, _>>()?;
+    push_list(rests.iter().map(Vec::as_slice), answer);
+    Ok(())
+}
