@@ -1,12 +1,12 @@
-//! The calls of `libunix_path_c`, by what they are given and answer: all `unsafe` code of the crate.
+//! The calls of `libunix_path_c`, by what they are given and answer: all `unsafe` code there is.
 //!
 //! A type of this module is a shape of calls, and its constants are the calls of that shape, as
 //! `include/unix_path.h` declares them. Only this module makes values of these types.
 //!
 //! Each `unsafe` block rests on the same promises of the library: a call reads the slices that it
-//! is given, and nothing else; it writes the record or the buffer that it is given, and nothing
-//! else; it keeps no pointer; it returns. A slice of Rust is never null, even where it is empty, has
-//! at most `isize::MAX` bytes, and one that is written to shares no byte with the others.
+//! is given and writes the record or the buffer that it is given, and touches nothing else; it
+//! keeps no pointer; it returns. Slices of Rust are what it asks for: never null, even where they
+//! are empty, at most `isize::MAX` bytes, and one that is written shares no byte with the others.
 use core::cmp::Ordering;
 
 type Start = *const u8;

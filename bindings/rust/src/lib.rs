@@ -28,8 +28,8 @@
 //!
 //! # Building
 //!
-//! The library is taken from the folder that `UNIX_PATH_LIB_DIR` names (or `UNIX_PATH_LIB`, the file
-//! itself), else from `crates/unix_path_c/out` of this repository, else from where
+//! The library is taken from the folder that `UNIX_PATH_LIB_DIR` names, or that of the file which
+//! `UNIX_PATH_LIB` names; else from `crates/unix_path_c/out` of this repository; else from where
 //! `pkg-config --variable=libdir unix_path` says.
 #![no_std]
 #![deny(

@@ -13,14 +13,17 @@ fn with_added_extension(path: &[u8], extension: &[u8]) -> Result<Vec<u8>, Error>
     Ok([paths::components(path).as_path(), b".", extension].concat())
 }
 
+/// A call that makes a path with another extension.
+type Extend = fn(&[u8], &[u8]) -> Result<Vec<u8>, Error>;
+
 /// Does the edit of an extension, and gives its word.
 fn edit_extension(
     edited: &mut Vec<u8>,
     extension: &[u8],
-    edit: fn(&[u8], &[u8]) -> Result<Vec<u8>, Error>,
+    extend: Extend,
 ) -> Result<&'static str, Error> {
     let is_named = paths::file_name(edited).is_some();
-    match edit(edited, extension) {
+    match extend(edited, extension) {
         Err(Error::Separator) => return Ok("separator"),
         made => *edited = made?,
     }

@@ -1,0 +1,160 @@
+//! All strings of at most five bytes over `/`, `.`, `a` and `b`, and all pairs of them, beside
+//! `std::path`.
+use crate::short_strings::over;
+use std::ffi::OsStr;
+use std::os::unix::ffi::OsStrExt;
+use std::path::{Path, PathBuf};
+use unix_path_rattle::{self as paths, owned, Component, Error};
+
+const LETTERS: &[u8] = b"/.ab";
+const LONGEST: usize = 5;
+
+fn text(bytes: &[u8]) -> &OsStr {
+    OsStr::from_bytes(bytes)
+}
+
+fn path(bytes: &[u8]) -> &Path {
+    Path::new(text(bytes))
+}
+
+fn bytes(path: &(impl AsRef<OsStr> + ?Sized)) -> &[u8] {
+    path.as_ref().as_bytes()
+}
+
+/// The bytes of an answer and where they stand; empty ones stand anywhere.
+fn placed(found: Option<&[u8]>) -> Option<(&[u8], Option<*const u8>)> {
+    found.map(|found| (found, found.first().map(|first| first as *const u8)))
+}
+
+fn same_place(found: Option<&[u8]>, want: Option<&[u8]>, of: &[u8]) {
+    assert_eq!(placed(found), placed(want), "{}", of.escape_ascii());
+}
+
+fn as_std(part: Component<'_>) -> std::path::Component<'_> {
+    match part {
+        Component::RootDir => std::path::Component::RootDir,
+        Component::CurDir => std::path::Component::CurDir,
+        Component::ParentDir => std::path::Component::ParentDir,
+        Component::Normal(name) => std::path::Component::Normal(text(name)),
+    }
+}
+
+/// The file name up to its first dot behind its first byte, as `Path::file_prefix`, which older
+/// compilers lack.
+fn file_prefix(path: &Path) -> Option<&[u8]> {
+    let name = bytes(path.file_name()?);
+    let dot = (1..name.len()).find(|at| name[*at] == b'.');
+    Some(&name[..dot.unwrap_or(name.len())])
+}
+
+#[test]
+fn parts() {
+    for s in over(LETTERS, LONGEST) {
+        let want = path(&s).components();
+        assert!(paths::components(&s).map(as_std).eq(want.clone()));
+        assert!(paths::components(&s)
+            .rev()
+            .map(as_std)
+            .eq(want.clone().rev()));
+        let left = paths::components(&s).as_path();
+        same_place(Some(left), Some(bytes(want.as_path())), &s);
+        assert_eq!(
+            owned::canonical(&s).as_deref(),
+            Ok(bytes(&want.collect::<PathBuf>()))
+        );
+    }
+}
+
+#[test]
+fn names() {
+    for s in over(LETTERS, LONGEST) {
+        let p = path(&s);
+        same_place(paths::parent(&s), p.parent().map(bytes), &s);
+        same_place(paths::file_name(&s), p.file_name().map(bytes), &s);
+        same_place(paths::file_stem(&s), p.file_stem().map(bytes), &s);
+        same_place(paths::extension(&s), p.extension().map(bytes), &s);
+        same_place(paths::file_prefix(&s), file_prefix(p), &s);
+        assert_eq!(paths::is_absolute(&s), p.is_absolute());
+    }
+}
+
+#[test]
+fn comparisons() {
+    let strings = over(LETTERS, LONGEST);
+    for a in &strings {
+        for b in &strings {
+            let (p, q) = (path(a), path(b));
+            assert_eq!(paths::compare(a, b), p.cmp(q));
+            assert_eq!(paths::equal(a, b), p == q);
+            assert_eq!(paths::starts_with(a, b), p.starts_with(q));
+            assert_eq!(paths::ends_with(a, b), p.ends_with(q));
+            let want = p.strip_prefix(q).ok().map(bytes);
+            same_place(paths::strip_prefix(a, b), want, a);
+        }
+    }
+}
+
+/// A copy whose extension is set. Rust's own `Path::with_extension` cuts the old extension off
+/// before it looks for a file name, and so gives `..` for `..a`, whatever the extension.
+fn with_extension(path: &Path, extension: &OsStr) -> PathBuf {
+    let mut edited = path.to_path_buf();
+    edited.set_extension(extension);
+    edited
+}
+
+#[test]
+fn joins() {
+    let strings = over(LETTERS, LONGEST);
+    let mut out = [0; 2 * LONGEST + 1];
+    for a in &strings {
+        for b in &strings {
+            let (p, q) = (path(a), path(b));
+            assert_eq!(paths::join(a, b, &mut out), Ok(bytes(&p.join(q))));
+            let want = p.with_file_name(text(b));
+            assert_eq!(paths::with_file_name(a, b, &mut out), Ok(bytes(&want)));
+            let made = paths::with_extension(a, b, &mut out);
+            if b.contains(&b'/') {
+                assert_eq!(made, Err(Error::Separator));
+            } else {
+                assert_eq!(made, Ok(bytes(&with_extension(p, text(b)))));
+            }
+        }
+    }
+}
+
+/// The longest front of `a` that `b` begins with too and that is empty or ends with a slash.
+fn common_dir<'a>(a: &'a [u8], b: &[u8]) -> &'a [u8] {
+    let fronts = (0..=a.len()).map(|length| &a[..length]);
+    let is_dir =
+        |front: &&[u8]| b.starts_with(front) && front.last().map_or(true, |byte| *byte == b'/');
+    fronts.rev().find(is_dir).unwrap_or_default()
+}
+
+#[test]
+fn common_dirs() {
+    let strings = over(LETTERS, LONGEST);
+    for a in &strings {
+        for b in &strings {
+            same_place(Some(paths::common_dir(a, b)), Some(common_dir(a, b)), a);
+        }
+    }
+}
+
+/// Long runs of what is dropped, and of names.
+#[test]
+fn long_paths() {
+    for piece in ["/", "./", "../", "a/", "//a", ".a."] {
+        let s = piece.repeat(50_000).into_bytes();
+        let p = path(&s);
+        assert!(paths::components(&s).map(as_std).eq(p.components()));
+        assert!(paths::components(&s)
+            .rev()
+            .map(as_std)
+            .eq(p.components().rev()));
+        same_place(paths::parent(&s), p.parent().map(bytes), b"a long path");
+        let other = [&s[..], b"/./"].concat();
+        assert!(paths::equal(&s, &other) && paths::compare(&s, &other).is_eq());
+        assert_eq!(paths::hash(&s), paths::hash(&other));
+        assert_eq!(owned::join(&s, &s).as_deref(), Ok(bytes(&p.join(p))));
+    }
+}

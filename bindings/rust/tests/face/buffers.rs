@@ -1,0 +1,138 @@
+//! Buffers that are too short by every number of bytes, and what stands behind them.
+use unix_path_rattle::{self as paths, owned, Error};
+
+type OfOne = for<'o> fn(&[u8], &'o mut [u8]) -> Result<&'o [u8], Error>;
+type OfTwo = for<'o> fn(&[u8], &[u8], &'o mut [u8]) -> Result<&'o [u8], Error>;
+
+/// A call, its arguments, and its answer.
+type RowOfOne = (OfOne, &'static [u8], &'static [u8]);
+type RowOfTwo = (OfTwo, &'static [u8], &'static [u8], &'static [u8]);
+
+/// What a buffer holds before a call.
+const OLD: u8 = 0xA5;
+
+/// Calls with every room from none to some bytes too many; other bytes stand behind each.
+fn in_every_room<C>(call: C, want: &[u8])
+where
+    C: Fn(&mut [u8]) -> Result<&[u8], Error>,
+{
+    let needed = want.len();
+    for room in 0..needed + 4 {
+        let mut bytes = vec![OLD; needed + 8];
+        let answer = call(&mut bytes[..room]).map(<[u8]>::to_vec);
+        if room < needed {
+            assert_eq!(answer, Err(Error::Short { needed }));
+            assert!(bytes.iter().all(|byte| *byte == OLD));
+        } else {
+            assert_eq!(answer.as_deref(), Ok(want));
+            assert_eq!(&bytes[..needed], want);
+            assert!(bytes[needed..].iter().all(|byte| *byte == OLD));
+        }
+    }
+}
+
+/// The call writes nothing in any room, and fails so.
+fn in_no_room<C>(call: C, want: Error)
+where
+    C: Fn(&mut [u8]) -> Result<&[u8], Error>,
+{
+    for room in 0..16 {
+        let mut bytes = [OLD; 24];
+        assert_eq!(call(&mut bytes[..room]), Err(want));
+        assert_eq!(bytes, [OLD; 24]);
+    }
+}
+
+#[test]
+fn of_one_path() {
+    let rows: [RowOfOne; 14] = [
+        (paths::canonical, b".//a/./b/", b"./a/b"),
+        (paths::canonical, b"///", b"/"),
+        (paths::canonical, b"", b""),
+        (paths::canonical, b"/a/../b", b"/a/../b"),
+        (paths::to_string_lossy, b"plain//", b"plain//"),
+        (paths::to_string_lossy, b"caf\xE9", b"caf\xEF\xBF\xBD"),
+        (
+            paths::to_string_lossy,
+            b"\xE2\x82\xFF\0",
+            b"\xEF\xBF\xBD\xEF\xBF\xBD\0",
+        ),
+        (paths::to_string_lossy, b"", b""),
+        (paths::resolved, b"a/../..//b/.", b"../b"),
+        (paths::resolved, b"/../a", b"/a"),
+        (paths::resolved, b"a/..", b""),
+        (paths::resolved, b"/plain/names", b"/plain/names"),
+        (paths::resolved, b"/..", b"/"),
+        (paths::resolved, b"", b""),
+    ];
+    for (call, path, want) in rows {
+        in_every_room(|out| call(path, out), want);
+    }
+}
+
+#[test]
+fn of_two() {
+    let rows: [RowOfTwo; 19] = [
+        (paths::join, b"a", b"b", b"a/b"),
+        (paths::join, b"a/", b"b", b"a/b"),
+        (paths::join, b"a", b"/b", b"/b"),
+        (paths::join, b"a", b"", b"a/"),
+        (paths::join, b"", b"b", b"b"),
+        (paths::join, b"", b"", b""),
+        (paths::with_file_name, b"foo/.", b"bar", b"bar"),
+        (paths::with_file_name, b"foo/..", b"bar", b"foo/../bar"),
+        (paths::with_file_name, b"/a//b", b"c", b"/a/c"),
+        (paths::with_file_name, b"/a", b"/c", b"/c"),
+        (paths::with_extension, b"foo/.", b"bar", b"foo.bar"),
+        (paths::with_extension, b"a/..foo", b"", b"a/."),
+        (paths::with_extension, b"a/b.c", b"d.e", b"a/b.d.e"),
+        (paths::with_extension, b"a/..", b"d", b"a/.."),
+        (paths::with_extension, b"", b"d", b""),
+        (paths::join_within, b"/srv/www", b"a/../b", b"/srv/www/b"),
+        (paths::join_within, b"/srv/../www", b"", b"/www"),
+        (paths::join_within, b"", b"a/..", b""),
+        (paths::join_within, b"../x", b"./y", b"../x/y"),
+    ];
+    for (call, path, other, want) in rows {
+        in_every_room(|out| call(path, other, out), want);
+    }
+}
+
+#[test]
+fn refused() {
+    in_no_room(
+        |out| paths::with_extension(b"a", b"b/c", out),
+        Error::Separator,
+    );
+    in_no_room(
+        |out| paths::with_extension(b"..", b"/", out),
+        Error::Separator,
+    );
+    in_no_room(|out| paths::join_within(b"/a", b"..", out), Error::Escapes);
+    in_no_room(|out| paths::join_within(b"/a", b"/a", out), Error::Escapes);
+}
+
+#[test]
+fn owned_text_grows() {
+    let broken = [0xFF; 1_000];
+    let text = owned::to_string_lossy(&broken).unwrap();
+    assert_eq!(text, "\u{FFFD}".repeat(1_000));
+}
+
+#[test]
+fn errors_are_told() {
+    let rows = [
+        (
+            Error::Short { needed: 4 },
+            "the buffer is too short for 4 bytes",
+        ),
+        (Error::Separator, "extension contains a separator"),
+        (Error::Escapes, "path leaves its root"),
+        (Error::NoMemory, "out of memory"),
+    ];
+    for (error, want) in rows {
+        assert_eq!(error.to_string(), want);
+        let boxed: Box<dyn std::error::Error> = error.into();
+        assert_eq!(boxed.to_string(), want);
+    }
+}

@@ -1,0 +1,109 @@
+//! Paths from outside: all short strings beside a fold over their parts, and known bad requests.
+use crate::short_strings::over;
+use unix_path_rattle::{climbs, components, owned, starts_with, Component, Error};
+
+/// The parts that are kept, of which each `..` took the name before it.
+fn kept(path: &[u8]) -> Vec<&[u8]> {
+    let mut kept: Vec<&[u8]> = vec![];
+    for part in components(path) {
+        match (part, kept.last()) {
+            (Component::CurDir, _) | (Component::ParentDir, Some(&b"/")) => {}
+            (Component::ParentDir, Some(last)) if *last != b".." => {
+                kept.pop();
+            }
+            _ => kept.push(part.as_bytes()),
+        }
+    }
+    kept
+}
+
+/// They with a slash between two, unless the first is the root.
+fn spelled(kept: &[&[u8]]) -> Vec<u8> {
+    match kept.split_first() {
+        Some((&b"/", names)) => [b"/", &names.join(&b'/')[..]].concat(),
+        _ => kept.join(&b'/'),
+    }
+}
+
+/// Whether of some first parts more are `..` than names, or the first is the root.
+fn goes_out(path: &[u8]) -> bool {
+    let mut depth = 0;
+    components(path).any(|part| {
+        depth += match part {
+            Component::Normal(_) => 1,
+            Component::ParentDir => -1,
+            Component::RootDir | Component::CurDir => 0,
+        };
+        part == Component::RootDir || depth < 0
+    })
+}
+
+#[test]
+fn resolved_and_climbing() {
+    for s in over(b"/.ab", 6) {
+        assert_eq!(
+            owned::resolved(&s),
+            Ok(spelled(&kept(&s))),
+            "{}",
+            s.escape_ascii()
+        );
+        assert_eq!(climbs(&s), goes_out(&s), "{}", s.escape_ascii());
+    }
+}
+
+#[test]
+fn joined_within() {
+    let strings = over(b"/.a", 5);
+    for root in &strings {
+        for request in &strings {
+            let joined = owned::join_within(root, request);
+            if climbs(request) {
+                assert_eq!(joined, Err(Error::Escapes));
+                continue;
+            }
+            let joined = joined.unwrap();
+            let plain = owned::join(root, request).unwrap();
+            assert_eq!(joined, spelled(&kept(&plain)));
+            assert!(starts_with(&joined, &owned::resolved(root).unwrap()));
+        }
+    }
+}
+
+/// An encoding is no `..`, and stays a name.
+#[test]
+fn bad_requests() {
+    let refused: [&[u8]; 10] = [
+        b"../../../../etc/passwd",
+        b"a/b/../../../etc/passwd",
+        b"./../etc/passwd",
+        b".//..//etc/passwd",
+        b"//etc/passwd",
+        b"/../etc/passwd",
+        b"/www/../etc/passwd",
+        b"a/../../www/x",
+        b"..",
+        b"../",
+    ];
+    for request in refused {
+        assert_eq!(owned::join_within(b"/www", request), Err(Error::Escapes));
+    }
+    let kept: [(&[u8], &[u8]); 6] = [
+        (b"..%2f..%2fetc/passwd", b"/www/..%2f..%2fetc/passwd"),
+        (b"....//....//etc", b"/www/..../..../etc"),
+        (b"..\\..\\etc", b"/www/..\\..\\etc"),
+        (b"..\0/etc", b"/www/..\0/etc"),
+        (b"a\0/../etc", b"/www/etc"),
+        (b"\xC0\xAE\xC0\xAE/etc", b"/www/\xC0\xAE\xC0\xAE/etc"),
+    ];
+    for (request, want) in kept {
+        assert_eq!(owned::join_within(b"/www", request).as_deref(), Ok(want));
+    }
+}
+
+#[test]
+fn is_canonical() {
+    for s in over(b"/.a", 6) {
+        let resolved = owned::resolved(&s).unwrap();
+        assert_eq!(owned::canonical(&resolved).as_ref(), Ok(&resolved));
+    }
+}
