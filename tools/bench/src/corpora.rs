@@ -1,6 +1,24 @@
 //! The four corpora, from fixed seeds: every run sees the same bytes.
 use crate::random::Random;
-use crate::rows::Other;
+use std::ops::Range;
+
+/// The bytes of a slice that is timed at once.
+const SLICE: usize = 1 << 18;
+
+/// What a call is given beside each path of a corpus.
+#[derive(Clone, Copy, PartialEq)]
+pub enum Other {
+    Nothing,
+    Same,
+    Next,
+    Respelled,
+    /// Its parts up to the middle.
+    Front,
+    /// Its parts from the middle on.
+    Behind,
+    Name,
+    Extension,
+}
 
 /// A name and its paths.
 pub struct Corpus {
@@ -28,6 +46,20 @@ impl Corpus {
             Other::Extension => paths.map(|_| b"orig".to_vec()).collect(),
         }
     }
+}
+
+/// The places of the paths in slices of about the same number of bytes.
+pub fn slices(paths: &[Vec<u8>]) -> Vec<Range<usize>> {
+    let mut slices = vec![];
+    let (mut start, mut bytes) = (0, 0);
+    for (at, path) in paths.iter().enumerate() {
+        bytes += path.len();
+        if bytes >= SLICE || at + 1 == paths.len() {
+            slices.push(start..at + 1);
+            (start, bytes) = (at + 1, 0);
+        }
+    }
+    slices
 }
 
 /// All four corpora.

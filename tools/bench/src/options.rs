@@ -3,7 +3,7 @@ use crate::clock;
 use crate::timing::Timer;
 
 /// What can be timed, and over what.
-const PARTS: [&str; 5] = ["calls", "texts", "tables", "programs", "sizes"];
+const PARTS: [&str; 6] = ["calls", "texts", "tables", "programs", "sizes", "face"];
 const CORPORA: [&str; 4] = ["realistic", "adversarial", "deep", "non_utf8"];
 
 /// Whether each of the words is one of the names.

@@ -1,13 +1,10 @@
 //! The table of the calls over the four corpora.
-use crate::corpora::{corpora, Corpus};
+use crate::corpora::{corpora, slices, Corpus};
 use crate::options::Options;
 use crate::random::Random;
 use crate::rows::{rows, Row};
 use crate::timing::{Measure, Score};
 use std::ops::Range;
-
-/// The bytes of a slice that is timed at once.
-const SLICE: usize = 1 << 18;
 
 /// Prints a line for each row, with a ratio for each corpus.
 pub fn print(options: &Options, score: &mut Score) {
@@ -28,20 +25,6 @@ pub fn print(options: &Options, score: &mut Score) {
         println!();
     }
     println!();
-}
-
-/// The places of the paths in slices of about the same number of bytes.
-fn slices(paths: &[Vec<u8>]) -> Vec<Range<usize>> {
-    let mut slices = vec![];
-    let (mut start, mut bytes) = (0, 0);
-    for (at, path) in paths.iter().enumerate() {
-        bytes += path.len();
-        if bytes >= SLICE || at + 1 == paths.len() {
-            slices.push(start..at + 1);
-            (start, bytes) = (at + 1, 0);
-        }
-    }
-    slices
 }
 
 /// The ratio of the row on the corpus.

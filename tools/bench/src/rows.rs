@@ -1,23 +1,9 @@
 //! The rows of the table: a call on both sides, and what its second argument is.
 use crate::calls::{Call, OfOne, OfTwo};
+use crate::corpora::Other;
 use crate::ours::*;
 use crate::std_calls as std;
 use crate::std_within;
-
-/// What a call is given beside each path of a corpus.
-#[derive(Clone, Copy, PartialEq)]
-pub enum Other {
-    Nothing,
-    Same,
-    Next,
-    Respelled,
-    /// Its parts up to the middle.
-    Front,
-    /// Its parts from the middle on.
-    Behind,
-    Name,
-    Extension,
-}
 
 /// A call on both sides.
 pub struct Row {

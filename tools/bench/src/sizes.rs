@@ -1,7 +1,7 @@
 //! Hostile paths of 10^4 to 10^7 bytes: our time a byte, which is not to grow with the size.
-use crate::corpora::Corpus;
+use crate::corpora::{Corpus, Other};
 use crate::options::Options;
-use crate::rows::{rows, Other, Row};
+use crate::rows::{rows, Row};
 use crate::timing::Timer;
 use std::hint::black_box;
 

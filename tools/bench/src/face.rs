@@ -1,0 +1,82 @@
+//! Times the Rust calls over the C face beside `std::path` on the same bytes, and prints our time
+//! over std's. A program of its own, since it is linked with the library of the face.
+#![allow(dead_code)] // The modules have more for the other program.
+mod clock;
+mod corpora;
+mod face_rows;
+mod options;
+mod random;
+mod targets;
+mod timing;
+
+use corpora::{corpora, slices, Corpus};
+use face_rows::{Row, Side, ROWS};
+use options::Options;
+use std::hint::black_box;
+use std::iter::repeat;
+use std::process::ExitCode;
+use timing::Measure;
+
+/// The side's answers to these paths, as one number.
+fn sum(side: Side, paths: &[Vec<u8>], others: &[Vec<u8>]) -> u64 {
+    let side = black_box(side);
+    let others = others.iter().map(Vec::as_slice).chain(repeat(&[][..]));
+    let answers = paths
+        .iter()
+        .zip(others)
+        .map(|(path, other)| side(path, other));
+    answers.fold(0, |sum: u64, answer| sum.rotate_left(7) ^ answer)
+}
+
+/// The ratio of the row on the corpus.
+fn measure(row: &Row, corpus: &Corpus, options: &Options) -> Measure {
+    let slices = slices(&corpus.paths);
+    let others = corpus.others(row.other);
+    let paths = |slice: usize| &corpus.paths[slices[slice].clone()];
+    let others = |slice: usize| others.get(slices[slice].clone()).unwrap_or(&[]);
+    options.timer().compare(
+        slices.len(),
+        &|slice| sum(row.ours, paths(slice), others(slice)),
+        &|slice| sum(row.std, paths(slice), others(slice)),
+    )
+}
+
+/// Prints the table, and answers whether all answers were the same.
+fn print(options: &Options) -> bool {
+    let mut corpora = corpora();
+    corpora.retain(|corpus| options.has_corpus(corpus.name));
+    print!("{:28}", "call from Rust over C");
+    corpora
+        .iter()
+        .for_each(|corpus| print!("{:14}", corpus.name));
+    println!();
+    let mut is_same = true;
+    for row in ROWS.iter().filter(|row| options.has_row(row.name)) {
+        print!("{:28}", row.name);
+        for corpus in &corpora {
+            let measure = measure(row, corpus, options);
+            let mark = if measure.is_same { "" } else { " DIFFERS" };
+            print!("{:14}", format!("{:.2}{mark}", measure.ratio));
+            is_same &= measure.is_same;
+        }
+        println!();
+    }
+    is_same
+}
+
+fn main() -> ExitCode {
+    let options = match Options::read(std::env::args().skip(1)) {
+        Ok(options) => options,
+        Err(word) => {
+            eprintln!("no such option: {word}");
+            return ExitCode::from(2);
+        }
+    };
+    let is_same = print(&options);
+    println!("Each number is our time over that of std::path.");
+    if is_same {
+        ExitCode::SUCCESS
+    } else {
+        ExitCode::FAILURE
+    }
+}
