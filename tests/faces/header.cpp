@@ -32,8 +32,8 @@ constexpr std::array<Truth, 3> truths{unix_path_is_utf8, unix_path_is_absolute, 
 
 // The bytes that a call of one path gives.
 std::string written(OfOne call, std::string_view path) {
-    std::string out(call(bytes(path), path.size(), reinterpret_cast<uint8_t *>(out.data()), 0),
-                    '\0');
+    uint8_t none = 0;
+    std::string out(call(bytes(path), path.size(), &none, 0), '\0');
     call(bytes(path), path.size(), reinterpret_cast<uint8_t *>(out.data()), out.size());
     return out;
 }
