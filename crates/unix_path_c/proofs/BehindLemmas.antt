@@ -1,0 +1,145 @@
+-- The last part that is left of a walk, and what is left before it.
+use Rattle.std.proofs.Common.{◌≡◌, ℕ, ◌+◌, ◌-◌, ◌≤◌, ◌<◌, List, [], ◌∷◌, ◌++◌, length}
+use Rattle.std.proofs.Common.{take, drop}
+use Rattle.std.proofs.Common.{Option, Some, None, map, refl, sym, ap, ap₂, ◌∙◌, arith}
+use Rattle.std.proofs.Common.{length-append}
+use Rattle.std.proofs.lemmas.List.{map-append}
+use Rattle.unix_path.specs.Parts.{Value, parts, value_bytes, values}
+use Rattle.unix_path.specs.Rest.{rest}
+use Rattle.unix_path.specs.Cursor.{cursor_rest}
+use Rattle.unix_path.specs.Views.{value_of}
+use Rattle.unix_path.specs.declared.cursor.component.Component.{Component}
+use Rattle.unix_path.specs.declared.cursor.components.Components.{Components}
+use Rattle.unix_path.proofs.CursorLemmas.{GivesLastPart}
+use Rattle.unix_path.proofs.ParentLemmas.{rest-whole_last, values-whole}
+use Rattle.unix_path.proofs.PlaceLemmas.{part_at}
+use Rattle.unix_path_c.specs.Walks.{InOrder, kind_of, left, part_bytes, part_end, part_in}
+use Rattle.unix_path_c.specs.Walks.{part_value, parts_left}
+use Rattle.unix_path_c.specs.declared.walks.Part.{Part}
+use Rattle.unix_path_c.specs.declared.walks.Walk.{Walk}
+use Rattle.unix_path_c.proofs.FrontLemmas.{same_part}
+use Rattle.unix_path_c.proofs.LeftLemmas.{between, kind_of-lt, left-between, part_value-is}
+use Rattle.unix_path_c.proofs.LeftLemmas.{range-left, take-left}
+use Rattle.unix_path_c.proofs.FirstLemmas.{no_bytes, some_bytes}
+use Rattle.unix_path_c.proofs.LastLemmas.{takes_back}
+
+-- the part was the last that was left of `old`, and the others are left of `new`
+pub record TakenBehind (path : List ℕ) (old new : Walk) (part : Part) : Type 0 where
+  pub parts_are : parts_left path old ≡ parts_left path new ++ part_in path part ∷ []
+  pub values_are : values (left path old)
+      ≡ values (left path new) ++ part_value path part ∷ []
+  pub bytes : part_bytes path part ≡ value_bytes (part_value path part)
+  pub kind : part.kind < 4
+  pub left_is : left path new ≡ rest (left path old) 0 1
+  pub some : left path old ≡ [] → ⊥
+  pub in_order : InOrder
+      (old.front ∷ new.front ∷ new.back ∷ part.start ∷ part_end part ∷ old.back ∷ length path ∷ [])
+
+not_none : {us : List Value} (vs : List Value) (v : Value) → us ≡ vs ++ v ∷ []
+    → us ≡ [] → ⊥
+not_none vs v e none =
+    omega (arith, ap length (sym none ∙ e), length-append vs (v ∷ []))
+
+pub taken_behind : (path : List ℕ) (old new : Walk) (part : Part) (v : Value)
+    → values (left path old) ≡ values (rest (left path old) 0 1) ++ v ∷ []
+    → part.start ≡ old.front + length (rest (left path old) 0 0) - part.length
+    → part.length ≡ length (value_bytes v) → part.kind ≡ kind_of v → new.front ≡ old.front
+    → new.back ≡ old.front + length (rest (left path old) 0 1) → TakenBehind path old new part
+taken_behind path old new part v e start size kind front back =
+    let s = left path old in
+    let n = length (rest s 0 0) in
+    let m = length (rest s 0 1) in
+    let k = length (value_bytes v) in
+    let f = old.front in
+    let t = takes_back s v (values (rest s 0 1)) e in
+    let some = some_bytes s (not_none (values (rest s 0 1)) v e) in
+    let h = between path old some in
+    let before = t.before in
+    let enough = t.fits in
+    let in_range = t.in_range in
+    let long = h.size in
+    let order = h.in_order in
+    let fits = h.in_range in
+    let last : part_bytes path part ≡ value_bytes v =
+    ap (λ n. take n (drop part.start path)) size
+    ∙ take-left path old s part.start (n - k) k h (omega arith) (omega arith) ∙ t.bytes in
+    let value = part_value-is path part v kind last in
+    let left_is : left path new ≡ rest s 0 1 = left-between path new (omega arith) (omega arith)
+    ∙ range-left path old s new.front new.back 0 m h (omega arith) (omega arith)
+    (omega arith) ∙ t.left in
+    record {
+      parts_are = ap (map (part_at f)) t.is
+          ∙ map-append (part_at f) (parts (rest s 0 1)) _
+          ∙ ap₂ (λ ps p. ps ++ p ∷ [])
+          (ap₂ (λ i u. map (part_at i) (parts u)) (sym front) (sym left_is))
+          (same_part (omega arith) (omega arith) (sym value));
+      values_are = e ∙ ap₂ (λ u v. values u ++ v ∷ []) (sym left_is) (sym value);
+      bytes = last ∙ ap value_bytes (sym value);
+      kind = omega (arith, kind, kind_of-lt v);
+      left_is = left_is;
+      some = λ nothing. absurd (omega (arith, some, ap length nothing));
+      in_order = (
+        omega arith,
+        (omega arith, (omega arith, (omega arith, (omega arith, (omega arith, tt))))),
+      );
+    }
+
+-- what a fresh cursor leaves before one part
+last_rest : (s : List ℕ) (old new : Components) (item : Option Component)
+    → cursor_rest old ≡ rest s 0 0 → GivesLastPart old item new → cursor_rest new ≡ rest s 0 1
+last_rest s old new item whole h = rest-whole_last s whole h.rest_is
+
+last_values : (s : List ℕ) (old new : Components) (x : Component)
+    → cursor_rest old ≡ rest s 0 0 → GivesLastPart old (Some x) new
+    → values s ≡ values (rest s 0 1) ++ value_of x ∷ []
+last_values s old new x whole h = sym (values-whole s (cursor_rest old) whole) ∙ h.item_is
+    ∙ ap (λ u. values u ++ value_of x ∷ []) (last_rest s old new (Some x) whole h)
+
+-- a fresh cursor that gives nothing stands for no byte
+pub nothing_last : (s : List ℕ) (old new : Components) → cursor_rest old ≡ rest s 0 0
+    → GivesLastPart old None new → s ≡ []
+nothing_last s old new whole h =
+    no_bytes s (sym (values-whole s (cursor_rest old) whole) ∙ h.item_is.0)
+
+-- the places that a step behind computes lie in the path
+pub record BehindFits (path : List ℕ) (walk : Walk) (whole text : List ℕ) (left : ℕ) : Type 0 where
+  pub in_range : walk.front + length whole ≤ length path
+  pub fits : length text ≤ length whole
+  pub fewer : left ≤ length whole
+
+pub behind_fits : (path : List ℕ) (walk : Walk) (old new : Components) (x : Component)
+    (whole text : List ℕ) → cursor_rest old ≡ rest (left path walk) 0 0
+    → GivesLastPart old (Some x) new → whole ≡ cursor_rest old → text ≡ value_bytes (value_of x)
+    → BehindFits path walk whole text (length (cursor_rest new))
+behind_fits path walk old new x whole text w h all bytes =
+    let s = left path walk in
+    let vs = values (rest s 0 1) in
+    let e = last_values s old new x w h in
+    let t = takes_back s (value_of x) vs e in
+    let b = between path walk (some_bytes s (not_none vs (value_of x) e)) in
+    let long = ap length (all ∙ w) in
+    let size = ap length bytes in
+    let less = ap length (last_rest s old new (Some x) w h) in
+    record {
+      in_range = omega (arith, t.in_range, b.size, b.in_order, b.in_range, long);
+      fits = omega (arith, t.fits, long, size);
+      fewer = omega (arith, t.before, t.fits, long, less);
+    }
+
+-- what a step behind gives, by what a fresh cursor gives
+pub next_back_gives : (path : List ℕ) (walk : Walk) (old new : Components) (x : Component)
+    (whole before text : List ℕ) (kind : ℕ) → cursor_rest old ≡ rest (left path walk) 0 0
+    → GivesLastPart old (Some x) new → whole ≡ cursor_rest old → before ≡ cursor_rest new
+    → text ≡ value_bytes (value_of x) → kind ≡ kind_of (value_of x)
+    → TakenBehind path walk
+    (record { front = walk.front; back = walk.front + length before })
+    (record {
+      start = walk.front + length whole - length text;
+      length = length text;
+      kind = kind;
+    })
+next_back_gives path walk old new x whole before text kind w h all but bytes is =
+    let s = left path walk in
+    taken_behind path walk _ _ (value_of x) (last_values s old new x w h)
+    (ap (λ u. walk.front + length u - length text) (all ∙ w)) (ap length bytes) is refl
+    (ap (λ u. walk.front + length u) (but ∙ last_rest s old new (Some x) w h))

@@ -1,0 +1,187 @@
+-- What is left of a walk, by the walk's places.
+use Rattle.std.proofs.Common.{◌≡◌, ℕ, ◌+◌, ◌-◌, ◌≤◌, ◌<◌, ◌&&◌, cond, leb, ltb, List, [], length}
+use Rattle.std.proofs.Common.{◌⊎◌, ⊎_elim, min, take, drop, map}
+use Rattle.std.proofs.Common.{refl, sym, ap, ap₂, ◌∙◌, arith, drop-drop}
+use Rattle.std.proofs.Common.{take-take, take_all, ltb-true, ltb-false}
+use Rattle.std.specs.Prelude.{slice_range}
+use Rattle.std.proofs.Math.Nat.{min-le_right}
+use Rattle.std.proofs.lemmas.Bool.{and_parts, le-leb, leb-true}
+use Rattle.std.proofs.lemmas.List.{drop-take, nil_from_length}
+use Rattle.unix_path.specs.Parts.{RootDir, CurDir, ParentDir, Normal, Value, parts, value_bytes}
+use Rattle.unix_path.specs.Parts.{values}
+use Rattle.unix_path.specs.Rest.{rest}
+use Rattle.unix_path.proofs.CaseLemmas.{by_test}
+use Rattle.unix_path.proofs.MiddleLemmas.{middle_of, rest-middle}
+use Rattle.unix_path.proofs.OffsetLemmas.{length-range}
+use Rattle.unix_path.proofs.ParentLemmas.{values-whole}
+use Rattle.unix_path.proofs.PartLemmas.{rest-nil}
+use Rattle.unix_path.proofs.PlaceLemmas.{part_at, part_at-zero}
+use Rattle.unix_path.proofs.RestLemmas.{take-rest}
+use Rattle.unix_path.proofs.StemLemmas.{length-rest_whole-le}
+use Rattle.unix_path_c.specs.Places.{place_bytes, place_end}
+use Rattle.unix_path_c.specs.Walks.{kind_of, left, part_bytes, part_value, parts_left}
+use Rattle.unix_path_c.specs.Walks.{value_of_kind}
+use Rattle.unix_path_c.specs.declared.places.Place.{Place}
+use Rattle.unix_path_c.specs.declared.walks.Part.{Part}
+use Rattle.unix_path_c.specs.declared.walks.Walk.{Walk}
+use Rattle.unix_path_c.proofs.FirstLemmas.{middle_of-at}
+
+-- the walk's places lie in the path, in order, and s stands between them
+pub record Between (path : List ℕ) (walk : Walk) (s : List ℕ) : Type 0 where
+  pub in_order : walk.front ≤ walk.back
+  pub in_range : walk.back ≤ length path
+  pub is : s ≡ slice_range path walk.front walk.back
+  pub size : length s ≡ walk.back - walk.front
+
+pub between : (path : List ℕ) (walk : Walk) → 0 < length (left path walk)
+    → Between path walk (left path walk)
+unfolding left
+between path walk some =
+    let s = slice_range path walk.front walk.back in
+    by_test (leb walk.front walk.back && leb walk.back (length path))
+    (λ e.
+    let both = and_parts _ _ e in
+    let in_range = leb-true walk.back (length path) both.1 in
+    let is : left path walk ≡ s = ap (λ c. cond c s []) e in
+    record {
+      in_order = leb-true walk.front walk.back both.0;
+      in_range = in_range;
+      is = is;
+      size = ap length is ∙ length-range path walk.front walk.back in_range;
+    })
+    (λ e.
+    let none : length (left path walk) ≡ 0 = ap (λ c. length (cond c s [])) e in
+    absurd (omega (arith, some, none)))
+
+pub left-between : (path : List ℕ) (walk : Walk) → walk.front ≤ walk.back
+    → walk.back ≤ length path → left path walk ≡ slice_range path walk.front walk.back
+unfolding left
+left-between path walk in_order in_range =
+    ap₂ (λ a b. cond (a && b) (slice_range path walk.front walk.back) [])
+    (le-leb walk.front walk.back in_order) (le-leb walk.back (length path) in_range)
+
+pub left-outside : (path : List ℕ) (walk : Walk)
+    → (walk.back < walk.front) ⊎ (length path < walk.back) → left path walk ≡ []
+unfolding left
+left-outside path walk outside =
+    let s = slice_range path walk.front walk.back in
+    by_test (leb walk.front walk.back && leb walk.back (length path))
+    (λ e.
+    let both = and_parts _ _ e in
+    let in_order = leb-true walk.front walk.back both.0 in
+    let in_range = leb-true walk.back (length path) both.1 in
+    ⊎_elim (λ less. absurd (omega arith)) (λ past. absurd (omega arith)) outside)
+    (λ e. ap (λ c. cond c s []) e)
+
+-- what stands in a range, by its place in the whole
+pub take-range : (path : List ℕ) (a b i k : ℕ) → i + k ≤ b - a
+    → take k (drop i (slice_range path a b)) ≡ take k (drop (a + i) path)
+take-range path a b i k l =
+    ap (λ x. take k (drop i (take x (drop a path)))) {x = b - a} {y = i + (b - a - i)}
+    (omega (arith, l))
+    ∙ ap (take k) (drop-take i (b - a - i) (drop a path))
+    ∙ take-take k (b - a - i) (drop i (drop a path)) (omega (arith, l))
+    ∙ ap (take k) (drop-drop i a path)
+
+-- what stands at a place of the path, by where it stands in what is left
+pub take-left : (path : List ℕ) (walk : Walk) (s : List ℕ) (from i k : ℕ)
+    → Between path walk s → i + k ≤ length s → from ≡ walk.front + i
+    → take k (drop from path) ≡ take k (drop i s)
+take-left path walk s from i k h l start =
+    ap (λ j. take k (drop j path)) start
+    ∙ sym (take-range path walk.front walk.back i k (omega (arith, l, h.size)))
+    ∙ ap (λ s. take k (drop i s)) (sym h.is)
+
+pub range-left : (path : List ℕ) (walk : Walk) (s : List ℕ) (from to i k : ℕ)
+    → Between path walk s → i + k ≤ length s → from ≡ walk.front + i → to ≡ from + k
+    → slice_range path from to ≡ take k (drop i s)
+range-left path walk s from to i k h l start end =
+    let size : to - from ≡ k = omega (arith, end) in
+    ap (λ n. take n (drop from path)) size ∙ take-left path walk s from i k h l start
+
+value_of_kind-kind_of : (v : Value) → value_of_kind (kind_of v) (value_bytes v) ≡ v
+value_of_kind-kind_of RootDir = refl
+value_of_kind-kind_of CurDir = refl
+value_of_kind-kind_of ParentDir = refl
+value_of_kind-kind_of (Normal name) = refl
+
+pub kind_of-lt : (v : Value) → kind_of v < 4
+kind_of-lt RootDir = omega arith
+kind_of-lt CurDir = omega arith
+kind_of-lt ParentDir = omega arith
+kind_of-lt (Normal name) = omega arith
+
+-- a part of v's kind, at v's bytes, tells v
+pub part_value-is : (path : List ℕ) (part : Part) (v : Value) → part.kind ≡ kind_of v
+    → part_bytes path part ≡ value_bytes v → part_value path part ≡ v
+part_value-is path part v kind bytes = ap₂ value_of_kind kind bytes ∙ value_of_kind-kind_of v
+
+pub parts-whole : (s : List ℕ) → parts (rest s 0 0) ≡ parts s
+parts-whole s =
+    let h = middle_of s 0 0 in
+    ap parts (rest-middle s 0 0 h) ∙ sym (part_at-zero (parts h.left))
+    ∙ ap (λ i. map (part_at i) (parts h.left)) (sym (middle_of-at s 0)) ∙ sym h.is
+    ∙ take_all (length (parts s) - (0 + 0)) (parts s) (omega arith)
+
+-- a walk from the first byte to the end of the last part
+pub record Begins (path : List ℕ) (walk : Walk) : Type 0 where
+  pub left_is : left path walk ≡ rest path 0 0
+  pub parts_are : parts_left path walk ≡ parts path
+  pub values_are : values (left path walk) ≡ values path
+  pub in_order : walk.front ≤ walk.back
+  pub in_range : walk.back ≤ length path
+
+pub begins : (path : List ℕ) (walk : Walk) → walk.front ≡ 0
+    → walk.back ≡ length (rest path 0 0) → Begins path walk
+begins path walk front back =
+    let in_range : walk.back ≤ length path = omega (arith, back, length-rest_whole-le path) in
+    let size : walk.back - walk.front ≡ length (rest path 0 0) = omega (arith, front, back) in
+    let is : left path walk ≡ rest path 0 0 =
+    left-between path walk (omega (arith, front)) in_range
+    ∙ ap₂ (λ n i. take n (drop i path)) size front ∙ take-rest path 0 in
+    record {
+      left_is = is;
+      values_are = values-whole path (left path walk) is;
+      parts_are = ap₂ (λ i s. map (part_at i) (parts s)) front is
+          ∙ part_at-zero (parts (rest path 0 0)) ∙ parts-whole path;
+      in_order = omega (arith, front);
+      in_range = in_range;
+    }
+
+-- the place of what is left, without what doesn't count at its end
+pub record Stands (path : List ℕ) (walk : Walk) (place : Place) : Type 0 where
+  pub bytes : place_bytes path place ≡ rest (left path walk) 0 0
+  pub same : values (place_bytes path place) ≡ values (left path walk)
+  pub in_range : place_end place ≤ length path
+
+stands_at : (path : List ℕ) (walk : Walk) (place : Place)
+    → place_bytes path place ≡ rest (left path walk) 0 0 → place_end place ≤ length path
+    → Stands path walk place
+stands_at path walk place bytes in_range = record {
+  bytes = bytes;
+  same = values-whole (left path walk) (place_bytes path place) bytes;
+  in_range = in_range;
+}
+
+pub stands : (path : List ℕ) (walk : Walk) (place : Place)
+    → place.start ≡ min walk.front (length path)
+    → place.length ≡ length (rest (left path walk) 0 0) → Stands path walk place
+stands path walk place start size =
+    let s = left path walk in
+    let n = length (rest s 0 0) in
+    by_test (ltb 0 (length s))
+    (λ e.
+    let h = between path walk (ltb-true _ _ e) in
+    let l = length-rest_whole-le s in
+    let here : place.start ≡ walk.front + 0 = omega (arith, start, h.in_order, h.in_range) in
+    stands_at path walk place
+    (ap (λ k. take k (drop place.start path)) size
+    ∙ take-left path walk s place.start 0 n h (omega (arith, l)) here ∙ take-rest s 0)
+    (omega (arith, here, size, l, h.size, h.in_order, h.in_range)))
+    (λ e.
+    let nothing : s ≡ [] = nil_from_length s (omega (arith, ltb-false _ _ e)) in
+    let none : rest s 0 0 ≡ [] = ap (λ s. rest s 0 0) nothing ∙ rest-nil 0 0 in
+    let zero_long : place.length ≡ 0 = size ∙ ap length none in
+    stands_at path walk place
+    (ap (λ k. take k (drop place.start path)) zero_long ∙ sym none)
+    (omega (arith, size, ap length none, start, min-le_right walk.front (length path))))

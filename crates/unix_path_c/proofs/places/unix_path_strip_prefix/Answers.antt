@@ -1,0 +1,36 @@
+use Rattle.std.proofs.Common.{◌∙◌}
+use Rattle.unix_path_c.proofs.PlaceLemmas.{stripped_ends}
+use Rattle.unix_path_c.proofs.StretchLemmas.{place_of}
+use Rattle.unix_path_c.proofs.places.unix_path_strip_prefix.Goals as goal
+
+pub place_at_end-requires : goal.place_at_end-requires
+place_at_end-requires c =
+    (stripped_ends c.args.path.now c.args.base.now c.in-Ok.left.bytes.now c.last_end.result
+    c.in-Ok.ensures.value c.last_end.ensures).fits
+
+pub returns-clause-bytes : goal.returns-clause-bytes
+returns-clause-bytes c =
+    let s = c.args.path.now in
+    let left = c.in-Ok.left.bytes.now in
+    let end = c.last_end.result in
+    (place_of s left end c.place_at_end.result
+    (stripped_ends s c.args.base.now left end c.in-Ok.ensures.value c.last_end.ensures)
+    c.place_at_end.ensures).bytes ∙ c.in-Ok.ensures.value
+
+pub returns-clause-end : goal.returns-clause-end
+returns-clause-end c =
+    let s = c.args.path.now in
+    let left = c.in-Ok.left.bytes.now in
+    let end = c.last_end.result in
+    (place_of s left end c.place_at_end.result
+    (stripped_ends s c.args.base.now left end c.in-Ok.ensures.value c.last_end.ensures)
+    c.place_at_end.ensures).end_is ∙ c.last_end.ensures
+
+pub returns-clause-inside : goal.returns-clause-inside
+returns-clause-inside c =
+    let s = c.args.path.now in
+    let left = c.in-Ok.left.bytes.now in
+    let end = c.last_end.result in
+    (place_of s left end c.place_at_end.result
+    (stripped_ends s c.args.base.now left end c.in-Ok.ensures.value c.last_end.ensures)
+    c.place_at_end.ensures).inside

@@ -1,0 +1,23 @@
+-- Stretches of a path, each by where it starts and how long it is (Rust gives slices of the path).
+use Rattle.std.specs.Prelude.{ℕ, ◌+◌, List, length, take, drop, Option, option_map}
+use Rattle.unix_path.specs.Parts.{parts, values}
+use Rattle.unix_path.specs.Rest.{rest}
+use Rattle.unix_path.specs.Names.{file_name_of}
+use Rattle.unix_path.specs.Edits.{last_start_of}
+use Rattle.unix_path_c.specs.declared.places.Place.{Place}
+
+-- the place just after the last byte of the stretch
+abbrev pub place_end : Place → ℕ
+place_end place = place.start + place.length
+
+-- the path's bytes in the stretch
+abbrev pub place_bytes : List ℕ → Place → List ℕ
+place_bytes path place = take place.length (drop place.start path)
+
+-- the place where the file name starts
+unfoldable pub name_start_of : List ℕ → Option ℕ
+name_start_of s = option_map (λ name. last_start_of (parts s)) (file_name_of (values s))
+
+-- the place where the last part ends, or 0 where there is none
+abbrev pub last_end_of : List ℕ → ℕ
+last_end_of s = length (rest s 0 0)

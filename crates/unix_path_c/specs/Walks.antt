@@ -1,0 +1,57 @@
+-- Walks that a caller keeps as two places of a path (Rust's `Components`).
+use Rattle.std.specs.Prelude.{ℕ, ◌+◌, ◌≤◌, nat_le, ◌==◌, ◌&&◌, List, [], ◌∷◌, map, length}
+use Rattle.std.specs.Prelude.{take, drop, slice_range, if◌then◌else◌}
+use Rattle.unix_path.specs.Parts as paths
+use Rattle.unix_path.specs.Parts.{Value, RootDir, CurDir, ParentDir, Normal, parts}
+use Rattle.unix_path_c.specs.declared.walks.Part.{Part}
+use Rattle.unix_path_c.specs.declared.walks.Walk.{Walk}
+
+-- each of these places is at most the next
+abbrev pub InOrder : List ℕ → Type 0
+InOrder [] = Unit {0}
+InOrder (m ∷ []) = Unit {0}
+InOrder (m ∷ n ∷ places) = (m ≤ n) × InOrder (n ∷ places)
+
+-- the bytes between the walk's places; none where these don't lie in the path, in order
+unfoldable pub left : List ℕ → Walk → List ℕ
+left path walk =
+    if nat_le walk.front walk.back && nat_le walk.back (length path)
+    then slice_range path walk.front walk.back else []
+
+-- a part of a string that stands at this place of a path
+abbrev pub part_from : ℕ → paths.Part → paths.Part
+part_from at p = record { start = p.start + at; end = p.end + at; value = p.value }
+
+-- the parts of those bytes, with their places in the path
+abbrev pub parts_left : List ℕ → Walk → List paths.Part
+parts_left path walk = map (part_from walk.front) (parts (left path walk))
+
+-- what a kind says: a root, `.`, `..` and a name
+abbrev pub kind_of : Value → ℕ
+kind_of RootDir = 0
+kind_of CurDir = 1
+kind_of ParentDir = 2
+kind_of (Normal name) = 3
+
+-- the value of this kind, which has these bytes if it is a name
+abbrev pub value_of_kind : ℕ → List ℕ → Value
+value_of_kind kind bytes =
+    if kind == 0 then RootDir
+    else (if kind == 1 then CurDir else (if kind == 2 then ParentDir else Normal bytes))
+
+-- just after the part's last byte
+abbrev pub part_end : Part → ℕ
+part_end part = part.start + part.length
+
+-- the bytes that stand at the part's place
+abbrev pub part_bytes : List ℕ → Part → List ℕ
+part_bytes path part = take part.length (drop part.start path)
+
+-- the value that the part tells
+abbrev pub part_value : List ℕ → Part → Value
+part_value path part = value_of_kind part.kind (part_bytes path part)
+
+-- the part, as the words of paths see it
+abbrev pub part_in : List ℕ → Part → paths.Part
+part_in path part =
+    record { start = part.start; end = part_end part; value = part_value path part }

@@ -1,0 +1,7 @@
+//! The calls of `unix_path` and of the crates above it, for C: `include/unix_path.h` declares them.
+#![tactic(auto)]
+
+mod places;
+#[cfg(test)]
+mod tests;
+mod walks;

@@ -1,0 +1,221 @@
+//! The places of a path's parent, of its file name and of what that is made of, and of what
+//! follows a base.
+ghost use Rattle.std.specs.Prelude.{◌≡◌, ◌↔◌, ◌+◌, ◌-◌, ◌≤◌, IsTrue, IfSome, Some, is_some};
+ghost use Rattle.std.specs.Prelude.{length, option_map};
+ghost use Rattle.std.specs.Bool.{OnTrue, OnFalse};
+ghost use Rattle.unix_path.specs.Parts.{values};
+ghost use Rattle.unix_path.specs.Parents.{parent_of};
+ghost use Rattle.unix_path.specs.Names.{file_name_of, stem_of, extension_of, file_prefix_of};
+ghost use Rattle.unix_path.specs.Extensions.{name_end_of};
+ghost use Rattle.unix_path.specs.Prefixes.{Begins, stripped_of};
+ghost use Rattle.unix_path_c.specs.Places.{place_end, place_bytes, name_start_of, last_end_of};
+
+use unix_path::Path;
+
+/// A stretch of a path: `length` bytes, the first of them at place `start`. Both are bytes.
+#[derive(Clone, Copy)]
+#[repr(C)]
+pub struct Place {
+    /// The place of the first byte.
+    pub start: usize,
+    /// How many bytes there are.
+    pub length: usize,
+}
+
+// The place of these bytes, which end at `end`.
+#[inline]
+fn place_at_end(end: usize, bytes: &[u8]) -> Place
+    requires { length bytes.now ≤ end }
+    ensures { result ≡ record { start = end - length bytes.now; length = length bytes.now } }
+{
+    Place {
+        start: end - bytes.len(),
+        length: bytes.len(),
+    }
+}
+
+// Where the last part ends.
+#[inline]
+fn last_end(path: Path<'_>) -> usize
+    ensures { result ≡ last_end_of path.entry.bytes.now }
+{
+    path.components().as_path().bytes.len()
+}
+
+// The place of the file name.
+#[inline]
+fn name_place(path: Path<'_>) -> Option<Place>
+    ensures bytes { option_map (place_bytes path.entry.bytes.now) result
+        ≡ file_name_of (values path.entry.bytes.now) }
+    ensures start { option_map (λ place. place.start) result ≡ name_start_of path.entry.bytes.now }
+    ensures end { option_map place_end result ≡ name_end_of path.entry.bytes.now }
+    ensures inside { IfSome result (λ place. place_end place ≤ length path.entry.bytes.now) }
+{
+    let Some(name) = path.file_name() else {
+        return None;
+    };
+    Some(place_at_end(last_end(path), name.bytes))
+}
+
+/// Puts the place of the parent into `place`: the path without its last part. False where there is
+/// no part or the last is the root, and then `place` stays as it was.
+///
+/// The parent begins the path; that of a single name is empty. `path` isn't null, even where its
+/// length is 0. Does not allocate. As Rust's `Path::parent`.
+///
+/// For `/tmp//foo/.` it starts at 0 and has 4 bytes: `/tmp`.
+#[unsafe(no_mangle)]
+pub extern "C" fn unix_path_parent(path: &[u8], place: &mut Place) -> bool
+    ensures value { result ≡ is_some (parent_of path.now) }
+    ensures kept { OnFalse result (place.new ≡ place.old) }
+    ensures bytes { OnTrue result (Some (place_bytes path.now place.new) ≡ parent_of path.now) }
+    ensures start { OnTrue result (place.new.start ≡ 0) }
+    ensures inside { OnTrue result (place_end place.new ≤ length path.now) }
+{
+    let Some(parent) = (Path { bytes: path }).parent() else {
+        return false;
+    };
+    *place = Place {
+        start: 0,
+        length: parent.bytes.len(),
+    };
+    true
+}
+
+/// Puts the place of the last part into `place`, if it is a name. False where there is no part or
+/// the last is the root, `.` or `..`, and then `place` stays as it was.
+///
+/// `path` isn't null, even where its length is 0. Does not allocate. As Rust's `Path::file_name`.
+///
+/// For `a//foo.txt/.` it starts at 3 and has 7 bytes: `foo.txt`.
+#[unsafe(no_mangle)]
+pub extern "C" fn unix_path_file_name(path: &[u8], place: &mut Place) -> bool
+    ensures value { result ≡ is_some (file_name_of (values path.now)) }
+    ensures kept { OnFalse result (place.new ≡ place.old) }
+    ensures bytes { OnTrue result
+        (Some (place_bytes path.now place.new) ≡ file_name_of (values path.now)) }
+    ensures start { OnTrue result (Some place.new.start ≡ name_start_of path.now) }
+    ensures inside { OnTrue result (place_end place.new ≤ length path.now) }
+{
+    let Some(name) = name_place(Path { bytes: path }) else {
+        return false;
+    };
+    *place = name;
+    true
+}
+
+/// Puts the place of the stem into `place`: the file name up to its last dot, or all of it where
+/// that is its first byte or there is no dot. False where there is no file name, and then `place`
+/// stays as it was.
+///
+/// The stem starts where the file name does. `path` isn't null, even where its length is 0. Does
+/// not allocate. As Rust's `Path::file_stem`.
+///
+/// For `a/foo.tar.gz` it starts at 2 and has 7 bytes: `foo.tar`.
+#[unsafe(no_mangle)]
+pub extern "C" fn unix_path_file_stem(path: &[u8], place: &mut Place) -> bool
+    ensures value { result ≡ is_some (stem_of (values path.now)) }
+    ensures kept { OnFalse result (place.new ≡ place.old) }
+    ensures bytes { OnTrue result
+        (Some (place_bytes path.now place.new) ≡ stem_of (values path.now)) }
+    ensures start { OnTrue result (Some place.new.start ≡ name_start_of path.now) }
+    ensures inside { OnTrue result (place_end place.new ≤ length path.now) }
+{
+    let path = Path { bytes: path };
+    let Some(name) = name_place(path) else {
+        return false;
+    };
+    let Some(stem) = path.file_stem() else {
+        return false;
+    };
+    *place = Place {
+        start: name.start,
+        length: stem.bytes.len(),
+    };
+    true
+}
+
+/// Puts the place of the extension into `place`: the file name's bytes after its last dot. False
+/// where that dot is its first byte, or there is no dot or no file name, and then `place` stays as
+/// it was.
+///
+/// The extension ends where the file name does; that of `foo.` is empty. `path` isn't null, even
+/// where its length is 0. Does not allocate. As Rust's `Path::extension`.
+///
+/// For `a/foo.tar.gz` it starts at 10 and has 2 bytes: `gz`.
+#[unsafe(no_mangle)]
+pub extern "C" fn unix_path_extension(path: &[u8], place: &mut Place) -> bool
+    ensures value { result ≡ is_some (extension_of (values path.now)) }
+    ensures kept { OnFalse result (place.new ≡ place.old) }
+    ensures bytes { OnTrue result
+        (Some (place_bytes path.now place.new) ≡ extension_of (values path.now)) }
+    ensures end { OnTrue result (Some (place_end place.new) ≡ name_end_of path.now) }
+    ensures inside { OnTrue result (place_end place.new ≤ length path.now) }
+{
+    let path = Path { bytes: path };
+    let Some(name) = name_place(path) else {
+        return false;
+    };
+    let Some(extension) = path.extension() else {
+        return false;
+    };
+    *place = place_at_end(name.start + name.length, extension.bytes);
+    true
+}
+
+/// Puts the place of the prefix into `place`: the file name up to its first dot after its first
+/// byte, or all of it where there is none. False where there is no file name, and then `place`
+/// stays as it was.
+///
+/// The prefix starts where the file name does. `path` isn't null, even where its length is 0. Does
+/// not allocate. As Rust's `Path::file_prefix`.
+///
+/// For `a/foo.tar.gz` it starts at 2 and has 3 bytes: `foo`.
+#[unsafe(no_mangle)]
+pub extern "C" fn unix_path_file_prefix(path: &[u8], place: &mut Place) -> bool
+    ensures value { result ≡ is_some (file_prefix_of (values path.now)) }
+    ensures kept { OnFalse result (place.new ≡ place.old) }
+    ensures bytes { OnTrue result
+        (Some (place_bytes path.now place.new) ≡ file_prefix_of (values path.now)) }
+    ensures start { OnTrue result (Some place.new.start ≡ name_start_of path.now) }
+    ensures inside { OnTrue result (place_end place.new ≤ length path.now) }
+{
+    let path = Path { bytes: path };
+    let Some(name) = name_place(path) else {
+        return false;
+    };
+    let Some(prefix) = path.file_prefix() else {
+        return false;
+    };
+    *place = Place {
+        start: name.start,
+        length: prefix.bytes.len(),
+    };
+    true
+}
+
+/// Puts the place of what follows `base` into `place`, if the parts of `base` begin those of the
+/// path. False where they don't, and then `place` stays as it was.
+///
+/// Whole parts count: `foo/bar` has no prefix `foo/ba`. What follows ends where the path's last
+/// part does, and where all parts match it has no bytes. Neither pointer is null, even where its
+/// length is 0. Does not allocate. As Rust's `Path::strip_prefix`, whose empty slice may start
+/// further on: for `a/b/` by `a/b` at 4, and here at 3.
+///
+/// For `/a//b/` by `/a` it starts at 4 and has 1 byte: `b`.
+#[unsafe(no_mangle)]
+pub extern "C" fn unix_path_strip_prefix(path: &[u8], base: &[u8], place: &mut Place) -> bool
+    ensures value { IsTrue result ↔ Begins (values base.now) (values path.now) }
+    ensures kept { OnFalse result (place.new ≡ place.old) }
+    ensures bytes { OnTrue result
+        (place_bytes path.now place.new ≡ stripped_of path.now base.now) }
+    ensures end { OnTrue result (place_end place.new ≡ last_end_of path.now) }
+    ensures inside { OnTrue result (place_end place.new ≤ length path.now) }
+{
+    let path = Path { bytes: path };
+    let Ok(left) = path.strip_prefix(Path { bytes: base }) else {
+        return false;
+    };
+    *place = place_at_end(last_end(path), left.bytes);
+    true
+}

@@ -1,0 +1,4 @@
+//! Rows of calls, as a caller from C makes them.
+mod mixed;
+mod places;
+mod walks;

@@ -1,0 +1,203 @@
+//! Walks that a caller keeps, over all short paths and between places that make no sense.
+use crate::places::Place;
+use crate::walks::{
+    Part, Walk, unix_path_as_path, unix_path_components, unix_path_next, unix_path_next_back,
+};
+use std::alloc::{AllocError, Global};
+use std::test::Fail;
+
+// What a part says: where it starts, its length, and its kind.
+type Told = (usize, usize, u32);
+
+// A path, and its parts.
+static WALKS: [(&'static str, &'static [Told]); 8] = [
+    ("", &[]),
+    ("/", &[(0, 1, 0)]),
+    ("/tmp//foo/", &[(0, 1, 0), (1, 3, 3), (6, 3, 3)]),
+    ("./a/./..", &[(0, 1, 1), (2, 1, 3), (6, 2, 2)]),
+    ("a/.b/...", &[(0, 1, 3), (2, 2, 3), (5, 3, 3)]),
+    ("../.", &[(0, 2, 2)]),
+    ("//..", &[(0, 1, 0), (2, 2, 2)]),
+    ("/./", &[(0, 1, 0)]),
+];
+
+// Places to begin and to end at, with which a walk over `PATH` begins and ends anywhere.
+static PLACES: [usize; 9] = [0, 1, 2, 4, 7, 10, 11, 1 << 63, usize::MAX];
+
+static PATH: &'static [u8] = b"/a/./..//b";
+
+// How many strings of at most 4 of three bytes there are.
+const SHORTER_STRINGS: usize = 121;
+
+// The strings over these letters, shorter ones first, of which so many are the beginning of longer.
+fn strings_over(alloc: Global, letters: &[u8], shorter: usize) -> Result<Vec<Vec<u8>>, AllocError> {
+    let mut strings = Vec::new(alloc);
+    strings.push(Vec::new(alloc))?;
+    for at in 0..shorter {
+        for letter in letters {
+            let mut longer = Vec::new(alloc);
+            if let Some(string) = strings.get(at) {
+                longer.extend_from_slice(string.as_slice())?;
+            }
+            longer.push(*letter)?;
+            strings.push(longer)?;
+        }
+    }
+    Ok(strings)
+}
+
+// A plain reading: the parts of bytes that stand at this place, cut at every slash.
+fn parts_at(alloc: Global, at: usize, bytes: &[u8]) -> Result<Vec<Told>, AllocError> {
+    let mut parts = Vec::new(alloc);
+    let mut start = at;
+    for piece in bytes.split(|byte| *byte == b'/') {
+        let is_first = start == at;
+        let is_dot = piece == b".".as_slice();
+        if is_first && piece.is_empty() && !bytes.is_empty() {
+            parts.push((start, 1, 0))?;
+        } else if is_first && is_dot {
+            parts.push((start, 1, 1))?;
+        } else if piece == b"..".as_slice() {
+            parts.push((start, 2, 2))?;
+        } else if !is_dot && !piece.is_empty() {
+            parts.push((start, piece.len(), 3))?;
+        }
+        start = start.saturating_add(piece.len()).saturating_add(1);
+    }
+    Ok(parts)
+}
+
+// What the part says.
+fn told(part: &Part) -> Told {
+    (part.start, part.length, part.kind)
+}
+
+// A part that no call gives.
+fn no_part() -> Part {
+    Part {
+        start: 77,
+        length: 77,
+        kind: 77,
+    }
+}
+
+// Whether these are the parts that come next in front.
+fn gives_front(path: &[u8], walk: &mut Walk, parts: &[Told]) -> bool {
+    let mut part = no_part();
+    let mut is_given = true;
+    for want in parts {
+        is_given &= unix_path_next(path, walk, &mut part) && told(&part) == *want;
+    }
+    is_given
+}
+
+// Whether these are the parts that come next behind, the last of them first.
+fn gives_behind(path: &[u8], walk: &mut Walk, parts: &[Told]) -> bool {
+    let mut part = no_part();
+    let mut is_given = true;
+    for want in parts.iter().rev() {
+        is_given &= unix_path_next_back(path, walk, &mut part) && told(&part) == *want;
+    }
+    is_given
+}
+
+// Whether the walk has ended at both ends, and such calls change nothing.
+fn has_ended(path: &[u8], walk: &Walk) -> bool {
+    let mut copy = *walk;
+    let mut part = no_part();
+    let is_taken = unix_path_next(path, &mut copy, &mut part)
+        || unix_path_next_back(path, &mut copy, &mut part);
+    !is_taken
+        && copy.front == walk.front
+        && copy.back == walk.back
+        && told(&part) == told(&no_part())
+}
+
+// Whether what is left reaches from the first of these parts to the last, in the path.
+fn reaches(path: &[u8], walk: &Walk, parts: &[Told]) -> bool {
+    let mut place = Place {
+        start: 77,
+        length: 77,
+    };
+    unix_path_as_path(path, walk, &mut place);
+    let end = place.start.saturating_add(place.length);
+    match (parts.first(), parts.last()) {
+        (Some(first), Some(last)) => place.start == first.0 && end == last.0.saturating_add(last.1),
+        _ => place.length == 0 && place.start <= path.len(),
+    }
+}
+
+// Whether a walk from here gives these parts, so many in front and the others behind.
+fn is_walked(path: &[u8], mut walk: Walk, parts: &[Told], front: usize) -> bool {
+    let (Some(before), Some(left)) = (parts.get(..front), parts.get(front..)) else {
+        return false;
+    };
+    let is_whole = reaches(path, &walk, parts);
+    let is_front = gives_front(path, &mut walk, before);
+    let is_left = reaches(path, &walk, left);
+    let is_behind = gives_behind(path, &mut walk, left);
+    is_whole && is_front && is_left && is_behind && has_ended(path, &walk)
+}
+
+// A walk over the whole path, made of one that has nothing to do with it.
+fn whole(path: &[u8]) -> Walk {
+    let mut walk = Walk {
+        front: usize::MAX,
+        back: 0,
+    };
+    unix_path_components(path, &mut walk);
+    walk
+}
+
+#[test]
+fn parts_have_places(rt: HostRuntime) -> Result<(), Fail> {
+    for (text, want) in WALKS {
+        let path = text.as_bytes();
+        let parts = parts_at(rt.alloc(), 0, path)?;
+        assert!(rt; parts.as_slice() == want, "{text}");
+        assert!(rt; is_walked(path, whole(path), want, want.len()), "{text}");
+        assert!(rt; is_walked(path, whole(path), want, 0), "{text}");
+    }
+    Ok(())
+}
+
+#[test]
+fn all_short_paths(rt: HostRuntime) -> Result<(), Fail> {
+    let alloc = rt.alloc();
+    let strings = strings_over(alloc, b"/.a", SHORTER_STRINGS)?;
+    assert_eq!(rt; strings.len(), 364);
+    for string in strings.iter() {
+        let path = string.as_slice();
+        let parts = parts_at(alloc, 0, path)?;
+        for front in 0..parts.len().saturating_add(1) {
+            assert!(rt;
+                is_walked(path, whole(path), parts.as_slice(), front),
+                "{path:?} {front}"
+            );
+        }
+    }
+    Ok(())
+}
+
+#[test]
+fn any_places_are_safe(rt: HostRuntime) -> Result<(), Fail> {
+    let alloc = rt.alloc();
+    for front in PLACES {
+        for back in PLACES {
+            let parts = match PATH.get(front..back) {
+                Some(left) => parts_at(alloc, front, left)?,
+                None => Vec::new(alloc),
+            };
+            let walk = Walk { front, back };
+            assert!(rt;
+                is_walked(PATH, walk, parts.as_slice(), 0),
+                "{front} {back}"
+            );
+            assert!(rt;
+                is_walked(PATH, walk, parts.as_slice(), parts.len()),
+                "{front} {back}"
+            );
+        }
+    }
+    Ok(())
+}

@@ -1,0 +1,182 @@
+//! Walks over a path's parts, which a caller keeps as two places.
+ghost use Rattle.std.specs.Prelude.{◌≡◌, ◌↔◌, ◌<◌, ◌≤◌, min, [], ◌∷◌, ◌++◌, length};
+ghost use Rattle.std.specs.Prelude.{IsFalse, IsTrue};
+ghost use Rattle.unix_path.specs.Parts.{parts, value_bytes, values};
+ghost use Rattle.unix_path.specs.Rest.{rest};
+ghost use Rattle.unix_path.specs.Views.{value_of};
+ghost use Rattle.unix_path_c.specs.Places.{place_bytes, place_end};
+ghost use Rattle.unix_path_c.specs.Walks.{InOrder, left, kind_of as kind_of_value};
+ghost use Rattle.unix_path_c.specs.Walks.{part_bytes, part_end, part_in, part_value, parts_left};
+
+use crate::places::Place;
+use unix_path::{Component, Path};
+
+/// A walk over the parts of a path, from both ends: what is left stands between two places.
+///
+/// The caller keeps it, and hands it in with the bytes of the same path. Where the places don't lie
+/// in the path, in order, the walk has ended. Copying it forks the walk. As Rust's `Components`.
+#[derive(Clone, Copy)]
+#[repr(C)]
+pub struct Walk {
+    /// Where what is left begins, in bytes from the beginning of the path.
+    pub front: usize,
+    /// Where it ends.
+    pub back: usize,
+}
+
+/// A part of a path: where it stands, and of what kind it is. As Rust's `Component`.
+#[derive(Clone, Copy)]
+#[repr(C)]
+pub struct Part {
+    /// Where it begins, in bytes from the beginning of the path.
+    pub start: usize,
+    /// How many bytes it has.
+    pub length: usize,
+    /// 0 for the root, 1 for a `.` that a path begins with, 2 for `..`, and 3 for a name.
+    pub kind: u32,
+}
+
+// The kind of a part.
+#[inline]
+fn kind_of(part: Component<'_>) -> u32
+    ensures { result ≡ kind_of_value (value_of part.entry) }
+{
+    match part {
+        Component::RootDir => 0,
+        Component::CurDir => 1,
+        Component::ParentDir => 2,
+        Component::Normal(_) => 3,
+    }
+}
+
+// The bytes that are left of a walk.
+#[inline]
+fn left_of<'a>(path: &'a [u8], walk: &Walk) -> Path<'a>
+    ensures { result.bytes.now ≡ left path.now walk.now }
+{
+    match path.get(walk.front..walk.back) {
+        Some(left) => Path::from_bytes(left),
+        None => Path::from_bytes(b""),
+    }
+}
+
+/// Begins a walk over the parts of a path: before it all parts are left.
+///
+/// What is left stands between `front` and `back`, in bytes from the beginning of the path, and
+/// ends where the last part ends. What the walk was before doesn't matter. Does not allocate. As
+/// Rust's `Path::components`.
+///
+/// For `/tmp//foo/` the walk is from 0 to 9.
+#[unsafe(no_mangle)]
+pub extern "C" fn unix_path_components(path: &[u8], walk: &mut Walk)
+    ensures parts { parts_left path.now walk.new ≡ parts path.now }
+    ensures values { values (left path.now walk.new) ≡ values path.now }
+    ensures left { left path.now walk.new ≡ rest path.now 0 0 }
+    ensures in_order { InOrder (walk.new.front ∷ walk.new.back ∷ length path.now ∷ []) }
+{
+    let parts = Path::from_bytes(path).components();
+    *walk = Walk {
+        front: 0,
+        back: parts.as_path().bytes.len(),
+    };
+}
+
+/// Takes the first part that is left, and gives it in `part`. False if none is left, and then walk
+/// and part stay as they were.
+///
+/// The part's place is in bytes from the beginning of the path. No byte outside the path is read,
+/// whatever the walk's places are. Does not allocate. As Rust's `Components::next`.
+///
+/// For `/tmp//foo/` it gives the root at 0, then `tmp` at 1, then `foo` at 6, and then none.
+#[unsafe(no_mangle)]
+pub extern "C" fn unix_path_next(path: &[u8], walk: &mut Walk, part: &mut Part) -> bool
+    ensures ended { IsFalse result ↔ (left path.now walk.old ≡ []) }
+    ensures walk_stays { IsFalse result → walk.new ≡ walk.old }
+    ensures part_stays { IsFalse result → part.new ≡ part.old }
+    ensures parts { IsTrue result →
+        parts_left path.now walk.old ≡ part_in path.now part.new ∷ parts_left path.now walk.new }
+    ensures values { IsTrue result → values (left path.now walk.old)
+        ≡ part_value path.now part.new ∷ values (left path.now walk.new) }
+    ensures bytes { IsTrue result →
+        part_bytes path.now part.new ≡ value_bytes (part_value path.now part.new) }
+    ensures kind { IsTrue result → part.new.kind < 4 }
+    ensures left { IsTrue result → left path.now walk.new ≡ rest (left path.now walk.old) 1 0 }
+    ensures in_order { IsTrue result → InOrder (walk.old.front ∷ part.new.start
+        ∷ part_end part.new ∷ walk.new.front ∷ walk.new.back ∷ walk.old.back
+        ∷ length path.now ∷ []) }
+{
+    let mut parts = left_of(path, walk).components();
+    let len = parts.as_path().bytes.len();
+    let Some(first) = parts.next() else {
+        return false;
+    };
+    let back = walk.front + len;
+    *part = Part {
+        start: walk.front,
+        length: first.as_unix_str().bytes.len(),
+        kind: kind_of(first),
+    };
+    *walk = Walk {
+        front: back - parts.as_path().bytes.len(),
+        back,
+    };
+    true
+}
+
+/// Takes the last part that is left, and gives it in `part`. False if none is left, and then walk
+/// and part stay as they were.
+///
+/// The part's place is in bytes from the beginning of the path. No byte outside the path is read,
+/// whatever the walk's places are. Does not allocate. As Rust's `Components::next_back`.
+///
+/// For `/tmp//foo/` it gives `foo` at 6, then `tmp` at 1, then the root at 0, and then none.
+#[unsafe(no_mangle)]
+pub extern "C" fn unix_path_next_back(path: &[u8], walk: &mut Walk, part: &mut Part) -> bool
+    ensures ended { IsFalse result ↔ (left path.now walk.old ≡ []) }
+    ensures walk_stays { IsFalse result → walk.new ≡ walk.old }
+    ensures part_stays { IsFalse result → part.new ≡ part.old }
+    ensures parts { IsTrue result → parts_left path.now walk.old
+        ≡ parts_left path.now walk.new ++ part_in path.now part.new ∷ [] }
+    ensures values { IsTrue result → values (left path.now walk.old)
+        ≡ values (left path.now walk.new) ++ part_value path.now part.new ∷ [] }
+    ensures bytes { IsTrue result →
+        part_bytes path.now part.new ≡ value_bytes (part_value path.now part.new) }
+    ensures kind { IsTrue result → part.new.kind < 4 }
+    ensures left { IsTrue result → left path.now walk.new ≡ rest (left path.now walk.old) 0 1 }
+    ensures in_order { IsTrue result → InOrder (walk.old.front ∷ walk.new.front ∷ walk.new.back
+        ∷ part.new.start ∷ part_end part.new ∷ walk.old.back ∷ length path.now ∷ []) }
+{
+    let mut parts = left_of(path, walk).components();
+    let len = parts.as_path().bytes.len();
+    let Some(last) = parts.next_back() else {
+        return false;
+    };
+    let length = last.as_unix_str().bytes.len();
+    *part = Part {
+        start: walk.front + len - length,
+        length,
+        kind: kind_of(last),
+    };
+    walk.back = walk.front + parts.as_path().bytes.len();
+    true
+}
+
+/// Where the bytes that are left stand, from the first part not yet taken to the end of the last.
+///
+/// The place is in bytes from the beginning of the path. Where no part is left its length is 0. No
+/// byte outside the path is read, whatever the walk's places are. Does not allocate. As Rust's
+/// `Components::as_path`.
+///
+/// For `/tmp//foo/` after one `unix_path_next` it is 8 bytes from 1 on, `tmp//foo`.
+#[unsafe(no_mangle)]
+pub extern "C" fn unix_path_as_path(path: &[u8], walk: &Walk, place: &mut Place)
+    ensures bytes { place_bytes path.now place.new ≡ rest (left path.now walk.now) 0 0 }
+    ensures values { values (place_bytes path.now place.new) ≡ values (left path.now walk.now) }
+    ensures start { place.new.start ≡ min walk.now.front (length path.now) }
+    ensures in_range { place_end place.new ≤ length path.now }
+{
+    *place = Place {
+        start: walk.front.min(path.len()),
+        length: left_of(path, walk).components().as_path().bytes.len(),
+    };
+}
