@@ -6,3 +6,4 @@ pub mod LastLemmas
 pub mod LeftLemmas
 pub mod FrontLemmas
 pub mod BehindLemmas
+pub mod SignLemmas

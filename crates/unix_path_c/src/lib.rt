@@ -2,6 +2,8 @@
 #![tactic(auto)]
 
 mod places;
+mod queries;
 #[cfg(test)]
 mod tests;
 mod walks;
+mod within;

@@ -1,4 +1,6 @@
 //! Rows of calls, as a caller from C makes them.
 mod mixed;
 mod places;
+mod queries;
 mod walks;
+mod within;

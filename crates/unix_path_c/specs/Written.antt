@@ -1,0 +1,7 @@
+-- What a buffer of the caller's holds after a call (as `snprintf` of C, but all or nothing).
+use Rattle.std.specs.Prelude.{ℕ, List, ◌++◌, drop, length, nat_le, if◌then◌else◌}
+
+-- the bytes, and behind them what stood there; all as it was where there is no room for them
+abbrev pub written : List ℕ → List ℕ → List ℕ
+written bytes old =
+    if nat_le (length bytes) (length old) then bytes ++ drop (length bytes) old else old

@@ -1,0 +1,97 @@
+//! Paths from outside: resolved, and joined so that they stay under a root.
+ghost use Rattle.std.specs.Prelude.{◌≡◌, ◌↔◌, ◌⊎◌, ◌<◌, ◌^◌, length};
+ghost use Rattle.unix_path.specs.Joins.{join_of};
+ghost use Rattle.unix_path.specs.Parts.{values};
+ghost use Rattle.unix_path.specs.Prefixes.{Begins};
+ghost use Rattle.path_within.specs.Resolved.{Climbs, resolved_bytes_of};
+ghost use Rattle.unix_path_c.specs.Within.{IsLength, escapes, no_memory};
+ghost use Rattle.unix_path_c.specs.Written.{written};
+
+use path_within::WithinError;
+use path_within::resolved::resolved;
+use path_within::within::join_within;
+use std::alloc::Global;
+use unix_path::Path;
+
+// The answer where a request would leave its root.
+const ESCAPES: usize = usize::MAX - 1;
+
+// The answer where an allocation failed.
+const NO_MEMORY: usize = usize::MAX - 2;
+
+// Copies the bytes to the beginning of `out` if they all fit, and gives how many they are.
+fn copy_out(bytes: &[u8], out: &mut [u8]) -> usize
+    ensures length { result ≡ length bytes.now }
+    ensures fits { result < 2 ^ 63 }
+    ensures out { out.new ≡ written bytes.now out.old }
+{
+    if bytes.len() <= out.len() {
+        out[..bytes.len()].copy_from_slice(bytes);
+    }
+    bytes.len()
+}
+
+/// The path with each `..` taken against the name before it, and spelled canonically: `.` goes, and
+/// so does `..` behind the root. Without a root, `..` with no name before it stays in front.
+///
+/// The answer is how many bytes that is. If `out` has room for them all they stand at its
+/// beginning, and what stood behind them stays; else nothing is written. `UNIX_PATH_NO_MEMORY` is
+/// the answer where an allocation fails, and then nothing is written either. `out` may not overlap
+/// the path.
+///
+/// It goes by names alone: where a part before a `..` may be a link, only the system knows where
+/// that `..` leads. The empty path stands for here. Allocates once, as many bytes as the path has,
+/// or not at all for the empty path, and frees what it allocates. C passes nothing for `alloc`. Not
+/// in Rust's std; as Go's `path.Clean`, which gives `.` for the empty path.
+///
+/// For `a/../..//b/.` it is `../b`, for `/../a` it is `/a`, and for `a/..` the empty path.
+#[unsafe(no_mangle)]
+pub extern "C" fn unix_path_resolved(alloc: Global, path: &[u8], out: &mut [u8]) -> usize
+    ensures answers { IsLength result ⊎ (result ≡ no_memory) }
+    ensures length { IsLength result → result ≡ length (resolved_bytes_of path.now) }
+    ensures out { IsLength result
+        → out.new ≡ written (resolved_bytes_of path.now) out.old }
+    ensures refused { result ≡ no_memory → out.new ≡ out.old }
+{
+    match resolved(alloc, Path::from_bytes(path)) {
+        Ok(resolved) => copy_out(resolved.as_path().bytes, out),
+        Err(_) => NO_MEMORY,
+    }
+}
+
+/// The request joined to the root, and resolved, so that it stays under the resolved root.
+///
+/// The answer is how many bytes that is. If `out` has room for them all they stand at its
+/// beginning, and what stood behind them stays; else nothing is written. `UNIX_PATH_ESCAPES` is the
+/// answer exactly where the request climbs, before anything is allocated, and `UNIX_PATH_NO_MEMORY`
+/// where the allocation fails; then nothing is written either. `out` may overlap neither path.
+///
+/// It goes by names alone: where a part of the root or of the request may be a link, only the
+/// system knows where the join leads. Allocates once, one byte more than both paths have, and frees
+/// what it allocates. C passes nothing for `alloc`. Not in Rust's std.
+///
+/// `/srv/www` with `a/../b` is `/srv/www/b`, and with `a/../../x` it is refused.
+#[unsafe(no_mangle)]
+pub extern "C" fn unix_path_join_within(
+    alloc: Global,
+    root: &[u8],
+    request: &[u8],
+    out: &mut [u8],
+) -> usize
+    ensures answers { IsLength result ⊎ ((result ≡ escapes) ⊎ (result ≡ no_memory)) }
+    ensures escapes { (result ≡ escapes) ↔ Climbs (values request.now) }
+    ensures length { IsLength result
+        → result ≡ length (resolved_bytes_of (join_of root.now request.now)) }
+    ensures out { IsLength result
+        → out.new ≡ written (resolved_bytes_of (join_of root.now request.now)) out.old }
+    ensures within { IsLength result → Begins (values (resolved_bytes_of root.now))
+        (values (resolved_bytes_of (join_of root.now request.now))) }
+    ensures escaped { result ≡ escapes → out.new ≡ out.old }
+    ensures refused { result ≡ no_memory → out.new ≡ out.old }
+{
+    match join_within(alloc, Path::from_bytes(root), Path::from_bytes(request)) {
+        Ok(joined) => copy_out(joined.as_path().bytes, out),
+        Err(WithinError::Escapes) => ESCAPES,
+        Err(WithinError::Memory(_)) => NO_MEMORY,
+    }
+}
