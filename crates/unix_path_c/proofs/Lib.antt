@@ -7,3 +7,7 @@ pub mod LeftLemmas
 pub mod FrontLemmas
 pub mod BehindLemmas
 pub mod SignLemmas
+pub mod PlacedLemmas
+pub mod EndLemmas
+pub mod WritingLemmas
+pub mod SpelledLemmas

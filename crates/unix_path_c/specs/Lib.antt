@@ -3,3 +3,7 @@ pub mod Walks
 pub mod Queries
 pub mod Within
 pub mod Written
+pub mod Placed
+pub mod Pieces
+pub mod Counted
+pub mod Spelled

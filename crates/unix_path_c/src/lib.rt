@@ -1,9 +1,13 @@
 //! The calls of `unix_path` and of the crates above it, for C: `include/unix_path.h` declares them.
 #![tactic(auto)]
 
+mod canonical;
+mod joins;
+mod lossy;
 mod places;
 mod queries;
 #[cfg(test)]
 mod tests;
 mod walks;
 mod within;
+mod writing;

@@ -1,6 +1,10 @@
 //! Rows of calls, as a caller from C makes them.
+mod canonical;
+mod joins;
+mod lossy;
 mod mixed;
 mod places;
 mod queries;
+mod rooms;
 mod walks;
 mod within;

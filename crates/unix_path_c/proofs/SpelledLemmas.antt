@@ -1,0 +1,49 @@
+-- A spelling is its values' bytes, each behind the gap that the value before it asks for.
+use Rattle.std.proofs.Common.{◌≡◌, ◌≤◌, ℕ, List, [], ◌∷◌, ◌++◌, length, refl, sym, ap, ◌∙◌}
+use Rattle.std.proofs.Common.{⊎_elim, append_assoc, append-nil, arith}
+use Rattle.std.specs.List.{AllByRecursion}
+use Rattle.unix_path.specs.Parts.{slash, Value, RootDir, value_bytes, values}
+use Rattle.path_runs.specs.Spelling.{row_of, spelling_of}
+use Rattle.path_runs.proofs.LeanLemmas.{spelling_of-shortest}
+use Rattle.path_runs.proofs.PlainLemmas.{IsPlainValue, Shape, Rooted, Rootless, values-shape}
+use Rattle.path_runs.proofs.SpellLemmas.{spelling_of-root}
+use Rattle.unix_path_c.specs.Spelled.{gap_after, spelled_behind}
+
+gap_after-plain : (v : Value) → (v ≡ RootDir → ⊥) → gap_after v ≡ slash ∷ []
+gap_after-plain RootDir h = absurd (h refl)
+gap_after-plain v h = refl
+
+-- of plain values: the gap, and the row
+spelled_behind-plain : (gap : List ℕ) (v : Value) (vs : List Value)
+    → AllByRecursion IsPlainValue (v ∷ vs) → spelled_behind gap (v ∷ vs) ≡ gap ++ row_of (v ∷ vs)
+spelled_behind-plain gap v [] h = append-nil (gap ++ value_bytes v)
+spelled_behind-plain gap v (w ∷ ws) h =
+    ap (λ next. (gap ++ value_bytes v) ++ spelled_behind next (w ∷ ws))
+    (gap_after-plain v h.0.no_root)
+    ∙ ap (λ s. (gap ++ value_bytes v) ++ s) (spelled_behind-plain (slash ∷ []) w ws h.1)
+    ∙ append_assoc gap (value_bytes v) (slash ∷ row_of (w ∷ ws))
+
+spelled_behind-row : (vs : List Value) → AllByRecursion IsPlainValue vs
+    → spelled_behind [] vs ≡ row_of vs
+spelled_behind-row [] h = refl
+spelled_behind-row (v ∷ vs) h = spelled_behind-plain [] v vs h
+
+spelling_of-plain : (vs : List Value) → AllByRecursion IsPlainValue vs → spelling_of vs ≡ row_of vs
+unfolding spelling_of
+spelling_of-plain [] h = refl
+spelling_of-plain (RootDir ∷ vs) h = absurd (h.0.no_root refl)
+spelling_of-plain (v ∷ vs) h = refl
+
+pub spelled_behind-values : (s : List ℕ) → spelled_behind [] (values s) ≡ spelling_of (values s)
+spelled_behind-values s = by (values-shape s)
+  where
+    by : Shape (values s) → spelled_behind [] (values s) ≡ spelling_of (values s)
+    by (Rooted ws e h) = ap (spelled_behind []) e
+        ∙ ap (λ row. slash ∷ row) (spelled_behind-row ws h)
+        ∙ sym (ap spelling_of e ∙ spelling_of-root ws)
+    by (Rootless h) = spelled_behind-row (values s) h ∙ sym (spelling_of-plain (values s) h)
+
+-- a spelling is never longer than the path
+pub length-spelling_of : (s : List ℕ) → length (spelling_of (values s)) ≤ length s
+length-spelling_of s =
+    ⊎_elim (λ e. omega (arith, ap length e)) (λ h. omega (arith, h)) (spelling_of-shortest s s refl)

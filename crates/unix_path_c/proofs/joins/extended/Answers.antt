@@ -1,0 +1,15 @@
+use Rattle.std.proofs.Common.{[], ◌++◌, sym, ◌∙◌, append-nil}
+use Rattle.unix_path.specs.Steps.{gap_bytes}
+use Rattle.unix_path.proofs.EditLemmas.{with_extension_of-none, with_extension_of-some}
+use Rattle.unix_path_c.proofs.joins.extended.Goals as goal
+
+pub returns-in_default : goal.returns-in_default
+returns-in_default c =
+    let s = c.args.path.bytes.now in
+    append-nil (s ++ []) ∙ append-nil s
+    ∙ sym (with_extension_of-none s c.args.extension.now c.in_default.ensures.value)
+
+pub returns : goal.returns
+returns c =
+    sym (with_extension_of-some c.args.path.bytes.now c.args.extension.now
+    (gap_bytes c.dot_before.result) c.in-Some.end c.in-Some.ensures.value c.dot_before.ensures)

@@ -1,0 +1,232 @@
+//! Joins, and copies of paths with another file name or extension.
+ghost use Rattle.std.specs.Prelude.{◌≡◌, ◌≤◌, ◌+◌, true, false, length, IfSome};
+ghost use Rattle.unix_path.specs.Edits.{before_name_of, dot_before, stem_end_of};
+ghost use Rattle.unix_path.specs.Edits.{with_extension_of, with_name_of};
+ghost use Rattle.unix_path.specs.Extensions.{has_slash};
+ghost use Rattle.unix_path.specs.Joins.{is_open, join_of};
+ghost use Rattle.unix_path.specs.Steps.{gap_bytes};
+ghost use Rattle.unix_path_c.specs.Pieces.{pieces_bytes};
+ghost use Rattle.unix_path_c.specs.Placed.{placed};
+ghost use Rattle.unix_path_c.specs.Written.{written};
+
+use unix_path::{Component, Path};
+
+/// What `unix_path_with_extension` answers where the extension has a slash. No buffer is so
+/// long.
+pub const SEPARATOR: usize = usize::MAX;
+
+// What an answer is made of: a front, a byte behind it or none, and an end.
+#[derive(Clone, Copy)]
+struct Pieces<'a> {
+    front: &'a [u8],
+    mark: Option<u8>,
+    end: &'a [u8],
+}
+
+// Puts the bytes in the place of as many from `at` on.
+#[inline]
+fn place(out: &mut [u8], at: usize, bytes: &[u8])
+    requires { at + length bytes.now ≤ length out.old }
+    ensures { out.new ≡ placed at bytes.now out.old }
+{
+    out[at..at + bytes.len()].copy_from_slice(bytes);
+}
+
+// Puts the byte, if there is one, in the place of the one at `at`.
+#[inline]
+fn place_mark(out: &mut [u8], at: usize, mark: Option<u8>)
+    requires { at + length (gap_bytes mark) ≤ length out.old }
+    ensures { out.new ≡ placed at (gap_bytes mark) out.old }
+{
+    if let Some(byte) = mark {
+        out[at] = byte;
+    }
+}
+
+impl Pieces<'_> {
+    // How many bytes they have.
+    #[inline]
+    fn total_len(&self) -> usize
+        ensures total { result ≡ length (pieces_bytes self.now) }
+        ensures pieces { result ≡ length self.now.front.now
+            + length (gap_bytes self.now.mark) + length self.now.end.now }
+    {
+        match self.mark {
+            Some(_) => self.front.len() + 1 + self.end.len(),
+            None => self.front.len() + self.end.len(),
+        }
+    }
+
+    // Writes them to the beginning of the buffer, if it has room for all, and says how many bytes
+    // they have.
+    #[inline]
+    fn write(&self, out: &mut [u8]) -> usize
+        ensures out { out.new ≡ written (pieces_bytes self.now) out.old }
+        ensures length { result ≡ length (pieces_bytes self.now) }
+    {
+        let total = self.total_len();
+        if total > out.len() {
+            return total;
+        }
+        place(out, 0, self.front);
+        place_mark(out, self.front.len(), self.mark);
+        place(out, total - self.end.len(), self.end);
+        total
+    }
+}
+
+// Whether there is no byte, or the last is a slash.
+#[inline]
+fn is_open(path: &[u8]) -> bool
+    ensures { result ≡ is_open path.now }
+{
+    path.is_empty() || path[path.len() - 1] == b'/'
+}
+
+// The pieces of a join.
+#[inline]
+fn joined<'a>(base: Path<'a>, path: Path<'a>) -> Pieces<'a>
+    ensures { pieces_bytes result ≡ join_of base.entry.bytes.now path.entry.bytes.now }
+{
+    let end = path.bytes;
+    if path.has_root() {
+        return Pieces {
+            front: &[],
+            mark: None,
+            end,
+        };
+    }
+    let front = base.bytes;
+    if is_open(front) {
+        return Pieces {
+            front,
+            mark: None,
+            end,
+        };
+    }
+    Pieces {
+        front,
+        mark: Some(b'/'),
+        end,
+    }
+}
+
+// What stands before the file name, or all of the path where there is none.
+#[inline]
+fn before_name(path: Path<'_>) -> Path<'_>
+    ensures { result.bytes.now ≡ before_name_of path.entry.bytes.now }
+{
+    let mut walk = path.components();
+    let Some(last) = walk.next_back() else {
+        return path;
+    };
+    match last {
+        Component::Normal(_) => walk.as_path(),
+        _ => path,
+    }
+}
+
+// Where the stem of the file name ends.
+#[inline]
+fn stem_end(path: Path<'_>) -> Option<usize>
+    ensures value { result ≡ stem_end_of path.entry.bytes.now }
+    ensures in_range { IfSome result (λ end. end ≤ length path.entry.bytes.now) }
+{
+    let Some(name) = path.file_name() else {
+        return None;
+    };
+    let Some(stem) = path.file_stem() else {
+        return None;
+    };
+    let end = path.components().as_path().bytes.len();
+    Some(end - name.bytes.len() + stem.bytes.len())
+}
+
+// The dot before an extension, unless that is empty.
+#[inline]
+fn dot_before(extension: &[u8]) -> Option<u8>
+    ensures { gap_bytes result ≡ dot_before extension.now }
+{
+    if extension.is_empty() {
+        return None;
+    }
+    Some(b'.')
+}
+
+// The pieces of a path with another extension.
+#[inline]
+fn extended<'a>(path: Path<'a>, extension: &'a [u8]) -> Pieces<'a>
+    ensures { pieces_bytes result ≡ with_extension_of path.entry.bytes.now extension.now }
+{
+    let Some(end) = stem_end(path) else {
+        return Pieces {
+            front: path.bytes,
+            mark: None,
+            end: &[],
+        };
+    };
+    Pieces {
+        front: &path.bytes[..end],
+        mark: dot_before(extension),
+        end: extension,
+    }
+}
+
+/// Writes the join of two paths to `out`, and gives how many bytes the join has.
+///
+/// It is `path` alone where that begins with `/`; otherwise `base`, a `/` unless `base` is empty or
+/// ends in one, and `path`. If `out` has room for all of it, the join stands at its beginning, and
+/// the bytes behind stay; else nothing is written. Lengths are in bytes. `out` overlaps neither
+/// path, and no pointer is null. Does not allocate. As Rust's `Path::join`.
+///
+/// `/etc` joined with `passwd` is `/etc/passwd`, of 11 bytes, and `a` with the empty path is `a/`.
+#[unsafe(no_mangle)]
+pub extern "C" fn unix_path_join(base: &[u8], path: &[u8], out: &mut [u8]) -> usize
+    ensures out { out.new ≡ written (join_of base.now path.now) out.old }
+    ensures length { result ≡ length (join_of base.now path.now) }
+{
+    joined(Path { bytes: base }, Path { bytes: path }).write(out)
+}
+
+/// Writes the path with another file name to `out`, and gives how many bytes it has then.
+///
+/// The name is joined to what stands before the file name, or to all of the path where there is
+/// none. It isn't looked into: one that begins with `/` replaces all bytes, and `..` stays. If
+/// `out` has room for all of it, the answer stands at its beginning, and the bytes behind stay;
+/// else nothing is written. Lengths are in bytes. `out` overlaps neither slice, and no pointer is
+/// null. Does not allocate. As Rust's `Path::with_file_name`.
+///
+/// `/tmp/foo.txt` with the file name `bar.txt` is `/tmp/bar.txt`, of 12 bytes, and `foo/..` with
+/// `bar` is `foo/../bar`.
+#[unsafe(no_mangle)]
+pub extern "C" fn unix_path_with_file_name(path: &[u8], name: &[u8], out: &mut [u8]) -> usize
+    ensures out { out.new ≡ written (with_name_of path.now name.now) out.old }
+    ensures length { result ≡ length (with_name_of path.now name.now) }
+{
+    joined(before_name(Path { bytes: path }), Path { bytes: name }).write(out)
+}
+
+/// Writes the path with another extension to `out`, and gives how many bytes it has then.
+///
+/// The extension, with a dot before it unless it is empty, replaces what stands behind the stem of
+/// the file name; a path without a file name stays as it is. Where the extension has a `/`, the
+/// answer is `UNIX_PATH_SEPARATOR`, and nothing is written. If `out` has room for all of it, the
+/// answer stands at its beginning, and the bytes behind stay; else nothing is written. Lengths are
+/// in bytes. `out` overlaps neither slice, and no pointer is null. Does not allocate. As Rust's
+/// `Path::with_extension`, which panics for a separator.
+///
+/// `foo.rs/.` with the extension `txt` is `foo.txt`, of 7 bytes, and `..` stays `..`.
+#[unsafe(no_mangle)]
+pub extern "C" fn unix_path_with_extension(path: &[u8], extension: &[u8], out: &mut [u8]) -> usize
+    ensures separator { has_slash extension.now ≡ true → result ≡ SEPARATOR }
+    ensures kept { has_slash extension.now ≡ true → out.new ≡ out.old }
+    ensures out { has_slash extension.now ≡ false
+        → out.new ≡ written (with_extension_of path.now extension.now) out.old }
+    ensures length { has_slash extension.now ≡ false
+        → result ≡ length (with_extension_of path.now extension.now) }
+{
+    if extension.contains(&b'/') {
+        return SEPARATOR;
+    }
+    extended(Path { bytes: path }, extension).write(out)
+}

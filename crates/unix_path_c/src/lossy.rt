@@ -1,0 +1,70 @@
+//! The lossy text, in a buffer of the caller's.
+ghost use Rattle.std.specs.Prelude.{◌≡◌, ◌≤◌, length};
+ghost use Rattle.unix_bytes.specs.Chunks.{replacement_for};
+ghost use Rattle.unix_bytes.specs.Lossy.{lossy_of};
+ghost use Rattle.unix_path_c.specs.Counted.{counted};
+ghost use Rattle.unix_path_c.specs.Written.{written};
+
+use crate::writing::place_both;
+use unix_bytes::lossy::Utf8Lossy;
+
+// What is shown for a broken front, or nothing where nothing is broken.
+#[inline]
+fn replacement_for(broken: &[u8]) -> &'static [u8]
+    ensures { result.now ≡ replacement_for broken.now }
+{
+    if broken.is_empty() {
+        return b"";
+    }
+    b"\xEF\xBF\xBD"
+}
+
+// How many bytes the lossy text has, as far as that can be counted.
+#[inline]
+fn lossy_len(path: &[u8]) -> usize
+    ensures { result ≡ counted (length (lossy_of path.now)) }
+{
+    let mut len = 0_usize;
+    for chunk in Utf8Lossy::from_bytes(path).chunks() {
+        let shown = replacement_for(chunk.broken);
+        len = len
+            .saturating_add(chunk.valid.len())
+            .saturating_add(shown.len());
+    }
+    len
+}
+
+// Writes the lossy text to the beginning of the buffer.
+#[inline]
+fn write_lossy(path: &[u8], out: &mut [u8])
+    requires { length (lossy_of path.now) ≤ length out.old }
+    ensures { out.new ≡ written (lossy_of path.now) out.old }
+{
+    let mut at = 0_usize;
+    for chunk in Utf8Lossy::from_bytes(path).chunks() {
+        let shown = replacement_for(chunk.broken);
+        at = place_both(out, at, chunk.valid.as_bytes(), shown);
+    }
+}
+
+/// Writes the lossy text of a path to `out`, and answers how many bytes it has.
+///
+/// It is the path itself where that is UTF-8 (RFC 3629 section 4); otherwise U+FFFD, of 3 bytes,
+/// stands for each broken front. If `out` has room for all of it, it stands at the beginning of
+/// `out`, and the bytes behind stay; else nothing is written. Lengths are in bytes; one too large
+/// for a `size_t`, which only a path of a third of all memory can have, is answered as `SIZE_MAX`,
+/// which no buffer has room for. `out` doesn't overlap the path, and no pointer is null. Does not
+/// allocate. As Rust's `Path::to_string_lossy`.
+///
+/// For the bytes 61 FF it is `a` and U+FFFD, of 4 bytes.
+#[unsafe(no_mangle)]
+pub extern "C" fn unix_path_to_string_lossy(path: &[u8], out: &mut [u8]) -> usize
+    ensures out { out.new ≡ written (lossy_of path.now) out.old }
+    ensures length { result ≡ counted (length (lossy_of path.now)) }
+{
+    let len = lossy_len(path);
+    if len <= out.len() {
+        write_lossy(path, out);
+    }
+    len
+}

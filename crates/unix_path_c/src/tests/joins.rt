@@ -1,0 +1,145 @@
+//! Rows of joins, and of paths with another file name or extension, in buffers of every length.
+use crate::joins::{SEPARATOR, unix_path_join, unix_path_with_extension, unix_path_with_file_name};
+
+// A path, a path to join to it, and the join.
+static JOINS: [(&'static str, &'static str, &'static str); 16] = [
+    ("", "foo", "foo"),
+    ("foo", "bar", "foo/bar"),
+    ("foo/", "bar", "foo/bar"),
+    ("foo//", "bar", "foo//bar"),
+    ("foo/.", "bar", "foo/./bar"),
+    ("foo./.", "bar", "foo././bar"),
+    ("foo", "", "foo/"),
+    ("", "", ""),
+    ("/", "", "/"),
+    ("foo", ".", "foo/."),
+    ("foo", "..", "foo/.."),
+    ("foo", "/", "/"),
+    ("/foo/bar", "/", "/"),
+    ("/foo/bar", "/baz", "/baz"),
+    ("/foo/bar", "./baz", "/foo/bar/./baz"),
+    ("/etc", "passwd", "/etc/passwd"),
+];
+
+// A path, a file name, and the path with it.
+static NAMES: [(&'static str, &'static str, &'static str); 14] = [
+    ("foo", "foo", "foo"),
+    ("foo", "bar", "bar"),
+    ("foo", "", ""),
+    ("", "foo", "foo"),
+    (".", "foo", "./foo"),
+    ("foo/", "bar", "bar"),
+    ("foo/.", "bar", "bar"),
+    ("..", "foo", "../foo"),
+    ("foo/..", "bar", "foo/../bar"),
+    ("/", "foo", "/foo"),
+    ("/tmp", "var", "/var"),
+    ("/tmp/foo.txt", "bar.txt", "/tmp/bar.txt"),
+    ("/tmp/foo.txt", "/bar", "/bar"),
+    ("a//b/", "..", "a/.."),
+];
+
+// A path, an extension, and the path with it.
+static EXTENSIONS: [(&'static str, &'static str, &'static str); 19] = [
+    ("foo", "txt", "foo.txt"),
+    ("foo.bar", "txt", "foo.txt"),
+    ("foo.bar.baz", "txt", "foo.bar.txt"),
+    (".test", "txt", ".test.txt"),
+    ("foo.txt", "", "foo"),
+    ("foo", "", "foo"),
+    ("foo.", "", "foo"),
+    ("foo.tar.gz", "", "foo.tar"),
+    ("foo.tar.gz", "xz", "foo.tar.xz"),
+    ("foo.rs/.", "txt", "foo.txt"),
+    ("a.b/c.d//", "e.f", "a.b/c.e.f"),
+    ("", "foo", ""),
+    (".", "foo", "."),
+    ("foo/", "bar", "foo.bar"),
+    ("foo/.", "bar", "foo.bar"),
+    ("..", "foo", ".."),
+    ("foo/..", "bar", "foo/.."),
+    ("foo/../", "bar", "foo/../"),
+    ("/", "foo", "/"),
+];
+
+#[derive(Clone, Copy)]
+enum Call {
+    Join,
+    WithFileName,
+    WithExtension,
+}
+
+fn answer(call: Call, path: &str, more: &str, out: &mut [u8]) -> usize {
+    match call {
+        Call::Join => unix_path_join(path.as_bytes(), more.as_bytes(), out),
+        Call::WithFileName => unix_path_with_file_name(path.as_bytes(), more.as_bytes(), out),
+        Call::WithExtension => unix_path_with_extension(path.as_bytes(), more.as_bytes(), out),
+    }
+}
+
+// Whether these bytes stand at the beginning, where there is room for them, and the others stayed.
+fn holds(out: &[u8], want: &[u8]) -> bool {
+    let written = if want.len() <= out.len() {
+        want
+    } else {
+        b"".as_slice()
+    };
+    match out.strip_prefix(written) {
+        Some(behind) => behind.iter().all(|byte| *byte == b'#'),
+        None => false,
+    }
+}
+
+// Whether each buffer, from none to more than enough bytes, is answered the length and written to.
+fn is_answered(call: Call, path: &str, more: &str, want: &str) -> bool {
+    for room in 0..32usize {
+        let mut buffer = [b'#'; 32];
+        let out = &mut buffer[..room];
+        if answer(call, path, more, out) != want.len() || !holds(out, want.as_bytes()) {
+            return false;
+        }
+    }
+    true
+}
+
+#[test]
+fn every_room_is_answered(rt: HostRuntime) {
+    for (base, path, want) in JOINS {
+        assert!(rt;
+            is_answered(Call::Join, base, path, want),
+            "{base} joined with {path}"
+        );
+    }
+    for (path, name, want) in NAMES {
+        assert!(rt;
+            is_answered(Call::WithFileName, path, name, want),
+            "{path} with {name}"
+        );
+    }
+    for (path, extension, want) in EXTENSIONS {
+        let is_right = is_answered(Call::WithExtension, path, extension, want);
+        assert!(rt; is_right, "{path} with the extension {extension}");
+    }
+}
+
+#[test]
+fn bytes_that_are_no_text_are_kept(rt: HostRuntime) {
+    let mut out = [b'#'; 8];
+    assert_eq!(rt; unix_path_join(b"\xff/", b"\xfe", &mut out), 3);
+    assert_eq!(rt; out.as_slice(), b"\xff/\xfe#####".as_slice());
+    assert_eq!(rt;
+        unix_path_with_extension(b"\xff.\x00", b"\xfe", &mut out),
+        3
+    );
+    assert_eq!(rt; out.as_slice(), b"\xff.\xfe#####".as_slice());
+}
+
+#[test]
+fn an_extension_with_a_slash_is_refused(rt: HostRuntime) {
+    for extension in ["/", "a/", "/a", "a/b", "//"] {
+        let mut out = [b'#'; 16];
+        let answer = unix_path_with_extension(b"foo.rs", extension.as_bytes(), &mut out);
+        assert_eq!(rt; answer, SEPARATOR, "{extension}");
+        assert!(rt; holds(&out, b""), "{extension}");
+    }
+}

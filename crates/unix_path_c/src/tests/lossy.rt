@@ -1,0 +1,62 @@
+//! Rows of lossy texts, in buffers of every length.
+use crate::lossy::unix_path_to_string_lossy;
+use crate::tests::rooms::holds;
+use unix_bytes::bytes::UnixStr;
+
+// A path, and its lossy text.
+static TEXTS: [(&'static [u8], &'static [u8]); 19] = [
+    (b"A\xc3\xa9", b"A\xc3\xa9"),
+    (b"a/\xf3", b"a/\xef\xbf\xbd"),
+    (b"//a\xffb", b"//a\xef\xbf\xbdb"),
+    (b"b//b", b"b//b"),
+    (
+        b"/a\x00b/\xb2\xe9@\x8c\x98g",
+        b"/a\x00b/\xef\xbf\xbd\xef\xbf\xbd@\xef\xbf\xbd\xef\xbf\xbdg",
+    ),
+    (
+        b"\xf4\x90\x80\x80A",
+        b"\xef\xbf\xbd\xef\xbf\xbd\xef\xbf\xbd\xef\xbf\xbdA",
+    ),
+    (b"\xf3\xbf\xbf\xc0A", b"\xef\xbf\xbd\xef\xbf\xbdA"),
+    (b"\xf0\x90\x80A", b"\xef\xbf\xbdA"),
+    (
+        b"\xf8\x88\x80\x80\x80A",
+        b"\xef\xbf\xbd\xef\xbf\xbd\xef\xbf\xbd\xef\xbf\xbd\xef\xbf\xbdA",
+    ),
+    (b"\xc1\xbfA", b"\xef\xbf\xbd\xef\xbf\xbdA"),
+    (b"\xe0\x9f\xbfA", b"\xef\xbf\xbd\xef\xbf\xbd\xef\xbf\xbdA"),
+    (b"\xee\x80A", b"\xef\xbf\xbdA"),
+    (b"\xf4\x8f\xbf\xbf", b"\xf4\x8f\xbf\xbf"),
+    (b"\xef\xbf\xbd", b"\xef\xbf\xbd"),
+    (
+        b"\xe1\x7f\x80\xef\xbf\xbd",
+        b"\xef\xbf\xbd\x7f\xef\xbf\xbd\xef\xbf\xbd",
+    ),
+    (
+        b"\xf1\x80\xf5\x80\x80\x80",
+        b"\xef\xbf\xbd\xef\xbf\xbd\xef\xbf\xbd\xef\xbf\xbd\xef\xbf\xbd",
+    ),
+    (b"\x0c\xe0\xbf\xbf\"\x01", b"\x0c\xe0\xbf\xbf\"\x01"),
+    (b"\xf4\x80\x80\x80\xed\x9f", b"\xf4\x80\x80\x80\xef\xbf\xbd"),
+    (b"", b""),
+];
+
+// Whether each buffer, from none to more than enough bytes, is answered the length and written to.
+fn is_answered(path: &[u8], want: &[u8]) -> bool {
+    for room in 0..32usize {
+        let mut buffer = [b'#'; 32];
+        let out = &mut buffer[..room];
+        if unix_path_to_string_lossy(path, out) != want.len() || !holds(out, want) {
+            return false;
+        }
+    }
+    true
+}
+
+#[test]
+fn every_room_is_answered(rt: HostRuntime) {
+    for (path, want) in TEXTS {
+        let shown = UnixStr::from_bytes(path);
+        assert!(rt; is_answered(path, want), "{shown:?}");
+    }
+}
