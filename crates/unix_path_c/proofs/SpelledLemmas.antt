@@ -1,5 +1,5 @@
 -- A spelling is its values' bytes, each behind the gap that the value before it asks for.
-use Rattle.std.proofs.Common.{◌≡◌, ◌≤◌, ℕ, List, [], ◌∷◌, ◌++◌, length, refl, sym, ap, ◌∙◌}
+use Rattle.std.proofs.Common.{◌≡◌, ◌≤◌, ℕ, ◌+◌, List, [], ◌∷◌, ◌++◌, length, refl, sym, ap, ◌∙◌}
 use Rattle.std.proofs.Common.{⊎_elim, append_assoc, append-nil, arith}
 use Rattle.std.specs.List.{AllByRecursion}
 use Rattle.unix_path.specs.Parts.{slash, Value, RootDir, value_bytes, values}
@@ -8,6 +8,7 @@ use Rattle.path_runs.proofs.LeanLemmas.{spelling_of-shortest}
 use Rattle.path_runs.proofs.PlainLemmas.{IsPlainValue, Shape, Rooted, Rootless, values-shape}
 use Rattle.path_runs.proofs.SpellLemmas.{spelling_of-root}
 use Rattle.unix_path_c.specs.Spelled.{gap_after, spelled_behind}
+use Rattle.unix_path_c.proofs.WritingLemmas.{length-both}
 
 gap_after-plain : (v : Value) → (v ≡ RootDir → ⊥) → gap_after v ≡ slash ∷ []
 gap_after-plain RootDir h = absurd (h refl)
@@ -47,3 +48,16 @@ spelled_behind-values s = by (values-shape s)
 pub length-spelling_of : (s : List ℕ) → length (spelling_of (values s)) ≤ length s
 length-spelling_of s =
     ⊎_elim (λ e. omega (arith, ap length e)) (λ h. omega (arith, h)) (spelling_of-shortest s s refl)
+
+-- what is counted, and one value more, is never more than the path
+pub spelled_behind-fits : {left : List Value} (s gap : List ℕ) (v : Value) (more : List Value)
+    (len : ℕ) → len + length (spelled_behind gap left) ≡ length (spelling_of (values s))
+    → left ≡ v ∷ more → len + (length gap + length (value_bytes v)) ≤ length s
+spelled_behind-fits s gap v more len h e =
+    omega (
+      arith,
+      h,
+      length-spelling_of s,
+      length-both gap (value_bytes v) (spelled_behind (gap_after v) more)
+          (ap (spelled_behind gap) e),
+    )

@@ -51,9 +51,9 @@ fn write_lossy(path: &[u8], out: &mut [u8])
 ///
 /// It is the path itself where that is UTF-8 (RFC 3629 section 4); otherwise U+FFFD, of 3 bytes,
 /// stands for each broken front. If `out` has room for all of it, it stands at the beginning of
-/// `out`, and the bytes behind stay; else nothing is written. Lengths are in bytes; one too large
-/// for a `size_t`, which only a path of a third of all memory can have, is answered as `SIZE_MAX`,
-/// which no buffer has room for. `out` doesn't overlap the path, and no pointer is null. Does not
+/// `out`, and the bytes behind stay; else nothing is written. Lengths are in bytes; one above
+/// `SIZE_MAX`, which only a path longer than a third of that can have, is answered as `SIZE_MAX`,
+/// and no buffer has room for it. `out` doesn't overlap the path, and no pointer is null. Does not
 /// allocate. As Rust's `Path::to_string_lossy`.
 ///
 /// For the bytes 61 FF it is `a` and U+FFFD, of 4 bytes.

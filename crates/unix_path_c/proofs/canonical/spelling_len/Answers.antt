@@ -3,7 +3,7 @@ use Rattle.unix_path.specs.Cursor.{cursor_values}
 use Rattle.unix_path.specs.Parts.{value_bytes}
 use Rattle.unix_path.specs.Views.{value_of}
 use Rattle.unix_path_c.specs.Spelled.{gap_after, spelled_behind}
-use Rattle.unix_path_c.proofs.SpelledLemmas.{length-spelling_of, spelled_behind-values}
+use Rattle.unix_path_c.proofs.SpelledLemmas.{spelled_behind-fits, spelled_behind-values}
 use Rattle.unix_path_c.proofs.WritingLemmas.{length-both}
 use Rattle.unix_path_c.proofs.canonical.spelling_len.Goals as goal
 
@@ -22,15 +22,11 @@ loop-part-init c = (
 
 pub overflow_add-len : goal.overflow_add-len
 overflow_add-len c =
-    let v = value_of c.in-Some.part in
-    let gap = c.loop-part.gap.now in
     omega (
       arith,
-      c.loop-part.invariant.2,
-      length-both gap (value_bytes v)
-          (spelled_behind (gap_after v) (cursor_values c.next.new.self))
-          (ap (spelled_behind gap) c.in-Some.ensures.steps.item_is),
-      length-spelling_of c.args.path.bytes.now,
+      spelled_behind-fits c.args.path.bytes.now c.loop-part.gap.now (value_of c.in-Some.part)
+          (cursor_values c.next.new.self) c.loop-part.len c.loop-part.invariant.2
+          c.in-Some.ensures.steps.item_is,
       c.ranges.path.0,
       c.len.ensures,
       ap length c.as_unix_str.ensures,
@@ -38,15 +34,11 @@ overflow_add-len c =
 
 pub overflow_add-len-in-loop-part : goal.overflow_add-len-in-loop-part
 overflow_add-len-in-loop-part c =
-    let v = value_of c.in-Some.part in
-    let gap = c.loop-part.gap.now in
     omega (
       arith,
-      c.loop-part.invariant.2,
-      length-both gap (value_bytes v)
-          (spelled_behind (gap_after v) (cursor_values c.next.new.self))
-          (ap (spelled_behind gap) c.in-Some.ensures.steps.item_is),
-      length-spelling_of c.args.path.bytes.now,
+      spelled_behind-fits c.args.path.bytes.now c.loop-part.gap.now (value_of c.in-Some.part)
+          (cursor_values c.next.new.self) c.loop-part.len c.loop-part.invariant.2
+          c.in-Some.ensures.steps.item_is,
       c.ranges.path.0,
       c.len.ensures,
       ap length c.as_unix_str.ensures,
