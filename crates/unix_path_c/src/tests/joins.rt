@@ -1,5 +1,6 @@
 //! Rows of joins, and of paths with another file name or extension, in buffers of every length.
 use crate::joins::{SEPARATOR, unix_path_join, unix_path_with_extension, unix_path_with_file_name};
+use crate::tests::rooms::holds;
 
 // A path, a path to join to it, and the join.
 static JOINS: [(&'static str, &'static str, &'static str); 16] = [
@@ -74,19 +75,6 @@ fn answer(call: Call, path: &str, more: &str, out: &mut [u8]) -> usize {
         Call::Join => unix_path_join(path.as_bytes(), more.as_bytes(), out),
         Call::WithFileName => unix_path_with_file_name(path.as_bytes(), more.as_bytes(), out),
         Call::WithExtension => unix_path_with_extension(path.as_bytes(), more.as_bytes(), out),
-    }
-}
-
-// Whether these bytes stand at the beginning, where there is room for them, and the others stayed.
-fn holds(out: &[u8], want: &[u8]) -> bool {
-    let written = if want.len() <= out.len() {
-        want
-    } else {
-        b"".as_slice()
-    };
-    match out.strip_prefix(written) {
-        Some(behind) => behind.iter().all(|byte| *byte == b'#'),
-        None => false,
     }
 }
 

@@ -1,9 +1,7 @@
 //! Rows of resolved paths and of joins that stay under a root, with every short buffer.
+use crate::tests::rooms::holds;
 use crate::within::{unix_path_join_within, unix_path_resolved};
 use std::alloc::Global;
-
-// What a buffer holds before a call.
-const OLD: u8 = 0x55;
 
 // What a request is answered that would leave its root.
 const ESCAPES: usize = usize::MAX - 1;
@@ -41,29 +39,13 @@ static WITHIN: [(&'static str, &'static str, Option<&'static str>); 13] = [
     ("/", "a\0/../etc", Some("/etc")),
 ];
 
-// Whether what follows `front` in the buffer is as it was.
-fn stays_behind(out: &[u8], front: &[u8]) -> bool {
-    out.strip_prefix(front)
-        .is_some_and(|behind| behind.iter().all(|byte| *byte == OLD))
-}
-
-// Whether the answer is how many bytes are wanted, and they stand in the buffer if they fit.
-fn is_written(out: &[u8], answer: usize, want: &[u8]) -> bool {
-    let front = if want.len() <= out.len() {
-        want
-    } else {
-        b"".as_slice()
-    };
-    answer == want.len() && stays_behind(out, front)
-}
-
 // Whether the path resolves to these bytes in a buffer of any length.
 fn is_resolved(alloc: Global, path: &str, want: &str) -> bool {
     for room in 0..24 {
-        let mut buffer = [OLD; 24];
+        let mut buffer = [b'#'; 24];
         let out = &mut buffer[..room];
         let answer = unix_path_resolved(alloc, path.as_bytes(), out);
-        if !is_written(out, answer, want.as_bytes()) {
+        if answer != want.len() || !holds(out, want.as_bytes()) {
             return false;
         }
     }
@@ -73,12 +55,12 @@ fn is_resolved(alloc: Global, path: &str, want: &str) -> bool {
 // Whether the join is this one in a buffer of any length, or is refused where none is wanted.
 fn is_joined(alloc: Global, root: &str, request: &str, want: Option<&str>) -> bool {
     for room in 0..24 {
-        let mut buffer = [OLD; 24];
+        let mut buffer = [b'#'; 24];
         let out = &mut buffer[..room];
         let answer = unix_path_join_within(alloc, root.as_bytes(), request.as_bytes(), out);
         let is_right = match want {
-            Some(want) => is_written(out, answer, want.as_bytes()),
-            None => answer == ESCAPES && stays_behind(out, b""),
+            Some(want) => answer == want.len() && holds(out, want.as_bytes()),
+            None => answer == ESCAPES && holds(out, b""),
         };
         if !is_right {
             return false;
