@@ -47,7 +47,7 @@ BENCH = $(foreach name,part only corpus reps folder,$(if $($(name)),'$(name)=$($
 bench_tools:
 	@tools/bench/run --tools
 
-bench: bench_tools $(PROGRAM)
+bench: bench_tools $(if $(filter face,$(part)),lib,$(PROGRAM))
 	@tools/bench/run $(BENCH)
 
 differential: $(PROGRAM)
