@@ -1,5 +1,5 @@
 //! Stretches of bytes that are written one behind the other.
-ghost use Rattle.std.specs.Prelude.{◌≡◌, ◌≤◌, ◌+◌, ◌++◌, length};
+ghost use Rattle.std.specs.Prelude.{◌≡◌, ◌≤◌, ◌+◌, length};
 ghost use Rattle.unix_path_c.specs.Placed.{placed};
 
 // Puts the two, one behind the other, in the place of as many bytes from `at` on, and says where
