@@ -9,59 +9,45 @@
 #include <sys/types.h>
 #include <unix_path.h>
 
-/* A line without its line end, and how many lines stand before it. */
+/* A path without its line end, and how many lines stand before it. */
 typedef struct {
     char *text;
     size_t length, number;
 } line;
 
-static const uint8_t *bytes(const line *read) {
-    return (const uint8_t *)read->text;
+static int by_parts(const line *a, const line *b) {
+    const uint8_t *first = (const uint8_t *)a->text, *second = (const uint8_t *)b->text;
+    return unix_path_compare(first, a->length, second, b->length);
 }
 
 /* Of equal paths the first line is less. */
 static int compare(const void *first, const void *second) {
     const line *a = first, *b = second;
-    int order = unix_path_compare(bytes(a), a->length, bytes(b), b->length);
+    int order = by_parts(a, b);
     return order != 0 ? order : (a->number > b->number) - (a->number < b->number);
 }
 
-/* Reads all lines; NULL where there is no memory for them. */
-static line *read_lines(size_t *count) {
-    size_t room = 64, space = 0;
+int main(void) {
+    size_t count = 0, room = 64, space = 0;
     line *lines = malloc(room * sizeof *lines);
     char *text = NULL;
     ssize_t length;
-    *count = 0;
     while (lines != NULL && (length = getline(&text, &space, stdin)) > 0) {
         size_t end = (size_t)length - (text[length - 1] == '\n');
-        lines[*count] = (line){text, end, *count};
+        lines[count] = (line){text, end, count};
         text = NULL;
-        if (++*count == room) {
-            lines = realloc(lines, (room *= 2) * sizeof *lines);
-        }
+        if (++count == room) lines = realloc(lines, (room *= 2) * sizeof *lines);
     }
-    free(text);
-    return lines;
-}
-
-int main(void) {
-    size_t count;
-    line *lines = read_lines(&count);
-    if (lines == NULL) {
-        return 1;
-    }
+    if (lines == NULL) return 1;
     qsort(lines, count, sizeof *lines, compare);
     for (size_t at = 0; at < count; at++) {
-        const line *read = &lines[at], *last = at == 0 ? read : read - 1;
-        if (at == 0 || !unix_path_equal(bytes(read), read->length, bytes(last), last->length)) {
-            fwrite(read->text, 1, read->length, stdout);
+        if (at == 0 || by_parts(&lines[at - 1], &lines[at]) != 0) {
+            fwrite(lines[at].text, 1, lines[at].length, stdout);
             putchar('\n');
         }
     }
-    for (size_t at = 0; at < count; at++) {
-        free(lines[at].text);
-    }
+    for (size_t at = 0; at < count; at++) free(lines[at].text);
+    free(text);
     free(lines);
     return fflush(stdout) != 0;
 }
