@@ -6,6 +6,7 @@ use crate::error::Error;
 use crate::ffi::{Make, MakeOfTwo, ESCAPES, NO_MEMORY, SEPARATOR};
 
 /// The answer of so many bytes, which stands in the buffer if it has room for all of them.
+#[inline]
 fn answer(out: &[u8], needed: usize) -> Result<&[u8], Error> {
     out.get(..needed).ok_or(Error::Short { needed })
 }

@@ -17,6 +17,7 @@ use core::hash::{Hash, Hasher};
 pub struct ByParts<P>(pub P);
 
 impl<P: AsRef<[u8]>> PartialEq for ByParts<P> {
+    #[inline]
     fn eq(&self, other: &Self) -> bool {
         crate::equal(self.0.as_ref(), other.0.as_ref())
     }
@@ -25,12 +26,14 @@ impl<P: AsRef<[u8]>> PartialEq for ByParts<P> {
 impl<P: AsRef<[u8]>> Eq for ByParts<P> {}
 
 impl<P: AsRef<[u8]>> PartialOrd for ByParts<P> {
+    #[inline]
     fn partial_cmp(&self, other: &Self) -> Option<Ordering> {
         Some(self.cmp(other))
     }
 }
 
 impl<P: AsRef<[u8]>> Ord for ByParts<P> {
+    #[inline]
     fn cmp(&self, other: &Self) -> Ordering {
         crate::compare(self.0.as_ref(), other.0.as_ref())
     }

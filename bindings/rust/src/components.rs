@@ -29,6 +29,7 @@ impl<'a> Component<'a> {
     /// assert_eq!(Component::Normal(b"a").as_bytes(), b"a");
     /// ```
     #[must_use]
+    #[inline]
     pub fn as_bytes(self) -> &'a [u8] {
         match self {
             Component::RootDir => b"/",
@@ -39,6 +40,7 @@ impl<'a> Component<'a> {
     }
 
     /// The part that the library told of this path.
+    #[inline]
     fn told(part: Part, path: &'a [u8]) -> Option<Component<'a>> {
         match part.kind {
             Part::ROOT_DIR => Some(Component::RootDir),
@@ -117,6 +119,7 @@ impl fmt::Debug for Components<'_> {
 }
 
 impl PartialEq for Components<'_> {
+    #[inline]
     fn eq(&self, other: &Self) -> bool {
         crate::equal(self.as_path(), other.as_path())
     }
@@ -125,12 +128,14 @@ impl PartialEq for Components<'_> {
 impl Eq for Components<'_> {}
 
 impl PartialOrd for Components<'_> {
+    #[inline]
     fn partial_cmp(&self, other: &Self) -> Option<Ordering> {
         Some(self.cmp(other))
     }
 }
 
 impl Ord for Components<'_> {
+    #[inline]
     fn cmp(&self, other: &Self) -> Ordering {
         crate::compare(self.as_path(), other.as_path())
     }

@@ -93,6 +93,7 @@ pub(crate) const NO_MEMORY: usize = usize::MAX - 2;
 
 /// The bytes between two places, or none where they don't lie in the path: what the library answers
 /// is never trusted.
+#[inline]
 fn cut(path: &[u8], start: usize, length: usize) -> Option<&[u8]> {
     path.get(start..start.checked_add(length)?)
 }
@@ -103,6 +104,7 @@ impl Place {
         length: 0,
     };
 
+    #[inline]
     fn of(self, path: &[u8]) -> Option<&[u8]> {
         cut(path, self.start, self.length)
     }
@@ -114,6 +116,7 @@ impl Part {
     pub const PARENT_DIR: u32 = 2;
     pub const NORMAL: u32 = 3;
 
+    #[inline]
     pub fn of(self, path: &[u8]) -> Option<&[u8]> {
         cut(path, self.start, self.length)
     }
