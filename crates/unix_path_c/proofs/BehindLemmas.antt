@@ -1,5 +1,5 @@
 -- The last part that is left of a walk, and what is left before it.
-use Rattle.std.proofs.Common.{◌≡◌, ℕ, ◌+◌, ◌-◌, ◌≤◌, ◌<◌, List, [], ◌∷◌, ◌++◌, length}
+use Rattle.std.proofs.Common.{◌≡◌, ℕ, ◌+◌, ◌-◌, ◌≤◌, List, [], ◌∷◌, ◌++◌, length}
 use Rattle.std.proofs.Common.{take, drop}
 use Rattle.std.proofs.Common.{Option, Some, None, map, refl, sym, ap, ap₂, ◌∙◌, arith}
 use Rattle.std.proofs.Common.{length-append}
@@ -13,8 +13,8 @@ use Rattle.unix_path.specs.declared.cursor.components.Components.{Components}
 use Rattle.unix_path.proofs.CursorLemmas.{GivesLastPart}
 use Rattle.unix_path.proofs.ParentLemmas.{rest-whole_last, values-whole}
 use Rattle.unix_path.proofs.PlaceLemmas.{part_at}
-use Rattle.unix_path_c.specs.Walks.{InOrder, kind_of, left, part_bytes, part_end, part_in}
-use Rattle.unix_path_c.specs.Walks.{part_value, parts_left}
+use Rattle.unix_path_c.specs.Walks.{kind_of, left, part_bytes}
+use Rattle.unix_path_c.specs.Steps.{TakenBehind}
 use Rattle.unix_path_c.specs.declared.walks.Part.{Part}
 use Rattle.unix_path_c.specs.declared.walks.Walk.{Walk}
 use Rattle.unix_path_c.proofs.FrontLemmas.{same_part}
@@ -22,18 +22,6 @@ use Rattle.unix_path_c.proofs.LeftLemmas.{between, kind_of-lt, left-between, par
 use Rattle.unix_path_c.proofs.LeftLemmas.{range-left, take-left}
 use Rattle.unix_path_c.proofs.FirstLemmas.{no_bytes, some_bytes}
 use Rattle.unix_path_c.proofs.LastLemmas.{takes_back}
-
--- the part was the last that was left of `old`, and the others are left of `new`
-pub record TakenBehind (path : List ℕ) (old new : Walk) (part : Part) : Type 0 where
-  pub parts_are : parts_left path old ≡ parts_left path new ++ part_in path part ∷ []
-  pub values_are : values (left path old)
-      ≡ values (left path new) ++ part_value path part ∷ []
-  pub bytes : part_bytes path part ≡ value_bytes (part_value path part)
-  pub kind : part.kind < 4
-  pub left_is : left path new ≡ rest (left path old) 0 1
-  pub some : left path old ≡ [] → ⊥
-  pub in_order : InOrder
-      (old.front ∷ new.front ∷ new.back ∷ part.start ∷ part_end part ∷ old.back ∷ length path ∷ [])
 
 not_none : {us : List Value} (vs : List Value) (v : Value) → us ≡ vs ++ v ∷ []
     → us ≡ [] → ⊥

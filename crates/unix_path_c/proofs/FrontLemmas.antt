@@ -1,5 +1,5 @@
 -- The first part that is left of a walk, and what is left behind it.
-use Rattle.std.proofs.Common.{◌≡◌, ℕ, ◌+◌, ◌-◌, ◌≤◌, ◌<◌, List, [], ◌∷◌, length, map}
+use Rattle.std.proofs.Common.{◌≡◌, ℕ, ◌+◌, ◌-◌, ◌≤◌, List, [], ◌∷◌, length, map}
 use Rattle.std.proofs.Common.{take, drop}
 use Rattle.std.proofs.Common.{Option, Some, None, refl, sym, ap, ap₂, ◌∙◌, arith}
 use Rattle.unix_path.specs.Parts as paths
@@ -13,8 +13,8 @@ use Rattle.unix_path.proofs.CursorLemmas.{GivesFirstPart}
 use Rattle.unix_path.proofs.ParentLemmas.{values-whole}
 use Rattle.unix_path.proofs.PlaceLemmas.{part_at, part_at-part_at}
 use Rattle.unix_path.proofs.RestLemmas.{rest-rest}
-use Rattle.unix_path_c.specs.Walks.{InOrder, kind_of, left, part_bytes, part_end, part_in}
-use Rattle.unix_path_c.specs.Walks.{part_value, parts_left}
+use Rattle.unix_path_c.specs.Walks.{kind_of, left, part_bytes}
+use Rattle.unix_path_c.specs.Steps.{TakenInFront}
 use Rattle.unix_path_c.specs.declared.walks.Part.{Part}
 use Rattle.unix_path_c.specs.declared.walks.Walk.{Walk}
 use Rattle.unix_path_c.proofs.LeftLemmas.{between, kind_of-lt, left-between, part_value-is}
@@ -28,17 +28,6 @@ pub same_part : {a b c d : ℕ} {v w : Value} → a ≡ c → b ≡ d → v ≡ 
 same_part {c = c} {d = d} {v = v} start end value =
     ap₂ (λ a b. record { start = a; end = b; value = v }) start end
     ∙ ap (λ v. record { start = c; end = d; value = v }) value
-
--- the part was the first that was left of `old`, and the others are left of `new`
-pub record TakenInFront (path : List ℕ) (old new : Walk) (part : Part) : Type 0 where
-  pub parts_are : parts_left path old ≡ part_in path part ∷ parts_left path new
-  pub values_are : values (left path old) ≡ part_value path part ∷ values (left path new)
-  pub bytes : part_bytes path part ≡ value_bytes (part_value path part)
-  pub kind : part.kind < 4
-  pub left_is : left path new ≡ rest (left path old) 1 0
-  pub some : left path old ≡ [] → ⊥
-  pub in_order : InOrder
-      (old.front ∷ part.start ∷ part_end part ∷ new.front ∷ new.back ∷ old.back ∷ length path ∷ [])
 
 pub taken_in_front : (path : List ℕ) (old new : Walk) (part : Part) (v : Value)
     → values (left path old) ≡ v ∷ values (rest (left path old) 1 0)

@@ -7,7 +7,9 @@ pub mod LeftLemmas
 pub mod FrontLemmas
 pub mod BehindLemmas
 pub mod SignLemmas
-pub mod PlacedLemmas
+pub mod OverlayLemmas
 pub mod EndLemmas
 pub mod WritingLemmas
 pub mod SpelledLemmas
+pub mod NameLemmas
+pub mod OverLemmas

@@ -1,9 +1,9 @@
 -- Bytes that are written one behind the other, until the whole stands at the beginning.
 use Rattle.std.proofs.Common.{◌≡◌, ◌≤◌, ℕ, ◌+◌, List, [], ◌++◌, length, refl, sym, ap, ap₂, ◌∙◌}
 use Rattle.std.proofs.Common.{append_assoc, append-nil, arith, length-append}
-use Rattle.unix_path_c.specs.Placed.{placed}
-use Rattle.unix_path_c.specs.Written.{written}
-use Rattle.unix_path_c.proofs.PlacedLemmas.{begun, placed-begun, written-fits}
+use Rattle.unix_path_c.specs.Overlay.{overlay}
+use Rattle.unix_path_c.specs.Buffer.{buffer_after}
+use Rattle.unix_path_c.proofs.OverlayLemmas.{begun, overlay-begun, buffer_after-fits}
 
 -- a front of the whole stands at the beginning of what was old, and this of the whole is left
 pub record WritesOn (whole old : List ℕ) (at : ℕ) (out left : List ℕ) : Type 0 where
@@ -19,17 +19,17 @@ writes_first whole old e = record { front = []; at_is = refl; out_is = refl; who
 -- two stretches more
 pub writes_next : {whole old out left new : List ℕ} {at end : ℕ} (first second more : List ℕ)
     → WritesOn whole old at out left → left ≡ (first ++ second) ++ more
-    → new ≡ placed (at + length first) second (placed at first out)
+    → new ≡ overlay (at + length first) second (overlay at first out)
     → end ≡ at + length first + length second → WritesOn whole old end new more
 writes_next {whole} {old} {out} {left} {new} {at} {end} first second more h e placing ending =
-    let begins : placed at first out ≡ begun (h.front ++ first) old =
-    ap₂ (λ n old. placed n first old) h.at_is h.out_is ∙ placed-begun h.front first old in
+    let begins : overlay at first out ≡ begun (h.front ++ first) old =
+    ap₂ (λ n old. overlay n first old) h.at_is h.out_is ∙ overlay-begun h.front first old in
     let middle : at + length first ≡ length (h.front ++ first) =
     omega (arith, h.at_is, length-append h.front first) in record {
       front = (h.front ++ first) ++ second;
       at_is = omega (arith, ending, middle, length-append (h.front ++ first) second);
-      out_is = placing ∙ ap₂ (λ n old. placed n second old) middle begins
-          ∙ placed-begun (h.front ++ first) second old;
+      out_is = placing ∙ ap₂ (λ n old. overlay n second old) middle begins
+          ∙ overlay-begun (h.front ++ first) second old;
       whole_is = ap (λ front. front ++ more) (append_assoc h.front first second)
           ∙ append_assoc h.front (first ++ second) more
           ∙ ap (λ left. h.front ++ left) (sym e) ∙ h.whole_is;
@@ -52,11 +52,16 @@ writes_room {whole} {old} {out} {left} {at} first second more h e fits =
     )
 
 pub writes_last : {whole old out left : List ℕ} {at : ℕ} → WritesOn whole old at out left
-    → left ≡ [] → length whole ≤ length old → out ≡ written whole old
+    → left ≡ [] → length whole ≤ length old → out ≡ buffer_after whole old
 writes_last {whole} {old} {out} {left} {at} h e fits =
     let all : h.front ≡ whole =
     sym (append-nil h.front) ∙ ap (λ left. h.front ++ left) (sym e) ∙ h.whole_is in
-    h.out_is ∙ ap (λ front. begun front old) all ∙ sym (written-fits whole old fits)
+    h.out_is ∙ ap (λ front. begun front old) all ∙ sym (buffer_after-fits whole old fits)
+
+pub writes_end : {whole old out left : List ℕ} {at : ℕ} → WritesOn whole old at out left
+    → left ≡ [] → at ≡ length whole
+writes_end {whole} {old} {out} {left} {at} h e =
+    omega (arith, h.at_is, ap length h.whole_is, length-append h.front left, ap length e)
 
 -- how many bytes two stretches have, and what is left behind them
 pub length-both : {left : List ℕ} (first second more : List ℕ) → left ≡ (first ++ second) ++ more

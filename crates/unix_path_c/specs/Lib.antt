@@ -2,8 +2,9 @@ pub mod Places
 pub mod Walks
 pub mod Queries
 pub mod Within
-pub mod Written
-pub mod Placed
+pub mod Buffer
+pub mod Overlay
 pub mod Pieces
-pub mod Counted
+pub mod SaturatedSize
 pub mod Spelled
+pub mod Steps

@@ -1,22 +1,23 @@
 //! The canonical spelling, in a buffer of the caller's.
 ghost use Rattle.std.specs.Prelude.{◌≡◌, ◌≤◌, length};
 ghost use Rattle.unix_path.specs.Parts.{values};
+ghost use Rattle.unix_path.specs.Steps.{gap_bytes};
 ghost use Rattle.unix_path.specs.Views.{value_of};
 ghost use Rattle.path_runs.specs.Spelling.{spelling_of};
 ghost use Rattle.unix_path_c.specs.Spelled.{gap_after};
-ghost use Rattle.unix_path_c.specs.Written.{written};
+ghost use Rattle.unix_path_c.specs.Buffer.{buffer_after};
 
-use crate::writing::place_both;
+use crate::writing::{mark_len, place_behind};
 use unix_path::{Component, Path};
 
 // What stands between the part and one behind it.
 #[inline]
-fn gap_after(part: Component<'_>) -> &'static [u8]
-    ensures { result.now ≡ gap_after (value_of part.entry) }
+fn gap_after(part: Component<'_>) -> Option<u8>
+    ensures { gap_bytes result ≡ gap_after (value_of part.entry) }
 {
     match part {
-        Component::RootDir => b"",
-        _ => b"/",
+        Component::RootDir => None,
+        _ => Some(b'/'),
     }
 }
 
@@ -26,26 +27,28 @@ fn spelling_len(path: Path<'_>) -> usize
     ensures { result ≡ length (spelling_of (values path.entry.bytes.now)) }
 {
     let mut len = 0_usize;
-    let mut gap = b"".as_slice();
+    let mut gap = None;
     for part in path.components() {
-        len += gap.len() + part.as_unix_str().len();
+        len += mark_len(gap) + part.as_unix_str().len();
         gap = gap_after(part);
     }
     len
 }
 
-// Writes the canonical spelling to the beginning of the buffer.
+// Writes the canonical spelling to the beginning of the buffer, and says how many bytes it has.
 #[inline]
-fn write_spelling(path: Path<'_>, out: &mut [u8])
+fn write_spelling(path: Path<'_>, out: &mut [u8]) -> usize
     requires { length (spelling_of (values path.bytes.now)) ≤ length out.old }
-    ensures { out.new ≡ written (spelling_of (values path.entry.bytes.now)) out.old }
+    ensures out { out.new ≡ buffer_after (spelling_of (values path.entry.bytes.now)) out.old }
+    ensures len { result ≡ length (spelling_of (values path.entry.bytes.now)) }
 {
     let mut at = 0_usize;
-    let mut gap = b"".as_slice();
+    let mut gap = None;
     for part in path.components() {
-        at = place_both(out, at, gap, part.as_unix_str().as_bytes());
+        at = place_behind(out, at, gap, part.as_unix_str().as_bytes());
         gap = gap_after(part);
     }
+    at
 }
 
 /// Writes the canonical spelling of a path to `out`, and answers how many bytes it has.
@@ -60,13 +63,16 @@ fn write_spelling(path: Path<'_>, out: &mut [u8])
 /// For `.//a/./b/` it is `./a/b`, of 5 bytes.
 #[unsafe(no_mangle)]
 pub extern "C" fn unix_path_canonical(path: &[u8], out: &mut [u8]) -> usize
-    ensures out { out.new ≡ written (spelling_of (values path.now)) out.old }
+    ensures out { out.new ≡ buffer_after (spelling_of (values path.now)) out.old }
     ensures length { result ≡ length (spelling_of (values path.now)) }
 {
     let path = Path::from_bytes(path);
-    let len = spelling_len(path);
-    if len <= out.len() {
-        write_spelling(path, out);
+    // The spelling is never longer than the path: it is counted first only where that wouldn't fit.
+    if path.as_unix_str().len() > out.len() {
+        let len = spelling_len(path);
+        if len > out.len() {
+            return len;
+        }
     }
-    len
+    write_spelling(path, out)
 }

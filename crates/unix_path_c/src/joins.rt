@@ -6,9 +6,9 @@ ghost use Rattle.unix_path.specs.Extensions.{has_slash};
 ghost use Rattle.unix_path.specs.Joins.{is_open, join_of};
 ghost use Rattle.unix_path.specs.Steps.{gap_bytes};
 ghost use Rattle.unix_path_c.specs.Pieces.{pieces_bytes};
-ghost use Rattle.unix_path_c.specs.Placed.{placed};
-ghost use Rattle.unix_path_c.specs.Written.{written};
+ghost use Rattle.unix_path_c.specs.Buffer.{buffer_after};
 
+use crate::writing::{mark_len, place, place_mark};
 use unix_path::{Component, Path};
 
 /// What `unix_path_with_extension` answers where the extension has a slash. No buffer is so
@@ -23,26 +23,6 @@ struct Pieces<'a> {
     end: &'a [u8],
 }
 
-// Puts the bytes in the place of as many from `at` on.
-#[inline]
-fn place(out: &mut [u8], at: usize, bytes: &[u8])
-    requires { at + length bytes.now ≤ length out.old }
-    ensures { out.new ≡ placed at bytes.now out.old }
-{
-    out[at..at + bytes.len()].copy_from_slice(bytes);
-}
-
-// Puts the byte, if there is one, in the place of the one at `at`.
-#[inline]
-fn place_mark(out: &mut [u8], at: usize, mark: Option<u8>)
-    requires { at + length (gap_bytes mark) ≤ length out.old }
-    ensures { out.new ≡ placed at (gap_bytes mark) out.old }
-{
-    if let Some(byte) = mark {
-        out[at] = byte;
-    }
-}
-
 impl Pieces<'_> {
     // How many bytes they have.
     #[inline]
@@ -51,17 +31,14 @@ impl Pieces<'_> {
         ensures pieces { result ≡ length self.now.front.now
             + length (gap_bytes self.now.mark) + length self.now.end.now }
     {
-        match self.mark {
-            Some(_) => self.front.len() + 1 + self.end.len(),
-            None => self.front.len() + self.end.len(),
-        }
+        self.front.len() + mark_len(self.mark) + self.end.len()
     }
 
     // Writes them to the beginning of the buffer, if it has room for all, and says how many bytes
     // they have.
     #[inline]
     fn write(&self, out: &mut [u8]) -> usize
-        ensures out { out.new ≡ written (pieces_bytes self.now) out.old }
+        ensures out { out.new ≡ buffer_after (pieces_bytes self.now) out.old }
         ensures length { result ≡ length (pieces_bytes self.now) }
     {
         let total = self.total_len();
@@ -85,7 +62,7 @@ fn is_open(path: &[u8]) -> bool
 
 // The pieces of a join.
 #[inline]
-fn joined<'a>(base: Path<'a>, path: Path<'a>) -> Pieces<'a>
+fn join_pieces<'a>(base: Path<'a>, path: Path<'a>) -> Pieces<'a>
     ensures { pieces_bytes result ≡ join_of base.entry.bytes.now path.entry.bytes.now }
 {
     let end = path.bytes;
@@ -155,7 +132,7 @@ fn dot_before(extension: &[u8]) -> Option<u8>
 
 // The pieces of a path with another extension.
 #[inline]
-fn extended<'a>(path: Path<'a>, extension: &'a [u8]) -> Pieces<'a>
+fn extension_pieces<'a>(path: Path<'a>, extension: &'a [u8]) -> Pieces<'a>
     ensures { pieces_bytes result ≡ with_extension_of path.entry.bytes.now extension.now }
 {
     let Some(end) = stem_end(path) else {
@@ -182,10 +159,10 @@ fn extended<'a>(path: Path<'a>, extension: &'a [u8]) -> Pieces<'a>
 /// `/etc` joined with `passwd` is `/etc/passwd`, of 11 bytes, and `a` with the empty path is `a/`.
 #[unsafe(no_mangle)]
 pub extern "C" fn unix_path_join(base: &[u8], path: &[u8], out: &mut [u8]) -> usize
-    ensures out { out.new ≡ written (join_of base.now path.now) out.old }
+    ensures out { out.new ≡ buffer_after (join_of base.now path.now) out.old }
     ensures length { result ≡ length (join_of base.now path.now) }
 {
-    joined(Path { bytes: base }, Path { bytes: path }).write(out)
+    join_pieces(Path { bytes: base }, Path { bytes: path }).write(out)
 }
 
 /// Writes the path with another file name to `out`, and gives how many bytes it has then.
@@ -200,10 +177,10 @@ pub extern "C" fn unix_path_join(base: &[u8], path: &[u8], out: &mut [u8]) -> us
 /// `bar` is `foo/../bar`.
 #[unsafe(no_mangle)]
 pub extern "C" fn unix_path_with_file_name(path: &[u8], name: &[u8], out: &mut [u8]) -> usize
-    ensures out { out.new ≡ written (with_name_of path.now name.now) out.old }
+    ensures out { out.new ≡ buffer_after (with_name_of path.now name.now) out.old }
     ensures length { result ≡ length (with_name_of path.now name.now) }
 {
-    joined(before_name(Path { bytes: path }), Path { bytes: name }).write(out)
+    join_pieces(before_name(Path { bytes: path }), Path { bytes: name }).write(out)
 }
 
 /// Writes the path with another extension to `out`, and gives how many bytes it has then.
@@ -221,12 +198,12 @@ pub extern "C" fn unix_path_with_extension(path: &[u8], extension: &[u8], out: &
     ensures separator { has_slash extension.now ≡ true → result ≡ SEPARATOR }
     ensures kept { has_slash extension.now ≡ true → out.new ≡ out.old }
     ensures out { has_slash extension.now ≡ false
-        → out.new ≡ written (with_extension_of path.now extension.now) out.old }
+        → out.new ≡ buffer_after (with_extension_of path.now extension.now) out.old }
     ensures length { has_slash extension.now ≡ false
         → result ≡ length (with_extension_of path.now extension.now) }
 {
     if extension.contains(&b'/') {
         return SEPARATOR;
     }
-    extended(Path { bytes: path }, extension).write(out)
+    extension_pieces(Path { bytes: path }, extension).write(out)
 }

@@ -4,6 +4,7 @@
 mod canonical;
 mod joins;
 mod lossy;
+mod names;
 mod places;
 mod queries;
 #[cfg(test)]

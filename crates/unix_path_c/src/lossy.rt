@@ -2,8 +2,8 @@
 ghost use Rattle.std.specs.Prelude.{◌≡◌, ◌≤◌, length};
 ghost use Rattle.unix_bytes.specs.Chunks.{replacement_for};
 ghost use Rattle.unix_bytes.specs.Lossy.{lossy_of};
-ghost use Rattle.unix_path_c.specs.Counted.{counted};
-ghost use Rattle.unix_path_c.specs.Written.{written};
+ghost use Rattle.unix_path_c.specs.SaturatedSize.{saturated_size};
+ghost use Rattle.unix_path_c.specs.Buffer.{buffer_after};
 
 use crate::writing::place_both;
 use unix_bytes::lossy::Utf8Lossy;
@@ -22,7 +22,7 @@ fn replacement_for(broken: &[u8]) -> &'static [u8]
 // How many bytes the lossy text has, as far as that can be counted.
 #[inline]
 fn lossy_len(path: &[u8]) -> usize
-    ensures { result ≡ counted (length (lossy_of path.now)) }
+    ensures { result ≡ saturated_size (length (lossy_of path.now)) }
 {
     let mut len = 0_usize;
     for chunk in Utf8Lossy::from_bytes(path).chunks() {
@@ -38,7 +38,7 @@ fn lossy_len(path: &[u8]) -> usize
 #[inline]
 fn write_lossy(path: &[u8], out: &mut [u8])
     requires { length (lossy_of path.now) ≤ length out.old }
-    ensures { out.new ≡ written (lossy_of path.now) out.old }
+    ensures { out.new ≡ buffer_after (lossy_of path.now) out.old }
 {
     let mut at = 0_usize;
     for chunk in Utf8Lossy::from_bytes(path).chunks() {
@@ -59,8 +59,8 @@ fn write_lossy(path: &[u8], out: &mut [u8])
 /// For the bytes 61 FF it is `a` and U+FFFD, of 4 bytes.
 #[unsafe(no_mangle)]
 pub extern "C" fn unix_path_to_string_lossy(path: &[u8], out: &mut [u8]) -> usize
-    ensures out { out.new ≡ written (lossy_of path.now) out.old }
-    ensures length { result ≡ counted (length (lossy_of path.now)) }
+    ensures out { out.new ≡ buffer_after (lossy_of path.now) out.old }
+    ensures length { result ≡ saturated_size (length (lossy_of path.now)) }
 {
     let len = lossy_len(path);
     if len <= out.len() {

@@ -5,9 +5,11 @@ ghost use Rattle.unix_path.specs.Parts.{parts, value_bytes, values};
 ghost use Rattle.unix_path.specs.Rest.{rest};
 ghost use Rattle.unix_path.specs.Views.{value_of};
 ghost use Rattle.unix_path_c.specs.Places.{place_bytes, place_end};
+ghost use Rattle.unix_path_c.specs.Steps.{TakenBehind, TakenInFront};
 ghost use Rattle.unix_path_c.specs.Walks.{InOrder, left, kind_of as kind_of_value};
 ghost use Rattle.unix_path_c.specs.Walks.{part_bytes, part_end, part_in, part_value, parts_left};
 
+use crate::names::{first_name, last_name};
 use crate::places::Place;
 use unix_path::{Component, Path};
 
@@ -36,6 +38,9 @@ pub struct Part {
     pub kind: u32,
 }
 
+// The kind of a name.
+const NORMAL: u32 = 3;
+
 // The kind of a part.
 #[inline]
 fn kind_of(part: Component<'_>) -> u32
@@ -45,7 +50,7 @@ fn kind_of(part: Component<'_>) -> u32
         Component::RootDir => 0,
         Component::CurDir => 1,
         Component::ParentDir => 2,
-        Component::Normal(_) => 3,
+        Component::Normal(_) => NORMAL,
     }
 }
 
@@ -58,6 +63,56 @@ fn left_of<'a>(path: &'a [u8], walk: &Walk) -> Path<'a>
         Some(left) => Path::from_bytes(left),
         None => Path::from_bytes(b""),
     }
+}
+
+// Takes the first part that is left, whatever it is. It stands apart, so that a step over a name
+// stays small.
+#[inline(never)]
+fn take_first(path: &[u8], walk: &mut Walk, part: &mut Part) -> bool
+    ensures ended { IsFalse result → (left path.now walk.old ≡ []) }
+    ensures walk_stays { IsFalse result → walk.new ≡ walk.old }
+    ensures part_stays { IsFalse result → part.new ≡ part.old }
+    ensures taken { IsTrue result → TakenInFront path.now walk.old walk.new part.new }
+{
+    let mut parts = left_of(path, walk).components();
+    let len = parts.as_path().bytes.len();
+    let Some(first) = parts.next() else {
+        return false;
+    };
+    let back = walk.front + len;
+    *part = Part {
+        start: walk.front,
+        length: first.as_unix_str().bytes.len(),
+        kind: kind_of(first),
+    };
+    *walk = Walk {
+        front: back - parts.as_path().bytes.len(),
+        back,
+    };
+    true
+}
+
+// Takes the last part that is left, whatever it is.
+#[inline(never)]
+fn take_last(path: &[u8], walk: &mut Walk, part: &mut Part) -> bool
+    ensures ended { IsFalse result → (left path.now walk.old ≡ []) }
+    ensures walk_stays { IsFalse result → walk.new ≡ walk.old }
+    ensures part_stays { IsFalse result → part.new ≡ part.old }
+    ensures taken { IsTrue result → TakenBehind path.now walk.old walk.new part.new }
+{
+    let mut parts = left_of(path, walk).components();
+    let len = parts.as_path().bytes.len();
+    let Some(last) = parts.next_back() else {
+        return false;
+    };
+    let length = last.as_unix_str().bytes.len();
+    *part = Part {
+        start: walk.front + len - length,
+        length,
+        kind: kind_of(last),
+    };
+    walk.back = walk.front + parts.as_path().bytes.len();
+    true
 }
 
 /// Begins a walk over the parts of a path: before it all parts are left.
@@ -105,21 +160,19 @@ pub extern "C" fn unix_path_next(path: &[u8], walk: &mut Walk, part: &mut Part) 
         ∷ part_end part.new ∷ walk.new.front ∷ walk.new.back ∷ walk.old.back
         ∷ length path.now ∷ []) }
 {
-    let mut parts = left_of(path, walk).components();
-    let len = parts.as_path().bytes.len();
-    let Some(first) = parts.next() else {
+    let left = left_of(path, walk).bytes;
+    if left.is_empty() {
         return false;
+    }
+    let Some((length, step)) = first_name(left) else {
+        return take_first(path, walk, part);
     };
-    let back = walk.front + len;
     *part = Part {
         start: walk.front,
-        length: first.as_unix_str().bytes.len(),
-        kind: kind_of(first),
+        length,
+        kind: NORMAL,
     };
-    *walk = Walk {
-        front: back - parts.as_path().bytes.len(),
-        back,
-    };
+    walk.front += step;
     true
 }
 
@@ -146,18 +199,19 @@ pub extern "C" fn unix_path_next_back(path: &[u8], walk: &mut Walk, part: &mut P
     ensures in_order { IsTrue result → InOrder (walk.old.front ∷ walk.new.front ∷ walk.new.back
         ∷ part.new.start ∷ part_end part.new ∷ walk.old.back ∷ length path.now ∷ []) }
 {
-    let mut parts = left_of(path, walk).components();
-    let len = parts.as_path().bytes.len();
-    let Some(last) = parts.next_back() else {
+    let left = left_of(path, walk).bytes;
+    if left.is_empty() {
         return false;
+    }
+    let Some((before, start)) = last_name(left) else {
+        return take_last(path, walk, part);
     };
-    let length = last.as_unix_str().bytes.len();
     *part = Part {
-        start: walk.front + len - length,
-        length,
-        kind: kind_of(last),
+        start: walk.front + start,
+        length: left.len() - start,
+        kind: NORMAL,
     };
-    walk.back = walk.front + parts.as_path().bytes.len();
+    walk.back = walk.front + before;
     true
 }
 

@@ -5,7 +5,7 @@ ghost use Rattle.unix_path.specs.Parts.{values};
 ghost use Rattle.unix_path.specs.Prefixes.{Begins};
 ghost use Rattle.path_within.specs.Resolved.{Climbs, resolved_bytes_of};
 ghost use Rattle.unix_path_c.specs.Within.{IsLength, escapes, no_memory};
-ghost use Rattle.unix_path_c.specs.Written.{written};
+ghost use Rattle.unix_path_c.specs.Buffer.{buffer_after};
 
 use path_within::WithinError;
 use path_within::resolved::resolved;
@@ -23,7 +23,7 @@ const NO_MEMORY: usize = usize::MAX - 2;
 fn copy_out(bytes: &[u8], out: &mut [u8]) -> usize
     ensures length { result ≡ length bytes.now }
     ensures fits { result < 2 ^ 63 }
-    ensures out { out.new ≡ written bytes.now out.old }
+    ensures out { out.new ≡ buffer_after bytes.now out.old }
 {
     if bytes.len() <= out.len() {
         out[..bytes.len()].copy_from_slice(bytes);
@@ -50,7 +50,7 @@ pub extern "C" fn unix_path_resolved(alloc: Global, path: &[u8], out: &mut [u8])
     ensures answers { IsLength result ⊎ (result ≡ no_memory) }
     ensures length { IsLength result → result ≡ length (resolved_bytes_of path.now) }
     ensures out { IsLength result
-        → out.new ≡ written (resolved_bytes_of path.now) out.old }
+        → out.new ≡ buffer_after (resolved_bytes_of path.now) out.old }
     ensures refused { result ≡ no_memory → out.new ≡ out.old }
 {
     match resolved(alloc, Path::from_bytes(path)) {
@@ -83,7 +83,7 @@ pub extern "C" fn unix_path_join_within(
     ensures length { IsLength result
         → result ≡ length (resolved_bytes_of (join_of root.now request.now)) }
     ensures out { IsLength result
-        → out.new ≡ written (resolved_bytes_of (join_of root.now request.now)) out.old }
+        → out.new ≡ buffer_after (resolved_bytes_of (join_of root.now request.now)) out.old }
     ensures within { IsLength result → Begins (values (resolved_bytes_of root.now))
         (values (resolved_bytes_of (join_of root.now request.now))) }
     ensures escaped { result ≡ escapes → out.new ≡ out.old }

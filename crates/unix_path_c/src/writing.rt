@@ -1,6 +1,38 @@
 //! Stretches of bytes that are written one behind the other.
 ghost use Rattle.std.specs.Prelude.{◌≡◌, ◌≤◌, ◌+◌, length};
-ghost use Rattle.unix_path_c.specs.Placed.{placed};
+ghost use Rattle.unix_path.specs.Steps.{gap_bytes};
+ghost use Rattle.unix_path_c.specs.Overlay.{overlay};
+
+// Puts the bytes in the place of as many from `at` on.
+#[inline]
+pub(crate) fn place(out: &mut [u8], at: usize, bytes: &[u8])
+    requires { at + length bytes.now ≤ length out.old }
+    ensures { out.new ≡ overlay at bytes.now out.old }
+{
+    out[at..at + bytes.len()].copy_from_slice(bytes);
+}
+
+// Puts the byte, if there is one, in the place of the one at `at`.
+#[inline]
+pub(crate) fn place_mark(out: &mut [u8], at: usize, mark: Option<u8>)
+    requires { at + length (gap_bytes mark) ≤ length out.old }
+    ensures { out.new ≡ overlay at (gap_bytes mark) out.old }
+{
+    if let Some(byte) = mark {
+        out[at] = byte;
+    }
+}
+
+// How many bytes it takes: one, or none.
+#[inline]
+pub(crate) fn mark_len(mark: Option<u8>) -> usize
+    ensures { result ≡ length (gap_bytes mark) }
+{
+    match mark {
+        Some(_) => 1,
+        None => 0,
+    }
+}
 
 // Puts the two, one behind the other, in the place of as many bytes from `at` on, and says where
 // they end.
@@ -8,12 +40,26 @@ ghost use Rattle.unix_path_c.specs.Placed.{placed};
 pub(crate) fn place_both(out: &mut [u8], at: usize, first: &[u8], second: &[u8]) -> usize
     requires { at + length first.now + length second.now ≤ length out.old }
     ensures out { let middle = at + length first.now in
-        out.new ≡ placed middle second.now (placed at first.now out.old) }
+        out.new ≡ overlay middle second.now (overlay at first.now out.old) }
     ensures end { result ≡ at + length first.now + length second.now }
 {
     let middle = at + first.len();
-    out[at..middle].copy_from_slice(first);
-    let end = middle + second.len();
-    out[middle..end].copy_from_slice(second);
-    end
+    place(out, at, first);
+    place(out, middle, second);
+    middle + second.len()
+}
+
+// Puts the byte, if there is one, and the bytes behind it in the place of as many from `at` on, and
+// says where they end.
+#[inline]
+pub(crate) fn place_behind(out: &mut [u8], at: usize, mark: Option<u8>, bytes: &[u8]) -> usize
+    requires { at + length (gap_bytes mark) + length bytes.now ≤ length out.old }
+    ensures out { let middle = at + length (gap_bytes mark) in
+        out.new ≡ overlay middle bytes.now (overlay at (gap_bytes mark) out.old) }
+    ensures end { result ≡ at + length (gap_bytes mark) + length bytes.now }
+{
+    let middle = at + mark_len(mark);
+    place_mark(out, at, mark);
+    place(out, middle, bytes);
+    middle + bytes.len()
 }

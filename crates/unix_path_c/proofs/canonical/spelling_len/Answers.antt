@@ -1,6 +1,7 @@
-use Rattle.std.proofs.Common.{length, ap, ap₂, ◌∙◌, arith}
+use Rattle.std.proofs.Common.{[], length, ap, ◌∙◌, arith}
 use Rattle.unix_path.specs.Cursor.{cursor_values}
 use Rattle.unix_path.specs.Parts.{value_bytes}
+use Rattle.unix_path.specs.Steps.{gap_bytes}
 use Rattle.unix_path.specs.Views.{value_of}
 use Rattle.unix_path_c.specs.Spelled.{gap_after, spelled_behind}
 use Rattle.unix_path_c.proofs.SpelledLemmas.{spelled_behind-fits, spelled_behind-values}
@@ -13,7 +14,7 @@ loop-part-init c = (
   tt,
   omega (
     arith,
-    ap length (ap₂ spelled_behind c.as_slice-gap.ensures
+    ap length (ap (spelled_behind [])
         (ap cursor_values c.into_iter-part-iterator.ensures.into_iter_gives
         ∙ c.components-part-items.ensures.values)
         ∙ spelled_behind-values c.args.path.bytes.now),
@@ -24,11 +25,12 @@ pub overflow_add-len : goal.overflow_add-len
 overflow_add-len c =
     omega (
       arith,
-      spelled_behind-fits c.args.path.bytes.now c.loop-part.gap.now (value_of c.in-Some.part)
-          (cursor_values c.next.new.self) c.loop-part.len c.loop-part.invariant.2
+      spelled_behind-fits c.args.path.bytes.now (gap_bytes c.loop-part.gap)
+          (value_of c.in-Some.part) (cursor_values c.next.new.self) c.loop-part.len c.loop-part.invariant.2
           c.in-Some.ensures.steps.item_is,
       c.ranges.path.0,
       c.len.ensures,
+      c.mark_len.ensures,
       ap length c.as_unix_str.ensures,
     )
 
@@ -36,18 +38,19 @@ pub overflow_add-len-in-loop-part : goal.overflow_add-len-in-loop-part
 overflow_add-len-in-loop-part c =
     omega (
       arith,
-      spelled_behind-fits c.args.path.bytes.now c.loop-part.gap.now (value_of c.in-Some.part)
-          (cursor_values c.next.new.self) c.loop-part.len c.loop-part.invariant.2
+      spelled_behind-fits c.args.path.bytes.now (gap_bytes c.loop-part.gap)
+          (value_of c.in-Some.part) (cursor_values c.next.new.self) c.loop-part.len c.loop-part.invariant.2
           c.in-Some.ensures.steps.item_is,
       c.ranges.path.0,
       c.len.ensures,
+      c.mark_len.ensures,
       ap length c.as_unix_str.ensures,
     )
 
 pub loop-part-preserved : goal.loop-part-preserved
 loop-part-preserved c =
     let v = value_of c.in-Some.part in
-    let gap = c.loop-part.gap.now in
+    let gap = gap_bytes c.loop-part.gap in
     let more = cursor_values c.next.new.self in
     let next = length-both gap (value_bytes v) (spelled_behind (gap_after v) more)
     (ap (spelled_behind gap) c.in-Some.ensures.steps.item_is) in (
@@ -57,6 +60,7 @@ loop-part-preserved c =
         arith,
         c.loop-part.invariant.2,
         next,
+        c.mark_len.ensures,
         c.len.ensures,
         ap length c.as_unix_str.ensures,
         ap (λ g. length (spelled_behind g more)) c.gap_after-gap.ensures,
@@ -65,6 +69,6 @@ loop-part-preserved c =
 
 pub returns : goal.returns
 returns c =
-    let none = ap (λ vs. length (spelled_behind c.loop-part.gap.now vs))
+    let none = ap (λ vs. length (spelled_behind (gap_bytes c.loop-part.gap) vs))
     c.in-None.ensures.steps.item_is.0 in
     omega (arith, c.loop-part.invariant.2, none)

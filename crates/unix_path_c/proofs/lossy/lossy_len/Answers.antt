@@ -3,7 +3,7 @@ use Rattle.std.specs.List.{flat_map}
 use Rattle.unix_bytes.specs.Chunks.{chunks_left, chunks_of, shown_chunk}
 use Rattle.unix_bytes.specs.Lossy.{lossy_of}
 use Rattle.unix_bytes.proofs.ChunkLemmas.{shown-chunks_of}
-use Rattle.unix_path_c.specs.Counted.{counted}
+use Rattle.unix_path_c.specs.SaturatedSize.{saturated_size}
 use Rattle.unix_path_c.proofs.lossy.lossy_len.Goals as goal
 
 pub loop-chunk-init : goal.loop-chunk-init
@@ -18,7 +18,7 @@ loop-chunk-init c =
           ∙ ap chunks_of c.from_bytes.ensures)
           ∙ shown-chunks_of path),
     ) in
-    (tt, tt, ap counted all, lit< tt)
+    (tt, tt, ap saturated_size all, lit< tt)
 
 pub returns : goal.returns
 returns c =

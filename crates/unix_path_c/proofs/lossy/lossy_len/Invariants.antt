@@ -2,7 +2,7 @@ use Rattle.std.proofs.Common.{◌≡◌, ◌+◌, ◌<◌, ◌^◌, length}
 use Rattle.std.specs.List.{flat_map}
 use Rattle.unix_bytes.specs.Chunks.{chunks_left, shown_chunk}
 use Rattle.unix_bytes.specs.Lossy.{lossy_of}
-use Rattle.unix_path_c.specs.Counted.{counted}
+use Rattle.unix_path_c.specs.SaturatedSize.{saturated_size}
 use Rattle.unix_path_c.proofs.lossy.lossy_len.Given as goal
 
 -- the bytes counted, and those of the chunks left, are all, as far as they can be counted
@@ -10,6 +10,6 @@ abbrev pub invariant-loop-chunk : goal.invariant-loop-chunk
 invariant-loop-chunk l =
     (goal.iterator-loop-chunk).can_next l.chunk-iterator
     × (goal.iterator-loop-chunk).is_finite l.chunk-iterator
-    × (counted (l.len + length (flat_map shown_chunk (chunks_left l.chunk-iterator)))
-    ≡ counted (length (lossy_of l.path)))
+    × (saturated_size (l.len + length (flat_map shown_chunk (chunks_left l.chunk-iterator)))
+    ≡ saturated_size (length (lossy_of l.path)))
     × (l.len < 2 ^ 64)

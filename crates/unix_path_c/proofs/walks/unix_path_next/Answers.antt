@@ -1,36 +1,29 @@
-use Rattle.std.proofs.Common.{◌≡◌, true, false, refl, ap, arith, ◌∙◌}
-use Rattle.unix_path.specs.Rest.{rest}
-use Rattle.unix_path_c.proofs.FrontLemmas.{front_fits, next_gives, nothing_first}
+use Rattle.std.proofs.Common.{◌≡◌, ◌<◌, true, false, length, sym, ◌∙◌, arith, subst}
+use Rattle.unix_path_c.specs.Steps.{BeginsInName}
+use Rattle.unix_path_c.specs.Walks.{left}
+use Rattle.unix_path_c.proofs.NameLemmas.{some_bytes}
+use Rattle.unix_path_c.proofs.OverLemmas.{takes_first_name, first_fits}
 use Rattle.unix_path_c.proofs.walks.unix_path_next.Goals as goal
+use Rattle.unix_path_c.proofs.walks.unix_path_next.Goals.{In-Some}
 
-pub returns-in_default-clause-ended : goal.returns-in_default-clause-ended
-returns-in_default-clause-ended c = (
-  λ _. nothing_first _ _ _
-      (c.components-parts.ensures.rest ∙ ap (λ s. rest s 0 0) c.left_of.ensures)
-      c.in_default.ensures.steps,
-  λ _. refl,
-)
+some : (c : In-Some) → 0 < length (left c.args.path.now c.args.walk.now)
+some c = subst (λ s. 0 < length s) c.left_of.ensures
+    (some_bytes c.left_of.result.bytes.now (sym c.is_empty.ensures ∙ c.if-is_empty.false))
 
-pub overflow_add-back : goal.overflow_add-back
-overflow_add-back c =
-    let h = front_fits c.args.path.now c.args.walk.now _ _ _ _ _
-    (c.components-parts.ensures.rest ∙ ap (λ s. rest s 0 0) c.left_of.ensures)
-    c.in-Some.ensures.steps c.as_path.ensures.bytes refl in
-    omega (arith, h.in_range)
+is : (c : In-Some)
+    → BeginsInName (left c.args.path.now c.args.walk.now) c.in-Some.length c.in-Some.step
+is c =
+    subst (λ s. BeginsInName s c.in-Some.length c.in-Some.step) c.left_of.ensures c.in-Some.ensures
 
-pub overflow_sub-walk : goal.overflow_sub-walk
-overflow_sub-walk c =
-    let h = front_fits c.args.path.now c.args.walk.now _ _ _ _ _
-    (c.components-parts.ensures.rest ∙ ap (λ s. rest s 0 0) c.left_of.ensures)
-    c.in-Some.ensures.steps c.as_path.ensures.bytes c.as_path-2.ensures.bytes in
-    omega (arith, h.fewer)
+pub overflow_add-walk : goal.overflow_add-walk
+overflow_add-walk c =
+    let d = (goal.at.overflow_add-walk c).In-Some in
+    omega (arith, first_fits c.args.path.now c.args.walk.now (some d) (is d))
 
 pub returns : goal.returns
 returns c =
-    let t = next_gives c.args.path.now c.args.walk.now _ _ _ _ _ _ _
-    (c.components-parts.ensures.rest ∙ ap (λ s. rest s 0 0) c.left_of.ensures)
-    c.in-Some.ensures.steps c.as_path.ensures.bytes c.as_path-2.ensures.bytes
-    c.as_unix_str.ensures c.kind_of.ensures in
+    let d = (goal.at.returns c).In-Some in
+    let t = takes_first_name c.args.path.now c.args.walk.now (some d) (is d) in
     record {
       ended = (λ no. let e : true ≡ false = no in cc, λ nothing. absurd (t.some nothing));
       walk_stays = λ no. let e : true ≡ false = no in cc;

@@ -1,43 +1,35 @@
-use Rattle.std.proofs.Common.{◌≡◌, true, false, refl, ap, length, arith, ◌∙◌}
-use Rattle.unix_path.specs.Rest.{rest}
-use Rattle.unix_path_c.proofs.BehindLemmas.{behind_fits, next_back_gives, nothing_last}
+use Rattle.std.proofs.Common.{◌≡◌, ◌<◌, true, false, length, sym, ap, ◌∙◌, arith, subst}
+use Rattle.unix_path_c.specs.Steps.{EndsInName}
+use Rattle.unix_path_c.specs.Walks.{left}
+use Rattle.unix_path_c.proofs.NameLemmas.{some_bytes}
+use Rattle.unix_path_c.proofs.OverLemmas.{takes_last_name, last_fits}
 use Rattle.unix_path_c.proofs.walks.unix_path_next_back.Goals as goal
+use Rattle.unix_path_c.proofs.walks.unix_path_next_back.Goals.{In-Some}
 
-pub returns-in_default-clause-ended : goal.returns-in_default-clause-ended
-returns-in_default-clause-ended c = (
-  λ _. nothing_last _ _ _
-      (c.components-parts.ensures.rest ∙ ap (λ s. rest s 0 0) c.left_of.ensures)
-      c.in_default.ensures.steps,
-  λ _. refl,
-)
+some : (c : In-Some) → 0 < length (left c.args.path.now c.args.walk.now)
+some c = subst (λ s. 0 < length s) c.left_of.ensures
+    (some_bytes c.left_of.result.bytes.now (sym c.is_empty.ensures ∙ c.if-is_empty.false))
+
+is : (c : In-Some)
+    → EndsInName (left c.args.path.now c.args.walk.now) c.in-Some.before c.in-Some.start
+is c =
+    subst (λ s. EndsInName s c.in-Some.before c.in-Some.start) c.left_of.ensures c.in-Some.ensures
 
 pub overflow_add-part : goal.overflow_add-part
 overflow_add-part c =
-    let h = behind_fits c.args.path.now c.args.walk.now _ _ _ _ _
-    (c.components-parts.ensures.rest ∙ ap (λ s. rest s 0 0) c.left_of.ensures)
-    c.in-Some.ensures.steps c.as_path.ensures.bytes c.as_unix_str.ensures in
-    omega (arith, h.in_range)
-
-pub overflow_sub-part : goal.overflow_sub-part
-overflow_sub-part c =
-    let h = behind_fits c.args.path.now c.args.walk.now _ _ _ _ _
-    (c.components-parts.ensures.rest ∙ ap (λ s. rest s 0 0) c.left_of.ensures)
-    c.in-Some.ensures.steps c.as_path.ensures.bytes c.as_unix_str.ensures in
-    omega (arith, h.fits)
+    let d = (goal.at.overflow_add-part c).In-Some in
+    omega (arith, last_fits c.args.path.now c.args.walk.now (some d) (is d))
 
 pub overflow_add-walk : goal.overflow_add-walk
 overflow_add-walk c =
-    let h = behind_fits c.args.path.now c.args.walk.now _ _ _ _ _
-    (c.components-parts.ensures.rest ∙ ap (λ s. rest s 0 0) c.left_of.ensures)
-    c.in-Some.ensures.steps c.as_path.ensures.bytes c.as_unix_str.ensures in
-    omega (arith, h.in_range, h.fewer, ap length c.as_path-2.ensures.bytes)
+    let d = (goal.at.overflow_add-walk c).In-Some in
+    omega (arith, last_fits c.args.path.now c.args.walk.now (some d) (is d), (is d).in_order)
 
 pub returns : goal.returns
 returns c =
-    let t = next_back_gives c.args.path.now c.args.walk.now _ _ _ _ _ _ _
-    (c.components-parts.ensures.rest ∙ ap (λ s. rest s 0 0) c.left_of.ensures)
-    c.in-Some.ensures.steps c.as_path.ensures.bytes c.as_path-2.ensures.bytes
-    c.as_unix_str.ensures c.kind_of.ensures in
+    let d = (goal.at.returns c).In-Some in
+    let t = takes_last_name c.args.path.now c.args.walk.now (some d) (is d)
+    (ap length c.left_of.ensures) in
     record {
       ended = (λ no. let e : true ≡ false = no in cc, λ nothing. absurd (t.some nothing));
       walk_stays = λ no. let e : true ≡ false = no in cc;

@@ -2,6 +2,6 @@
 use Rattle.std.specs.Prelude.{ℕ, List, ◌++◌, drop, length, nat_le, if◌then◌else◌}
 
 -- the bytes, and behind them what stood there; all as it was where there is no room for them
-abbrev pub written : List ℕ → List ℕ → List ℕ
-written bytes old =
+abbrev pub buffer_after : List ℕ → List ℕ → List ℕ
+buffer_after bytes old =
     if nat_le (length bytes) (length old) then bytes ++ drop (length bytes) old else old

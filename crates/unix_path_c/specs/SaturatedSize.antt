@@ -1,6 +1,6 @@
--- How an answer's length is counted.
+-- How an answer's length is told.
 use Rattle.std.specs.Prelude.{ℕ, min, ◌-◌, ◌^◌}
 
 -- the number, or the greatest `size_t` where the number is more
-abbrev pub counted : ℕ → ℕ
-counted n = min n (2 ^ 64 - 1)
+abbrev pub saturated_size : ℕ → ℕ
+saturated_size n = min n (2 ^ 64 - 1)

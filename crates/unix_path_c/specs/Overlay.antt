@@ -2,5 +2,5 @@
 use Rattle.std.specs.Prelude.{ℕ, ◌+◌, List, ◌++◌, length, take, drop}
 
 -- the old bytes with these in the place of as many from `at` on
-abbrev pub placed : ℕ → List ℕ → List ℕ → List ℕ
-placed at bytes old = (take at old ++ bytes) ++ drop (at + length bytes) old
+abbrev pub overlay : ℕ → List ℕ → List ℕ → List ℕ
+overlay at bytes old = (take at old ++ bytes) ++ drop (at + length bytes) old

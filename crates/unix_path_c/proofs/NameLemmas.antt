@@ -1,0 +1,158 @@
+-- Steps over a name that stands between bytes that are neither slashes nor dots.
+use Rattle.std.proofs.Common.{◌≡◌, ℕ, ◌+◌, ◌-◌, ◌≤◌, ◌<◌, true, false, ltb, eqb, List, []}
+use Rattle.std.proofs.Common.{◌∷◌, length, get_or, take, drop, refl, sym, ap, ◌∙◌, arith}
+use Rattle.std.proofs.Common.{take_all, get_or-drop, length-drop, lt-ltb, ltb-true, ltb-false}
+use Rattle.std.proofs.Common.{subst}
+use Rattle.std.specs.List.{position_or_len}
+use Rattle.std.specs.Str.{bytes_eq}
+use Rattle.std.proofs.lemmas.Bool.{both_ways}
+use Rattle.std.proofs.lemmas.List.Sums.{passes_at_first}
+use Rattle.std.proofs.lemmas.Slice.Eq.{bytes_eq-Decides}
+use Rattle.unix_path.specs.Parts.{Normal, Value, cur_dir, inner_parts, is_slash, parts}
+use Rattle.unix_path.specs.Rest.{rest}
+use Rattle.unix_path.specs.Steps.{EndsInPart, IsLastStart, StepsFirst, begins_with_parent}
+use Rattle.unix_path.specs.Steps.{TakesLast, ends_with_parent, is_idle, is_trailing}
+use Rattle.unix_path.proofs.CaseLemmas.{by_test}
+use Rattle.unix_path.proofs.IdleLemmas.{inner_parts_idle_at, is_idle-drop}
+use Rattle.unix_path.proofs.LastPieceLemmas.{last_name}
+use Rattle.unix_path.proofs.LeadLemmas.{busy_no_slash, first_value-name, steps_first}
+use Rattle.unix_path.proofs.PartLemmas.{parts-name}
+use Rattle.unix_path.proofs.SpanLemmas.{rest-trimmed}
+use Rattle.unix_path.proofs.StepLemmas.{takes_last}
+use Rattle.unix_path.proofs.TrimLemmas.{parts_shorter}
+use Rattle.unix_path_c.specs.Steps.{BeginsInName, EndsInName}
+
+-- the byte at i is neither a slash nor a dot
+pub record IsPlain (s : List ℕ) (i : ℕ) : Type 0 where
+  pub no_slash : eqb (get_or s i 0) 47 ≡ false
+  pub no_dot : eqb (get_or s i 0) 46 ≡ false
+
+pub is_idle-plain : (s : List ℕ) (i : ℕ) → IsPlain s i → is_idle s i ≡ false
+is_idle-plain s i h = rw (h.no_slash, h.no_dot) refl
+
+pub is_trailing-plain : (s : List ℕ) (i : ℕ) → IsPlain s i → is_trailing s i ≡ false
+is_trailing-plain s i h = by_test (ltb 0 i)
+    (λ e. rw (e, h.no_slash, h.no_dot) refl)
+    (λ e. rw e refl)
+
+-- what ends in such a byte ends in a part
+pub ends_plain : (s : List ℕ) → IsPlain s (length s - 1) → EndsInPart s
+ends_plain s h = λ _. is_trailing-plain s (length s - 1) h
+
+no_parent-plain : (s : List ℕ) → IsPlain s 0 → begins_with_parent s ≡ false
+no_parent-plain s h = rw h.no_dot refl
+
+module _ (s : List ℕ) (some : 0 < length s) (first : IsPlain s 0)
+    (last : IsPlain s (length s - 1)) where
+  busy : is_idle s 0 ≡ false
+  busy = is_idle-plain s 0 first
+
+  -- its first part is the name up to the first slash
+  first_part : (end : ℕ) → end ≡ position_or_len is_slash s
+      → parts s ≡ record { start = 0; end = end; value = Normal (take end s) }
+      ∷ inner_parts end (drop end s)
+  first_part end e =
+      let n = position_or_len is_slash s in
+      let name = first_value-name s some busy (no_parent-plain s first) in
+      parts-name s some (busy_no_slash s busy)
+      ∙ ap (λ v. record { start = 0; end = n; value = v } ∷ inner_parts n (drop n s)) name
+      ∙ ap (λ n. record { start = 0; end = n; value = Normal (take n s) }
+      ∷ inner_parts n (drop n s)) (sym e)
+
+  -- no slash follows the name
+  pub name_alone : (end : ℕ) → end ≡ position_or_len is_slash s → end ≡ length s
+      → BeginsInName s end end
+  name_alone end e all =
+      let none : length (drop end s) ≡ 0 = omega (arith, length-drop end s, all) in
+      let same : end + 0 ≡ end = omega arith in
+      record {
+        ends = ends_plain s last;
+        in_range = omega (arith, all);
+        steps = subst (λ k. StepsFirst s k (Normal (take end s))) same
+            (steps_first s end 0 _ (omega (arith, all)) (first_part end e) (omega arith)
+            (ap (λ k. inner_parts k (drop end s)) (sym same)) (λ l. absurd (omega (arith, none))));
+      }
+
+  -- a slash follows it, and then another name
+  pub name_before : (end : ℕ) → end ≡ position_or_len is_slash s → end + 1 < length s
+      → IsPlain s (end + 1) → BeginsInName s end (end + 1)
+  name_before end e l next =
+      let u = drop end s in
+      let size = length-drop end s in
+      let slash : eqb (get_or s end 0) 47 ≡ true =
+      ap (λ k. eqb (get_or s k 0) 47) e ∙ passes_at_first is_slash s 0 (omega (arith, e)) in
+      let idle : is_idle s end ≡ true = rw slash refl in
+      let here : get_or u 1 0 ≡ get_or s (end + 1) 0 = get_or-drop end s 1 0 in
+      record {
+        ends = ends_plain s last;
+        in_range = omega arith;
+        steps = steps_first s end 1 _ (omega arith) (first_part end e)
+            (omega (arith, size))
+            (ap (λ k. inner_parts k u) {x = end} {y = end + 0} (omega arith)
+            ∙ inner_parts_idle_at end u 0 (omega (arith, size)) (is_idle-drop s end ∙ idle))
+            (λ _. is_idle-plain u 1 (record {
+              no_slash = ap (λ b. eqb b 47) here ∙ next.no_slash;
+              no_dot = ap (λ b. eqb b 46) here ∙ next.no_dot;
+            }));
+      }
+
+module _ (s : List ℕ) (start : ℕ) (some : 0 < length s) (last : IsPlain s (length s - 1))
+    (is : IsLastStart s start) where
+  -- the last piece isn't empty
+  begins_in : start < length s
+  begins_in = by_test (ltb start (length s)) (λ e. ltb-true _ _ e) (λ e.
+      let all : start ≡ length s = omega (arith, ltb-false _ _ e, is.in_range) in
+      let slash : get_or s (length s - 1) 0 ≡ 47 =
+      ap (λ k. get_or s (k - 1) 0) (sym all) ∙ is.after_slash (omega (arith, all)) in
+      absurd (both_ways _ (ap (λ b. eqb b 47) (sym slash) ∙ last.no_slash) refl))
+
+  no_cur_dir : bytes_eq s cur_dir ≡ false
+  no_cur_dir = by_test (bytes_eq s cur_dir)
+      (λ e.
+      let one = (bytes_eq-Decides s cur_dir).0 e in
+      let dot : eqb (get_or s (length s - 1) 0) 46 ≡ true =
+      ap (λ s. eqb (get_or s (length s - 1) 0) 46) one in
+      absurd (both_ways _ last.no_dot dot))
+      (λ e. e)
+
+  no_parent_dir : ends_with_parent s ≡ false
+  no_parent_dir = rw last.no_dot refl
+
+  pub name_behind : (before : ℕ) → before ≤ start → parts (take before s) ≡ parts (take start s)
+      → (0 < before → is_trailing s (before - 1) ≡ false) → EndsInName s before start
+  name_behind before l same trimmed =
+      let ends = ends_plain s last in
+      record {
+        ends = ends;
+        in_range = is.in_range;
+        in_order = l;
+        takes = subst (λ (v : Value). TakesLast s (take before s) v)
+            (last_name s start is begins_in ends no_cur_dir no_parent_dir)
+            (takes_last s start before is begins_in ends l same trimmed);
+      }
+
+  -- nothing, or a root, stands before the name
+  pub name_first : start < 2 → EndsInName s start start
+  name_first few = name_behind start (omega arith) refl
+      (λ l. ap (is_trailing s) {x = start - 1} {y = 0} (omega arith))
+
+  -- a slash stands before it, and another name before that
+  pub name_after : 2 ≤ start → IsPlain s (start - 2) → EndsInName s (start - 1) start
+  name_after enough plain =
+      let slash : eqb (get_or s (start - 1) 0) 47 ≡ true =
+      ap (λ b. eqb b 47) (is.after_slash (omega arith)) in
+      let some = lt-ltb 0 (start - 1) (omega arith) in
+      name_behind (start - 1) (omega arith)
+      (parts_shorter s start (omega arith) is.in_range (rw (some, slash) refl))
+      (λ _. ap (is_trailing s) {x = start - 1 - 1} {y = start - 2} (omega arith)
+      ∙ is_trailing-plain s (start - 2) plain)
+
+-- what ends in a part is its rest
+pub rest-ends : (s : List ℕ) → EndsInPart s → rest s 0 0 ≡ s
+rest-ends s ends =
+    let all = take_all (length s) s (omega arith) in
+    rest-trimmed s (length s) (omega arith) (ap parts all) (rw all ends) ∙ all
+
+pub some_bytes : (s : List ℕ) → eqb (length s) 0 ≡ false → 0 < length s
+some_bytes [] e = cc
+some_bytes (b ∷ s) e = omega arith

@@ -1,0 +1,53 @@
+-- What a step over a name leaves of a walk.
+use Rattle.std.proofs.Common.{◌≡◌, ℕ, ◌+◌, ◌-◌, ◌≤◌, ◌<◌, List, [], ◌∷◌, ◌++◌, length, take, drop}
+use Rattle.std.proofs.Common.{refl, sym, ap, ◌∙◌, arith, length-drop, length-take-le}
+use Rattle.unix_path.specs.Parts.{Normal, values}
+use Rattle.unix_path_c.specs.Steps.{BeginsInName, EndsInName, TakenBehind, TakenInFront}
+use Rattle.unix_path_c.specs.Walks.{left}
+use Rattle.unix_path_c.specs.declared.walks.Walk.{Walk}
+use Rattle.unix_path_c.proofs.BehindLemmas.{taken_behind}
+use Rattle.unix_path_c.proofs.FrontLemmas.{taken_in_front}
+use Rattle.unix_path_c.proofs.LeftLemmas.{between}
+use Rattle.unix_path_c.proofs.NameLemmas.{rest-ends}
+
+module _ (path : List ℕ) (walk : Walk) (some : 0 < length (left path walk)) where
+  pub first_fits : {size step : ℕ} → BeginsInName (left path walk) size step
+      → walk.front + step ≤ length path
+  first_fits h =
+      let b = between path walk some in
+      omega (arith, b.size, b.in_order, b.in_range, h.steps.in_range)
+
+  pub takes_first_name : {size step : ℕ} → BeginsInName (left path walk) size step
+      → TakenInFront path walk (record { front = walk.front + step; back = walk.back })
+      (record { start = walk.front; length = size; kind = 3 })
+  takes_first_name {size} {step} h =
+      let s = left path walk in
+      let v = Normal (take size s) in
+      let t = h.steps.takes h.ends in
+      let b = between path walk some in
+      let whole = ap length (rest-ends s h.ends) in
+      let behind = ap length t.rest in
+      taken_in_front path walk _ _ v (t.value ∙ ap (λ u. v ∷ values u) (sym t.rest)) refl
+      (sym (length-take-le size s h.in_range)) refl (omega (arith, whole, b.size, b.in_order))
+      (omega (arith, behind, length-drop step s, h.steps.in_range, b.size, b.in_order))
+
+  pub last_fits : {before start : ℕ} → EndsInName (left path walk) before start
+      → walk.front + start ≤ length path
+  last_fits h =
+      let b = between path walk some in
+      omega (arith, b.size, b.in_order, b.in_range, h.in_range)
+
+  pub takes_last_name : {before start n : ℕ} → EndsInName (left path walk) before start
+      → n ≡ length (left path walk) → TakenBehind path walk
+      (record { front = walk.front; back = walk.front + before })
+      (record { start = walk.front + start; length = n - start; kind = 3 })
+  takes_last_name {before} {start} {n} h all =
+      let s = left path walk in
+      let v = Normal (drop start s) in
+      let t = h.takes in
+      let b = between path walk some in
+      let whole = ap length (rest-ends s h.ends) in
+      let in_front = ap length t.rest in
+      taken_behind path walk _ _ v (t.value ∙ ap (λ u. values u ++ v ∷ []) (sym t.rest))
+      (omega (arith, whole, all, h.in_range)) (omega (arith, length-drop start s, all)) refl refl
+      (omega (arith, in_front, length-take-le before s (omega (arith, h.in_order, h.in_range))))

@@ -1,0 +1,44 @@
+use Rattle.std.proofs.Common.{◌≡◌, true, false, ap, length, arith, ◌∙◌}
+use Rattle.unix_path.specs.Rest.{rest}
+use Rattle.unix_path_c.proofs.BehindLemmas.{behind_fits, next_back_gives, nothing_last}
+use Rattle.unix_path_c.proofs.walks.take_last.Goals as goal
+
+pub returns-in_default-clause-ended : goal.returns-in_default-clause-ended
+returns-in_default-clause-ended c =
+    λ _. nothing_last _ _ _
+    (c.components-parts.ensures.rest ∙ ap (λ s. rest s 0 0) c.left_of.ensures)
+    c.in_default.ensures.steps
+
+pub overflow_add-part : goal.overflow_add-part
+overflow_add-part c =
+    let h = behind_fits c.args.path.now c.args.walk.now _ _ _ _ _
+    (c.components-parts.ensures.rest ∙ ap (λ s. rest s 0 0) c.left_of.ensures)
+    c.in-Some.ensures.steps c.as_path.ensures.bytes c.as_unix_str.ensures in
+    omega (arith, h.in_range)
+
+pub overflow_sub-part : goal.overflow_sub-part
+overflow_sub-part c =
+    let h = behind_fits c.args.path.now c.args.walk.now _ _ _ _ _
+    (c.components-parts.ensures.rest ∙ ap (λ s. rest s 0 0) c.left_of.ensures)
+    c.in-Some.ensures.steps c.as_path.ensures.bytes c.as_unix_str.ensures in
+    omega (arith, h.fits)
+
+pub overflow_add-walk : goal.overflow_add-walk
+overflow_add-walk c =
+    let h = behind_fits c.args.path.now c.args.walk.now _ _ _ _ _
+    (c.components-parts.ensures.rest ∙ ap (λ s. rest s 0 0) c.left_of.ensures)
+    c.in-Some.ensures.steps c.as_path.ensures.bytes c.as_unix_str.ensures in
+    omega (arith, h.in_range, h.fewer, ap length c.as_path-2.ensures.bytes)
+
+pub returns : goal.returns
+returns c =
+    let t = next_back_gives c.args.path.now c.args.walk.now _ _ _ _ _ _ _
+    (c.components-parts.ensures.rest ∙ ap (λ s. rest s 0 0) c.left_of.ensures)
+    c.in-Some.ensures.steps c.as_path.ensures.bytes c.as_path-2.ensures.bytes
+    c.as_unix_str.ensures c.kind_of.ensures in
+    record {
+      ended = λ no. let e : true ≡ false = no in cc;
+      walk_stays = λ no. let e : true ≡ false = no in cc;
+      part_stays = λ no. let e : true ≡ false = no in cc;
+      taken = λ _. t;
+    }

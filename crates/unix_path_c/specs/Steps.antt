@@ -1,0 +1,47 @@
+-- Steps over a name, and what steps leave. No public clause cites these words.
+use Rattle.std.specs.Prelude.{◌≡◌, ◌≤◌, ◌<◌, ℕ, List, [], ◌∷◌, ◌++◌, length, take, drop}
+use Rattle.unix_path.specs.Parts.{Normal, value_bytes, values}
+use Rattle.unix_path.specs.Rest.{rest}
+use Rattle.unix_path.specs.Steps.{EndsInPart, StepsFirst, TakesLast}
+use Rattle.unix_path_c.specs.Walks.{InOrder, left, part_bytes, part_end, part_in, part_value}
+use Rattle.unix_path_c.specs.Walks.{parts_left}
+use Rattle.unix_path_c.specs.declared.walks.Part.{Part}
+use Rattle.unix_path_c.specs.declared.walks.Walk.{Walk}
+
+-- s ends where its last part ends, and its first part is a name of so many bytes, which takes
+-- `step` bytes with what doesn't count behind it
+pub record BeginsInName (s : List ℕ) (size step : ℕ) : Type 0 where
+  pub ends : EndsInPart s
+  pub in_range : size ≤ length s
+  pub steps : StepsFirst s step (Normal (take size s))
+
+-- s ends where its last part ends, which is the name from `start` on; the first `before` bytes are
+-- left before it
+pub record EndsInName (s : List ℕ) (before start : ℕ) : Type 0 where
+  pub ends : EndsInPart s
+  pub in_range : start ≤ length s
+  pub in_order : before ≤ start
+  pub takes : TakesLast s (take before s) (Normal (drop start s))
+
+-- the part was the first that was left of `old`, and the others are left of `new`
+pub record TakenInFront (path : List ℕ) (old new : Walk) (part : Part) : Type 0 where
+  pub parts_are : parts_left path old ≡ part_in path part ∷ parts_left path new
+  pub values_are : values (left path old) ≡ part_value path part ∷ values (left path new)
+  pub bytes : part_bytes path part ≡ value_bytes (part_value path part)
+  pub kind : part.kind < 4
+  pub left_is : left path new ≡ rest (left path old) 1 0
+  pub some : left path old ≡ [] → ⊥
+  pub in_order : InOrder
+      (old.front ∷ part.start ∷ part_end part ∷ new.front ∷ new.back ∷ old.back ∷ length path ∷ [])
+
+-- the part was the last that was left of `old`, and the others are left of `new`
+pub record TakenBehind (path : List ℕ) (old new : Walk) (part : Part) : Type 0 where
+  pub parts_are : parts_left path old ≡ parts_left path new ++ part_in path part ∷ []
+  pub values_are : values (left path old)
+      ≡ values (left path new) ++ part_value path part ∷ []
+  pub bytes : part_bytes path part ≡ value_bytes (part_value path part)
+  pub kind : part.kind < 4
+  pub left_is : left path new ≡ rest (left path old) 0 1
+  pub some : left path old ≡ [] → ⊥
+  pub in_order : InOrder
+      (old.front ∷ new.front ∷ new.back ∷ part.start ∷ part_end part ∷ old.back ∷ length path ∷ [])
