@@ -65,7 +65,8 @@ typedef struct {
 /* Walks. The parts taken in front, those that are left and those taken behind are the path's
  * parts, however the calls are mixed. */
 
-/* Begins a walk over the whole path. */
+/* Begins a walk over the whole path, from 0 to the end of its last part. A record that holds 0 and
+ * the path's length begins one too. */
 void unix_path_components(const uint8_t *path, size_t path_length, unix_path_walk *walk);
 
 /* Takes the first part that is left; false where none is. For `/a` it gives the root, then `a`. */

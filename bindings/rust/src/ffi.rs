@@ -44,7 +44,6 @@ type BytesOfTwo = unsafe extern "C" fn(Start, usize, Start, usize, *mut u8, usiz
 
 #[rustfmt::skip]
 extern "C" {
-    fn unix_path_components(path: Start, path_length: usize, walk: *mut Walk);
     fn unix_path_next(path: Start, path_length: usize, walk: *mut Walk, part: *mut Part) -> bool;
     fn unix_path_next_back(path: Start, path_length: usize, walk: *mut Walk, part: *mut Part)
         -> bool;
@@ -123,13 +122,13 @@ impl Part {
 }
 
 impl Walk {
-    /// The walk over all parts of the path.
+    /// The walk over all parts of the path, without a call: what is left stands between the places.
     #[inline]
-    pub fn new(path: &[u8]) -> Walk {
-        let mut walk = Walk { front: 0, back: 0 };
-        // SAFETY: the slice is read, and the record is written.
-        unsafe { unix_path_components(path.as_ptr(), path.len(), &mut walk) };
-        walk
+    pub const fn new(path: &[u8]) -> Walk {
+        Walk {
+            front: 0,
+            back: path.len(),
+        }
     }
 
     /// What is left of the path.
