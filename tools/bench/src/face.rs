@@ -1,10 +1,14 @@
 //! Times the Rust calls over the C face beside `std::path` on the same bytes, and prints our time
-//! over std's. A program of its own, since it is linked with the library of the face.
+//! over std's; below each, that of the crates' own call. A program of its own, since it is linked
+//! with the library of the face.
 #![allow(dead_code)] // The modules have more for the other program.
+mod called;
+mod calls;
 mod clock;
 mod corpora;
 mod face_rows;
 mod options;
+mod ours;
 mod random;
 mod targets;
 mod timing;
@@ -28,17 +32,31 @@ fn sum(side: Side, paths: &[Vec<u8>], others: &[Vec<u8>]) -> u64 {
     answers.fold(0, |sum: u64, answer| sum.rotate_left(7) ^ answer)
 }
 
-/// The ratio of the row on the corpus.
-fn measure(row: &Row, corpus: &Corpus, options: &Options) -> Measure {
+/// The time of this side over std's, for the row on the corpus.
+fn measure(row: &Row, side: Side, corpus: &Corpus, options: &Options) -> Measure {
     let slices = slices(&corpus.paths);
     let others = corpus.others(row.other);
     let paths = |slice: usize| &corpus.paths[slices[slice].clone()];
     let others = |slice: usize| others.get(slices[slice].clone()).unwrap_or(&[]);
     options.timer().compare(
         slices.len(),
-        &|slice| sum(row.ours, paths(slice), others(slice)),
+        &|slice| sum(side, paths(slice), others(slice)),
         &|slice| sum(row.std, paths(slice), others(slice)),
     )
+}
+
+/// Prints the line of this side, and answers whether all answers were the same.
+fn print_line(name: &str, row: &Row, side: Side, corpora: &[Corpus], options: &Options) -> bool {
+    let mut is_same = true;
+    print!("{name:28}");
+    for corpus in corpora {
+        let measure = measure(row, side, corpus, options);
+        let mark = if measure.is_same { "" } else { " DIFFERS" };
+        print!("{:14}", format!("{:.2}{mark}", measure.ratio));
+        is_same &= measure.is_same;
+    }
+    println!();
+    is_same
 }
 
 /// Prints the table, and answers whether all answers were the same.
@@ -52,14 +70,16 @@ fn print(options: &Options) -> bool {
     println!();
     let mut is_same = true;
     for row in ROWS.iter().filter(|row| options.has_row(row.name)) {
-        print!("{:28}", row.name);
-        for corpus in &corpora {
-            let measure = measure(row, corpus, options);
-            let mark = if measure.is_same { "" } else { " DIFFERS" };
-            print!("{:14}", format!("{:.2}{mark}", measure.ratio));
-            is_same &= measure.is_same;
+        let lines = [
+            (row.name, Some(row.ours)),
+            ("  the crates' own", row.own),
+            ("  the same, by a call", row.called),
+        ];
+        for (name, side) in lines {
+            if let Some(side) = side {
+                is_same &= print_line(name, row, side, &corpora, options);
+            }
         }
-        println!();
     }
     is_same
 }

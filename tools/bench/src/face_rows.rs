@@ -1,5 +1,8 @@
 //! The rows of the face's table: what each side does with a path and something else.
+use crate::called::*;
+use crate::calls::{OfOne, OfTwo};
 use crate::corpora::Other;
+use crate::ours::*;
 use std::cell::RefCell;
 use std::ffi::OsStr;
 use std::os::unix::ffi::OsStrExt;
@@ -15,6 +18,10 @@ pub struct Row {
     pub other: Other,
     pub ours: Side,
     pub std: Side,
+    /// The call of the crates themselves, in code of Rattle that may inline it.
+    pub own: Option<Side>,
+    /// The same, behind a function that isn't inlined and writes its answer for a caller.
+    pub called: Option<Side>,
 }
 
 /// The bytes as a path of std.
@@ -58,6 +65,23 @@ fn made(made: Result<impl AsRef<[u8]>, paths::Error>) -> u64 {
     made.map_or(u64::MAX, |made| digest(made.as_ref()))
 }
 
+/// What a C function answers to a path.
+fn one(call: OfOne, path: &[u8]) -> u64 {
+    // SAFETY: the bytes stand until the function returns, and it only reads them.
+    unsafe { call(path.as_ptr(), path.len()) }
+}
+
+/// What a C function answers to a path and something else.
+fn two(call: OfTwo, path: &[u8], other: &[u8]) -> u64 {
+    // SAFETY: as above, for both.
+    unsafe { call(path.as_ptr(), path.len(), other.as_ptr(), other.len()) }
+}
+
+/// The number of an order that is answered as 0, 1 or 2.
+fn order(call: OfTwo, path: &[u8], other: &[u8]) -> u64 {
+    two(call, path, other).wrapping_sub(1)
+}
+
 thread_local! {
     /// A buffer with room for each answer, made once.
     static BUFFER: RefCell<Vec<u8>> = vec![0; 1 << 18].into();
@@ -75,77 +99,103 @@ pub const ROWS: &[Row] = &[
         other: Other::Nothing,
         ours: |path, _| all(paths::components(path).map(Component::as_bytes)),
         std: |path, _| all(std_path(path).components().map(part_bytes)),
+        own: Some(|path, _| one(ours_parts, path)),
+        called: Some(|path, _| one(called_parts, path)),
     },
     Row {
         name: "parts from behind",
         other: Other::Nothing,
         ours: |path, _| all(paths::components(path).rev().map(Component::as_bytes)),
         std: |path, _| all(std_path(path).components().rev().map(part_bytes)),
+        own: Some(|path, _| one(ours_parts_behind, path)),
+        called: Some(|path, _| one(called_parts_behind, path)),
     },
     Row {
         name: "parent",
         other: Other::Nothing,
         ours: |path, _| some(paths::parent(path)),
         std: |path, _| some(std_path(path).parent().map(bytes)),
+        own: Some(|path, _| one(ours_parent, path)),
+        called: Some(|path, _| one(called_parent, path)),
     },
     Row {
         name: "file_name",
         other: Other::Nothing,
         ours: |path, _| some(paths::file_name(path)),
         std: |path, _| some(std_path(path).file_name().map(bytes)),
+        own: Some(|path, _| one(ours_file_name, path)),
+        called: None,
     },
     Row {
         name: "starts_with",
         other: Other::Front,
         ours: |path, base| paths::starts_with(path, base).into(),
         std: |path, base| std_path(path).starts_with(std_path(base)).into(),
+        own: Some(|path, other| two(ours_starts_with, path, other)),
+        called: None,
     },
     Row {
         name: "equal same",
         other: Other::Same,
         ours: |path, other| paths::equal(path, other).into(),
         std: |path, other| (std_path(path) == std_path(other)).into(),
+        own: Some(|path, other| two(ours_eq, path, other)),
+        called: Some(|path, other| two(called_eq, path, other)),
     },
     Row {
         name: "equal next",
         other: Other::Next,
         ours: |path, other| paths::equal(path, other).into(),
         std: |path, other| (std_path(path) == std_path(other)).into(),
+        own: Some(|path, other| two(ours_eq, path, other)),
+        called: Some(|path, other| two(called_eq, path, other)),
     },
     Row {
         name: "equal respelled",
         other: Other::Respelled,
         ours: |path, other| paths::equal(path, other).into(),
         std: |path, other| (std_path(path) == std_path(other)).into(),
+        own: Some(|path, other| two(ours_eq, path, other)),
+        called: Some(|path, other| two(called_eq, path, other)),
     },
     Row {
         name: "compare next",
         other: Other::Next,
         ours: |path, other| paths::compare(path, other) as u64,
         std: |path, other| std_path(path).cmp(std_path(other)) as u64,
+        own: Some(|path, other| order(ours_cmp, path, other)),
+        called: Some(|path, other| order(called_cmp, path, other)),
     },
     Row {
         name: "canonical",
         other: Other::Nothing,
         ours: |path, _| made(owned::canonical(path)),
         std: |path, _| digest(bytes(&std_path(path).components().collect::<PathBuf>())),
+        own: Some(|path, _| one(ours_canonical, path)),
+        called: None,
     },
     Row {
         name: "canonical, into a buffer",
         other: Other::Nothing,
         ours: |path, _| in_buffer(|out| paths::canonical(path, out)),
         std: |path, _| digest(bytes(&std_path(path).components().collect::<PathBuf>())),
+        own: None,
+        called: None,
     },
     Row {
         name: "join",
         other: Other::Name,
         ours: |path, other| made(owned::join(path, other)),
         std: |path, other| digest(bytes(&std_path(path).join(std_path(other)))),
+        own: Some(|path, other| two(ours_join, path, other)),
+        called: None,
     },
     Row {
         name: "join, into a buffer",
         other: Other::Name,
         ours: |path, other| in_buffer(|out| paths::join(path, other, out)),
         std: |path, other| digest(bytes(&std_path(path).join(std_path(other)))),
+        own: None,
+        called: None,
     },
 ];
