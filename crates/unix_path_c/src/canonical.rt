@@ -7,7 +7,8 @@ ghost use Rattle.path_runs.specs.Spelling.{spelling_of};
 ghost use Rattle.unix_path_c.specs.Spelled.{gap_after};
 ghost use Rattle.unix_path_c.specs.Buffer.{buffer_after};
 
-use crate::writing::{mark_len, place_behind};
+use crate::spelled::own_spelling;
+use crate::writing::{mark_len, place_behind, place_whole};
 use unix_path::{Component, Path};
 
 // What stands between the part and one behind it.
@@ -67,6 +68,9 @@ pub extern "C" fn unix_path_canonical(path: &[u8], out: &mut [u8]) -> usize
     ensures length { result ≡ length (spelling_of (values path.now)) }
 {
     let path = Path::from_bytes(path);
+    if let Some(spelling) = own_spelling(path) {
+        return place_whole(out, spelling);
+    }
     // The spelling is never longer than the path: it is counted first only where that wouldn't fit.
     if path.as_unix_str().len() > out.len() {
         let len = spelling_len(path);

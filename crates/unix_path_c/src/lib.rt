@@ -7,6 +7,7 @@ mod lossy;
 mod names;
 mod places;
 mod queries;
+mod spelled;
 #[cfg(test)]
 mod tests;
 mod walks;

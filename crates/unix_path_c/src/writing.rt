@@ -1,6 +1,7 @@
 //! Stretches of bytes that are written one behind the other.
 ghost use Rattle.std.specs.Prelude.{◌≡◌, ◌≤◌, ◌+◌, length};
 ghost use Rattle.unix_path.specs.Steps.{gap_bytes};
+ghost use Rattle.unix_path_c.specs.Buffer.{buffer_after};
 ghost use Rattle.unix_path_c.specs.Overlay.{overlay};
 
 // Puts the bytes in the place of as many from `at` on.
@@ -10,6 +11,19 @@ pub(crate) fn place(out: &mut [u8], at: usize, bytes: &[u8])
     ensures { out.new ≡ overlay at bytes.now out.old }
 {
     out[at..at + bytes.len()].copy_from_slice(bytes);
+}
+
+// Puts the bytes at the beginning of the buffer, if it has room for all of them, and says how many
+// they are.
+#[inline]
+pub(crate) fn place_whole(out: &mut [u8], bytes: &[u8]) -> usize
+    ensures out { out.new ≡ buffer_after bytes.now out.old }
+    ensures len { result ≡ length bytes.now }
+{
+    if bytes.len() <= out.len() {
+        place(out, 0, bytes);
+    }
+    bytes.len()
 }
 
 // Puts the byte, if there is one, in the place of the one at `at`.
