@@ -1,26 +1,21 @@
 -- Steps over a name that stands between bytes that are neither slashes nor dots.
-use Rattle.std.proofs.Common.{◌≡◌, ℕ, ◌+◌, ◌-◌, ◌≤◌, ◌<◌, true, false, ltb, eqb, List, []}
-use Rattle.std.proofs.Common.{◌∷◌, length, get_or, take, drop, refl, sym, ap, ◌∙◌, arith}
-use Rattle.std.proofs.Common.{take_all, get_or-drop, length-drop, lt-ltb, ltb-true, ltb-false}
+use Rattle.std.proofs.Common.{◌≡◌, ℕ, ◌-◌, ◌≤◌, ◌<◌, true, false, ltb, eqb, List, []}
+use Rattle.std.proofs.Common.{◌∷◌, length, get_or, take, refl, sym, ap, ◌∙◌, arith}
+use Rattle.std.proofs.Common.{take_all, lt-ltb, ltb-true, ltb-false}
 use Rattle.std.proofs.Common.{subst}
-use Rattle.std.specs.List.{position_or_len}
 use Rattle.std.specs.Str.{bytes_eq}
 use Rattle.std.proofs.lemmas.Bool.{both_ways}
-use Rattle.std.proofs.lemmas.List.Sums.{passes_at_first}
 use Rattle.std.proofs.lemmas.Slice.Eq.{bytes_eq-Decides}
-use Rattle.unix_path.specs.Parts.{Normal, Value, cur_dir, inner_parts, is_slash, parts}
+use Rattle.unix_path.specs.Parts.{Value, cur_dir, parts}
 use Rattle.unix_path.specs.Rest.{rest}
-use Rattle.unix_path.specs.Steps.{EndsInPart, IsLastStart, StepsFirst, begins_with_parent}
+use Rattle.unix_path.specs.Steps.{EndsInPart, IsLastStart}
 use Rattle.unix_path.specs.Steps.{TakesLast, ends_with_parent, is_idle, is_trailing}
 use Rattle.unix_path.proofs.CaseLemmas.{by_test}
-use Rattle.unix_path.proofs.IdleLemmas.{inner_parts_idle_at, is_idle-drop}
 use Rattle.unix_path.proofs.LastPieceLemmas.{last_name}
-use Rattle.unix_path.proofs.LeadLemmas.{busy_no_slash, first_value-name, steps_first}
-use Rattle.unix_path.proofs.PartLemmas.{parts-name}
 use Rattle.unix_path.proofs.SpanLemmas.{rest-trimmed}
 use Rattle.unix_path.proofs.StepLemmas.{takes_last}
 use Rattle.unix_path.proofs.TrimLemmas.{parts_shorter}
-use Rattle.unix_path_c.specs.Steps.{BeginsInName, EndsInName}
+use Rattle.unix_path_c.specs.Steps.{EndsInName}
 
 -- the byte at i is neither a slash nor a dot
 pub record IsPlain (s : List ℕ) (i : ℕ) : Type 0 where
@@ -38,63 +33,6 @@ is_trailing-plain s i h = by_test (ltb 0 i)
 -- what ends in such a byte ends in a part
 pub ends_plain : (s : List ℕ) → IsPlain s (length s - 1) → EndsInPart s
 ends_plain s h = λ _. is_trailing-plain s (length s - 1) h
-
-no_parent-plain : (s : List ℕ) → IsPlain s 0 → begins_with_parent s ≡ false
-no_parent-plain s h = rw h.no_dot refl
-
-module _ (s : List ℕ) (some : 0 < length s) (first : IsPlain s 0)
-    (last : IsPlain s (length s - 1)) where
-  busy : is_idle s 0 ≡ false
-  busy = is_idle-plain s 0 first
-
-  -- its first part is the name up to the first slash
-  first_part : (end : ℕ) → end ≡ position_or_len is_slash s
-      → parts s ≡ record { start = 0; end = end; value = Normal (take end s) }
-      ∷ inner_parts end (drop end s)
-  first_part end e =
-      let n = position_or_len is_slash s in
-      let name = first_value-name s some busy (no_parent-plain s first) in
-      parts-name s some (busy_no_slash s busy)
-      ∙ ap (λ v. record { start = 0; end = n; value = v } ∷ inner_parts n (drop n s)) name
-      ∙ ap (λ n. record { start = 0; end = n; value = Normal (take n s) }
-      ∷ inner_parts n (drop n s)) (sym e)
-
-  -- no slash follows the name
-  pub name_alone : (end : ℕ) → end ≡ position_or_len is_slash s → end ≡ length s
-      → BeginsInName s end end
-  name_alone end e all =
-      let none : length (drop end s) ≡ 0 = omega (arith, length-drop end s, all) in
-      let same : end + 0 ≡ end = omega arith in
-      record {
-        ends = ends_plain s last;
-        in_range = omega (arith, all);
-        steps = subst (λ k. StepsFirst s k (Normal (take end s))) same
-            (steps_first s end 0 _ (omega (arith, all)) (first_part end e) (omega arith)
-            (ap (λ k. inner_parts k (drop end s)) (sym same)) (λ l. absurd (omega (arith, none))));
-      }
-
-  -- a slash follows it, and then another name
-  pub name_before : (end : ℕ) → end ≡ position_or_len is_slash s → end + 1 < length s
-      → IsPlain s (end + 1) → BeginsInName s end (end + 1)
-  name_before end e l next =
-      let u = drop end s in
-      let size = length-drop end s in
-      let slash : eqb (get_or s end 0) 47 ≡ true =
-      ap (λ k. eqb (get_or s k 0) 47) e ∙ passes_at_first is_slash s 0 (omega (arith, e)) in
-      let idle : is_idle s end ≡ true = rw slash refl in
-      let here : get_or u 1 0 ≡ get_or s (end + 1) 0 = get_or-drop end s 1 0 in
-      record {
-        ends = ends_plain s last;
-        in_range = omega arith;
-        steps = steps_first s end 1 _ (omega arith) (first_part end e)
-            (omega (arith, size))
-            (ap (λ k. inner_parts k u) {x = end} {y = end + 0} (omega arith)
-            ∙ inner_parts_idle_at end u 0 (omega (arith, size)) (is_idle-drop s end ∙ idle))
-            (λ _. is_idle-plain u 1 (record {
-              no_slash = ap (λ b. eqb b 47) here ∙ next.no_slash;
-              no_dot = ap (λ b. eqb b 46) here ∙ next.no_dot;
-            }));
-      }
 
 module _ (s : List ℕ) (start : ℕ) (some : 0 < length s) (last : IsPlain s (length s - 1))
     (is : IsLastStart s start) where

@@ -1,8 +1,8 @@
--- What a step over a name leaves of a walk.
-use Rattle.std.proofs.Common.{◌≡◌, ℕ, ◌+◌, ◌-◌, ◌≤◌, ◌<◌, List, [], ◌∷◌, ◌++◌, length, take, drop}
+-- What a step leaves of a walk, over the first part or over a name that ends what is left.
+use Rattle.std.proofs.Common.{◌≡◌, ℕ, ◌+◌, ◌-◌, ◌≤◌, ◌<◌, List, [], ◌∷◌, ◌++◌, length, drop}
 use Rattle.std.proofs.Common.{refl, sym, ap, ◌∙◌, arith, length-drop, length-take-le}
 use Rattle.unix_path.specs.Parts.{Normal, values}
-use Rattle.unix_path_c.specs.Steps.{BeginsInName, EndsInName, TakenBehind, TakenInFront}
+use Rattle.unix_path_c.specs.Steps.{BeginsInPart, EndsInName, TakenBehind, TakenInFront}
 use Rattle.unix_path_c.specs.Walks.{left}
 use Rattle.unix_path_c.specs.declared.walks.Walk.{Walk}
 use Rattle.unix_path_c.proofs.BehindLemmas.{taken_behind}
@@ -11,24 +11,24 @@ use Rattle.unix_path_c.proofs.LeftLemmas.{between}
 use Rattle.unix_path_c.proofs.NameLemmas.{rest-ends}
 
 module _ (path : List ℕ) (walk : Walk) (some : 0 < length (left path walk)) where
-  pub first_fits : {size step : ℕ} → BeginsInName (left path walk) size step
+  pub first_fits : {size step kind : ℕ} → BeginsInPart (left path walk) size step kind
       → walk.front + step ≤ length path
   first_fits h =
       let b = between path walk some in
       omega (arith, b.size, b.in_order, b.in_range, h.steps.in_range)
 
-  pub takes_first_name : {size step : ℕ} → BeginsInName (left path walk) size step
+  pub takes_first_part : {size step kind : ℕ} → BeginsInPart (left path walk) size step kind
       → TakenInFront path walk (record { front = walk.front + step; back = walk.back })
-      (record { start = walk.front; length = size; kind = 3 })
-  takes_first_name {size} {step} h =
+      (record { start = walk.front; length = size; kind = kind })
+  takes_first_part {size} {step} {kind} h =
       let s = left path walk in
-      let v = Normal (take size s) in
+      let v = h.value in
       let t = h.steps.takes h.ends in
       let b = between path walk some in
       let whole = ap length (rest-ends s h.ends) in
       let behind = ap length t.rest in
       taken_in_front path walk _ _ v (t.value ∙ ap (λ u. v ∷ values u) (sym t.rest)) refl
-      (sym (length-take-le size s h.in_range)) refl (omega (arith, whole, b.size, b.in_order))
+      h.size_is h.kind_is (omega (arith, whole, b.size, b.in_order))
       (omega (arith, behind, length-drop step s, h.steps.in_range, b.size, b.in_order))
 
   pub last_fits : {before start : ℕ} → EndsInName (left path walk) before start

@@ -1,19 +1,21 @@
--- Steps over a name, and what steps leave. No public clause cites these words.
+-- Steps over a part, and what steps leave. No public clause cites these words.
 use Rattle.std.specs.Prelude.{◌≡◌, ◌≤◌, ◌<◌, ℕ, List, [], ◌∷◌, ◌++◌, length, take, drop}
-use Rattle.unix_path.specs.Parts.{Normal, value_bytes, values}
+use Rattle.unix_path.specs.Parts.{Normal, Value, value_bytes, values}
 use Rattle.unix_path.specs.Rest.{rest}
 use Rattle.unix_path.specs.Steps.{EndsInPart, StepsFirst, TakesLast}
-use Rattle.unix_path_c.specs.Walks.{InOrder, left, part_bytes, part_end, part_in, part_value}
-use Rattle.unix_path_c.specs.Walks.{parts_left}
+use Rattle.unix_path_c.specs.Walks.{InOrder, kind_of, left, part_bytes, part_end, part_in}
+use Rattle.unix_path_c.specs.Walks.{part_value, parts_left}
 use Rattle.unix_path_c.specs.declared.walks.Part.{Part}
 use Rattle.unix_path_c.specs.declared.walks.Walk.{Walk}
 
--- s ends where its last part ends, and its first part is a name of so many bytes, which takes
+-- s ends where its last part ends, and its first part has so many bytes and this kind, and takes
 -- `step` bytes with what doesn't count behind it
-pub record BeginsInName (s : List ℕ) (size step : ℕ) : Type 0 where
+pub record BeginsInPart (s : List ℕ) (size step kind : ℕ) : Type 0 where
   pub ends : EndsInPart s
-  pub in_range : size ≤ length s
-  pub steps : StepsFirst s step (Normal (take size s))
+  pub value : Value
+  pub size_is : size ≡ length (value_bytes value)
+  pub kind_is : kind ≡ kind_of value
+  pub steps : StepsFirst s step value
 
 -- s ends where its last part ends, which is the name from `start` on; the first `before` bytes are
 -- left before it

@@ -2,6 +2,7 @@
 #![tactic(auto)]
 
 mod canonical;
+mod firsts;
 mod joins;
 mod lossy;
 mod names;

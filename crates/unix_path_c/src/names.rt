@@ -1,9 +1,9 @@
-//! Names that only other names stand beside: a walk's step over one is told by few bytes.
+//! Names that end what is left of a walk, behind other names: a step over one is told by few bytes.
 ghost use Rattle.std.specs.Prelude.{◌≡◌, ◌<◌, ◌==◌, false, length, IfSome, IsTrue};
 ghost use Rattle.unix_path.specs.Parts.{dot, slash};
-ghost use Rattle.unix_path_c.specs.Steps.{BeginsInName, EndsInName};
+ghost use Rattle.unix_path_c.specs.Steps.{EndsInName};
 
-use unix_bytes::search::{first_place, past_last};
+use unix_bytes::search::past_last;
 
 // Whether the byte is neither a slash nor a dot.
 #[inline]
@@ -12,27 +12,6 @@ fn is_plain(byte: u8) -> bool
     ensures no_dot { IsTrue result → (byte == dot) ≡ false }
 {
     byte != b'/' && byte != b'.'
-}
-
-// How many bytes the name has that these begin with, and how many a step over it takes. None where
-// a slash or a dot stands first, last, or behind that name's slash.
-#[inline(always)]
-pub(crate) fn first_name(bytes: &[u8]) -> Option<(usize, usize)>
-    requires { 0 < length bytes.now }
-    ensures { IfSome result (λ name. BeginsInName bytes.now name.0 name.1) }
-{
-    if !is_plain(bytes[0]) || !is_plain(bytes[bytes.len() - 1]) {
-        return None;
-    }
-    let end = first_place(bytes, b'/');
-    if end == bytes.len() {
-        return Some((end, end));
-    }
-    let next = end + 1;
-    if next < bytes.len() && is_plain(bytes[next]) {
-        return Some((end, next));
-    }
-    None
 }
 
 // Where what stands before the name ends that these bytes end with, and where that begins. None

@@ -9,7 +9,8 @@ ghost use Rattle.unix_path_c.specs.Steps.{TakenBehind, TakenInFront};
 ghost use Rattle.unix_path_c.specs.Walks.{InOrder, left, kind_of as kind_of_value};
 ghost use Rattle.unix_path_c.specs.Walks.{part_bytes, part_end, part_in, part_value, parts_left};
 
-use crate::names::{first_name, last_name};
+use crate::firsts::{NORMAL, first_part};
+use crate::names::last_name;
 use crate::places::Place;
 use unix_path::{Component, Path};
 
@@ -38,9 +39,6 @@ pub struct Part {
     pub kind: u32,
 }
 
-// The kind of a name.
-const NORMAL: u32 = 3;
-
 // The kind of a part.
 #[inline]
 fn kind_of(part: Component<'_>) -> u32
@@ -65,8 +63,7 @@ fn left_of<'a>(path: &'a [u8], walk: &Walk) -> Path<'a>
     }
 }
 
-// Takes the first part that is left, whatever it is. It stands apart, so that a step over a name
-// stays small.
+// Takes the first part that is left, whatever it is. It stands apart, so that most steps stay small.
 #[inline(never)]
 fn take_first(path: &[u8], walk: &mut Walk, part: &mut Part) -> bool
     ensures ended { IsFalse result → (left path.now walk.old ≡ []) }
@@ -164,13 +161,13 @@ pub extern "C" fn unix_path_next(path: &[u8], walk: &mut Walk, part: &mut Part) 
     if left.is_empty() {
         return false;
     }
-    let Some((length, step)) = first_name(left) else {
+    let Some((length, step, kind)) = first_part(left) else {
         return take_first(path, walk, part);
     };
     *part = Part {
         start: walk.front,
         length,
-        kind: NORMAL,
+        kind,
     };
     walk.front += step;
     true
