@@ -63,7 +63,8 @@ fn left_of<'a>(path: &'a [u8], walk: &Walk) -> Path<'a>
     }
 }
 
-// Takes the first part that is left, whatever it is. It stands apart, so that most steps stay small.
+// Takes the first part that is left, whatever it is. It stands apart, so that most steps stay
+// small.
 #[inline(never)]
 fn take_first(path: &[u8], walk: &mut Walk, part: &mut Part) -> bool
     ensures ended { IsFalse result → (left path.now walk.old ≡ []) }
