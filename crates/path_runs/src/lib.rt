@@ -9,5 +9,3 @@ pub mod walk;
 pub use edits::{Answer, ApplyError, Edit};
 pub use walk::{Turn, Walked};
 
-#[cfg(test)]
-mod tests;

@@ -5,5 +5,3 @@ pub mod table;
 
 pub use table::{PathTable, Under};
 
-#[cfg(test)]
-mod tests;

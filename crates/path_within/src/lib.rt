@@ -8,5 +8,3 @@ pub mod within;
 
 pub use within::WithinError;
 
-#[cfg(test)]
-mod tests;

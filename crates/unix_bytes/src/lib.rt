@@ -6,7 +6,5 @@ pub mod laws;
 pub mod lossy;
 mod printer;
 pub mod search;
-#[cfg(test)]
-mod tests;
 mod utf8;
 mod windows;

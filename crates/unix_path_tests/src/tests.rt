@@ -1,5 +1,6 @@
 //! Rows of the calls' answers, and what no clause says.
 mod buffers;
+mod bytes;
 mod display;
 mod edits;
 mod extensions;

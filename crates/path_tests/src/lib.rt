@@ -1,0 +1,10 @@
+//! Tests of path_runs, path_table and path_within, in one crate of their own: a crate with tests is
+//! proved twice.
+#![tactic(auto)]
+
+#[cfg(test)]
+mod runs;
+#[cfg(test)]
+mod table;
+#[cfg(test)]
+mod within;

@@ -1,0 +1,46 @@
+//! Rows of canonical spellings.
+use path_runs::canonical::canonical;
+use std::alloc::{AllocError, Global};
+use std::test::Fail;
+use unix_path::bytes::UnixStr;
+use unix_path::{Path, PathBuf};
+
+// A path and its canonical spelling.
+static ROWS: [(&'static str, &'static str); 9] = [
+    ("", ""),
+    (".//a/./b/", "./a/b"),
+    ("/.", "/"),
+    ("//..//./a", "/../a"),
+    ("a/./.", "a"),
+    ("././a", "./a"),
+    ("///foo///bar", "/foo/bar"),
+    ("/a/./b/../c", "/a/b/../c"),
+    ("./.", "."),
+];
+
+// Whether the canonical spelling of the path is this one.
+fn is_spelled(alloc: Global, path: &str, want: &str) -> Result<bool, AllocError> {
+    let spelled = canonical(alloc, Path::from_text(path))?;
+    Ok(spelled.as_path().as_unix_str() == UnixStr::new(want))
+}
+
+#[test]
+fn rows_of_spellings(rt: HostRuntime) -> Result<(), Fail> {
+    let alloc = rt.alloc();
+    for (path, want) in ROWS {
+        assert!(rt; is_spelled(alloc, path, want)?, "{path}");
+    }
+    Ok(())
+}
+
+#[test]
+fn names_collected(rt: HostRuntime) -> Result<(), Fail> {
+    let names = ["/", "feel", "the.force"];
+    let paths = names.iter().map(|name| Path::new(UnixStr::new(name)));
+    let path = PathBuf::from_iter(rt.alloc(), paths)?;
+    assert_eq!(rt;
+        path.as_path().as_unix_str(),
+        UnixStr::new("/feel/the.force")
+    );
+    Ok(())
+}

@@ -1,0 +1,117 @@
+//! Random byte strings, each asked everything that a path answers, beside the plain reading.
+use super::plain::{Part, are_parts, first_dot, is_name, last_dot, left_between, parts_of};
+use super::random::Random;
+use path_runs::canonical::canonical;
+use std::alloc::{AllocError, Global};
+use std::test::Fail;
+use unix_path::bytes::UnixStr;
+use unix_path::json::{JsonError, to_json};
+use unix_path::{Component, Path};
+
+const STRINGS: u32 = 10_000;
+
+fn bytes_of<'a>(text: Option<UnixStr<'a>>) -> Option<&'a [u8]> {
+    match text {
+        Some(text) => Some(text.as_bytes()),
+        None => None,
+    }
+}
+
+// Whether the parts are these, from both ends, and the root and the parents go by them.
+fn has_parts<'a>(alloc: Global, path: Path<'a>, parts: &[Part<'a>]) -> Result<bool, AllocError> {
+    let bytes = path.as_unix_str().as_bytes();
+    let listed: Vec<Component<'_>> = path.components().collect(alloc)?;
+    let mut back: Vec<Component<'_>> = path.components().rev().collect(alloc)?;
+    back.reverse();
+    let is_rooted = bytes.starts_with(b"/");
+    let (parent, depth) = match parts.split_last() {
+        Some((last, before)) if last.bytes != b"/".as_slice() => {
+            (
+                Some(left_between(bytes, before)),
+                parts.len().saturating_sub(is_rooted as usize),
+            )
+        }
+        _ => (None, 0),
+    };
+    Ok(
+        are_parts(&listed, parts)
+            && are_parts(&back, parts)
+            && path.has_root() == is_rooted
+            && path.is_absolute() == is_rooted
+            && path.is_relative() != is_rooted
+            && bytes_of(path.parent().map(|path| path.as_unix_str())) == parent
+            && path.ancestors().count() == depth.saturating_add(1),
+    )
+}
+
+// Whether the file name is the last part, if that is a name, and is cut at its dots.
+fn has_name<'a>(path: Path<'a>, parts: &[Part<'a>]) -> bool {
+    let name = match parts.last() {
+        Some(part) if is_name(part.bytes) => part.bytes,
+        _ => {
+            return path.file_name().is_none()
+                && path.file_stem().is_none()
+                && path.extension().is_none()
+                && path.file_prefix().is_none();
+        }
+    };
+    let (stem, extension) = match last_dot(name) {
+        Some(dot) => (name.get(..dot), name.get(dot.saturating_add(1)..)),
+        None => (Some(name), None),
+    };
+    let prefix = match first_dot(name) {
+        Some(dot) => name.get(..dot),
+        None => Some(name),
+    };
+    bytes_of(path.file_name()) == Some(name)
+        && bytes_of(path.file_stem()) == stem
+        && bytes_of(path.extension()) == extension
+        && bytes_of(path.file_prefix()) == prefix
+}
+
+// Whether the canonical form is the parts with one slash between, and is its own.
+fn is_spelled(alloc: Global, path: Path<'_>, parts: &[Part<'_>]) -> Result<bool, AllocError> {
+    let mut bytes = Vec::new(alloc);
+    for part in parts {
+        if !bytes.is_empty() && bytes.as_slice() != b"/".as_slice() {
+            bytes.push(b'/')?;
+        }
+        bytes.extend_from_slice(part.bytes)?;
+    }
+    let spelled = canonical(alloc, path)?;
+    let again = canonical(alloc, spelled.as_path())?;
+    let want = UnixStr::from_bytes(&bytes);
+    Ok(spelled.as_path().as_unix_str() == want && again.as_path().as_unix_str() == want)
+}
+
+// Whether text is shown as it is, and only text has a JSON value.
+fn is_shown(alloc: Global, path: Path<'_>) -> Result<bool, AllocError> {
+    let shown = format!(in alloc; "{}", path.display())?;
+    let lossy = path.to_string_lossy(alloc)?;
+    let json = to_json(alloc, path);
+    let is_kept = match path.to_str() {
+        Some(text) => {
+            text.as_bytes() == path.as_unix_str().as_bytes()
+                && text == shown.as_str()
+                && matches!(&json, Ok(value) if value.as_str() == Some(text))
+        }
+        None => shown.as_str().contains('\u{FFFD}') && matches!(json, Err(JsonError::NotUtf8)),
+    };
+    Ok(is_kept && lossy.as_str() == shown.as_str())
+}
+
+#[test]
+fn random_strings_are_paths(rt: HostRuntime) -> Result<(), Fail> {
+    let alloc = rt.alloc();
+    let mut random = Random::new(20);
+    for _ in 0..STRINGS {
+        let bytes = random.string(alloc)?;
+        let path = Path::from_bytes(&bytes);
+        let parts = parts_of(alloc, &bytes)?;
+        assert!(rt; has_parts(alloc, path, &parts)?, "{bytes:?}");
+        assert!(rt; has_name(path, &parts), "{bytes:?}");
+        assert!(rt; is_spelled(alloc, path, &parts)?, "{bytes:?}");
+        assert!(rt; is_shown(alloc, path)?, "{bytes:?}");
+    }
+    Ok(())
+}

@@ -1,0 +1,128 @@
+//! Random calls of a table, beside a plain list of the same paths and values.
+use path_table::PathTable;
+use std::alloc::{AllocError, Global};
+use std::test::Fail;
+use unix_path::{Path, PathBuf};
+
+const TABLES: u64 = 60;
+
+const CALLS: u32 = 60;
+
+static LETTERS: [u8; 8] = *b"/./.aabb";
+
+// The numbers of splitmix64 from a seed.
+#[derive(Drop)]
+struct Random {
+    state: u64,
+}
+
+impl Random {
+    fn next(&mut self) -> u64 {
+        self.state = self.state.wrapping_add(0x9E37_79B9_7F4A_7C15);
+        let mixed = (self.state ^ self.state >> 30).wrapping_mul(0xBF58_476D_1CE4_E5B9);
+        let mixed = (mixed ^ mixed >> 27).wrapping_mul(0x94D0_49BB_1331_11EB);
+        mixed ^ mixed >> 31
+    }
+
+    // A path of at most six bytes.
+    fn path(&mut self, alloc: Global) -> Result<PathBuf, AllocError> {
+        let mut bytes = Vec::new(alloc);
+        for _ in 0..self.next() % 7 {
+            bytes.push(LETTERS[(self.next() & 7) as usize])?;
+        }
+        Path::from_bytes(&bytes).to_path_buf(alloc)
+    }
+}
+
+// Paths, no two of them equal, and their values.
+#[derive(Drop)]
+struct Plain {
+    files: Vec<(PathBuf, u32)>,
+}
+
+impl Plain {
+    fn place(&self, path: &PathBuf) -> Option<usize> {
+        self.files.iter().position(|file| file.0 == *path)
+    }
+
+    fn get(&self, path: &PathBuf) -> Option<u32> {
+        match self.place(path) {
+            Some(place) => self.files.get(place).map(|file| file.1),
+            None => None,
+        }
+    }
+
+    fn insert(&mut self, path: PathBuf, value: u32) -> Result<Option<u32>, AllocError> {
+        let old = self.remove(&path);
+        self.files.push((path, value))?;
+        Ok(old)
+    }
+
+    fn remove(&mut self, path: &PathBuf) -> Option<u32> {
+        match self.place(path) {
+            Some(place) if place < self.files.len() => {
+                let (_, value) = self.files.swap_remove(place);
+                Some(value)
+            }
+            _ => None,
+        }
+    }
+
+    // Whether these are the rests of the paths that start with the base, in path order.
+    fn has_under(&self, base: Path<'_>, found: &[(Path<'_>, &u32)]) -> bool {
+        let mut count = 0usize;
+        for (path, value) in &self.files {
+            if let Ok(rest) = path.as_path().strip_prefix(base) {
+                count = count.wrapping_add(1);
+                if !found
+                    .iter()
+                    .any(|answer| answer.0 == rest && answer.1 == value)
+                {
+                    return false;
+                }
+            }
+        }
+        count == found.len() && found.is_sorted_by(|a, b| a.0 < b.0)
+    }
+}
+
+// One call of each of the two, and whether they answer alike.
+fn answers_alike(
+    alloc: Global,
+    random: &mut Random,
+    table: &mut PathTable<u32>,
+    plain: &mut Plain,
+    value: u32,
+) -> Result<bool, AllocError> {
+    let path = random.path(alloc)?;
+    Ok(match random.next() % 8 {
+        0..3 => {
+            let other = path.as_path().to_path_buf(alloc)?;
+            table.insert(path, value)? == plain.insert(other, value)?
+        }
+        3 => table.remove(&path) == plain.remove(&path),
+        4 => table.get(&path).copied() == plain.get(&path),
+        _ => {
+            let found = table.under(alloc, &path)?;
+            plain.has_under(path.as_path(), found.as_slice())
+        }
+    })
+}
+
+#[test]
+fn a_table_answers_as_a_list(rt: HostRuntime) -> Result<(), Fail> {
+    let alloc = rt.alloc();
+    for seed in 0..TABLES {
+        let mut random = Random { state: seed };
+        let mut table = PathTable::new(alloc);
+        let mut plain = Plain {
+            files: Vec::new(alloc),
+        };
+        for value in 0..CALLS {
+            let alike = answers_alike(alloc, &mut random, &mut table, &mut plain, value)?;
+            assert!(rt; alike, "table {seed}, call {value}");
+            assert_eq!(rt; table.len(), plain.files.len());
+        }
+    }
+    Ok(())
+}

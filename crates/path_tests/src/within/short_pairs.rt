@@ -1,0 +1,137 @@
+//! All pairs of short paths: joins within, and ways.
+use super::{is_joined, plain, strings_over};
+use path_within::resolved::resolved;
+use path_within::way::way;
+use path_within::within::{join_plain, join_within};
+use std::alloc::{AllocError, Global};
+use std::test::Fail;
+use unix_path::{Path, PathBuf};
+
+// How many strings of at most 5 of three bytes there are, and how many of at most 4.
+const STRINGS: usize = 364;
+
+const SHORTER_STRINGS: usize = 121;
+
+// A path, with what is asked of it beside every other.
+#[derive(Drop)]
+struct Short<'a> {
+    path: Path<'a>,
+    // What the call resolves it to.
+    resolved: PathBuf,
+    // What a plain reading makes of it, and the pieces that this leaves.
+    want: Vec<u8>,
+    pieces: Vec<&'a [u8]>,
+    climbs: bool,
+    has_root_or_up: bool,
+}
+
+// The path of these bytes, and what is asked of it.
+fn read(alloc: Global, bytes: &[u8]) -> Result<Short<'_>, AllocError> {
+    let path = Path::from_bytes(bytes);
+    Ok(Short {
+        path,
+        resolved: resolved(alloc, path)?,
+        want: plain::resolved_of(alloc, bytes)?,
+        pieces: plain::pieces_left(alloc, bytes)?,
+        climbs: plain::climbs(bytes),
+        has_root_or_up: plain::has_root_or_up(bytes),
+    })
+}
+
+fn bytes_of(path: &PathBuf) -> &[u8] {
+    path.as_path().as_unix_str().as_bytes()
+}
+
+// Whether the join within is the plain one, or is refused where the request climbs; and whether it
+// starts with the resolved root, and has the resolved request behind it.
+fn stays_within(
+    alloc: Global,
+    root: &Short<'_>,
+    request: &Short<'_>,
+    whole: &PathBuf,
+) -> Result<bool, AllocError> {
+    let joined = join_within(alloc, root.path, request.path);
+    if request.climbs {
+        return Ok(is_joined(joined, None));
+    }
+    let Ok(joined) = joined else {
+        return Ok(false);
+    };
+    let is_behind = match joined.as_path().strip_prefix(root.resolved.as_path()) {
+        Ok(left) => left.bytes == bytes_of(&request.resolved),
+        Err(_) => false,
+    };
+    let want = plain::resolved_of(alloc, bytes_of(whole))?;
+    Ok(is_behind && bytes_of(&joined) == want.as_slice())
+}
+
+// The same of the plain join.
+fn stays_plain(alloc: Global, root: &Short<'_>, request: &Short<'_>, whole: &PathBuf) -> bool {
+    let joined = join_plain(alloc, root.path, request.path);
+    if request.has_root_or_up {
+        return is_joined(joined, None);
+    }
+    match joined {
+        Ok(joined) => {
+            joined.as_path().starts_with(root.path) && bytes_of(&joined) == bytes_of(whole)
+        }
+        Err(_) => false,
+    }
+}
+
+// Whether there is no way by a plain reading: one has a root and the other has none, or a `..` is
+// left of the first.
+fn has_no_way(from: &Short<'_>, to: &Short<'_>) -> bool {
+    let shared = from
+        .pieces
+        .iter()
+        .zip(to.pieces.iter())
+        .take_while(|(first, second)| first == second)
+        .count();
+    let is_above = from
+        .pieces
+        .iter()
+        .skip(shared)
+        .any(|piece| plain::is_up(piece));
+    plain::is_rooted(from.path.bytes) != plain::is_rooted(to.path.bytes) || is_above
+}
+
+// Whether the way leads from the first path to the other, or there is none.
+fn leads_there(alloc: Global, from: &Short<'_>, to: &Short<'_>) -> Result<bool, AllocError> {
+    match way(alloc, from.path, to.path)? {
+        Some(steps) => {
+            let joined = from.path.join(alloc, steps.as_path())?;
+            let end = plain::resolved_of(alloc, bytes_of(&joined))?;
+            Ok(end.as_slice() == to.want.as_slice() && !has_no_way(from, to))
+        }
+        None => Ok(has_no_way(from, to)),
+    }
+}
+
+// Whether all of this holds of the two.
+fn are_joined(alloc: Global, a: &Short<'_>, b: &Short<'_>) -> Result<bool, AllocError> {
+    let whole = a.path.join(alloc, b.path)?;
+    Ok(
+        stays_within(alloc, a, b, &whole)?
+            && stays_plain(alloc, a, b, &whole)
+            && leads_there(alloc, a, b)?,
+    )
+}
+
+#[test]
+fn all_short_pairs(rt: HostRuntime) -> Result<(), Fail> {
+    let alloc = rt.alloc();
+    let strings = strings_over(alloc, b"/.a", SHORTER_STRINGS)?;
+    assert_eq!(rt; strings.len(), STRINGS);
+    let mut paths = Vec::new(alloc);
+    for string in strings.iter() {
+        paths.push(read(alloc, string.as_slice())?)?;
+    }
+    for first in paths.iter() {
+        for second in paths.iter() {
+            let (a, b) = (first.path.bytes, second.path.bytes);
+            assert!(rt; are_joined(alloc, first, second)?, "{a:?} {b:?}");
+        }
+    }
+    Ok(())
+}

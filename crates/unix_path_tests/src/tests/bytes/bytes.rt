@@ -1,0 +1,119 @@
+use std::cmp::Ordering;
+use std::hash::{DefaultHasher, Hash, Hasher};
+use std::test::Fail;
+use unix_bytes::bytes::{LossyText, UnixStr, UnixString};
+
+// RFC 3629, section 4: each row of its table from end to end, and what lies just outside.
+#[test]
+fn well_formed_sequences(rt: HostRuntime) {
+    let rows: [(&[u8], bool); 36] = [
+        (b"\x00", true),
+        (b"\x7F", true),
+        (b"\x80", false),
+        (b"\xC1\xBF", false),
+        (b"\xC2\x7F", false),
+        (b"\xC2\x80", true),
+        (b"\xDF\xBF", true),
+        (b"\xDF\xC0", false),
+        (b"\xE0\x9F\xBF", false),
+        (b"\xE0\xA0\x80", true),
+        (b"\xE0\xBF\xBF", true),
+        (b"\xE1\x80\x80", true),
+        (b"\xE1\x80\x7F", false),
+        (b"\xE1\x80\xC0", false),
+        (b"\xEC\xBF\xBF", true),
+        (b"\xED\x80\x80", true),
+        (b"\xED\x9F\xBF", true),
+        (b"\xED\xA0\x80", false),
+        (b"\xEE\x80\x80", true),
+        (b"\xEF\xBF\xBF", true),
+        (b"\xF0\x8F\xBF\xBF", false),
+        (b"\xF0\x90\x80\x80", true),
+        (b"\xF0\xBF\xBF\xBF", true),
+        (b"\xF1\x80\x80\x80", true),
+        (b"\xF1\x80\x80\x7F", false),
+        (b"\xF3\xBF\xBF\xBF", true),
+        (b"\xF4\x80\x80\x80", true),
+        (b"\xF4\x8F\xBF\xBF", true),
+        (b"\xF4\x90\x80\x80", false),
+        (b"\xF5\x80\x80\x80", false),
+        (b"\xFF", false),
+        (b"\xC2", false),
+        (b"\xE1\x80", false),
+        (b"\xF1\x80\x80", false),
+        (b"", true),
+        (b"a\xC2\x80\xE1\x80\x80\xF1\x80\x80\x80z", true),
+    ];
+    for (bytes, is_text) in rows {
+        match UnixStr::from_bytes(bytes).to_str() {
+            Some(text) => assert!(rt; is_text && text.as_bytes() == bytes, "{bytes:?}"),
+            None => assert!(rt; !is_text, "{bytes:?}"),
+        }
+    }
+}
+
+#[test]
+fn borrowed_where_text(rt: HostRuntime) -> Result<(), Fail> {
+    let alloc = rt.alloc();
+    match UnixStr::new("ab").to_string_lossy(alloc)? {
+        LossyText::Borrowed(text) => assert_eq!(rt; text, "ab"),
+        LossyText::Owned(_) => assert!(rt; false),
+    }
+    let broken = UnixStr::from_bytes(b"a\xFF").to_string_lossy(alloc)?;
+    assert_eq!(rt; broken.as_str(), "a\u{FFFD}");
+    assert!(rt; matches!(broken, LossyText::Owned(_)));
+    Ok(())
+}
+
+#[test]
+fn views(rt: HostRuntime) {
+    let name = UnixStr::new("tmp");
+    assert_eq!(rt; name.as_bytes(), b"tmp".as_slice());
+    assert_eq!(rt; name.len(), 3);
+    assert!(rt; !name.is_empty() && UnixStr::new("").is_empty());
+    assert!(rt; name == UnixStr::from_bytes(b"tmp") && name != UnixStr::from_bytes(b"tm\xFF"));
+    assert_eq!(rt; UnixStr::new("a").cmp(&UnixStr::new("a/")), Ordering::Less);
+    assert_eq!(rt;
+        UnixStr::new("b").cmp(&UnixStr::new("aa")),
+        Ordering::Greater
+    );
+    assert_eq!(rt; UnixStr::new("a").cmp(&UnixStr::new("a")), Ordering::Equal);
+    assert!(rt; UnixStr::from_bytes(b"\x7F") < UnixStr::from_bytes(b"\xFF"));
+}
+
+// Equal names feed a hasher alike; where the second of two names begins makes a difference.
+#[test]
+fn hashes(rt: HostRuntime) {
+    assert_eq!(rt; hash_of("tmp", "a"), hash_of("tmp", "a"));
+    assert!(rt; hash_of("tm", "pa") != hash_of("tmp", "a"));
+}
+
+fn hash_of(first: &str, second: &str) -> u64 {
+    let mut state = DefaultHasher::new();
+    UnixStr::new(first).hash(&mut state);
+    UnixStr::from_bytes(second.as_bytes()).hash(&mut state);
+    state.finish()
+}
+
+#[test]
+fn a_shrink_to_more_leaves_the_capacity(rt: HostRuntime) -> Result<(), Fail> {
+    let mut name = UnixString::with_capacity(rt.alloc(), 10)?;
+    name.push(UnixStr::new("foo"))?;
+    let before = name.capacity();
+    name.shrink_to(1000)?;
+    assert_eq!(rt; name.capacity(), before);
+    assert_eq!(rt; name.as_unix_str(), UnixStr::new("foo"));
+    Ok(())
+}
+
+#[test]
+fn a_truncation_keeps_the_first_bytes(rt: HostRuntime) -> Result<(), Fail> {
+    for (len, kept) in [(0usize, ""), (3, "foo"), (6, "foobar"), (7, "foobar")] {
+        let mut name = UnixStr::new("foobar").to_unix_string(rt.alloc())?;
+        let before = name.capacity();
+        name.truncate(len);
+        assert_eq!(rt; name.as_unix_str(), UnixStr::new(kept));
+        assert_eq!(rt; name.capacity(), before);
+    }
+    Ok(())
+}

@@ -1,0 +1,167 @@
+ghost use Rattle.std.specs.Prelude.{◌≡◌, IfOk, map};
+ghost use Rattle.std.specs.String.{string_bytes};
+ghost use Rattle.unix_bytes.specs.Lossy.{lossy_of};
+ghost use Rattle.unix_bytes.specs.Chunks.{chunk_of, chunks_of};
+
+use std::alloc::{AllocError, Global};
+use std::test::Fail;
+use unix_bytes::bytes::UnixStr;
+use unix_bytes::lossy::{Utf8Lossy, Utf8LossyChunk, utf8_char_width};
+
+#[test]
+fn widths_by_first_byte(rt: HostRuntime) {
+    let ranges: [(u8, u8, usize); 6] = [
+        (0x00, 0x7F, 1),
+        (0x80, 0xC1, 0),
+        (0xC2, 0xDF, 2),
+        (0xE0, 0xEF, 3),
+        (0xF0, 0xF4, 4),
+        (0xF5, 0xFF, 0),
+    ];
+    for (least, greatest, width) in ranges {
+        for first in least..=greatest {
+            assert_eq!(rt; utf8_char_width(first), width, "{first}");
+        }
+    }
+}
+
+// What a caller can prove of the chunks that it collects.
+fn collected<'a>(alloc: Global, bytes: &'a [u8]) -> Result<Vec<Utf8LossyChunk<'a>>, AllocError>
+    ensures { IfOk result (λ v. map chunk_of v.items ≡ chunks_of bytes.now) }
+{
+    Utf8Lossy::from_bytes(bytes).chunks().collect(alloc)
+}
+
+// And of the text that it prints.
+fn displayed(alloc: Global, bytes: &[u8]) -> Result<String, AllocError>
+    ensures { IfOk result (λ text. string_bytes text ≡ lossy_of bytes.now) }
+{
+    format!(in alloc; "{}", Utf8Lossy::from_bytes(bytes))
+}
+
+fn has_broken(bytes: &[u8]) -> bool {
+    for chunk in Utf8Lossy::from_bytes(bytes).chunks() {
+        if !chunk.broken.is_empty() {
+            return true;
+        }
+    }
+    false
+}
+
+// Each source with its chunks, and what is displayed.
+#[test]
+fn chunks_of_sources(rt: HostRuntime) -> Result<(), Fail> {
+    let alloc = rt.alloc();
+    let rows: [(&[u8], &[(&str, &[u8])], &str); 10] = [
+        (b"", &[], ""),
+        (b"a", &[("a", b"")], "a"),
+        (b"\xFF", &[("", b"\xFF")], "\u{FFFD}"),
+        (
+            b"a\xFFb\xE2\x82",
+            &[("a", b"\xFF"), ("b", b"\xE2\x82")],
+            "a\u{FFFD}b\u{FFFD}",
+        ),
+        (b"\xC3(", &[("", b"\xC3"), ("(", b"")], "\u{FFFD}("),
+        (
+            b"\xF0\x9F\x98A",
+            &[("", b"\xF0\x9F\x98"), ("A", b"")],
+            "\u{FFFD}A",
+        ),
+        (
+            b"\xE0\x80\x80",
+            &[("", b"\xE0"), ("", b"\x80"), ("", b"\x80")],
+            "\u{FFFD}\u{FFFD}\u{FFFD}",
+        ),
+        (
+            b"\xED\xA0\x80",
+            &[("", b"\xED"), ("", b"\xA0"), ("", b"\x80")],
+            "\u{FFFD}\u{FFFD}\u{FFFD}",
+        ),
+        (
+            b"\xF4\x90\x80\x80",
+            &[("", b"\xF4"), ("", b"\x90"), ("", b"\x80"), ("", b"\x80")],
+            "\u{FFFD}\u{FFFD}\u{FFFD}\u{FFFD}",
+        ),
+        (b"\xEF\xBF\xBD", &[("\u{FFFD}", b"")], "\u{FFFD}"),
+    ];
+    for (source, chunks, text) in rows {
+        let got = collected(alloc, source)?;
+        assert_eq!(rt; got.len(), chunks.len(), "{source:?}");
+        for (chunk, (valid, broken)) in got.iter().zip(chunks) {
+            assert!(rt;
+                chunk.valid == *valid && chunk.broken == *broken,
+                "{source:?}"
+            );
+        }
+        assert_eq!(rt; displayed(alloc, source)?.as_str(), text);
+        assert_eq!(rt;
+            UnixStr::from_bytes(source).to_string_lossy(alloc)?.as_str(),
+            text
+        );
+    }
+    Ok(())
+}
+
+#[test]
+fn ended_iterators_stay_ended(rt: HostRuntime) {
+    let mut chunks = Utf8Lossy::from_bytes(b"a\xFF").chunks();
+    let copy = chunks;
+    assert!(rt; chunks.next().is_some());
+    assert!(rt; chunks.next().is_none());
+    assert!(rt; chunks.next().is_none());
+    assert_eq!(rt; copy.count(), 1);
+    assert!(rt; has_broken(b"a\xFF") && !has_broken(b"a"));
+}
+
+// Runs of ASCII that are longer than what is read at once, with FF, and with U+00E9, at each place.
+#[test]
+fn long_runs(rt: HostRuntime) {
+    for place in 0..40 {
+        let mut broken = [b'a'; 40];
+        broken[place] = 0xFF;
+        assert!(rt; UnixStr::from_bytes(&broken).to_str().is_none(), "{place}");
+        match Utf8Lossy::from_bytes(&broken).chunks().next() {
+            Some(chunk) => {
+                assert_eq!(rt; chunk.valid.as_bytes(), &broken[..place]);
+                assert_eq!(rt; chunk.broken, b"\xFF".as_slice());
+            }
+            None => assert!(rt; false, "{place}"),
+        }
+        let mut text = [b'a'; 41];
+        text[place] = 0xC3;
+        text[place + 1] = 0xA9;
+        assert!(rt; UnixStr::from_bytes(&text).to_str().is_some(), "{place}");
+    }
+}
+
+// A text of each width, and where the sequence begins that a place is in.
+const WIDTHS: [u8; 10] = *b"a\xC3\xA9\xE7\x8E\xBB\xF0\x9F\xA6\x80";
+
+const STARTS: [usize; 10] = [0, 1, 1, 3, 3, 3, 6, 6, 6, 6];
+
+// Text of all widths that is longer than what is read at once, with FF at each place.
+#[test]
+fn long_mixed_runs(rt: HostRuntime) {
+    for place in 0..90 {
+        let mut bytes = [0; 90];
+        for i in 0..90 {
+            bytes[i] = WIDTHS[i % 10];
+        }
+        assert!(rt; UnixStr::from_bytes(&bytes).to_str().is_some());
+        bytes[place] = 0xFF;
+        assert!(rt; UnixStr::from_bytes(&bytes).to_str().is_none(), "{place}");
+        let start = place - place % 10 + STARTS[place % 10];
+        assert!(rt;
+            is_broken_at(&bytes, start, (place - start).max(1)),
+            "{place}"
+        );
+    }
+}
+
+// The first chunk has so many bytes of text and then so many that are broken.
+fn is_broken_at(bytes: &[u8], text: usize, broken: usize) -> bool {
+    match Utf8Lossy::from_bytes(bytes).chunks().next() {
+        Some(chunk) => chunk.valid.len() == text && chunk.broken.len() == broken,
+        None => false,
+    }
+}

@@ -1,0 +1,64 @@
+//! Places of bytes, and common fronts.
+use std::process::Abort;
+use unix_bytes::search::{common_len, first_place, past_last};
+
+// Where `:` stands first, and just after it stands last.
+fn assert_places(rt: &impl Abort, bytes: &[u8], first: usize, past: usize) {
+    assert_eq!(rt; first_place(bytes, b':'), first);
+    assert_eq!(rt; past_last(bytes, b':'), past);
+}
+
+#[test]
+fn short_bytes(rt: HostRuntime) {
+    assert_places(&rt, b"", 0, 0);
+    assert_places(&rt, b":", 0, 1);
+    assert_places(&rt, b"a:b:c", 1, 4);
+    assert_places(&rt, b"abc", 3, 0);
+    assert_places(&rt, b"123456789abcde:", 14, 15);
+}
+
+#[test]
+fn long_bytes(rt: HostRuntime) {
+    assert_places(&rt, b"123456789abcdef:", 15, 16);
+    assert_places(&rt, b":123456789abcdef", 0, 1);
+    assert_places(&rt, b"123456789abcdef0:", 16, 17);
+    assert_places(&rt, b"123456789abcdef0123456789abcdef0", 32, 0);
+    assert_places(&rt, b"12:456789abcdef0123456789abcd:f01", 2, 30);
+    assert_places(&rt, b"123456789abcdef0:23456789abcdef01", 16, 17);
+}
+
+// The second row has the first byte that differs in the last lane of a window, the next two just
+// before and just behind one.
+static COMMON: [(&[u8], &[u8], usize); 12] = [
+    (b"a/b", b"a/c", 2),
+    (b"123456789abcdef0", b"123456789abcdefg", 15),
+    (b"123456789abcdef012", b"123456789abcdef0x2", 16),
+    (b"123456789abcdef01234", b"123456789abcdef012345", 20),
+    (b"", b"", 0),
+    (b"a", b"", 0),
+    (b"abc", b"abcd", 3),
+    (b"abc", b"abc", 3),
+    (b"x23456789abcdef0", b"123456789abcdef0", 0),
+    (b"123456789abcdef0", b"123456789abcdef0", 16),
+    (
+        b"123456789abcdef0123456789abcdef0x",
+        b"123456789abcdef0123456789abcdef0",
+        32,
+    ),
+    (
+        b"123456789abcdef0123456x89abcdef0",
+        b"123456789abcdef0123456789abcdef0",
+        22,
+    ),
+];
+
+fn is_common(a: &[u8], b: &[u8], len: usize) -> bool {
+    common_len(a, b) == len && common_len(b, a) == len
+}
+
+#[test]
+fn common_fronts(rt: HostRuntime) {
+    for row in COMMON.iter() {
+        assert!(rt; is_common(row.0, row.1, row.2), "{}", row.2);
+    }
+}
