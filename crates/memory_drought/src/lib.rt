@@ -76,26 +76,3 @@ fn takes_all(blocks: &mut Vec<Vec<u8>>, alloc: Global, len: usize) -> bool {
     }
     false
 }
-
-#[cfg(test)]
-mod tests {
-    use super::*;
-    use std::test::Fail;
-
-    // With another allocator than the C library's, as that of a checker of memory, this test fails,
-    // and so do those of `memory_tests` that take a `Drought`.
-    #[test]
-    fn all_memory_is_taken_and_given_back(rt: HostRuntime) -> Result<(), Fail> {
-        let alloc = rt.alloc();
-        let mut drought = Drought::begin(alloc)?.ok_or("more memory than can be held")?;
-        for len in [1, 40, 1000, 2048, 4096] {
-            assert!(rt; Vec::<u8>::with_capacity(alloc, len).is_err(), "{len}");
-        }
-        assert!(rt; drought.ease());
-        assert!(rt; Vec::<u8>::with_capacity(alloc, 2048).is_ok());
-        assert!(rt; Vec::<u8>::with_capacity(alloc, 4096).is_err());
-        drop(drought);
-        assert!(rt; Vec::<u8>::with_capacity(alloc, 4096).is_ok());
-        Ok(())
-    }
-}

@@ -1,3 +1,4 @@
+mod all_memory;
 mod buffers;
 mod json;
 mod requests;

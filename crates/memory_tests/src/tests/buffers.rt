@@ -8,21 +8,40 @@ fn path(text: &str) -> Path<'_> {
     Path::from_text(text)
 }
 
+fn holds(buffer: &PathBuf, text: &str) -> bool {
+    buffer.as_path().as_unix_str() == UnixStr::new(text)
+}
+
+// Pushes these until one is refused, and says whether none was.
+fn pushes_all(buffer: &mut PathBuf, paths: &[Path<'_>]) -> bool {
+    for path in paths {
+        if buffer.push(*path).is_err() {
+            return false;
+        }
+    }
+    true
+}
+
 #[test]
 fn after_reserve_pushes_do_not_allocate(rt: HostRuntime) -> Result<(), Fail> {
     let alloc = rt.alloc();
-    let mut pushed = PathBuf::from_text(alloc, "foo")?;
-    let mut extended = PathBuf::from_text(alloc, "foo")?;
-    pushed.reserve(6)?;
-    extended.reserve(6)?;
+    let mut buffer = PathBuf::from_text(alloc, "foo")?;
+    buffer.reserve(6)?;
+    let _dry = drought(alloc)?;
+    assert!(rt; pushes_all(&mut buffer, &[path("a"), path("bc"), path("")]));
+    assert!(rt; holds(&buffer, "foo/a/bc/"));
+    Ok(())
+}
+
+#[test]
+fn after_reserve_an_extend_does_not_allocate(rt: HostRuntime) -> Result<(), Fail> {
+    let alloc = rt.alloc();
+    let mut buffer = PathBuf::from_text(alloc, "foo")?;
+    buffer.reserve(6)?;
     let parts = [path("a"), path("bc"), path("")];
     let _dry = drought(alloc)?;
-    for part in parts {
-        assert!(rt; pushed.push(part).is_ok());
-    }
-    assert!(rt; extended.extend(parts.iter().copied()).is_ok());
-    assert_eq!(rt; pushed.as_path().as_unix_str(), UnixStr::new("foo/a/bc/"));
-    assert_eq!(rt; extended.as_path().as_unix_str(), UnixStr::new("foo/a/bc/"));
+    assert!(rt; buffer.extend(parts.iter().copied()).is_ok());
+    assert!(rt; holds(&buffer, "foo/a/bc/"));
     Ok(())
 }
 
@@ -37,57 +56,94 @@ fn a_path_longer_than_memory_is_an_error(rt: HostRuntime) -> Result<(), Fail> {
     Ok(())
 }
 
+// Whether the edits to `/foo.a.c` are made within the capacity of an empty path.
+fn fits_edits(buffer: &mut PathBuf) -> bool {
+    let capacity = buffer.capacity();
+    buffer.push(path("/")).is_ok()
+        && buffer.capacity() == capacity
+        && buffer.set_file_name(UnixStr::new("foo")).is_ok()
+        && buffer.set_extension(UnixStr::new("a")).is_ok()
+        && buffer.add_extension(UnixStr::new("c")).is_ok()
+        && holds(buffer, "/foo.a.c")
+        && buffer.capacity() == capacity
+}
+
+// Whether calls that ask for no other capacity keep it.
+fn keeps_its_capacity(buffer: &mut PathBuf) -> bool {
+    let capacity = buffer.capacity();
+    buffer.shrink_to(capacity).is_ok()
+        && buffer.shrink_to(1000).is_ok()
+        && buffer.reserve(2).is_ok()
+        && buffer.reserve_exact(2).is_ok()
+        && buffer.capacity() == capacity
+}
+
 #[test]
 fn within_the_capacity_edits_do_not_allocate(rt: HostRuntime) -> Result<(), Fail> {
     let alloc = rt.alloc();
     let mut buffer = PathBuf::with_capacity(alloc, 10)?;
-    let capacity = buffer.capacity();
     let _dry = drought(alloc)?;
-    assert!(rt; buffer.push(path("/")).is_ok());
-    assert_eq!(rt; buffer.capacity(), capacity);
-    assert!(rt; buffer.shrink_to(capacity).is_ok());
-    assert!(rt; buffer.shrink_to(1000).is_ok());
-    assert_eq!(rt; buffer.capacity(), capacity);
-    assert!(rt; buffer.set_file_name(UnixStr::new("foo")).is_ok());
-    assert!(rt; buffer.set_extension(UnixStr::new("a")).is_ok());
-    assert!(rt; buffer.add_extension(UnixStr::new("c")).is_ok());
-    assert_eq!(rt; buffer.as_path().as_unix_str(), UnixStr::new("/foo.a.c"));
-    assert!(rt; buffer.reserve(2).is_ok());
-    assert!(rt; buffer.reserve_exact(2).is_ok());
-    assert_eq!(rt; buffer.capacity(), capacity);
+    assert!(rt; keeps_its_capacity(&mut buffer));
+    assert!(rt; fits_edits(&mut buffer));
+    assert!(rt; keeps_its_capacity(&mut buffer));
     Ok(())
 }
 
+// Whether each call that makes `ab` longer is refused, and leaves it.
+fn refuses_pushes(buffer: &mut PathBuf, long: Path<'_>, rooted: Path<'_>) -> bool {
+    buffer.push(rooted).is_err()
+        && holds(buffer, "ab")
+        && buffer.push(long).is_err()
+        && buffer.reserve(4096).is_err()
+        && buffer.reserve_exact(4096).is_err()
+        && holds(buffer, "ab")
+}
+
 #[test]
-fn a_failed_edit_keeps_the_bytes(rt: HostRuntime) -> Result<(), Fail> {
+fn a_failed_push_keeps_the_bytes(rt: HostRuntime) -> Result<(), Fail> {
     let alloc = rt.alloc();
     let mut rooted = [b'x'; 4096];
     rooted[0] = b'/';
     let rooted = Path::new(UnixStr::from_bytes(rooted.as_slice()));
     let long = [b'x'; 4096];
-    let name = UnixStr::from_bytes(long.as_slice());
-    let mut pushed = PathBuf::from_text(alloc, "ab")?;
-    let mut named = PathBuf::from_text(alloc, "a/bb")?;
-    let mut extended = PathBuf::from_text(alloc, "foo/.")?;
+    let long = Path::new(UnixStr::from_bytes(long.as_slice()));
+    let mut buffer = PathBuf::from_text(alloc, "ab")?;
     let dry = drought(alloc)?;
-    assert!(rt; pushed.push(rooted).is_err());
-    assert_eq!(rt; pushed.as_path().as_unix_str(), UnixStr::new("ab"));
-    assert!(rt; pushed.push(Path::new(name)).is_err());
-    assert!(rt; pushed.reserve(4096).is_err());
-    assert!(rt; pushed.reserve_exact(4096).is_err());
-    assert_eq!(rt; pushed.as_path().as_unix_str(), UnixStr::new("ab"));
-    assert!(rt; named.set_file_name(name).is_err());
-    assert_eq!(rt; named.as_path().as_unix_str(), UnixStr::new("a/bb"));
-    assert!(rt; extended.set_extension(name).is_err());
-    assert!(rt; extended.add_extension(name).is_err());
-    assert_eq!(rt; extended.as_path().as_unix_str(), UnixStr::new("foo/."));
+    assert!(rt; refuses_pushes(&mut buffer, long, rooted));
     drop(dry);
-    pushed.push(rooted)?;
-    assert_eq!(rt; pushed.as_path().as_unix_str(), rooted.as_unix_str());
-    named.set_file_name(name)?;
-    assert_eq!(rt; named.as_path().as_unix_str().len(), 4098);
-    assert!(rt; extended.set_extension(name)?);
-    assert_eq!(rt; extended.as_path().as_unix_str().len(), 4100);
+    buffer.push(rooted)?;
+    assert_eq!(rt; buffer.as_path().as_unix_str(), rooted.as_unix_str());
+    Ok(())
+}
+
+#[test]
+fn a_failed_name_keeps_the_bytes(rt: HostRuntime) -> Result<(), Fail> {
+    let alloc = rt.alloc();
+    let long = [b'x'; 4096];
+    let name = UnixStr::from_bytes(long.as_slice());
+    let mut buffer = PathBuf::from_text(alloc, "a/bb")?;
+    let dry = drought(alloc)?;
+    assert!(rt; buffer.set_file_name(name).is_err());
+    assert!(rt; holds(&buffer, "a/bb"));
+    drop(dry);
+    buffer.set_file_name(name)?;
+    assert_eq!(rt; buffer.as_path().as_unix_str().len(), 4098);
+    Ok(())
+}
+
+#[test]
+fn a_failed_extension_keeps_the_bytes(rt: HostRuntime) -> Result<(), Fail> {
+    let alloc = rt.alloc();
+    let long = [b'x'; 4096];
+    let name = UnixStr::from_bytes(long.as_slice());
+    let mut buffer = PathBuf::from_text(alloc, "foo/.")?;
+    let dry = drought(alloc)?;
+    assert!(rt; buffer.set_extension(name).is_err());
+    assert!(rt; buffer.add_extension(name).is_err());
+    assert!(rt; holds(&buffer, "foo/."));
+    drop(dry);
+    assert!(rt; buffer.set_extension(name)?);
+    assert_eq!(rt; buffer.as_path().as_unix_str().len(), 4100);
     Ok(())
 }
 
@@ -111,36 +167,63 @@ fn a_failed_copy_gives_no_path(rt: HostRuntime) -> Result<(), Fail> {
     Ok(())
 }
 
+fn gives_its_parts(buffer: &PathBuf) -> bool {
+    let mut parts = buffer.into_iter();
+    parts.next() == Some(UnixStr::new("/")) && parts.next_back() == Some(UnixStr::new("b.c"))
+}
+
+// Whether a path without a file name takes no extension.
+fn takes_no_extension(buffer: &mut PathBuf) -> bool {
+    matches!(buffer.set_extension(UnixStr::new("d")), Ok(false))
+        && matches!(buffer.add_extension(UnixStr::new("d")), Ok(false))
+}
+
+// Whether `/a/b.c` loses its extension, and then its names.
+fn is_shortened(buffer: &mut PathBuf) -> bool {
+    matches!(buffer.set_extension(UnixStr::new("")), Ok(true))
+        && matches!(buffer.add_extension(UnixStr::new("")), Ok(true))
+        && holds(buffer, "/a/b")
+        && buffer.pop()
+        && buffer.pop()
+        && !buffer.pop()
+        && holds(buffer, "/")
+}
+
 #[test]
-fn promised_calls_of_paths_do_not_allocate(rt: HostRuntime) -> Result<(), Fail> {
+fn promised_edits_do_not_allocate(rt: HostRuntime) -> Result<(), Fail> {
     let alloc = rt.alloc();
     let text = UnixStr::new("/a/b.c").to_unix_string(alloc)?;
+    let none: [Path<'_>; 0] = [];
+    let _dry = drought(alloc)?;
+    let mut buffer = PathBuf::from(text);
+    assert!(rt; buffer.extend(none.iter().copied()).is_ok());
+    assert!(rt; gives_its_parts(&buffer));
+    assert!(rt; is_shortened(&mut buffer));
+    assert!(rt; takes_no_extension(&mut buffer));
+    buffer.clear();
+    assert_eq!(rt; buffer.into_unix_string().as_unix_str(), UnixStr::new(""));
+    Ok(())
+}
+
+#[test]
+fn a_path_of_a_string_does_not_allocate(rt: HostRuntime) -> Result<(), Fail> {
+    let alloc = rt.alloc();
     let word = String::from_str(alloc, "..")?;
+    let _dry = drought(alloc)?;
+    let mut up = PathBuf::from(word);
+    assert!(rt; takes_no_extension(&mut up));
+    let back: UnixString = up.into();
+    assert_eq!(rt; back.as_unix_str(), UnixStr::new(".."));
+    Ok(())
+}
+
+#[test]
+fn a_new_path_does_not_allocate(rt: HostRuntime) -> Result<(), Fail> {
+    let alloc = rt.alloc();
     let none: [Path<'_>; 0] = [];
     let _dry = drought(alloc)?;
     assert!(rt; PathBuf::from_iter(alloc, none.iter().copied()).is_ok());
     assert_eq!(rt; PathBuf::new(alloc).as_path(), path(""));
-    let mut buffer = PathBuf::from(text);
-    assert!(rt; buffer.extend(none.iter().copied()).is_ok());
-    let mut parts = (&buffer).into_iter();
-    assert_eq!(rt; parts.next(), Some(UnixStr::new("/")));
-    assert_eq!(rt; parts.next_back(), Some(UnixStr::new("b.c")));
-    assert_eq!(rt; buffer.set_extension(UnixStr::new("")).ok(), Some(true));
-    assert_eq!(rt; buffer.add_extension(UnixStr::new("")).ok(), Some(true));
-    assert_eq!(rt; buffer.as_path().as_unix_str(), UnixStr::new("/a/b"));
-    assert!(rt; buffer.pop());
-    assert!(rt; buffer.pop());
-    assert!(rt; !buffer.pop());
-    assert_eq!(rt; buffer.as_path(), path("/"));
-    assert_eq!(rt; buffer.set_extension(UnixStr::new("d")).ok(), Some(false));
-    assert_eq!(rt; buffer.add_extension(UnixStr::new("d")).ok(), Some(false));
-    buffer.clear();
-    assert_eq!(rt; buffer.into_unix_string().as_unix_str(), UnixStr::new(""));
-    let mut up = PathBuf::from(word);
-    assert_eq!(rt; up.set_extension(UnixStr::new("d")).ok(), Some(false));
-    assert_eq!(rt; up.add_extension(UnixStr::new("d")).ok(), Some(false));
-    let back: UnixString = up.into();
-    assert_eq!(rt; back.as_unix_str(), UnixStr::new(".."));
     Ok(())
 }
 
@@ -174,28 +257,41 @@ fn separators_are_refused_without_memory(rt: HostRuntime) -> Result<(), Fail> {
     Ok(())
 }
 
+// Whether each copy of no bytes is made.
+fn copies_no_bytes(alloc: Global) -> bool {
+    let empty = path("");
+    let none = UnixStr::new("");
+    let name = UnixStr::new("b");
+    PathBuf::from_text(alloc, "").is_ok()
+        && PathBuf::from_unix_str(alloc, none).is_ok()
+        && empty.to_path_buf(alloc).is_ok()
+        && empty.join(alloc, empty).is_ok()
+        && path("a").with_file_name(alloc, none).is_ok()
+        && empty.with_extension(alloc, name).is_ok()
+        && empty.with_added_extension(alloc, name).is_ok()
+        && CowPath::from(empty).into_owned(alloc).is_ok()
+}
+
 // A copy of no bytes allocates nothing, but for the count of a shared path's owners.
 #[test]
 fn copies_of_no_bytes_do_not_allocate(rt: HostRuntime) -> Result<(), Fail> {
     let alloc = rt.alloc();
-    let empty = path("");
-    let none = UnixStr::new("");
     let _dry = drought(alloc)?;
-    let buffer = PathBuf::from_unix_str(alloc, none)?;
-    assert!(rt; PathBuf::from_text(alloc, "").is_ok());
-    assert!(rt; buffer.clone().is_ok());
-    assert!(rt; empty.to_path_buf(alloc).is_ok());
-    assert!(rt; empty.join(alloc, empty).is_ok());
-    assert!(rt; path("a").with_file_name(alloc, none).is_ok());
-    assert!(rt; empty.with_extension(alloc, UnixStr::new("b")).is_ok());
-    assert!(rt; empty.with_added_extension(alloc, UnixStr::new("b")).is_ok());
-    let boxed = BoxedPath::from_path(alloc, empty)?;
+    assert!(rt; copies_no_bytes(alloc));
+    assert!(rt; PathBuf::new(alloc).clone().is_ok());
+    let boxed = BoxedPath::from_path(alloc, path(""))?;
     assert!(rt; boxed.clone().is_ok());
-    let owned = CowPath::from(buffer);
+    assert!(rt; RcPath::from_path(alloc, path("")).is_err());
+    Ok(())
+}
+
+#[test]
+fn owned_paths_of_no_bytes_do_not_allocate(rt: HostRuntime) -> Result<(), Fail> {
+    let alloc = rt.alloc();
+    let _dry = drought(alloc)?;
+    let owned = CowPath::from(PathBuf::new(alloc));
     assert!(rt; owned.clone().is_ok());
     assert!(rt; BoxedPath::from_cow(alloc, owned).is_ok());
-    assert!(rt; CowPath::from(empty).into_owned(alloc).is_ok());
-    assert!(rt; RcPath::from_path(alloc, empty).is_err());
     Ok(())
 }
 

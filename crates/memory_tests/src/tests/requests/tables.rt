@@ -20,11 +20,11 @@ fn filled(alloc: Global, count: usize) -> Result<PathTable<usize>, AllocError> {
 }
 
 // Whether the table has each of the paths. The key has room for them.
-fn has_each(table: &PathTable<usize>, mut key: PathBuf) -> Result<bool, AllocError> {
+fn has_each(table: &PathTable<usize>, key: &mut PathBuf) -> Result<bool, AllocError> {
     for place in 0..TEXTS.len() {
         key.clear();
         key.push(path(TEXTS[place]))?;
-        if table.get(&key) != Some(&place) {
+        if table.get(key) != Some(&place) {
             return Ok(false);
         }
     }
@@ -46,6 +46,11 @@ fn are_under(found: &[(Path<'_>, &usize)]) -> bool {
         && has_at(found, 5, "g", 6)
 }
 
+fn is_empty(alloc: Global, table: &PathTable<usize>, key: &PathBuf) -> Result<bool, AllocError> {
+    let is_without = table.get(key).is_none() && table.len() == 0;
+    Ok(is_without && table.under(alloc, key)?.is_empty())
+}
+
 #[test]
 fn first_path_inserted(rt: HostRuntime) -> Result<(), Fail> {
     let alloc = rt.alloc();
@@ -53,29 +58,36 @@ fn first_path_inserted(rt: HostRuntime) -> Result<(), Fail> {
     let key = PathBuf::from_text(alloc, "a//b")?;
     match table.insert(PathBuf::from_text(alloc, "a/b")?, 7usize) {
         Ok(before) => told(true, before.is_none() && table.get(&key) == Some(&7)),
-        Err(AllocError) => {
-            let is_empty = table.get(&key).is_none() && table.len() == 0;
-            told(false, is_empty && table.under(alloc, &key)?.is_empty())
-        }
+        Err(AllocError) => told(false, is_empty(alloc, &table, &key)?),
     }
+}
+
+// Whether the table has the key beside all those paths.
+fn has_one_more(table: &PathTable<usize>, key: &mut PathBuf) -> Result<bool, AllocError> {
+    let is_in = table.get(key) == Some(&7) && table.len() == 16;
+    Ok(is_in && has_each(table, key)?)
+}
+
+// Whether the table has those paths and not the key.
+fn is_as_before(
+    alloc: Global,
+    table: &PathTable<usize>,
+    key: &mut PathBuf,
+) -> Result<bool, AllocError> {
+    let is_without = table.get(key).is_none() && table.len() == TEXTS.len();
+    let base = PathBuf::from_text(alloc, "a/b")?;
+    let is_under = are_under(table.under(alloc, &base)?.as_slice());
+    Ok(is_without && is_under && has_each(table, key)?)
 }
 
 #[test]
 fn path_inserted(rt: HostRuntime) -> Result<(), Fail> {
     let alloc = rt.alloc();
     let mut table = filled(alloc, TEXTS.len())?;
-    let key = roomy(alloc, "a/c")?;
+    let mut key = roomy(alloc, "a/c")?;
     match table.insert(PathBuf::from_text(alloc, "a/c")?, 7) {
-        Ok(before) => {
-            let is_in = before.is_none() && table.get(&key) == Some(&7);
-            told(true, is_in && table.len() == 16 && has_each(&table, key)?)
-        }
-        Err(AllocError) => {
-            let is_without = table.get(&key).is_none() && table.len() == TEXTS.len();
-            let base = PathBuf::from_text(alloc, "a/b")?;
-            let is_under = are_under(table.under(alloc, &base)?.as_slice());
-            told(false, is_without && is_under && has_each(&table, key)?)
-        }
+        Ok(before) => told(true, before.is_none() && has_one_more(&table, &mut key)?),
+        Err(AllocError) => told(false, is_as_before(alloc, &table, &mut key)?),
     }
 }
 
