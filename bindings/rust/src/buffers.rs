@@ -3,13 +3,7 @@
 //! The answer stands at the beginning of the buffer, and the bytes behind it stay as they were.
 //! Where a call fails nothing is written.
 use crate::error::Error;
-use crate::ffi::{Make, MakeOfTwo, ESCAPES, NO_MEMORY, SEPARATOR};
-
-/// The answer of so many bytes, which stands in the buffer if it has room for all of them.
-#[inline]
-fn answer(out: &[u8], needed: usize) -> Result<&[u8], Error> {
-    out.get(..needed).ok_or(Error::Short { needed })
-}
+use crate::ffi::{Make, MakeOfTwo};
 
 /// `path` against `base`: it alone where it has a root, else behind `base`, with a slash between
 /// them where one is missing.
@@ -23,8 +17,7 @@ fn answer(out: &[u8], needed: usize) -> Result<&[u8], Error> {
 /// ```
 #[inline]
 pub fn join<'o>(base: &[u8], path: &[u8], out: &'o mut [u8]) -> Result<&'o [u8], Error> {
-    let needed = MakeOfTwo::JOIN.write(base, path, out);
-    answer(out, needed)
+    MakeOfTwo::JOIN.write(base, path, out)
 }
 
 /// The path with `name` in place of its file name, or joined with it where it has none.
@@ -37,8 +30,7 @@ pub fn join<'o>(base: &[u8], path: &[u8], out: &'o mut [u8]) -> Result<&'o [u8],
 /// ```
 #[inline]
 pub fn with_file_name<'o>(path: &[u8], name: &[u8], out: &'o mut [u8]) -> Result<&'o [u8], Error> {
-    let needed = MakeOfTwo::WITH_FILE_NAME.write(path, name, out);
-    answer(out, needed)
+    MakeOfTwo::WITH_FILE_NAME.write(path, name, out)
 }
 
 /// The path with `extension` in place of that of its file name, or behind it where it has none; an
@@ -59,10 +51,7 @@ pub fn with_extension<'o>(
     extension: &[u8],
     out: &'o mut [u8],
 ) -> Result<&'o [u8], Error> {
-    match MakeOfTwo::WITH_EXTENSION.write(path, extension, out) {
-        SEPARATOR => Err(Error::Separator),
-        needed => answer(out, needed),
-    }
+    MakeOfTwo::WITH_EXTENSION.write(path, extension, out)
 }
 
 /// The shortest path with the same parts.
@@ -76,8 +65,7 @@ pub fn with_extension<'o>(
 /// ```
 #[inline]
 pub fn canonical<'o>(path: &[u8], out: &'o mut [u8]) -> Result<&'o [u8], Error> {
-    let needed = Make::CANONICAL.write(path, out);
-    answer(out, needed)
+    Make::CANONICAL.write(path, out)
 }
 
 /// The path as UTF-8, with U+FFFD for what isn't.
@@ -92,8 +80,7 @@ pub fn canonical<'o>(path: &[u8], out: &'o mut [u8]) -> Result<&'o [u8], Error> 
 /// ```
 #[inline]
 pub fn to_string_lossy<'o>(path: &[u8], out: &'o mut [u8]) -> Result<&'o [u8], Error> {
-    let needed = Make::TO_STRING_LOSSY.write(path, out);
-    answer(out, needed)
+    Make::TO_STRING_LOSSY.write(path, out)
 }
 
 /// The path with each `..` taken against the name before it, and spelled canonically: `.` goes, and
@@ -110,10 +97,7 @@ pub fn to_string_lossy<'o>(path: &[u8], out: &'o mut [u8]) -> Result<&'o [u8], E
 /// ```
 #[inline]
 pub fn resolved<'o>(path: &[u8], out: &'o mut [u8]) -> Result<&'o [u8], Error> {
-    match Make::RESOLVED.write(path, out) {
-        NO_MEMORY => Err(Error::NoMemory),
-        needed => answer(out, needed),
-    }
+    Make::RESOLVED.write(path, out)
 }
 
 /// The request joined to the root, and resolved, so that it stays under the resolved root.
@@ -131,9 +115,5 @@ pub fn resolved<'o>(path: &[u8], out: &'o mut [u8]) -> Result<&'o [u8], Error> {
 /// ```
 #[inline]
 pub fn join_within<'o>(root: &[u8], request: &[u8], out: &'o mut [u8]) -> Result<&'o [u8], Error> {
-    match MakeOfTwo::JOIN_WITHIN.write(root, request, out) {
-        ESCAPES => Err(Error::Escapes),
-        NO_MEMORY => Err(Error::NoMemory),
-        needed => answer(out, needed),
-    }
+    MakeOfTwo::JOIN_WITHIN.write(root, request, out)
 }

@@ -7,6 +7,11 @@
 //! is given and writes the record or the buffer that it is given, and touches nothing else; it
 //! keeps no pointer; it returns. Slices of Rust are what it asks for: never null, even where they
 //! are empty, at most `isize::MAX` bytes, and one that is written shares no byte with the others.
+//! That a call has written as many bytes as it answers is a promise of the library too, on which
+//! `Vec`s rest that are filled by it.
+use crate::error::Error;
+#[cfg(feature = "alloc")]
+use alloc::vec::Vec;
 use core::cmp::Ordering;
 
 type Start = *const u8;
@@ -84,14 +89,45 @@ extern "C" {
 }
 
 /// `with_extension` answers so for an extension with a slash.
-pub(crate) const SEPARATOR: usize = usize::MAX;
+const SEPARATOR: usize = usize::MAX;
 /// `join_within` answers so for a request that climbs.
-pub(crate) const ESCAPES: usize = usize::MAX - 1;
+const ESCAPES: usize = usize::MAX - 1;
 /// `resolved` and `join_within` answer so where an allocation failed.
-pub(crate) const NO_MEMORY: usize = usize::MAX - 2;
+const NO_MEMORY: usize = usize::MAX - 2;
 
-/// The bytes between two places, or none where they don't lie in the path: what the library answers
-/// is never trusted.
+/// Why a call wrote nothing whose answer is no length that fits.
+#[cold]
+fn refusal(answer: usize) -> Error {
+    match answer {
+        SEPARATOR => Error::Separator,
+        ESCAPES => Error::Escapes,
+        NO_MEMORY => Error::NoMemory,
+        needed => Error::Short { needed },
+    }
+}
+
+/// What a call wrote that answers this, at the beginning of the buffer.
+#[inline]
+fn written(out: &[u8], answer: usize) -> Result<&[u8], Error> {
+    out.get(..answer).ok_or_else(|| refusal(answer))
+}
+
+/// Has a call write into the capacity of the vector, which then has what it wrote, and nothing else.
+#[cfg(feature = "alloc")]
+#[inline]
+fn fill(bytes: &mut Vec<u8>, call: impl FnOnce(*mut u8, usize) -> usize) -> Result<(), Error> {
+    bytes.clear();
+    let answer = call(bytes.as_mut_ptr(), bytes.capacity());
+    if answer > bytes.capacity() {
+        return Err(refusal(answer));
+    }
+    // SAFETY: the capacity has so many bytes, and the library promises that it wrote them.
+    unsafe { bytes.set_len(answer) };
+    Ok(())
+}
+
+/// The bytes between two places, or none where they don't lie in the path: no place that the library
+/// answers is trusted.
 #[inline]
 fn cut(path: &[u8], start: usize, length: usize) -> Option<&[u8]> {
     path.get(start..start.checked_add(length)?)
@@ -247,7 +283,7 @@ pub(crate) fn common_dir(a: &[u8], b: &[u8]) -> usize {
     unsafe { unix_path_common_dir(a.as_ptr(), a.len(), b.as_ptr(), b.len()) }
 }
 
-/// Calls that write what they make of a path, and answer its length or one of the constants above.
+/// Calls that write what they make of a path.
 #[derive(Clone, Copy)]
 pub(crate) struct Make(BytesOfOne);
 
@@ -257,9 +293,19 @@ impl Make {
     pub const RESOLVED: Make = Make(unix_path_resolved);
 
     #[inline]
-    pub fn write(self, path: &[u8], out: &mut [u8]) -> usize {
+    pub fn write<'o>(self, path: &[u8], out: &'o mut [u8]) -> Result<&'o [u8], Error> {
         // SAFETY: the slice is read, and the buffer is written.
-        unsafe { (self.0)(path.as_ptr(), path.len(), out.as_mut_ptr(), out.len()) }
+        let answer = unsafe { (self.0)(path.as_ptr(), path.len(), out.as_mut_ptr(), out.len()) };
+        written(out, answer)
+    }
+
+    #[cfg(feature = "alloc")]
+    #[inline]
+    pub fn fill(self, path: &[u8], bytes: &mut Vec<u8>) -> Result<(), Error> {
+        // SAFETY: the slice is read, and the capacity is written.
+        fill(bytes, |out, room| unsafe {
+            (self.0)(path.as_ptr(), path.len(), out, room)
+        })
     }
 }
 
@@ -274,10 +320,26 @@ impl MakeOfTwo {
     pub const JOIN_WITHIN: MakeOfTwo = MakeOfTwo(unix_path_join_within);
 
     #[inline]
-    pub fn write(self, path: &[u8], other: &[u8], out: &mut [u8]) -> usize {
+    pub fn write<'o>(
+        self,
+        path: &[u8],
+        other: &[u8],
+        out: &'o mut [u8],
+    ) -> Result<&'o [u8], Error> {
         let (start, length) = (path.as_ptr(), path.len());
-        let (out, out_length) = (out.as_mut_ptr(), out.len());
+        let (begin, room) = (out.as_mut_ptr(), out.len());
         // SAFETY: the slices are read, and the buffer is written.
-        unsafe { (self.0)(start, length, other.as_ptr(), other.len(), out, out_length) }
+        let answer = unsafe { (self.0)(start, length, other.as_ptr(), other.len(), begin, room) };
+        written(out, answer)
+    }
+
+    #[cfg(feature = "alloc")]
+    #[inline]
+    pub fn fill(self, path: &[u8], other: &[u8], bytes: &mut Vec<u8>) -> Result<(), Error> {
+        let (start, length) = (path.as_ptr(), path.len());
+        // SAFETY: the slices are read, and the capacity is written.
+        fill(bytes, |out, room| unsafe {
+            (self.0)(start, length, other.as_ptr(), other.len(), out, room)
+        })
     }
 }

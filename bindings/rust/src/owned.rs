@@ -3,29 +3,28 @@
 //! Each fails with [`Error::NoMemory`] where an allocation failed, and never with
 //! [`Error::Short`].
 use crate::error::Error;
+use crate::ffi::{Make, MakeOfTwo};
 use alloc::string::String;
 use alloc::vec::Vec;
 
-/// What the call writes, in so much memory; an error of the call is passed on.
-fn filled<M>(room: usize, make: &M) -> Result<Vec<u8>, Error>
+/// What the call writes in so much memory; an error of the call is passed on.
+fn filled<F>(room: usize, fill: &F) -> Result<Vec<u8>, Error>
 where
-    M: Fn(&mut [u8]) -> Result<&[u8], Error>,
+    F: Fn(&mut Vec<u8>) -> Result<(), Error>,
 {
     let mut bytes = Vec::new();
     bytes.try_reserve_exact(room).map_err(|_| Error::NoMemory)?;
-    bytes.resize(room, 0);
-    let length = make(&mut bytes)?.len();
-    bytes.truncate(length);
+    fill(&mut bytes)?;
     Ok(bytes)
 }
 
 /// What the call writes, in so much memory or, where that is too little, as much as it needs.
-fn made<M>(room: usize, make: M) -> Result<Vec<u8>, Error>
+fn made<F>(room: usize, fill: F) -> Result<Vec<u8>, Error>
 where
-    M: Fn(&mut [u8]) -> Result<&[u8], Error>,
+    F: Fn(&mut Vec<u8>) -> Result<(), Error>,
 {
-    match filled(room, &make) {
-        Err(Error::Short { needed }) => filled(needed, &make),
+    match filled(room, &fill) {
+        Err(Error::Short { needed }) => filled(needed, &fill),
         made => made,
     }
 }
@@ -36,8 +35,8 @@ where
 /// assert_eq!(unix_path_rattle::owned::join(b"/a", b"b").unwrap(), b"/a/b");
 /// ```
 pub fn join(base: &[u8], path: &[u8]) -> Result<Vec<u8>, Error> {
-    made(base.len() + 1 + path.len(), |out| {
-        crate::join(base, path, out)
+    made(base.len() + 1 + path.len(), |bytes| {
+        MakeOfTwo::JOIN.fill(base, path, bytes)
     })
 }
 
@@ -47,8 +46,8 @@ pub fn join(base: &[u8], path: &[u8]) -> Result<Vec<u8>, Error> {
 /// assert_eq!(unix_path_rattle::owned::with_file_name(b"/a/b", b"c").unwrap(), b"/a/c");
 /// ```
 pub fn with_file_name(path: &[u8], name: &[u8]) -> Result<Vec<u8>, Error> {
-    made(path.len() + 1 + name.len(), |out| {
-        crate::with_file_name(path, name, out)
+    made(path.len() + 1 + name.len(), |bytes| {
+        MakeOfTwo::WITH_FILE_NAME.fill(path, name, bytes)
     })
 }
 
@@ -60,8 +59,8 @@ pub fn with_file_name(path: &[u8], name: &[u8]) -> Result<Vec<u8>, Error> {
 /// assert_eq!(owned::with_extension(b"a/b.c", b"d/e"), Err(Error::Separator));
 /// ```
 pub fn with_extension(path: &[u8], extension: &[u8]) -> Result<Vec<u8>, Error> {
-    made(path.len() + 1 + extension.len(), |out| {
-        crate::with_extension(path, extension, out)
+    made(path.len() + 1 + extension.len(), |bytes| {
+        MakeOfTwo::WITH_EXTENSION.fill(path, extension, bytes)
     })
 }
 
@@ -71,7 +70,7 @@ pub fn with_extension(path: &[u8], extension: &[u8]) -> Result<Vec<u8>, Error> {
 /// assert_eq!(unix_path_rattle::owned::canonical(b".//a/./b/").unwrap(), b"./a/b");
 /// ```
 pub fn canonical(path: &[u8]) -> Result<Vec<u8>, Error> {
-    made(path.len(), |out| crate::canonical(path, out))
+    made(path.len(), |bytes| Make::CANONICAL.fill(path, bytes))
 }
 
 /// As [`to_string_lossy`](crate::to_string_lossy), as text of its own.
@@ -80,7 +79,7 @@ pub fn canonical(path: &[u8]) -> Result<Vec<u8>, Error> {
 /// assert_eq!(unix_path_rattle::owned::to_string_lossy(b"caf\xE9").unwrap(), "caf\u{FFFD}");
 /// ```
 pub fn to_string_lossy(path: &[u8]) -> Result<String, Error> {
-    let bytes = made(path.len(), |out| crate::to_string_lossy(path, out))?;
+    let bytes = made(path.len(), |bytes| Make::TO_STRING_LOSSY.fill(path, bytes))?;
     // It is text; were it none, Rust would make it so.
     Ok(String::from_utf8(bytes)
         .unwrap_or_else(|error| String::from_utf8_lossy(error.as_bytes()).into_owned()))
@@ -92,7 +91,7 @@ pub fn to_string_lossy(path: &[u8]) -> Result<String, Error> {
 /// assert_eq!(unix_path_rattle::owned::resolved(b"/a/../b/.").unwrap(), b"/b");
 /// ```
 pub fn resolved(path: &[u8]) -> Result<Vec<u8>, Error> {
-    made(path.len(), |out| crate::resolved(path, out))
+    made(path.len(), |bytes| Make::RESOLVED.fill(path, bytes))
 }
 
 /// As [`join_within`](crate::join_within), in memory of its own.
@@ -103,7 +102,7 @@ pub fn resolved(path: &[u8]) -> Result<Vec<u8>, Error> {
 /// assert_eq!(owned::join_within(b"/srv/www", b"/etc"), Err(Error::Escapes));
 /// ```
 pub fn join_within(root: &[u8], request: &[u8]) -> Result<Vec<u8>, Error> {
-    made(root.len() + 1 + request.len(), |out| {
-        crate::join_within(root, request, out)
+    made(root.len() + 1 + request.len(), |bytes| {
+        MakeOfTwo::JOIN_WITHIN.fill(root, request, bytes)
     })
 }
