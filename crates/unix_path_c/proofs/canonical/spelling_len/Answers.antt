@@ -26,7 +26,8 @@ overflow_add-len c =
     omega (
       arith,
       spelled_behind-fits c.args.path.bytes.now (gap_bytes c.loop-part.gap)
-          (value_of c.in-Some.part) (cursor_values c.next.new.self) c.loop-part.len c.loop-part.invariant.2
+          (value_of c.in-Some.part) (cursor_values c.next.new.self)
+          c.loop-part.len c.loop-part.invariant.2
           c.in-Some.ensures.steps.item_is,
       c.ranges.path.0,
       c.len.ensures,
@@ -39,7 +40,8 @@ overflow_add-len-in-loop-part c =
     omega (
       arith,
       spelled_behind-fits c.args.path.bytes.now (gap_bytes c.loop-part.gap)
-          (value_of c.in-Some.part) (cursor_values c.next.new.self) c.loop-part.len c.loop-part.invariant.2
+          (value_of c.in-Some.part) (cursor_values c.next.new.self)
+          c.loop-part.len c.loop-part.invariant.2
           c.in-Some.ensures.steps.item_is,
       c.ranges.path.0,
       c.len.ensures,

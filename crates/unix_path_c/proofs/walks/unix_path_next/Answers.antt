@@ -11,9 +11,11 @@ some c = subst (λ s. 0 < length s) c.left_of.ensures
     (some_bytes c.left_of.result.bytes.now (sym c.is_empty.ensures ∙ c.if-is_empty.false))
 
 is : (c : In-Some)
-    → BeginsInPart (left c.args.path.now c.args.walk.now) c.in-Some.length c.in-Some.step c.in-Some.kind
+    → BeginsInPart (left c.args.path.now c.args.walk.now)
+    c.in-Some.length c.in-Some.step c.in-Some.kind
 is c =
-    subst (λ s. BeginsInPart s c.in-Some.length c.in-Some.step c.in-Some.kind) c.left_of.ensures c.in-Some.ensures
+    subst (λ s. BeginsInPart s c.in-Some.length c.in-Some.step c.in-Some.kind)
+    c.left_of.ensures c.in-Some.ensures
 
 pub overflow_add-walk : goal.overflow_add-walk
 overflow_add-walk c =
