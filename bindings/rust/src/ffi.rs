@@ -112,7 +112,7 @@ fn written(out: &[u8], answer: usize) -> Result<&[u8], Error> {
     out.get(..answer).ok_or_else(|| refusal(answer))
 }
 
-/// Has a call write into the capacity of the vector, which then has what it wrote, and nothing else.
+/// Has a call write into the capacity of the vector, which then has what it wrote alone.
 #[cfg(feature = "alloc")]
 #[inline]
 fn fill(bytes: &mut Vec<u8>, call: impl FnOnce(*mut u8, usize) -> usize) -> Result<(), Error> {
@@ -126,8 +126,7 @@ fn fill(bytes: &mut Vec<u8>, call: impl FnOnce(*mut u8, usize) -> usize) -> Resu
     Ok(())
 }
 
-/// The bytes between two places, or none where they don't lie in the path: no place that the library
-/// answers is trusted.
+/// The bytes between two places, or none where they don't lie in the path: no place is trusted.
 #[inline]
 fn cut(path: &[u8], start: usize, length: usize) -> Option<&[u8]> {
     path.get(start..start.checked_add(length)?)

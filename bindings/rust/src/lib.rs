@@ -24,7 +24,8 @@
 //! That each call of the library returns what its contract says, on all bytes; the contracts stand
 //! in `crates/unix_path_c`. This crate isn't proved: it passes the slices, and cuts the answers out
 //! of them with a test of their bounds, so that a wrong library would give wrong answers, and could
-//! do harm only by what it reads and writes itself.
+//! do harm only by what it reads and writes itself, or doesn't write: an answer in memory of its
+//! own has the bytes that the library says it wrote.
 //!
 //! # Building
 //!
