@@ -9,91 +9,14 @@
 //! are empty, at most `isize::MAX` bytes, and one that is written shares no byte with the others.
 //! That a call has written as many bytes as it answers is a promise of the library too, on which
 //! `Vec`s rest that are filled by it.
+mod raw;
+
 use crate::error::Error;
 #[cfg(feature = "alloc")]
 use alloc::vec::Vec;
 use core::cmp::Ordering;
-
-type Start = *const u8;
-
-/// What is left of a walk, as the library keeps it.
-#[repr(C)]
-#[derive(Clone, Copy, Debug)]
-pub(crate) struct Walk {
-    front: usize,
-    back: usize,
-}
-
-/// Where a part stands, and of which kind it is.
-#[repr(C)]
-pub(crate) struct Part {
-    start: usize,
-    length: usize,
-    /// One of the constants of `Part`.
-    pub kind: u32,
-}
-
-/// Where an answer stands in a path.
-#[repr(C)]
-struct Place {
-    start: usize,
-    length: usize,
-}
-
-type TruthOfOne = unsafe extern "C" fn(Start, usize) -> bool;
-type TruthOfTwo = unsafe extern "C" fn(Start, usize, Start, usize) -> bool;
-type StepOfWalk = unsafe extern "C" fn(Start, usize, *mut Walk, *mut Part) -> bool;
-type PlaceInOne = unsafe extern "C" fn(Start, usize, *mut Place) -> bool;
-type BytesOfOne = unsafe extern "C" fn(Start, usize, *mut u8, usize) -> usize;
-type BytesOfTwo = unsafe extern "C" fn(Start, usize, Start, usize, *mut u8, usize) -> usize;
-
-#[rustfmt::skip]
-extern "C" {
-    fn unix_path_next(path: Start, path_length: usize, walk: *mut Walk, part: *mut Part) -> bool;
-    fn unix_path_next_back(path: Start, path_length: usize, walk: *mut Walk, part: *mut Part)
-        -> bool;
-    fn unix_path_as_path(path: Start, path_length: usize, walk: *const Walk, place: *mut Place);
-
-    fn unix_path_parent(path: Start, path_length: usize, place: *mut Place) -> bool;
-    fn unix_path_file_name(path: Start, path_length: usize, place: *mut Place) -> bool;
-    fn unix_path_file_stem(path: Start, path_length: usize, place: *mut Place) -> bool;
-    fn unix_path_extension(path: Start, path_length: usize, place: *mut Place) -> bool;
-    fn unix_path_file_prefix(path: Start, path_length: usize, place: *mut Place) -> bool;
-    fn unix_path_strip_prefix(path: Start, path_length: usize, base: Start, base_length: usize,
-        place: *mut Place) -> bool;
-
-    fn unix_path_starts_with(a: Start, a_length: usize, b: Start, b_length: usize) -> bool;
-    fn unix_path_ends_with(a: Start, a_length: usize, b: Start, b_length: usize) -> bool;
-    fn unix_path_equal(a: Start, a_length: usize, b: Start, b_length: usize) -> bool;
-    fn unix_path_compare(a: Start, a_length: usize, b: Start, b_length: usize) -> i32;
-    fn unix_path_hash(path: Start, path_length: usize) -> u64;
-    fn unix_path_is_utf8(path: Start, path_length: usize) -> bool;
-    fn unix_path_is_absolute(path: Start, path_length: usize) -> bool;
-    fn unix_path_climbs(path: Start, path_length: usize) -> bool;
-    fn unix_path_common_dir(a: Start, a_length: usize, b: Start, b_length: usize) -> usize;
-
-    fn unix_path_join(base: Start, base_length: usize, path: Start, path_length: usize,
-        out: *mut u8, out_length: usize) -> usize;
-    fn unix_path_with_file_name(path: Start, path_length: usize, name: Start, name_length: usize,
-        out: *mut u8, out_length: usize) -> usize;
-    fn unix_path_with_extension(path: Start, path_length: usize, extension: Start,
-        extension_length: usize, out: *mut u8, out_length: usize) -> usize;
-    fn unix_path_canonical(path: Start, path_length: usize, out: *mut u8, out_length: usize)
-        -> usize;
-    fn unix_path_to_string_lossy(path: Start, path_length: usize, out: *mut u8, out_length: usize)
-        -> usize;
-    fn unix_path_resolved(path: Start, path_length: usize, out: *mut u8, out_length: usize)
-        -> usize;
-    fn unix_path_join_within(root: Start, root_length: usize, request: Start,
-        request_length: usize, out: *mut u8, out_length: usize) -> usize;
-}
-
-/// `with_extension` answers so for an extension with a slash.
-const SEPARATOR: usize = usize::MAX;
-/// `join_within` answers so for a request that climbs.
-const ESCAPES: usize = usize::MAX - 1;
-/// `resolved` and `join_within` answer so where an allocation failed.
-const NO_MEMORY: usize = usize::MAX - 2;
+use raw::*;
+pub(crate) use raw::{Part, Walk};
 
 /// Why a call wrote nothing whose answer is no length that fits.
 #[cold]

@@ -1,5 +1,6 @@
 mod all_memory;
 mod buffers;
+mod copies;
 mod json;
 mod requests;
 mod runs;

@@ -1,6 +1,6 @@
 //! Times the Rust calls over the C face beside `std::path` on the same bytes, and prints our time
-//! over std's; below each, that of the crates' own call. A program of its own, since it is linked
-//! with the library of the face.
+//! over std's; below each, that of the crates' own call, and that of the call from C with nothing in
+//! between. A program of its own, since it is linked with the library of the face.
 #![allow(dead_code)] // The modules have more for the other program.
 mod called;
 mod calls;
@@ -10,6 +10,7 @@ mod face_rows;
 mod options;
 mod ours;
 mod random;
+mod static_calls;
 mod targets;
 mod timing;
 
@@ -74,6 +75,7 @@ fn print(options: &Options) -> bool {
             (row.name, Some(row.ours)),
             ("  the crates' own", row.own),
             ("  the same, by a call", row.called),
+            ("  the static call alone", Some(row.alone)),
         ];
         for (name, side) in lines {
             if let Some(side) = side {

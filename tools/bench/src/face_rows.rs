@@ -3,6 +3,7 @@ use crate::called::*;
 use crate::calls::{OfOne, OfTwo};
 use crate::corpora::Other;
 use crate::ours::*;
+use crate::static_calls;
 use std::cell::RefCell;
 use std::ffi::OsStr;
 use std::os::unix::ffi::OsStrExt;
@@ -22,6 +23,8 @@ pub struct Row {
     pub own: Option<Side>,
     /// The same, behind a function that isn't inlined and writes its answer for a caller.
     pub called: Option<Side>,
+    /// The call from C, with nothing of the crate for Rust in between.
+    pub alone: Side,
 }
 
 /// The bytes as a path of std.
@@ -85,11 +88,18 @@ fn order(call: OfTwo, path: &[u8], other: &[u8]) -> u64 {
 thread_local! {
     /// A buffer with room for each answer, made once.
     static BUFFER: RefCell<Vec<u8>> = vec![0; 1 << 18].into();
+    /// The same, of which the capacity is used.
+    static CAPACITY: RefCell<Vec<u8>> = Vec::with_capacity(1 << 18).into();
 }
 
 /// The number of what a call writes into the buffer.
 fn in_buffer(make: impl Fn(&mut [u8]) -> Result<&[u8], paths::Error>) -> u64 {
     BUFFER.with_borrow_mut(|out| made(make(out)))
+}
+
+/// The number of what a call makes in the capacity of a buffer.
+fn in_capacity(make: impl Fn(&mut Vec<u8>) -> u64) -> u64 {
+    CAPACITY.with_borrow_mut(|out| make(out))
 }
 
 /// Every row, in the order of the table.
@@ -101,6 +111,7 @@ pub const ROWS: &[Row] = &[
         std: |path, _| all(std_path(path).components().map(part_bytes)),
         own: Some(|path, _| one(ours_parts, path)),
         called: Some(|path, _| one(called_parts, path)),
+        alone: |path, _| all(static_calls::parts(path)),
     },
     Row {
         name: "parts from behind",
@@ -109,6 +120,7 @@ pub const ROWS: &[Row] = &[
         std: |path, _| all(std_path(path).components().rev().map(part_bytes)),
         own: Some(|path, _| one(ours_parts_behind, path)),
         called: Some(|path, _| one(called_parts_behind, path)),
+        alone: |path, _| all(static_calls::parts_behind(path)),
     },
     Row {
         name: "parent",
@@ -117,6 +129,7 @@ pub const ROWS: &[Row] = &[
         std: |path, _| some(std_path(path).parent().map(bytes)),
         own: Some(|path, _| one(ours_parent, path)),
         called: Some(|path, _| one(called_parent, path)),
+        alone: |path, _| some(static_calls::parent(path)),
     },
     Row {
         name: "file_name",
@@ -125,6 +138,7 @@ pub const ROWS: &[Row] = &[
         std: |path, _| some(std_path(path).file_name().map(bytes)),
         own: Some(|path, _| one(ours_file_name, path)),
         called: None,
+        alone: |path, _| some(static_calls::file_name(path)),
     },
     Row {
         name: "starts_with",
@@ -133,6 +147,7 @@ pub const ROWS: &[Row] = &[
         std: |path, base| std_path(path).starts_with(std_path(base)).into(),
         own: Some(|path, other| two(ours_starts_with, path, other)),
         called: None,
+        alone: |path, base| static_calls::starts_with(path, base).into(),
     },
     Row {
         name: "equal same",
@@ -141,6 +156,7 @@ pub const ROWS: &[Row] = &[
         std: |path, other| (std_path(path) == std_path(other)).into(),
         own: Some(|path, other| two(ours_eq, path, other)),
         called: Some(|path, other| two(called_eq, path, other)),
+        alone: |path, other| static_calls::equal(path, other).into(),
     },
     Row {
         name: "equal next",
@@ -149,6 +165,7 @@ pub const ROWS: &[Row] = &[
         std: |path, other| (std_path(path) == std_path(other)).into(),
         own: Some(|path, other| two(ours_eq, path, other)),
         called: Some(|path, other| two(called_eq, path, other)),
+        alone: |path, other| static_calls::equal(path, other).into(),
     },
     Row {
         name: "equal respelled",
@@ -157,6 +174,7 @@ pub const ROWS: &[Row] = &[
         std: |path, other| (std_path(path) == std_path(other)).into(),
         own: Some(|path, other| two(ours_eq, path, other)),
         called: Some(|path, other| two(called_eq, path, other)),
+        alone: |path, other| static_calls::equal(path, other).into(),
     },
     Row {
         name: "compare next",
@@ -165,6 +183,7 @@ pub const ROWS: &[Row] = &[
         std: |path, other| std_path(path).cmp(std_path(other)) as u64,
         own: Some(|path, other| order(ours_cmp, path, other)),
         called: Some(|path, other| order(called_cmp, path, other)),
+        alone: |path, other| static_calls::compare(path, other) as u64,
     },
     Row {
         name: "canonical",
@@ -173,6 +192,12 @@ pub const ROWS: &[Row] = &[
         std: |path, _| digest(bytes(&std_path(path).components().collect::<PathBuf>())),
         own: Some(|path, _| one(ours_canonical, path)),
         called: None,
+        alone: |path, _| {
+            digest(static_calls::canonical(
+                path,
+                &mut Vec::with_capacity(path.len()),
+            ))
+        },
     },
     Row {
         name: "canonical, into a buffer",
@@ -181,6 +206,7 @@ pub const ROWS: &[Row] = &[
         std: |path, _| digest(bytes(&std_path(path).components().collect::<PathBuf>())),
         own: None,
         called: None,
+        alone: |path, _| in_capacity(|out| digest(static_calls::canonical(path, out))),
     },
     Row {
         name: "join",
@@ -189,6 +215,14 @@ pub const ROWS: &[Row] = &[
         std: |path, other| digest(bytes(&std_path(path).join(std_path(other)))),
         own: Some(|path, other| two(ours_join, path, other)),
         called: None,
+        alone: |path, other| {
+            let room = path.len() + 1 + other.len();
+            digest(static_calls::join(
+                path,
+                other,
+                &mut Vec::with_capacity(room),
+            ))
+        },
     },
     Row {
         name: "join, into a buffer",
@@ -197,5 +231,6 @@ pub const ROWS: &[Row] = &[
         std: |path, other| digest(bytes(&std_path(path).join(std_path(other)))),
         own: None,
         called: None,
+        alone: |path, other| in_capacity(|out| digest(static_calls::join(path, other, out))),
     },
 ];

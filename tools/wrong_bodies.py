@@ -1,0 +1,118 @@
+"""The wrong bodies of a crate, its edits in must-fail/, and in which function each is."""
+import dataclasses
+import functools
+import glob
+import os
+import re
+
+from repository import ROOT
+
+HEAD = re.compile(r'( *)(?:pub(?:\([a-z]+\))? )?(?:const )?(?:extern "C" )?fn (\w+)')
+IMPL = re.compile(r"impl(?:<.*?>)? (?:(?:\w+::)*(\w+)(?:<.*>)? for )?(&(?:'\w+ )?)?(\w+)")
+
+
+@dataclasses.dataclass(frozen=True)
+class Change:
+    """A text of a file that another one replaces."""
+    file: str
+    old: str
+    new: str
+
+
+@dataclasses.dataclass(frozen=True)
+class WrongBody:
+    """The changes of an edit, and the function in whose body they are."""
+    crate: str
+    name: str
+    changes: tuple
+    function: tuple
+
+    def say(self, text):
+        print(f"must-fail {self.crate}/{self.name}: {text}", flush=True)
+
+
+def read_changes(path):
+    """The pairs of old and new texts of an edit, with the file of each."""
+    changes, file, old = [], "", ""
+    with open(path, encoding="utf-8") as lines:
+        for line in lines.read().split("\n"):
+            if line.startswith("file: "):
+                file = line[len("file: "):].strip()
+            elif line.startswith("old: "):
+                old = line[len("old: "):]
+            elif line.startswith("new:"):
+                changes.append(Change(file, old, re.sub(r"\Anew: ?", "", line)))
+    return tuple(changes)
+
+
+@functools.lru_cache(maxsize=None)
+def read_text(crate, file):
+    with open(f"{ROOT}/crates/{crate}/{file}", encoding="utf-8") as text:
+        return text.read()
+
+
+def body_lines(lines, head, indent):
+    """The numbers of the first line in the body of a function and of its last, as rt fmt lays it
+    out; None where both are one."""
+    begin = None
+    for number in range(head, len(lines)):
+        line = lines[number]
+        if line == f"{indent}}}":
+            return begin and (begin, number)
+        if not begin and (line == f"{indent}{{" or line.endswith(" {")
+                          and (number == head or line.startswith(f"{indent})"))):
+            begin = number + 1
+        elif number == head and line.endswith((";", "}")):
+            return None
+    return None
+
+
+def place_of(crate, file, lines, head):
+    """Where the function at this line stands as a check says it: in a module, in the impl of a
+    type, whose file may be another, or in the impl of a trait for one."""
+    if lines[head].startswith(" "):
+        number = max(number for number in range(head) if lines[number].startswith("impl"))
+        impl = IMPL.match(lines[number])
+        return f"{'Ref' if impl[2] else ''}{impl[3]}{impl[1] or ''}"
+    words = file[len("src/"):-len(".rt")].split("/")
+    return "::".join([crate, *(word for word in words if word not in ("lib", "main"))])
+
+
+@functools.lru_cache(maxsize=None)
+def bodies(crate, file):
+    """Where the body of each function of a file begins and ends, in order, and the function."""
+    lines = read_text(crate, file).split("\n")
+    starts = [0]
+    for line in lines:
+        starts.append(starts[-1] + len(line) + 1)
+    found = []
+    for number, line in enumerate(lines):
+        head = HEAD.match(line)
+        body = head and body_lines(lines, number, head[1])
+        if body:
+            function = place_of(crate, file, lines, number), head[2]
+            found.append((starts[body[0]], starts[body[1]], function))
+    return found
+
+
+def function_of(crate, changes):
+    """The one function in whose body all changes are, as its place and its name, or None."""
+    found = set()
+    for change in changes:
+        text = read_text(crate, change.file)
+        if not change.file.startswith("src/") or text.count(change.old) != 1:
+            return None
+        start = text.index(change.old)
+        end = start + len(change.old)
+        around = [function for begin, last, function in bodies(crate, change.file)
+                  if begin <= start and end <= last]
+        found.add(around[-1] if around else None)
+    return found.pop() if len(found) == 1 else None
+
+
+def read_wrong_bodies(crate):
+    found = []
+    for path in sorted(glob.glob(f"{ROOT}/crates/{crate}/must-fail/*.edit")):
+        changes = read_changes(path)
+        found.append(WrongBody(crate, os.path.basename(path), changes, function_of(crate, changes)))
+    return found
