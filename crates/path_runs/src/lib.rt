@@ -8,4 +8,3 @@ pub mod walk;
 
 pub use edits::{Answer, ApplyError, Edit};
 pub use walk::{Turn, Walked};
-

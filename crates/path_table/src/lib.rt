@@ -4,4 +4,3 @@
 pub mod table;
 
 pub use table::{PathTable, Under};
-

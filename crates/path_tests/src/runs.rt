@@ -8,6 +8,7 @@ mod facts;
 mod fits;
 mod long_runs;
 mod loops;
+mod maps;
 mod pairs;
 mod plain;
 mod random;
@@ -15,7 +16,6 @@ mod random_extensions;
 mod random_pairs;
 mod random_paths;
 mod short_walks;
-mod tables;
 mod walks;
 
 use std::alloc::AllocError;

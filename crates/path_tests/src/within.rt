@@ -1,8 +1,8 @@
 //! Rows of paths from outside, and the laws on all short paths.
 mod plain;
+mod rows;
 mod short_pairs;
 mod short_paths;
-mod tables;
 mod traversal;
 
 use path_within::WithinError;

@@ -7,4 +7,3 @@ pub mod way;
 pub mod within;
 
 pub use within::WithinError;
-
