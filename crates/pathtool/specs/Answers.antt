@@ -1,5 +1,5 @@
 -- What the program answers: lines of fields between tabs, of which the first names a command.
-use Rattle.std.specs.Prelude.{ℕ, Bool, ◌==◌, List, [], ◌∷◌, ◌++◌, reverse, codes, Option}
+use Rattle.std.specs.Prelude.{ℕ, ◌==◌, List, [], ◌∷◌, ◌++◌, reverse, codes, Option}
 use Rattle.std.specs.Prelude.{Some, None, unwrap_or, if◌then◌else◌}
 use Rattle.std.specs.Option.{option_map_or, option_and_then}
 use Rattle.std.specs.declared.cmp.Ordering.{Ordering}
@@ -7,7 +7,7 @@ use Rattle.std.specs.declared.cmp.Ordering.TheVariants.{Less, Equal, Greater}
 use Rattle.std.specs.List.{slice_split, flat_map, starts_with, ends_with}
 use Rattle.std.specs.Map.{lookup}
 use Rattle.std.specs.Str.{byte, bytes_eq}
-use Rattle.unix_path.specs.Parts.{Value, values}
+use Rattle.unix_path.specs.Parts.{values}
 use Rattle.unix_path.specs.Parents.{parent_of, ancestors_of}
 use Rattle.unix_path.specs.Names.{file_name_of, stem_of, extension_of}
 use Rattle.unix_path.specs.Prefixes.{stripped_of}
