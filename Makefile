@@ -30,7 +30,7 @@ help:
 
 # Proofs are told on standard error, so that standard output holds the answers alone.
 $(PROGRAM): $(SOURCES)
-	@tools/prove pathtool >&2
+	@tools/build pathtool >&2
 
 run: $(PROGRAM)
 	@$(PROGRAM)

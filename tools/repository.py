@@ -1,18 +1,38 @@
 """The repository's crates, for the scripts beside this file."""
+import collections
 import os
 
 ROOT = os.path.dirname(os.path.dirname(os.path.abspath(__file__)))
 
+# What a line of crates.txt says of a crate: what kind it is, and the libraries that it uses.
+Line = collections.namedtuple("Line", "kind libraries")
 
-def read_crates():
-    """The crates of crates.txt, each with those of them that it stands on."""
-    below = {}
+
+def read_lines():
+    """The lines of crates.txt, by crate."""
+    lines = {}
     with open(f"{ROOT}/crates.txt", encoding="utf-8") as file:
         for line in file:
             name, colon, libraries = line.partition("#")[0].partition(":")
             if colon:
-                below[name.split()[0]] = libraries.split()
-    return {name: [it for it in libraries if it in below] for name, libraries in below.items()}
+                crate, *kind = name.split()
+                lines[crate] = Line(kind, libraries.split())
+    return lines
+
+
+def read_crates():
+    """The crates of crates.txt, each with those of them that it stands on."""
+    lines = read_lines()
+    return {name: [it for it in line.libraries if it in lines] for name, line in lines.items()}
+
+
+def is_program(crate):
+    return os.path.exists(f"{ROOT}/crates/{crate}/src/main.rt")
+
+
+def built_of(crate):
+    """Where a program, or a library for C, stands once it is built."""
+    return f"crates/{crate}/out/{crate if is_program(crate) else f'lib{crate}.a'}"
 
 
 def in_order(below, names):

@@ -1,0 +1,23 @@
+"""The Rattle toolchain, for the scripts beside this file."""
+import os
+import shutil
+import subprocess
+import sys
+
+from repository import ROOT
+
+
+def check_toolchain():
+    """Stops where there is no toolchain, and warns of one that the proofs were not tried with."""
+    with open(f"{ROOT}/rattle-toolchain", encoding="utf-8") as file:
+        wanted = file.read().strip()
+    if not shutil.which("rt"):
+        sys.exit(f"rt, the command of the Rattle toolchain, is not on the path.\n"
+                 f"The crates were proved with this version of it: {wanted}")
+    found = subprocess.run(["rt", "version"], stdout=subprocess.PIPE, text=True).stdout.strip()
+    if found != wanted:
+        print(f"the toolchain is {found}; the crates were proved with {wanted}", file=sys.stderr)
+
+
+def toolchain_folder():
+    return os.path.dirname(os.path.dirname(os.path.realpath(shutil.which("rt"))))
