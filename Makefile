@@ -9,8 +9,8 @@ SOURCES := $(shell find crates.txt crates -name out -prune -o \
 
 help:
 	@echo 'make run      runs pathtool on standard input; proves and builds it first, which'
-	@echo '              takes six to nine minutes on four cores, later only after a change'
-	@echo 'make check    proves all crates, and then only what changed; some six minutes'
+	@echo '              takes some five minutes on four cores, later only after a change'
+	@echo 'make check    proves all crates, and then only what changed; some ten minutes'
 	@echo 'make test     the gate: every proof, test, wrong body and vector, from nothing;'
 	@echo '              docs/PROOFS.md says how long that takes'
 	@echo 'make bench    times the calls and pathtool beside Rust, some three minutes; builds first.'
@@ -20,7 +20,8 @@ help:
 	@echo '              for a million; builds first. It needs rustc too; prints its seed, as in'
 	@echo '              make differential LINES=1000000 SEED=20'
 	@echo 'make ends     runs pathtool with ends that fail, little memory and large inputs'
-	@echo 'make lib      builds the library for C, proved first, and says where it stands'
+	@echo 'make lib      builds the library for C, proved first, and says where it stands; some'
+	@echo '              five minutes where nothing is proved yet'
 	@echo 'make test-faces  tries the calls from C and from Rust; builds the library first.'
 	@echo '              It needs cc, and cargo for those from Rust'
 	@echo 'make install  puts the program and its manual page, and the library with its header'

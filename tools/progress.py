@@ -9,7 +9,7 @@ import time
 
 SO_FAR = re.compile(r"so far: (\d+) of (\d+) functions checked")
 PROVED = re.compile(r"logic=proved functions=(\d+)")
-NOISE = re.compile(r"(statements|axioms|logic|crate|only=|checked) ?")
+NOISE = re.compile(r"(statements|axioms|logic|crate|only=|checked) ?|.*: proved$")
 
 
 class Progress:
