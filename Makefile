@@ -9,7 +9,7 @@ SOURCES := $(shell find crates.txt crates -name out -prune -o \
 
 help:
 	@echo 'make run      runs pathtool on standard input; proves and builds it first, which'
-	@echo '              takes some five minutes on four cores, later only after a change'
+	@echo '              takes five to seven minutes on four cores, later only after a change'
 	@echo 'make check    proves all crates, and then only what changed; some ten minutes'
 	@echo 'make test     the gate: every proof, test, wrong body and vector, from nothing;'
 	@echo '              docs/PROOFS.md says how long that takes'

@@ -1,6 +1,5 @@
 -- What is left of two lists behind what both begin with, taken one by one.
-use Rattle.std.proofs.Common.{◌≡◌, true, false, List, [], ◌∷◌, drop, refl, sym, ap, ap₂, subst}
-use Rattle.std.proofs.Common.{◌∙◌}
+use Rattle.std.proofs.Common.{◌≡◌, true, false, List, ◌∷◌, drop, sym, ap, ap₂, subst, ◌∙◌}
 use Rattle.unix_path.specs.Parts.{Value}
 use Rattle.unix_path.specs.Order.{same_value}
 use Rattle.path_within.proofs.SharedLemmas.{drop-more, shared, shared-no, shared-yes}
@@ -14,9 +13,6 @@ pub record SkipsOn (v w left onward : List Value) : Type 0 where
 pub record Skipped (v w left onward : List Value) : Type 0 where
   pub first : left ≡ drop (shared v w) v
   pub second : onward ≡ drop (shared v w) w
-
-pub skips_first : (v w : List Value) → SkipsOn v w v w
-skips_first v w = record { first = refl; second = refl }
 
 skips_cons : (v w : List Value) (x y : Value) (more rest : List Value)
     → SkipsOn v w (x ∷ more) (y ∷ rest) → same_value x y ≡ true → SkipsOn v w more rest
@@ -39,19 +35,6 @@ skipped_none v w left onward h e = record {
   first = sym (ap (λ k. drop k left) e) ∙ h.first;
   second = sym (ap (λ k. drop k onward) e) ∙ h.second;
 }
-
-shared-nil : (vs : List Value) → shared vs [] ≡ 0
-shared-nil [] = refl
-shared-nil (v ∷ vs) = refl
-
-pub skipped_left : (v w left onward : List Value) → SkipsOn v w left onward → left ≡ []
-    → Skipped v w left onward
-skipped_left v w left onward h e = skipped_none v w left onward h (ap (λ l. shared l onward) e)
-
-pub skipped_onward : (v w left onward : List Value) → SkipsOn v w left onward → onward ≡ []
-    → Skipped v w left onward
-skipped_onward v w left onward h e =
-    skipped_none v w left onward h (ap (shared left) e ∙ shared-nil left)
 
 pub skipped_differ : (v w left onward : List Value) (x y : Value) (more rest : List Value)
     → SkipsOn v w left onward → left ≡ x ∷ more → onward ≡ y ∷ rest → same_value x y ≡ false

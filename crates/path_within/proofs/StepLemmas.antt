@@ -1,9 +1,9 @@
 -- The parts of a path, kept one after the other.
-use Rattle.std.proofs.Common.{◌≡◌, List, [], ◌∷◌, ℕ, refl, sym, ap, ap₂, subst, ◌∙◌}
+use Rattle.std.proofs.Common.{◌≡◌, List, [], ℕ, refl, sym, ap, ap₂, subst, ◌∙◌}
 use Rattle.unix_path.specs.Joins.{join_of}
 use Rattle.unix_path.specs.Parts.{Value, values}
-use Rattle.path_within.specs.Resolved.{keep, kept_of, up_from, resolved_of, resolved_bytes_of}
-use Rattle.path_within.specs.Steps.{AllOne, IsOne, Spells}
+use Rattle.path_within.specs.Resolved.{kept_of, resolved_of, resolved_bytes_of}
+use Rattle.path_within.specs.Steps.{AllOne, Spells}
 use Rattle.path_within.proofs.ResolvedLemmas.{kept_of-join}
 use Rattle.path_within.proofs.SharedLemmas.{ups_of}
 use Rattle.path_within.proofs.SpelledLemmas.{path_of-spelled, values_one}
@@ -19,23 +19,6 @@ pub keeps_first : {ks left : List Value} {s : List ℕ} (path : List ℕ) → le
     → Spells s ks → KeepsOn ks s left (values path)
 keeps_first {ks} {left} {s} path e h = subst (λ vs. KeepsOn ks s vs (values path)) (sym e)
     (record { so_far = ks; spells = h; left_one = values_one path; onward = refl })
-
-pub keeps_next : {ks : List Value} {s t : List ℕ} {left all : List Value} (v : Value)
-    (more : List Value) → KeepsOn ks s left all → left ≡ v ∷ more
-    → ((js : List Value) → Spells s js → IsOne v → Spells t (keep js v))
-    → KeepsOn ks t more all
-keeps_next v more h e step =
-    let one : AllOne (v ∷ more) = subst AllOne e h.left_one in record {
-      so_far = keep h.so_far v;
-      spells = step h.so_far h.spells one.0;
-      left_one = one.1;
-      onward = sym (ap (kept_of h.so_far) e) ∙ h.onward;
-    }
-
-pub keeps_last : {ks : List Value} {s : List ℕ} {left all : List Value}
-    → KeepsOn ks s left all → left ≡ [] → Spells s (kept_of ks all)
-keeps_last {ks} {s} {left} {all} h e =
-    subst (Spells s) (sym (ap (kept_of h.so_far) e) ∙ h.onward) h.spells
 
 pub spells_nothing : {s : List ℕ} → s ≡ [] → Spells s []
 spells_nothing e = record { kept = tt; one = tt; is = e }
@@ -58,22 +41,3 @@ pub record KeepsUps (ks : List Value) (s : List ℕ) (left all : List Value) : T
   pub so_far : List Value
   pub spells : Spells s so_far
   pub onward : kept_of so_far (ups_of left) ≡ kept_of ks (ups_of all)
-
-pub ups_first : {ks left : List Value} {s : List ℕ} (all : List Value) → left ≡ all → Spells s ks
-    → KeepsUps ks s left all
-ups_first {ks} all e h =
-    record { so_far = ks; spells = h; onward = ap (λ vs. kept_of ks (ups_of vs)) e }
-
-pub ups_next : {ks : List Value} {s t : List ℕ} {left all : List Value} (v : Value)
-    (more : List Value) → KeepsUps ks s left all → left ≡ v ∷ more
-    → ((js : List Value) → Spells s js → Spells t (up_from js)) → KeepsUps ks t more all
-ups_next v more h e step = record {
-  so_far = up_from h.so_far;
-  spells = step h.so_far h.spells;
-  onward = sym (ap (λ vs. kept_of h.so_far (ups_of vs)) e) ∙ h.onward;
-}
-
-pub ups_last : {ks : List Value} {s : List ℕ} {left all : List Value}
-    → KeepsUps ks s left all → left ≡ [] → Spells s (kept_of ks (ups_of all))
-ups_last {ks} {s} h e =
-    subst (Spells s) (sym (ap (λ vs. kept_of h.so_far (ups_of vs)) e) ∙ h.onward) h.spells

@@ -9,7 +9,7 @@ use Rattle.std.proofs.lemmas.Slice.Eq.{bytes_eq-Decides}
 use Rattle.unix_path.specs.Parts.{Value, cur_dir, parts}
 use Rattle.unix_path.specs.Rest.{rest}
 use Rattle.unix_path.specs.Steps.{EndsInPart, IsLastStart}
-use Rattle.unix_path.specs.Steps.{TakesLast, ends_with_parent, is_idle, is_trailing}
+use Rattle.unix_path.specs.Steps.{TakesLast, ends_with_parent, is_trailing}
 use Rattle.unix_path.proofs.CaseLemmas.{by_test}
 use Rattle.unix_path.proofs.LastPieceLemmas.{last_name}
 use Rattle.unix_path.proofs.SpanLemmas.{rest-trimmed}
@@ -21,9 +21,6 @@ use Rattle.unix_path_c.specs.Steps.{EndsInName}
 pub record IsPlain (s : List ℕ) (i : ℕ) : Type 0 where
   pub no_slash : eqb (get_or s i 0) 47 ≡ false
   pub no_dot : eqb (get_or s i 0) 46 ≡ false
-
-pub is_idle-plain : (s : List ℕ) (i : ℕ) → IsPlain s i → is_idle s i ≡ false
-is_idle-plain s i h = rw (h.no_slash, h.no_dot) refl
 
 pub is_trailing-plain : (s : List ℕ) (i : ℕ) → IsPlain s i → is_trailing s i ≡ false
 is_trailing-plain s i h = by_test (ltb 0 i)
