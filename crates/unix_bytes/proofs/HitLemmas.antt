@@ -12,6 +12,7 @@ use Rattle.std.proofs.lemmas.List.{get_or-map, get_or-take, length-map}
 use Rattle.std.proofs.lemmas.List.Sums.{position_or_len_is}
 use Rattle.std.proofs.lemmas.Nat.{div_below, le-div, leading_length}
 use Rattle.std.proofs.lemmas.Simd.{bit_mask_l, first_set_mask_l, mask_l-lt}
+use Rattle.std.proofs.lemmas.Simd.{run_in_chunk_fails, run_in_chunk_stops}
 use Rattle.unix_bytes.specs.Lanes.{hit_mask}
 
 pub by_test : {G : Type 0} (t : Bool) → (t ≡ true → G) → (t ≡ false → G) → G
@@ -37,6 +38,28 @@ position_or_len-hit byte xs l e =
 
 pub length-window : (at : ℕ) (s : List ℕ) → at + 16 ≤ length s → length (take 16 (drop at s)) ≡ 16
 length-window at s l = length-take-le 16 (drop at s) (omega (arith, length-drop at s))
+
+-- where none stands before `at`, none stands before the first of a window that begins there or
+-- further in front
+pub none_before : (byte : ℕ) (s : List ℕ) (at from n : ℕ) → from ≤ at → from + 16 ≤ length s
+    → n ≡ position_or_len (λ b. b == byte) (take 16 (drop from s))
+    → ((k : ℕ) → k < at → (get_or s k 0 == byte) ≡ false)
+    → (k : ℕ) → k < from + n → (get_or s k 0 == byte) ≡ false
+none_before byte s at from n order room is none k l = by_test (ltb k at)
+    (λ e. none k (ltb-true k at e))
+    (λ e. run_in_chunk_fails (λ b. b == byte) s from 16 n 0 room is k
+    (omega (arith, ltb-false k at e)) l)
+
+-- so that one is the first of all
+pub first_after : (byte : ℕ) (s : List ℕ) (at from n : ℕ) → from ≤ at → from + 16 ≤ length s
+    → n ≡ position_or_len (λ b. b == byte) (take 16 (drop from s)) → n ≤ 16
+    → ((k : ℕ) → k < at → (get_or s k 0 == byte) ≡ false) → (from + n < length s → n < 16)
+    → from + n ≡ position_or_len (λ b. b == byte) s
+first_after byte s at from n order room is few none stops =
+    let p = λ (b : ℕ). b == byte in
+    sym (position_or_len_is p s (from + n) 0 (omega arith)
+    (none_before byte s at from n order room is none)
+    (λ l. run_in_chunk_stops p s from 16 n 0 room is (stops l)))
 
 -- a number below 2^k has no bit at k or above
 no_bit : (a k m : ℕ) → a < 2 ^ m → m ≤ k → a / 2 ^ k ≡ 0

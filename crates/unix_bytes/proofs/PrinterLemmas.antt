@@ -72,13 +72,18 @@ pushed_piece items piece s t n e p =
 pub piece_is_utf8 : (s piece : List ℕ) (n : ℕ) → Shows s [] n piece → IsUtf8 piece
 piece_is_utf8 s piece n p = IsUtf8-from_IsText piece (p.text IsText-nil)
 
--- where nothing is left, a piece is the whole
-pub last_piece : (s piece t : List ℕ) (n : ℕ) → t ≡ drop n s → length t ≡ 0 → Shows s [] n piece
-    → piece ≡ lossy_of s
-last_piece s piece t n e z p =
-    sym (append-nil piece)
-    ∙ ap (λ u. piece ++ u) (sym (ap lossy_of (sym e ∙ nil_from_length t z) ∙ lossy_of-nil))
-    ∙ p.lossy
+-- where nothing is left, what was written is the whole
+pub written_whole : (items s whole : List ℕ) → length s ≡ 0 → items ++ lossy_of s ≡ whole
+    → items ≡ whole
+written_whole items s whole z e =
+    sym (append-nil items)
+    ∙ ap (λ u. items ++ u) (sym (ap lossy_of (nil_from_length s z) ∙ lossy_of-nil)) ∙ e
+
+-- so it is behind the last piece
+pub written_last : (items piece s t whole : List ℕ) (n : ℕ) → t ≡ drop n s → length t ≡ 0
+    → Shows s [] n piece → items ++ lossy_of s ≡ whole → items ++ piece ≡ whole
+written_last items piece s t whole n cut z p e =
+    written_whole (items ++ piece) t whole z (pushed_piece items piece s t n cut p ∙ e)
 
 -- of the bytes that were written at a place, the first
 pub takes_fewer : (out old s : List ℕ) (at n k : ℕ) → k ≤ n → at ≤ length old

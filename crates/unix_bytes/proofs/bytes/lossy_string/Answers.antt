@@ -6,27 +6,13 @@ use Rattle.unix_bytes.specs.Chunks.{replacement_for}
 use Rattle.unix_bytes.proofs.PushLemmas.{pushed_is_utf8}
 use Rattle.unix_bytes.proofs.PrinterLemmas.{pushed_piece}
 use Rattle.unix_bytes.proofs.bytes.lossy_string.Goals as goal
+use Rattle.unix_bytes.proofs.bytes.lossy_string.Goals.{In_ok-push_lossy}
 
-pub from_utf8_unchecked-requires : goal.from_utf8_unchecked-requires
-from_utf8_unchecked-requires c =
+-- what was pushed in all
+pushed : (c : In_ok-push_lossy) → c.push_lossy.new.bytes.items
+    ≡ (c.args.text.now ++ replacement_for c.args.broken.now) ++ lossy_of c.args.rest.now
+pushed c =
     let rest = c.args.rest.now in
-    rw (
-      c.in_ok-push_lossy.ensures,
-      c.in_ok-extend_from_slice-2.ensures.items,
-      c.in_ok-push_broken.ensures,
-      c.in_ok-extend_from_slice.ensures.items,
-      c.in_ok-bytes.ensures.items,
-      c.as_bytes.ensures.value,
-    )
-    (subst IsUtf8 (sym (pushed_piece _ _ rest _ _ (take_rest rest c.show_first-read.result.0)
-    c.show_first-read.ensures.lossy)) (pushed_is_utf8 c.args.text.now c.args.broken.now rest
-    c.utf8.text))
-
-pub returns : goal.returns
-returns c =
-    let rest = c.args.rest.now in
-    let whole = (c.args.text.now ++ replacement_for c.args.broken.now) ++ lossy_of rest in
-    let pushed : c.push_lossy.new.bytes.items ≡ whole =
     rw (
       c.in_ok-push_lossy.ensures,
       c.in_ok-extend_from_slice-2.ensures.items,
@@ -36,5 +22,15 @@ returns c =
       c.as_bytes.ensures.value,
     )
     (pushed_piece _ _ rest _ _ (take_rest rest c.show_first-read.result.0)
-    c.show_first-read.ensures.lossy) in
-    ap (λ v. v.items) c.from_utf8_unchecked.ensures.value ∙ pushed
+    c.show_first-read.ensures.lossy)
+
+pub from_utf8_unchecked-requires : goal.from_utf8_unchecked-requires
+from_utf8_unchecked-requires c =
+    let d = (goal.at.from_utf8_unchecked-requires c).In_ok-push_lossy in
+    subst IsUtf8 (sym (pushed d))
+    (pushed_is_utf8 c.args.text.now c.args.broken.now c.args.rest.now c.utf8.text)
+
+pub returns : goal.returns
+returns c =
+    ap (λ v. v.items) c.from_utf8_unchecked.ensures.value
+    ∙ pushed (goal.at.returns c).In_ok-push_lossy

@@ -1,9 +1,7 @@
-use Rattle.std.proofs.Common.{◌++◌, length, sym, ap, ◌∙◌, append-nil, arith, length-drop}
+use Rattle.std.proofs.Common.{length, sym, ap, ◌∙◌, arith, length-drop}
 use Rattle.std.proofs.lemmas.Bool.{eqb-true}
-use Rattle.std.proofs.lemmas.List.{nil_from_length, take_rest}
-use Rattle.unix_bytes.specs.Lossy.{lossy_of}
-use Rattle.unix_bytes.proofs.LossyLemmas.{lossy_of-nil}
-use Rattle.unix_bytes.proofs.PrinterLemmas.{pushed_piece}
+use Rattle.std.proofs.lemmas.List.{take_rest}
+use Rattle.unix_bytes.proofs.PrinterLemmas.{pushed_piece, written_whole}
 use Rattle.unix_bytes.proofs.PushLemmas.{pushed_more, split_smaller}
 use Rattle.unix_bytes.proofs.bytes.push_lossy.Goals as goal
 
@@ -33,9 +31,5 @@ loop-left-preserved c =
 
 pub returns : goal.returns
 returns c =
-    let items = c.loop-left.bytes.items in
-    let left = c.loop-left.left.now in
-    let empty = eqb-true _ 0 (sym c.is_empty.ensures ∙ c.loop-left-test.false) in
-    let none = nil_from_length left empty in
-    sym (append-nil items) ∙ ap (λ t. items ++ t) (sym lossy_of-nil)
-    ∙ ap (λ t. items ++ lossy_of t) (sym none) ∙ c.loop-left.invariant
+    let none = eqb-true _ 0 (sym c.is_empty.ensures ∙ c.loop-left-test.false) in
+    written_whole c.loop-left.bytes.items c.loop-left.left.now _ none c.loop-left.invariant

@@ -1,12 +1,12 @@
-use Rattle.std.proofs.Common.{◌≡◌, ◌++◌, true, refl, sym, ap, ◌∙◌, append_assoc, append-nil, arith}
+use Rattle.std.proofs.Common.{◌≡◌, ◌++◌, true, refl, sym, ap, ◌∙◌, append_assoc, arith}
 use Rattle.std.proofs.Common.{ℕ, List, length, length-drop, take}
 use Rattle.std.proofs.lemmas.Bool.{eqb-true}
-use Rattle.std.proofs.lemmas.List.{nil_from_length, take_rest}
+use Rattle.std.proofs.lemmas.List.{take_rest}
 use Rattle.unix_bytes.specs.Lossy.{lossy_of}
 use Rattle.unix_bytes.specs.Chunks.{replacement_for}
-use Rattle.unix_bytes.proofs.LossyLemmas.{lossy_of-nil}
 use Rattle.unix_bytes.proofs.PushLemmas.{split_smaller, lossy_of-split}
-use Rattle.unix_bytes.proofs.PrinterLemmas.{pushed_piece, piece_is_utf8, last_piece}
+use Rattle.unix_bytes.proofs.PrinterLemmas.{pushed_piece, piece_is_utf8}
+use Rattle.unix_bytes.proofs.PrinterLemmas.{written_last, written_whole}
 use Rattle.unix_bytes.proofs.WriteLemmas.{written_append, written_same, styled_append, styled_same}
 use Rattle.unix_bytes.proofs.lossy.write_lossy.Goals as goal
 
@@ -62,10 +62,10 @@ returns-then-is_empty-clause-writes g c = λ p q.
     let took = g.W.Write.write_str_gives in
     let left = c.loop-left.left.now in
     let none = eqb-true _ 0 (sym c.is_empty-in-loop-left.ensures ∙ c.if-is_empty.true) in
-    let last = last_piece left _ _ _ (take_rest left c.show_first-read.result.0) none
-    c.show_first-read.ensures.lossy in
     let (bs, h, e) = c.loop-left.invariant.plain p in
-    written_same took _ _ _ _ (ap (λ t. bs ++ t) last ∙ e)
+    written_same took _ _ _ _
+    (written_last bs _ left _ _ _ (take_rest left c.show_first-read.result.0) none
+    c.show_first-read.ensures.lossy e)
     (written_append took _ bs _ _ _ h (c.in_ok-write_text.ensures.writes h.plain (refl {a = true})))
 
 pub returns-then-is_empty-clause-styled : goal.returns-then-is_empty-clause-styled
@@ -73,24 +73,20 @@ returns-then-is_empty-clause-styled g c = λ p q.
     let took = g.W.Write.write_str_gives in
     let left = c.loop-left.left.now in
     let none = eqb-true _ 0 (sym c.is_empty-in-loop-left.ensures ∙ c.if-is_empty.true) in
-    let last = last_piece left _ _ _ (take_rest left c.show_first-read.result.0) none
-    c.show_first-read.ensures.lossy in
     let (bs, h, e) = c.loop-left.invariant.styled p in
-    styled_same took _ _ _ _ (ap (λ t. bs ++ t) last ∙ e)
+    styled_same took _ _ _ _
+    (written_last bs _ left _ _ _ (take_rest left c.show_first-read.result.0) none
+    c.show_first-read.ensures.lossy e)
     (styled_append took _ bs _ _ _ h (c.in_ok-write_text.ensures.styled h.flush (refl {a = true})))
 
 pub returns-clause-writes : goal.returns-clause-writes
 returns-clause-writes g c = λ p q.
-    let empty = eqb-true _ 0 (sym c.is_empty.ensures ∙ c.loop-left-test.false) in
-    let none = nil_from_length c.loop-left.left.now empty in
+    let none = eqb-true _ 0 (sym c.is_empty.ensures ∙ c.loop-left-test.false) in
     let (bs, h, e) = c.loop-left.invariant.plain p in
-    written_same g.W.Write.write_str_gives _ _ _ _
-    (sym (append-nil bs) ∙ ap (λ t. bs ++ t) (sym (ap lossy_of none ∙ lossy_of-nil)) ∙ e) h
+    written_same g.W.Write.write_str_gives _ _ _ _ (written_whole bs c.loop-left.left.now _ none e) h
 
 pub returns-clause-styled : goal.returns-clause-styled
 returns-clause-styled g c = λ p q.
-    let empty = eqb-true _ 0 (sym c.is_empty.ensures ∙ c.loop-left-test.false) in
-    let none = nil_from_length c.loop-left.left.now empty in
+    let none = eqb-true _ 0 (sym c.is_empty.ensures ∙ c.loop-left-test.false) in
     let (bs, h, e) = c.loop-left.invariant.styled p in
-    styled_same g.W.Write.write_str_gives _ _ _ _
-    (sym (append-nil bs) ∙ ap (λ t. bs ++ t) (sym (ap lossy_of none ∙ lossy_of-nil)) ∙ e) h
+    styled_same g.W.Write.write_str_gives _ _ _ _ (written_whole bs c.loop-left.left.now _ none e) h
