@@ -13,7 +13,7 @@ use Rattle.unix_path.specs.Parts.{Value, RootDir, CurDir, ParentDir, Normal, par
 use Rattle.unix_path.specs.Parts.{cur_dir, parent_dir, is_slash}
 use Rattle.unix_path.specs.Steps.{is_idle, first_value, EndsInPart, parts_end}
 use Rattle.unix_path.specs.Rest.{rest}
-use Rattle.unix_path.specs.Steps.{HasLast, StepsFirst, TakesFirst, TakesLast}
+use Rattle.unix_path.specs.Steps.{HasLast, IsWalk, StepsFirst, TakesFirst, TakesLast}
 use Rattle.unix_path.proofs.CaseLemmas.{by_test, take-suc_cons}
 use Rattle.unix_path.proofs.IdleLemmas.{first_piece_empty}
 use Rattle.unix_path.proofs.ParentLemmas.{rest-whole_last, values-whole}
@@ -104,6 +104,14 @@ steps_forward s a b n v in_order in_range ends step =
           (subst (λ u. 0 < length u → is_idle u 0 ≡ false) is step.busy);
     }
 
+-- so it is in what is left of a walk
+pub walks_forward : {t : List ℕ} (c : Components) (n : ℕ) (v : Value) → t ≡ cursor_rest c
+    → StepsFirst t n v → StepsForward c.source.now c.front c.back n v
+unfolding cursor_rest IsWalk
+walks_forward c n v e step =
+    steps_forward c.source.now c.front c.back n v c.fields.in_order c.fields.in_range c.fields.ends
+    (subst (λ t. StepsFirst t n v) e step)
+
 -- the last part is taken: what is left ends n bytes after its first
 pub record StepsBack (s : List ℕ) (a b n : ℕ) (v : Value) : Type 0 where
   pub in_order : a + n ≤ b
@@ -160,6 +168,14 @@ steps_back s a b n v in_order in_range l takes =
       takes = moved;
       lead = lead_left (slice_range s a b) (slice_range s a (a + n)) v n moved before;
     }
+
+-- so it is in what is left of a walk
+pub walks_back : {t : List ℕ} (c : Components) (n : ℕ) (v : Value) → t ≡ cursor_rest c
+    → n ≤ length t → TakesLast t (take n t) v → StepsBack c.source.now c.front c.back n v
+unfolding cursor_rest IsWalk
+walks_back c n v e l takes =
+    steps_back c.source.now c.front c.back n v c.fields.in_order c.fields.in_range
+    (subst (λ t. n ≤ length t) e l) (subst (λ t. TakesLast t (take n t) v) e takes)
 
 -- the last part of s, by its fresh walk u and by what is left of that
 pub has_last : {u w : List ℕ} (s : List ℕ) (before end : ℕ) (v : Value) → u ≡ rest s 0 0

@@ -6,7 +6,7 @@ use Rattle.unix_path.specs.Rest.{rest}
 use Rattle.unix_path.specs.Steps.{IsWalk}
 use Rattle.unix_path.specs.Cursor.{cursor_rest, cursor_source}
 use Rattle.unix_path.specs.Steps.{is_idle}
-use Rattle.unix_path.proofs.OffsetLemmas.{steps_back}
+use Rattle.unix_path.proofs.OffsetLemmas.{walks_back}
 use Rattle.unix_path.proofs.PartLemmas.{values-nil, rest-nil}
 use Rattle.unix_path.proofs.SourceLemmas.{LiesIn-itself}
 use Rattle.unix_path.proofs.cursor.components.Components.take_last.Goals.{then-self, else-self}
@@ -28,9 +28,8 @@ unfolding cursor_rest IsWalk
 invariant_of-self c =
     let s = c.args.self.now in
     let len = c.last_step-len.result.0 in
-    let step = rw c.as_path.ensures.bytes at c.last_step-len.ensures in
-    let back = steps_back s.source.now s.front s.back len _ s.fields.in_order
-    s.fields.in_range step.in_range step.takes in
+    let step = c.last_step-len.ensures in
+    let back = walks_back s len _ c.as_path.ensures.bytes step.in_range step.takes in
     let was = sym s.fields.lead_left_is in
     let left : c.if-self.self ≡ is_idle (slice_range s.source.now s.front (s.front + len)) 0 =
     elim c.if-self.branch [
@@ -52,9 +51,8 @@ pub returns-clause-steps : goal.returns-clause-steps
 unfolding cursor_rest IsWalk
 returns-clause-steps c =
     let s = c.args.self.now in
-    let step = rw c.as_path.ensures.bytes at c.last_step-len.ensures in
-    let back = steps_back s.source.now s.front s.back c.last_step-len.result.0 _ s.fields.in_order
-    s.fields.in_range step.in_range step.takes in
+    let step = c.last_step-len.ensures in
+    let back = walks_back s _ _ c.as_path.ensures.bytes step.in_range step.takes in
     record {
       item_is = back.takes.value;
       rest_is = sym back.takes.rest;

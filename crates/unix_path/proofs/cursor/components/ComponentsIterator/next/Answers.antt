@@ -4,7 +4,7 @@ use Rattle.unix_path.specs.Parts.{values}
 use Rattle.unix_path.specs.Rest.{rest}
 use Rattle.unix_path.specs.Steps.{IsWalk}
 use Rattle.unix_path.specs.Cursor.{cursor_rest, cursor_source}
-use Rattle.unix_path.proofs.OffsetLemmas.{steps_forward}
+use Rattle.unix_path.proofs.OffsetLemmas.{walks_forward}
 use Rattle.unix_path.proofs.PartLemmas.{values-nil, rest-nil}
 use Rattle.unix_path.proofs.SourceLemmas.{LiesIn-itself}
 use Rattle.unix_path.proofs.cursor.components.ComponentsIterator.next.Goals as goal
@@ -24,9 +24,7 @@ pub invariant_of-self : goal.invariant_of-self
 unfolding cursor_rest IsWalk
 invariant_of-self c =
     let s = c.args.self.now in
-    let step = rw c.as_path.ensures.bytes at c.first_step-len.ensures in
-    let next = steps_forward s.source.now s.front s.back c.first_step-len.result.0 _
-    s.fields.in_order s.fields.in_range s.fields.ends step in
+    let next = walks_forward s _ _ c.as_path.ensures.bytes c.first_step-len.ensures in
     record {
       fields = record {
         in_order = next.in_order;
@@ -41,9 +39,7 @@ pub returns-clause-steps : goal.returns-clause-steps
 unfolding cursor_rest IsWalk
 returns-clause-steps c =
     let s = c.args.self.now in
-    let step = rw c.as_path.ensures.bytes at c.first_step-len.ensures in
-    let next = steps_forward s.source.now s.front s.back c.first_step-len.result.0 _
-    s.fields.in_order s.fields.in_range s.fields.ends step in
+    let next = walks_forward s _ _ c.as_path.ensures.bytes c.first_step-len.ensures in
     record {
       item_is = next.takes.value;
       rest_is = sym next.takes.rest;
@@ -53,10 +49,7 @@ returns-clause-steps c =
 pub returns-clause-goes : goal.returns-clause-goes
 unfolding cursor_rest IsWalk
 returns-clause-goes c =
-    let s = c.args.self.now in
-    let step = rw c.as_path.ensures.bytes at c.first_step-len.ensures in
-    let next = steps_forward s.source.now s.front s.back c.first_step-len.result.0 _
-    s.fields.in_order s.fields.in_range s.fields.ends step in
+    let next = walks_forward c.args.self.now _ _ c.as_path.ensures.bytes c.first_step-len.ensures in
     record {
       on = λ _. (tt, tt, omega (arith, ap length next.takes.value));
       keeps = tt;
