@@ -1,4 +1,4 @@
-use Rattle.std.proofs.Common.{[], length, ap, ◌∙◌, arith}
+use Rattle.std.proofs.Common.{[], ◌+◌, ◌≤◌, length, ap, ◌∙◌, arith}
 use Rattle.unix_path.specs.Cursor.{cursor_values}
 use Rattle.unix_path.specs.Parts.{value_bytes}
 use Rattle.unix_path.specs.Steps.{gap_bytes}
@@ -7,6 +7,22 @@ use Rattle.unix_path_c.specs.Spelled.{gap_after, spelled_behind}
 use Rattle.unix_path_c.proofs.SpelledLemmas.{spelled_behind-fits, spelled_behind-values}
 use Rattle.unix_path_c.proofs.WritingLemmas.{length-both}
 use Rattle.unix_path_c.proofs.canonical.spelling_len.Goals as goal
+use Rattle.unix_path_c.proofs.canonical.spelling_len.Goals.{After-len}
+
+-- what is counted, and one part more, is never more than the path
+fits : (c : After-len)
+    → c.loop-part.len + (c.mark_len.result + c.len.result) ≤ length c.args.path.bytes.now
+fits c =
+    omega (
+      arith,
+      spelled_behind-fits c.args.path.bytes.now (gap_bytes c.loop-part.gap)
+          (value_of c.in-Some.part) (cursor_values c.next.new.self)
+          c.loop-part.len c.loop-part.invariant.2
+          c.in-Some.ensures.steps.item_is,
+      c.len.ensures,
+      c.mark_len.ensures,
+      ap length c.as_unix_str.ensures,
+    )
 
 pub loop-part-init : goal.loop-part-init
 loop-part-init c = (
@@ -22,32 +38,11 @@ loop-part-init c = (
 )
 
 pub overflow_add-len : goal.overflow_add-len
-overflow_add-len c =
-    omega (
-      arith,
-      spelled_behind-fits c.args.path.bytes.now (gap_bytes c.loop-part.gap)
-          (value_of c.in-Some.part) (cursor_values c.next.new.self)
-          c.loop-part.len c.loop-part.invariant.2
-          c.in-Some.ensures.steps.item_is,
-      c.ranges.path.0,
-      c.len.ensures,
-      c.mark_len.ensures,
-      ap length c.as_unix_str.ensures,
-    )
+overflow_add-len c = omega (arith, fits (goal.at.overflow_add-len c).After-len, c.ranges.path.0)
 
 pub overflow_add-len-in-loop-part : goal.overflow_add-len-in-loop-part
 overflow_add-len-in-loop-part c =
-    omega (
-      arith,
-      spelled_behind-fits c.args.path.bytes.now (gap_bytes c.loop-part.gap)
-          (value_of c.in-Some.part) (cursor_values c.next.new.self)
-          c.loop-part.len c.loop-part.invariant.2
-          c.in-Some.ensures.steps.item_is,
-      c.ranges.path.0,
-      c.len.ensures,
-      c.mark_len.ensures,
-      ap length c.as_unix_str.ensures,
-    )
+    omega (arith, fits (goal.at.overflow_add-len-in-loop-part c).After-len, c.ranges.path.0)
 
 pub loop-part-preserved : goal.loop-part-preserved
 loop-part-preserved c =

@@ -1,9 +1,19 @@
 use Rattle.std.proofs.Common.{Some, ap, ◌∙◌}
 use Rattle.unix_path.proofs.NameEndLemmas.{name_end_of-none, name_end_of-some}
 use Rattle.unix_path_c.proofs.PlaceLemmas.{name_ends, name_start_of-none, name_start_of-some}
-use Rattle.unix_path_c.proofs.StretchLemmas.{place_of}
+use Rattle.unix_path_c.proofs.StretchLemmas.{IsPlaceOf, place_of}
 use Rattle.unix_path_c.specs.declared.places.Place.{Place}
 use Rattle.unix_path_c.proofs.places.name_place.Goals as goal
+use Rattle.unix_path_c.proofs.places.name_place.Goals.{After-place_at_end}
+
+made : (c : After-place_at_end) → IsPlaceOf c.args.path.bytes.now c.last_end.result
+    c.in-Some.name.bytes.now c.place_at_end.result
+made c =
+    let s = c.args.path.bytes.now in
+    let name = c.in-Some.name.bytes.now in
+    let end = c.last_end.result in
+    place_of s name end c.place_at_end.result
+    (name_ends s name end c.in-Some.ensures c.last_end.ensures) c.place_at_end.ensures
 
 pub returns-in_default-clause-start : goal.returns-in_default-clause-start
 returns-in_default-clause-start c =
@@ -18,13 +28,7 @@ place_at_end-requires c =
     c.last_end.ensures).fits
 
 pub returns-clause-bytes : goal.returns-clause-bytes
-returns-clause-bytes c =
-    let s = c.args.path.bytes.now in
-    let name = c.in-Some.name.bytes.now in
-    let end = c.last_end.result in
-    ap Some (place_of s name end c.place_at_end.result
-    (name_ends s name end c.in-Some.ensures c.last_end.ensures) c.place_at_end.ensures).bytes
-    ∙ c.in-Some.ensures
+returns-clause-bytes c = ap Some (made c).bytes ∙ c.in-Some.ensures
 
 pub returns-clause-start : goal.returns-clause-start
 returns-clause-start c =
@@ -34,17 +38,9 @@ returns-clause-start c =
 
 pub returns-clause-end : goal.returns-clause-end
 returns-clause-end c =
-    let s = c.args.path.bytes.now in
-    let name = c.in-Some.name.bytes.now in
-    let end = c.last_end.result in
-    ap Some (place_of s name end c.place_at_end.result
-    (name_ends s name end c.in-Some.ensures c.last_end.ensures) c.place_at_end.ensures).end_is
-    ∙ name_end_of-some s name end c.in-Some.ensures c.last_end.ensures
+    ap Some (made c).end_is
+    ∙ name_end_of-some c.args.path.bytes.now c.in-Some.name.bytes.now c.last_end.result
+    c.in-Some.ensures c.last_end.ensures
 
 pub returns-clause-inside : goal.returns-clause-inside
-returns-clause-inside c =
-    let s = c.args.path.bytes.now in
-    let name = c.in-Some.name.bytes.now in
-    let end = c.last_end.result in
-    (place_of s name end c.place_at_end.result
-    (name_ends s name end c.in-Some.ensures c.last_end.ensures) c.place_at_end.ensures).inside
+returns-clause-inside c = (made c).inside

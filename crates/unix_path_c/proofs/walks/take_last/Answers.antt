@@ -1,7 +1,18 @@
 use Rattle.std.proofs.Common.{◌≡◌, true, false, ap, length, arith, ◌∙◌}
+use Rattle.unix_path.specs.Cursor.{cursor_rest}
 use Rattle.unix_path.specs.Rest.{rest}
-use Rattle.unix_path_c.proofs.BehindLemmas.{behind_fits, next_back_gives, nothing_last}
+use Rattle.unix_path_c.proofs.BehindLemmas.{BehindFits, behind_fits, next_back_gives}
+use Rattle.unix_path_c.proofs.BehindLemmas.{nothing_last}
 use Rattle.unix_path_c.proofs.walks.take_last.Goals as goal
+use Rattle.unix_path_c.proofs.walks.take_last.Goals.{After-as_unix_str}
+
+fits : (c : After-as_unix_str) → BehindFits c.args.path.now c.args.walk.now
+    c.as_path.result.bytes.now c.as_unix_str.result.bytes.now
+    (length (cursor_rest c.next_back.new.self))
+fits c =
+    behind_fits c.args.path.now c.args.walk.now _ _ _ _ _
+    (c.components-parts.ensures.rest ∙ ap (λ s. rest s 0 0) c.left_of.ensures)
+    c.in-Some.ensures.steps c.as_path.ensures.bytes c.as_unix_str.ensures
 
 pub returns-in_default-clause-ended : goal.returns-in_default-clause-ended
 returns-in_default-clause-ended c =
@@ -11,23 +22,15 @@ returns-in_default-clause-ended c =
 
 pub overflow_add-part : goal.overflow_add-part
 overflow_add-part c =
-    let h = behind_fits c.args.path.now c.args.walk.now _ _ _ _ _
-    (c.components-parts.ensures.rest ∙ ap (λ s. rest s 0 0) c.left_of.ensures)
-    c.in-Some.ensures.steps c.as_path.ensures.bytes c.as_unix_str.ensures in
-    omega (arith, h.in_range)
+    omega (arith, (fits (goal.at.overflow_add-part c).After-as_unix_str).in_range)
 
 pub overflow_sub-part : goal.overflow_sub-part
 overflow_sub-part c =
-    let h = behind_fits c.args.path.now c.args.walk.now _ _ _ _ _
-    (c.components-parts.ensures.rest ∙ ap (λ s. rest s 0 0) c.left_of.ensures)
-    c.in-Some.ensures.steps c.as_path.ensures.bytes c.as_unix_str.ensures in
-    omega (arith, h.fits)
+    omega (arith, (fits (goal.at.overflow_sub-part c).After-as_unix_str).fits)
 
 pub overflow_add-walk : goal.overflow_add-walk
 overflow_add-walk c =
-    let h = behind_fits c.args.path.now c.args.walk.now _ _ _ _ _
-    (c.components-parts.ensures.rest ∙ ap (λ s. rest s 0 0) c.left_of.ensures)
-    c.in-Some.ensures.steps c.as_path.ensures.bytes c.as_unix_str.ensures in
+    let h = fits (goal.at.overflow_add-walk c).After-as_unix_str in
     omega (arith, h.in_range, h.fewer, ap length c.as_path-2.ensures.bytes)
 
 pub returns : goal.returns
