@@ -120,8 +120,7 @@ impl PathBuf {
         }
         // The room for both comes first, so that a refusal leaves the bytes as they were.
         self.inner.reserve(1 + path.bytes.len())?;
-        self.inner.push(UnixStr::from_bytes(b"/"))?;
-        self.inner.push(path.as_unix_str())
+        push_end(&mut self.inner, Some(b'/'), path.bytes)
     }
 
     // Replaces all bytes. It stands apart, so that what `push` inlines stays small.

@@ -1,6 +1,6 @@
 //! Extensions set and added, in place and on copies of a path.
 ghost use Rattle.std.specs.Prelude.{◌≡◌, ◌≤◌, ◌↔◌, true, false, [], ◌++◌, length, take, None};
-ghost use Rattle.std.specs.Prelude.{Some, IfOk, IfErr, OnOk, OnErr, IsOk, IsErrOf, is_some};
+ghost use Rattle.std.specs.Prelude.{Some, IfOk, IfSome, OnOk, OnErr, IsOk, IsErrOf, is_some};
 ghost use Rattle.std.specs.Fmt.{padded};
 ghost use Rattle.unix_path.specs.Buffers.{path_bytes, capacity};
 ghost use Rattle.unix_path.specs.Edits.{dot_before, with_extension_of};
@@ -63,18 +63,12 @@ impl From<AllocError> for ExtensionError {
     }
 }
 
-// The extension's bytes, unless one is a slash.
+// Whether a byte of an extension is a slash.
 #[inline]
-fn without_slash(extension: UnixStr<'_>) -> Result<&[u8], ExtensionError>
-    ensures ok { OnOk result (has_slash extension.entry.bytes.now ≡ false) }
-    ensures bytes { IfOk result (λ bytes. bytes.now ≡ extension.entry.bytes.now) }
-    ensures err { OnErr result (has_slash extension.entry.bytes.now ≡ true) }
-    ensures separator { IfErr result (λ error. error ≡ ExtensionError.Separator) }
+fn has_slash(extension: &[u8]) -> bool
+    ensures { result ≡ has_slash extension.now }
 {
-    if extension.bytes.contains(&b'/') {
-        return Err(ExtensionError::Separator);
-    }
-    Ok(extension.bytes)
+    extension.contains(&b'/')
 }
 
 // The dot before an extension, unless that is empty.
@@ -117,7 +111,10 @@ impl PathBuf {
         ensures succeeds_empty { extension.entry.bytes.now ≡ [] → IsOk result }
         ensures capacity { capacity self.old ≤ capacity self.new }
     {
-        let new = without_slash(extension)?;
+        let new = extension.bytes;
+        if has_slash(new) {
+            return Err(ExtensionError::Separator);
+        }
         let Some(end) = self.as_path().stem_end() else {
             return Ok(false);
         };
@@ -153,7 +150,10 @@ impl PathBuf {
         ensures succeeds_empty { extension.entry.bytes.now ≡ [] → IsOk result }
         ensures capacity { capacity self.old ≤ capacity self.new }
     {
-        let more = without_slash(extension)?;
+        let more = extension.bytes;
+        if has_slash(more) {
+            return Err(ExtensionError::Separator);
+        }
         let Some(end) = self.as_path().name_end() else {
             return Ok(false);
         };
@@ -206,11 +206,13 @@ impl<'a> Path<'a> {
         ensures value { IfOk result
             (λ p. path_bytes p ≡ with_extension_of self.now.bytes.now extension.entry.bytes.now) }
     {
-        let bytes = without_slash(extension)?;
-        let Some(end) = self.stem_end() else {
-            return Ok(self.to_path_buf(alloc)?);
-        };
-        Ok(copy_of(alloc, &self.bytes[..end], dot_before(bytes), bytes)?)
+        let bytes = extension.bytes;
+        if has_slash(bytes) {
+            return Err(ExtensionError::Separator);
+        }
+        let end = self.stem_end();
+        self.copy_with_end(alloc, end, dot_before(bytes), bytes)
+            .map_err(ExtensionError::from)
     }
 
     /// A copy of the path, with this extension added as `PathBuf::add_extension` adds it.
@@ -231,13 +233,36 @@ impl<'a> Path<'a> {
         ensures value { IfOk result
             (λ p. path_bytes p ≡ added_extension_of self.now.bytes.now extension.entry.bytes.now) }
     {
-        let bytes = without_slash(extension)?;
-        if bytes.is_empty() {
-            return Ok(self.to_path_buf(alloc)?);
+        let bytes = extension.bytes;
+        if has_slash(bytes) {
+            return Err(ExtensionError::Separator);
         }
-        let Some(end) = self.name_end() else {
-            return Ok(self.to_path_buf(alloc)?);
+        let end = if bytes.is_empty() {
+            None
+        } else {
+            self.name_end()
         };
-        Ok(copy_of(alloc, &self.bytes[..end], Some(b'.'), bytes)?)
+        self.copy_with_end(alloc, end, Some(b'.'), bytes)
+            .map_err(ExtensionError::from)
+    }
+
+    // A copy of the path up to `end`, with the byte and the slice behind it; where there is no end,
+    // a copy of the whole path without them.
+    fn copy_with_end(
+        &self,
+        alloc: Global,
+        end: Option<usize>,
+        gap: Option<u8>,
+        more: &[u8],
+    ) -> Result<PathBuf, AllocError>
+        requires { IfSome end (λ end. end ≤ length self.now.bytes.now) }
+        ensures whole { end ≡ None → IfOk result (λ p. path_bytes p ≡ self.now.bytes.now) }
+        ensures cut { IfSome end (λ end. IfOk result (λ p.
+            path_bytes p ≡ (take end self.now.bytes.now ++ gap_bytes gap) ++ more.now)) }
+    {
+        match end {
+            Some(end) => copy_of(alloc, &self.bytes[..end], gap, more),
+            None => self.to_path_buf(alloc),
+        }
     }
 }
