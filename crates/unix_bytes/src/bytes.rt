@@ -22,7 +22,7 @@ pub use text::LossyText;
 /// A borrowed byte string: a path or a name as Unix keeps it, in whatever encoding.
 ///
 /// It may hold any byte, NUL included. Two are compared byte by byte, and a proper prefix is the
-/// lesser. A copy is one of the view and not of the bytes.
+/// lesser. A copy copies the view, and not the bytes.
 /// As the crate `unix_str`'s type of that name, which stands for Rust's `OsStr` on Unix.
 #[derive(Clone, Copy, PartialEq, Eq, PartialOrd, Ord)]
 pub struct UnixStr<'a> {
@@ -129,8 +129,8 @@ impl<'a> UnixStr<'a> {
     }
 }
 
-/// Feeds the length, and then the bytes in one write: so what two names in a row feed tells where
-/// the second begins, and long names are fed fast. The form is this crate's own.
+/// Feeds the length, and then all bytes in one write. The length tells where a name ends when
+/// several are fed, and one write is fast for a long name. The form is this crate's own.
 impl Hash for UnixStr<'_> {
     ghost use Rattle.unix_bytes.specs.Hashed.{name_input};
     ghost use Rattle.std.specs.Cmp.Lexicographic.{bytes_decides};
@@ -154,8 +154,8 @@ impl fmt::Debug for UnixStr<'_> {
     }
 }
 
-// The text, U+FFFD unless nothing is broken, and the lossy text of the rest. The capacity is known
-// at once where the lossy text of the rest is one piece.
+// The text, then U+FFFD unless nothing is broken, then the lossy text of the rest. Where that is
+// one piece, the capacity is known at once.
 fn lossy_string(alloc: Global, text: &str, broken: &[u8], rest: &[u8]) -> Result<String, AllocError>
     ensures { let whole = (text.now ++ replacement_for broken.now) ++ lossy_of rest.now in
         IfOk result (λ lossy. string_bytes lossy ≡ whole) }
@@ -173,7 +173,7 @@ fn lossy_string(alloc: Global, text: &str, broken: &[u8], rest: &[u8]) -> Result
     Ok(unsafe { String::from_utf8_unchecked(bytes) })
 }
 
-// Adds the lossy text of the source, piece by piece.
+// Appends the lossy text of the source, made piece by piece in `piece`.
 fn push_lossy(bytes: &mut Vec<u8>, source: &[u8], piece: &mut [u8]) -> Result<(), AllocError>
     ensures { OnOk result (bytes.new.items ≡ bytes.old.items ++ lossy_of source.now) }
 {
@@ -189,8 +189,8 @@ fn push_lossy(bytes: &mut Vec<u8>, source: &[u8], piece: &mut [u8]) -> Result<()
     Ok(())
 }
 
-// Adds the first bytes of the source. Where few are wanted, sixteen are copied, which is one move,
-// and those too many are dropped again.
+// Appends the first `len` bytes of the source. In place of fewer than sixteen, sixteen are copied,
+// which is one move, and the rest of them is cut off again.
 #[inline(always)]
 fn push_prefix(bytes: &mut Vec<u8>, source: &[u8], len: usize) -> Result<(), AllocError>
     requires { len ≤ length source.now }
@@ -208,7 +208,7 @@ fn push_prefix(bytes: &mut Vec<u8>, source: &[u8], len: usize) -> Result<(), All
     Ok(())
 }
 
-// Adds U+FFFD unless nothing is broken.
+// Appends U+FFFD unless nothing is broken.
 #[inline(always)]
 fn push_broken(bytes: &mut Vec<u8>, broken: &[u8]) -> Result<(), AllocError>
     ensures { OnOk result (bytes.new.items ≡ bytes.old.items ++ replacement_for broken.now) }

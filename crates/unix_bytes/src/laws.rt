@@ -28,8 +28,8 @@ pub fn fronts_in_turn()
     ensures turn { FrontsInTurn }
 {}
 
-/// A front is the longest that begins some sequence, or one byte. It has three bytes at most where
-/// the bytes begin with no sequence.
+/// A front is the longest prefix that begins some sequence, or one byte where none does. The first
+/// front has at most three bytes where the bytes begin with no sequence.
 pub fn broken_front()
     ensures begins { FrontsBegin }
     ensures longest { FrontIsLongest }
@@ -52,15 +52,15 @@ pub fn lossy_is_text()
     ensures { LossyIsText }
 {}
 
-/// The chunks of bytes are the longest prefix that is text with the front behind it, and then the
-/// chunks of what follows these two.
+/// No bytes have no chunks. Of others, the first chunk is the longest prefix that is text with the
+/// front behind it, and then come the chunks of what follows these two.
 pub fn chunks_in_turn()
     ensures nothing { ChunksOfNothing }
     ensures some { ChunksOfSome }
 {}
 
-/// The chunks partition the bytes; at most three bytes of each are broken, and in each but the last
-/// one or more.
+/// The chunks partition the bytes. Each has at most three broken bytes, and each but the last has
+/// at least one.
 pub fn chunks_partition()
     ensures partition { ChunksPartition }
     ensures short { ChunksAreShort }

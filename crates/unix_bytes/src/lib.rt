@@ -1,4 +1,4 @@
-//! Byte strings that are paths or names on Unix: views, and their text where they have one.
+//! Byte strings as Unix has them in paths and names: views, owned ones, and their lossy text.
 #![tactic(auto)]
 
 pub mod bytes;

@@ -1,10 +1,9 @@
 //! Bytes shown as text where they may not be UTF-8: U+FFFD stands for what is broken.
-ghost use Rattle.std.specs.Prelude.{◌≡◌, ◌↔◌, ◌<◌, ◌≤◌, ℕ, ◌∷◌, List, [], Some, IsTrue, length};
-ghost use Rattle.std.specs.Prelude.{drop, take, ◌^◌, if◌then◌else◌};
+ghost use Rattle.std.specs.Prelude.{◌≡◌, ◌↔◌, ◌<◌, ◌^◌, ℕ, ◌∷◌, List, [], Some, length};
+ghost use Rattle.std.specs.Prelude.{if◌then◌else◌};
 ghost use Rattle.std.specs.Fmt.{WritesOnOk, WritesStyledOnOk, padded};
 ghost use Rattle.std.specs.Str.{IsUtf8};
 ghost use Rattle.std.specs.Iterator.{YieldsFirstBy, item_count};
-ghost use Rattle.std.specs.List.{flat_map};
 ghost use Rattle.std.specs.Iterator.Runs.{EveryRun, ItemsMapTo};
 ghost use Rattle.unix_bytes.specs.Utf8.{IsSequence, BeginsSequence};
 ghost use Rattle.unix_bytes.specs.Lossy.{is_text, lossy_of};
@@ -37,7 +36,7 @@ pub fn utf8_char_width(b: u8) -> usize
 
 /// Bytes that are shown as text, whether they are UTF-8 or not.
 ///
-/// Its `Display` is the lossy text. A copy is one of the view and not of the bytes.
+/// Its `Display` is the lossy text. A copy copies the view, and not the bytes.
 /// As Rust's `String::from_utf8_lossy`, without an allocation.
 #[derive(Clone, Copy)]
 pub struct Utf8Lossy<'a> {
@@ -61,7 +60,7 @@ impl<'a> Utf8Lossy<'a> {
     /// No bytes have no chunks. Neither this nor the iterator allocates.
     /// As Rust's `<[u8]>::utf8_chunks`.
     ///
-    /// For the bytes 61 FF 62 they are two: `a` with FF, and `b` with nothing.
+    /// For the bytes 61 FF 62 there are two: `a` with FF, and `b` with nothing.
     #[inline]
     pub fn chunks(&self) -> Utf8LossyChunksIter<'a>
         ensures left { chunks_left result ≡ chunks_of self.now.bytes.now }
@@ -77,16 +76,20 @@ impl<'a> Utf8Lossy<'a> {
 }
 
 /// Well-formed sequences, one after the other, and the broken front behind them.
+///
+/// As Rust's `Utf8Chunk`.
 #[derive(Clone, Copy, Debug, PartialEq, Eq)]
 pub struct Utf8LossyChunk<'a> {
     /// The sequences; empty where the chunk begins with what is broken.
     pub valid: &'a str,
-    /// What begins a sequence without being one, or one byte that begins none: at most 3 bytes. It
-    /// is empty in the last chunk at most.
+    /// What begins a sequence without being one, or one byte that begins none: at most 3 bytes.
+    /// Empty in no chunk but the last.
     pub broken: &'a [u8],
 }
 
 /// The chunks that are still to come, in order.
+///
+/// As Rust's `Utf8Chunks`.
 #[derive(Clone, Copy, Debug)]
 pub struct Utf8LossyChunksIter<'a> {
     source: &'a [u8],

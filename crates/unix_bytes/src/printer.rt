@@ -9,7 +9,7 @@ use std::simd::Simd;
 // How many bytes of lossy text are made at once.
 pub(crate) const PIECE: usize = 256;
 
-// Writes the bytes at the place.
+// Writes the bytes into `out` from `at` on.
 #[inline(always)]
 fn place(out: &mut [u8], at: usize, bytes: &[u8])
     requires { at + length bytes.now ≤ length out.old }
@@ -19,7 +19,7 @@ fn place(out: &mut [u8], at: usize, bytes: &[u8])
     out[at..at + bytes.len()].copy_from_slice(bytes);
 }
 
-// Writes the first N bytes of the source at the place: one load and one store.
+// Writes the first N bytes of the source into `out` from `at` on: one load and one store.
 #[inline(always)]
 fn place_first<const N: usize>(out: &mut [u8], at: usize, source: &[u8])
     requires room { at + N ≤ length out.old }
@@ -31,8 +31,8 @@ fn place_first<const N: usize>(out: &mut [u8], at: usize, source: &[u8])
     Simd::<u8, N>::from_slice(source).copy_to_slice(&mut out[at..]);
 }
 
-// Writes the lossy text of the first front, which begins with no ASCII: how many bytes were read,
-// and where what was written ends.
+// Writes the lossy text of the first front, whose first byte is not ASCII. Gives how many bytes
+// were read, and where in `out` the written bytes end.
 #[inline(always)]
 #[tactic(auto, using(crate::proofs::PrinterLemmas::front_bounds))]
 fn show_front(source: &[u8], out: &mut [u8], at: usize) -> (usize, usize)
@@ -57,8 +57,8 @@ fn show_front(source: &[u8], out: &mut [u8], at: usize) -> (usize, usize)
 }
 
 // Writes the lossy text of up to 16 bytes of ASCII and of the front behind them, or of the front
-// alone: how many bytes were read, and where what was written ends. Reads nothing of 64 bytes that
-// are ASCII, and of what may go on as other text: that is read faster as one stretch.
+// alone. Gives how many bytes were read, and where in `out` the written bytes end. Reads nothing
+// where 64 bytes are ASCII, or where other text may go on: a long text is read faster at once.
 #[inline(always)]
 fn show_wide(source: &[u8], out: &mut [u8], at: usize) -> (usize, usize)
     requires some { 20 ≤ length source.now }
@@ -90,8 +90,8 @@ fn show_wide(source: &[u8], out: &mut [u8], at: usize) -> (usize, usize)
     (ascii + size, end)
 }
 
-// Writes the lossy text of the first front: how many bytes were read, and where what was written
-// ends.
+// Writes the lossy text of the first front, of which fewer than four bytes may be there. Gives how
+// many bytes were read, and where in `out` the written bytes end.
 #[inline(never)]
 #[tactic(auto, using(crate::proofs::PrinterLemmas::front_bounds))]
 fn show_last_front(source: &[u8], out: &mut [u8], at: usize) -> (usize, usize)
@@ -115,8 +115,8 @@ fn show_last_front(source: &[u8], out: &mut [u8], at: usize) -> (usize, usize)
     }
 }
 
-// Writes the lossy text of the first byte, where it is ASCII, or else of the first front: how many
-// bytes were read, and where what was written ends.
+// Writes the first byte where it is ASCII, or else the lossy text of the first front. Gives how
+// many bytes were read, and where in `out` the written bytes end.
 #[inline(always)]
 fn show_narrow(source: &[u8], out: &mut [u8], at: usize) -> (usize, usize)
     requires some { 0 < length source.now }
@@ -133,8 +133,8 @@ fn show_narrow(source: &[u8], out: &mut [u8], at: usize) -> (usize, usize)
     show_last_front(source, out, at)
 }
 
-// Writes the lossy text of the first bytes: how many bytes were read, and how many written. Reads
-// on until fewer than 20 bytes can be written, or a stretch begins.
+// Writes the lossy text of the first bytes. Gives how many bytes were read, and how many written.
+// Ends where fewer than 20 bytes of `out` are left, or where a long text begins.
 pub(crate) fn show_first(source: &[u8], out: &mut [u8]) -> (usize, usize)
     ensures len { length out.new ≡ length out.old }
     ensures read { result.0 ≤ length source.now }

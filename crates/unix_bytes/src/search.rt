@@ -123,8 +123,7 @@ pub fn past_last(bytes: &[u8], byte: u8) -> usize
     past_last_in_few(bytes, end, byte)
 }
 
-// How many bytes the two begin with alike, where one has fewer than 16. The lesser length is
-// `most`.
+// How many bytes both begin with, where one has fewer than 16. The lesser length is `most`.
 #[inline]
 fn common_in_few(a: &[u8], b: &[u8], most: usize) -> usize
     requires { most ≡ min (length a.now) (length b.now) }
@@ -138,7 +137,8 @@ fn common_in_few(a: &[u8], b: &[u8], most: usize) -> usize
     len
 }
 
-// How many of the 16 bytes from `at` on come before the first that differ, or 16 where none does.
+// How many of the 16 places from `at` on come before the first at which the two differ, or 16 where
+// there is none.
 #[inline]
 fn common_in_lanes(a: &[u8], b: &[u8], at: usize) -> usize
     requires in_first { at + 16 ≤ length a.now }
@@ -159,7 +159,7 @@ fn common_in_lanes(a: &[u8], b: &[u8], at: usize) -> usize
     }
 }
 
-// False only where some of the 64 bytes from `at` on differ.
+// Whether the 64 bytes from `at` on are the same in both.
 #[inline(always)]
 fn is_common_block(a: &[u8], b: &[u8], at: usize) -> bool
     requires in_first { at + 64 ≤ length a.now }
@@ -171,7 +171,7 @@ fn is_common_block(a: &[u8], b: &[u8], at: usize) -> bool
     other.to_bitmask() == 0
 }
 
-// How many bytes the two begin with alike, as far as blocks of 64 say.
+// How many bytes both begin with, in whole blocks of 64.
 #[inline]
 fn common_blocks_len(a: &[u8], b: &[u8], most: usize) -> usize
     requires { most ≡ min (length a.now) (length b.now) }
@@ -185,8 +185,8 @@ fn common_blocks_len(a: &[u8], b: &[u8], most: usize) -> usize
     len
 }
 
-/// How many bytes the two begin with alike: the length of their longest common front. Does not
-/// allocate. Not in Rust's std.
+/// How many bytes both begin with: the length of their longest common prefix. Does not allocate.
+/// Not in Rust's std.
 ///
 /// `common_len(b"a/b", b"a/c")` is 2.
 #[must_use]

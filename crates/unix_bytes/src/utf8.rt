@@ -22,11 +22,11 @@ pub(crate) fn to_text(bytes: &[u8]) -> Option<&str>
     if text < bytes.len() {
         return None;
     }
-    // All of it is text.
+    // All bytes are text.
     Some(unsafe { str::from_utf8_unchecked(bytes) })
 }
 
-// The longest prefix that is text, the broken front behind it, and the bytes after that.
+// The longest prefix that is text, the broken front behind it, and the bytes after both.
 #[inline(always)]
 #[tactic(auto, using(crate::proofs::StretchLemmas::prefix_bounds))]
 pub(crate) fn split_text(source: &[u8]) -> (&str, &[u8], &[u8])

@@ -8,7 +8,7 @@ ghost use Rattle.unix_bytes.specs.Windows.{AreAbove, GoOn, FitsWindow};
 
 use std::simd::u8x16;
 
-// 255 for each byte that is not less than `least`, and the other byte elsewhere.
+// 255 for each byte that is not less than `least`, and the byte of `other` elsewhere.
 #[inline(always)]
 fn mark_lanes(bytes: u8x16, least: u8, other: u8x16) -> u8x16
     ensures { result ≡ zip2 (λ b o. if nat_le least b then 255 else o) bytes other }
@@ -18,7 +18,7 @@ fn mark_lanes(bytes: u8x16, least: u8, other: u8x16) -> u8x16
         .select(u8x16::splat(0xFF), other)
 }
 
-// The bound for each byte that equals the value, and the other byte elsewhere.
+// `bound` for each byte that equals `value`, and the byte of `other` elsewhere.
 #[inline(always)]
 fn bound_lanes(bytes: u8x16, value: u8, bound: u8, other: u8x16) -> u8x16
     ensures { result ≡ zip2 (λ b o. if b == value then bound else o) bytes other }
@@ -55,7 +55,7 @@ pub(crate) fn at_least(bytes: u8x16, least: u8) -> u64
     bytes.simd_ge(u8x16::splat(least)).to_bitmask()
 }
 
-// No byte is less than its bound.
+// Whether no byte is less than the bound in the same lane.
 #[inline(always)]
 fn are_above(bytes: u8x16, bounds: u8x16) -> bool
     ensures { IsTrue result → AreAbove bytes bounds }
@@ -63,8 +63,8 @@ fn are_above(bytes: u8x16, bounds: u8x16) -> bool
     bytes.simd_lt(bounds).to_bitmask() == 0
 }
 
-// Each byte continues the sequence before it where that is not finished, and else begins one; the
-// three before each byte are those of the same lane.
+// Whether each byte continues the sequence before it where that is not finished, and begins one
+// elsewhere. The three bytes before it stand in the same lane of `first`, `second` and `third`.
 #[inline(always)]
 fn go_on(first: u8x16, second: u8x16, third: u8x16, bytes: u8x16) -> bool
     ensures { IsTrue result → GoOn first second third bytes }
@@ -75,7 +75,7 @@ fn go_on(first: u8x16, second: u8x16, third: u8x16, bytes: u8x16) -> bool
     at_least(unfinished, 0x80) + begin == at_least(bytes, 0x80) && begin == at_least(bytes, 0xC2)
 }
 
-// Each of the 16 bytes behind the first three may follow the three before it.
+// Whether each of the 16 bytes behind the first three may follow the three before it.
 #[inline(always)]
 fn fits(window: &[u8]) -> bool
     requires { 19 ≤ length window.now }
@@ -90,7 +90,7 @@ fn fits(window: &[u8]) -> bool
         && are_above(most_after(third), bytes)
 }
 
-// How many of the last bytes of a window are of a sequence that is not finished there.
+// How many bytes at the end of a window are of a sequence that is not finished there.
 #[inline(always)]
 fn unfinished_len(window: &[u8]) -> usize
     requires { 19 ≤ length window.now }
@@ -109,8 +109,8 @@ fn unfinished_len(window: &[u8]) -> usize
     }
 }
 
-// How many of the 16 bytes behind the first three are text up to there, where those three are the
-// end of finished sequences. It is 0 where one of the 16 may not follow those before it.
+// How many of the 16 bytes behind the first three are known to be text, where those three are the
+// end of finished sequences. It is 0 where one of the 16 may not follow the three before it.
 #[inline(always)]
 pub(crate) fn window_len(window: &[u8]) -> usize
     requires some { 19 ≤ length window.now }

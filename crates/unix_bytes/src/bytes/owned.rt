@@ -36,7 +36,7 @@ impl UnixString {
     /// Allocates once, or not at all for 0 bytes; fails if the allocation fails. As Rust's
     /// `OsString::with_capacity`.
     ///
-    /// `UnixString::with_capacity(alloc, 10)?` takes 10 bytes before it grows.
+    /// `UnixString::with_capacity(alloc, 10)?` takes at least 10 bytes before it grows.
     pub fn with_capacity(alloc: Global, count: usize) -> Result<UnixString, AllocError>
         ensures bytes { IfOk result (λ s. owned_bytes s ≡ []) }
         ensures room { IfOk result (λ s. count ≤ owned_room s) }
@@ -108,10 +108,10 @@ impl UnixString {
         self.bytes.clear();
     }
 
-    /// Keeps the first `len` bytes, and the capacity; where there are no more, nothing changes.
+    /// Keeps the first `len` bytes and the capacity. A shorter byte string stays as it is.
     ///
-    /// Does not allocate. As Rust's unstable `OsString::truncate`, without its panics: any `len`
-    /// will do, also one past the end or inside a character.
+    /// Does not allocate. As Rust's unstable `OsString::truncate`, without its panics: `len` may be
+    /// past the end or inside a character.
     ///
     /// `foobar` truncated to 3 bytes is `foo`, and to 7 it is `foobar`.
     #[inline]
@@ -152,7 +152,7 @@ impl UnixString {
         self.bytes.reserve_exact(count)
     }
 
-    /// Gives back the room.
+    /// Gives back the room, so that the capacity is the length.
     ///
     /// Does not allocate where there is no room. Otherwise moving the bytes can fail, and then the
     /// bytes and the room stay as they were. As Rust's `OsString::shrink_to_fit`.
@@ -167,11 +167,11 @@ impl UnixString {
         self.shrink_to(0)
     }
 
-    /// Lowers the capacity to `least` bytes, or to the bytes where they are more.
+    /// Lowers the capacity to `least` bytes, or to the length where that is more.
     ///
-    /// Does not allocate where the capacity is that or less, and leaves it. Otherwise moving the
-    /// bytes can fail, and then the bytes and the room stay as they were. As Rust's
-    /// `OsString::shrink_to`.
+    /// Where the capacity is no more than that already, does not allocate and changes nothing.
+    /// Otherwise moving the bytes can fail, and then the bytes and the room stay as they were. As
+    /// Rust's `OsString::shrink_to`.
     ///
     /// For `foo` with the capacity 10, `shrink_to(5)` makes it 5, and `shrink_to(0)` makes it 3.
     pub fn shrink_to(&mut self, least: usize) -> Result<(), AllocError>

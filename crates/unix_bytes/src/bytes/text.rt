@@ -31,7 +31,7 @@ pub enum LossyText<'a> {
 impl LossyText<'_> {
     /// The text, borrowed or not. Does not allocate.
     ///
-    /// As Rust's `Cow<str>` is a `str`.
+    /// As `Deref` of Rust's `Cow<str>`.
     ///
     /// For what was read from the bytes 61 FF it is `a` and U+FFFD.
     pub fn as_str(&self) -> &str

@@ -6,7 +6,7 @@ ghost use Rattle.unix_bytes.specs.Lanes.{wide_mask};
 use crate::windows::at_least;
 use std::simd::{u8x8, u8x16, u8x64};
 
-// A bit for each of the 16 bytes from the place on: set where the byte is not ASCII.
+// A bit for each of the 16 bytes from `at` on: set where the byte is not ASCII.
 #[inline(always)]
 pub(crate) fn wide_lanes(source: &[u8], at: usize) -> u64
     requires { at + 16 ≤ length source.now }
@@ -15,7 +15,7 @@ pub(crate) fn wide_lanes(source: &[u8], at: usize) -> u64
     at_least(u8x16::from_slice(&source[at..]), 0x80)
 }
 
-// The 64 bytes from the place on are ASCII.
+// Whether the 64 bytes from `at` on are ASCII.
 #[inline(always)]
 pub(crate) fn is_ascii_block(source: &[u8], at: usize) -> bool
     requires { at + 64 ≤ length source.now }
@@ -25,7 +25,7 @@ pub(crate) fn is_ascii_block(source: &[u8], at: usize) -> bool
     block.simd_ge(u8x64::splat(0x80)).to_bitmask() == 0
 }
 
-// How many of the first bytes are ASCII, as far as blocks of 64 say.
+// How many of the first bytes are ASCII, in whole blocks of 64.
 fn ascii_blocks_len(source: &[u8]) -> usize
     ensures bound { result ≤ length source.now }
     ensures ascii { IsAscii (take result source.now) }
@@ -37,8 +37,8 @@ fn ascii_blocks_len(source: &[u8]) -> usize
     at
 }
 
-// How many of the first bytes are ASCII, in blocks and then 16 at a time; the last 16 may overlap
-// those before them.
+// How many of the first bytes are ASCII, read in blocks of 64 and then 16 at a time. The last 16
+// may overlap those before them.
 fn ascii_len(source: &[u8]) -> usize
     requires { 16 ≤ length source.now }
     ensures bound { result ≤ length source.now }
@@ -76,7 +76,7 @@ fn short_ascii_len(source: &[u8]) -> usize
     source.len()
 }
 
-// The 8 bytes from the place on are ASCII.
+// Whether the 8 bytes from `at` on are ASCII.
 #[inline(always)]
 fn is_ascii_eight(source: &[u8], at: usize) -> bool
     requires { at + 8 ≤ length source.now }
@@ -86,7 +86,7 @@ fn is_ascii_eight(source: &[u8], at: usize) -> bool
     eight.simd_ge(u8x8::splat(0x80)).to_bitmask() == 0
 }
 
-// The bytes, 8 to 16, are ASCII: the first 8 and the last 8, which may overlap.
+// Whether 8 to 16 bytes are ASCII, by the first 8 and the last 8, which may overlap.
 #[inline(always)]
 fn is_short_ascii(source: &[u8]) -> bool
     requires least { 8 ≤ length source.now }
@@ -96,7 +96,8 @@ fn is_short_ascii(source: &[u8]) -> bool
     is_ascii_eight(source, 0) && is_ascii_eight(source, source.len() - 8)
 }
 
-// How many of the first bytes are ASCII, as far as is found at once; the first byte is ASCII.
+// How many of the first bytes are ASCII, where the first is: 1 is enough where there are fewer than
+// 8, or where the second is not.
 #[inline(always)]
 pub(crate) fn ascii_prefix_len(source: &[u8]) -> usize
     requires some { 0 < length source.now }

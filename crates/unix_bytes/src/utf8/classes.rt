@@ -2,7 +2,7 @@
 ghost use Rattle.std.specs.Prelude.{◌≡◌, ◌↔◌, ◌≤◌, ◌∷◌, [], IsTrue};
 ghost use Rattle.unix_bytes.specs.Utf8.{begins_sequence};
 
-// The byte may stand behind the first two of a sequence.
+// Whether the byte may stand behind the first two of a sequence.
 #[inline(always)]
 pub(crate) fn is_tail(b: u8) -> bool
     ensures { IsTrue result ↔ (0x80 ≤ b) × (b ≤ 0xBF) }
@@ -10,7 +10,7 @@ pub(crate) fn is_tail(b: u8) -> bool
     0x80 <= b && b <= 0xBF
 }
 
-// Some sequence of two bytes or more begins with the byte.
+// Whether some sequence of two bytes or more begins with the byte.
 #[inline(always)]
 pub(crate) fn is_lead(b: u8) -> bool
     ensures { IsTrue result ↔ (0xC2 ≤ b) × (b ≤ 0xF4) }
@@ -18,7 +18,7 @@ pub(crate) fn is_lead(b: u8) -> bool
     0xC2 <= b && b <= 0xF4
 }
 
-// Sequences of two bytes begin with the byte, and no others.
+// Whether sequences of two bytes begin with the byte.
 #[inline(always)]
 pub(crate) fn leads_two(b: u8) -> bool
     ensures { IsTrue result ↔ (0xC2 ≤ b) × (b ≤ 0xDF) }
@@ -26,7 +26,7 @@ pub(crate) fn leads_two(b: u8) -> bool
     0xC2 <= b && b <= 0xDF
 }
 
-// Sequences of three bytes begin with the byte, and no others.
+// Whether sequences of three bytes begin with the byte.
 #[inline(always)]
 pub(crate) fn leads_three(b: u8) -> bool
     ensures { IsTrue result ↔ (0xE0 ≤ b) × (b ≤ 0xEF) }
@@ -34,7 +34,7 @@ pub(crate) fn leads_three(b: u8) -> bool
     0xE0 <= b && b <= 0xEF
 }
 
-// Sequences of four bytes begin with the byte, and no others.
+// Whether sequences of four bytes begin with the byte.
 #[inline(always)]
 pub(crate) fn leads_four(b: u8) -> bool
     ensures { IsTrue result ↔ (0xF0 ≤ b) × (b ≤ 0xF4) }
@@ -42,7 +42,7 @@ pub(crate) fn leads_four(b: u8) -> bool
     0xF0 <= b && b <= 0xF4
 }
 
-// Some sequence begins with these two bytes.
+// Whether some sequence begins with these two bytes.
 #[inline(always)]
 #[tactic(auto, unfolding(crate::specs::Utf8::begins_sequence))]
 pub(crate) fn may_follow(first: u8, second: u8) -> bool

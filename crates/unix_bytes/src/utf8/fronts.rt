@@ -6,7 +6,7 @@ ghost use Rattle.unix_bytes.specs.Steps.{longest_len, HasBegun, broken_len};
 
 use crate::utf8::classes::{is_lead, is_tail, leads_four, leads_three, leads_two, may_follow};
 
-// The bytes may begin with a sequence of two or more, as far as is seen at once.
+// Whether the bytes may begin with a sequence of two or more, by the ranges of the first two.
 #[inline(always)]
 #[tactic(auto, using(crate::proofs::BegunLemmas::pair_begun))]
 pub(crate) fn may_begin(source: &[u8]) -> bool
@@ -16,7 +16,7 @@ pub(crate) fn may_begin(source: &[u8]) -> bool
     is_lead(source[0]) && 1 < source.len() && is_tail(source[1])
 }
 
-// The first two bytes are there and begin some sequence.
+// Whether there are two bytes that begin some sequence.
 #[inline(always)]
 #[tactic(auto, using(crate::proofs::BegunLemmas::beginnings))]
 fn begins_two(source: &[u8]) -> bool
@@ -26,7 +26,7 @@ fn begins_two(source: &[u8]) -> bool
     1 < source.len() && may_follow(source[0], source[1])
 }
 
-// The first three bytes are there and begin some sequence; the first leads three or more.
+// Whether there are three bytes that begin some sequence, where the first leads three or more.
 #[inline(always)]
 #[tactic(auto, using(crate::proofs::BegunLemmas::all_beginnings))]
 fn begins_three(source: &[u8]) -> bool
@@ -37,7 +37,7 @@ fn begins_three(source: &[u8]) -> bool
     2 < source.len() && begins_two(source) && is_tail(source[2])
 }
 
-// The first four bytes are there and begin some sequence; the first leads four.
+// Whether there are four bytes that begin some sequence, where the first leads four.
 #[inline(always)]
 #[tactic(auto, using(crate::proofs::BegunLemmas::all_beginnings))]
 pub(crate) fn begins_four(source: &[u8]) -> bool
@@ -73,7 +73,7 @@ pub(crate) fn wide_front(source: &[u8]) -> Result<usize, usize>
 }
 
 // The length of the sequence that the bytes begin with, or else that of the broken front; the first
-// byte leads three.
+// byte leads sequences of three.
 #[inline(always)]
 #[tactic(auto, using(crate::proofs::BrokenLemmas::three_byte_fronts))]
 fn three_front(source: &[u8]) -> Result<usize, usize>
@@ -91,7 +91,7 @@ fn three_front(source: &[u8]) -> Result<usize, usize>
 }
 
 // The length of the sequence that the bytes begin with, or else that of the broken front; the first
-// byte leads four.
+// byte leads sequences of four.
 #[inline(always)]
 #[tactic(auto, using(crate::proofs::BrokenLemmas::four_byte_fronts))]
 fn four_front(source: &[u8]) -> Result<usize, usize>

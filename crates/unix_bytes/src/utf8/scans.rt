@@ -28,7 +28,7 @@ pub(crate) fn scan_text(source: &[u8]) -> (usize, usize)
 }
 
 // The lengths of the longest prefix that is text, and of the broken front behind it, where the
-// bytes up to the place are text and the byte there is not ASCII.
+// bytes up to `at` are text and the byte there is not ASCII.
 #[inline(always)]
 fn scan_wide(source: &[u8], at: usize) -> (usize, usize)
     requires some { at < length source.now }
@@ -44,7 +44,7 @@ fn scan_wide(source: &[u8], at: usize) -> (usize, usize)
 }
 
 // The lengths of the longest prefix that is text, and of the broken front behind it, where the
-// bytes up to the place are text.
+// bytes up to `from` are text.
 #[inline(always)]
 pub(crate) fn scan(source: &[u8], from: usize) -> (usize, usize)
     requires bound { from ≤ length source.now }
@@ -60,7 +60,7 @@ pub(crate) fn scan(source: &[u8], from: usize) -> (usize, usize)
 }
 
 // The lengths of the longest prefix that is text, and of the broken front behind it, where the
-// bytes up to the place are text. Reads sequence by sequence, which is faster for few bytes.
+// bytes up to `from` are text. Reads sequence by sequence, which is faster for few bytes.
 #[inline(never)]
 fn scan_few(source: &[u8], from: usize) -> (usize, usize)
     requires bound { from ≤ length source.now }
@@ -117,7 +117,7 @@ fn quads_len(source: &[u8]) -> usize
 }
 
 // The lengths of the longest prefix that is text, and of the broken front behind it, where the
-// bytes up to the place are text. Tries windows behind each sequence that is not ASCII, which is
+// bytes up to `from` are text. Tries windows behind each sequence that is not ASCII, which is
 // faster for many bytes.
 #[inline(never)]
 fn scan_many(source: &[u8], from: usize) -> (usize, usize)
@@ -140,8 +140,8 @@ fn scan_many(source: &[u8], from: usize) -> (usize, usize)
     (at, 0)
 }
 
-// How far text goes that goes up to the place, as far as windows tell; it stops at a window that is
-// all ASCII or that doesn't fit.
+// How far the text that reaches `from` goes on, as far as windows tell. Stops at a window that is
+// all ASCII, or in which a byte may not follow the three before it.
 #[inline(always)]
 fn text_end(source: &[u8], from: usize) -> usize
     requires bound { from ≤ length source.now }
