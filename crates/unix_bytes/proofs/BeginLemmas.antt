@@ -1,20 +1,14 @@
 -- What begins a sequence: its test, and the bytes by their ranges.
 use Rattle.std.proofs.Common.{◌≡◌, ℕ, ◌≤◌, List, [], ◌∷◌, ◌++◌, length, take, drop, map, Bool, true}
-use Rattle.std.proofs.Common.{false, ⊎_elim, nat_le, refl, sym, ap, ◌∙◌, subst, arith, append_assoc}
+use Rattle.std.proofs.Common.{⊎_elim, nat_le, refl, sym, ap, ◌∙◌, subst, arith, append_assoc}
 use Rattle.std.proofs.Common.{take-append-drop}
-use Rattle.std.specs.Prelude.{◌||◌}
 use Rattle.std.specs.List.{list_any, list_all}
 use Rattle.std.specs.Int.{is_in_range}
-use Rattle.std.proofs.lemmas.Bool.{and_parts}
+use Rattle.std.proofs.lemmas.Bool.{and_parts, or_cases, or_right}
 use Rattle.std.proofs.lemmas.Bool.Decides.{nat_tests}
 use Rattle.std.proofs.lemmas.List.{take-take}
 use Rattle.unix_bytes.specs.Utf8.{table, fits, is_sequence, IsSequence, BeginsSequence}
 use Rattle.unix_bytes.specs.Utf8.{begins_sequence}
-use Rattle.unix_bytes.proofs.SequenceLemmas.{or_cases}
-
-or_right : (x y : Bool) → y ≡ true → (x || y) ≡ true
-or_right true y e = refl
-or_right false y e = e
 
 -- what fits a row has a beginning that fits the row's beginning
 fits_prefix : (row : List (ℕ × ℕ)) (t u : List ℕ)

@@ -3,7 +3,7 @@ use Rattle.std.proofs.Common.{◌≡◌, ℕ, suc, ◌-◌, ◌+◌, ◌<◌, �
 use Rattle.std.proofs.Common.{◌⊎◌, ⊎_elim, inl, inr, refl, sym, ap, ◌∙◌, subst, arith}
 use Rattle.std.proofs.Common.{append_assoc, append-nil, length-append, length-take-le}
 use Rattle.std.specs.Prelude.{max}
-use Rattle.std.proofs.lemmas.Bool.{cases_lt}
+use Rattle.std.proofs.lemmas.Bool.{cases_lt, false_from_ne_true}
 use Rattle.std.proofs.lemmas.List.{take_at, take_all}
 use Rattle.std.proofs.Math.Seq.{take-append-add}
 use Rattle.unix_bytes.specs.Utf8.{is_sequence, IsSequence, BeginsSequence, begins_sequence}
@@ -12,7 +12,7 @@ use Rattle.unix_bytes.proofs.SequenceLemmas.{sequence_len}
 use Rattle.unix_bytes.proofs.WidthLemmas.{prefix_free}
 use Rattle.unix_bytes.proofs.BeginLemmas.{begins_sequence-from, BeginsSequence-from}
 use Rattle.unix_bytes.proofs.BeginLemmas.{BeginsSequence-take}
-use Rattle.unix_bytes.proofs.LongestLemmas.{not_true, longest_len-is, longest_len-longest}
+use Rattle.unix_bytes.proofs.LongestLemmas.{longest_len-is, longest_len-longest}
 use Rattle.unix_bytes.proofs.LongestLemmas.{longest_len-least}
 
 pub BeginsSequence-sequence : (u : List ℕ) → IsSequence u → BeginsSequence u
@@ -37,7 +37,7 @@ pub longest_len-sequence : (u s : List ℕ) → IsSequence u
 longest_len-sequence u s h =
     longest_len-is is_sequence (u ++ s) (length u) (omega (arith, length-append u s))
     (inr (ap is_sequence (take_at u s (length u) refl) ∙ h))
-    (λ k p q. not_true (is_sequence (take k (u ++ s)))
+    (λ k p q. false_from_ne_true (is_sequence (take k (u ++ s)))
     (λ t. none_longer u s k h p q (BeginsSequence-sequence (take k (u ++ s)) t)))
 
 longest_len-begun : (u s : List ℕ) → IsSequence u
@@ -46,7 +46,7 @@ longest_len-begun u s h =
     longest_len-is begins_sequence (u ++ s) (length u) (omega (arith, length-append u s))
     (inr (ap begins_sequence (take_at u s (length u) refl)
     ∙ begins_sequence-from u (BeginsSequence-sequence u h)))
-    (λ k p q. not_true (begins_sequence (take k (u ++ s)))
+    (λ k p q. false_from_ne_true (begins_sequence (take k (u ++ s)))
     (λ t. none_longer u s k h p q (BeginsSequence-from (take k (u ++ s)) t)))
 
 pub longest_front_of-sequence : (u s : List ℕ) → IsSequence u → longest_front_of (u ++ s) ≡ u

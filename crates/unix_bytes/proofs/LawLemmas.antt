@@ -4,10 +4,12 @@ use Rattle.std.proofs.Common.{⊎_elim, inl, inr, refl, sym, ap, ◌∙◌, subs
 use Rattle.std.proofs.Common.{length-append, take-append-drop, append-nil, map, zero, suc, ◌⊎◌}
 use Rattle.std.proofs.Common.{le_refl}
 use Rattle.std.specs.Prelude.{max}
-use Rattle.std.specs.List.{All, concat, flat_map, list_all}
+use Rattle.std.specs.List.{All, list_all}
 use Rattle.std.proofs.lemmas.Bool.{cases_lt, cases_Bool, cond-true, cond-false}
 use Rattle.std.proofs.lemmas.List.{take_all}
+use Rattle.std.proofs.lemmas.List.Concat.{concat_is}
 use Rattle.std.proofs.lemmas.List.Elements.{All-nil, All-cons}
+use Rattle.std.proofs.lemmas.List.Folds.{flat_map-map}
 use Rattle.std.proofs.lemmas.List.Sums.{AllPass-from_list_all}
 use Rattle.unix_bytes.specs.Utf8.{is_sequence, IsSequence, BeginsSequence, begins_sequence}
 use Rattle.unix_bytes.specs.Lossy.{fronts_of, replacement, lossy_of}
@@ -143,14 +145,12 @@ shown_are_sequences [] = refl
 shown_are_sequences (u ∷ us) =
     rw (shown_is_sequence u, shown_are_sequences us) refl
 
-concat-map-shown_front : (us : List (List ℕ))
-    → concat (map shown_front us) ≡ flat_map shown_front us
-concat-map-shown_front [] = refl
-concat-map-shown_front (u ∷ us) = ap (λ t. shown_front u ++ t) (concat-map-shown_front us)
-
 pub lossy_is_text : LossyIsText
 unfolding lossy_of
 lossy_is_text s =
     let us = map shown_front (fronts_of s) in
-    let all = shown_are_sequences (fronts_of s) in
-    (us, AllPass-from_list_all is_sequence us all, concat-map-shown_front (fronts_of s))
+    let all = shown_are_sequences (fronts_of s) in (
+      us,
+      AllPass-from_list_all is_sequence us all,
+      concat_is us ∙ flat_map-map (λ u. u) shown_front (fronts_of s),
+    )

@@ -18,7 +18,6 @@ pub mod BrokenLemmas
 pub mod ChunkLemmas
 pub mod StretchLemmas
 pub mod SplitLemmas
-pub mod WriteLemmas
 pub mod LawLemmas
 pub mod PartitionLemmas
 pub mod OnlyLemmas

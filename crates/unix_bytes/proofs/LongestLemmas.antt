@@ -6,10 +6,6 @@ use Rattle.std.proofs.lemmas.Bool.{cases_lt, cond-true, cond-false, true≢false
 use Rattle.std.proofs.lemmas.List.{take_at}
 use Rattle.unix_bytes.specs.Steps.{longest_len_to, longest_len}
 
-pub not_true : (b : Bool) → (b ≡ true → ⊥) → b ≡ false
-not_true true h = absurd (h refl)
-not_true false h = refl
-
 -- nothing between n and m passes, and n passes or is 0
 longest_len_to-is : (m n : ℕ) (test : List ℕ → Bool) (s : List ℕ) → n ≤ m
     → (n ≡ 0) ⊎ (test (take n s) ≡ true)

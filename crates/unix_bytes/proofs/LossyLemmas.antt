@@ -4,7 +4,7 @@ use Rattle.std.proofs.Common.{true, false, refl, sym, ap, ap₂, ◌∙◌, arit
 use Rattle.std.proofs.Common.{length-drop, length-take-le, take-append-drop, append-nil}
 use Rattle.std.proofs.Common.{if◌then◌else◌}
 use Rattle.std.specs.List.{concat, flat_map, list_all}
-use Rattle.std.proofs.lemmas.Bool.{and_parts, cond-true, cond-false}
+use Rattle.std.proofs.lemmas.Bool.{and_parts, cond-true, cond-false, false_from_ne_true}
 use Rattle.std.proofs.lemmas.List.{drop_at}
 use Rattle.std.proofs.lemmas.List.Concat.{flat_map-append}
 use Rattle.std.proofs.lemmas.List.Folds.{list_all-append}
@@ -13,7 +13,7 @@ use Rattle.unix_bytes.specs.Utf8.{is_sequence, IsSequence, IsText}
 use Rattle.unix_bytes.specs.Lossy.{fronts_of, replacement, lossy_of, is_text}
 use Rattle.unix_bytes.specs.Steps.{longest_len, longest_front_of}
 use Rattle.unix_bytes.proofs.SequenceLemmas.{no_bytes, sequence_len}
-use Rattle.unix_bytes.proofs.LongestLemmas.{not_true, longest_len-prefix}
+use Rattle.unix_bytes.proofs.LongestLemmas.{longest_len-prefix}
 use Rattle.unix_bytes.proofs.FrontLemmas.{longest_front_of-sequence, longest_front_of-take}
 use Rattle.unix_bytes.proofs.FrontLemmas.{front_within}
 use Rattle.unix_bytes.proofs.GrowLemmas.{fronts_of-nil, fronts_of-some}
@@ -124,7 +124,8 @@ is_sequence-longest_front_of s z =
     let k = length (longest_front_of s) in
     let e : s ≡ longest_front_of s ++ drop k s =
     sym (take-append-drop k s) ∙ ap (λ f. f ++ drop k s) (sym (longest_front_of-take s)) in
-    not_true (is_sequence (longest_front_of s)) (no_sequence s (longest_front_of s) (drop k s) z e)
+    false_from_ne_true (is_sequence (longest_front_of s))
+    (no_sequence s (longest_front_of s) (drop k s) z e)
 
 pub lossy_of-none : (b : ℕ) (bs : List ℕ) → longest_len is_sequence (b ∷ bs) ≡ 0
     → lossy_of (b ∷ bs)
@@ -151,4 +152,4 @@ first_sequence s k (us, h, e) some within z =
         no_sequence s v (concat vs ++ drop k s) z front (and_parts _ _ all).0
 
 pub is_text-not : (s : List ℕ) → (IsText s → ⊥) → is_text s ≡ false
-is_text-not s broken = not_true (is_text s) (λ t. broken (IsText-from_is_text s t))
+is_text-not s broken = false_from_ne_true (is_text s) (λ t. broken (IsText-from_is_text s t))

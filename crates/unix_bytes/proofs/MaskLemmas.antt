@@ -1,54 +1,53 @@
 -- Bit masks of vectors: a bit for each byte that passes a comparison.
 use Rattle.std.proofs.Common.{◌≡◌, ℕ, ◌<◌, ◌≤◌, ◌%◌, ◌^◌, List, [], ◌∷◌, length, Bool}
-use Rattle.std.proofs.Common.{true, false, cond, map, nat_le, ltb, refl, sym, ap, ap₂, ◌∙◌}
-use Rattle.std.proofs.Common.{subst, arith, ltb-false}
+use Rattle.std.proofs.Common.{true, false, cond, map, nat_le, ltb, refl, sym, ap, ◌∙◌}
+use Rattle.std.proofs.Common.{subst, arith, ltb-false, w8}
 use Rattle.std.specs.Prelude.{replicate}
 use Rattle.std.specs.Simd.Lanes.{zip2, mask_l, top}
 use Rattle.std.proofs.lemmas.List.{length-map}
-use Rattle.std.proofs.lemmas.Simd.{length-zip2, mask_l-mod, mask_l-lt}
+use Rattle.std.proofs.lemmas.Simd.{length-zip2, mask_l-mod, mask_l-lt, tops_compared}
+use Rattle.std.proofs.lemmas.Simd.{zip2_splat_left}
 use Rattle.unix_bytes.specs.Windows.{AreAbove}
 
-map-top : (k : ℕ) (xs : List ℕ)
-    → map (top 7) (zip2 (λ a b. cond (nat_le a b) 255 0) (replicate (length xs) k) xs)
-    ≡ map (nat_le k) xs
-map-top k [] = refl
-map-top k (x ∷ xs) = ap₂ (λ h t. h ∷ t) (one (nat_le k x)) (map-top k xs)
-  where
-    one : (t : Bool) → top 7 (cond t 255 0) ≡ t
-    one true = refl
-    one false = refl
+-- the mask of the bytes that are not less than k, as the code computes it of n bytes
+abbrev pub least_bits : ℕ → ℕ → List ℕ → ℕ
+least_bits k n xs =
+    mask_l (map (top 7) (zip2 (λ a b. cond (nat_le a b) 255 0) (replicate n k) xs)) % 2 ^ 64
 
--- the mask has a bit for each byte that passes
+-- the mask that the code computes has a bit for each byte that is not less than k
 pub least_mask : (k n : ℕ) (xs : List ℕ) → length xs ≡ n → n ≤ 64
-    → mask_l (map (top 7) (zip2 (λ a b. cond (nat_le a b) 255 0) (replicate n k) xs)) % 2 ^ 64
-    ≡ mask_l (map (nat_le k) xs)
+    → least_bits k n xs ≡ mask_l (map (nat_le k) xs)
 least_mask k n xs e le =
     ap (λ ms. mask_l ms % 2 ^ 64)
-    (subst (λ m. map (top 7) (zip2 (λ a b. cond (nat_le a b) 255 0) (replicate m k) xs)
-    ≡ map (nat_le k) xs) e (map-top k xs))
+    (tops_compared w8 nat_le (replicate n k) xs ∙ zip2_splat_left nat_le k n xs e)
     ∙ mask_l-mod (map (nat_le k) xs) 64 (omega (arith, length-map xs (nat_le k)))
 
+-- the mask of 16 bytes has 16 bits
 pub mask_bound : (k : ℕ) (xs : List ℕ) → length xs ≡ 16 → mask_l (map (nat_le k) xs) < 0x10000
 mask_bound k xs e =
     let l = length-map xs (nat_le k) ∙ e in
     subst (λ n. mask_l (map (nat_le k) xs) < 2 ^ n) l (mask_l-lt (map (nat_le k) xs))
 
-bit_of : (t : Bool) → ◌≡◌ {A = ℕ} (cond (top 7 (cond t 255 0)) 1 0) 0 → t ≡ false
-bit_of true e = absurd (omega arith)
-bit_of false e = refl
+-- a truth value as a bit
+abbrev pub bit : Bool → ℕ
+bit t = cond t 1 0
 
-none_less : (xs ys : List ℕ)
-    → mask_l (map (top 7) (zip2 (λ a b. cond (ltb a b) 255 0) xs ys)) ≡ 0 → AreAbove xs ys
+pub is_clear : (t : Bool) → bit t ≡ 0 → t ≡ false
+is_clear true e = absurd (omega arith)
+is_clear false e = refl
+
+none_less : (xs ys : List ℕ) → mask_l (zip2 ltb xs ys) ≡ 0 → AreAbove xs ys
 none_less [] ys e = tt
 none_less (x ∷ xs) [] e = tt
 none_less (x ∷ xs) (y ∷ ys) e =
-    (ltb-false x y (bit_of (ltb x y) (omega arith)), none_less xs ys (omega arith))
+    (ltb-false x y (is_clear (ltb x y) (omega arith)), none_less xs ys (omega arith))
 
--- where no bit is set, no byte is less than its bound
+-- where the code sets no bit, no byte is less than its bound
 pub none_below : (xs ys : List ℕ) → length xs ≡ 16 → length ys ≡ 16
     → mask_l (map (top 7) (zip2 (λ a b. cond (ltb a b) 255 0) xs ys)) % 2 ^ 64 ≡ 0 → AreAbove xs ys
 none_below xs ys p q e =
-    let zs = zip2 (λ a b. cond (ltb a b) 255 0) xs ys in
-    let m = length-zip2 {C = ℕ} (λ a b. cond (ltb a b) 255 0) xs ys (p ∙ sym q) in
-    let l : length (map (top 7) zs) ≤ 64 = omega (arith, length-map zs (top 7)) in
-    none_less xs ys (sym (mask_l-mod (map (top 7) zs) 64 l) ∙ e)
+    let l : length (zip2 ltb xs ys) ≤ 64 =
+    omega (arith, length-zip2 {C = Bool} ltb xs ys (p ∙ sym q)) in
+    none_less xs ys
+    (sym (mask_l-mod (zip2 ltb xs ys) 64 l)
+    ∙ sym (ap (λ ms. mask_l ms % 2 ^ 64) (tops_compared w8 ltb xs ys)) ∙ e)

@@ -1,14 +1,10 @@
 -- Well-formed sequences, by the ranges of their bytes.
-use Rattle.std.proofs.Common.{◌≡◌, ℕ, ◌≤◌, List, [], ◌∷◌, length, Bool, true, false, ◌&&◌, ◌⊎◌}
-use Rattle.std.proofs.Common.{⊎_elim, inl, inr, refl, arith}
-use Rattle.std.specs.Prelude.{◌||◌}
+use Rattle.std.proofs.Common.{◌≡◌, ℕ, ◌≤◌, List, [], ◌∷◌, length, true, false, ◌&&◌, ⊎_elim}
+use Rattle.std.proofs.Common.{refl, arith}
 use Rattle.std.specs.Int.{is_in_range}
+use Rattle.std.proofs.lemmas.Bool.{or_cases}
 use Rattle.std.proofs.lemmas.Bool.Decides.{nat_tests}
 use Rattle.unix_bytes.specs.Utf8.{is_sequence, IsSequence}
-
-pub or_cases : (x y : Bool) → (x || y) ≡ true → (x ≡ true) ⊎ (y ≡ true)
-or_cases true y e = inl refl
-or_cases false y e = inr e
 
 pub one_byte : (a : ℕ) → IsSequence (a ∷ []) → a ≤ 0x7F
 unfolding is_sequence

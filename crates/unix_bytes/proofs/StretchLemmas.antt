@@ -2,7 +2,7 @@
 use Rattle.std.proofs.Common.{◌≡◌, ℕ, ◌+◌, ◌-◌, ◌<◌, ◌≤◌, List, ◌++◌, length, take, drop}
 use Rattle.std.proofs.Common.{slice_index, get_or-drop, add-zero, ⊎_elim, inr, sym, ap, ◌∙◌, subst}
 use Rattle.std.proofs.Common.{eqb, true, le_refl, arith, length-drop}
-use Rattle.std.proofs.lemmas.Bool.{eqb-true}
+use Rattle.std.proofs.lemmas.Bool.{eqb-true, false_from_ne_true}
 use Rattle.std.specs.Str.{IsAscii, IsUtf8}
 use Rattle.std.proofs.lemmas.List.{take_all, take_rest, drop-drop}
 use Rattle.std.proofs.lemmas.Str.{IsUtf8-from_ascii}
@@ -14,7 +14,7 @@ use Rattle.unix_bytes.proofs.TextLemmas.{IsUtf8-from_IsText, IsText-from_IsUtf8,
 use Rattle.unix_bytes.proofs.TextLemmas.{IsText-append, IsText-sequence}
 use Rattle.unix_bytes.proofs.SequenceLemmas.{two_is}
 use Rattle.unix_bytes.proofs.BegunLemmas.{take-two}
-use Rattle.unix_bytes.proofs.LongestLemmas.{not_true, longest_len-is, longest_len-longest}
+use Rattle.unix_bytes.proofs.LongestLemmas.{longest_len-is, longest_len-longest}
 use Rattle.unix_bytes.proofs.LossyLemmas.{is_text-from_IsText, IsText-from_is_text, text_rest}
 use Rattle.unix_bytes.proofs.LossyLemmas.{first_sequence}
 use Rattle.unix_bytes.proofs.BrokenLemmas.{broken_len_within, broken_none, none_in_front}
@@ -71,7 +71,8 @@ pub text_until : (s : List ℕ) (i : ℕ) → i ≤ length s → IsText (take i 
     → longest_len is_sequence (drop i s) ≡ 0 → i ≡ longest_len is_text s
 text_until s i le h z =
     sym (longest_len-is is_text s i le (inr (is_text-from_IsText (take i s) h))
-    (λ k p q. not_true (is_text (take k s)) (λ t. by k p q (IsText-from_is_text (take k s) t))))
+    (λ k p q. false_from_ne_true (is_text (take k s))
+    (λ t. by k p q (IsText-from_is_text (take k s) t))))
   where
     by : (k : ℕ) → i < k → k ≤ length s → IsText (take k s) → ⊥
     by k more within t =

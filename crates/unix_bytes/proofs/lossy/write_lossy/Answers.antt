@@ -7,7 +7,8 @@ use Rattle.unix_bytes.specs.Chunks.{replacement_for}
 use Rattle.unix_bytes.proofs.PushLemmas.{split_smaller, lossy_of-split}
 use Rattle.unix_bytes.proofs.PrinterLemmas.{pushed_piece, piece_is_utf8}
 use Rattle.unix_bytes.proofs.PrinterLemmas.{written_last, written_whole}
-use Rattle.unix_bytes.proofs.WriteLemmas.{written_append, written_same, styled_append, styled_same}
+use Rattle.std.proofs.Output.{has_written_append, has_written_of_eq}
+use Rattle.std.proofs.Output.{has_written_styled_append, has_written_styled_of_eq}
 use Rattle.unix_bytes.proofs.lossy.write_lossy.Goals as goal
 
 pub write_text-requires : goal.write_text-requires
@@ -39,19 +40,19 @@ loop-left-preserved g c =
     record {
       plain = λ p.
           let (bs, h, e) = c.loop-left.invariant.plain p in
-          let k = written_append took _ bs _ piece _ h
+          let k = has_written_append took _ bs _ piece _ h
           (c.in_ok-write_text.ensures.writes h.plain (refl {a = true})) in (
             (bs ++ piece) ++ chunk,
-            written_append took _ (bs ++ piece) _ chunk _ k
+            has_written_append took _ (bs ++ piece) _ chunk _ k
                 (c.in_ok-write_chunk.ensures.writes k.plain (refl {a = true})),
             said bs e,
           );
       styled = λ p.
           let (bs, h, e) = c.loop-left.invariant.styled p in
-          let k = styled_append took _ bs _ piece _ h
+          let k = has_written_styled_append took _ bs _ piece _ h
           (c.in_ok-write_text.ensures.styled h.flush (refl {a = true})) in (
             (bs ++ piece) ++ chunk,
-            styled_append took _ (bs ++ piece) _ chunk _ k
+            has_written_styled_append took _ (bs ++ piece) _ chunk _ k
                 (c.in_ok-write_chunk.ensures.styled k.flush (refl {a = true})),
             said bs e,
           );
@@ -63,10 +64,11 @@ returns-then-is_empty-clause-writes g c = λ p q.
     let left = c.loop-left.left.now in
     let none = eqb-true _ 0 (sym c.is_empty-in-loop-left.ensures ∙ c.if-is_empty.true) in
     let (bs, h, e) = c.loop-left.invariant.plain p in
-    written_same took _ _ _ _
+    has_written_of_eq took _ _ _ _
     (written_last bs _ left _ _ _ (take_rest left c.show_first-read.result.0) none
     c.show_first-read.ensures.lossy e)
-    (written_append took _ bs _ _ _ h (c.in_ok-write_text.ensures.writes h.plain (refl {a = true})))
+    (has_written_append took _ bs _ _ _ h
+    (c.in_ok-write_text.ensures.writes h.plain (refl {a = true})))
 
 pub returns-then-is_empty-clause-styled : goal.returns-then-is_empty-clause-styled
 returns-then-is_empty-clause-styled g c = λ p q.
@@ -74,19 +76,22 @@ returns-then-is_empty-clause-styled g c = λ p q.
     let left = c.loop-left.left.now in
     let none = eqb-true _ 0 (sym c.is_empty-in-loop-left.ensures ∙ c.if-is_empty.true) in
     let (bs, h, e) = c.loop-left.invariant.styled p in
-    styled_same took _ _ _ _
+    has_written_styled_of_eq took _ _ _ _
     (written_last bs _ left _ _ _ (take_rest left c.show_first-read.result.0) none
     c.show_first-read.ensures.lossy e)
-    (styled_append took _ bs _ _ _ h (c.in_ok-write_text.ensures.styled h.flush (refl {a = true})))
+    (has_written_styled_append took _ bs _ _ _ h
+    (c.in_ok-write_text.ensures.styled h.flush (refl {a = true})))
 
 pub returns-clause-writes : goal.returns-clause-writes
 returns-clause-writes g c = λ p q.
     let none = eqb-true _ 0 (sym c.is_empty.ensures ∙ c.loop-left-test.false) in
     let (bs, h, e) = c.loop-left.invariant.plain p in
-    written_same g.W.Write.write_str_gives _ _ _ _ (written_whole bs c.loop-left.left.now _ none e) h
+    has_written_of_eq g.W.Write.write_str_gives _ _ _ _
+    (written_whole bs c.loop-left.left.now _ none e) h
 
 pub returns-clause-styled : goal.returns-clause-styled
 returns-clause-styled g c = λ p q.
     let none = eqb-true _ 0 (sym c.is_empty.ensures ∙ c.loop-left-test.false) in
     let (bs, h, e) = c.loop-left.invariant.styled p in
-    styled_same g.W.Write.write_str_gives _ _ _ _ (written_whole bs c.loop-left.left.now _ none e) h
+    has_written_styled_of_eq g.W.Write.write_str_gives _ _ _ _
+    (written_whole bs c.loop-left.left.now _ none e) h

@@ -3,7 +3,8 @@ use Rattle.std.specs.Fmt.{padded}
 use Rattle.std.proofs.lemmas.Bool.{eqb-true}
 use Rattle.unix_bytes.proofs.LossyLemmas.{lossy_of-text}
 use Rattle.unix_bytes.proofs.PushLemmas.{split_only, split_padded, split_styled, lossy_of-split}
-use Rattle.unix_bytes.proofs.WriteLemmas.{written_append, written_same, styled_append, styled_same}
+use Rattle.std.proofs.Output.{has_written_append, has_written_of_eq}
+use Rattle.std.proofs.Output.{has_written_styled_append, has_written_styled_of_eq}
 use Rattle.unix_bytes.proofs.lossy.Utf8LossyDisplay.fmt.Goals as goal
 
 pub returns-then-is_empty-clause-writes : goal.returns-then-is_empty-clause-writes
@@ -12,14 +13,14 @@ returns-then-is_empty-clause-writes g c = λ p q.
     let split = c.split_text.ensures in
     let none = eqb-true _ 0 (sym c.is_empty.ensures ∙ c.if-is_empty.true) in
     let only = split_only s _ _ _ split.valid split.broken split.rest none in
-    written_same g.W.Write.write_str_gives _ _ _ _ (only.0 ∙ sym (lossy_of-text s only.1))
+    has_written_of_eq g.W.Write.write_str_gives _ _ _ _ (only.0 ∙ sym (lossy_of-text s only.1))
     (c.pad.ensures.writes p q)
 
 pub returns-then-is_empty-clause-styled : goal.returns-then-is_empty-clause-styled
 returns-then-is_empty-clause-styled g c = λ p q.
     let split = c.split_text.ensures in
     let none = eqb-true _ 0 (sym c.is_empty.ensures ∙ c.if-is_empty.true) in
-    styled_same g.W.Write.write_str_gives _ _ _ _
+    has_written_styled_of_eq g.W.Write.write_str_gives _ _ _ _
     (split_padded (padded _) c.args.self.now.bytes.now _ _ _ split.valid split.broken
     split.rest none)
     (c.pad.ensures.styled p q)
@@ -28,7 +29,7 @@ pub returns-then-valid-clause-styled : goal.returns-then-valid-clause-styled
 returns-then-valid-clause-styled g c = λ p q.
     let split = c.split_text.ensures in
     let some = sym c.is_empty.ensures ∙ c.if-is_empty.false in
-    styled_same g.W.Write.write_str_gives _ _ _ _
+    has_written_styled_of_eq g.W.Write.write_str_gives _ _ _ _
     (split_styled (padded _) _ _ _ _ split.valid split.broken split.rest some)
     (c.write_lossy.ensures.styled p q)
 
@@ -37,8 +38,8 @@ returns-clause-writes g c = λ p q.
     let took = g.W.Write.write_str_gives in
     let split = c.split_text.ensures in
     let first = c.in_ok-write_chunk.ensures.writes p (refl {a = true}) in
-    written_same took _ _ _ _ (lossy_of-split _ _ _ _ split.valid split.broken split.rest)
-    (written_append took _ _ _ _ _ first (c.write_lossy-2.ensures.writes first.plain q))
+    has_written_of_eq took _ _ _ _ (lossy_of-split _ _ _ _ split.valid split.broken split.rest)
+    (has_written_append took _ _ _ _ _ first (c.write_lossy-2.ensures.writes first.plain q))
 
 pub returns-clause-styled : goal.returns-clause-styled
 returns-clause-styled g c = λ p q.
@@ -46,6 +47,7 @@ returns-clause-styled g c = λ p q.
     let split = c.split_text.ensures in
     let first = c.in_ok-write_chunk.ensures.styled p (refl {a = true}) in
     let some = sym c.is_empty.ensures ∙ c.if-is_empty.false in
-    styled_same took _ _ _ _ (lossy_of-split _ _ _ _ split.valid split.broken split.rest
+    has_written_styled_of_eq took _ _ _ _
+    (lossy_of-split _ _ _ _ split.valid split.broken split.rest
     ∙ split_styled (padded _) _ _ _ _ split.valid split.broken split.rest some)
-    (styled_append took _ _ _ _ _ first (c.write_lossy-2.ensures.styled first.flush q))
+    (has_written_styled_append took _ _ _ _ _ first (c.write_lossy-2.ensures.styled first.flush q))
