@@ -1,15 +1,15 @@
 -- How far two strings are the same, and several bytes of each compared at once.
 use Rattle.std.proofs.Common.{◌≡◌, ℕ, zero, suc, ◌+◌, ◌-◌, ◌^◌, ◌%◌, ◌<◌, ◌≤◌, Bool, true, false}
-use Rattle.std.proofs.Common.{cond, not, eqb, List, [], ◌∷◌, length, map, get_or}
+use Rattle.std.proofs.Common.{cond, not, eqb, List, [], ◌∷◌, length, map, get_or, ⊎_elim}
 use Rattle.std.proofs.Common.{refl, sym, ap, ap₂, ◌∙◌, arith, w8, eq-eqb, ne_eqb, eqb-true}
 use Rattle.std.specs.Int.Count.{count_trailing_zeros}
 use Rattle.std.specs.List.{common_prefix_len, prefix_len}
 use Rattle.std.specs.Simd.Lanes.{zip2, chunk, mask_l, top}
+use Rattle.std.proofs.lemmas.Bool.{cases_Bool}
 use Rattle.std.proofs.lemmas.List.{length-map}
 use Rattle.std.proofs.lemmas.List.Sums.{common_prefix_len-le}
 use Rattle.std.proofs.lemmas.Simd.{tops_compared, mask_l-mod, first_set_mask_l}
 use Rattle.std.proofs.lemmas.Simd.{length-chunk, get_or-chunk}
-use Rattle.unix_bytes.proofs.HitLemmas.{by_test}
 
 -- the bytes are the same up to n, where a string ends or they differ
 pub common_prefix_len-is : (a b : List ℕ) (n : ℕ) → n ≤ length a → n ≤ length b
@@ -32,24 +32,34 @@ common_prefix_len-same : (a b : List ℕ) (k : ℕ) → k < common_prefix_len eq
     → get_or a k 0 ≡ get_or b k 0
 common_prefix_len-same [] b k l = absurd (omega arith)
 common_prefix_len-same (x ∷ a) [] k l = absurd (omega arith)
-common_prefix_len-same (x ∷ a) (y ∷ b) zero l = by_test (eqb x y) (λ e. eqb-true x y e)
-    (λ e. let m : 0 < 0 = rw e at l in absurd (omega arith))
-common_prefix_len-same (x ∷ a) (y ∷ b) (suc k) l = by_test (eqb x y)
-    (λ e. let m : suc k < 1 + common_prefix_len eqb a b = rw e at l in
+common_prefix_len-same (x ∷ a) (y ∷ b) zero l =
+    ⊎_elim (λ (same : eqb x y ≡ true). eqb-true x y same)
+    (λ (other : eqb x y ≡ false). let m : 0 < 0 = rw other at l in absurd (omega arith))
+    (cases_Bool (eqb x y))
+common_prefix_len-same (x ∷ a) (y ∷ b) (suc k) l =
+    ⊎_elim
+    (λ (same : eqb x y ≡ true).
+    let m : suc k < 1 + common_prefix_len eqb a b = rw same at l in
     common_prefix_len-same a b k (omega arith))
-    (λ e. let m : suc k < 0 = rw e at l in absurd (omega arith))
+    (λ (other : eqb x y ≡ false). let m : suc k < 0 = rw other at l in absurd (omega arith))
+    (cases_Bool (eqb x y))
 
 common_prefix_len-differs : (a b : List ℕ) (n : ℕ) → n ≡ common_prefix_len eqb a b → n < length a
     → n < length b → eqb (get_or a n 0) (get_or b n 0) ≡ false
 common_prefix_len-differs [] b n e l m = absurd (omega arith)
 common_prefix_len-differs (x ∷ a) [] n e l m = absurd (omega arith)
-common_prefix_len-differs (x ∷ a) (y ∷ b) zero e l m = by_test (eqb x y)
-    (λ same. let f : 0 ≡ 1 + common_prefix_len eqb a b = rw same at e in absurd (omega arith))
-    (λ other. other)
-common_prefix_len-differs (x ∷ a) (y ∷ b) (suc n) e l m = by_test (eqb x y)
-    (λ same. let f : suc n ≡ 1 + common_prefix_len eqb a b = rw same at e in
+common_prefix_len-differs (x ∷ a) (y ∷ b) zero e l m =
+    ⊎_elim
+    (λ (same : eqb x y ≡ true).
+    let f : 0 ≡ 1 + common_prefix_len eqb a b = rw same at e in absurd (omega arith))
+    (λ (other : eqb x y ≡ false). other) (cases_Bool (eqb x y))
+common_prefix_len-differs (x ∷ a) (y ∷ b) (suc n) e l m =
+    ⊎_elim
+    (λ (same : eqb x y ≡ true).
+    let f : suc n ≡ 1 + common_prefix_len eqb a b = rw same at e in
     common_prefix_len-differs a b n (omega arith) (omega arith) (omega arith))
-    (λ other. let f : suc n ≡ 0 = rw other at e in absurd (omega arith))
+    (λ (other : eqb x y ≡ false). let f : suc n ≡ 0 = rw other at e in absurd (omega arith))
+    (cases_Bool (eqb x y))
 
 abbrev differ : ℕ × ℕ → Bool
 differ pair = not (eqb pair.0 pair.1)
@@ -67,7 +77,8 @@ prefix_len-pairs : (a b : List ℕ)
 prefix_len-pairs [] b = refl
 prefix_len-pairs (x ∷ a) [] = refl
 prefix_len-pairs (x ∷ a) (y ∷ b) =
-    by_test (eqb x y) (λ e. rw e (ap (λ n. 1 + n) (prefix_len-pairs a b))) (λ e. rw e refl)
+    ⊎_elim (λ (same : eqb x y ≡ true). rw same (ap (λ n. 1 + n) (prefix_len-pairs a b)))
+    (λ (other : eqb x y ≡ false). rw other refl) (cases_Bool (eqb x y))
 
 length-pairs : (a b : List ℕ) → length a ≡ length b → length (pairs a b) ≡ length a
 length-pairs [] b e = refl

@@ -6,9 +6,9 @@ pub mod LongestLemmas
 pub mod FrontLemmas
 pub mod GrowLemmas
 pub mod StepLemmas
-pub mod LaneLemmas
 pub mod SelectLemmas
 pub mod MaskLemmas
+pub mod LaneLemmas
 pub mod MarkLemmas
 pub mod FinishLemmas
 pub mod TextLemmas

@@ -4,6 +4,7 @@ use Rattle.std.proofs.Common.{sym, ap, ◌∙◌, subst, arith, append_assoc, ap
 use Rattle.std.proofs.Common.{take-append-drop}
 use Rattle.std.proofs.Common.{length-take-le, ⊎_elim, slice_index, slice_set}
 use Rattle.std.proofs.lemmas.List.{drop-drop, take-take, take_more_set, nil_from_length}
+use Rattle.std.proofs.lemmas.Str.Ascii.{IsAscii-more, IsAscii-nil}
 use Rattle.std.specs.Str.{IsUtf8}
 use Rattle.std.proofs.Math.Seq.{take-append-add}
 use Rattle.unix_bytes.specs.Utf8.{is_sequence, IsText}
@@ -18,7 +19,6 @@ use Rattle.unix_bytes.proofs.LossyLemmas.{lossy_of-append, lossy_of-none, lossy_
 use Rattle.unix_bytes.proofs.BrokenLemmas.{broken_none, none_in_front, broken_len-none}
 use Rattle.unix_bytes.proofs.BrokenLemmas.{broken_len_within}
 use Rattle.unix_bytes.proofs.StretchLemmas.{ascii_is_text, sequence_within}
-use Rattle.unix_bytes.proofs.LaneLemmas.{none_is_ascii, one_more_ascii}
 use Rattle.unix_bytes.proofs.LawLemmas.{replacement_is_sequence}
 
 -- text is written as it is
@@ -101,8 +101,8 @@ pub takes_one : (out s : List ℕ) (at : ℕ) → 0 < length s → at < length o
 takes_one out [] at some within = absurd (omega arith)
 takes_one out (b ∷ bs) at some within = take_more_set out at b within
 
-pub first_is_text : (s : List ℕ) → slice_index s 0 < 0x80 → IsText (take 1 s)
-first_is_text s h = ascii_is_text (take 1 s) (one_more_ascii s 0 (none_is_ascii s) h)
+pub first_is_text : (s : List ℕ) → 0 < length s → slice_index s 0 < 0x80 → IsText (take 1 s)
+first_is_text s some h = ascii_is_text (take 1 s) (IsAscii-more s 0 some IsAscii-nil h)
 
 -- a sequence has four bytes at most
 pub sequence_is_short : (s : List ℕ) → longest_len is_sequence s ≤ 4

@@ -1,6 +1,6 @@
-use Rattle.std.proofs.Common.{◌+◌, ◌-◌, ltb, arith, ltb-true, ltb-false}
+use Rattle.std.proofs.Common.{◌+◌, ◌-◌, ◌<◌, ◌≤◌, ⊎_elim, arith}
+use Rattle.std.proofs.lemmas.Bool.{cases_lt}
 use Rattle.unix_bytes.proofs.CommonLemmas.{common_prefix_len-is}
-use Rattle.unix_bytes.proofs.HitLemmas.{by_test}
 use Rattle.unix_bytes.proofs.search.common_len.Goals as goal
 
 pub returns-then-common-lt16-clause-value : goal.returns-then-common-lt16-clause-value
@@ -8,8 +8,9 @@ returns-then-common-lt16-clause-value c =
     let len = c.loop-len.len in
     let lanes = c.common_in_lanes-common in
     common_prefix_len-is c.args.a.now c.args.b.now (len + lanes.result) (omega arith) (omega arith)
-    (λ k l. by_test (ltb k len) (λ e. c.loop-len.invariant.same k (ltb-true k len e))
-    (λ e. lanes.ensures.same k (ltb-false k len e) l))
+    (λ k l.
+    ⊎_elim (λ (less : k < len). c.loop-len.invariant.same k less)
+    (λ (more : len ≤ k). lanes.ensures.same k more l) (cases_lt k len))
     (λ _ _. lanes.ensures.differs c.if-common-lt16.true)
 
 pub loop-len-preserved : goal.loop-len-preserved
@@ -18,8 +19,9 @@ loop-len-preserved c =
     let lanes = c.common_in_lanes-common in
     record {
       in_range = omega arith;
-      same = λ k l. by_test (ltb k len) (λ e. c.loop-len.invariant.same k (ltb-true k len e))
-          (λ e. lanes.ensures.same k (ltb-false k len e) (omega arith));
+      same = λ k l.
+          ⊎_elim (λ (less : k < len). c.loop-len.invariant.same k less)
+          (λ (more : len ≤ k). lanes.ensures.same k more (omega arith)) (cases_lt k len);
     }
 
 pub returns-clause-value : goal.returns-clause-value
@@ -28,6 +30,7 @@ returns-clause-value c =
     let last = c.min-most.result - 16 in
     let lanes = c.common_in_lanes in
     common_prefix_len-is c.args.a.now c.args.b.now (last + lanes.result) (omega arith) (omega arith)
-    (λ k l. by_test (ltb k len) (λ e. c.loop-len.invariant.same k (ltb-true k len e))
-    (λ e. lanes.ensures.same k (omega (arith, ltb-false k len e)) l))
+    (λ k l.
+    ⊎_elim (λ (less : k < len). c.loop-len.invariant.same k less)
+    (λ (more : len ≤ k). lanes.ensures.same k (omega arith) l) (cases_lt k len))
     (λ in_first in_second. lanes.ensures.differs (omega arith))

@@ -1,22 +1,27 @@
-use Rattle.std.proofs.Common.{◌==◌, take, drop, sym, ap, ◌∙◌}
+use Rattle.std.proofs.Common.{◌≡◌, ◌<◌, ◌==◌, length, take, drop, sym, ap, ◌∙◌, arith}
 use Rattle.std.specs.Int.Count.{count_trailing_zeros}
-use Rattle.std.proofs.lemmas.Simd.{run_in_chunk_le}
-use Rattle.unix_bytes.proofs.HitLemmas.{length-window, position_or_len-hit, position_or_len-no_hit}
+use Rattle.std.proofs.lemmas.Simd.{length-chunk, run_in_chunk_le}
+use Rattle.std.proofs.lemmas.Simd.{leading_from_mask_l, trailing_mask_l}
+use Rattle.unix_bytes.specs.Lanes.{hit_mask}
 use Rattle.unix_bytes.proofs.search.first_in_lanes.Goals as goal
 
 pub returns-then-hits-eq0-clause-value : goal.returns-then-hits-eq0-clause-value
 returns-then-hits-eq0-clause-value c =
-    let window = take 16 (drop c.args.at c.args.bytes.now) in
-    position_or_len-no_hit c.args.byte window (length-window c.args.at c.args.bytes.now c.requires)
-    (sym c.hits-hits.ensures ∙ c.if-hits-eq0.true)
+    let s = c.args.bytes.now in
+    let window = take 16 (drop c.args.at s) in
+    let none = leading_from_mask_l (λ b. b == c.args.byte) window
+    (sym c.hits-hits.ensures ∙ c.if-hits-eq0.true) in
+    sym (none ∙ length-chunk c.args.at 16 s c.requires)
 
 pub returns-else-hits-eq0-clause-value : goal.returns-else-hits-eq0-clause-value
 returns-else-hits-eq0-clause-value c =
-    let window = take 16 (drop c.args.at c.args.bytes.now) in
+    let s = c.args.bytes.now in
+    let window = take 16 (drop c.args.at s) in
+    let long : length window ≡ 16 = length-chunk c.args.at 16 s c.requires in
+    let some : 0 < hit_mask c.args.byte window =
+    omega (arith, c.hits-hits.ensures, c.if-hits-eq0.false) in
     ap (count_trailing_zeros 64) c.hits-hits.ensures
-    ∙ position_or_len-hit c.args.byte window
-    (length-window c.args.at c.args.bytes.now c.requires)
-    (λ e. c.if-hits-eq0.false (c.hits-hits.ensures ∙ e))
+    ∙ trailing_mask_l (λ b. b == c.args.byte) 64 window (omega arith) some
 
 pub returns-else-hits-eq0-clause-in_range : goal.returns-else-hits-eq0-clause-in_range
 returns-else-hits-eq0-clause-in_range c =

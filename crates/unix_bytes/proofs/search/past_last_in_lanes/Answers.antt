@@ -1,7 +1,8 @@
 use Rattle.std.proofs.Common.{◌+◌, ◌-◌, ◌==◌, take, drop, get_or, sym, ap, ◌∙◌, arith, eqb-true}
 use Rattle.std.proofs.Common.{subst}
 use Rattle.std.specs.Int.Count.{count_leading_zeros}
-use Rattle.unix_bytes.proofs.HitLemmas.{LastHit, in_window, last_hit, length-window}
+use Rattle.std.proofs.lemmas.Simd.{length-chunk}
+use Rattle.unix_bytes.proofs.HitLemmas.{LastHit, in_window, last_hit}
 use Rattle.unix_bytes.proofs.search.past_last_in_lanes.Goals as goal
 
 pub returns : goal.returns
@@ -11,7 +12,7 @@ returns c =
     let byte = c.args.byte in
     let window = take 16 (drop at s) in
     let hit = subst (λ n. LastHit byte window (64 - count_leading_zeros 64 n)) (sym c.hits.ensures)
-    (last_hit byte window (length-window at s c.requires)) in
+    (last_hit byte window (length-chunk at 16 s c.requires)) in
     let past = 64 - count_leading_zeros 64 c.hits.result in
     record {
       in_range = hit.in_range;

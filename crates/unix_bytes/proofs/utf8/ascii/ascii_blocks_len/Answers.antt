@@ -1,5 +1,5 @@
 use Rattle.std.proofs.Common.{arith}
-use Rattle.unix_bytes.proofs.LaneLemmas.{ascii_block}
+use Rattle.unix_bytes.proofs.LaneLemmas.{more_ascii}
 use Rattle.unix_bytes.proofs.utf8.ascii.ascii_blocks_len.Goals as goal
 
 pub loop-at-preserved : goal.loop-at-preserved
@@ -8,5 +8,5 @@ loop-at-preserved c =
     let here = c.is_ascii_block.ensures c.if-is_ascii_block.true in
     record {
       within = omega (arith, so_far.within, c.loop-at-test.true);
-      ascii = ascii_block c.args.source.now c.loop-at.at so_far.ascii here;
+      ascii = more_ascii c.args.source.now c.loop-at.at 64 so_far.ascii here;
     }
