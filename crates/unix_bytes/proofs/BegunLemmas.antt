@@ -57,80 +57,73 @@ take-two [] l = absurd (omega arith)
 take-two (x ∷ []) l = absurd (omega arith)
 take-two (x ∷ y ∷ s) l = refl
 
--- what begins a sequence of two bytes or more
-pub first_begun : (s : List ℕ) → HasBegun s 2 → (0xC2 ≤ slice_index s 0) × (slice_index s 0 ≤ 0xF4)
-first_begun [] h = absurd (omega arith)
-first_begun (x ∷ []) h = absurd (omega arith)
-first_begun (x ∷ y ∷ s) h =
-    let (u, is) = BeginsSequence-from (x ∷ y ∷ []) h.1 in
-    let p = pair_of x y u is in
-    (p.0, p.1)
-
-pub pair_begun : (s : List ℕ) → HasBegun s 2 → (0xC2 ≤ slice_index s 0)
+-- the ranges of the first two bytes, where these begin a sequence
+pub pair_bounds : (s : List ℕ) → HasBegun s 2 → (0xC2 ≤ slice_index s 0)
     × (slice_index s 0 ≤ 0xF4) × (1 < length s) × IsTail (slice_index s 1)
-pair_begun [] h = absurd (omega arith)
-pair_begun (x ∷ []) h = absurd (omega arith)
-pair_begun (x ∷ y ∷ s) h =
+pair_bounds [] h = absurd (omega arith)
+pair_bounds (x ∷ []) h = absurd (omega arith)
+pair_bounds (x ∷ y ∷ s) h =
     let (u, is) = BeginsSequence-from (x ∷ y ∷ []) h.1 in
     let p = pair_of x y u is in
     (p.0, p.1, omega arith, (p.2, p.3))
 
 -- three bytes have begun a sequence where two have and the third goes on
-pub begun_three : (s : List ℕ) → HasBegun s 2 → 0xE0 ≤ slice_index s 0 → 2 < length s
+pub HasBegun-three : (s : List ℕ) → HasBegun s 2 → 0xE0 ≤ slice_index s 0 → 2 < length s
     → IsTail (slice_index s 2) → HasBegun s 3
-begun_three [] h g l t = absurd (omega arith)
-begun_three (x ∷ []) h g l t = absurd (omega arith)
-begun_three (x ∷ y ∷ []) h g l t = absurd (omega arith)
-begun_three (x ∷ y ∷ z ∷ s) h g l t = (omega arith, third_begins x y z h.1 g t)
+HasBegun-three [] h g l t = absurd (omega arith)
+HasBegun-three (x ∷ []) h g l t = absurd (omega arith)
+HasBegun-three (x ∷ y ∷ []) h g l t = absurd (omega arith)
+HasBegun-three (x ∷ y ∷ z ∷ s) h g l t = (omega arith, third_begins x y z h.1 g t)
 
-pub third_begun : (s : List ℕ) → HasBegun s 3
+pub third_byte_bounds : (s : List ℕ) → HasBegun s 3
     → (0xE0 ≤ slice_index s 0) × (2 < length s) × IsTail (slice_index s 2)
-third_begun [] h = absurd (omega arith)
-third_begun (x ∷ []) h = absurd (omega arith)
-third_begun (x ∷ y ∷ []) h = absurd (omega arith)
-third_begun (x ∷ y ∷ z ∷ s) h =
+third_byte_bounds [] h = absurd (omega arith)
+third_byte_bounds (x ∷ []) h = absurd (omega arith)
+third_byte_bounds (x ∷ y ∷ []) h = absurd (omega arith)
+third_byte_bounds (x ∷ y ∷ z ∷ s) h =
     let (u, is) = BeginsSequence-from (x ∷ y ∷ z ∷ []) h.1 in
     let t = third_of x y z u is in
     (t.0, omega arith, t.1)
 
-pub begun_four : (s : List ℕ) → HasBegun s 3 → 0xF0 ≤ slice_index s 0 → 3 < length s
+pub HasBegun-four : (s : List ℕ) → HasBegun s 3 → 0xF0 ≤ slice_index s 0 → 3 < length s
     → IsTail (slice_index s 3) → HasBegun s 4
-begun_four [] h g l t = absurd (omega arith)
-begun_four (x ∷ []) h g l t = absurd (omega arith)
-begun_four (x ∷ y ∷ []) h g l t = absurd (omega arith)
-begun_four (x ∷ y ∷ z ∷ []) h g l t = absurd (omega arith)
-begun_four (x ∷ y ∷ z ∷ w ∷ s) h g l t = (omega arith, fourth_begins x y z w h.1 g t)
+HasBegun-four [] h g l t = absurd (omega arith)
+HasBegun-four (x ∷ []) h g l t = absurd (omega arith)
+HasBegun-four (x ∷ y ∷ []) h g l t = absurd (omega arith)
+HasBegun-four (x ∷ y ∷ z ∷ []) h g l t = absurd (omega arith)
+HasBegun-four (x ∷ y ∷ z ∷ w ∷ s) h g l t = (omega arith, fourth_begins x y z w h.1 g t)
 
-pub fourth_begun : (s : List ℕ) → HasBegun s 4
+pub fourth_byte_bounds : (s : List ℕ) → HasBegun s 4
     → (0xF0 ≤ slice_index s 0) × (3 < length s) × IsTail (slice_index s 3)
-fourth_begun [] h = absurd (omega arith)
-fourth_begun (x ∷ []) h = absurd (omega arith)
-fourth_begun (x ∷ y ∷ []) h = absurd (omega arith)
-fourth_begun (x ∷ y ∷ z ∷ []) h = absurd (omega arith)
-fourth_begun (x ∷ y ∷ z ∷ w ∷ s) h =
+fourth_byte_bounds [] h = absurd (omega arith)
+fourth_byte_bounds (x ∷ []) h = absurd (omega arith)
+fourth_byte_bounds (x ∷ y ∷ []) h = absurd (omega arith)
+fourth_byte_bounds (x ∷ y ∷ z ∷ []) h = absurd (omega arith)
+fourth_byte_bounds (x ∷ y ∷ z ∷ w ∷ s) h =
     let (u, is) = BeginsSequence-from (x ∷ y ∷ z ∷ w ∷ []) h.1 in
     let t = fourth_of x y z w u is in
     (t.0, omega arith, t.1)
 
 -- where more bytes have begun a sequence, fewer have
-pub third_of_fourth : (s : List ℕ) → HasBegun s 4 → HasBegun s 3
-third_of_fourth [] h = absurd (omega arith)
-third_of_fourth (x ∷ []) h = absurd (omega arith)
-third_of_fourth (x ∷ y ∷ []) h = absurd (omega arith)
-third_of_fourth (x ∷ y ∷ z ∷ []) h = absurd (omega arith)
-third_of_fourth (x ∷ y ∷ z ∷ w ∷ s) h =
+pub HasBegun-three_of_four : (s : List ℕ) → HasBegun s 4 → HasBegun s 3
+HasBegun-three_of_four [] h = absurd (omega arith)
+HasBegun-three_of_four (x ∷ []) h = absurd (omega arith)
+HasBegun-three_of_four (x ∷ y ∷ []) h = absurd (omega arith)
+HasBegun-three_of_four (x ∷ y ∷ z ∷ []) h = absurd (omega arith)
+HasBegun-three_of_four (x ∷ y ∷ z ∷ w ∷ s) h =
     let (u, is) = BeginsSequence-from (x ∷ y ∷ z ∷ w ∷ []) h.1 in
     (omega arith, begins_sequence-from (x ∷ y ∷ z ∷ []) (w ∷ u, is))
 
-pub second_of_third : (s : List ℕ) → HasBegun s 3 → HasBegun s 2
-second_of_third [] h = absurd (omega arith)
-second_of_third (x ∷ []) h = absurd (omega arith)
-second_of_third (x ∷ y ∷ []) h = absurd (omega arith)
-second_of_third (x ∷ y ∷ z ∷ s) h =
+pub HasBegun-two_of_three : (s : List ℕ) → HasBegun s 3 → HasBegun s 2
+HasBegun-two_of_three [] h = absurd (omega arith)
+HasBegun-two_of_three (x ∷ []) h = absurd (omega arith)
+HasBegun-two_of_three (x ∷ y ∷ []) h = absurd (omega arith)
+HasBegun-two_of_three (x ∷ y ∷ z ∷ s) h =
     let (u, is) = BeginsSequence-from (x ∷ y ∷ z ∷ []) h.1 in
     (omega arith, begins_sequence-from (x ∷ y ∷ []) (z ∷ u, is))
 
-pub ruleset beginnings = (take-two, first_begun, begun_three, third_begun, begun_four, fourth_begun)
+pub ruleset beginnings =
+    (take-two, pair_bounds, HasBegun-three, third_byte_bounds, HasBegun-four, fourth_byte_bounds)
 
 -- how far a sequence has begun; fewer bytes have begun one where more have
-pub ruleset all_beginnings = (beginnings, second_of_third, third_of_fourth)
+pub ruleset all_beginnings = (beginnings, HasBegun-two_of_three, HasBegun-three_of_four)

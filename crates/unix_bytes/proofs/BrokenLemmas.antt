@@ -6,7 +6,7 @@ use Rattle.std.proofs.lemmas.Bool.{cases_Bool, cond-true, cond-false}
 use Rattle.unix_bytes.specs.Utf8.{is_sequence}
 use Rattle.unix_bytes.specs.Steps.{longest_len, longest_front_of, broken_len, HasBegun}
 use Rattle.unix_bytes.proofs.SequenceLemmas.{no_bytes}
-use Rattle.unix_bytes.proofs.BegunLemmas.{first_begun}
+use Rattle.unix_bytes.proofs.BegunLemmas.{pair_bounds}
 use Rattle.unix_bytes.proofs.LongestLemmas.{longest_len-longest}
 use Rattle.unix_bytes.proofs.FrontLemmas.{longest_front_of-nil, longest_front_of-take}
 use Rattle.unix_bytes.proofs.FrontLemmas.{longest_front_of-sequence, front_within}
@@ -15,11 +15,11 @@ use Rattle.unix_bytes.proofs.StepLemmas.{none_of_two, none_of_three, none_of_fou
 use Rattle.unix_bytes.proofs.StepLemmas.{two_byte_sequence, three_byte_sequence, four_byte_sequence}
 use Rattle.unix_bytes.proofs.LossyLemmas.{is_sequence-longest_front_of}
 
-pub broken_none : (s : List ℕ) → length s ≡ 0 → broken_len s ≡ 0
-broken_none [] e =
+pub broken_len-empty : (s : List ℕ) → length s ≡ 0 → broken_len s ≡ 0
+broken_len-empty [] e =
     cond-false _ _ _ (ap is_sequence longest_front_of-nil ∙ no_bytes)
     ∙ ap length longest_front_of-nil
-broken_none (b ∷ bs) e = absurd (omega arith)
+broken_len-empty (b ∷ bs) e = absurd (omega arith)
 
 pub broken_len-none : (s : List ℕ) → longest_len is_sequence s ≡ 0
     → broken_len s ≡ length (longest_front_of s)
@@ -42,16 +42,16 @@ none_in_front s some =
     let z : broken_len s ≡ 0 = cond-true _ _ _ (ap is_sequence e ∙ h) in
     absurd (omega arith)) (longest_len-longest is_sequence s).passes
 
-front_of_within : (s : List ℕ) → length (longest_front_of s) ≤ length s
-front_of_within [] = let e = ap length longest_front_of-nil in omega arith
-front_of_within (b ∷ bs) = (front_within b bs).1
+longest_front_within : (s : List ℕ) → length (longest_front_of s) ≤ length s
+longest_front_within [] = let e = ap length longest_front_of-nil in omega arith
+longest_front_within (b ∷ bs) = (front_within b bs).1
 
 pub broken_len_within : (s : List ℕ) → broken_len s ≤ length s
 broken_len_within s =
     ⊎_elim (λ t. let e : broken_len s ≡ 0 = cond-true _ _ _ t in omega arith)
     (λ f.
     let e : broken_len s ≡ length (longest_front_of s) = cond-false _ _ _ f in
-    omega (arith, front_of_within s)) (cases_Bool (is_sequence (longest_front_of s)))
+    omega (arith, longest_front_within s)) (cases_Bool (is_sequence (longest_front_of s)))
 
 -- the broken front, by how far a sequence has begun
 pub one_byte_broken : (s : List ℕ) → 0 < length s → (HasBegun s 2 → ⊥) → 0x80 ≤ slice_index s 0
@@ -65,9 +65,9 @@ two_byte_broken s h end wide =
     broken_len-none s (none_of_three s end wide) ∙ two_byte_front s h end
 
 -- one byte is broken at a place, where no sequence of two or more may stand there
-pub broken_at : (s r : List ℕ) (i : ℕ) → r ≡ drop i s → i < length s → 0x80 ≤ slice_index s i
+pub one_broken_at : (s r : List ℕ) (i : ℕ) → r ≡ drop i s → i < length s → 0x80 ≤ slice_index s i
     → (HasBegun r 2 → ⊥) → 1 ≡ broken_len r
-broken_at s r i rest some wide end =
+one_broken_at s r i rest some wide end =
     let first : slice_index r 0 ≡ slice_index s i =
     ap (λ t. slice_index t 0) rest ∙ get_or-drop i s 0 0 ∙ ap (slice_index s) (add-zero i) in
     sym (one_byte_broken r (omega (arith, ap length rest, length-drop i s)) end (omega arith))
@@ -83,7 +83,7 @@ pub lone_byte_broken : (s : List ℕ) → 0 < length s → 0x80 ≤ slice_index 
     → ((0xE0 ≤ slice_index s 0) × (slice_index s 0 ≤ 0xEF) → ⊥)
     → ((0xF0 ≤ slice_index s 0) × (slice_index s 0 ≤ 0xF4) → ⊥) → broken_len s ≡ 1
 lone_byte_broken s some wide two three four =
-    one_byte_broken s some (λ h. let lead = first_begun s h in grind arith) wide
+    one_byte_broken s some (λ h. let lead = pair_bounds s h in grind arith) wide
 
 pub ruleset two_byte_fronts = (two_byte_sequence, one_byte_broken, lone_byte_broken)
 

@@ -180,19 +180,19 @@ lossy_of-chunk s =
     ∙ ap (λ x. (v ++ mark) ++ lossy_of x)
     (drop-drop (length b) n s ∙ ap (λ j. drop (j + length b) s) (sym e))
 
-shown_within : (n : ℕ) (s : List ℕ) → length s ≤ n
+shows_lossy_within : (n : ℕ) (s : List ℕ) → length s ≤ n
     → flat_map shown_chunk (chunks_of s) ≡ lossy_of s
-shown_within n [] le = ap (flat_map shown_chunk) chunks_of-nil ∙ sym lossy_of-nil
-shown_within zero (b ∷ bs) le = absurd (omega arith)
-shown_within (suc n) (b ∷ bs) le =
+shows_lossy_within n [] le = ap (flat_map shown_chunk) chunks_of-nil ∙ sym lossy_of-nil
+shows_lossy_within zero (b ∷ bs) le = absurd (omega arith)
+shows_lossy_within (suc n) (b ∷ bs) le =
     let s = b ∷ bs in
     let c = first_chunk_of s in
     let k = chunk_len c in
     ap (flat_map shown_chunk) (chunks_of-some b bs)
     ∙ ap (λ t. shown_chunk c ++ t)
-    (shown_within n (drop k s) (length-drop-some n k b bs (chunk_some b bs) le))
+    (shows_lossy_within n (drop k s) (length-drop-some n k b bs (chunk_some b bs) le))
     ∙ sym (lossy_of-chunk s)
 
 -- the chunks as they are shown are the lossy text
 pub shown-chunks_of : (s : List ℕ) → flat_map shown_chunk (chunks_of s) ≡ lossy_of s
-shown-chunks_of s = shown_within (length s) s (le_refl (length s))
+shown-chunks_of s = shows_lossy_within (length s) s (le_refl (length s))

@@ -18,40 +18,41 @@ EndsFinished a b c (d ∷ s) = EndsFinished b c d s
 abbrev KeepsFinished : List ℕ → Type 0
 KeepsFinished s = (a b c : ℕ) → IsFinished a b c → EndsFinished a b c s
 
-sequence_ends : (u s : List ℕ) → IsSequence u → KeepsFinished s → KeepsFinished (u ++ s)
-sequence_ends [] s h next a b c k = let z = no_bytes in cc
-sequence_ends (d ∷ []) s h next a b c k =
+sequence_keeps_finished : (u s : List ℕ) → IsSequence u → KeepsFinished s → KeepsFinished (u ++ s)
+sequence_keeps_finished [] s h next a b c k = let z = no_bytes in cc
+sequence_keeps_finished (d ∷ []) s h next a b c k =
     let p = one_byte d h in next b c d (omega arith, omega arith, omega arith)
-sequence_ends (d ∷ e ∷ []) s h next a b c k =
+sequence_keeps_finished (d ∷ e ∷ []) s h next a b c k =
     let p = two_bytes d e h in next c d e (omega arith, omega arith, omega arith)
-sequence_ends (d ∷ e ∷ f ∷ []) s h next a b c k =
+sequence_keeps_finished (d ∷ e ∷ f ∷ []) s h next a b c k =
     let p = three_bytes d e f h in next d e f (omega arith, omega arith, omega arith)
-sequence_ends (d ∷ e ∷ f ∷ x ∷ []) s h next a b c k =
+sequence_keeps_finished (d ∷ e ∷ f ∷ x ∷ []) s h next a b c k =
     let p = four_bytes d e f x h in next e f x (omega arith, omega arith, omega arith)
-sequence_ends (d ∷ e ∷ f ∷ x ∷ y ∷ u) s h next a b c k = let z = more_bytes d e f x y u in cc
+sequence_keeps_finished (d ∷ e ∷ f ∷ x ∷ y ∷ u) s h next a b c k =
+    let z = more_bytes d e f x y u in cc
 
-text_ends_finished : (us : List (List ℕ)) → All IsSequence us → KeepsFinished (concat us)
-text_ends_finished [] all = λ a b c k. k
-text_ends_finished (u ∷ us) all =
-    sequence_ends u (concat us) (All-head IsSequence u us all)
-    (text_ends_finished us (All-tail IsSequence u us all))
+text_keeps_finished : (us : List (List ℕ)) → All IsSequence us → KeepsFinished (concat us)
+text_keeps_finished [] all = λ a b c k. k
+text_keeps_finished (u ∷ us) all =
+    sequence_keeps_finished u (concat us) (All-head IsSequence u us all)
+    (text_keeps_finished us (All-tail IsSequence u us all))
 
-last_finished : (u w : List ℕ) (a b c : ℕ) → 3 ≤ length w → EndsFinished a b c (u ++ take 3 w)
+IsFinished-last : (u w : List ℕ) (a b c : ℕ) → 3 ≤ length w → EndsFinished a b c (u ++ take 3 w)
     → IsFinished (slice_index w 0) (slice_index w 1) (slice_index w 2)
-last_finished [] [] a b c l h = absurd (omega arith)
-last_finished [] (x ∷ []) a b c l h = absurd (omega arith)
-last_finished [] (x ∷ y ∷ []) a b c l h = absurd (omega arith)
-last_finished [] (x ∷ y ∷ z ∷ w) a b c l h = h
-last_finished (d ∷ u) w a b c l h = last_finished u w b c d l h
+IsFinished-last [] [] a b c l h = absurd (omega arith)
+IsFinished-last [] (x ∷ []) a b c l h = absurd (omega arith)
+IsFinished-last [] (x ∷ y ∷ []) a b c l h = absurd (omega arith)
+IsFinished-last [] (x ∷ y ∷ z ∷ w) a b c l h = h
+IsFinished-last (d ∷ u) w a b c l h = IsFinished-last u w b c d l h
 
-pub finished_before : (s : List ℕ) (i : ℕ) → 3 ≤ i → i ≤ length s → IsText (take i s)
+pub IsFinished-before : (s : List ℕ) (i : ℕ) → 3 ≤ i → i ≤ length s → IsText (take i s)
     → IsFinished (slice_index (drop (i - 3) s) 0) (slice_index (drop (i - 3) s) 1)
     (slice_index (drop (i - 3) s) 2)
-finished_before s i some within (us, all, e) =
+IsFinished-before s i some within (us, all, e) =
     let w = drop (i - 3) s in
     let split : i ≡ i - 3 + 3 = omega arith in
     let cut : take i s ≡ take (i - 3) s ++ take 3 w =
     ap (λ n. take n s) split ∙ take-add (i - 3) 3 s in
-    last_finished (take (i - 3) s) w 0 0 0 (omega (arith, length-drop (i - 3) s))
+    IsFinished-last (take (i - 3) s) w 0 0 0 (omega (arith, length-drop (i - 3) s))
     (subst (EndsFinished 0 0 0) (e ∙ cut)
-    (text_ends_finished us all 0 0 0 (omega arith, omega arith, omega arith)))
+    (text_keeps_finished us all 0 0 0 (omega arith, omega arith, omega arith)))

@@ -40,9 +40,9 @@ longest_len-sequence u s h =
     (λ k p q. false_from_ne_true (is_sequence (take k (u ++ s)))
     (λ t. none_longer u s k h p q (BeginsSequence-sequence (take k (u ++ s)) t)))
 
-longest_len-begun : (u s : List ℕ) → IsSequence u
+longest_len-begins_sequence : (u s : List ℕ) → IsSequence u
     → longest_len begins_sequence (u ++ s) ≡ length u
-longest_len-begun u s h =
+longest_len-begins_sequence u s h =
     longest_len-is begins_sequence (u ++ s) (length u) (omega (arith, length-append u s))
     (inr (ap begins_sequence (take_at u s (length u) refl)
     ∙ begins_sequence-from u (BeginsSequence-sequence u h)))
@@ -54,7 +54,7 @@ unfolding longest_front_of
 longest_front_of-sequence u s h =
     let k = sequence_len u h in
     let e : max 1 (longest_len begins_sequence (u ++ s)) ≡ length u =
-    omega (arith, longest_len-begun u s h) in
+    omega (arith, longest_len-begins_sequence u s h) in
     ap (λ n. take n (u ++ s)) e ∙ take_at u s (length u) refl
 
 -- how many bytes the front has

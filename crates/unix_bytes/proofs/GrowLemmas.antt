@@ -17,9 +17,9 @@ abbrev IsGrown : List ℕ → Type 0
 IsGrown u = (length u ≡ 1) ⊎ (begins_sequence u ≡ true)
 
 -- such bytes are the longest front, where with the next byte they begin no sequence
-longest_front_of-grown : (u s : List ℕ) → 1 ≤ length u → IsGrown u
+longest_front_of-append : (u s : List ℕ) → 1 ≤ length u → IsGrown u
     → (HasBegun (u ++ s) (suc (length u)) → ⊥) → longest_front_of (u ++ s) ≡ u
-longest_front_of-grown u s some at end =
+longest_front_of-append u s some at end =
     let n = length u in
     let within : n ≤ length (u ++ s) = omega (arith, length-append u s) in
     let front : take n (u ++ s) ≡ u = take_at u s n refl in
@@ -33,33 +33,33 @@ abbrev longest_fronts : List ℕ → List (List ℕ)
 longest_fronts s = longest_front_of s ∷ fronts_of (drop (length (longest_front_of s)) s)
 
 -- a front that grows no more
-longest_fronts-grown : (u s : List ℕ) → 1 ≤ length u → IsGrown u
+longest_fronts-append : (u s : List ℕ) → 1 ≤ length u → IsGrown u
     → (HasBegun (u ++ s) (suc (length u)) → ⊥) → longest_fronts (u ++ s) ≡ u ∷ fronts_of s
-longest_fronts-grown u s some at end =
-    ap (λ f. f ∷ fronts_of (drop (length f) (u ++ s))) (longest_front_of-grown u s some at end)
+longest_fronts-append u s some at end =
+    ap (λ f. f ∷ fronts_of (drop (length f) (u ++ s))) (longest_front_of-append u s some at end)
     ∙ ap (λ t. u ∷ fronts_of t) (drop_at u s (length u) refl)
 
-grown_more : (b : ℕ) (s u : List ℕ) → 1 ≤ length u → IsGrown u
+fronts_from-step : (b : ℕ) (s u : List ℕ) → 1 ≤ length u → IsGrown u
     → (begins_sequence (push u b) ≡ true
     → fronts_from (push u b) s ≡ longest_fronts (push u b ++ s))
     → (c : Bool) → begins_sequence (push u b) ≡ c
     → cond c (fronts_from (push u b) s) (u ∷ fronts_from (b ∷ []) s) ≡ longest_fronts (u ++ b ∷ s)
 unfolding fronts_of
-grown_more b s u some at more true e = more e ∙ ap longest_fronts (append_assoc u (b ∷ []) s)
-grown_more b s u some at more false e =
+fronts_from-step b s u some at more true e = more e ∙ ap longest_fronts (append_assoc u (b ∷ []) s)
+fronts_from-step b s u some at more false e =
     let next : take (suc (length u)) (u ++ b ∷ s) ≡ push u b =
     ap (λ k. take k (u ++ b ∷ s)) {x = suc (length u)} {y = length u + 1} (omega arith)
     ∙ take-append-add u (b ∷ s) 1 in
-    sym (longest_fronts-grown u (b ∷ s) some at
+    sym (longest_fronts-append u (b ∷ s) some at
     (λ h. absurd (true≢false (sym h.1 ∙ ap begins_sequence next ∙ e))))
 
 fronts_from-longest : (s u : List ℕ) → 1 ≤ length u → IsGrown u
     → fronts_from u s ≡ longest_fronts (u ++ s)
 unfolding fronts_of
 fronts_from-longest [] u some at =
-    sym (longest_fronts-grown u [] some at (λ h. absurd (omega (arith, h.0, length-append u []))))
+    sym (longest_fronts-append u [] some at (λ h. absurd (omega (arith, h.0, length-append u []))))
 fronts_from-longest (b ∷ s) u some at =
-    grown_more b s u some at
+    fronts_from-step b s u some at
     (λ e. fronts_from-longest s (push u b) (omega (arith, length-append u (b ∷ []))) (inr e))
     (begins_sequence (push u b)) refl
 

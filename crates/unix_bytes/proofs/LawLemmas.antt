@@ -82,8 +82,8 @@ front_is_longest s =
     subst (λ u. IsLongest BeginsSequence u s) (sym (front_of-longest s))
     (longest_front_is_longest s)
 
-none_longest : (s : List ℕ) → NoneInFront s → longest_len is_sequence s ≡ 0
-none_longest s none =
+longest_len-NoneInFront : (s : List ℕ) → NoneInFront s → longest_len is_sequence s ≡ 0
+longest_len-NoneInFront s none =
     let n = longest_len is_sequence s in
     ⊎_elim (λ z. z) (λ t. absurd (none (take n s) t (drop n s, take-append-drop n s)))
     (longest_len-longest is_sequence s).passes
@@ -91,7 +91,7 @@ none_longest s none =
 pub lossy_of_broken : LossyOfBroken
 lossy_of_broken [] some none = absurd (omega arith)
 lossy_of_broken (b ∷ bs) some none =
-    lossy_of-none b bs (none_longest (b ∷ bs) none)
+    lossy_of-none b bs (longest_len-NoneInFront (b ∷ bs) none)
     ∙ ap (λ u. replacement ++ lossy_of (drop (length u) (b ∷ bs)))
     (sym (front_of-longest (b ∷ bs)))
 
@@ -99,16 +99,16 @@ pub replacement_is_sequence : is_sequence replacement ≡ true
 unfolding is_sequence
 replacement_is_sequence = refl
 
-shown_is_sequence : (u : List ℕ) → is_sequence (shown_front u) ≡ true
-shown_is_sequence u =
+shown_front_is_sequence : (u : List ℕ) → is_sequence (shown_front u) ≡ true
+shown_front_is_sequence u =
     ⊎_elim (λ t. ap is_sequence (cond-true _ _ _ t) ∙ t)
     (λ f. ap is_sequence (cond-false _ _ _ f) ∙ replacement_is_sequence)
     (cases_Bool (is_sequence u))
 
 -- what begins a sequence and is not the whole of one has three bytes at most
-begun_is_short : (s : List ℕ) → longest_len is_sequence s ≡ 0
+beginning_is_short : (s : List ℕ) → longest_len is_sequence s ≡ 0
     → max 1 (longest_len begins_sequence s) ≤ 3
-begun_is_short s z =
+beginning_is_short s z =
     let n = longest_len begins_sequence s in
     let h = longest_len-longest begins_sequence s in
     ⊎_elim (λ e. omega arith)
@@ -126,30 +126,31 @@ begun_is_short s z =
         let four = (sequence_len (take n s ++ x ∷ u) is).1 in
         omega (arith, length-append (take n s) (x ∷ u))
 
-pub short_in_front : (s : List ℕ) → longest_len is_sequence s ≡ 0
+pub longest_front_is_short : (s : List ℕ) → longest_len is_sequence s ≡ 0
     → length (longest_front_of s) ≤ 3
 unfolding longest_front_of
-short_in_front s z =
-    let few = begun_is_short s z in
+longest_front_is_short s z =
+    let few = beginning_is_short s z in
     let k = max 1 (longest_len begins_sequence s) in
     ⊎_elim (λ (l : length s < k). omega (arith, ap length (take_all k s (omega arith))))
     (λ (g : k ≤ length s). omega (arith, length-take-le k s g)) (cases_lt (length s) k)
 
 pub broken_is_short : BrokenIsShort
 broken_is_short s none =
-    subst (λ u. length u ≤ 3) (sym (front_of-longest s)) (short_in_front s (none_longest s none))
+    subst (λ u. length u ≤ 3) (sym (front_of-longest s))
+    (longest_front_is_short s (longest_len-NoneInFront s none))
 
-shown_are_sequences : (us : List (List ℕ))
+shown_fronts_are_sequences : (us : List (List ℕ))
     → list_all is_sequence (map shown_front us) ≡ true
-shown_are_sequences [] = refl
-shown_are_sequences (u ∷ us) =
-    rw (shown_is_sequence u, shown_are_sequences us) refl
+shown_fronts_are_sequences [] = refl
+shown_fronts_are_sequences (u ∷ us) =
+    rw (shown_front_is_sequence u, shown_fronts_are_sequences us) refl
 
 pub lossy_is_text : LossyIsText
 unfolding lossy_of
 lossy_is_text s =
     let us = map shown_front (fronts_of s) in
-    let all = shown_are_sequences (fronts_of s) in (
+    let all = shown_fronts_are_sequences (fronts_of s) in (
       us,
       AllPass-from_list_all is_sequence us all,
       concat_is us ∙ flat_map-map (λ u. u) shown_front (fronts_of s),

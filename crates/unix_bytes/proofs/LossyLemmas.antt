@@ -87,12 +87,12 @@ text_rest t s h k =
     IsText-from_is_text s
     (and_parts _ _ (sym (list_all-append is_sequence us (fronts_of s)) ∙ both)).1
 
-shown-sequences : (us : List (List ℕ)) → list_all is_sequence us ≡ true
+flat_map-shown_front : (us : List (List ℕ)) → list_all is_sequence us ≡ true
     → flat_map shown_front us ≡ concat us
-shown-sequences [] h = refl
-shown-sequences (u ∷ us) h =
+flat_map-shown_front [] h = refl
+flat_map-shown_front (u ∷ us) h =
     let k : IsSequence u × (list_all is_sequence us ≡ true) = and_parts _ _ h in
-    ap₂ (λ f t. f ++ t) (cond-true _ _ _ k.0) (shown-sequences us k.1)
+    ap₂ (λ f t. f ++ t) (cond-true _ _ _ k.0) (flat_map-shown_front us k.1)
 
 pub lossy_of-nil : lossy_of [] ≡ []
 unfolding lossy_of
@@ -104,7 +104,7 @@ unfolding lossy_of
 lossy_of-append t s h =
     let (us, all, e, cut) = fronts_of-text t s h in
     ap (flat_map shown_front) cut ∙ flat_map-append shown_front us (fronts_of s)
-    ∙ ap (λ x. x ++ flat_map shown_front (fronts_of s)) (shown-sequences us all ∙ e)
+    ∙ ap (λ x. x ++ flat_map shown_front (fronts_of s)) (flat_map-shown_front us all ∙ e)
 
 pub lossy_of-text : (s : List ℕ) → IsText s → lossy_of s ≡ s
 lossy_of-text s t =
@@ -138,14 +138,14 @@ lossy_of-none b bs z =
     (cond-false _ _ _ (is_sequence-longest_front_of s z))
 
 -- where no sequence stands at the beginning, no text does but the empty
-pub first_sequence : (s : List ℕ) (k : ℕ) → IsText (take k s) → 0 < k → k ≤ length s
+pub no_text : (s : List ℕ) (k : ℕ) → IsText (take k s) → 0 < k → k ≤ length s
     → longest_len is_sequence s ≡ 0 → ⊥
-first_sequence s k (us, h, e) some within z =
-    first_of us (list_all-from_AllPass is_sequence us h) e
+no_text s k (us, h, e) some within z =
+    no_sequences us (list_all-from_AllPass is_sequence us h) e
   where
-    first_of : (vs : List (List ℕ)) → list_all is_sequence vs ≡ true → concat vs ≡ take k s → ⊥
-    first_of [] all f = absurd (omega (arith, ap length f, length-take-le k s within))
-    first_of (v ∷ vs) all f =
+    no_sequences : (vs : List (List ℕ)) → list_all is_sequence vs ≡ true → concat vs ≡ take k s → ⊥
+    no_sequences [] all f = absurd (omega (arith, ap length f, length-take-le k s within))
+    no_sequences (v ∷ vs) all f =
         let front : s ≡ v ++ (concat vs ++ drop k s) =
         sym (take-append-drop k s) ∙ ap (λ t. t ++ drop k s) (sym f)
         ∙ append_assoc v (concat vs) (drop k s) in

@@ -12,8 +12,8 @@ abbrev unfinished_mark : ℕ → ℕ → ℕ → ℕ
 unfinished_mark a b c =
     cond (nat_le 0xF0 a) 255 (cond (nat_le 0xE0 b) 255 (cond (nat_le 0xC0 c) 255 0))
 
-mark_unfinished : (a b c : ℕ) → IsUnfinished a b c → nat_le 0x80 (unfinished_mark a b c) ≡ true
-mark_unfinished a b c h = by (nat_le 0xF0 a) (nat_le 0xE0 b) (nat_le 0xC0 c) refl refl refl
+unfinished_mark-set : (a b c : ℕ) → IsUnfinished a b c → nat_le 0x80 (unfinished_mark a b c) ≡ true
+unfinished_mark-set a b c h = by (nat_le 0xF0 a) (nat_le 0xE0 b) (nat_le 0xC0 c) refl refl refl
   where
     by : (o p q : Bool) → nat_le 0xF0 a ≡ o → nat_le 0xE0 b ≡ p → nat_le 0xC0 c ≡ q
         → nat_le 0x80 (cond o 255 (cond p 255 (cond q 255 0))) ≡ true
@@ -25,8 +25,8 @@ mark_unfinished a b c h = by (nat_le 0xF0 a) (nat_le 0xE0 b) (nat_le 0xC0 c) ref
         (λ k. ⊎_elim (λ i. let l = leb-false 0xE0 b f in absurd (omega arith))
         (λ i. let l = leb-false 0xC0 c g in absurd (omega arith)) k) h
 
-mark_finished : (a b c : ℕ) → IsFinished a b c → nat_le 0x80 (unfinished_mark a b c) ≡ false
-mark_finished a b c h =
+unfinished_mark-clear : (a b c : ℕ) → IsFinished a b c → nat_le 0x80 (unfinished_mark a b c) ≡ false
+unfinished_mark-clear a b c h =
     rw (lt-leb 0xF0 a h.0, lt-leb 0xE0 b h.1, lt-leb 0xC0 c h.2) refl
 
 -- bits that add up with no carry
@@ -63,12 +63,12 @@ goes_on : (a b c d : ℕ)
     ≡ cond (nat_le 0x80 d) 1 0
     → nat_le 0xC0 d ≡ nat_le 0xC2 d → GoesOn a b c d
 goes_on a b c d e f = record {
-  within = λ h. by_unfinished (mark_unfinished a b c h);
-  begins = λ h. by_finished (mark_finished a b c h);
+  within = λ h. may_continue (unfinished_mark-set a b c h);
+  begins = λ h. may_begin (unfinished_mark-clear a b c h);
 }
   where
-    by_unfinished : nat_le 0x80 (unfinished_mark a b c) ≡ true → (0x80 ≤ d) × (d ≤ 0xBF)
-    by_unfinished h =
+    may_continue : nat_le 0x80 (unfinished_mark a b c) ≡ true → (0x80 ≤ d) × (d ≤ 0xBF)
+    may_continue h =
         ⊎_elim
         (λ (l : d < 0x80).
         let z = bit_on _ h in
@@ -83,8 +83,8 @@ goes_on a b c d e f = record {
         absurd (omega arith)) (cases_lt d 0xC0))
         (cases_lt d 0x80)
 
-    by_finished : nat_le 0x80 (unfinished_mark a b c) ≡ false → (d < 0x80) ⊎ (0xC2 ≤ d)
-    by_finished h =
+    may_begin : nat_le 0x80 (unfinished_mark a b c) ≡ false → (d < 0x80) ⊎ (0xC2 ≤ d)
+    may_begin h =
         ⊎_elim (λ (l : d < 0x80). inl l)
         (λ (g : 0x80 ≤ d).
         ⊎_elim

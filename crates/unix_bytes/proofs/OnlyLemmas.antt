@@ -13,10 +13,10 @@ use Rattle.unix_bytes.proofs.ChunkLemmas.{whole_text, chunks_of-nil, chunks_of-s
 use Rattle.unix_bytes.proofs.ChunkLemmas.{first_chunk_of-text, shown-chunks_of}
 use Rattle.unix_bytes.proofs.PartitionLemmas.{chunks_partition, whole_chunk_is_last}
 
-pub first_is : (s : List ℕ) (c : Chunk) (cs : List Chunk) → chunks_of s ≡ c ∷ cs
+pub first_chunk_is : (s : List ℕ) (c : Chunk) (cs : List Chunk) → chunks_of s ≡ c ∷ cs
     → first_chunk_of s ≡ c
-first_is [] c cs e = let h = chunks_of-nil in cc
-first_is (b ∷ bs) c cs e = let h = chunks_of-some b bs in cc
+first_chunk_is [] c cs e = let h = chunks_of-nil in cc
+first_chunk_is (b ∷ bs) c cs e = let h = chunks_of-some b bs in cc
 
 -- a chunk of which none is broken is all there is
 pub only_chunk : (s : List ℕ) (c : Chunk) (cs : List Chunk) → chunks_of s ≡ c ∷ cs
@@ -30,20 +30,20 @@ only_chunk s c cs e z =
 pub only_text : (s : List ℕ) (c : Chunk) (cs : List Chunk) → chunks_of s ≡ c ∷ cs
     → c.broken ≡ [] → IsText s
 only_text s c cs e z =
-    subst IsText (ap (λ (x : Chunk). x.valid) (first_is s c cs e) ∙ only_chunk s c cs e z)
+    subst IsText (ap (λ (x : Chunk). x.valid) (first_chunk_is s c cs e) ∙ only_chunk s c cs e z)
     (first_chunk_of-text s)
 
 -- the first chunk is shown with those behind it
-pub first_shown : (s : List ℕ) (c : Chunk) (cs : List Chunk) → chunks_of s ≡ c ∷ cs
+pub lossy_of-first_chunk : (s : List ℕ) (c : Chunk) (cs : List Chunk) → chunks_of s ≡ c ∷ cs
     → shown_chunk c ++ flat_map shown_chunk cs ≡ lossy_of s
-first_shown s c cs e = ap (flat_map shown_chunk) (sym e) ∙ shown-chunks_of s
+lossy_of-first_chunk s c cs e = ap (flat_map shown_chunk) (sym e) ∙ shown-chunks_of s
 
 -- of text nothing is broken
-pub text_unbroken : (s : List ℕ) (c : Chunk) (cs : List Chunk) → chunks_of s ≡ c ∷ cs
+pub text_has_none_broken : (s : List ℕ) (c : Chunk) (cs : List Chunk) → chunks_of s ≡ c ∷ cs
     → IsText s → c.broken ≡ []
 unfolding first_chunk_of
-text_unbroken s c cs e t =
+text_has_none_broken s c cs e t =
     let n = longest_len is_text s in
     let all = whole_text s (IsUtf8-from_IsText s t) in
-    sym (ap (λ (x : Chunk). x.broken) (first_is s c cs e))
+    sym (ap (λ (x : Chunk). x.broken) (first_chunk_is s c cs e))
     ∙ ap longest_front_of (drop_all n s (omega arith)) ∙ longest_front_of-nil

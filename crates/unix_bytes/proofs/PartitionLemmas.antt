@@ -18,7 +18,7 @@ use Rattle.unix_bytes.proofs.GrowLemmas.{front_of-longest}
 use Rattle.unix_bytes.proofs.LossyLemmas.{is_text-from_IsText, length-drop-some}
 use Rattle.unix_bytes.proofs.ChunkLemmas.{text_prefix, none_after_text, chunk_some, chunks_of-nil}
 use Rattle.unix_bytes.proofs.ChunkLemmas.{chunks_of-some}
-use Rattle.unix_bytes.proofs.LawLemmas.{short_in_front}
+use Rattle.unix_bytes.proofs.LawLemmas.{longest_front_is_short}
 
 -- the first chunk, and the chunks of what follows it
 follow_first : (s : List ℕ)
@@ -51,9 +51,9 @@ chunks_of_some (b ∷ bs) c cs e =
     (subst (λ xs. FollowFirst s (first_chunk_of s) xs) rest (follow_first s))
 
 -- a prefix, a prefix of what follows, and the rest
-cut_twice : (s : List ℕ) (n k : ℕ) → n ≤ length s
+two_prefixes : (s : List ℕ) (n k : ℕ) → n ≤ length s
     → (take n s ++ take k (drop n s)) ++ drop (length (take n s) + length (take k (drop n s))) s ≡ s
-cut_twice s n k w =
+two_prefixes s n k w =
     let v = take n s in
     let t = drop n s in
     let b = take k t in
@@ -70,7 +70,7 @@ unfolding first_chunk_of longest_front_of
 first_chunk_of-drop s =
     let n = longest_len is_text s in
     let k = max 1 (longest_len begins_sequence (drop n s)) in
-    cut_twice s n k (longest_len-longest is_text s).within
+    two_prefixes s n k (longest_len-longest is_text s).within
 
 partition_within : (n : ℕ) (s : List ℕ) → length s ≤ n
     → flat_map (λ c. c.valid ++ c.broken) (chunks_of s) ≡ s
@@ -90,7 +90,7 @@ chunks_partition s = partition_within (length s) s (le_refl (length s))
 
 first_is_short : (s : List ℕ) → length (first_chunk_of s).broken ≤ 3
 unfolding first_chunk_of
-first_is_short s = short_in_front (drop (longest_len is_text s) s) (none_after_text s)
+first_is_short s = longest_front_is_short (drop (longest_len is_text s) s) (none_after_text s)
 
 abbrev IsShort : Chunk → Type 0
 IsShort c = length c.broken ≤ 3

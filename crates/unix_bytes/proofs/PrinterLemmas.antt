@@ -16,7 +16,7 @@ use Rattle.unix_bytes.proofs.LongestLemmas.{longest_len-longest}
 use Rattle.unix_bytes.proofs.TextLemmas.{IsText-append, IsText-sequence, IsText-nil}
 use Rattle.unix_bytes.proofs.TextLemmas.{IsUtf8-from_IsText}
 use Rattle.unix_bytes.proofs.LossyLemmas.{lossy_of-append, lossy_of-none, lossy_of-nil}
-use Rattle.unix_bytes.proofs.BrokenLemmas.{broken_none, none_in_front, broken_len-none}
+use Rattle.unix_bytes.proofs.BrokenLemmas.{broken_len-empty, none_in_front, broken_len-none}
 use Rattle.unix_bytes.proofs.BrokenLemmas.{broken_len_within}
 use Rattle.unix_bytes.proofs.StretchLemmas.{ascii_is_text, sequence_within}
 use Rattle.unix_bytes.proofs.LawLemmas.{replacement_is_sequence}
@@ -35,7 +35,7 @@ shows_text s before n after h e = record {
 -- U+FFFD is written for a broken front
 pub shows_broken : (s before : List ℕ) (n : ℕ) (after : List ℕ) → (0 < n) × (n ≡ broken_len s)
     → after ≡ before ++ replacement → Shows s before n after
-shows_broken [] before n after (some, is) e = absurd (omega (arith, broken_none [] refl))
+shows_broken [] before n after (some, is) e = absurd (omega (arith, broken_len-empty [] refl))
 shows_broken (b ∷ bs) before n after (some, is) e =
     let s = b ∷ bs in
     let none : longest_len is_sequence s ≡ 0 = none_in_front s (omega arith) in
@@ -62,9 +62,9 @@ shows_more s t before middle after n k e p q = record {
 }
 
 -- a piece, and the lossy text of what was not read, behind other bytes
-pub pushed_piece : (items piece s t : List ℕ) (n : ℕ) → t ≡ drop n s → Shows s [] n piece
+pub pushes_piece : (items piece s t : List ℕ) (n : ℕ) → t ≡ drop n s → Shows s [] n piece
     → (items ++ piece) ++ lossy_of t ≡ items ++ lossy_of s
-pushed_piece items piece s t n e p =
+pushes_piece items piece s t n e p =
     append_assoc items piece (lossy_of t)
     ∙ ap (λ u. items ++ u) (ap (λ u. piece ++ lossy_of u) e ∙ p.lossy)
 
@@ -73,17 +73,17 @@ pub piece_is_utf8 : (s piece : List ℕ) (n : ℕ) → Shows s [] n piece → Is
 piece_is_utf8 s piece n p = IsUtf8-from_IsText piece (p.text IsText-nil)
 
 -- where nothing is left, what was written is the whole
-pub written_whole : (items s whole : List ℕ) → length s ≡ 0 → items ++ lossy_of s ≡ whole
+pub writes_whole : (items s whole : List ℕ) → length s ≡ 0 → items ++ lossy_of s ≡ whole
     → items ≡ whole
-written_whole items s whole z e =
+writes_whole items s whole z e =
     sym (append-nil items)
     ∙ ap (λ u. items ++ u) (sym (ap lossy_of (nil_from_length s z) ∙ lossy_of-nil)) ∙ e
 
 -- so it is behind the last piece
-pub written_last : (items piece s t whole : List ℕ) (n : ℕ) → t ≡ drop n s → length t ≡ 0
+pub writes_last : (items piece s t whole : List ℕ) (n : ℕ) → t ≡ drop n s → length t ≡ 0
     → Shows s [] n piece → items ++ lossy_of s ≡ whole → items ++ piece ≡ whole
-written_last items piece s t whole n cut z p e =
-    written_whole (items ++ piece) t whole z (pushed_piece items piece s t n cut p ∙ e)
+writes_last items piece s t whole n cut z p e =
+    writes_whole (items ++ piece) t whole z (pushes_piece items piece s t n cut p ∙ e)
 
 -- of the bytes that were written at a place, the first
 pub takes_fewer : (out old s : List ℕ) (at n k : ℕ) → k ≤ n → at ≤ length old

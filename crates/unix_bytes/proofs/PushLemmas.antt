@@ -17,25 +17,25 @@ use Rattle.unix_bytes.proofs.BrokenLemmas.{broken_len_within}
 use Rattle.unix_bytes.proofs.StretchLemmas.{text_within}
 use Rattle.unix_bytes.proofs.LossyLemmas.{is_text-from_IsText, is_text-not}
 use Rattle.unix_bytes.proofs.ChunkLemmas.{chunk_some, shown-chunks_of}
-use Rattle.unix_bytes.proofs.SplitLemmas.{first_split}
+use Rattle.unix_bytes.proofs.SplitLemmas.{splits_first_chunk}
 use Rattle.unix_bytes.proofs.LawLemmas.{replacement_is_sequence, lossy_is_text}
-use Rattle.unix_bytes.proofs.OnlyLemmas.{first_is, only_chunk, only_text, first_shown}
-use Rattle.unix_bytes.proofs.OnlyLemmas.{text_unbroken}
+use Rattle.unix_bytes.proofs.OnlyLemmas.{first_chunk_is, only_chunk, only_text}
+use Rattle.unix_bytes.proofs.OnlyLemmas.{lossy_of-first_chunk, text_has_none_broken}
 
 -- a byte or more is split off
-pub split_smaller : (s valid broken rest : List ℕ) → eqb (length s) 0 ≡ false
+pub rest_is_shorter : (s valid broken rest : List ℕ) → eqb (length s) 0 ≡ false
     → valid ≡ take (longest_len is_text s) s
     → broken ≡ take (broken_len (drop (longest_len is_text s) s)) (drop (longest_len is_text s) s)
     → rest ≡ drop (broken_len (drop (longest_len is_text s) s)) (drop (longest_len is_text s) s)
     → length rest < length s
-split_smaller [] valid broken rest some v b r = absurd (true≢false some)
-split_smaller (x ∷ xs) valid broken rest some v b r =
+rest_is_shorter [] valid broken rest some v b r = absurd (true≢false some)
+rest_is_shorter (x ∷ xs) valid broken rest some v b r =
     let s = x ∷ xs in
     let n = longest_len is_text s in
     let k = broken_len (drop n s) in
     let c : Chunk = record { valid = valid; broken = broken } in
-    let e = ap chunk_len (first_is s c (chunks_of rest)
-    (first_split s valid broken rest (omega arith) v b r)) in
+    let e = ap chunk_len (first_chunk_is s c (chunks_of rest)
+    (splits_first_chunk s valid broken rest (omega arith) v b r)) in
     let l = broken_len_within (drop n s) in
     omega (
       arith,
@@ -51,36 +51,36 @@ split_smaller (x ∷ xs) valid broken rest some v b r =
     )
 
 -- where nothing is broken, all is text
-pub split_only : (s valid broken rest : List ℕ)
+pub all_is_text : (s valid broken rest : List ℕ)
     → valid ≡ take (longest_len is_text s) s
     → broken ≡ take (broken_len (drop (longest_len is_text s) s)) (drop (longest_len is_text s) s)
     → rest ≡ drop (broken_len (drop (longest_len is_text s) s)) (drop (longest_len is_text s) s)
     → length broken ≡ 0 → (valid ≡ s) × IsText s
-split_only [] valid broken rest v b r none =
+all_is_text [] valid broken rest v b r none =
     (v ∙ take_all (longest_len is_text []) [] (omega arith), IsText-nil)
-split_only (x ∷ xs) valid broken rest v b r none =
+all_is_text (x ∷ xs) valid broken rest v b r none =
     let s = x ∷ xs in
     let c : Chunk = record { valid = valid; broken = broken } in
-    let e = first_split s valid broken rest (omega arith) v b r in
+    let e = splits_first_chunk s valid broken rest (omega arith) v b r in
     let z = nil_from_length broken none in
     (only_chunk s c (chunks_of rest) e z, only_text s c (chunks_of rest) e z)
 
 -- nothing of text is broken
-pub split_unbroken : (s valid broken rest : List ℕ)
+pub none_is_broken : (s valid broken rest : List ℕ)
     → valid ≡ take (longest_len is_text s) s
     → broken ≡ take (broken_len (drop (longest_len is_text s) s)) (drop (longest_len is_text s) s)
     → rest ≡ drop (broken_len (drop (longest_len is_text s) s)) (drop (longest_len is_text s) s)
     → IsText s → length broken ≡ 0
-split_unbroken [] valid broken rest v b r t =
+none_is_broken [] valid broken rest v b r t =
     let n = longest_len is_text [] in
     let k = broken_len (drop n []) in
     let l = broken_len_within (drop n []) in
     omega (arith, ap length b, length-take-le k (drop n []) l, length-drop {A = ℕ} n [])
-split_unbroken (x ∷ xs) valid broken rest v b r t =
+none_is_broken (x ∷ xs) valid broken rest v b r t =
     let s = x ∷ xs in
     let c : Chunk = record { valid = valid; broken = broken } in
-    ap length (text_unbroken s c (chunks_of rest)
-    (first_split s valid broken rest (omega arith) v b r) t)
+    ap length (text_has_none_broken s c (chunks_of rest)
+    (splits_first_chunk s valid broken rest (omega arith) v b r) t)
 
 -- what is split off, and what follows it, is shown in turn
 pub lossy_of-split : (s valid broken rest : List ℕ)
@@ -90,7 +90,7 @@ pub lossy_of-split : (s valid broken rest : List ℕ)
     → (valid ++ replacement_for broken) ++ lossy_of rest ≡ lossy_of s
 lossy_of-split [] valid broken rest v b r =
     let none = nil_from_length broken
-    (split_unbroken [] valid broken rest v b r IsText-nil) in
+    (none_is_broken [] valid broken rest v b r IsText-nil) in
     let n = longest_len is_text [] in
     let k = broken_len (drop n []) in
     let no_rest : rest ≡ [] =
@@ -101,38 +101,39 @@ lossy_of-split (x ∷ xs) valid broken rest v b r =
     let s = x ∷ xs in
     let c : Chunk = record { valid = valid; broken = broken } in
     ap (λ t. shown_chunk c ++ t) (sym (shown-chunks_of rest))
-    ∙ first_shown s c (chunks_of rest) (first_split s valid broken rest (omega arith) v b r)
+    ∙ lossy_of-first_chunk s c (chunks_of rest)
+    (splits_first_chunk s valid broken rest (omega arith) v b r)
 
 -- how bytes are shown of which nothing is broken
-pub split_padded : (pad : List ℕ → List ℕ) (s valid broken rest : List ℕ)
+pub pads_text : (pad : List ℕ → List ℕ) (s valid broken rest : List ℕ)
     → valid ≡ take (longest_len is_text s) s
     → broken ≡ take (broken_len (drop (longest_len is_text s) s)) (drop (longest_len is_text s) s)
     → rest ≡ drop (broken_len (drop (longest_len is_text s) s)) (drop (longest_len is_text s) s)
     → length broken ≡ 0 → pad valid ≡ (if is_text s then pad s else lossy_of s)
-split_padded pad s valid broken rest v b r none =
-    let (all, text) = split_only s valid broken rest v b r none in
+pads_text pad s valid broken rest v b r none =
+    let (all, text) = all_is_text s valid broken rest v b r none in
     ap pad all ∙ sym (cond-true _ _ _ (is_text-from_IsText s text))
 
 -- how bytes are shown of which some are broken
-pub split_styled : (pad : List ℕ → List ℕ) (s valid broken rest : List ℕ)
+pub shows_lossy_text : (pad : List ℕ → List ℕ) (s valid broken rest : List ℕ)
     → valid ≡ take (longest_len is_text s) s
     → broken ≡ take (broken_len (drop (longest_len is_text s) s)) (drop (longest_len is_text s) s)
     → rest ≡ drop (broken_len (drop (longest_len is_text s) s)) (drop (longest_len is_text s) s)
     → eqb (length broken) 0 ≡ false → lossy_of s ≡ (if is_text s then pad s else lossy_of s)
-split_styled pad s valid broken rest v b r some =
+shows_lossy_text pad s valid broken rest v b r some =
     let no_text = is_text-not s (λ t.
-    let none = split_unbroken s valid broken rest v b r t in
+    let none = none_is_broken s valid broken rest v b r t in
     true≢false (sym (eq-eqb (length broken) 0 none) ∙ some)) in
     sym (cond-false _ _ _ no_text)
 
 -- what was pushed before, what is split off, and what follows it
-pub pushed_more : (items s valid broken rest : List ℕ)
+pub pushes_split : (items s valid broken rest : List ℕ)
     → valid ≡ take (longest_len is_text s) s
     → broken ≡ take (broken_len (drop (longest_len is_text s) s)) (drop (longest_len is_text s) s)
     → rest ≡ drop (broken_len (drop (longest_len is_text s) s)) (drop (longest_len is_text s) s)
     → ((items ++ take (length valid) s) ++ replacement_for broken) ++ lossy_of rest
     ≡ items ++ lossy_of s
-pushed_more items s valid broken rest v b r =
+pushes_split items s valid broken rest v b r =
     let n = longest_len is_text s in
     let text : take (length valid) s ≡ valid =
     ap (λ k. take k s) (ap length v ∙ length-take-le n s (text_within s)) ∙ sym v in
@@ -145,18 +146,18 @@ pushed_more items s valid broken rest v b r =
 replacement_is_utf8 : IsUtf8 replacement
 replacement_is_utf8 = IsUtf8-sequence replacement replacement_is_sequence
 
-shown_is_utf8 : (broken : List ℕ) → IsUtf8 (replacement_for broken)
-shown_is_utf8 [] = IsUtf8-nil
-shown_is_utf8 (b ∷ bs) =
+replacement_for_is_utf8 : (broken : List ℕ) → IsUtf8 (replacement_for broken)
+replacement_for_is_utf8 [] = IsUtf8-nil
+replacement_for_is_utf8 (b ∷ bs) =
     let some = ne_eqb (length (b ∷ bs)) 0 (omega arith) in
     subst IsUtf8 (sym (cond-false _ _ _ some)) replacement_is_utf8
 
 -- text, what stands for a broken front, and lossy text, one after the other
-pub pushed_is_utf8 : (text broken rest : List ℕ) → IsUtf8 text
+pub lossy_is_utf8 : (text broken rest : List ℕ) → IsUtf8 text
     → IsUtf8 ((text ++ replacement_for broken) ++ lossy_of rest)
-pushed_is_utf8 text broken rest h =
+lossy_is_utf8 text broken rest h =
     IsUtf8-append (text ++ replacement_for broken) (lossy_of rest)
-    (IsUtf8-append text (replacement_for broken) h (shown_is_utf8 broken))
+    (IsUtf8-append text (replacement_for broken) h (replacement_for_is_utf8 broken))
     (IsUtf8-from_IsText (lossy_of rest) (lossy_is_text rest))
 
 -- the first of sixteen bytes that were added

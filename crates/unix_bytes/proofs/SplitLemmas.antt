@@ -25,13 +25,13 @@ chunks_of-parts (b ∷ bs) valid broken rest some e f =
     ∙ drop_at broken rest (length broken) refl)
 
 -- the chunk that is split off is the first
-pub first_split : (s valid broken rest : List ℕ) → 0 < length s
+pub splits_first_chunk : (s valid broken rest : List ℕ) → 0 < length s
     → valid ≡ take (longest_len is_text s) s
     → broken ≡ take (broken_len (drop (longest_len is_text s) s)) (drop (longest_len is_text s) s)
     → rest ≡ drop (broken_len (drop (longest_len is_text s) s)) (drop (longest_len is_text s) s)
     → chunks_of s ≡ record { valid = valid; broken = broken } ∷ chunks_of rest
 unfolding first_chunk_of
-first_split s valid broken rest some v b r =
+splits_first_chunk s valid broken rest some v b r =
     let n = longest_len is_text s in
     let behind = drop n s in
     let k = broken_len behind in

@@ -19,19 +19,19 @@ none_missing n t e few ([], h) = subst IsSequence (append-nil t) h
 none_missing n t e few (x ∷ v, h) =
     let k = few (x ∷ v) h in absurd (omega (arith, length-append t (x ∷ v)))
 
-begun_sequence : (s : List ℕ) (n : ℕ) → HasBegun s n
+longest_len-HasBegun : (s : List ℕ) (n : ℕ) → HasBegun s n
     → ((u : List ℕ) → IsSequence (take n s ++ u) → length (take n s ++ u) ≤ n)
     → longest_len is_sequence s ≡ n
-begun_sequence s n h few =
+longest_len-HasBegun s n h few =
     let e = length-take-le n s h.0 in
     let is = none_missing n (take n s) e few (BeginsSequence-from (take n s) h.1) in
     ap (longest_len is_sequence) (sym (take-append-drop n s))
     ∙ longest_len-sequence (take n s) (drop n s) is ∙ e
 
 -- n bytes that begin none stand before no sequence of n bytes or more
-not_begun : (s : List ℕ) (n : ℕ) → (HasBegun s n → ⊥)
+longest_len-not_HasBegun : (s : List ℕ) (n : ℕ) → (HasBegun s n → ⊥)
     → ((k : ℕ) → k ≤ length s → IsSequence (take k s) → n ≤ k) → longest_len is_sequence s ≡ 0
-not_begun s n never many =
+longest_len-not_HasBegun s n never many =
     let k = longest_len is_sequence s in
     let h = longest_len-longest is_sequence s in
     let within = h.within in
@@ -80,7 +80,7 @@ pub two_byte_sequence : (s : List ℕ) → HasBegun s 2 → slice_index s 0 < 0x
 two_byte_sequence [] h l = absurd (omega arith)
 two_byte_sequence (b ∷ []) h l = absurd (omega arith)
 two_byte_sequence (b ∷ x ∷ s) h l =
-    begun_sequence (b ∷ x ∷ s) 2 h (λ u is. two_at_most b _ (has_width b (x ∷ u) is) l)
+    longest_len-HasBegun (b ∷ x ∷ s) 2 h (λ u is. two_at_most b _ (has_width b (x ∷ u) is) l)
 
 pub three_byte_sequence : (s : List ℕ) → HasBegun s 3 → slice_index s 0 < 0xF0
     → longest_len is_sequence s ≡ 3
@@ -88,25 +88,29 @@ three_byte_sequence [] h l = absurd (omega arith)
 three_byte_sequence (b ∷ []) h l = absurd (omega arith)
 three_byte_sequence (b ∷ x ∷ []) h l = absurd (omega arith)
 three_byte_sequence (b ∷ x ∷ y ∷ s) h l =
-    begun_sequence (b ∷ x ∷ y ∷ s) 3 h (λ u is. three_at_most b _ (has_width b (x ∷ y ∷ u) is) l)
+    longest_len-HasBegun (b ∷ x ∷ y ∷ s) 3 h
+    (λ u is. three_at_most b _ (has_width b (x ∷ y ∷ u) is) l)
 
 pub four_byte_sequence : (s : List ℕ) → HasBegun s 4 → longest_len is_sequence s ≡ 4
-four_byte_sequence s h = begun_sequence s 4 h (λ u is. (sequence_len (take 4 s ++ u) is).1)
+four_byte_sequence s h = longest_len-HasBegun s 4 h (λ u is. (sequence_len (take 4 s ++ u) is).1)
 
 pub none_of_two : (s : List ℕ) → (HasBegun s 2 → ⊥) → 0x80 ≤ slice_index s 0
     → longest_len is_sequence s ≡ 0
 none_of_two [] never g = absurd (omega arith)
 none_of_two (b ∷ bs) never g =
-    not_begun (b ∷ bs) 2 never (λ k within h. two_at_least b k (prefix_width b bs k within h) g)
+    longest_len-not_HasBegun (b ∷ bs) 2 never
+    (λ k within h. two_at_least b k (prefix_width b bs k within h) g)
 
 pub none_of_three : (s : List ℕ) → (HasBegun s 3 → ⊥) → 0xE0 ≤ slice_index s 0
     → longest_len is_sequence s ≡ 0
 none_of_three [] never g = absurd (omega arith)
 none_of_three (b ∷ bs) never g =
-    not_begun (b ∷ bs) 3 never (λ k within h. three_at_least b k (prefix_width b bs k within h) g)
+    longest_len-not_HasBegun (b ∷ bs) 3 never
+    (λ k within h. three_at_least b k (prefix_width b bs k within h) g)
 
 pub none_of_four : (s : List ℕ) → (HasBegun s 4 → ⊥) → 0xF0 ≤ slice_index s 0
     → longest_len is_sequence s ≡ 0
 none_of_four [] never g = absurd (omega arith)
 none_of_four (b ∷ bs) never g =
-    not_begun (b ∷ bs) 4 never (λ k within h. four_at_least b k (prefix_width b bs k within h) g)
+    longest_len-not_HasBegun (b ∷ bs) 4 never
+    (λ k within h. four_at_least b k (prefix_width b bs k within h) g)

@@ -16,8 +16,8 @@ use Rattle.unix_bytes.proofs.SequenceLemmas.{two_is}
 use Rattle.unix_bytes.proofs.BegunLemmas.{take-two}
 use Rattle.unix_bytes.proofs.LongestLemmas.{longest_len-is, longest_len-longest}
 use Rattle.unix_bytes.proofs.LossyLemmas.{is_text-from_IsText, IsText-from_is_text, text_rest}
-use Rattle.unix_bytes.proofs.LossyLemmas.{first_sequence}
-use Rattle.unix_bytes.proofs.BrokenLemmas.{broken_len_within, broken_none, none_in_front}
+use Rattle.unix_bytes.proofs.LossyLemmas.{no_text}
+use Rattle.unix_bytes.proofs.BrokenLemmas.{broken_len_within, broken_len-empty, none_in_front}
 use Rattle.unix_bytes.proofs.ChunkLemmas.{whole_text, text_prefix}
 
 pub ascii_is_text : (s : List ℕ) → IsAscii s → IsText s
@@ -80,7 +80,7 @@ text_until s i le h z =
         let split : i + j ≡ k = omega arith in
         let cut : take k s ≡ take i s ++ take j (drop i s) =
         ap (λ n. take n s) (sym split) ∙ take-add i j s in
-        first_sequence (drop i s) j
+        no_text (drop i s) j
         (text_rest (take i s) (take j (drop i s)) h (subst IsText cut t))
         (omega arith) (omega (arith, length-drop i s)) z
 
@@ -103,9 +103,9 @@ module _ (s r : List ℕ) (i : ℕ) (rest : r ≡ drop i s) (before : IsText (ta
       after_text n le (omega (arith, is, sequence_within r)) (sequence_is_text r n some is)
 
   -- behind text, what is broken ends it
-  pub before_broken : (n : ℕ) → i ≤ length s → (0 < n) × (n ≡ broken_len r)
+  pub text_before_broken : (n : ℕ) → i ≤ length s → (0 < n) × (n ≡ broken_len r)
       → i ≡ longest_len is_text s
-  before_broken n le (some, is) =
+  text_before_broken n le (some, is) =
       text_until s i le before
       (subst (λ t. longest_len is_sequence t ≡ 0) rest (none_in_front r (omega arith)))
 
@@ -157,7 +157,7 @@ sequences_before s r n k m h found same bound here =
 pub broken_rest : (s r : List ℕ) (n : ℕ) → TextBefore s r → (0 < n) × (n ≡ broken_len r)
     → place_of s r ≡ longest_len is_text s
 broken_rest s r n h found =
-    before_broken s r (place_of s r) h.rest h.text n (omega arith) found
+    text_before_broken s r (place_of s r) h.rest h.text n (omega arith) found
 
 -- where no rest is left, all is text
 pub no_rest : (s r : List ℕ) → TextBefore s r → eqb (length r) 0 ≡ true
@@ -170,7 +170,7 @@ no_rest s r h none =
 
 -- at the end nothing is broken
 pub none_at_end : (s : List ℕ) (i : ℕ) → length s ≤ i → 0 ≡ broken_len (drop i s)
-none_at_end s i end = sym (broken_none (drop i s) (omega (arith, length-drop i s)))
+none_at_end s i end = sym (broken_len-empty (drop i s) (omega (arith, length-drop i s)))
 
 -- the longest prefix of text that is text is the whole
 pub text_ends : (s : List ℕ) (n : ℕ) → n ≡ longest_len is_text s → IsText s → length s ≤ n

@@ -50,14 +50,14 @@ more_prefix u s a b c x y z n h l f e = record {
       (IsText-append u (take f.len s) (IsText-sequence u h) f.text);
 }
 
-unfinished_one : (a b c : ℕ) → 0xC0 ≤ c → unfinished_len a b c ≡ 1
-unfinished_one a b c h = rw (le-leb 0xC0 c h) refl
+unfinished_len-one : (a b c : ℕ) → 0xC0 ≤ c → unfinished_len a b c ≡ 1
+unfinished_len-one a b c h = rw (le-leb 0xC0 c h) refl
 
-unfinished_two : (a b c : ℕ) → c < 0xC0 → 0xE0 ≤ b → unfinished_len a b c ≡ 2
-unfinished_two a b c l h = rw (lt-leb 0xC0 c l, le-leb 0xE0 b h) refl
+unfinished_len-two : (a b c : ℕ) → c < 0xC0 → 0xE0 ≤ b → unfinished_len a b c ≡ 2
+unfinished_len-two a b c l h = rw (lt-leb 0xC0 c l, le-leb 0xE0 b h) refl
 
-unfinished_three : (a b c : ℕ) → c < 0xC0 → b < 0xE0 → 0xF0 ≤ a → unfinished_len a b c ≡ 3
-unfinished_three a b c l k h = rw (lt-leb 0xC0 c l, lt-leb 0xE0 b k, le-leb 0xF0 a h) refl
+unfinished_len-three : (a b c : ℕ) → c < 0xC0 → b < 0xE0 → 0xF0 ≤ a → unfinished_len a b c ≡ 3
+unfinished_len-three a b c l k h = rw (lt-leb 0xC0 c l, lt-leb 0xE0 b k, le-leb 0xF0 a h) refl
 
 -- the bounds of a second byte
 second_bounds : (d e : ℕ) → least_second d ≤ e → e ≤ most_second d
@@ -76,21 +76,21 @@ HasPrefixUpTo n =
     → TextPrefix a b c s
 
 module _ (n : ℕ) (fewer : HasPrefixUpTo n) (a b c d : ℕ) (k : IsFinished a b c) where
-  two : (s : List ℕ) → length s ≤ n → 0xC2 ≤ d → d ≤ 0xDF → FitAfter b c d s
+  two_byte_prefix : (s : List ℕ) → length s ≤ n → 0xC2 ≤ d → d ≤ 0xDF → FitAfter b c d s
       → TextPrefix a b c (d ∷ s)
-  two [] le g l hs = no_prefix _ _ _ _ (unfinished_one b c d (omega arith))
-  two (e ∷ s) le g l (h, hs) =
+  two_byte_prefix [] le g l hs = no_prefix _ _ _ _ (unfinished_len-one b c d (omega arith))
+  two_byte_prefix (e ∷ s) le g l (h, hs) =
       let (lo, hi) = h.goes.within (inr (inr (omega arith))) in
       more_prefix (d ∷ e ∷ []) s a b c c d e 2 (two_is d e (g, l, lo, hi)) refl
       (fewer c d e s (omega arith) (omega arith, omega arith, omega arith) hs) refl
 
-  three : (s : List ℕ) → length s ≤ n → 0xE0 ≤ d → d ≤ 0xEF → FitAfter b c d s
+  three_byte_prefix : (s : List ℕ) → length s ≤ n → 0xE0 ≤ d → d ≤ 0xEF → FitAfter b c d s
       → TextPrefix a b c (d ∷ s)
-  three [] le g l hs = no_prefix _ _ _ _ (unfinished_one b c d (omega arith))
-  three (e ∷ []) le g l (h, hs) =
+  three_byte_prefix [] le g l hs = no_prefix _ _ _ _ (unfinished_len-one b c d (omega arith))
+  three_byte_prefix (e ∷ []) le g l (h, hs) =
       let (lo, hi) = h.goes.within (inr (inr (omega arith))) in
-      no_prefix _ _ _ _ (unfinished_two c d e (omega arith) g)
-  three (e ∷ f ∷ s) le g l (h, (i, hs)) =
+      no_prefix _ _ _ _ (unfinished_len-two c d e (omega arith) g)
+  three_byte_prefix (e ∷ f ∷ s) le g l (h, (i, hs)) =
       let (lo, hi) = h.goes.within (inr (inr (omega arith))) in
       let (lo2, hi2) = i.goes.within (inr (inl g)) in
       let second = second_bounds d e h.least h.most in
@@ -98,17 +98,17 @@ module _ (n : ℕ) (fewer : HasPrefixUpTo n) (a b c d : ℕ) (k : IsFinished a b
       (three_is d e f (g, l, lo, hi, lo2, hi2, second.0, second.1)) refl
       (fewer d e f s (omega arith) (omega arith, omega arith, omega arith) hs) refl
 
-  four : (s : List ℕ) → length s ≤ n → 0xF0 ≤ d → d ≤ 0xF4 → FitAfter b c d s
+  four_byte_prefix : (s : List ℕ) → length s ≤ n → 0xF0 ≤ d → d ≤ 0xF4 → FitAfter b c d s
       → TextPrefix a b c (d ∷ s)
-  four [] le g l hs = no_prefix _ _ _ _ (unfinished_one b c d (omega arith))
-  four (e ∷ []) le g l (h, hs) =
+  four_byte_prefix [] le g l hs = no_prefix _ _ _ _ (unfinished_len-one b c d (omega arith))
+  four_byte_prefix (e ∷ []) le g l (h, hs) =
       let (lo, hi) = h.goes.within (inr (inr (omega arith))) in
-      no_prefix _ _ _ _ (unfinished_two c d e (omega arith) (omega arith))
-  four (e ∷ f ∷ []) le g l (h, (i, hs)) =
+      no_prefix _ _ _ _ (unfinished_len-two c d e (omega arith) (omega arith))
+  four_byte_prefix (e ∷ f ∷ []) le g l (h, (i, hs)) =
       let (lo, hi) = h.goes.within (inr (inr (omega arith))) in
       let (lo2, hi2) = i.goes.within (inr (inl (omega arith))) in
-      no_prefix _ _ _ _ (unfinished_three d e f (omega arith) (omega arith) g)
-  four (e ∷ f ∷ x ∷ s) le g l (h, (i, (j, hs))) =
+      no_prefix _ _ _ _ (unfinished_len-three d e f (omega arith) (omega arith) g)
+  four_byte_prefix (e ∷ f ∷ x ∷ s) le g l (h, (i, (j, hs))) =
       let (lo, hi) = h.goes.within (inr (inr (omega arith))) in
       let (lo2, hi2) = i.goes.within (inr (inl (omega arith))) in
       let (lo3, hi3) = j.goes.within (inl g) in
@@ -118,32 +118,35 @@ module _ (n : ℕ) (fewer : HasPrefixUpTo n) (a b c d : ℕ) (k : IsFinished a b
       (fewer e f x s (omega arith) (omega arith, omega arith, omega arith) hs) refl
 
   -- whatever the first byte is
-  first : (s : List ℕ) → length s ≤ n → Fits a b c d → FitAfter b c d s → TextPrefix a b c (d ∷ s)
-  first s le h hs =
+  any_prefix : (s : List ℕ) → length s ≤ n → Fits a b c d → FitAfter b c d s
+      → TextPrefix a b c (d ∷ s)
+  any_prefix s le h hs =
       let last = most_bound c in
       let most = h.most in
       ⊎_elim (λ (l : d < 0x80).
       more_prefix (d ∷ []) s a b c b c d 1 (one_is d (omega arith)) refl
       (fewer b c d s le (omega arith, omega arith, omega arith) hs) refl)
       (λ (g : 0xC2 ≤ d).
-      ⊎_elim (λ (l : d < 0xE0). two s le g (omega arith) hs)
-      (λ (e : 0xE0 ≤ d). ⊎_elim (λ (l : d < 0xF0). three s le e (omega arith) hs)
-      (λ (f : 0xF0 ≤ d). four s le f (omega arith) hs) (cases_lt d 0xF0)) (cases_lt d 0xE0))
+      ⊎_elim (λ (l : d < 0xE0). two_byte_prefix s le g (omega arith) hs)
+      (λ (e : 0xE0 ≤ d). ⊎_elim (λ (l : d < 0xF0). three_byte_prefix s le e (omega arith) hs)
+      (λ (f : 0xF0 ≤ d). four_byte_prefix s le f (omega arith) hs) (cases_lt d 0xF0))
+      (cases_lt d 0xE0))
       (h.goes.begins k)
 
 has_prefix : (n : ℕ) → HasPrefixUpTo n
 has_prefix n a b c [] le k h = no_prefix _ _ _ _ (unfinished_len-finished a b c k)
 has_prefix zero a b c (d ∷ s) le k h = absurd (omega arith)
 has_prefix (suc n) a b c (d ∷ s) le k (h, hs) =
-    first n (has_prefix n) a b c d k s (omega arith) h hs
+    any_prefix n (has_prefix n) a b c d k s (omega arith) h hs
 
 -- how many of the last bytes of a window are of a sequence that is not finished
-unfinished_at : (n a b c : ℕ) (s : List ℕ) → n ≤ length s → unfinished_after a b c (take n s)
+unfinished_after-take : (n a b c : ℕ) (s : List ℕ) → n ≤ length s
+    → unfinished_after a b c (take n s)
     ≡ unfinished_len (slice_index (a ∷ b ∷ c ∷ s) n) (slice_index (a ∷ b ∷ c ∷ s) (suc n))
     (slice_index (a ∷ b ∷ c ∷ s) (suc (suc n)))
-unfinished_at zero a b c s le = refl
-unfinished_at (suc n) a b c [] le = absurd (omega arith)
-unfinished_at (suc n) a b c (d ∷ s) le = unfinished_at n b c d s (omega arith)
+unfinished_after-take zero a b c s le = refl
+unfinished_after-take (suc n) a b c [] le = absurd (omega arith)
+unfinished_after-take (suc n) a b c (d ∷ s) le = unfinished_after-take n b c d s (omega arith)
 
 -- the text that a window begins with
 pub window_text : (w : List ℕ) → 19 ≤ length w
@@ -158,6 +161,6 @@ window_text (a ∷ b ∷ c ∷ s) l k h =
     let sixteen : length (take 16 s) ≡ 16 = length-take-le 16 s (omega arith) in
     let last = slice_index (a ∷ b ∷ c ∷ s) in
     let e : f.len ≡ 16 - unfinished_len (last 16) (last 17) (last 18) =
-    omega (arith, f.whole, unfinished_at 16 a b c s (omega arith)) in
+    omega (arith, f.whole, unfinished_after-take 16 a b c s (omega arith)) in
     subst (λ n. IsText (take n s)) e
     (subst IsText (take-take f.len 16 s (omega (arith, f.whole))) f.text)

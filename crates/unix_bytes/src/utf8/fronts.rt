@@ -8,7 +8,7 @@ use crate::utf8::classes::{is_lead, is_tail, leads_four, leads_three, leads_two,
 
 // Whether the bytes may begin with a sequence of two or more, by the ranges of the first two.
 #[inline(always)]
-#[tactic(auto, using(crate::proofs::BegunLemmas::pair_begun))]
+#[tactic(auto, using(crate::proofs::BegunLemmas::pair_bounds))]
 pub(crate) fn may_begin(source: &[u8]) -> bool
     requires { 0 < length source.now }
     ensures { HasBegun source.now 2 → IsTrue result }

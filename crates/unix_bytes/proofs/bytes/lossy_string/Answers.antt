@@ -3,15 +3,15 @@ use Rattle.std.specs.Str.{IsUtf8}
 use Rattle.std.proofs.lemmas.List.{take_rest}
 use Rattle.unix_bytes.specs.Lossy.{lossy_of}
 use Rattle.unix_bytes.specs.Chunks.{replacement_for}
-use Rattle.unix_bytes.proofs.PushLemmas.{pushed_is_utf8}
-use Rattle.unix_bytes.proofs.PrinterLemmas.{pushed_piece}
+use Rattle.unix_bytes.proofs.PushLemmas.{lossy_is_utf8}
+use Rattle.unix_bytes.proofs.PrinterLemmas.{pushes_piece}
 use Rattle.unix_bytes.proofs.bytes.lossy_string.Goals as goal
 use Rattle.unix_bytes.proofs.bytes.lossy_string.Goals.{In_ok-push_lossy}
 
--- what was pushed in all
-pushed : (c : In_ok-push_lossy) → c.push_lossy.new.bytes.items
+-- the bytes are the text, then U+FFFD unless nothing is broken, then the lossy text of the rest
+whole_bytes : (c : In_ok-push_lossy) → c.push_lossy.new.bytes.items
     ≡ (c.args.text.now ++ replacement_for c.args.broken.now) ++ lossy_of c.args.rest.now
-pushed c =
+whole_bytes c =
     let rest = c.args.rest.now in
     rw (
       c.in_ok-push_lossy.ensures,
@@ -21,16 +21,16 @@ pushed c =
       c.in_ok-bytes.ensures.items,
       c.as_bytes.ensures.value,
     )
-    (pushed_piece _ _ rest _ _ (take_rest rest c.show_first-read.result.0)
+    (pushes_piece _ _ rest _ _ (take_rest rest c.show_first-read.result.0)
     c.show_first-read.ensures.lossy)
 
 pub from_utf8_unchecked-requires : goal.from_utf8_unchecked-requires
 from_utf8_unchecked-requires c =
     let d = (goal.at.from_utf8_unchecked-requires c).In_ok-push_lossy in
-    subst IsUtf8 (sym (pushed d))
-    (pushed_is_utf8 c.args.text.now c.args.broken.now c.args.rest.now c.utf8.text)
+    subst IsUtf8 (sym (whole_bytes d))
+    (lossy_is_utf8 c.args.text.now c.args.broken.now c.args.rest.now c.utf8.text)
 
 pub returns : goal.returns
 returns c =
     ap (λ v. v.items) c.from_utf8_unchecked.ensures.value
-    ∙ pushed (goal.at.returns c).In_ok-push_lossy
+    ∙ whole_bytes (goal.at.returns c).In_ok-push_lossy

@@ -1,8 +1,8 @@
 use Rattle.std.proofs.Common.{length, sym, ap, ◌∙◌, arith, length-drop}
 use Rattle.std.proofs.lemmas.Bool.{eqb-true}
 use Rattle.std.proofs.lemmas.List.{take_rest}
-use Rattle.unix_bytes.proofs.PrinterLemmas.{pushed_piece, written_whole}
-use Rattle.unix_bytes.proofs.PushLemmas.{pushed_more, split_smaller}
+use Rattle.unix_bytes.proofs.PrinterLemmas.{pushes_piece, writes_whole}
+use Rattle.unix_bytes.proofs.PushLemmas.{pushes_split, rest_is_shorter}
 use Rattle.unix_bytes.proofs.bytes.push_lossy.Goals as goal
 
 pub loop-left-smaller : goal.loop-left-smaller
@@ -11,16 +11,16 @@ loop-left-smaller c =
     let some = sym c.is_empty.ensures ∙ c.loop-left-test.true in
     let rest = c.split_text.result.2.now in
     let read = c.show_first-read.result.0 in
-    let less = split_smaller c.loop-left.left.now _ _ _ some split.valid split.broken split.rest in
+    let less = rest_is_shorter _ _ _ _ some split.valid split.broken split.rest in
     omega (arith, less, ap length (take_rest rest read), length-drop read rest)
 
 pub loop-left-preserved : goal.loop-left-preserved
 loop-left-preserved c =
     let split = c.split_text.ensures in
     let rest = c.split_text.result.2.now in
-    let more = pushed_more c.loop-left.bytes.items c.loop-left.left.now _ _ _ split.valid
+    let more = pushes_split c.loop-left.bytes.items c.loop-left.left.now _ _ _ split.valid
     split.broken split.rest in
-    let piece = pushed_piece _ _ rest _ _ (take_rest rest c.show_first-read.result.0)
+    let piece = pushes_piece _ _ rest _ _ (take_rest rest c.show_first-read.result.0)
     c.show_first-read.ensures.lossy in
     rw (
       c.in_ok-extend_from_slice.ensures.items,
@@ -32,4 +32,4 @@ loop-left-preserved c =
 pub returns : goal.returns
 returns c =
     let none = eqb-true _ 0 (sym c.is_empty.ensures ∙ c.loop-left-test.false) in
-    written_whole c.loop-left.bytes.items c.loop-left.left.now _ none c.loop-left.invariant
+    writes_whole c.loop-left.bytes.items c.loop-left.left.now _ none c.loop-left.invariant

@@ -4,9 +4,9 @@ use Rattle.std.proofs.lemmas.Bool.{eqb-true}
 use Rattle.std.proofs.lemmas.List.{take_rest}
 use Rattle.unix_bytes.specs.Lossy.{lossy_of}
 use Rattle.unix_bytes.specs.Chunks.{replacement_for}
-use Rattle.unix_bytes.proofs.PushLemmas.{split_smaller, lossy_of-split}
-use Rattle.unix_bytes.proofs.PrinterLemmas.{pushed_piece, piece_is_utf8}
-use Rattle.unix_bytes.proofs.PrinterLemmas.{written_last, written_whole}
+use Rattle.unix_bytes.proofs.PushLemmas.{rest_is_shorter, lossy_of-split}
+use Rattle.unix_bytes.proofs.PrinterLemmas.{pushes_piece, piece_is_utf8}
+use Rattle.unix_bytes.proofs.PrinterLemmas.{writes_last, writes_whole}
 use Rattle.std.proofs.Output.{has_written_append, has_written_of_eq}
 use Rattle.std.proofs.Output.{has_written_styled_append, has_written_styled_of_eq}
 use Rattle.unix_bytes.proofs.lossy.write_lossy.Goals as goal
@@ -20,7 +20,7 @@ loop-left-smaller g c =
     let left = c.loop-left.left.now in
     let read = c.show_first-read.result.0 in
     let some = sym c.is_empty-in-loop-left.ensures ∙ c.if-is_empty.false in
-    let less = split_smaller _ _ _ _ some split.valid split.broken split.rest in
+    let less = rest_is_shorter _ _ _ _ some split.valid split.broken split.rest in
     omega (arith, less, ap length (take_rest left read), length-drop read left)
 
 pub loop-left-preserved : goal.loop-left-preserved
@@ -35,7 +35,7 @@ loop-left-preserved g c =
     → ((bs ++ piece) ++ chunk) ++ lossy_of rest ≡ lossy_of c.args.source.now = λ bs e.
     append_assoc (bs ++ piece) chunk (lossy_of rest)
     ∙ ap (λ t. (bs ++ piece) ++ t) (lossy_of-split _ _ _ _ split.valid split.broken split.rest)
-    ∙ pushed_piece bs piece left _ _ (take_rest left c.show_first-read.result.0)
+    ∙ pushes_piece bs piece left _ _ (take_rest left c.show_first-read.result.0)
     c.show_first-read.ensures.lossy ∙ e in
     record {
       plain = λ p.
@@ -65,7 +65,7 @@ returns-then-is_empty-clause-writes g c = λ p q.
     let none = eqb-true _ 0 (sym c.is_empty-in-loop-left.ensures ∙ c.if-is_empty.true) in
     let (bs, h, e) = c.loop-left.invariant.plain p in
     has_written_of_eq took _ _ _ _
-    (written_last bs _ left _ _ _ (take_rest left c.show_first-read.result.0) none
+    (writes_last bs _ left _ _ _ (take_rest left c.show_first-read.result.0) none
     c.show_first-read.ensures.lossy e)
     (has_written_append took _ bs _ _ _ h
     (c.in_ok-write_text.ensures.writes h.plain (refl {a = true})))
@@ -77,7 +77,7 @@ returns-then-is_empty-clause-styled g c = λ p q.
     let none = eqb-true _ 0 (sym c.is_empty-in-loop-left.ensures ∙ c.if-is_empty.true) in
     let (bs, h, e) = c.loop-left.invariant.styled p in
     has_written_styled_of_eq took _ _ _ _
-    (written_last bs _ left _ _ _ (take_rest left c.show_first-read.result.0) none
+    (writes_last bs _ left _ _ _ (take_rest left c.show_first-read.result.0) none
     c.show_first-read.ensures.lossy e)
     (has_written_styled_append took _ bs _ _ _ h
     (c.in_ok-write_text.ensures.styled h.flush (refl {a = true})))
@@ -87,11 +87,11 @@ returns-clause-writes g c = λ p q.
     let none = eqb-true _ 0 (sym c.is_empty.ensures ∙ c.loop-left-test.false) in
     let (bs, h, e) = c.loop-left.invariant.plain p in
     has_written_of_eq g.W.Write.write_str_gives _ _ _ _
-    (written_whole bs c.loop-left.left.now _ none e) h
+    (writes_whole bs c.loop-left.left.now _ none e) h
 
 pub returns-clause-styled : goal.returns-clause-styled
 returns-clause-styled g c = λ p q.
     let none = eqb-true _ 0 (sym c.is_empty.ensures ∙ c.loop-left-test.false) in
     let (bs, h, e) = c.loop-left.invariant.styled p in
     has_written_styled_of_eq g.W.Write.write_str_gives _ _ _ _
-    (written_whole bs c.loop-left.left.now _ none e) h
+    (writes_whole bs c.loop-left.left.now _ none e) h

@@ -2,7 +2,7 @@ use Rattle.std.proofs.Common.{true, refl, sym, ◌∙◌}
 use Rattle.std.specs.Fmt.{padded}
 use Rattle.std.proofs.lemmas.Bool.{eqb-true}
 use Rattle.unix_bytes.proofs.LossyLemmas.{lossy_of-text}
-use Rattle.unix_bytes.proofs.PushLemmas.{split_only, split_padded, split_styled, lossy_of-split}
+use Rattle.unix_bytes.proofs.PushLemmas.{all_is_text, pads_text, shows_lossy_text, lossy_of-split}
 use Rattle.std.proofs.Output.{has_written_append, has_written_of_eq}
 use Rattle.std.proofs.Output.{has_written_styled_append, has_written_styled_of_eq}
 use Rattle.unix_bytes.proofs.lossy.Utf8LossyDisplay.fmt.Goals as goal
@@ -12,7 +12,7 @@ returns-then-is_empty-clause-writes g c = λ p q.
     let s = c.args.self.now.bytes.now in
     let split = c.split_text.ensures in
     let none = eqb-true _ 0 (sym c.is_empty.ensures ∙ c.if-is_empty.true) in
-    let only = split_only s _ _ _ split.valid split.broken split.rest none in
+    let only = all_is_text s _ _ _ split.valid split.broken split.rest none in
     has_written_of_eq g.W.Write.write_str_gives _ _ _ _ (only.0 ∙ sym (lossy_of-text s only.1))
     (c.pad.ensures.writes p q)
 
@@ -21,7 +21,7 @@ returns-then-is_empty-clause-styled g c = λ p q.
     let split = c.split_text.ensures in
     let none = eqb-true _ 0 (sym c.is_empty.ensures ∙ c.if-is_empty.true) in
     has_written_styled_of_eq g.W.Write.write_str_gives _ _ _ _
-    (split_padded (padded _) c.args.self.now.bytes.now _ _ _ split.valid split.broken
+    (pads_text (padded _) c.args.self.now.bytes.now _ _ _ split.valid split.broken
     split.rest none)
     (c.pad.ensures.styled p q)
 
@@ -30,7 +30,7 @@ returns-then-valid-clause-styled g c = λ p q.
     let split = c.split_text.ensures in
     let some = sym c.is_empty.ensures ∙ c.if-is_empty.false in
     has_written_styled_of_eq g.W.Write.write_str_gives _ _ _ _
-    (split_styled (padded _) _ _ _ _ split.valid split.broken split.rest some)
+    (shows_lossy_text (padded _) _ _ _ _ split.valid split.broken split.rest some)
     (c.write_lossy.ensures.styled p q)
 
 pub returns-clause-writes : goal.returns-clause-writes
@@ -49,5 +49,5 @@ returns-clause-styled g c = λ p q.
     let some = sym c.is_empty.ensures ∙ c.if-is_empty.false in
     has_written_styled_of_eq took _ _ _ _
     (lossy_of-split _ _ _ _ split.valid split.broken split.rest
-    ∙ split_styled (padded _) _ _ _ _ split.valid split.broken split.rest some)
+    ∙ shows_lossy_text (padded _) _ _ _ _ split.valid split.broken split.rest some)
     (has_written_styled_append took _ _ _ _ _ first (c.write_lossy-2.ensures.styled first.flush q))

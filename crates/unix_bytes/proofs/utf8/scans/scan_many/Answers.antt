@@ -1,5 +1,5 @@
 use Rattle.std.proofs.lemmas.List.{take_rest}
-use Rattle.unix_bytes.proofs.StretchLemmas.{after_ascii, after_sequence, before_broken}
+use Rattle.unix_bytes.proofs.StretchLemmas.{after_ascii, after_sequence, text_before_broken}
 use Rattle.unix_bytes.proofs.StretchLemmas.{none_at_end, text_to_end}
 use Rattle.unix_bytes.proofs.utf8.scans.scan_many.Goals as goal
 
@@ -26,7 +26,7 @@ returns-in-Err-clause-text c =
     let s = c.args.source.now in
     let at = c.loop-at.at in
     let so_far = c.loop-at.invariant in
-    before_broken s _ at (take_rest s at) so_far.text c.in-Err.size so_far.within
+    text_before_broken s _ at (take_rest s at) so_far.text c.in-Err.size so_far.within
     c.in-Err.ensures.broken
 
 pub returns-clause-text : goal.returns-clause-text

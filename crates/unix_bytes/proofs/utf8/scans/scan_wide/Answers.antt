@@ -2,22 +2,22 @@ use Rattle.std.proofs.Common.{sym, ap, ◌∙◌, arith}
 use Rattle.std.proofs.lemmas.Bool.{true≢false}
 use Rattle.std.proofs.lemmas.List.{take_rest}
 use Rattle.unix_bytes.specs.Steps.{broken_len}
-use Rattle.unix_bytes.proofs.StretchLemmas.{before_broken}
-use Rattle.unix_bytes.proofs.BrokenLemmas.{broken_at}
+use Rattle.unix_bytes.proofs.StretchLemmas.{text_before_broken}
+use Rattle.unix_bytes.proofs.BrokenLemmas.{one_broken_at}
 use Rattle.unix_bytes.proofs.utf8.scans.scan_wide.Goals as goal
 
 pub returns-clause-text : goal.returns-clause-text
 returns-clause-text c =
     let s = c.args.source.now in
     let at = c.args.at in
-    let one = broken_at s _ at (take_rest s at) c.requires.some c.requires.wide
+    let one = one_broken_at s _ at (take_rest s at) c.requires.some c.requires.wide
     (λ h. true≢false (sym (c.may_begin.ensures h) ∙ c.if-may_begin.false)) in
-    before_broken s _ at (take_rest s at) c.requires.so_far 1 (omega arith) (omega arith, one)
+    text_before_broken s _ at (take_rest s at) c.requires.so_far 1 (omega arith) (omega arith, one)
 
 pub returns-clause-broken : goal.returns-clause-broken
 returns-clause-broken c =
     let s = c.args.source.now in
     let at = c.args.at in
-    broken_at s _ at (take_rest s at) c.requires.some c.requires.wide
+    one_broken_at s _ at (take_rest s at) c.requires.some c.requires.wide
     (λ h. true≢false (sym (c.may_begin.ensures h) ∙ c.if-may_begin.false))
     ∙ ap broken_len (take_rest s at)

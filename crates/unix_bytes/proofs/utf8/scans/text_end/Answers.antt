@@ -4,7 +4,7 @@ use Rattle.unix_bytes.specs.Utf8.{IsText}
 use Rattle.unix_bytes.specs.Windows.{IsFinished}
 use Rattle.std.specs.Prelude.{slice_index}
 use Rattle.unix_bytes.proofs.StretchLemmas.{more_text}
-use Rattle.unix_bytes.proofs.FinishLemmas.{finished_before}
+use Rattle.unix_bytes.proofs.FinishLemmas.{IsFinished-before}
 use Rattle.unix_bytes.proofs.utf8.scans.text_end.Goals as goal
 
 pub window_len-size-requires-clause-finished : goal.window_len-size-requires-clause-finished
@@ -14,7 +14,7 @@ window_len-size-requires-clause-finished c =
     let so_far = c.loop-at.invariant in
     subst (λ w. IsFinished (slice_index w 0) (slice_index w 1) (slice_index w 2))
     (sym (take_rest s (at - 3)))
-    (finished_before s at (omega (arith, so_far.more, c.if-from-lt3.false)) so_far.within
+    (IsFinished-before s at (omega (arith, so_far.more, c.if-from-lt3.false)) so_far.within
     so_far.text)
 
 pub loop-at-preserved : goal.loop-at-preserved
