@@ -19,6 +19,7 @@ fits_prefix (r ∷ row) (b ∷ t) u h =
     let k : (fits row (t ++ u) ≡ true) × (is_in_range r.0 r.1 b ≡ true) = and_parts _ _ h in
     rw (fits_prefix row t u k.0, k.1) refl
 
+-- if each element that passes p passes q, some passes q where some passes p
 any_more : {X : Type 0} (p q : X → Bool) (xs : List X)
     → ((x : X) → p x ≡ true → q x ≡ true) → list_any p xs ≡ true → list_any q xs ≡ true
 any_more p q [] f h = h
@@ -26,19 +27,22 @@ any_more p q (x ∷ xs) f h =
     ⊎_elim (λ e. rw (f x e) refl)
     (λ e. or_right (q x) (list_any q xs) (any_more p q xs f e)) (or_cases (p x) (list_any p xs) h)
 
+-- what begins a sequence passes the test of it
 pub begins_sequence-from : (t : List ℕ) → BeginsSequence t → begins_sequence t ≡ true
 unfolding is_sequence begins_sequence
 begins_sequence-from t (u, h) =
     any_more (λ row. fits row (t ++ u)) (λ row. fits (take (length t) row) t) table
     (λ row e. fits_prefix row t u e) h
 
--- each range has a byte
+-- in each range of a row there is a byte
 abbrev has_bytes : List (ℕ × ℕ) → Bool
 has_bytes row = list_all (λ r. nat_le r.0 r.1) row
 
+-- the least byte of a range with bytes is in it
 in_least : (lo hi : ℕ) → nat_le lo hi ≡ true → is_in_range lo hi lo ≡ true
 in_least lo hi h = grind (arith, nat_tests)
 
+-- the least bytes of the ranges of a row fit the row
 fits_least : (row : List (ℕ × ℕ)) → has_bytes row ≡ true → fits row (map (λ r. r.0) row) ≡ true
 fits_least [] h = refl
 fits_least (r ∷ row) h =
@@ -57,6 +61,7 @@ fits_more (r ∷ row) (x ∷ t) b h =
     and_parts _ _ h in
     rw (fits_more row t k.1 j.0, j.1) refl
 
+-- what fits the beginning of some row has a continuation that fits the whole of one
 some_row : (rows : List (List (ℕ × ℕ))) (t : List ℕ) → list_all has_bytes rows ≡ true
     → list_any (λ row. fits (take (length t) row) t) rows ≡ true
     → (u : List ℕ) × (list_any (λ row. fits row (t ++ u)) rows ≡ true)
@@ -70,6 +75,7 @@ some_row (row ∷ rows) t b h =
     (or_cases (fits (take (length t) row) t)
     (list_any (λ row. fits (take (length t) row) t) rows) h)
 
+-- what passes the test begins a sequence
 pub BeginsSequence-from : (t : List ℕ) → begins_sequence t ≡ true → BeginsSequence t
 unfolding is_sequence begins_sequence
 BeginsSequence-from t h = some_row table t refl h

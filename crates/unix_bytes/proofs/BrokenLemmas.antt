@@ -15,16 +15,19 @@ use Rattle.unix_bytes.proofs.StepLemmas.{none_of_two, none_of_three, none_of_fou
 use Rattle.unix_bytes.proofs.StepLemmas.{two_byte_sequence, three_byte_sequence, four_byte_sequence}
 use Rattle.unix_bytes.proofs.LossyLemmas.{is_sequence-longest_front_of}
 
+-- of no bytes none are broken
 pub broken_len-empty : (s : List ℕ) → length s ≡ 0 → broken_len s ≡ 0
 broken_len-empty [] e =
     cond-false _ _ _ (ap is_sequence longest_front_of-nil ∙ no_bytes)
     ∙ ap length longest_front_of-nil
 broken_len-empty (b ∷ bs) e = absurd (omega arith)
 
+-- where no sequence stands at the beginning, the longest front is broken
 pub broken_len-none : (s : List ℕ) → longest_len is_sequence s ≡ 0
     → broken_len s ≡ length (longest_front_of s)
 broken_len-none s z = cond-false _ _ _ (is_sequence-longest_front_of s z)
 
+-- where no sequence stands at the beginning, the longest front is the broken bytes
 pub longest_front_of-none : (s : List ℕ) → longest_len is_sequence s ≡ 0
     → longest_front_of s ≡ take (broken_len s) s
 longest_front_of-none s z =
@@ -42,10 +45,12 @@ none_in_front s some =
     let z : broken_len s ≡ 0 = cond-true _ _ _ (ap is_sequence e ∙ h) in
     absurd (omega arith)) (longest_len-longest is_sequence s).passes
 
+-- the longest front is no longer than the bytes
 longest_front_within : (s : List ℕ) → length (longest_front_of s) ≤ length s
 longest_front_within [] = let e = ap length longest_front_of-nil in omega arith
 longest_front_within (b ∷ bs) = (front_within b bs).1
 
+-- no more bytes are broken than there are
 pub broken_len_within : (s : List ℕ) → broken_len s ≤ length s
 broken_len_within s =
     ⊎_elim (λ t. let e : broken_len s ≡ 0 = cond-true _ _ _ t in omega arith)
@@ -53,12 +58,13 @@ broken_len_within s =
     let e : broken_len s ≡ length (longest_front_of s) = cond-false _ _ _ f in
     omega (arith, longest_front_within s)) (cases_Bool (is_sequence (longest_front_of s)))
 
--- the broken front, by how far a sequence has begun
+-- one byte is broken where the first two begin no sequence
 pub one_byte_broken : (s : List ℕ) → 0 < length s → (HasBegun s 2 → ⊥) → 0x80 ≤ slice_index s 0
     → broken_len s ≡ 1
 one_byte_broken s some end wide =
     broken_len-none s (none_of_two s end wide) ∙ one_byte_front s some end
 
+-- two bytes are broken where they begin a sequence and the first three do not
 pub two_byte_broken : (s : List ℕ) → HasBegun s 2 → (HasBegun s 3 → ⊥) → 0xE0 ≤ slice_index s 0
     → broken_len s ≡ 2
 two_byte_broken s h end wide =
@@ -72,6 +78,7 @@ one_broken_at s r i rest some wide end =
     ap (λ t. slice_index t 0) rest ∙ get_or-drop i s 0 0 ∙ ap (slice_index s) (add-zero i) in
     sym (one_byte_broken r (omega (arith, ap length rest, length-drop i s)) end (omega arith))
 
+-- three bytes are broken where they begin a sequence and the first four do not
 pub three_byte_broken : (s : List ℕ) → HasBegun s 3 → (HasBegun s 4 → ⊥) → 0xF0 ≤ slice_index s 0
     → broken_len s ≡ 3
 three_byte_broken s h end wide =
@@ -85,9 +92,12 @@ pub lone_byte_broken : (s : List ℕ) → 0 < length s → 0x80 ≤ slice_index 
 lone_byte_broken s some wide two three four =
     one_byte_broken s some (λ h. let lead = pair_bounds s h in grind arith) wide
 
+-- the length of a front whose first byte leads two or leads none
 pub ruleset two_byte_fronts = (two_byte_sequence, one_byte_broken, lone_byte_broken)
 
+-- the length of a front whose first byte leads three
 pub ruleset three_byte_fronts = (three_byte_sequence, one_byte_broken, two_byte_broken)
 
+-- the length of a front whose first byte leads four
 pub ruleset four_byte_fronts =
     (four_byte_sequence, one_byte_broken, two_byte_broken, three_byte_broken)

@@ -24,7 +24,7 @@ use Rattle.unix_bytes.proofs.LossyLemmas.{length-drop-some}
 use Rattle.unix_bytes.proofs.LossyLemmas.{fronts_of-text, is_sequence-longest_front_of}
 use Rattle.unix_bytes.proofs.LossyLemmas.{lossy_of-nil, lossy_of-append, lossy_of-none}
 
--- the longest prefix that is text
+-- the longest prefix of text that is text is the whole
 pub whole_text : (s : List ℕ) → IsUtf8 s → longest_len is_text s ≡ length s
 whole_text s u =
     longest_len-is is_text s (length s) (le_refl (length s))
@@ -32,12 +32,14 @@ whole_text s u =
     ∙ is_text-from_IsText s (IsText-from_IsUtf8 s u)))
     (λ k p q. absurd (omega arith))
 
+-- the longest prefix that is text is text
 pub text_prefix : (s : List ℕ) → IsText (take (longest_len is_text s) s)
 text_prefix s =
     let n = longest_len is_text s in
     ⊎_elim (λ z. subst (λ j. IsText (take j s)) (sym z) IsText-nil)
     (λ p. IsText-from_is_text (take n s) p) (longest_len-longest is_text s).passes
 
+-- the first part of the first chunk is text
 pub first_chunk_of-text : (s : List ℕ) → IsText (first_chunk_of s).valid
 unfolding first_chunk_of
 first_chunk_of-text s = text_prefix s
@@ -79,15 +81,17 @@ chunk_some b bs =
     omega (arith, e, (front_within b bs).0))
     (cases_lt 0 n)
 
+-- no bytes have no chunks
 pub chunks_of-nil : chunks_of [] ≡ []
 unfolding chunks_of
 chunks_of-nil = ap (chunks_from []) fronts_of-nil
 
+-- bytes of length 0 have no chunks
 pub chunks_of-empty : (s : List ℕ) → length s ≡ 0 → chunks_of s ≡ []
 chunks_of-empty [] e = chunks_of-nil
 chunks_of-empty (b ∷ bs) e = absurd (omega arith)
 
--- sequences are gathered
+-- sequences are added to the text of a chunk
 chunks_from-sequences : (us : List (List ℕ)) (text : List ℕ) (rest : List (List ℕ))
     → list_all is_sequence us ≡ true
     → chunks_from text (us ++ rest) ≡ chunks_from (text ++ concat us) rest
@@ -111,7 +115,7 @@ chunks_from-rest text (b ∷ bs) z some =
     ap (chunks_from text) (fronts_of-some b bs)
     ∙ cond-false _ _ _ (is_sequence-longest_front_of (b ∷ bs) z)
 
--- text, and what follows it where no sequence stands there
+-- text and what follows it, where no sequence stands there, begin with one chunk of both
 pub chunks_of-append : (v t : List ℕ) → IsText v → longest_len is_sequence t ≡ 0
     → 0 < length (v ++ t)
     → chunks_of (v ++ t) ≡ record { valid = v; broken = longest_front_of t }
@@ -122,6 +126,7 @@ chunks_of-append v t h z some =
     ap (chunks_from []) cut ∙ chunks_from-sequences us [] (fronts_of t) all
     ∙ ap (λ x. chunks_from x (fronts_of t)) e ∙ chunks_from-rest v t z some
 
+-- the chunks of some bytes are the first, and those of what follows it
 pub chunks_of-some : (b : ℕ) (bs : List ℕ) → chunks_of (b ∷ bs) ≡ first_chunk_of (b ∷ bs)
     ∷ chunks_of (drop (chunk_len (first_chunk_of (b ∷ bs))) (b ∷ bs))
 unfolding first_chunk_of
@@ -138,20 +143,7 @@ chunks_of-some b bs =
     ∙ ap (λ x. first_chunk_of s ∷ chunks_of x)
     (drop-drop k n s ∙ ap (λ j. drop (j + k) s) (sym e))
 
-length_within : (n : ℕ) (s : List ℕ) → length s ≤ n → length (chunks_of s) ≤ length s
-length_within n [] le = omega (arith, ap length chunks_of-nil)
-length_within zero (b ∷ bs) le = absurd (omega arith)
-length_within (suc n) (b ∷ bs) le =
-    let k = chunk_len (first_chunk_of (b ∷ bs)) in
-    let some = chunk_some b bs in
-    let left = length_within n (drop k (b ∷ bs)) (length-drop-some n k b bs some le) in
-    omega (arith, some, left, length-drop k (b ∷ bs), ap length (chunks_of-some b bs))
-
--- each chunk has a byte or more
-pub length-chunks_of : (s : List ℕ) → length (chunks_of s) ≤ length s
-length-chunks_of s = length_within (length s) s (le_refl (length s))
-
--- lossy text, a chunk at a time
+-- where no sequence stands at the beginning, U+FFFD is shown for the front, if there is one
 lossy_of-rest : (t : List ℕ) → longest_len is_sequence t ≡ 0
     → lossy_of t ≡ (if eqb (length (longest_front_of t)) 0 then [] else replacement)
     ++ lossy_of (drop (length (longest_front_of t)) t)
@@ -164,6 +156,7 @@ lossy_of-rest (b ∷ bs) z =
     lossy_of-none b bs z
     ∙ ap (λ c. (if c then [] else replacement) ++ lossy_of (drop k s)) (sym e)
 
+-- lossy text is the first chunk as it is shown, and the lossy text of what follows
 lossy_of-chunk : (s : List ℕ) → lossy_of s
     ≡ shown_chunk (first_chunk_of s) ++ lossy_of (drop (chunk_len (first_chunk_of s)) s)
 unfolding first_chunk_of
@@ -180,6 +173,7 @@ lossy_of-chunk s =
     ∙ ap (λ x. (v ++ mark) ++ lossy_of x)
     (drop-drop (length b) n s ∙ ap (λ j. drop (j + length b) s) (sym e))
 
+-- the chunks of at most n bytes, as they are shown, are the lossy text
 shows_lossy_within : (n : ℕ) (s : List ℕ) → length s ≤ n
     → flat_map shown_chunk (chunks_of s) ≡ lossy_of s
 shows_lossy_within n [] le = ap (flat_map shown_chunk) chunks_of-nil ∙ sym lossy_of-nil

@@ -28,6 +28,7 @@ common_prefix_len-is (x ∷ a) (y ∷ b) (suc n) l m same differs =
     let total : suc n ≡ 1 + common_prefix_len eqb a b = omega arith in
     rw first total
 
+-- two strings have the same byte at each place of their common prefix
 common_prefix_len-same : (a b : List ℕ) (k : ℕ) → k < common_prefix_len eqb a b
     → get_or a k 0 ≡ get_or b k 0
 common_prefix_len-same [] b k l = absurd (omega arith)
@@ -44,6 +45,7 @@ common_prefix_len-same (x ∷ a) (y ∷ b) (suc k) l =
     (λ (other : eqb x y ≡ false). let m : suc k < 0 = rw other at l in absurd (omega arith))
     (cases_Bool (eqb x y))
 
+-- two strings that go on behind their common prefix differ there
 common_prefix_len-differs : (a b : List ℕ) (n : ℕ) → n ≡ common_prefix_len eqb a b → n < length a
     → n < length b → eqb (get_or a n 0) (get_or b n 0) ≡ false
 common_prefix_len-differs [] b n e l m = absurd (omega arith)
@@ -61,17 +63,21 @@ common_prefix_len-differs (x ∷ a) (y ∷ b) (suc n) e l m =
     (λ (other : eqb x y ≡ false). let f : suc n ≡ 0 = rw other at e in absurd (omega arith))
     (cases_Bool (eqb x y))
 
+-- the two bytes of a pair are not the same
 abbrev differ : ℕ × ℕ → Bool
 differ pair = not (eqb pair.0 pair.1)
 
+-- the bytes of two strings, place by place
 abbrev pairs : List ℕ → List ℕ → List (ℕ × ℕ)
 pairs a b = zip2 (λ x y. (x, y)) a b
 
+-- the places at which two strings differ, by their pairs
 zip2-pairs : (a b : List ℕ) → zip2 (λ x y. not (eqb x y)) a b ≡ map differ (pairs a b)
 zip2-pairs [] b = refl
 zip2-pairs (x ∷ a) [] = refl
 zip2-pairs (x ∷ a) (y ∷ b) = ap (λ ts. not (eqb x y) ∷ ts) (zip2-pairs a b)
 
+-- the pairs before the first that differs are the common prefix
 prefix_len-pairs : (a b : List ℕ)
     → prefix_len (λ pair. not (differ pair)) (pairs a b) ≡ common_prefix_len eqb a b
 prefix_len-pairs [] b = refl
@@ -80,6 +86,7 @@ prefix_len-pairs (x ∷ a) (y ∷ b) =
     ⊎_elim (λ (same : eqb x y ≡ true). rw same (ap (λ n. 1 + n) (prefix_len-pairs a b)))
     (λ (other : eqb x y ≡ false). rw other refl) (cases_Bool (eqb x y))
 
+-- two strings of one length have as many pairs
 length-pairs : (a b : List ℕ) → length a ≡ length b → length (pairs a b) ≡ length a
 length-pairs [] b e = refl
 length-pairs (x ∷ a) [] e = absurd (omega arith)
@@ -89,6 +96,7 @@ length-pairs (x ∷ a) (y ∷ b) e = ap (λ n. suc n) (length-pairs a b (omega a
 abbrev other_mask : List ℕ → List ℕ → ℕ
 other_mask a b = mask_l (map (top 7) (zip2 (λ x y. cond (not (eqb x y)) 255 0) a b)) % 2 ^ 64
 
+-- the mask that the code computes has a bit for each pair that differs
 other_mask-pairs : (a b : List ℕ) (n : ℕ) → n ≤ 64 → length a ≡ n → length b ≡ n
     → other_mask a b ≡ mask_l (map differ (pairs a b))
 other_mask-pairs a b n few l m =
@@ -97,6 +105,7 @@ other_mask-pairs a b n few l m =
     ap (λ ts. mask_l ts % 2 ^ 64) (tops_compared w8 (λ x y. not (eqb x y)) a b ∙ zip2-pairs a b)
     ∙ mask_l-mod (map differ (pairs a b)) 64 size
 
+-- n where no bit is set, and else the place of the lowest, is the length of the common prefix
 first_other : (a b : List ℕ) (n : ℕ) → n ≤ 64 → length a ≡ n → length b ≡ n
     → cond (eqb (other_mask a b) 0) n (count_trailing_zeros 64 (other_mask a b))
     ≡ common_prefix_len eqb a b
@@ -105,12 +114,13 @@ first_other a b n few l m =
     ∙ first_set_mask_l differ (pairs a b) n (length-pairs a b (l ∙ sym m) ∙ l) few
     ∙ prefix_len-pairs a b
 
--- so many bytes of the n from `at` on come before the first that differ
+-- of the n bytes from `at` on, `len` stand before the first place at which two strings differ
 pub record CommonInLanes (a b : List ℕ) (n at len : ℕ) : Type 0 where
   pub in_range : len ≤ n
   pub same : (k : ℕ) → at ≤ k → k < at + len → get_or a k 0 ≡ get_or b k 0
   pub differs : len < n → eqb (get_or a (at + len) 0) (get_or b (at + len) 0) ≡ false
 
+-- the common prefix of n bytes from `at` on, by the places in the whole strings
 in_lanes : (a b : List ℕ) (n at len : ℕ) → at + n ≤ length a → at + n ≤ length b
     → len ≡ common_prefix_len eqb (chunk at n a) (chunk at n b) → CommonInLanes a b n at len
 in_lanes a b n at len l m is =
@@ -134,7 +144,7 @@ in_lanes a b n at len l m is =
           (omega (arith, length-chunk at n a l)) (omega (arith, length-chunk at n b m));
     }
 
--- no bit is set
+-- where no bit is set, n bytes from `at` on are the same
 pub none_other : (a b : List ℕ) (n at : ℕ) → n ≤ 64 → at + n ≤ length a → at + n ≤ length b
     → other_mask (chunk at n a) (chunk at n b) ≡ 0 → CommonInLanes a b n at n
 none_other a b n at few l m none =
@@ -144,7 +154,7 @@ none_other a b n at few l m none =
     ∙ first_other (chunk at n a) (chunk at n b) n few (length-chunk at n a l)
     (length-chunk at n b m))
 
--- the lowest bit is set for the first pair that differs
+-- where a bit is set, the lowest is that of the first pair that differs
 pub some_other : (a b : List ℕ) (n at : ℕ) → n ≤ 64 → at + n ≤ length a → at + n ≤ length b
     → (other_mask (chunk at n a) (chunk at n b) ≡ 0 → ⊥)
     → CommonInLanes a b n at

@@ -18,6 +18,7 @@ EndsFinished a b c (d ∷ s) = EndsFinished b c d s
 abbrev KeepsFinished : List ℕ → Type 0
 KeepsFinished s = (a b c : ℕ) → IsFinished a b c → EndsFinished a b c s
 
+-- bytes that leave finished sequences finished do so behind a sequence too
 sequence_keeps_finished : (u s : List ℕ) → IsSequence u → KeepsFinished s → KeepsFinished (u ++ s)
 sequence_keeps_finished [] s h next a b c k = let z = no_bytes in cc
 sequence_keeps_finished (d ∷ []) s h next a b c k =
@@ -31,12 +32,14 @@ sequence_keeps_finished (d ∷ e ∷ f ∷ x ∷ []) s h next a b c k =
 sequence_keeps_finished (d ∷ e ∷ f ∷ x ∷ y ∷ u) s h next a b c k =
     let z = more_bytes d e f x y u in cc
 
+-- sequences, one after the other, leave finished sequences finished
 text_keeps_finished : (us : List (List ℕ)) → All IsSequence us → KeepsFinished (concat us)
 text_keeps_finished [] all = λ a b c k. k
 text_keeps_finished (u ∷ us) all =
     sequence_keeps_finished u (concat us) (All-head IsSequence u us all)
     (text_keeps_finished us (All-tail IsSequence u us all))
 
+-- where u and then three bytes of w end in finished sequences, these three do
 IsFinished-last : (u w : List ℕ) (a b c : ℕ) → 3 ≤ length w → EndsFinished a b c (u ++ take 3 w)
     → IsFinished (slice_index w 0) (slice_index w 1) (slice_index w 2)
 IsFinished-last [] [] a b c l h = absurd (omega arith)
@@ -45,6 +48,7 @@ IsFinished-last [] (x ∷ y ∷ []) a b c l h = absurd (omega arith)
 IsFinished-last [] (x ∷ y ∷ z ∷ w) a b c l h = h
 IsFinished-last (d ∷ u) w a b c l h = IsFinished-last u w b c d l h
 
+-- the last three bytes of text are the end of finished sequences
 pub IsFinished-before : (s : List ℕ) (i : ℕ) → 3 ≤ i → i ≤ length s → IsText (take i s)
     → IsFinished (slice_index (drop (i - 3) s) 0) (slice_index (drop (i - 3) s) 1)
     (slice_index (drop (i - 3) s) 2)

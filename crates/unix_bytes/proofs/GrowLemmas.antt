@@ -16,7 +16,7 @@ use Rattle.unix_bytes.proofs.FrontLemmas.{longest_front_of-take}
 abbrev IsGrown : List ℕ → Type 0
 IsGrown u = (length u ≡ 1) ⊎ (begins_sequence u ≡ true)
 
--- such bytes are the longest front, where with the next byte they begin no sequence
+-- one byte, or bytes that begin a sequence, are the longest front if with the next they begin none
 longest_front_of-append : (u s : List ℕ) → 1 ≤ length u → IsGrown u
     → (HasBegun (u ++ s) (suc (length u)) → ⊥) → longest_front_of (u ++ s) ≡ u
 longest_front_of-append u s some at end =
@@ -32,13 +32,14 @@ longest_front_of-append u s some at end =
 abbrev longest_fronts : List ℕ → List (List ℕ)
 longest_fronts s = longest_front_of s ∷ fronts_of (drop (length (longest_front_of s)) s)
 
--- a front that grows no more
+-- where u is the longest front, the fronts of what follows stand behind it
 longest_fronts-append : (u s : List ℕ) → 1 ≤ length u → IsGrown u
     → (HasBegun (u ++ s) (suc (length u)) → ⊥) → longest_fronts (u ++ s) ≡ u ∷ fronts_of s
 longest_fronts-append u s some at end =
     ap (λ f. f ∷ fronts_of (drop (length f) (u ++ s))) (longest_front_of-append u s some at end)
     ∙ ap (λ t. u ∷ fronts_of t) (drop_at u s (length u) refl)
 
+-- a front takes the next byte if both begin a sequence, and else ends
 fronts_from-step : (b : ℕ) (s u : List ℕ) → 1 ≤ length u → IsGrown u
     → (begins_sequence (push u b) ≡ true
     → fronts_from (push u b) s ≡ longest_fronts (push u b ++ s))
@@ -53,6 +54,7 @@ fronts_from-step b s u some at more false e =
     sym (longest_fronts-append u (b ∷ s) some at
     (λ h. absurd (true≢false (sym h.1 ∙ ap begins_sequence next ∙ e))))
 
+-- a front that grows byte by byte becomes the longest
 fronts_from-longest : (s u : List ℕ) → 1 ≤ length u → IsGrown u
     → fronts_from u s ≡ longest_fronts (u ++ s)
 unfolding fronts_of
@@ -63,16 +65,18 @@ fronts_from-longest (b ∷ s) u some at =
     (λ e. fronts_from-longest s (push u b) (omega (arith, length-append u (b ∷ []))) (inr e))
     (begins_sequence (push u b)) refl
 
+-- no bytes have no fronts
 pub fronts_of-nil : fronts_of [] ≡ []
 unfolding fronts_of
 fronts_of-nil = refl
 
--- the fronts are the longest, one after the other
+-- the first front of some bytes is the longest, and behind it stand the fronts of what follows
 pub fronts_of-some : (b : ℕ) (bs : List ℕ) → fronts_of (b ∷ bs)
     ≡ longest_front_of (b ∷ bs) ∷ fronts_of (drop (length (longest_front_of (b ∷ bs))) (b ∷ bs))
 unfolding fronts_of
 fronts_of-some b bs = fronts_from-longest bs (b ∷ []) (omega arith) (inl refl)
 
+-- the first front is the longest
 pub front_of-longest : (s : List ℕ) → front_of s ≡ longest_front_of s
 front_of-longest [] =
     ap (λ us. concat (take 1 us)) fronts_of-nil ∙ sym longest_front_of-nil

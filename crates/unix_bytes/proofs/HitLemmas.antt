@@ -47,23 +47,25 @@ top_bit a k low high =
     let some : 0 < 2 ^ k = omega (arith, pow_mono {i = 0} {j = k} (omega arith)) in
     omega (arith, le-div 1 a (2 ^ k) some (omega arith), div_below a (2 ^ k) 2 some (omega arith))
 
--- the bit of the k-th byte says whether it is this one
+-- the k-th bit of the mask says whether the k-th byte is `byte`
 bit_of : (byte : ℕ) (xs : List ℕ) (k : ℕ) → k < length xs
     → hit_mask byte xs / 2 ^ k % 2 ≡ bit (get_or xs k 0 == byte)
 bit_of byte xs k l =
     bit_mask_l (map (λ b. b == byte) xs) k
     ∙ ap bit (get_or-map (λ b. b == byte) xs k 0 false l)
 
+-- a bit that is 1 says true
 is_set : (t : Bool) → bit t ≡ 1 → t ≡ true
 is_set true e = refl
 is_set false e = absurd (omega arith)
 
--- the last of 16 bytes that is this one stands just before `past`
+-- the last place of `byte` among 16 bytes is just before `past`, or there is none and `past` is 0
 pub record LastHit (byte : ℕ) (xs : List ℕ) (past : ℕ) : Type 0 where
   pub in_range : past ≤ 16
   pub after : 0 < past → (get_or xs (past - 1) 0 == byte) ≡ true
   pub none_behind : (k : ℕ) → past ≤ k → k < 16 → (get_or xs k 0 == byte) ≡ false
 
+-- a number of 16 bits has its highest bit below 16
 at_most_16 : (a m : ℕ) → a < 2 ^ 16 → 2 ^ m ≤ 2 * a + 1 → m ≤ 16
 at_most_16 a m small low =
     ⊎_elim
@@ -72,9 +74,11 @@ at_most_16 a m small low =
     absurd (omega (arith, small, low, many)))
     (λ (few : m ≤ 16). few) (cases_lt 16 m)
 
+-- a power of two is twice the one before
 halves : (m : ℕ) → 0 < m → 2 ^ m ≡ 2 * 2 ^ (m - 1)
 halves m some = ap (λ k. 2 ^ k) {x = m} {y = suc (m - 1)} (omega arith) ∙ pow-succ' 2 (m - 1)
 
+-- the leading zeros of the mask of 16 bytes say where the last stands that is the byte
 pub last_hit : (byte : ℕ) (xs : List ℕ) → length xs ≡ 16
     → LastHit byte xs (64 - count_leading_zeros 64 (hit_mask byte xs))
 last_hit byte xs l =
@@ -97,7 +101,7 @@ last_hit byte xs l =
           is_clear _ (sym (bit_of byte xs k (omega arith)) ∙ ap (λ n. n % 2) (no_bit a k m high h));
     })
 
--- no byte from `from` on is this one
+-- where the byte stands nowhere from `from` on, the search there finds none
 pub none_from : (byte : ℕ) (s : List ℕ) (from : ℕ) → from ≤ length s
     → ((k : ℕ) → from ≤ k → k < length s → (get_or s k 0 == byte) ≡ false)
     → position_or_len (λ b. b == byte) (drop from s) ≡ length (drop from s)
@@ -108,7 +112,7 @@ none_from byte s from l none =
     ∙ none (from + k) (omega arith) (omega arith))
     (λ few. absurd (omega arith))
 
--- a byte of a window, in the whole
+-- a byte of a window of 16 is the byte of the whole at its place
 pub in_window : (at : ℕ) (s : List ℕ) (k : ℕ) → at ≤ k → k < at + 16
     → get_or (take 16 (drop at s)) (k - at) 0 ≡ get_or s k 0
 in_window at s k l h =

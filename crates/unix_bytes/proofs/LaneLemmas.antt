@@ -20,9 +20,11 @@ use Rattle.unix_bytes.proofs.MaskLemmas.{least_bits, least_mask}
 abbrev is_narrow : ℕ → Bool
 is_narrow b = not (is_wide b)
 
+-- a byte that passes the test is less than 128
 narrow_bound : (b : ℕ) → is_narrow b ≡ true → b < 128
 narrow_bound b h = grind (arith, nat_tests)
 
+-- a byte that fails the test is 128 or more
 wide_bound : (b : ℕ) → is_narrow b ≡ false → 0x80 ≤ b
 wide_bound b h = grind (arith, nat_tests)
 
@@ -118,6 +120,7 @@ first_wide s m l mask some =
           (subst (λ b. 0x80 ≤ b) (get_or-take 16 s n 0 within) wide),
     )
 
+-- where the first byte is ASCII, bytes of ASCII stand before the first other
 narrow_some : (s : List ℕ) → 0 < length s → slice_index s 0 < 128
     → 0 < prefix_len is_narrow (take 16 (drop 0 s))
 narrow_some [] some h = absurd (omega arith)
@@ -135,5 +138,5 @@ some_ascii s zero m l mask some h =
     omega arith
 some_ascii s (suc i) m l mask some h = omega arith
 
--- ASCII and one more byte of it
+-- one byte of ASCII behind others of it
 pub ruleset one_more_ascii = IsAscii-more

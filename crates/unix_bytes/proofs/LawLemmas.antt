@@ -24,6 +24,7 @@ use Rattle.unix_bytes.proofs.FrontLemmas.{front_within}
 use Rattle.unix_bytes.proofs.GrowLemmas.{fronts_of-nil, fronts_of-some, front_of-longest}
 use Rattle.unix_bytes.proofs.LossyLemmas.{no_sequence, lossy_of-none, shown_front, length-drop-some}
 
+-- the longest front begins a sequence, or is one byte
 longest_front_begins : (b : ℕ) (bs : List ℕ)
     → BeginsSequence (longest_front_of (b ∷ bs)) ⊎ (length (longest_front_of (b ∷ bs)) ≡ 1)
 unfolding longest_front_of
@@ -44,6 +45,7 @@ longest_front_begins b bs =
 abbrev MayStand : List ℕ → Type 0
 MayStand u = BeginsSequence u ⊎ (length u ≡ 1)
 
+-- each front of at most n bytes begins a sequence, or is one byte
 may_stand_within : (n : ℕ) (s : List ℕ) → length s ≤ n → All MayStand (fronts_of s)
 may_stand_within n [] le = subst (All MayStand) (sym fronts_of-nil) (All-nil MayStand)
 may_stand_within zero (b ∷ bs) le = absurd (omega arith)
@@ -64,6 +66,7 @@ fronts_in_turn (b ∷ bs) =
     ap (drop 1) (fronts_of-some b bs)
     ∙ ap (λ u. fronts_of (drop (length u) (b ∷ bs))) (sym (front_of-longest (b ∷ bs)))
 
+-- no prefix that begins a sequence is longer than the longest front
 longest_front_is_longest : (s : List ℕ) → IsLongest BeginsSequence (longest_front_of s) s
 unfolding longest_front_of
 longest_front_is_longest s =
@@ -82,6 +85,7 @@ front_is_longest s =
     subst (λ u. IsLongest BeginsSequence u s) (sym (front_of-longest s))
     (longest_front_is_longest s)
 
+-- where the bytes begin with no sequence, the longest sequence at the beginning has length 0
 longest_len-NoneInFront : (s : List ℕ) → NoneInFront s → longest_len is_sequence s ≡ 0
 longest_len-NoneInFront s none =
     let n = longest_len is_sequence s in
@@ -95,17 +99,19 @@ lossy_of_broken (b ∷ bs) some none =
     ∙ ap (λ u. replacement ++ lossy_of (drop (length u) (b ∷ bs)))
     (sym (front_of-longest (b ∷ bs)))
 
+-- U+FFFD is a sequence
 pub replacement_is_sequence : is_sequence replacement ≡ true
 unfolding is_sequence
 replacement_is_sequence = refl
 
+-- what is shown for a front is a sequence
 shown_front_is_sequence : (u : List ℕ) → is_sequence (shown_front u) ≡ true
 shown_front_is_sequence u =
     ⊎_elim (λ t. ap is_sequence (cond-true _ _ _ t) ∙ t)
     (λ f. ap is_sequence (cond-false _ _ _ f) ∙ replacement_is_sequence)
     (cases_Bool (is_sequence u))
 
--- what begins a sequence and is not the whole of one has three bytes at most
+-- where no sequence stands at the beginning, what begins one has three bytes at most
 beginning_is_short : (s : List ℕ) → longest_len is_sequence s ≡ 0
     → max 1 (longest_len begins_sequence s) ≤ 3
 beginning_is_short s z =
@@ -126,6 +132,7 @@ beginning_is_short s z =
         let four = (sequence_len (take n s ++ x ∷ u) is).1 in
         omega (arith, length-append (take n s) (x ∷ u))
 
+-- where no sequence stands at the beginning, the longest front has three bytes at most
 pub longest_front_is_short : (s : List ℕ) → longest_len is_sequence s ≡ 0
     → length (longest_front_of s) ≤ 3
 unfolding longest_front_of
@@ -140,6 +147,7 @@ broken_is_short s none =
     subst (λ u. length u ≤ 3) (sym (front_of-longest s))
     (longest_front_is_short s (longest_len-NoneInFront s none))
 
+-- what is shown for fronts are sequences
 shown_fronts_are_sequences : (us : List (List ℕ))
     → list_all is_sequence (map shown_front us) ≡ true
 shown_fronts_are_sequences [] = refl

@@ -22,6 +22,7 @@ use Rattle.unix_bytes.proofs.GrowLemmas.{fronts_of-nil, fronts_of-some}
 abbrev pub shown_front : List ℕ → List ℕ
 shown_front u = if is_sequence u then u else replacement
 
+-- the first front of bytes that begin with a sequence is that sequence
 fronts_of-sequence : (u s : List ℕ) → IsSequence u → fronts_of (u ++ s) ≡ u ∷ fronts_of s
 fronts_of-sequence [] s h = let k = no_bytes in cc
 fronts_of-sequence (b ∷ u) s h =
@@ -30,6 +31,7 @@ fronts_of-sequence (b ∷ u) s h =
     ∙ ap (λ f. f ∷ fronts_of (drop (length f) (b ∷ u ++ s))) e
     ∙ ap (λ t. (b ∷ u) ∷ fronts_of t) (drop_at (b ∷ u) s (length (b ∷ u)) refl)
 
+-- the fronts of sequences, one after the other, and of what follows are these sequences first
 fronts_of-concat : (us : List (List ℕ)) (s : List ℕ) → list_all is_sequence us ≡ true
     → fronts_of (concat us ++ s) ≡ us ++ fronts_of s
 fronts_of-concat [] s h = refl
@@ -38,10 +40,12 @@ fronts_of-concat (u ∷ us) s h =
     ap fronts_of (append_assoc u (concat us) s) ∙ fronts_of-sequence u (concat us ++ s) k.0
     ∙ ap (λ fs. u ∷ fs) (fronts_of-concat us s k.1)
 
+-- of one byte more than n, at most n are left behind one or more
 pub length-drop-some : (n k b : ℕ) (bs : List ℕ) → 1 ≤ k → length (b ∷ bs) ≤ suc n
     → length (drop k (b ∷ bs)) ≤ n
 length-drop-some n k b bs some le = omega (arith, length-drop k (b ∷ bs))
 
+-- the fronts of at most n bytes, one after the other, are the bytes
 concat-fronts_within : (n : ℕ) (s : List ℕ) → length s ≤ n → concat (fronts_of s) ≡ s
 concat-fronts_within n [] le = ap concat fronts_of-nil
 concat-fronts_within zero (b ∷ bs) le = absurd (omega arith)
@@ -53,10 +57,11 @@ concat-fronts_within (suc n) (b ∷ bs) le =
     (concat-fronts_within n (drop k s) (length-drop-some n k b bs (front_within b bs).0 le))
     ∙ take-append-drop k s
 
--- the fronts partition the bytes
+-- the fronts, one after the other, are the bytes
 pub concat-fronts_of : (s : List ℕ) → concat (fronts_of s) ≡ s
 concat-fronts_of s = concat-fronts_within (length s) s (le_refl (length s))
 
+-- what passes the test is text
 pub IsText-from_is_text : (s : List ℕ) → is_text s ≡ true → IsText s
 unfolding is_text
 IsText-from_is_text s h =
@@ -69,6 +74,7 @@ fronts_of-text t s (us, h, e) =
     let all = list_all-from_AllPass is_sequence us h in
     (us, all, e, ap (λ x. fronts_of (x ++ s)) (sym e) ∙ fronts_of-concat us s all)
 
+-- text passes the test
 pub is_text-from_IsText : (s : List ℕ) → IsText s → is_text s ≡ true
 unfolding is_text
 is_text-from_IsText s t =
@@ -87,6 +93,7 @@ text_rest t s h k =
     IsText-from_is_text s
     (and_parts _ _ (sym (list_all-append is_sequence us (fronts_of s)) ∙ both)).1
 
+-- sequences are shown as they are
 flat_map-shown_front : (us : List (List ℕ)) → list_all is_sequence us ≡ true
     → flat_map shown_front us ≡ concat us
 flat_map-shown_front [] h = refl
@@ -94,6 +101,7 @@ flat_map-shown_front (u ∷ us) h =
     let k : IsSequence u × (list_all is_sequence us ≡ true) = and_parts _ _ h in
     ap₂ (λ f t. f ++ t) (cond-true _ _ _ k.0) (flat_map-shown_front us k.1)
 
+-- the lossy text of no bytes is empty
 pub lossy_of-nil : lossy_of [] ≡ []
 unfolding lossy_of
 lossy_of-nil = ap (flat_map shown_front) fronts_of-nil
@@ -106,6 +114,7 @@ lossy_of-append t s h =
     ap (flat_map shown_front) cut ∙ flat_map-append shown_front us (fronts_of s)
     ∙ ap (λ x. x ++ flat_map shown_front (fronts_of s)) (flat_map-shown_front us all ∙ e)
 
+-- text is its own lossy text
 pub lossy_of-text : (s : List ℕ) → IsText s → lossy_of s ≡ s
 lossy_of-text s t =
     ap lossy_of (sym (append-nil s)) ∙ lossy_of-append s [] t
@@ -118,6 +127,7 @@ no_sequence s u v z e h =
     let few = longest_len-prefix is_sequence s u v h e in
     absurd (omega arith)
 
+-- where no sequence stands at the beginning, the longest front is no sequence
 pub is_sequence-longest_front_of : (s : List ℕ) → longest_len is_sequence s ≡ 0
     → is_sequence (longest_front_of s) ≡ false
 is_sequence-longest_front_of s z =
@@ -127,6 +137,7 @@ is_sequence-longest_front_of s z =
     false_from_ne_true (is_sequence (longest_front_of s))
     (no_sequence s (longest_front_of s) (drop k s) z e)
 
+-- where no sequence stands at the beginning, U+FFFD is shown for the longest front
 pub lossy_of-none : (b : ℕ) (bs : List ℕ) → longest_len is_sequence (b ∷ bs) ≡ 0
     → lossy_of (b ∷ bs)
     ≡ replacement ++ lossy_of (drop (length (longest_front_of (b ∷ bs))) (b ∷ bs))
@@ -137,7 +148,7 @@ lossy_of-none b bs z =
     ∙ ap (λ f. f ++ flat_map shown_front (fronts_of (drop (length (longest_front_of s)) s)))
     (cond-false _ _ _ (is_sequence-longest_front_of s z))
 
--- where no sequence stands at the beginning, no text does but the empty
+-- where no sequence stands at the beginning, the only prefix that is text is the empty one
 pub no_text : (s : List ℕ) (k : ℕ) → IsText (take k s) → 0 < k → k ≤ length s
     → longest_len is_sequence s ≡ 0 → ⊥
 no_text s k (us, h, e) some within z =
@@ -151,5 +162,6 @@ no_text s k (us, h, e) some within z =
         ∙ append_assoc v (concat vs) (drop k s) in
         no_sequence s v (concat vs ++ drop k s) z front (and_parts _ _ all).0
 
+-- what is not text fails the test
 pub is_text-not : (s : List ℕ) → (IsText s → ⊥) → is_text s ≡ false
 is_text-not s broken = false_from_ne_true (is_text s) (λ t. broken (IsText-from_is_text s t))

@@ -12,6 +12,7 @@ abbrev unfinished_mark : ℕ → ℕ → ℕ → ℕ
 unfinished_mark a b c =
     cond (nat_le 0xF0 a) 255 (cond (nat_le 0xE0 b) 255 (cond (nat_le 0xC0 c) 255 0))
 
+-- the byte has its highest bit set where a sequence is not finished
 unfinished_mark-set : (a b c : ℕ) → IsUnfinished a b c → nat_le 0x80 (unfinished_mark a b c) ≡ true
 unfinished_mark-set a b c h = by (nat_le 0xF0 a) (nat_le 0xE0 b) (nat_le 0xC0 c) refl refl refl
   where
@@ -25,6 +26,7 @@ unfinished_mark-set a b c h = by (nat_le 0xF0 a) (nat_le 0xE0 b) (nat_le 0xC0 c)
         (λ k. ⊎_elim (λ i. let l = leb-false 0xE0 b f in absurd (omega arith))
         (λ i. let l = leb-false 0xC0 c g in absurd (omega arith)) k) h
 
+-- the byte has its highest bit clear where all sequences are finished
 unfinished_mark-clear : (a b c : ℕ) → IsFinished a b c → nat_le 0x80 (unfinished_mark a b c) ≡ false
 unfinished_mark-clear a b c h =
     rw (lt-leb 0xF0 a h.0, lt-leb 0xE0 b h.1, lt-leb 0xC0 c h.2) refl
@@ -34,6 +36,7 @@ record Adds (o p q : Bool) (n m k : ℕ) : Type 0 where
   bits : cond o 1 0 + cond p 1 0 ≡ cond q 1 0
   rest : n + m ≡ k
 
+-- where two numbers add up with no carry from the lowest bit, so do the lowest bits and the others
 adds : (o p q : Bool) (n m k : ℕ) → (p ≡ true → q ≡ true)
     → (cond o 1 0 + 2 * n) + (cond p 1 0 + 2 * m) ≡ cond q 1 0 + 2 * k → Adds o p q n m k
 adds true true true n m k h e = absurd (omega arith)
@@ -45,19 +48,22 @@ adds false true false n m k h e = absurd (omega arith)
 adds false false true n m k h e = absurd (omega arith)
 adds false false false n m k h e = record { bits = refl; rest = omega arith }
 
--- two masks with the same bits
+-- equal numbers have the same lowest bit and the same others
 same_bit : (p q : Bool) (n m : ℕ) → cond p 1 0 + 2 * n ≡ cond q 1 0 + 2 * m → (p ≡ q) × (n ≡ m)
 same_bit true true n m e = (refl, omega arith)
 same_bit true false n m e = absurd (omega arith)
 same_bit false true n m e = absurd (omega arith)
 same_bit false false n m e = (refl, omega arith)
 
+-- the bit of a true test is 1
 bit_on : (t : Bool) → t ≡ true → ◌≡◌ {A = ℕ} (cond t 1 0) 1
 bit_on t h = ap (λ b. cond b 1 0) h
 
+-- the bit of a false test is 0
 bit_off : (t : Bool) → t ≡ false → ◌≡◌ {A = ℕ} (cond t 1 0) 0
 bit_off t h = ap (λ b. cond b 1 0) h
 
+-- a byte goes on where the bit for a sequence that is not finished and that for a lead add up
 goes_on : (a b c d : ℕ)
     → cond (nat_le 0x80 (unfinished_mark a b c)) 1 0 + cond (nat_le 0xC0 d) 1 0
     ≡ cond (nat_le 0x80 d) 1 0
@@ -103,9 +109,11 @@ unfinished_lanes s t u =
     (zip2 (λ b o. cond (nat_le 0xE0 b) 255 o) t
     (zip2 (λ b o. cond (nat_le 0xC0 b) 255 o) u (replicate (length u) 0)))
 
+-- a lead is not ASCII
 above_beginning : (d : ℕ) → nat_le 0xC0 d ≡ true → nat_le 0x80 d ≡ true
 above_beginning d h = let k = leb-true 0xC0 d h in le-leb 0x80 d (omega arith)
 
+-- each byte goes on where two of the masks add up to the third
 pub go_on : (s t u v : List ℕ)
     → mask_l (map (nat_le 0x80) (unfinished_lanes s t u)) + mask_l (map (nat_le 0xC0) v)
     ≡ mask_l (map (nat_le 0x80) v)

@@ -32,10 +32,12 @@ mask_bound k xs e =
 abbrev pub bit : Bool → ℕ
 bit t = cond t 1 0
 
+-- a bit that is 0 says false
 pub is_clear : (t : Bool) → bit t ≡ 0 → t ≡ false
 is_clear true e = absurd (omega arith)
 is_clear false e = refl
 
+-- where no bit is set, no byte is less than its bound
 none_less : (xs ys : List ℕ) → mask_l (zip2 ltb xs ys) ≡ 0 → AreAbove xs ys
 none_less [] ys e = tt
 none_less (x ∷ xs) [] e = tt

@@ -13,12 +13,13 @@ use Rattle.unix_bytes.proofs.ChunkLemmas.{whole_text, chunks_of-nil, chunks_of-s
 use Rattle.unix_bytes.proofs.ChunkLemmas.{first_chunk_of-text, shown-chunks_of}
 use Rattle.unix_bytes.proofs.PartitionLemmas.{chunks_partition, whole_chunk_is_last}
 
+-- the chunk that stands first is `first_chunk_of`
 pub first_chunk_is : (s : List ℕ) (c : Chunk) (cs : List Chunk) → chunks_of s ≡ c ∷ cs
     → first_chunk_of s ≡ c
 first_chunk_is [] c cs e = let h = chunks_of-nil in cc
 first_chunk_is (b ∷ bs) c cs e = let h = chunks_of-some b bs in cc
 
--- a chunk of which none is broken is all there is
+-- where none of the first chunk is broken, its text is all bytes
 pub only_chunk : (s : List ℕ) (c : Chunk) (cs : List Chunk) → chunks_of s ≡ c ∷ cs
     → c.broken ≡ [] → c.valid ≡ s
 only_chunk s c cs e z =
@@ -27,18 +28,19 @@ only_chunk s c cs e z =
     sym (append-nil c.valid) ∙ ap (λ b. c.valid ++ b) (sym z) ∙ sym (append-nil (bytes c))
     ∙ ap (flat_map bytes) (ap (λ t. c ∷ t) (sym none) ∙ sym e) ∙ chunks_partition s
 
+-- where none of the first chunk is broken, the bytes are text
 pub only_text : (s : List ℕ) (c : Chunk) (cs : List Chunk) → chunks_of s ≡ c ∷ cs
     → c.broken ≡ [] → IsText s
 only_text s c cs e z =
     subst IsText (ap (λ (x : Chunk). x.valid) (first_chunk_is s c cs e) ∙ only_chunk s c cs e z)
     (first_chunk_of-text s)
 
--- the first chunk is shown with those behind it
+-- the first chunk and those behind it, as they are shown, are the lossy text
 pub lossy_of-first_chunk : (s : List ℕ) (c : Chunk) (cs : List Chunk) → chunks_of s ≡ c ∷ cs
     → shown_chunk c ++ flat_map shown_chunk cs ≡ lossy_of s
 lossy_of-first_chunk s c cs e = ap (flat_map shown_chunk) (sym e) ∙ shown-chunks_of s
 
--- of text nothing is broken
+-- the first chunk of text has no broken bytes
 pub text_has_none_broken : (s : List ℕ) (c : Chunk) (cs : List Chunk) → chunks_of s ≡ c ∷ cs
     → IsText s → c.broken ≡ []
 unfolding first_chunk_of

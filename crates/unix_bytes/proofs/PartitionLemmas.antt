@@ -1,7 +1,7 @@
--- Chunks partition the bytes.
+-- Chunks partition the bytes: how many there are, what each has, and which is the last.
 use Rattle.std.proofs.Common.{◌≡◌, ℕ, zero, suc, ◌+◌, ◌≤◌, List, [], ◌∷◌, ◌++◌, length, take, drop}
 use Rattle.std.proofs.Common.{refl, sym, ap, ◌∙◌, subst, arith, le_refl, append_assoc}
-use Rattle.std.proofs.Common.{length-append, length-take-le, take-append-drop}
+use Rattle.std.proofs.Common.{length-append, length-drop, length-take-le, take-append-drop}
 use Rattle.std.specs.Prelude.{max}
 use Rattle.std.specs.List.{All, flat_map}
 use Rattle.std.proofs.lemmas.List.{drop_at, drop-drop}
@@ -50,6 +50,20 @@ chunks_of_some (b ∷ bs) c cs e =
     subst (λ x. FollowFirst s x cs) first
     (subst (λ xs. FollowFirst s (first_chunk_of s) xs) rest (follow_first s))
 
+-- at most n bytes have no more chunks than bytes
+length_within : (n : ℕ) (s : List ℕ) → length s ≤ n → length (chunks_of s) ≤ length s
+length_within n [] le = omega (arith, ap length chunks_of-nil)
+length_within zero (b ∷ bs) le = absurd (omega arith)
+length_within (suc n) (b ∷ bs) le =
+    let k = chunk_len (first_chunk_of (b ∷ bs)) in
+    let some = chunk_some b bs in
+    let left = length_within n (drop k (b ∷ bs)) (length-drop-some n k b bs some le) in
+    omega (arith, some, left, length-drop k (b ∷ bs), ap length (chunks_of-some b bs))
+
+-- bytes have no more chunks than bytes
+pub length-chunks_of : (s : List ℕ) → length (chunks_of s) ≤ length s
+length-chunks_of s = length_within (length s) s (le_refl (length s))
+
 -- a prefix, a prefix of what follows, and the rest
 two_prefixes : (s : List ℕ) (n k : ℕ) → n ≤ length s
     → (take n s ++ take k (drop n s)) ++ drop (length (take n s) + length (take k (drop n s))) s ≡ s
@@ -64,6 +78,7 @@ two_prefixes s n k w =
     append_assoc v b _ ∙ ap (λ x. v ++ (b ++ x)) back
     ∙ ap (λ x. v ++ x) (sym e) ∙ take-append-drop n s
 
+-- the two parts of the first chunk, and what follows them, are the bytes
 first_chunk_of-drop : (s : List ℕ) → (first_chunk_of s).valid ++ (first_chunk_of s).broken
     ++ drop (chunk_len (first_chunk_of s)) s ≡ s
 unfolding first_chunk_of longest_front_of
@@ -72,6 +87,7 @@ first_chunk_of-drop s =
     let k = max 1 (longest_len begins_sequence (drop n s)) in
     two_prefixes s n k (longest_len-longest is_text s).within
 
+-- the chunks of at most n bytes, one after the other, are the bytes
 partition_within : (n : ℕ) (s : List ℕ) → length s ≤ n
     → flat_map (λ c. c.valid ++ c.broken) (chunks_of s) ≡ s
 partition_within n [] l = ap (flat_map (λ c. c.valid ++ c.broken)) chunks_of-nil
@@ -88,13 +104,16 @@ partition_within (suc n) (b ∷ bs) l =
 pub chunks_partition : ChunksPartition
 chunks_partition s = partition_within (length s) s (le_refl (length s))
 
+-- at most three bytes of the first chunk are broken
 first_is_short : (s : List ℕ) → length (first_chunk_of s).broken ≤ 3
 unfolding first_chunk_of
 first_is_short s = longest_front_is_short (drop (longest_len is_text s) s) (none_after_text s)
 
+-- at most three bytes of the chunk are broken
 abbrev IsShort : Chunk → Type 0
 IsShort c = length c.broken ≤ 3
 
+-- at most three bytes of each chunk of at most n bytes are broken
 short_within : (n : ℕ) (s : List ℕ) → length s ≤ n → All IsShort (chunks_of s)
 short_within n [] l = subst (All IsShort) (sym chunks_of-nil) (All-nil IsShort)
 short_within zero (b ∷ bs) l = absurd (omega arith)
@@ -108,6 +127,7 @@ short_within (suc n) (b ∷ bs) l =
 pub chunks_are_short : ChunksAreShort
 chunks_are_short s = short_within (length s) s (le_refl (length s))
 
+-- bytes whose longest front is empty are none
 longest_front_of-empty : (s : List ℕ) → longest_front_of s ≡ [] → s ≡ []
 longest_front_of-empty [] e = refl
 longest_front_of-empty (b ∷ bs) e =
@@ -126,6 +146,7 @@ nothing_follows s e =
     omega (arith, v, ap length e) in
     ap (λ j. drop j s) k ∙ longest_front_of-empty (drop n s) e
 
+-- of at most n bytes, a chunk with no broken bytes is the last
 last_within : (n : ℕ) (s : List ℕ) (before after : List Chunk) (c : Chunk) → length s ≤ n
     → chunks_of s ≡ before ++ c ∷ after → c.broken ≡ [] → after ≡ []
 last_within n [] [] after c l e z = let h = chunks_of-nil in cc

@@ -51,7 +51,7 @@ shows_broken (b ∷ bs) before n after (some, is) e =
           (IsText-sequence replacement replacement_is_sequence));
     }
 
--- a piece and then another
+-- a piece and then another are a piece of both
 pub shows_more : (s t before middle after : List ℕ) (n k : ℕ) → t ≡ drop n s
     → Shows s before n middle → Shows t middle k after → Shows s before (n + k) after
 shows_more s t before middle after n k e p q = record {
@@ -79,13 +79,13 @@ writes_whole items s whole z e =
     sym (append-nil items)
     ∙ ap (λ u. items ++ u) (sym (ap lossy_of (nil_from_length s z) ∙ lossy_of-nil)) ∙ e
 
--- so it is behind the last piece
+-- where nothing is left behind the last piece, what was written with it is the whole
 pub writes_last : (items piece s t whole : List ℕ) (n : ℕ) → t ≡ drop n s → length t ≡ 0
     → Shows s [] n piece → items ++ lossy_of s ≡ whole → items ++ piece ≡ whole
 writes_last items piece s t whole n cut z p e =
     writes_whole (items ++ piece) t whole z (pushes_piece items piece s t n cut p ∙ e)
 
--- of the bytes that were written at a place, the first
+-- where n bytes were written at a place, the first k of them stand there
 pub takes_fewer : (out old s : List ℕ) (at n k : ℕ) → k ≤ n → at ≤ length old
     → take (at + n) out ≡ take at old ++ take n s → take (at + k) out ≡ take at old ++ take k s
 takes_fewer out old s at n k few within e =
@@ -95,12 +95,13 @@ takes_fewer out old s at n k few within e =
     ∙ take-append-add (take at old) (take n s) k
     ∙ ap (λ t. take at old ++ t) (take-take k n s few)
 
--- one byte that was written at a place
+-- one byte that was written at a place stands behind those before it
 pub takes_one : (out s : List ℕ) (at : ℕ) → 0 < length s → at < length out
     → take (at + 1) (slice_set out at (slice_index s 0)) ≡ take at out ++ take 1 s
 takes_one out [] at some within = absurd (omega arith)
 takes_one out (b ∷ bs) at some within = take_more_set out at b within
 
+-- one byte of ASCII is text
 pub first_is_text : (s : List ℕ) → 0 < length s → slice_index s 0 < 0x80 → IsText (take 1 s)
 first_is_text s some h = ascii_is_text (take 1 s) (IsAscii-more s 0 some IsAscii-nil h)
 
@@ -112,4 +113,5 @@ sequence_is_short s =
     omega (arith, length-take-le (longest_len is_sequence s) s (sequence_within s)))
     (longest_len-longest is_sequence s).passes
 
+-- a sequence has at most four bytes, and a broken front no more than there are
 pub ruleset front_bounds = (sequence_is_short, broken_len_within)

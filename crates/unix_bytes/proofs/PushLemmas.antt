@@ -22,7 +22,7 @@ use Rattle.unix_bytes.proofs.LawLemmas.{replacement_is_sequence, lossy_is_text}
 use Rattle.unix_bytes.proofs.OnlyLemmas.{first_chunk_is, only_chunk, only_text}
 use Rattle.unix_bytes.proofs.OnlyLemmas.{lossy_of-first_chunk, text_has_none_broken}
 
--- a byte or more is split off
+-- what follows the first chunk is shorter than the bytes
 pub rest_is_shorter : (s valid broken rest : List ℕ) → eqb (length s) 0 ≡ false
     → valid ≡ take (longest_len is_text s) s
     → broken ≡ take (broken_len (drop (longest_len is_text s) s)) (drop (longest_len is_text s) s)
@@ -65,7 +65,7 @@ all_is_text (x ∷ xs) valid broken rest v b r none =
     let z = nil_from_length broken none in
     (only_chunk s c (chunks_of rest) e z, only_text s c (chunks_of rest) e z)
 
--- nothing of text is broken
+-- the first chunk of text has no broken bytes
 pub none_is_broken : (s valid broken rest : List ℕ)
     → valid ≡ take (longest_len is_text s) s
     → broken ≡ take (broken_len (drop (longest_len is_text s) s)) (drop (longest_len is_text s) s)
@@ -82,7 +82,7 @@ none_is_broken (x ∷ xs) valid broken rest v b r t =
     ap length (text_has_none_broken s c (chunks_of rest)
     (splits_first_chunk s valid broken rest (omega arith) v b r) t)
 
--- what is split off, and what follows it, is shown in turn
+-- the first chunk as it is shown, and the lossy text of what follows, are the lossy text
 pub lossy_of-split : (s valid broken rest : List ℕ)
     → valid ≡ take (longest_len is_text s) s
     → broken ≡ take (broken_len (drop (longest_len is_text s) s)) (drop (longest_len is_text s) s)
@@ -104,7 +104,7 @@ lossy_of-split (x ∷ xs) valid broken rest v b r =
     ∙ lossy_of-first_chunk s c (chunks_of rest)
     (splits_first_chunk s valid broken rest (omega arith) v b r)
 
--- how bytes are shown of which nothing is broken
+-- bytes of which none are broken are padded as text
 pub pads_text : (pad : List ℕ → List ℕ) (s valid broken rest : List ℕ)
     → valid ≡ take (longest_len is_text s) s
     → broken ≡ take (broken_len (drop (longest_len is_text s) s)) (drop (longest_len is_text s) s)
@@ -114,7 +114,7 @@ pads_text pad s valid broken rest v b r none =
     let (all, text) = all_is_text s valid broken rest v b r none in
     ap pad all ∙ sym (cond-true _ _ _ (is_text-from_IsText s text))
 
--- how bytes are shown of which some are broken
+-- bytes of which some are broken are shown as lossy text without padding
 pub shows_lossy_text : (pad : List ℕ → List ℕ) (s valid broken rest : List ℕ)
     → valid ≡ take (longest_len is_text s) s
     → broken ≡ take (broken_len (drop (longest_len is_text s) s)) (drop (longest_len is_text s) s)
@@ -126,7 +126,7 @@ shows_lossy_text pad s valid broken rest v b r some =
     true≢false (sym (eq-eqb (length broken) 0 none) ∙ some)) in
     sym (cond-false _ _ _ no_text)
 
--- what was pushed before, what is split off, and what follows it
+-- behind other bytes, the first chunk as it is shown and the lossy text of the rest are all of it
 pub pushes_split : (items s valid broken rest : List ℕ)
     → valid ≡ take (longest_len is_text s) s
     → broken ≡ take (broken_len (drop (longest_len is_text s) s)) (drop (longest_len is_text s) s)
@@ -143,16 +143,18 @@ pushes_split items s valid broken rest v b r =
     ∙ append_assoc items (valid ++ mark) (lossy_of rest)
     ∙ ap (λ t. items ++ t) (lossy_of-split s valid broken rest v b r)
 
+-- U+FFFD is UTF-8
 replacement_is_utf8 : IsUtf8 replacement
 replacement_is_utf8 = IsUtf8-sequence replacement replacement_is_sequence
 
+-- what is shown for a broken front is UTF-8
 replacement_for_is_utf8 : (broken : List ℕ) → IsUtf8 (replacement_for broken)
 replacement_for_is_utf8 [] = IsUtf8-nil
 replacement_for_is_utf8 (b ∷ bs) =
     let some = ne_eqb (length (b ∷ bs)) 0 (omega arith) in
     subst IsUtf8 (sym (cond-false _ _ _ some)) replacement_is_utf8
 
--- text, what stands for a broken front, and lossy text, one after the other
+-- text, what is shown for a broken front, and lossy text are UTF-8 together
 pub lossy_is_utf8 : (text broken rest : List ℕ) → IsUtf8 text
     → IsUtf8 ((text ++ replacement_for broken) ++ lossy_of rest)
 lossy_is_utf8 text broken rest h =

@@ -6,35 +6,43 @@ use Rattle.std.proofs.lemmas.Bool.{or_cases}
 use Rattle.std.proofs.lemmas.Bool.Decides.{nat_tests}
 use Rattle.unix_bytes.specs.Utf8.{is_sequence, IsSequence}
 
+-- a sequence of one byte is ASCII
 pub one_byte : (a : ℕ) → IsSequence (a ∷ []) → a ≤ 0x7F
 unfolding is_sequence
 one_byte a h = grind (arith, nat_tests)
 
+-- one byte of ASCII is a sequence
 pub one_is : (a : ℕ) → a ≤ 0x7F → IsSequence (a ∷ [])
 unfolding is_sequence
 one_is a h = grind (arith, nat_tests)
 
+-- the ranges of the bytes of a sequence of two
 abbrev pub Two : ℕ → ℕ → Type 0
 Two a b = (0xC2 ≤ a) × (a ≤ 0xDF) × (0x80 ≤ b) × (b ≤ 0xBF)
 
+-- the bytes of a sequence of two are in their ranges
 pub two_bytes : (a b : ℕ) → IsSequence (a ∷ b ∷ []) → Two a b
 unfolding is_sequence
 two_bytes a b h = grind (arith, nat_tests)
 
+-- two bytes in the ranges of `Two` are a sequence
 pub two_is : (a b : ℕ) → Two a b → IsSequence (a ∷ b ∷ [])
 unfolding is_sequence
 two_is a b h = grind (arith, nat_tests)
 
+-- the ranges of the bytes of a sequence of three
 abbrev pub Three : ℕ → ℕ → ℕ → Type 0
 Three a b c =
     (0xE0 ≤ a) × (a ≤ 0xEF) × (0x80 ≤ b) × (b ≤ 0xBF) × (0x80 ≤ c) × (c ≤ 0xBF)
     × (a ≡ 0xE0 → 0xA0 ≤ b) × (a ≡ 0xED → b ≤ 0x9F)
 
+-- three bytes that pass the tests of a row are in its ranges
 in_three : (al ah bl bh a b c : ℕ)
     → (is_in_range 0x80 0xBF c && is_in_range bl bh b && is_in_range al ah a) ≡ true
     → (al ≤ a) × (a ≤ ah) × (bl ≤ b) × (b ≤ bh) × (0x80 ≤ c) × (c ≤ 0xBF)
 in_three al ah bl bh a b c h = grind (arith, nat_tests)
 
+-- the bytes of a sequence of three are in their ranges
 pub three_bytes : (a b c : ℕ) → IsSequence (a ∷ b ∷ c ∷ []) → Three a b c
 unfolding is_sequence
 three_bytes a b c h =
@@ -44,15 +52,18 @@ three_bytes a b c h =
     (λ h. ⊎_elim (λ r. let k = in_three 0xEE 0xEF 0x80 0xBF a b c r in grind arith)
     (λ h. cc) (or_cases _ _ h)) (or_cases _ _ h)) (or_cases _ _ h)) (or_cases _ _ h)
 
+-- three bytes in the ranges of `Three` are a sequence
 pub three_is : (a b c : ℕ) → Three a b c → IsSequence (a ∷ b ∷ c ∷ [])
 unfolding is_sequence
 three_is a b c h = grind (arith, nat_tests)
 
+-- the ranges of the bytes of a sequence of four
 abbrev pub Four : ℕ → ℕ → ℕ → ℕ → Type 0
 Four a b c d =
     (0xF0 ≤ a) × (a ≤ 0xF4) × (0x80 ≤ b) × (b ≤ 0xBF) × (0x80 ≤ c) × (c ≤ 0xBF)
     × (0x80 ≤ d) × (d ≤ 0xBF) × (a ≡ 0xF0 → 0x90 ≤ b) × (a ≡ 0xF4 → b ≤ 0x8F)
 
+-- four bytes that pass the tests of a row are in its ranges
 in_four : (al ah bl bh a b c d : ℕ)
     → (is_in_range 0x80 0xBF d && is_in_range 0x80 0xBF c
     && is_in_range bl bh b && is_in_range al ah a) ≡ true
@@ -60,6 +71,7 @@ in_four : (al ah bl bh a b c d : ℕ)
     × (0x80 ≤ d) × (d ≤ 0xBF)
 in_four al ah bl bh a b c d h = grind (arith, nat_tests)
 
+-- the bytes of a sequence of four are in their ranges
 pub four_bytes : (a b c d : ℕ) → IsSequence (a ∷ b ∷ c ∷ d ∷ []) → Four a b c d
 unfolding is_sequence
 four_bytes a b c d h =
@@ -68,19 +80,23 @@ four_bytes a b c d h =
     (λ h. ⊎_elim (λ r. let k = in_four 0xF4 0xF4 0x80 0x8F a b c d r in grind arith)
     (λ h. cc) (or_cases _ _ h)) (or_cases _ _ h)) (or_cases _ _ h)
 
+-- four bytes in the ranges of `Four` are a sequence
 pub four_is : (a b c d : ℕ) → Four a b c d → IsSequence (a ∷ b ∷ c ∷ d ∷ [])
 unfolding is_sequence
 four_is a b c d h = grind (arith, nat_tests)
 
+-- no bytes are no sequence
 pub no_bytes : is_sequence [] ≡ false
 unfolding is_sequence
 no_bytes = refl
 
+-- five bytes or more are no sequence
 pub more_bytes : (a b c d e : ℕ) (u : List ℕ)
     → is_sequence (a ∷ b ∷ c ∷ d ∷ e ∷ u) ≡ false
 unfolding is_sequence
 more_bytes a b c d e u = refl
 
+-- a sequence has one to four bytes
 pub sequence_len : (u : List ℕ) → IsSequence u → (1 ≤ length u) × (length u ≤ 4)
 sequence_len [] h = let k = no_bytes in cc
 sequence_len (a ∷ []) h = (omega arith, omega arith)

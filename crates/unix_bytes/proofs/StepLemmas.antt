@@ -19,6 +19,7 @@ none_missing n t e few ([], h) = subst IsSequence (append-nil t) h
 none_missing n t e few (x ∷ v, h) =
     let k = few (x ∷ v) h in absurd (omega (arith, length-append t (x ∷ v)))
 
+-- n bytes that begin a sequence, where none with this beginning is longer, are the longest one
 longest_len-HasBegun : (s : List ℕ) (n : ℕ) → HasBegun s n
     → ((u : List ℕ) → IsSequence (take n s ++ u) → length (take n s ++ u) ≤ n)
     → longest_len is_sequence s ≡ n
@@ -75,6 +76,7 @@ prefix_width b bs zero within h = let z = no_bytes in cc
 prefix_width b bs (suc k) within h =
     subst (λ n. HasWidth b (suc n)) (length-take-le k bs (omega arith)) (has_width b (take k bs) h)
 
+-- two bytes that begin a sequence are one where the first leads no more than two
 pub two_byte_sequence : (s : List ℕ) → HasBegun s 2 → slice_index s 0 < 0xE0
     → longest_len is_sequence s ≡ 2
 two_byte_sequence [] h l = absurd (omega arith)
@@ -82,6 +84,7 @@ two_byte_sequence (b ∷ []) h l = absurd (omega arith)
 two_byte_sequence (b ∷ x ∷ s) h l =
     longest_len-HasBegun (b ∷ x ∷ s) 2 h (λ u is. two_at_most b _ (has_width b (x ∷ u) is) l)
 
+-- three bytes that begin a sequence are one where the first leads no more than three
 pub three_byte_sequence : (s : List ℕ) → HasBegun s 3 → slice_index s 0 < 0xF0
     → longest_len is_sequence s ≡ 3
 three_byte_sequence [] h l = absurd (omega arith)
@@ -91,9 +94,11 @@ three_byte_sequence (b ∷ x ∷ y ∷ s) h l =
     longest_len-HasBegun (b ∷ x ∷ y ∷ s) 3 h
     (λ u is. three_at_most b _ (has_width b (x ∷ y ∷ u) is) l)
 
+-- four bytes that begin a sequence are one
 pub four_byte_sequence : (s : List ℕ) → HasBegun s 4 → longest_len is_sequence s ≡ 4
 four_byte_sequence s h = longest_len-HasBegun s 4 h (λ u is. (sequence_len (take 4 s ++ u) is).1)
 
+-- no sequence stands where two bytes begin none and the first is not ASCII
 pub none_of_two : (s : List ℕ) → (HasBegun s 2 → ⊥) → 0x80 ≤ slice_index s 0
     → longest_len is_sequence s ≡ 0
 none_of_two [] never g = absurd (omega arith)
@@ -101,6 +106,7 @@ none_of_two (b ∷ bs) never g =
     longest_len-not_HasBegun (b ∷ bs) 2 never
     (λ k within h. two_at_least b k (prefix_width b bs k within h) g)
 
+-- no sequence stands where three bytes begin none and the first leads three or more
 pub none_of_three : (s : List ℕ) → (HasBegun s 3 → ⊥) → 0xE0 ≤ slice_index s 0
     → longest_len is_sequence s ≡ 0
 none_of_three [] never g = absurd (omega arith)
@@ -108,6 +114,7 @@ none_of_three (b ∷ bs) never g =
     longest_len-not_HasBegun (b ∷ bs) 3 never
     (λ k within h. three_at_least b k (prefix_width b bs k within h) g)
 
+-- no sequence stands where four bytes begin none and the first leads four
 pub none_of_four : (s : List ℕ) → (HasBegun s 4 → ⊥) → 0xF0 ≤ slice_index s 0
     → longest_len is_sequence s ≡ 0
 none_of_four [] never g = absurd (omega arith)

@@ -59,14 +59,14 @@ pair_at s i l lead tail before =
     let two = take-two r (omega (arith, length-drop i s)) in
     more_text s i 2 before (IsText-sequence (take 2 r) (subst IsSequence (sym two) pair))
 
--- text to the end
+-- where all bytes are text, they are the longest prefix that is text
 pub text_to_end : (s : List ℕ) (i : ℕ) → length s ≤ i → i ≤ length s → IsText (take i s)
     → i ≡ longest_len is_text s
 text_to_end s i ge le h =
     sym (longest_len-is is_text s i le (inr (is_text-from_IsText (take i s) h))
     (λ k p q. absurd (omega arith)))
 
--- text, behind which no sequence stands
+-- text, behind which no sequence stands, is the longest prefix that is text
 pub text_until : (s : List ℕ) (i : ℕ) → i ≤ length s → IsText (take i s)
     → longest_len is_sequence (drop i s) ≡ 0 → i ≡ longest_len is_text s
 text_until s i le h z =
@@ -113,7 +113,7 @@ module _ (s r : List ℕ) (i : ℕ) (rest : r ≡ drop i s) (before : IsText (ta
 abbrev pub place_of : List ℕ → List ℕ → ℕ
 place_of s r = length s - length r
 
--- the rest stands where it should, and what stands before it is text
+-- r is what s ends with, and what stands before it in s is text
 pub record TextBefore (s r : List ℕ) : Type 0 where
   pub within : length r ≤ length s
   pub rest : r ≡ drop (place_of s r) s
@@ -123,7 +123,7 @@ pub record TextBefore (s r : List ℕ) : Type 0 where
 abbrev pub slice_from : ℕ → List ℕ → List ℕ
 slice_from n s = take (length s - n) (drop n s)
 
--- what follows a stretch of text stands where it should, and behind text
+-- what follows a stretch of text in the rest is a rest again, and stands behind text
 pub text_before : (s r : List ℕ) (n : ℕ) → TextBefore s r → n ≤ length r → IsText (take n r)
     → TextBefore s (slice_from n r)
 text_before s r n h bound here =
@@ -139,21 +139,21 @@ text_before s r n h bound here =
       text = subst (λ k. IsText (take k s)) (sym place) more.1;
     }
 
--- what follows a sequence, whose length is known as n and as k, stands where it should
+-- what follows a sequence in the rest, whose length is n and k, is a rest again
 pub sequence_before : (s r : List ℕ) (n k : ℕ) → TextBefore s r
     → (0 < n) × (n ≡ longest_len is_sequence r) → n ≡ k → TextBefore s (slice_from k r)
 sequence_before s r n k h (some, is) same =
     let here = subst (λ j. IsText (take j r)) same (sequence_is_text r n some is) in
     text_before s r k h (omega (arith, same, is, sequence_within r)) here
 
--- what follows a sequence and then a stretch of text stands where it should
+-- what follows a sequence and then a stretch of text in the rest is a rest again
 pub sequences_before : (s r : List ℕ) (n k m : ℕ) → TextBefore s r
     → (0 < n) × (n ≡ longest_len is_sequence r) → n ≡ k → m ≤ length (slice_from k r)
     → IsText (take m (slice_from k r)) → TextBefore s (slice_from m (slice_from k r))
 sequences_before s r n k m h found same bound here =
     text_before s (slice_from k r) m (sequence_before s r n k h found same) bound here
 
--- what is broken in the rest ends the text
+-- where the rest begins with a broken front, the longest prefix that is text ends there
 pub broken_rest : (s r : List ℕ) (n : ℕ) → TextBefore s r → (0 < n) × (n ≡ broken_len r)
     → place_of s r ≡ longest_len is_text s
 broken_rest s r n h found =
@@ -168,7 +168,7 @@ no_rest s r h none =
     text_to_end s (length s) (le_refl (length s)) (le_refl (length s))
     (subst (λ n. IsText (take n s)) end h.text)
 
--- at the end nothing is broken
+-- at the end of the bytes none are broken
 pub none_at_end : (s : List ℕ) (i : ℕ) → length s ≤ i → 0 ≡ broken_len (drop i s)
 none_at_end s i end = sym (broken_len-empty (drop i s) (omega (arith, length-drop i s)))
 
@@ -177,19 +177,22 @@ pub text_ends : (s : List ℕ) (n : ℕ) → n ≡ longest_len is_text s → IsT
 text_ends s n e h =
     let k = whole_text s (IsUtf8-from_IsText s h) in omega arith
 
+-- the longest prefix that is text is UTF-8
 pub prefix_is_utf8 : (s : List ℕ) (n : ℕ) → n ≡ longest_len is_text s → IsUtf8 (take n s)
 prefix_is_utf8 s n e =
     subst (λ j. IsUtf8 (take j s)) (sym e)
     (IsUtf8-from_IsText (take (longest_len is_text s) s) (text_prefix s))
 
+-- bytes that are no more than their longest prefix that is text are UTF-8
 pub whole_is_utf8 : (s : List ℕ) (n : ℕ) → n ≡ longest_len is_text s → length s ≤ n → IsUtf8 s
 whole_is_utf8 s n e le = subst IsUtf8 (take_all n s le) (prefix_is_utf8 s n e)
 
+-- bytes that are no more than their longest prefix that is text are text
 pub whole_is_text : (s : List ℕ) (n : ℕ) → n ≡ longest_len is_text s → length s ≤ n → IsText s
 whole_is_text s n e le = IsText-from_IsUtf8 s (whole_is_utf8 s n e le)
 
--- the prefix that is text, and what is broken behind it, are within the bytes
 pub text_within : (s : List ℕ) → longest_len is_text s ≤ length s
 text_within s = (longest_len-longest is_text s).within
 
+-- the longest prefix that is text, and a broken front, are within the bytes
 pub ruleset prefix_bounds = (text_within, broken_len_within)

@@ -13,6 +13,7 @@ use Rattle.unix_bytes.specs.Utf8.{is_sequence, IsSequence, IsText}
 use Rattle.unix_bytes.proofs.SequenceLemmas.{one_byte, two_bytes, three_bytes, four_bytes, one_is}
 use Rattle.unix_bytes.proofs.SequenceLemmas.{two_is, three_is, four_is, no_bytes, more_bytes}
 
+-- a sequence is UTF-8
 pub IsUtf8-sequence : (u : List ℕ) → IsSequence u → IsUtf8 u
 IsUtf8-sequence [] h = let k = no_bytes in cc
 IsUtf8-sequence (a ∷ []) h =
@@ -31,6 +32,7 @@ IsUtf8-sequence (a ∷ b ∷ c ∷ d ∷ []) h =
     (omega arith, omega arith) (omega arith, omega arith) (grind arith, grind arith)
 IsUtf8-sequence (a ∷ b ∷ c ∷ d ∷ e ∷ u) h = let k = more_bytes a b c d e u in cc
 
+-- the encoding of a scalar value is a sequence
 pub IsSequence-encode : (c : ℕ) → scalar c ≡ true → IsSequence (encode c)
 IsSequence-encode c h =
     let k = scalar_cases c h in
@@ -64,16 +66,19 @@ IsSequence-encode c h =
     )))
     (cases_lt c 65536)) (cases_lt c 2048)) (cases_lt c 128)
 
+-- sequences, one after the other, are UTF-8
 IsUtf8-concat : (us : List (List ℕ)) → list_all is_sequence us ≡ true → IsUtf8 (concat us)
 IsUtf8-concat [] h = IsUtf8-nil
 IsUtf8-concat (u ∷ us) h =
     let k : IsSequence u × (list_all is_sequence us ≡ true) = and_parts _ _ h in
     IsUtf8-append u (concat us) (IsUtf8-sequence u k.0) (IsUtf8-concat us k.1)
 
+-- text is UTF-8
 pub IsUtf8-from_IsText : (s : List ℕ) → IsText s → IsUtf8 s
 IsUtf8-from_IsText s (us, h, e) =
     subst IsUtf8 e (IsUtf8-concat us (list_all-from_AllPass is_sequence us h))
 
+-- the encodings of scalar values are sequences, and one after the other the encoding of all
 sequences : (cs : List ℕ) → scalars cs ≡ true
     → (list_all is_sequence (map encode cs) ≡ true) × (concat (map encode cs) ≡ encodes cs)
 sequences [] h = (refl, refl)
@@ -82,6 +87,7 @@ sequences (c ∷ cs) h =
     let j = sequences cs k.1 in
     (rw (IsSequence-encode c k.0, j.0) refl, ap (λ t. encode c ++ t) j.1)
 
+-- UTF-8 is text
 pub IsText-from_IsUtf8 : (s : List ℕ) → IsUtf8 s → IsText s
 IsText-from_IsUtf8 s (cs, (h, e)) =
     let j = sequences cs h in
@@ -95,6 +101,7 @@ IsText-nil = IsText-from_IsUtf8 [] IsUtf8-nil
 pub IsText-sequence : (u : List ℕ) → IsSequence u → IsText u
 IsText-sequence u h = IsText-from_IsUtf8 u (IsUtf8-sequence u h)
 
+-- text and text behind it are text
 pub IsText-append : (s t : List ℕ) → IsText s → IsText t → IsText (s ++ t)
 IsText-append s t h k =
     IsText-from_IsUtf8 (s ++ t)

@@ -24,9 +24,11 @@ record TextPrefix (a b c : ℕ) (s : List ℕ) : Type 0 where
   whole : len + unfinished_after a b c s ≡ length s
   text : IsText (take len s)
 
+-- behind finished sequences no byte is of one that is not finished
 unfinished_len-finished : (a b c : ℕ) → IsFinished a b c → unfinished_len a b c ≡ 0
 unfinished_len-finished a b c h = rw (lt-leb 0xC0 c h.2, lt-leb 0xE0 b h.1, lt-leb 0xF0 a h.0) refl
 
+-- no bound of a byte behind another is more than F4
 most_bound : (c : ℕ) → most_second c ≤ 0xF4
 most_bound c = by (c == 0xED) (c == 0xF4)
   where
@@ -35,11 +37,11 @@ most_bound c = by (c == 0xED) (c == 0xF4)
     by false true = omega arith
     by false false = omega arith
 
--- that text is empty where all of the bytes are of the sequence that is not finished
+-- where all bytes are of a sequence that is not finished, they begin with empty text
 no_prefix : (a b c : ℕ) (s : List ℕ) → unfinished_after a b c s ≡ length s → TextPrefix a b c s
 no_prefix a b c s e = record { len = 0; whole = omega (arith, e); text = IsText-nil }
 
--- that text grows by a sequence before it
+-- a sequence before bytes that begin with text
 more_prefix : (u s : List ℕ) (a b c x y z n : ℕ) → IsSequence u → length u ≡ n → TextPrefix x y z s
     → unfinished_after a b c (u ++ s) ≡ unfinished_after x y z s → TextPrefix a b c (u ++ s)
 more_prefix u s a b c x y z n h l f e = record {
@@ -50,12 +52,15 @@ more_prefix u s a b c x y z n h l f e = record {
       (IsText-append u (take f.len s) (IsText-sequence u h) f.text);
 }
 
+-- one byte, a lead, is of a sequence that is not finished
 unfinished_len-one : (a b c : ℕ) → 0xC0 ≤ c → unfinished_len a b c ≡ 1
 unfinished_len-one a b c h = rw (le-leb 0xC0 c h) refl
 
+-- two bytes, of which the first leads three or more, are of a sequence that is not finished
 unfinished_len-two : (a b c : ℕ) → c < 0xC0 → 0xE0 ≤ b → unfinished_len a b c ≡ 2
 unfinished_len-two a b c l h = rw (lt-leb 0xC0 c l, le-leb 0xE0 b h) refl
 
+-- three bytes, of which the first leads four, are of a sequence that is not finished
 unfinished_len-three : (a b c : ℕ) → c < 0xC0 → b < 0xE0 → 0xF0 ≤ a → unfinished_len a b c ≡ 3
 unfinished_len-three a b c l k h = rw (lt-leb 0xC0 c l, lt-leb 0xE0 b k, le-leb 0xF0 a h) refl
 
@@ -69,7 +74,7 @@ second_bounds d e l m = (
   λ h. subst (λ x. e ≤ most_second x) h m,
 )
 
--- up to n bytes begin with such a text
+-- up to n bytes that each may follow the three before them begin with text
 abbrev HasPrefixUpTo : ℕ → Type 0
 HasPrefixUpTo n =
     (a b c : ℕ) (s : List ℕ) → length s ≤ n → IsFinished a b c → FitAfter a b c s
@@ -133,13 +138,14 @@ module _ (n : ℕ) (fewer : HasPrefixUpTo n) (a b c d : ℕ) (k : IsFinished a b
       (cases_lt d 0xE0))
       (h.goes.begins k)
 
+-- bytes that each may follow the three before them begin with text
 has_prefix : (n : ℕ) → HasPrefixUpTo n
 has_prefix n a b c [] le k h = no_prefix _ _ _ _ (unfinished_len-finished a b c k)
 has_prefix zero a b c (d ∷ s) le k h = absurd (omega arith)
 has_prefix (suc n) a b c (d ∷ s) le k (h, hs) =
     any_prefix n (has_prefix n) a b c d k s (omega arith) h hs
 
--- how many of the last bytes of a window are of a sequence that is not finished
+-- how many of the last of n bytes are of a sequence that is not finished, by their places
 unfinished_after-take : (n a b c : ℕ) (s : List ℕ) → n ≤ length s
     → unfinished_after a b c (take n s)
     ≡ unfinished_len (slice_index (a ∷ b ∷ c ∷ s) n) (slice_index (a ∷ b ∷ c ∷ s) (suc n))
