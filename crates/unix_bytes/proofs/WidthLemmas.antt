@@ -1,8 +1,7 @@
 -- How many bytes a sequence has, by its first; so no sequence begins another.
 use Rattle.std.specs.Prelude.{◌↔◌}
 use Rattle.std.proofs.Common.{◌⊎◌, ◌≡◌, ℕ, suc, ◌<◌, ◌≤◌, List, [], ◌∷◌, ◌++◌, length, ⊎_elim, refl}
-use Rattle.std.proofs.Common.{sym}
-use Rattle.std.proofs.Common.{◌∙◌, arith, length-append}
+use Rattle.std.proofs.Common.{sym, ◌∙◌, arith, length-append}
 use Rattle.std.proofs.lemmas.Bool.{cases_lt}
 use Rattle.unix_bytes.specs.Utf8.{IsSequence, BeginsSequence}
 use Rattle.unix_bytes.proofs.SequenceLemmas.{one_byte, two_bytes, three_bytes, four_bytes, one_is}

@@ -29,10 +29,10 @@ replacement_for broken = if length broken == 0 then [] else replacement
 abbrev pub shown_chunk : Chunk → List ℕ
 shown_chunk c = c.valid ++ replacement_for c.broken
 
--- a chunk by its bytes
+-- what a `Utf8LossyChunk` says, as bytes
 abbrev pub chunk_of : Utf8LossyChunk → Chunk
 chunk_of x = record { valid = x.valid.now; broken = x.broken.now }
 
--- the chunks that are still to come
+-- the chunks that an iterator has still to give
 abbrev pub chunks_left : Utf8LossyChunksIter → List Chunk
 chunks_left it = chunks_of it.source.now

@@ -65,7 +65,7 @@ LossyOfText = (s : List ℕ) → IsText s → lossy_of s ≡ s
 abbrev pub LossyIsText : Type 0
 LossyIsText = (s : List ℕ) → IsText (lossy_of s)
 
--- no bytes have no chunk
+-- no bytes have no chunks
 abbrev pub ChunksOfNothing : Type 0
 ChunksOfNothing = chunks_of [] ≡ []
 
@@ -76,7 +76,7 @@ pub record FollowFirst (s : List ℕ) (c : Chunk) (cs : List Chunk) : Type 0 whe
   pub broken : c.broken ≡ front_of (drop (length c.valid) s)
   pub rest : cs ≡ chunks_of (drop (length (c.valid ++ c.broken)) s)
 
--- the first chunk, and those behind it, are so
+-- the first chunk is the longest text and the front behind it, and then come the chunks of the rest
 abbrev pub ChunksOfSome : Type 0
 ChunksOfSome =
     (s : List ℕ) (c : Chunk) (cs : List Chunk) → chunks_of s ≡ c ∷ cs → FollowFirst s c cs
@@ -85,11 +85,11 @@ ChunksOfSome =
 abbrev pub ChunksPartition : Type 0
 ChunksPartition = (s : List ℕ) → flat_map (λ c. c.valid ++ c.broken) (chunks_of s) ≡ s
 
--- at most three bytes of each are broken
+-- at most three bytes of each chunk are broken
 abbrev pub ChunksAreShort : Type 0
 ChunksAreShort = (s : List ℕ) → All (λ c. length c.broken ≤ 3) (chunks_of s)
 
--- a chunk of which none is broken is the last
+-- a chunk with no broken bytes is the last
 abbrev pub WholeChunkIsLast : Type 0
 WholeChunkIsLast =
     (s : List ℕ) (before after : List Chunk) (c : Chunk)

@@ -18,11 +18,11 @@ fronts_of (b ∷ s) = fronts_from (b ∷ []) s
 abbrev pub front_of : List ℕ → List ℕ
 front_of s = concat (take 1 (fronts_of s))
 
--- U+FFFD
+-- U+FFFD in UTF-8
 abbrev pub replacement : List ℕ
 replacement = 0xEF ∷ 0xBF ∷ 0xBD ∷ []
 
--- the fronts, one after the other: a sequence as it is, and U+FFFD for a broken one
+-- the fronts, one after the other: each sequence as it is, and U+FFFD for each broken front
 unfoldable pub lossy_of : List ℕ → List ℕ
 lossy_of s = flat_map (λ u. if is_sequence u then u else replacement) (fronts_of s)
 

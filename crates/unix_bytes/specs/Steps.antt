@@ -22,7 +22,7 @@ longest_front_of s = take (max 1 (longest_len begins_sequence s)) s
 abbrev pub HasBegun : List ℕ → ℕ → Type 0
 HasBegun s n = (n ≤ length s) × (begins_sequence (take n s) ≡ true)
 
--- how many bytes are broken at the beginning: none where a sequence stands there, and at the end
+-- how many bytes are broken at the beginning: none where a sequence or nothing stands there
 abbrev pub broken_len : List ℕ → ℕ
 broken_len s = let u = longest_front_of s in if is_sequence u then 0 else length u
 

@@ -4,12 +4,12 @@ use Rattle.std.specs.String.{string_bytes}
 use Rattle.unix_bytes.specs.declared.bytes.text.LossyText.{LossyText}
 use Rattle.unix_bytes.specs.declared.bytes.text.LossyText.TheVariants.{Borrowed, Owned}
 
--- its bytes
+-- the bytes of a lossy text
 abbrev pub text_bytes : LossyText → List ℕ
 text_bytes (Borrowed t) = t.now
 text_bytes (Owned t) = string_bytes t
 
--- it borrows the bytes that it was read from
+-- the lossy text borrows the bytes that it was read from
 abbrev pub IsBorrowed : LossyText → Type 0
 IsBorrowed (Borrowed t) = ⊤
 IsBorrowed (Owned t) = ⊥

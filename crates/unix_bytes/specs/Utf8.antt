@@ -3,11 +3,11 @@ use Rattle.std.specs.Prelude.{◌≡◌, ℕ, Bool, true, false, ◌&&◌, List,
 use Rattle.std.specs.Int.{is_in_range}
 use Rattle.std.specs.List.{All, concat, list_any}
 
--- UTF8-tail: the least and the greatest byte
+-- UTF8-tail of the RFC: the least and the greatest byte
 abbrev pub tail : ℕ × ℕ
 tail = (0x80, 0xBF)
 
--- UTF8-1 to UTF8-4: a row for each alternative, and in it a range for each byte
+-- UTF8-1 to UTF8-4 of the RFC: a row for each alternative, and in a row a range for each byte
 abbrev pub table : List (List (ℕ × ℕ))
 table =
     ((0x00, 0x7F) ∷ [])
@@ -21,7 +21,7 @@ table =
     ∷ ((0xF4, 0xF4) ∷ (0x80, 0x8F) ∷ tail ∷ tail ∷ [])
     ∷ []
 
--- as many bytes as ranges, each in its own
+-- there are as many bytes as ranges, and each byte is in the range at its place
 abbrev pub fits : List (ℕ × ℕ) → List ℕ → Bool
 fits [] [] = true
 fits [] (b ∷ u) = false

@@ -14,7 +14,7 @@ most_second c = if c == 0xED then 0x9F else if c == 0xF4 then 0x8F else 0xF4
 abbrev pub IsUnfinished : ℕ → ℕ → ℕ → Type 0
 IsUnfinished a b c = (0xF0 ≤ a) ⊎ ((0xE0 ≤ b) ⊎ (0xC0 ≤ c))
 
--- none of the three does
+-- none of three bytes in a row leads a sequence that is not finished with the third
 abbrev pub IsFinished : ℕ → ℕ → ℕ → Type 0
 IsFinished a b c = (a < 0xF0) × (b < 0xE0) × (c < 0xC0)
 
@@ -23,7 +23,7 @@ pub record GoesOn (a b c d : ℕ) : Type 0 where
   pub within : IsUnfinished a b c → (0x80 ≤ d) × (d ≤ 0xBF)
   pub begins : IsFinished a b c → (d < 0x80) ⊎ (0xC2 ≤ d)
 
--- each byte of the last list does so, behind those of the same place in the others
+-- each byte of the last list goes on behind those of the same place in the first three lists
 abbrev pub GoOn : List ℕ → List ℕ → List ℕ → List ℕ → Type 0
 GoOn (a ∷ s) (b ∷ t) (c ∷ u) (d ∷ v) = GoesOn a b c d × GoOn s t u v
 GoOn s t u v = ⊤
