@@ -17,33 +17,30 @@ use Rattle.unix_bytes.proofs.BrokenLemmas.{broken_len_within}
 use Rattle.unix_bytes.proofs.StretchLemmas.{text_within}
 use Rattle.unix_bytes.proofs.LossyLemmas.{is_text-from_IsText, is_text-not}
 use Rattle.unix_bytes.proofs.ChunkLemmas.{chunk_some, shown-chunks_of}
-use Rattle.unix_bytes.proofs.SplitLemmas.{splits_first_chunk}
+use Rattle.unix_bytes.proofs.SplitLemmas.{Splits, splits_first_chunk}
 use Rattle.unix_bytes.proofs.LawLemmas.{replacement_is_sequence, lossy_is_text}
 use Rattle.unix_bytes.proofs.OnlyLemmas.{first_chunk_is, only_chunk, only_text}
 use Rattle.unix_bytes.proofs.OnlyLemmas.{lossy_of-first_chunk, text_has_none_broken}
 
 -- what follows the first chunk is shorter than the bytes
-pub rest_is_shorter : (s valid broken rest : List ℕ) → eqb (length s) 0 ≡ false
-    → valid ≡ take (longest_len is_text s) s
-    → broken ≡ take (broken_len (drop (longest_len is_text s) s)) (drop (longest_len is_text s) s)
-    → rest ≡ drop (broken_len (drop (longest_len is_text s) s)) (drop (longest_len is_text s) s)
-    → length rest < length s
-rest_is_shorter [] valid broken rest some v b r = absurd (true≢false some)
-rest_is_shorter (x ∷ xs) valid broken rest some v b r =
+pub rest_is_shorter : {s valid broken rest : List ℕ} → eqb (length s) 0 ≡ false
+    → Splits s valid broken rest → length rest < length s
+rest_is_shorter {s = []} some p = absurd (true≢false some)
+rest_is_shorter {s = x ∷ xs} {valid} {broken} {rest} some p =
     let s = x ∷ xs in
     let n = longest_len is_text s in
     let k = broken_len (drop n s) in
     let c : Chunk = record { valid = valid; broken = broken } in
     let e = ap chunk_len (first_chunk_is s c (chunks_of rest)
-    (splits_first_chunk s valid broken rest (omega arith) v b r)) in
+    (splits_first_chunk (omega arith) p)) in
     let l = broken_len_within (drop n s) in
     omega (
       arith,
       e,
       chunk_some x xs,
-      ap length v,
-      ap length b,
-      ap length r,
+      ap length p.text,
+      ap length p.front,
+      ap length p.behind,
       length-take-le n s (text_within s),
       length-take-le k (drop n s) l,
       length-drop n s,
@@ -51,97 +48,78 @@ rest_is_shorter (x ∷ xs) valid broken rest some v b r =
     )
 
 -- where nothing is broken, all is text
-pub all_is_text : (s valid broken rest : List ℕ)
-    → valid ≡ take (longest_len is_text s) s
-    → broken ≡ take (broken_len (drop (longest_len is_text s) s)) (drop (longest_len is_text s) s)
-    → rest ≡ drop (broken_len (drop (longest_len is_text s) s)) (drop (longest_len is_text s) s)
+pub all_is_text : {s valid broken rest : List ℕ} → Splits s valid broken rest
     → length broken ≡ 0 → (valid ≡ s) × IsText s
-all_is_text [] valid broken rest v b r none =
-    (v ∙ take_all (longest_len is_text []) [] (omega arith), IsText-nil)
-all_is_text (x ∷ xs) valid broken rest v b r none =
+all_is_text {s = []} p none =
+    (p.text ∙ take_all (longest_len is_text []) [] (omega arith), IsText-nil)
+all_is_text {s = x ∷ xs} {valid} {broken} {rest} p none =
     let s = x ∷ xs in
     let c : Chunk = record { valid = valid; broken = broken } in
-    let e = splits_first_chunk s valid broken rest (omega arith) v b r in
+    let e = splits_first_chunk (omega arith) p in
     let z = nil_from_length broken none in
     (only_chunk s c (chunks_of rest) e z, only_text s c (chunks_of rest) e z)
 
 -- the first chunk of text has no broken bytes
-pub none_is_broken : (s valid broken rest : List ℕ)
-    → valid ≡ take (longest_len is_text s) s
-    → broken ≡ take (broken_len (drop (longest_len is_text s) s)) (drop (longest_len is_text s) s)
-    → rest ≡ drop (broken_len (drop (longest_len is_text s) s)) (drop (longest_len is_text s) s)
+pub none_is_broken : {s valid broken rest : List ℕ} → Splits s valid broken rest
     → IsText s → length broken ≡ 0
-none_is_broken [] valid broken rest v b r t =
+none_is_broken {s = []} p t =
     let n = longest_len is_text [] in
     let k = broken_len (drop n []) in
     let l = broken_len_within (drop n []) in
-    omega (arith, ap length b, length-take-le k (drop n []) l, length-drop {A = ℕ} n [])
-none_is_broken (x ∷ xs) valid broken rest v b r t =
+    omega (arith, ap length p.front, length-take-le k (drop n []) l, length-drop {A = ℕ} n [])
+none_is_broken {s = x ∷ xs} {valid} {broken} {rest} p t =
     let s = x ∷ xs in
     let c : Chunk = record { valid = valid; broken = broken } in
-    ap length (text_has_none_broken s c (chunks_of rest)
-    (splits_first_chunk s valid broken rest (omega arith) v b r) t)
+    ap length
+    (text_has_none_broken s c (chunks_of rest) (splits_first_chunk (omega arith) p) t)
 
 -- the first chunk as it is shown, and the lossy text of what follows, are the lossy text
-pub lossy_of-split : (s valid broken rest : List ℕ)
-    → valid ≡ take (longest_len is_text s) s
-    → broken ≡ take (broken_len (drop (longest_len is_text s) s)) (drop (longest_len is_text s) s)
-    → rest ≡ drop (broken_len (drop (longest_len is_text s) s)) (drop (longest_len is_text s) s)
+pub lossy_of-split : {s valid broken rest : List ℕ} → Splits s valid broken rest
     → (valid ++ replacement_for broken) ++ lossy_of rest ≡ lossy_of s
-lossy_of-split [] valid broken rest v b r =
-    let none = nil_from_length broken
-    (none_is_broken [] valid broken rest v b r IsText-nil) in
+lossy_of-split {s = []} {valid} {broken} {rest} p =
+    let none = nil_from_length broken (none_is_broken p IsText-nil) in
     let n = longest_len is_text [] in
     let k = broken_len (drop n []) in
     let no_rest : rest ≡ [] =
-    r ∙ drop_all k (drop n []) (omega (arith, length-drop {A = ℕ} n [])) in
-    let no_text : valid ≡ [] = v ∙ take_all n [] (omega arith) in
+    p.behind ∙ drop_all k (drop n []) (omega (arith, length-drop {A = ℕ} n [])) in
+    let no_text : valid ≡ [] = p.text ∙ take_all n [] (omega arith) in
     rw (no_text, none, no_rest) refl
-lossy_of-split (x ∷ xs) valid broken rest v b r =
+lossy_of-split {s = x ∷ xs} {valid} {broken} {rest} p =
     let s = x ∷ xs in
     let c : Chunk = record { valid = valid; broken = broken } in
     ap (λ t. shown_chunk c ++ t) (sym (shown-chunks_of rest))
-    ∙ lossy_of-first_chunk s c (chunks_of rest)
-    (splits_first_chunk s valid broken rest (omega arith) v b r)
+    ∙ lossy_of-first_chunk s c (chunks_of rest) (splits_first_chunk (omega arith) p)
 
 -- bytes of which none are broken are padded as text
-pub pads_text : (pad : List ℕ → List ℕ) (s valid broken rest : List ℕ)
-    → valid ≡ take (longest_len is_text s) s
-    → broken ≡ take (broken_len (drop (longest_len is_text s) s)) (drop (longest_len is_text s) s)
-    → rest ≡ drop (broken_len (drop (longest_len is_text s) s)) (drop (longest_len is_text s) s)
-    → length broken ≡ 0 → pad valid ≡ (if is_text s then pad s else lossy_of s)
-pads_text pad s valid broken rest v b r none =
-    let (all, text) = all_is_text s valid broken rest v b r none in
+pub pads_text : (pad : List ℕ → List ℕ) {s valid broken rest : List ℕ}
+    → Splits s valid broken rest → length broken ≡ 0
+    → pad valid ≡ (if is_text s then pad s else lossy_of s)
+pads_text pad {s} p none =
+    let (all, text) = all_is_text p none in
     ap pad all ∙ sym (cond-true _ _ _ (is_text-from_IsText s text))
 
 -- bytes of which some are broken are shown as lossy text without padding
-pub shows_lossy_text : (pad : List ℕ → List ℕ) (s valid broken rest : List ℕ)
-    → valid ≡ take (longest_len is_text s) s
-    → broken ≡ take (broken_len (drop (longest_len is_text s) s)) (drop (longest_len is_text s) s)
-    → rest ≡ drop (broken_len (drop (longest_len is_text s) s)) (drop (longest_len is_text s) s)
-    → eqb (length broken) 0 ≡ false → lossy_of s ≡ (if is_text s then pad s else lossy_of s)
-shows_lossy_text pad s valid broken rest v b r some =
-    let no_text = is_text-not s (λ t.
-    let none = none_is_broken s valid broken rest v b r t in
-    true≢false (sym (eq-eqb (length broken) 0 none) ∙ some)) in
+pub shows_lossy_text : (pad : List ℕ → List ℕ) {s valid broken rest : List ℕ}
+    → Splits s valid broken rest → eqb (length broken) 0 ≡ false
+    → lossy_of s ≡ (if is_text s then pad s else lossy_of s)
+shows_lossy_text pad {s} {valid} {broken} p some =
+    let no_text = is_text-not s
+    (λ t. true≢false (sym (eq-eqb (length broken) 0 (none_is_broken p t)) ∙ some)) in
     sym (cond-false _ _ _ no_text)
 
 -- behind other bytes, the first chunk as it is shown and the lossy text of the rest are all of it
-pub pushes_split : (items s valid broken rest : List ℕ)
-    → valid ≡ take (longest_len is_text s) s
-    → broken ≡ take (broken_len (drop (longest_len is_text s) s)) (drop (longest_len is_text s) s)
-    → rest ≡ drop (broken_len (drop (longest_len is_text s) s)) (drop (longest_len is_text s) s)
+pub pushes_split : (items : List ℕ) {s valid broken rest : List ℕ} → Splits s valid broken rest
     → ((items ++ take (length valid) s) ++ replacement_for broken) ++ lossy_of rest
     ≡ items ++ lossy_of s
-pushes_split items s valid broken rest v b r =
+pushes_split items {s} {valid} {broken} {rest} p =
     let n = longest_len is_text s in
     let text : take (length valid) s ≡ valid =
-    ap (λ k. take k s) (ap length v ∙ length-take-le n s (text_within s)) ∙ sym v in
+    ap (λ k. take k s) (ap length p.text ∙ length-take-le n s (text_within s)) ∙ sym p.text in
     let mark = replacement_for broken in
     ap (λ t. ((items ++ t) ++ mark) ++ lossy_of rest) text
     ∙ ap (λ t. t ++ lossy_of rest) (append_assoc items valid mark)
     ∙ append_assoc items (valid ++ mark) (lossy_of rest)
-    ∙ ap (λ t. items ++ t) (lossy_of-split s valid broken rest v b r)
+    ∙ ap (λ t. items ++ t) (lossy_of-split p)
 
 -- U+FFFD is UTF-8
 replacement_is_utf8 : IsUtf8 replacement

@@ -24,23 +24,35 @@ chunks_of-parts (b ∷ bs) valid broken rest some e f =
     ∙ ap (drop (length broken)) (drop_at valid (broken ++ rest) (length valid) refl)
     ∙ drop_at broken rest (length broken) refl)
 
+-- the bytes behind the longest prefix that is text
+abbrev pub behind_text : List ℕ → List ℕ
+behind_text s = drop (longest_len is_text s) s
+
+-- s is split into its longest prefix that is text, the broken front behind that, and the rest
+pub record Splits (s valid broken rest : List ℕ) : Type 0 where
+  pub text : valid ≡ take (longest_len is_text s) s
+  pub front : broken ≡ take (broken_len (behind_text s)) (behind_text s)
+  pub behind : rest ≡ drop (broken_len (behind_text s)) (behind_text s)
+
+-- the three clauses of the call that splits bytes, as one fact
+pub splits : {s valid broken rest : List ℕ} → valid ≡ take (longest_len is_text s) s
+    → broken ≡ take (broken_len (behind_text s)) (behind_text s)
+    → rest ≡ drop (broken_len (behind_text s)) (behind_text s) → Splits s valid broken rest
+splits v b r = record { text = v; front = b; behind = r }
+
 -- the chunk that is split off is the first
-pub splits_first_chunk : (s valid broken rest : List ℕ) → 0 < length s
-    → valid ≡ take (longest_len is_text s) s
-    → broken ≡ take (broken_len (drop (longest_len is_text s) s)) (drop (longest_len is_text s) s)
-    → rest ≡ drop (broken_len (drop (longest_len is_text s) s)) (drop (longest_len is_text s) s)
+pub splits_first_chunk : {s valid broken rest : List ℕ} → 0 < length s → Splits s valid broken rest
     → chunks_of s ≡ record { valid = valid; broken = broken } ∷ chunks_of rest
 unfolding first_chunk_of
-splits_first_chunk s valid broken rest some v b r =
+splits_first_chunk {s} {valid} {broken} {rest} some p =
     let n = longest_len is_text s in
-    let behind = drop n s in
-    let k = broken_len behind in
-    let e : longest_front_of behind ≡ broken =
-    longest_front_of-none behind (none_after_text s) ∙ sym b in
+    let k = broken_len (behind_text s) in
+    let e : longest_front_of (behind_text s) ≡ broken =
+    longest_front_of-none (behind_text s) (none_after_text s) ∙ sym p.front in
     let f : first_chunk_of s ≡ record { valid = valid; broken = broken } =
-    ap₂ (λ x y. let c : Chunk = record { valid = x; broken = y } in c) (sym v) e in
-    let rest_is : behind ≡ broken ++ rest =
-    sym (take-append-drop k behind) ∙ ap₂ (λ x y. x ++ y) (sym b) (sym r) in
+    ap₂ (λ x y. let c : Chunk = record { valid = x; broken = y } in c) (sym p.text) e in
+    let rest_is : behind_text s ≡ broken ++ rest =
+    sym (take-append-drop k (behind_text s)) ∙ ap₂ (λ x y. x ++ y) (sym p.front) (sym p.behind) in
     let whole : s ≡ valid ++ (broken ++ rest) =
-    sym (take-append-drop n s) ∙ ap₂ (λ x y. x ++ y) (sym v) rest_is in
+    sym (take-append-drop n s) ∙ ap₂ (λ x y. x ++ y) (sym p.text) rest_is in
     chunks_of-parts s valid broken rest some whole f

@@ -97,7 +97,6 @@ pub struct Utf8LossyChunksIter<'a> {
 
 // The first chunk, and the bytes after it.
 #[inline]
-#[tactic(auto, using(crate::proofs::SplitLemmas::splits_first_chunk))]
 fn split_chunk(source: &[u8]) -> (Utf8LossyChunk<'_>, &[u8])
     requires { 0 < length source.now }
     ensures { chunks_of source.now ≡ chunk_of result.0 ∷ chunks_of result.1.now }
