@@ -85,10 +85,30 @@ count_trailing_zeros-wide_mask s i m l mask some =
     let nonzero : 0 < wide_mask xs = omega arith in
     ap (count_trailing_zeros 64) mask ∙ trailing_mask_l is_wide 64 xs (omega arith) nonzero
 
--- ASCII up to i, and as many more bytes as stand before the lowest bit in the mask of the next 16
+-- where the first byte is ASCII, bytes of ASCII stand before the first other
+narrow_some : (s : List ℕ) → 0 < length s → slice_index s 0 < 128
+    → 0 < prefix_len is_narrow (take 16 (drop 0 s))
+narrow_some [] some h = absurd (omega arith)
+narrow_some (x ∷ s) some h =
+    let e : is_narrow x ≡ true = grind (arith, nat_tests) in
+    rw e (omega arith)
+
+-- where the first byte is ASCII, some bytes stand before the lowest bit
+some_ascii : (s : List ℕ) (i m : ℕ) → i + 16 ≤ length s
+    → m ≡ wide_mask (take 16 (drop i s)) → (m ≡ 0 → ⊥) → slice_index s 0 < 128
+    → 0 < i + count_trailing_zeros 64 m
+some_ascii s zero m l mask some h =
+    let e = count_trailing_zeros-wide_mask s 0 m l mask some in
+    let n = narrow_some s (omega arith) h in
+    omega arith
+some_ascii s (suc i) m l mask some h = omega arith
+
+-- ASCII up to i, and as many more bytes as stand before the lowest bit in the mask of the next 16;
+-- these are some bytes where the first is ASCII
 pub ascii_prefix : (s : List ℕ) (i m : ℕ) → i + 16 ≤ length s → IsAscii (take i s)
     → m ≡ wide_mask (take 16 (drop i s)) → (m ≡ 0 → ⊥)
-    → (i + count_trailing_zeros 64 m ≤ length s) × IsAscii (take (i + count_trailing_zeros 64 m) s)
+    → let n = i + count_trailing_zeros 64 m in
+    (n ≤ length s) × IsAscii (take n s) × (slice_index s 0 < 128 → 0 < n)
 ascii_prefix s i m l before mask some =
     let xs = take 16 (drop i s) in
     let n = count_trailing_zeros 64 m in
@@ -99,6 +119,7 @@ ascii_prefix s i m l before mask some =
     subst (λ k. IsAscii (take k xs)) (sym e) (narrow_prefix xs) in (
       omega arith,
       more_ascii s i n before (subst IsAscii (take-take n 16 (drop i s) few) here),
+      some_ascii s i m l mask some,
     )
 
 -- the lowest bit in the mask of the first 16 bytes says where the first stands that is not ASCII
@@ -119,24 +140,6 @@ first_wide s m l mask some =
           subst (λ k. 0x80 ≤ get_or s k 0) (sym e)
           (subst (λ b. 0x80 ≤ b) (get_or-take 16 s n 0 within) wide),
     )
-
--- where the first byte is ASCII, bytes of ASCII stand before the first other
-narrow_some : (s : List ℕ) → 0 < length s → slice_index s 0 < 128
-    → 0 < prefix_len is_narrow (take 16 (drop 0 s))
-narrow_some [] some h = absurd (omega arith)
-narrow_some (x ∷ s) some h =
-    let e : is_narrow x ≡ true = grind (arith, nat_tests) in
-    rw e (omega arith)
-
--- where the first byte is ASCII, some bytes stand before the lowest bit
-pub some_ascii : (s : List ℕ) (i m : ℕ) → i + 16 ≤ length s
-    → m ≡ wide_mask (take 16 (drop i s)) → (m ≡ 0 → ⊥) → slice_index s 0 < 128
-    → 0 < i + count_trailing_zeros 64 m
-some_ascii s zero m l mask some h =
-    let e = count_trailing_zeros-wide_mask s 0 m l mask some in
-    let n = narrow_some s (omega arith) h in
-    omega arith
-some_ascii s (suc i) m l mask some h = omega arith
 
 -- one byte of ASCII behind others of it
 pub ruleset one_more_ascii = IsAscii-more

@@ -1,19 +1,13 @@
 use Rattle.std.proofs.Common.{◌≡◌, ◌+◌, ◌-◌, length, take, subst, arith}
 use Rattle.std.specs.Str.{IsAscii}
-use Rattle.unix_bytes.proofs.LaneLemmas.{fewer_ascii, ascii_window, ascii_prefix, some_ascii}
+use Rattle.unix_bytes.proofs.LaneLemmas.{fewer_ascii, ascii_window, ascii_prefix}
 use Rattle.unix_bytes.proofs.utf8.ascii.ascii_len.Goals as goal
 
 pub returns-then-wide-ne0 : goal.returns-then-wide-ne0
 returns-then-wide-ne0 c =
-    let s = c.args.source.now in
-    let mask = c.wide_lanes-wide.ensures in
-    let some = c.if-wide-ne0.true in
-    let prefix = ascii_prefix s c.loop-at.at _ (omega arith) c.loop-at.invariant mask some in
-    record {
-      bound = prefix.0;
-      ascii = prefix.1;
-      some = some_ascii s _ _ (omega arith) mask some;
-    }
+    let prefix = ascii_prefix c.args.source.now _ _ (omega arith) c.loop-at.invariant
+    c.wide_lanes-wide.ensures c.if-wide-ne0.true in
+    record { bound = prefix.0; ascii = prefix.1; some = prefix.2 }
 
 pub loop-at-preserved : goal.loop-at-preserved
 loop-at-preserved c =
@@ -32,11 +26,6 @@ pub returns : goal.returns
 returns c =
     let s = c.args.source.now in
     let before = fewer_ascii s (length s - 16) _ (omega arith) c.loop-at.invariant in
-    let mask = c.wide_lanes-wide-2.ensures in
-    let some = c.if-wide-eq0.false in
-    let prefix = ascii_prefix s (length s - 16) _ (omega arith) before mask some in
-    record {
-      bound = prefix.0;
-      ascii = prefix.1;
-      some = some_ascii s _ _ (omega arith) mask some;
-    }
+    let prefix = ascii_prefix s _ _ (omega arith) before c.wide_lanes-wide-2.ensures
+    c.if-wide-eq0.false in
+    record { bound = prefix.0; ascii = prefix.1; some = prefix.2 }
