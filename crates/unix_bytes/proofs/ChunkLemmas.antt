@@ -116,7 +116,7 @@ chunks_from-rest text (b ∷ bs) z some =
     ∙ cond-false _ _ _ (is_sequence-longest_front_of (b ∷ bs) z)
 
 -- text and what follows it, where no sequence stands there, begin with one chunk of both
-pub chunks_of-append : (v t : List ℕ) → IsText v → longest_len is_sequence t ≡ 0
+chunks_of-append : (v t : List ℕ) → IsText v → longest_len is_sequence t ≡ 0
     → 0 < length (v ++ t)
     → chunks_of (v ++ t) ≡ record { valid = v; broken = longest_front_of t }
     ∷ chunks_of (drop (length (longest_front_of t)) t)

@@ -1,4 +1,4 @@
--- Laws of broken fronts and of the lossy text.
+-- Laws of fronts and of the lossy text.
 use Rattle.std.proofs.Common.{◌≡◌, ℕ, ◌<◌, ◌≤◌, List, [], ◌∷◌, ◌++◌, length, take, drop, true}
 use Rattle.std.proofs.Common.{⊎_elim, inl, inr, refl, sym, ap, ◌∙◌, subst, arith, length-take-le}
 use Rattle.std.proofs.Common.{length-append, take-append-drop, append-nil, map, zero, suc, ◌⊎◌}

@@ -6,7 +6,7 @@ use Rattle.std.proofs.lemmas.Bool.{cases_lt, cond-true, cond-false, true≢false
 use Rattle.std.proofs.lemmas.List.{take_at}
 use Rattle.unix_bytes.specs.Steps.{longest_len_to, longest_len}
 
--- n is the longest of m where n bytes pass, or n is 0, and no more of the m do
+-- n is the longest length up to m where n bytes pass, or n is 0, and no more of m bytes do
 longest_len_to-is : (m n : ℕ) (test : List ℕ → Bool) (s : List ℕ) → n ≤ m
     → (n ≡ 0) ⊎ (test (take n s) ≡ true)
     → ((k : ℕ) → n < k → k ≤ m → test (take k s) ≡ false) → longest_len_to m test s ≡ n
@@ -22,20 +22,20 @@ longest_len_to-is (suc m) n test s le at above =
     (λ t. cond-true _ _ _ (subst (λ j. test (take j s) ≡ true) e t) ∙ sym e) at)
     (cases_lt n (suc m))
 
--- n is the longest where n bytes pass, or n is 0, and no more do
+-- n is the longest length where n bytes pass, or n is 0, and no more bytes do
 pub longest_len-is : (test : List ℕ → Bool) (s : List ℕ) (n : ℕ) → n ≤ length s
     → (n ≡ 0) ⊎ (test (take n s) ≡ true)
     → ((k : ℕ) → n < k → k ≤ length s → test (take k s) ≡ false) → longest_len test s ≡ n
 unfolding longest_len
 longest_len-is test s n le at above = longest_len_to-is (length s) n test s le at above
 
--- n bytes are within the m, pass unless they are none, and no more of the m do
+-- n is no more than m, n bytes pass unless n is 0, and no more of m bytes do
 pub record Longest (test : List ℕ → Bool) (s : List ℕ) (n m : ℕ) : Type 0 where
   pub within : n ≤ m
   pub passes : (n ≡ 0) ⊎ (test (take n s) ≡ true)
   pub longest : (k : ℕ) → n < k → k ≤ m → test (take k s) ≡ false
 
--- what is the longest of m bytes tells the longest of one more
+-- what `Longest` says of m bytes it says of one more
 one_more : (m : ℕ) (test : List ℕ → Bool) (s : List ℕ)
     → Longest test s (longest_len_to m test s) m
     → Longest test s (longest_len_to (suc m) test s) (suc m)
@@ -57,7 +57,7 @@ one_more m test s h = by (test (take (suc m) s)) refl
           subst (λ j. test (take j s) ≡ false) (sym same) e) (cases_lt k (suc m));
     }
 
--- the longest of m bytes is within them and passes, and no more of them do
+-- the length that the search among m bytes finds is the longest
 longest_len_to-longest : (m : ℕ) (test : List ℕ → Bool) (s : List ℕ)
     → Longest test s (longest_len_to m test s) m
 longest_len_to-longest zero test s = record {
@@ -67,7 +67,7 @@ longest_len_to-longest zero test s = record {
 }
 longest_len_to-longest (suc m) test s = one_more m test s (longest_len_to-longest m test s)
 
--- the longest is within the bytes and passes, and no more bytes do
+-- the length that the search among all bytes finds is the longest
 pub longest_len-longest : (test : List ℕ → Bool) (s : List ℕ)
     → Longest test s (longest_len test s) (length s)
 unfolding longest_len

@@ -7,12 +7,12 @@ use Rattle.std.specs.Prelude.{replicate}
 use Rattle.std.specs.Simd.Lanes.{zip2, mask_l}
 use Rattle.unix_bytes.specs.Windows.{GoesOn, GoOn, IsUnfinished, IsFinished}
 
--- the byte that is 255 where a sequence is not finished
+-- 255 where a sequence is not finished, and 0 elsewhere
 abbrev unfinished_mark : ℕ → ℕ → ℕ → ℕ
 unfinished_mark a b c =
     cond (nat_le 0xF0 a) 255 (cond (nat_le 0xE0 b) 255 (cond (nat_le 0xC0 c) 255 0))
 
--- the byte has its highest bit set where a sequence is not finished
+-- the mark has its highest bit set where a sequence is not finished
 unfinished_mark-set : (a b c : ℕ) → IsUnfinished a b c → nat_le 0x80 (unfinished_mark a b c) ≡ true
 unfinished_mark-set a b c h = by (nat_le 0xF0 a) (nat_le 0xE0 b) (nat_le 0xC0 c) refl refl refl
   where
@@ -26,7 +26,7 @@ unfinished_mark-set a b c h = by (nat_le 0xF0 a) (nat_le 0xE0 b) (nat_le 0xC0 c)
         (λ k. ⊎_elim (λ i. let l = leb-false 0xE0 b f in absurd (omega arith))
         (λ i. let l = leb-false 0xC0 c g in absurd (omega arith)) k) h
 
--- the byte has its highest bit clear where all sequences are finished
+-- the mark has its highest bit clear where all sequences are finished
 unfinished_mark-clear : (a b c : ℕ) → IsFinished a b c → nat_le 0x80 (unfinished_mark a b c) ≡ false
 unfinished_mark-clear a b c h =
     rw (lt-leb 0xF0 a h.0, lt-leb 0xE0 b h.1, lt-leb 0xC0 c h.2) refl

@@ -20,7 +20,7 @@ use Rattle.unix_bytes.proofs.ChunkLemmas.{text_prefix, none_after_text, chunk_so
 use Rattle.unix_bytes.proofs.ChunkLemmas.{chunks_of-some}
 use Rattle.unix_bytes.proofs.LawLemmas.{longest_front_is_short}
 
--- the first chunk, and the chunks of what follows it
+-- the first chunk, and the chunks of what follows it, are as the law of chunks says
 follow_first : (s : List ℕ)
     → FollowFirst s (first_chunk_of s) (chunks_of (drop (chunk_len (first_chunk_of s)) s))
 unfolding first_chunk_of
@@ -64,7 +64,7 @@ length_within (suc n) (b ∷ bs) le =
 pub length-chunks_of : (s : List ℕ) → length (chunks_of s) ≤ length s
 length-chunks_of s = length_within (length s) s (le_refl (length s))
 
--- a prefix, a prefix of what follows, and the rest
+-- a prefix, a prefix of what follows, and the rest are the bytes
 two_prefixes : (s : List ℕ) (n k : ℕ) → n ≤ length s
     → (take n s ++ take k (drop n s)) ++ drop (length (take n s) + length (take k (drop n s))) s ≡ s
 two_prefixes s n k w =

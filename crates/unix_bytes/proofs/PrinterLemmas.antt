@@ -61,7 +61,7 @@ shows_more s t before middle after n k e p q = record {
   text = λ h. q.text (p.text h);
 }
 
--- a piece, and the lossy text of what was not read, behind other bytes
+-- behind other bytes, a piece and the lossy text of what was not read are all of it
 pub pushes_piece : (items piece s t : List ℕ) (n : ℕ) → t ≡ drop n s → Shows s [] n piece
     → (items ++ piece) ++ lossy_of t ≡ items ++ lossy_of s
 pushes_piece items piece s t n e p =

@@ -9,7 +9,7 @@ use Rattle.unix_bytes.specs.Steps.{chunk_len}
 use Rattle.unix_bytes.proofs.BrokenLemmas.{longest_front_of-none}
 use Rattle.unix_bytes.proofs.ChunkLemmas.{none_after_text, chunks_of-some}
 
--- what the code knows: the chunk's two parts, and what follows them
+-- the chunks of bytes of which the first chunk and what follows it are known
 chunks_of-parts : (s valid broken rest : List ℕ) → 0 < length s → s ≡ valid ++ (broken ++ rest)
     → first_chunk_of s ≡ record { valid = valid; broken = broken }
     → chunks_of s ≡ record { valid = valid; broken = broken } ∷ chunks_of rest

@@ -67,7 +67,7 @@ text_to_end s i ge le h =
     (λ k p q. absurd (omega arith)))
 
 -- text, behind which no sequence stands, is the longest prefix that is text
-pub text_until : (s : List ℕ) (i : ℕ) → i ≤ length s → IsText (take i s)
+text_until : (s : List ℕ) (i : ℕ) → i ≤ length s → IsText (take i s)
     → longest_len is_sequence (drop i s) ≡ 0 → i ≡ longest_len is_text s
 text_until s i le h z =
     sym (longest_len-is is_text s i le (inr (is_text-from_IsText (take i s) h))
@@ -84,7 +84,7 @@ text_until s i le h z =
         (text_rest (take i s) (take j (drop i s)) h (subst IsText cut t))
         (omega arith) (omega (arith, length-drop i s)) z
 
--- text so far, and at the place what is found in the rest
+-- text up to i, and behind it what is found in the rest r
 module _ (s r : List ℕ) (i : ℕ) (rest : r ≡ drop i s) (before : IsText (take i s)) where
   pub after_text : (n : ℕ) → i ≤ length s → n ≤ length r → IsText (take n r)
       → (i + n ≤ length s) × IsText (take (i + n) s)
@@ -102,7 +102,7 @@ module _ (s r : List ℕ) (i : ℕ) (rest : r ≡ drop i s) (before : IsText (ta
   after_sequence n le (some, is) =
       after_text n le (omega (arith, is, sequence_within r)) (sequence_is_text r n some is)
 
-  -- behind text, what is broken ends it
+  -- a broken front behind text ends the longest prefix that is text
   pub text_before_broken : (n : ℕ) → i ≤ length s → (0 < n) × (n ≡ broken_len r)
       → i ≡ longest_len is_text s
   text_before_broken n le (some, is) =

@@ -33,7 +33,7 @@ IsUtf8-sequence (a ∷ b ∷ c ∷ d ∷ []) h =
 IsUtf8-sequence (a ∷ b ∷ c ∷ d ∷ e ∷ u) h = let k = more_bytes a b c d e u in cc
 
 -- the encoding of a scalar value is a sequence
-pub IsSequence-encode : (c : ℕ) → scalar c ≡ true → IsSequence (encode c)
+IsSequence-encode : (c : ℕ) → scalar c ≡ true → IsSequence (encode c)
 IsSequence-encode c h =
     let k = scalar_cases c h in
     let top : c < 1114112 = ⊎_elim (λ l. omega arith) (λ l. l.1) k in
