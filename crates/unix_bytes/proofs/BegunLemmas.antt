@@ -4,8 +4,8 @@ use Rattle.std.proofs.Common.{refl, slice_index}
 use Rattle.std.proofs.lemmas.Bool.{cases_lt}
 use Rattle.unix_bytes.specs.Utf8.{IsSequence, begins_sequence}
 use Rattle.unix_bytes.specs.Steps.{HasBegun}
-use Rattle.unix_bytes.proofs.SequenceLemmas.{two_bytes, three_bytes, four_bytes, more_bytes}
-use Rattle.unix_bytes.proofs.SequenceLemmas.{three_is, four_is}
+use Rattle.unix_bytes.proofs.SequenceLemmas.{two_bytes, three_bytes, four_bytes, is_sequence-more}
+use Rattle.unix_bytes.proofs.SequenceLemmas.{IsSequence-three, IsSequence-four}
 use Rattle.unix_bytes.proofs.BeginLemmas.{begins_sequence-from, BeginsSequence-from}
 
 -- the ranges of the first two bytes of a sequence
@@ -19,7 +19,7 @@ pair_of : (x y : ℕ) (u : List ℕ) → IsSequence (x ∷ y ∷ u) → Pair x y
 pair_of x y [] h = let p = two_bytes x y h in grind arith
 pair_of x y (a ∷ []) h = let p = three_bytes x y a h in grind arith
 pair_of x y (a ∷ b ∷ []) h = let p = four_bytes x y a b h in grind arith
-pair_of x y (a ∷ b ∷ c ∷ u) h = let p = more_bytes x y a b c u in cc
+pair_of x y (a ∷ b ∷ c ∷ u) h = let p = is_sequence-more x y a b c u in cc
 
 -- the byte may stand behind the first two of a sequence
 abbrev IsTail : ℕ → Type 0
@@ -30,12 +30,12 @@ third_of : (x y z : ℕ) (u : List ℕ) → IsSequence (x ∷ y ∷ z ∷ u) →
 third_of x y z [] h = let p = three_bytes x y z h in (omega arith, (omega arith, omega arith))
 third_of x y z (a ∷ []) h =
     let p = four_bytes x y z a h in (omega arith, (omega arith, omega arith))
-third_of x y z (a ∷ b ∷ u) h = let p = more_bytes x y z a b u in cc
+third_of x y z (a ∷ b ∷ u) h = let p = is_sequence-more x y z a b u in cc
 
 -- the first and the fourth byte of a sequence of four are in their ranges
 fourth_of : (x y z w : ℕ) (u : List ℕ) → IsSequence (x ∷ y ∷ z ∷ w ∷ u) → (0xF0 ≤ x) × IsTail w
 fourth_of x y z w [] h = let p = four_bytes x y z w h in (omega arith, (omega arith, omega arith))
-fourth_of x y z w (a ∷ u) h = let p = more_bytes x y z w a u in cc
+fourth_of x y z w (a ∷ u) h = let p = is_sequence-more x y z w a u in cc
 
 -- two bytes that begin a sequence of three or more do so with any tail byte behind them
 third_begins : (x y z : ℕ) → begins_sequence (x ∷ y ∷ []) ≡ true → 0xE0 ≤ x → IsTail z
@@ -44,8 +44,8 @@ third_begins x y z b g r =
     let (u, is) = BeginsSequence-from (x ∷ y ∷ []) b in
     let h = pair_of x y u is in
     begins_sequence-from (x ∷ y ∷ z ∷ [])
-    (⊎_elim (λ (l : x < 0xF0). ([], three_is x y z (grind arith)))
-    (λ (k : 0xF0 ≤ x). (0x80 ∷ [], four_is x y z 0x80 (grind arith))) (cases_lt x 0xF0))
+    (⊎_elim (λ (l : x < 0xF0). ([], IsSequence-three x y z (grind arith)))
+    (λ (k : 0xF0 ≤ x). (0x80 ∷ [], IsSequence-four x y z 0x80 (grind arith))) (cases_lt x 0xF0))
 
 -- three bytes that begin a sequence of four do so with any tail byte behind them
 fourth_begins : (x y z w : ℕ) → begins_sequence (x ∷ y ∷ z ∷ []) ≡ true → 0xF0 ≤ x → IsTail w
@@ -54,7 +54,7 @@ fourth_begins x y z w b g r =
     let (u, is) = BeginsSequence-from (x ∷ y ∷ z ∷ []) b in
     let h = pair_of x y (z ∷ u) is in
     let k = third_of x y z u is in
-    begins_sequence-from (x ∷ y ∷ z ∷ w ∷ []) ([], four_is x y z w (grind arith))
+    begins_sequence-from (x ∷ y ∷ z ∷ w ∷ []) ([], IsSequence-four x y z w (grind arith))
 
 -- the first two bytes of a string
 pub take-two : (s : List ℕ) → 1 < length s

@@ -5,7 +5,7 @@ use Rattle.std.proofs.Common.{get_or-drop, add-zero}
 use Rattle.std.proofs.lemmas.Bool.{cases_Bool, cond-true, cond-false}
 use Rattle.unix_bytes.specs.Utf8.{is_sequence}
 use Rattle.unix_bytes.specs.Steps.{longest_len, longest_front_of, broken_len, HasBegun}
-use Rattle.unix_bytes.proofs.SequenceLemmas.{no_bytes}
+use Rattle.unix_bytes.proofs.SequenceLemmas.{is_sequence-nil}
 use Rattle.unix_bytes.proofs.BegunLemmas.{pair_bounds}
 use Rattle.unix_bytes.proofs.LongestLemmas.{longest_len-longest}
 use Rattle.unix_bytes.proofs.FrontLemmas.{longest_front_of-nil, longest_front_of-take}
@@ -18,7 +18,7 @@ use Rattle.unix_bytes.proofs.LossyLemmas.{is_sequence-longest_front_of}
 -- of no bytes none are broken
 pub broken_len-empty : (s : List ℕ) → length s ≡ 0 → broken_len s ≡ 0
 broken_len-empty [] e =
-    cond-false _ _ _ (ap is_sequence longest_front_of-nil ∙ no_bytes)
+    cond-false _ _ _ (ap is_sequence longest_front_of-nil ∙ is_sequence-nil)
     ∙ ap length longest_front_of-nil
 broken_len-empty (b ∷ bs) e = absurd (omega arith)
 

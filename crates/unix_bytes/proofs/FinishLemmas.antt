@@ -6,8 +6,8 @@ use Rattle.std.proofs.lemmas.List.Elements.{All-head, All-tail}
 use Rattle.std.proofs.Math.Seq.{take-add}
 use Rattle.unix_bytes.specs.Utf8.{IsSequence, IsText}
 use Rattle.unix_bytes.specs.Windows.{IsFinished}
-use Rattle.unix_bytes.proofs.SequenceLemmas.{one_byte, two_bytes, three_bytes, four_bytes, no_bytes}
-use Rattle.unix_bytes.proofs.SequenceLemmas.{more_bytes}
+use Rattle.unix_bytes.proofs.SequenceLemmas.{one_byte, two_bytes, three_bytes, four_bytes}
+use Rattle.unix_bytes.proofs.SequenceLemmas.{is_sequence-nil, is_sequence-more}
 
 -- the last three of the bytes, behind three others, are the end of finished sequences
 abbrev EndsFinished : ℕ → ℕ → ℕ → List ℕ → Type 0
@@ -20,7 +20,7 @@ KeepsFinished s = (a b c : ℕ) → IsFinished a b c → EndsFinished a b c s
 
 -- bytes that leave finished sequences finished do so behind a sequence too
 sequence_keeps_finished : (u s : List ℕ) → IsSequence u → KeepsFinished s → KeepsFinished (u ++ s)
-sequence_keeps_finished [] s h next a b c k = let z = no_bytes in cc
+sequence_keeps_finished [] s h next a b c k = let z = is_sequence-nil in cc
 sequence_keeps_finished (d ∷ []) s h next a b c k =
     let p = one_byte d h in next b c d (omega arith, omega arith, omega arith)
 sequence_keeps_finished (d ∷ e ∷ []) s h next a b c k =
@@ -30,7 +30,7 @@ sequence_keeps_finished (d ∷ e ∷ f ∷ []) s h next a b c k =
 sequence_keeps_finished (d ∷ e ∷ f ∷ x ∷ []) s h next a b c k =
     let p = four_bytes d e f x h in next e f x (omega arith, omega arith, omega arith)
 sequence_keeps_finished (d ∷ e ∷ f ∷ x ∷ y ∷ u) s h next a b c k =
-    let z = more_bytes d e f x y u in cc
+    let z = is_sequence-more d e f x y u in cc
 
 -- sequences, one after the other, leave finished sequences finished
 text_keeps_finished : (us : List (List ℕ)) → All IsSequence us → KeepsFinished (concat us)

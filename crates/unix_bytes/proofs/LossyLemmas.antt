@@ -12,7 +12,7 @@ use Rattle.std.proofs.lemmas.List.Sums.{AllPass-from_list_all, list_all-from_All
 use Rattle.unix_bytes.specs.Utf8.{is_sequence, IsSequence, IsText}
 use Rattle.unix_bytes.specs.Lossy.{fronts_of, replacement, lossy_of, is_text}
 use Rattle.unix_bytes.specs.Steps.{longest_len, longest_front_of}
-use Rattle.unix_bytes.proofs.SequenceLemmas.{no_bytes, sequence_len}
+use Rattle.unix_bytes.proofs.SequenceLemmas.{is_sequence-nil, sequence_len}
 use Rattle.unix_bytes.proofs.LongestLemmas.{longest_len-prefix}
 use Rattle.unix_bytes.proofs.FrontLemmas.{longest_front_of-sequence, longest_front_of-take}
 use Rattle.unix_bytes.proofs.FrontLemmas.{front_within}
@@ -24,7 +24,7 @@ shown_front u = if is_sequence u then u else replacement
 
 -- the first front of bytes that begin with a sequence is that sequence
 fronts_of-sequence : (u s : List ℕ) → IsSequence u → fronts_of (u ++ s) ≡ u ∷ fronts_of s
-fronts_of-sequence [] s h = let k = no_bytes in cc
+fronts_of-sequence [] s h = let k = is_sequence-nil in cc
 fronts_of-sequence (b ∷ u) s h =
     let e = longest_front_of-sequence (b ∷ u) s h in
     fronts_of-some b (u ++ s)

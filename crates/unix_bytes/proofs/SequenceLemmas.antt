@@ -12,9 +12,9 @@ unfolding is_sequence
 one_byte a h = grind (arith, nat_tests)
 
 -- one byte of ASCII is a sequence
-pub one_is : (a : ℕ) → a ≤ 0x7F → IsSequence (a ∷ [])
+pub IsSequence-one : (a : ℕ) → a ≤ 0x7F → IsSequence (a ∷ [])
 unfolding is_sequence
-one_is a h = grind (arith, nat_tests)
+IsSequence-one a h = grind (arith, nat_tests)
 
 -- the ranges of the bytes of a sequence of two
 abbrev pub Two : ℕ → ℕ → Type 0
@@ -26,9 +26,9 @@ unfolding is_sequence
 two_bytes a b h = grind (arith, nat_tests)
 
 -- two bytes in the ranges of `Two` are a sequence
-pub two_is : (a b : ℕ) → Two a b → IsSequence (a ∷ b ∷ [])
+pub IsSequence-two : (a b : ℕ) → Two a b → IsSequence (a ∷ b ∷ [])
 unfolding is_sequence
-two_is a b h = grind (arith, nat_tests)
+IsSequence-two a b h = grind (arith, nat_tests)
 
 -- the ranges of the bytes of a sequence of three
 abbrev pub Three : ℕ → ℕ → ℕ → Type 0
@@ -53,9 +53,9 @@ three_bytes a b c h =
     (λ h. cc) (or_cases _ _ h)) (or_cases _ _ h)) (or_cases _ _ h)) (or_cases _ _ h)
 
 -- three bytes in the ranges of `Three` are a sequence
-pub three_is : (a b c : ℕ) → Three a b c → IsSequence (a ∷ b ∷ c ∷ [])
+pub IsSequence-three : (a b c : ℕ) → Three a b c → IsSequence (a ∷ b ∷ c ∷ [])
 unfolding is_sequence
-three_is a b c h = grind (arith, nat_tests)
+IsSequence-three a b c h = grind (arith, nat_tests)
 
 -- the ranges of the bytes of a sequence of four
 abbrev pub Four : ℕ → ℕ → ℕ → ℕ → Type 0
@@ -81,26 +81,26 @@ four_bytes a b c d h =
     (λ h. cc) (or_cases _ _ h)) (or_cases _ _ h)) (or_cases _ _ h)
 
 -- four bytes in the ranges of `Four` are a sequence
-pub four_is : (a b c d : ℕ) → Four a b c d → IsSequence (a ∷ b ∷ c ∷ d ∷ [])
+pub IsSequence-four : (a b c d : ℕ) → Four a b c d → IsSequence (a ∷ b ∷ c ∷ d ∷ [])
 unfolding is_sequence
-four_is a b c d h = grind (arith, nat_tests)
+IsSequence-four a b c d h = grind (arith, nat_tests)
 
 -- no bytes are no sequence
-pub no_bytes : is_sequence [] ≡ false
+pub is_sequence-nil : is_sequence [] ≡ false
 unfolding is_sequence
-no_bytes = refl
+is_sequence-nil = refl
 
 -- five bytes or more are no sequence
-pub more_bytes : (a b c d e : ℕ) (u : List ℕ)
+pub is_sequence-more : (a b c d e : ℕ) (u : List ℕ)
     → is_sequence (a ∷ b ∷ c ∷ d ∷ e ∷ u) ≡ false
 unfolding is_sequence
-more_bytes a b c d e u = refl
+is_sequence-more a b c d e u = refl
 
 -- a sequence has one to four bytes
 pub sequence_len : (u : List ℕ) → IsSequence u → (1 ≤ length u) × (length u ≤ 4)
-sequence_len [] h = let k = no_bytes in cc
+sequence_len [] h = let k = is_sequence-nil in cc
 sequence_len (a ∷ []) h = (omega arith, omega arith)
 sequence_len (a ∷ b ∷ []) h = (omega arith, omega arith)
 sequence_len (a ∷ b ∷ c ∷ []) h = (omega arith, omega arith)
 sequence_len (a ∷ b ∷ c ∷ d ∷ []) h = (omega arith, omega arith)
-sequence_len (a ∷ b ∷ c ∷ d ∷ e ∷ u) h = let k = more_bytes a b c d e u in cc
+sequence_len (a ∷ b ∷ c ∷ d ∷ e ∷ u) h = let k = is_sequence-more a b c d e u in cc

@@ -5,7 +5,7 @@ use Rattle.std.proofs.Common.{length-append, length-take-le, take-append-drop}
 use Rattle.std.proofs.lemmas.Bool.{cases_lt}
 use Rattle.unix_bytes.specs.Utf8.{is_sequence, IsSequence, BeginsSequence}
 use Rattle.unix_bytes.specs.Steps.{longest_len, HasBegun}
-use Rattle.unix_bytes.proofs.SequenceLemmas.{no_bytes, sequence_len}
+use Rattle.unix_bytes.proofs.SequenceLemmas.{is_sequence-nil, sequence_len}
 use Rattle.unix_bytes.proofs.WidthLemmas.{HasWidth, has_width}
 use Rattle.unix_bytes.proofs.BeginLemmas.{begins_sequence-from, BeginsSequence-from}
 use Rattle.unix_bytes.proofs.BeginLemmas.{BeginsSequence-take}
@@ -72,7 +72,7 @@ module _ (b n : ℕ) (w : HasWidth b n) where
 -- the first byte of a prefix that is a sequence says its length
 prefix_width : (b : ℕ) (bs : List ℕ) (k : ℕ) → k ≤ length (b ∷ bs) → IsSequence (take k (b ∷ bs))
     → HasWidth b k
-prefix_width b bs zero within h = let z = no_bytes in cc
+prefix_width b bs zero within h = let z = is_sequence-nil in cc
 prefix_width b bs (suc k) within h =
     subst (λ n. HasWidth b (suc n)) (length-take-le k bs (omega arith)) (has_width b (take k bs) h)
 

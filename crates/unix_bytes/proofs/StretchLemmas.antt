@@ -12,7 +12,7 @@ use Rattle.unix_bytes.specs.Lossy.{is_text}
 use Rattle.unix_bytes.specs.Steps.{longest_len, broken_len}
 use Rattle.unix_bytes.proofs.TextLemmas.{IsUtf8-from_IsText, IsText-from_IsUtf8, IsText-nil}
 use Rattle.unix_bytes.proofs.TextLemmas.{IsText-append, IsText-sequence}
-use Rattle.unix_bytes.proofs.SequenceLemmas.{two_is}
+use Rattle.unix_bytes.proofs.SequenceLemmas.{IsSequence-two}
 use Rattle.unix_bytes.proofs.BegunLemmas.{take-two}
 use Rattle.unix_bytes.proofs.LongestLemmas.{longest_len-is, longest_len-longest}
 use Rattle.unix_bytes.proofs.LossyLemmas.{is_text-from_IsText, IsText-from_is_text, text_rest}
@@ -54,7 +54,7 @@ pair_at s i l lead tail before =
     let first : slice_index r 0 ≡ slice_index s i =
     get_or-drop i s 0 0 ∙ ap (slice_index s) (add-zero i) in
     let second : slice_index r 1 ≡ slice_index s (i + 1) = get_or-drop i s 1 0 in
-    let pair = two_is (slice_index r 0) (slice_index r 1)
+    let pair = IsSequence-two (slice_index r 0) (slice_index r 1)
     (rw (first, second) (lead.0, lead.1, tail.0, tail.1)) in
     let two = take-two r (omega (arith, length-drop i s)) in
     more_text s i 2 before (IsText-sequence (take 2 r) (subst IsSequence (sym two) pair))

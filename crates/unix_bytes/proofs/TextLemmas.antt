@@ -10,12 +10,13 @@ use Rattle.std.proofs.str.Laws.{one, two, three, four}
 use Rattle.std.proofs.str.Valid.{of_one, of_two, of_three, of_four}
 use lib.Utf8.{scalar, scalars, scalar_cases, encode, encodes}
 use Rattle.unix_bytes.specs.Utf8.{is_sequence, IsSequence, IsText}
-use Rattle.unix_bytes.proofs.SequenceLemmas.{one_byte, two_bytes, three_bytes, four_bytes, one_is}
-use Rattle.unix_bytes.proofs.SequenceLemmas.{two_is, three_is, four_is, no_bytes, more_bytes}
+use Rattle.unix_bytes.proofs.SequenceLemmas.{one_byte, two_bytes, three_bytes, four_bytes}
+use Rattle.unix_bytes.proofs.SequenceLemmas.{IsSequence-one, IsSequence-two, IsSequence-three}
+use Rattle.unix_bytes.proofs.SequenceLemmas.{IsSequence-four, is_sequence-nil, is_sequence-more}
 
 -- a sequence is UTF-8
 pub IsUtf8-sequence : (u : List ℕ) → IsSequence u → IsUtf8 u
-IsUtf8-sequence [] h = let k = no_bytes in cc
+IsUtf8-sequence [] h = let k = is_sequence-nil in cc
 IsUtf8-sequence (a ∷ []) h =
     let p = one_byte a h in of_one (a ∷ []) 0 (omega arith) (omega arith)
 IsUtf8-sequence (a ∷ b ∷ []) h =
@@ -30,18 +31,18 @@ IsUtf8-sequence (a ∷ b ∷ c ∷ d ∷ []) h =
     let p = four_bytes a b c d h in
     of_four (a ∷ b ∷ c ∷ d ∷ []) 0 (omega arith) (omega arith) (omega arith, omega arith)
     (omega arith, omega arith) (omega arith, omega arith) (grind arith, grind arith)
-IsUtf8-sequence (a ∷ b ∷ c ∷ d ∷ e ∷ u) h = let k = more_bytes a b c d e u in cc
+IsUtf8-sequence (a ∷ b ∷ c ∷ d ∷ e ∷ u) h = let k = is_sequence-more a b c d e u in cc
 
 -- the encoding of a scalar value is a sequence
 IsSequence-encode : (c : ℕ) → scalar c ≡ true → IsSequence (encode c)
 IsSequence-encode c h =
     let k = scalar_cases c h in
     let top : c < 1114112 = ⊎_elim (λ l. omega arith) (λ l. l.1) k in
-    ⊎_elim (λ l. rw (one c l) (one_is c (omega arith)))
-    (λ m1. ⊎_elim (λ l. rw (two c m1 l) (two_is (192 + c / 64) (128 + c % 64)
+    ⊎_elim (λ l. rw (one c l) (IsSequence-one c (omega arith)))
+    (λ m1. ⊎_elim (λ l. rw (two c m1 l) (IsSequence-two (192 + c / 64) (128 + c % 64)
     (omega arith, omega arith, omega arith, omega arith)))
     (λ m2. ⊎_elim
-    (λ l. rw (three c m2 l) (three_is (224 + c / 4096) (128 + c / 64 % 64) (128 + c % 64) (
+    (λ l. rw (three c m2 l) (IsSequence-three (224 + c / 4096) (128 + c / 64 % 64) (128 + c % 64) (
       omega arith,
       omega arith,
       omega arith,
@@ -52,7 +53,7 @@ IsSequence-encode c h =
       λ e. ⊎_elim (λ p. omega arith) (λ p. absurd (omega arith)) k,
     )))
     (λ m3. rw (four c m3)
-    (four_is (240 + c / 262144) (128 + c / 4096 % 64) (128 + c / 64 % 64) (128 + c % 64) (
+    (IsSequence-four (240 + c / 262144) (128 + c / 4096 % 64) (128 + c / 64 % 64) (128 + c % 64) (
       omega arith,
       omega arith,
       omega arith,

@@ -4,8 +4,9 @@ use Rattle.std.proofs.Common.{◌⊎◌, ◌≡◌, ℕ, suc, ◌<◌, ◌≤◌
 use Rattle.std.proofs.Common.{sym, ◌∙◌, arith, length-append}
 use Rattle.std.proofs.lemmas.Bool.{cases_lt}
 use Rattle.unix_bytes.specs.Utf8.{IsSequence, BeginsSequence}
-use Rattle.unix_bytes.proofs.SequenceLemmas.{one_byte, two_bytes, three_bytes, four_bytes, one_is}
-use Rattle.unix_bytes.proofs.SequenceLemmas.{two_is, three_is, four_is, no_bytes, more_bytes}
+use Rattle.unix_bytes.proofs.SequenceLemmas.{one_byte, two_bytes, three_bytes, four_bytes}
+use Rattle.unix_bytes.proofs.SequenceLemmas.{IsSequence-one, IsSequence-two, IsSequence-three}
+use Rattle.unix_bytes.proofs.SequenceLemmas.{IsSequence-four, is_sequence-nil, is_sequence-more}
 
 -- n is the length that the first byte b says
 pub record HasWidth (b n : ℕ) : Type 0 where
@@ -48,7 +49,7 @@ has_width b (x ∷ y ∷ z ∷ []) h =
       three = λ l g. absurd (omega arith);
       four = λ l. (omega arith, omega arith);
     }
-has_width b (x ∷ y ∷ z ∷ w ∷ u) h = let p = more_bytes b x y z w u in cc
+has_width b (x ∷ y ∷ z ∷ w ∷ u) h = let p = is_sequence-more b x y z w u in cc
 
 -- the first byte says one length alone
 same_width : (b n m : ℕ) → HasWidth b n → HasWidth b m → n ≡ m
@@ -66,31 +67,32 @@ none_more u (x ∷ v) e = absurd (omega (arith, length-append u (x ∷ v)))
 
 -- no sequence begins another
 pub prefix_free : (u v : List ℕ) → IsSequence u → IsSequence (u ++ v) → v ≡ []
-prefix_free [] v h k = let e = no_bytes in cc
+prefix_free [] v h k = let e = is_sequence-nil in cc
 prefix_free (b ∷ u) v h k =
     none_more (b ∷ u) v
     (same_width b (length (b ∷ u ++ v)) (length (b ∷ u)) (has_width b (u ++ v) k) (has_width b u h))
 
 -- a byte of ASCII begins a sequence
 pub begins_one : (b : ℕ) → b ≤ 0x7F → BeginsSequence (b ∷ [])
-begins_one b h = ([], one_is b h)
+begins_one b h = ([], IsSequence-one b h)
 
 -- a byte that leads two begins a sequence
 pub begins_two : (b : ℕ) → 0xC2 ≤ b → b ≤ 0xDF → BeginsSequence (b ∷ [])
-begins_two b h k = (0x80 ∷ [], two_is b 0x80 (h, k, omega arith, omega arith))
+begins_two b h k = (0x80 ∷ [], IsSequence-two b 0x80 (h, k, omega arith, omega arith))
 
 -- a byte that leads three begins a sequence
 pub begins_three : (b : ℕ) → 0xE0 ≤ b → b ≤ 0xEF → BeginsSequence (b ∷ [])
 begins_three b h k =
-    ⊎_elim (λ (l : b < 0xE1). (0xA0 ∷ 0x80 ∷ [], three_is b 0xA0 0x80 (grind arith)))
-    (λ (g : 0xE1 ≤ b). (0x80 ∷ 0x80 ∷ [], three_is b 0x80 0x80 (grind arith)))
+    ⊎_elim (λ (l : b < 0xE1). (0xA0 ∷ 0x80 ∷ [], IsSequence-three b 0xA0 0x80 (grind arith)))
+    (λ (g : 0xE1 ≤ b). (0x80 ∷ 0x80 ∷ [], IsSequence-three b 0x80 0x80 (grind arith)))
     (cases_lt b 0xE1)
 
 -- a byte that leads four begins a sequence
 pub begins_four : (b : ℕ) → 0xF0 ≤ b → b ≤ 0xF4 → BeginsSequence (b ∷ [])
 begins_four b h k =
-    ⊎_elim (λ (l : b < 0xF1). (0x90 ∷ 0x80 ∷ 0x80 ∷ [], four_is b 0x90 0x80 0x80 (grind arith)))
-    (λ (g : 0xF1 ≤ b). (0x80 ∷ 0x80 ∷ 0x80 ∷ [], four_is b 0x80 0x80 0x80 (grind arith)))
+    ⊎_elim
+    (λ (l : b < 0xF1). (0x90 ∷ 0x80 ∷ 0x80 ∷ [], IsSequence-four b 0x90 0x80 0x80 (grind arith)))
+    (λ (g : 0xF1 ≤ b). (0x80 ∷ 0x80 ∷ 0x80 ∷ [], IsSequence-four b 0x80 0x80 0x80 (grind arith)))
     (cases_lt b 0xF1)
 
 -- where a byte begins a sequence, a width that is not 0 fits it

@@ -10,7 +10,8 @@ use Rattle.std.proofs.Math.Seq.{take-append-add}
 use Rattle.unix_bytes.specs.Utf8.{IsSequence, IsText}
 use Rattle.unix_bytes.specs.Windows.{least_second, most_second, unfinished_len, IsFinished}
 use Rattle.unix_bytes.specs.Windows.{Fits, FitAfter, FitsWindow}
-use Rattle.unix_bytes.proofs.SequenceLemmas.{one_is, two_is, three_is, four_is}
+use Rattle.unix_bytes.proofs.SequenceLemmas.{IsSequence-one, IsSequence-two, IsSequence-three}
+use Rattle.unix_bytes.proofs.SequenceLemmas.{IsSequence-four}
 use Rattle.unix_bytes.proofs.TextLemmas.{IsText-nil, IsText-append, IsText-sequence}
 
 -- how many of the last bytes are of a sequence that is not finished, behind three others
@@ -87,7 +88,7 @@ module _ (n : ℕ) (fewer : HasPrefixUpTo n) (a b c d : ℕ) (k : IsFinished a b
   two_byte_prefix [] le g l hs = no_prefix _ _ _ _ (unfinished_len-one b c d (omega arith))
   two_byte_prefix (e ∷ s) le g l (h, hs) =
       let (lo, hi) = h.goes.within (inr (inr (omega arith))) in
-      more_prefix (d ∷ e ∷ []) s a b c c d e 2 (two_is d e (g, l, lo, hi)) refl
+      more_prefix (d ∷ e ∷ []) s a b c c d e 2 (IsSequence-two d e (g, l, lo, hi)) refl
       (fewer c d e s (omega arith) (omega arith, omega arith, omega arith) hs) refl
 
   -- one byte more than n begin with text, where the first leads three
@@ -102,7 +103,7 @@ module _ (n : ℕ) (fewer : HasPrefixUpTo n) (a b c d : ℕ) (k : IsFinished a b
       let (lo2, hi2) = i.goes.within (inr (inl g)) in
       let second = second_bounds d e h.least h.most in
       more_prefix (d ∷ e ∷ f ∷ []) s a b c d e f 3
-      (three_is d e f (g, l, lo, hi, lo2, hi2, second.0, second.1)) refl
+      (IsSequence-three d e f (g, l, lo, hi, lo2, hi2, second.0, second.1)) refl
       (fewer d e f s (omega arith) (omega arith, omega arith, omega arith) hs) refl
 
   -- one byte more than n begin with text, where the first leads four
@@ -122,7 +123,7 @@ module _ (n : ℕ) (fewer : HasPrefixUpTo n) (a b c d : ℕ) (k : IsFinished a b
       let (lo3, hi3) = j.goes.within (inl g) in
       let second = second_bounds d e h.least h.most in
       more_prefix (d ∷ e ∷ f ∷ x ∷ []) s a b c e f x 4
-      (four_is d e f x (g, l, lo, hi, lo2, hi2, lo3, hi3, second.2, second.3)) refl
+      (IsSequence-four d e f x (g, l, lo, hi, lo2, hi2, lo3, hi3, second.2, second.3)) refl
       (fewer e f x s (omega arith) (omega arith, omega arith, omega arith) hs) refl
 
   -- one byte more than n begin with text, whatever the first is
@@ -132,7 +133,7 @@ module _ (n : ℕ) (fewer : HasPrefixUpTo n) (a b c d : ℕ) (k : IsFinished a b
       let last = most_bound c in
       let most = h.most in
       ⊎_elim (λ (l : d < 0x80).
-      more_prefix (d ∷ []) s a b c b c d 1 (one_is d (omega arith)) refl
+      more_prefix (d ∷ []) s a b c b c d 1 (IsSequence-one d (omega arith)) refl
       (fewer b c d s le (omega arith, omega arith, omega arith) hs) refl)
       (λ (g : 0xC2 ≤ d).
       ⊎_elim (λ (l : d < 0xE0). two_byte_prefix s le g (omega arith) hs)
