@@ -1,7 +1,8 @@
 -- The test whether values begin with a base's, and the fact.
-use Rattle.std.proofs.Common.{◌≡◌, ◌++◌, ◌∙◌, true, false, List, Bool, sym, ap, drop, length}
-use Rattle.std.proofs.Common.{refl, take-append-drop}
+use Rattle.std.proofs.Common.{◌≡◌, ◌++◌, ◌∙◌, true, false, List, sym, ap, drop, length}
+use Rattle.std.proofs.Common.{take-append-drop}
 use Rattle.std.proofs.Math.Seq.{take-append_seam}
+use Rattle.std.proofs.lemmas.Bool.{false_from_ne_true}
 use Rattle.std.proofs.lemmas.Cmp.{tied_itself}
 use Rattle.std.specs.Ordering.{is_eq}
 use Rattle.unix_bytes.specs.Begins.{Begins}
@@ -10,11 +11,13 @@ use Rattle.unix_path.specs.OrderLaws.{values_cmp-total, is_eq-values_cmp}
 use Rattle.unix_path.specs.Parts.{Value}
 use Rattle.path_table.specs.Table.{is_under}
 
+-- where the test answers true, values begin with base's
 pub begins_from_under : (base v : List Value) → is_under base v ≡ true → Begins base v
 begins_from_under base v is =
     let n = length base in
     (drop n v, ap (λ t. t ++ drop n v) (is_eq-values_cmp base _ is) ∙ take-append-drop n v)
 
+-- where values begin with base's, the test answers true
 pub under_from_begins : (base v : List Value) → Begins base v → is_under base v ≡ true
 under_from_begins base v begins =
     ap (is_under base) (sym begins.1)
@@ -23,8 +26,5 @@ under_from_begins base v begins =
 
 -- where values don't begin with base's, the test answers false
 pub not_under : (base v : List Value) → (Begins base v → ⊥) → is_under base v ≡ false
-not_under base v apart = by (is_under base v) refl
-  where
-    by : (b : Bool) → is_under base v ≡ b → b ≡ false
-    by true is = absurd (apart (begins_from_under base v is))
-    by false is = refl
+not_under base v apart =
+    false_from_ne_true (is_under base v) (λ is. apart (begins_from_under base v is))

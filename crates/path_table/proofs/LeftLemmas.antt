@@ -5,6 +5,7 @@ use Rattle.unix_path.specs.Parts.{values}
 use Rattle.unix_path.specs.Prefixes.{stripped_of}
 use Rattle.path_runs.specs.PartLaws.{RestHasValues}
 
+-- what is left of a path without its base has the values behind as many as the base has
 pub values-stripped_of : RestHasValues → (s base : List ℕ)
     → values (stripped_of s base) ≡ drop (length (values base)) (values s)
 values-stripped_of again s base =

@@ -2,6 +2,7 @@
 use Rattle.std.proofs.Common.{◌≡◌, ◌∷◌, ◌∙◌, ◌<◌, [], List, true, Option, Some, None}
 use Rattle.std.proofs.Common.{ap, sym, subst, length, arith}
 use Rattle.std.proofs.lemmas.List.Elements.{All-nil, All-head, All-rest}
+use Rattle.std.proofs.lemmas.Map.Keys.{sorted_tail}
 use Rattle.std.specs.Borrow.{Bor}
 use Rattle.std.specs.List.Sorted.{IsStrictlySortedBy}
 use Rattle.std.specs.Ordering.{is_le}
@@ -16,22 +17,18 @@ use Rattle.path_runs.specs.OrderLaws.{UnderIsInterval}
 use Rattle.path_table.specs.Table.{NoneBefore, entries_under, paths_of}
 use Rattle.path_table.proofs.UnderLemmas.{none_under, skip_under}
 
--- what stands behind the first of values in order is in order
-sorted_behind : (v : List Value) (vs : List (List Value))
-    → IsStrictlySortedBy values_cmp (v ∷ vs) → IsStrictlySortedBy values_cmp vs
-unfolding IsStrictlySortedBy
-sorted_behind v vs sorted = sorted.1
-
 module _ {V : Type 0} (old new : List (PathBuf × V)) where
+  -- paths that ascend still do after a call of `next`
   pub next_ordered : (r : Option (Bor PathBuf × Bor V)) → TakesFirst deref_pair old r new
       → IsStrictlySortedBy values_cmp (paths_of old) → IsStrictlySortedBy values_cmp (paths_of new)
   unfolding IsStrictlySortedBy
   next_ordered None none sorted =
       subst (λ es. IsStrictlySortedBy values_cmp (paths_of es)) (sym none.1) tt
   next_ordered (Some e) some sorted =
-      sorted_behind (values (path_bytes e.0.now)) (paths_of new)
+      sorted_tail values_cmp (values (path_bytes e.0.now)) (paths_of new)
       (subst (λ es. IsStrictlySortedBy values_cmp (paths_of es)) some sorted)
 
+  -- where no path is below base, none is after a call of `next`
   pub next_not_before : (base : List Value) (r : Option (Bor PathBuf × Bor V))
       → TakesFirst deref_pair old r new
       → NoneBefore base (paths_of old) → NoneBefore base (paths_of new)
@@ -41,7 +38,7 @@ module _ {V : Type 0} (old new : List (PathBuf × V)) where
       All-rest (λ v. is_le (values_cmp base v) ≡ true) (values (path_bytes e.0.now))
       (paths_of new) (paths_of old) (ap paths_of some) from
 
-  -- where the first of what was left isn't under base, nothing was, and nothing is
+  -- where the first of the paths left isn't under base, none of them is, nor of those behind it
   pub none_left : UnderIsInterval → (base : List Value) (e : PathBuf × V) → old ≡ e ∷ new
       → IsStrictlySortedBy values_cmp (paths_of old) → NoneBefore base (paths_of old)
       → (Begins base (values (path_bytes e.0)) → ⊥)

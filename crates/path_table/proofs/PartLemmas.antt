@@ -21,16 +21,19 @@ use Rattle.path_table.proofs.UnderLemmas.{from_base, under_from_base}
 
 module _ {V : Type 0} (base : List Value) (entries part : List (PathBuf × V))
     (is : part ≡ filter (λ e. is_le (values_cmp base (values (path_bytes e.0)))) entries) where
+  -- the rows of the part are the rows that are not below base
   rows_are : rows_of path_bytes part ≡ from_base base (rows_of path_bytes entries)
   rows_are =
       ap (rows_of path_bytes) is ∙ rows_of-filter (λ v. is_le (values_cmp base v)) entries
 
+  -- the values of the part's paths are those that are not below base
   keys_are : keys_of (rows_of path_bytes part)
       ≡ filter (λ v. is_le (values_cmp base v)) (keys_of (rows_of path_bytes entries))
   keys_are =
       ap keys_of rows_are
       ∙ keys_of-filter (λ v. is_le (values_cmp base v)) (rows_of path_bytes entries)
 
+  -- the part's paths ascend
   pub part_ordered : IsStrictlySortedBy (on (λ p. values (path_bytes p)) values_cmp)
       (keys_of entries) → IsStrictlySortedBy values_cmp (paths_of part)
   part_ordered sorted =
@@ -38,11 +41,13 @@ module _ {V : Type 0} (base : List Value) (entries part : List (PathBuf × V))
       (IsStrictlySortedBy-filter values_cmp (λ v. is_le (values_cmp base v)) _
       (sorted-rows_of entries sorted))
 
+  -- no path of the part is below base
   pub part_from_base : NoneBefore base (paths_of part)
   part_from_base =
       subst (NoneBefore base) (sym keys_are)
       (filter_passes (λ v. is_le (values_cmp base v)) _)
 
+  -- what is under base in the part is all that is under it
   pub part_under : BaseBeforeUnder
       → entries_under base (rows_of path_bytes part)
       ≡ entries_under base (rows_of path_bytes entries)

@@ -12,13 +12,14 @@ use Rattle.unix_path.specs.declared.buf.PathBuf.{PathBuf}
 use Rattle.path_runs.specs.TableLaws.{rows_of}
 
 module _ {V : Type 0} where
+  -- where paths are greater than v, their rows are
   ascend_behind : (v : List Value) (entries : List (PathBuf × V))
       → AllByRecursion (λ p. values_cmp v (values (path_bytes p)) ≡ Less) (keys_of entries)
       → AllByRecursion (λ w. values_cmp v w ≡ Less) (keys_of (rows_of path_bytes entries))
   ascend_behind v [] behind = tt
   ascend_behind v (e ∷ entries) behind = (behind.0, ascend_behind v entries behind.1)
 
-  -- rows of paths in order are in order
+  -- where paths ascend, their rows do
   pub sorted-rows_of : (entries : List (PathBuf × V))
       → IsStrictlySortedBy (on (λ p. values (path_bytes p)) values_cmp) (keys_of entries)
       → IsStrictlySortedBy values_cmp (keys_of (rows_of path_bytes entries))
@@ -42,7 +43,7 @@ module _ {V : Type 0} where
         | false ↦ rows_of-filter test entries
       ]
 
-  -- and of their values
+  -- a test of the values leaves of the rows' values what it leaves of the rows
   pub keys_of-filter : (test : List Value → Bool) (rows : List (List Value × V))
       → keys_of (filter (λ row. test row.0) rows) ≡ filter test (keys_of rows)
   keys_of-filter test [] = refl

@@ -13,6 +13,7 @@ use Rattle.path_table.specs.Table.{entries_under, is_under, row_under}
 use Rattle.path_table.proofs.BeginLemmas.{begins_from_under, under_from_begins, not_under}
 
 module _ {V : Type 0} (base : List Value) where
+  -- the rows under base
   abbrev pub under : List (List Value × V) → List (List Value × V)
   under rows = filter (λ row. is_under base row.0) rows
 
@@ -27,13 +28,14 @@ module _ {V : Type 0} (base : List Value) where
       ap (λ b. map (row_under base) (cond b (row ∷ under rows) (under rows)))
       (under_from_begins base row.0 begins)
 
-  -- another is none of them
+  -- a row that isn't under base is none of those under it
   pub skip_under : (row : List Value × V) (rows : List (List Value × V))
       → (Begins base row.0 → ⊥) → entries_under base (row ∷ rows) ≡ entries_under base rows
   skip_under row rows apart =
       ap (λ b. map (row_under base) (cond b (row ∷ under rows) (under rows)))
       (not_under base row.0 apart)
 
+  -- where v isn't below base nor under it, no row that is greater than v is under base
   none_behind : UnderIsInterval → (v : List Value) (rows : List (List Value × V))
       → is_le (values_cmp base v) ≡ true → (Begins base v → ⊥)
       → AllByRecursion (λ w. values_cmp v w ≡ Less) (keys_of rows)
@@ -53,6 +55,7 @@ module _ {V : Type 0} (base : List Value) where
   none_under interval row rows sorted from apart =
       none_behind interval row.0 rows from apart sorted.0
 
+  -- a first row that is below base adds nothing under it, and another adds itself if it is under it
   one_more : BaseBeforeUnder → (row : List Value × V) (rows : List (List Value × V))
       (from is : Bool) → is_le (values_cmp base row.0) ≡ from → is_under base row.0 ≡ is
       → entries_under base (from_base rows) ≡ entries_under base rows

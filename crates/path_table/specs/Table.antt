@@ -21,11 +21,11 @@ table_of table = rows_of path_bytes table.files.entries
 abbrev pub key_bytes : {V : Type 0} → PathTable V → List (List ℕ)
 key_bytes table = map path_bytes (keys_of table.files.entries)
 
--- what the rows have at these values
+-- what stands at the values v in these rows
 abbrev pub value_at : {V : Type 0} → List Value → List (List Value × V) → Option V
 value_at v rows = lookup (is_at (values_cmp v)) rows
 
--- at all values but w the two have the same
+-- at all values but w, the same stands in the old rows and in the new ones
 abbrev pub SameElsewhere : {V : Type 0} → List Value → List (List Value × V)
     → List (List Value × V) → Type 0
 SameElsewhere w old new = (v : List Value) → ¬ (v ≡ w) → value_at v new ≡ value_at v old
@@ -34,7 +34,7 @@ SameElsewhere w old new = (v : List Value) → ¬ (v ≡ w) → value_at v new �
 abbrev pub paths_of : {V : Type 0} → List (PathBuf × V) → List (List Value)
 paths_of entries = keys_of (rows_of path_bytes entries)
 
--- none of these values stands before base's in path order
+-- none of these value lists stands before base in path order
 abbrev pub NoneBefore : List Value → List (List Value) → Type 0
 NoneBefore base paths = AllPass (λ v. is_le (values_cmp base v)) paths
 

@@ -6,6 +6,6 @@ use Rattle.path_runs.specs.TableLaws.{rows_of}
 use Rattle.path_table.specs.Table.{entries_under}
 use Rattle.path_table.specs.declared.table.under.Under.{Under}
 
--- of the files that are left, the rows under the base, without it
+-- the rows of the files that are left and stand under the base, without the base's values
 abbrev pub under_left : {V : Type 0} → Under V → List (List Value × V)
 under_left walk = entries_under (values walk.base.bytes.now) (rows_of path_bytes walk.files)

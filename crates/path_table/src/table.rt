@@ -36,7 +36,7 @@ pub struct PathTable<V> {
 impl<V> PathTable<V> {
     ghost use Rattle.path_table.specs.Lent.{lends_value};
 
-    /// A table without files. Does not allocate.
+    /// A table without files. Does not allocate. As Rust's `BTreeMap::new`.
     ///
     /// At `a` it has no value.
     pub fn new(alloc: Global) -> PathTable<V>
@@ -47,11 +47,12 @@ impl<V> PathTable<V> {
         }
     }
 
-    /// Inserts the value at the path, and gives the value that an equal path had.
+    /// Inserts the value at the path, and returns the value that an equal path had; `None` if there
+    /// was no such path.
     ///
     /// If an equal path has a value, that path stays as the key, its value is replaced, and nothing
-    /// is allocated. Else allocates for the place in the table; fails if the allocation fails, the
-    /// table stays as it was, and the path and the value are dropped. As Rust's
+    /// is allocated. Else allocates for the place in the table; fails if the allocation fails: then
+    /// the table stays as it was, and the path and the value are dropped. As Rust's
     /// `BTreeMap::insert`.
     ///
     /// With 1 at `a/b`, inserting 2 at `a//b/` gives 1 and leaves 2 at `a/b` alone.
@@ -79,8 +80,8 @@ impl<V> PathTable<V> {
         Ok(old)
     }
 
-    /// The value at the path that is equal to this one. Does not allocate. As Rust's
-    /// `BTreeMap::get`.
+    /// The value at the path that is equal to this one; `None` if there is no such path. Does not
+    /// allocate. As Rust's `BTreeMap::get`.
     ///
     /// With 1 at `a/b`, for `a/./b` it is 1.
     pub fn get(&self, path: &PathBuf) -> Option<&V>
@@ -91,8 +92,8 @@ impl<V> PathTable<V> {
         self.files.get(path)
     }
 
-    /// The value at the path that is equal to this one, to be written. Does not allocate. As
-    /// Rust's `BTreeMap::get_mut`.
+    /// The value at the path that is equal to this one, to be written; `None` if there is no such
+    /// path. Does not allocate. As Rust's `BTreeMap::get_mut`.
     ///
     /// With 1 at `a/b`, writing 2 through that of `a//b` leaves 2 at `a/b`.
     pub fn get_mut(&mut self, path: &PathBuf) -> Option<&mut V>
@@ -105,8 +106,8 @@ impl<V> PathTable<V> {
         self.files.get_mut(path)
     }
 
-    /// Removes the path that is equal to this one, and gives its value. Does not allocate. As
-    /// Rust's `BTreeMap::remove`.
+    /// Removes the path that is equal to this one, and returns its value; `None` if there is no
+    /// such path. Does not allocate. As Rust's `BTreeMap::remove`.
     ///
     /// With 1 at `a/b` alone, removing `a//b` gives 1 and leaves no files.
     pub fn remove(&mut self, path: &PathBuf) -> Option<V>

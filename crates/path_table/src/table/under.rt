@@ -61,8 +61,8 @@ impl<V> PathTable<V> {
 
     /// The files under `base`, as `walk_under` gives them, in a list.
     ///
-    /// Allocates as the list grows; fails if an allocation fails, and the list is dropped. Not in
-    /// Rust's std.
+    /// Allocates as the list grows; fails if an allocation fails, and then the list is dropped. Not
+    /// in Rust's std.
     ///
     /// With 1 at `a//b/c` and 2 at `a/b/d`, under `a/b` they are `c` with 1 and `d` with 2.
     pub fn under<'a>(
