@@ -11,7 +11,7 @@ abbrev pub SameOnEqualPairs : {A : Type 0} → (List ℕ → List ℕ → A) →
 SameOnEqualPairs ask =
     (s t u w : List ℕ) → SameValues s t → SameValues u w → ask s u ≡ ask t w
 
--- it holds for two paths exactly if it holds for two others that equal them
+-- Holds is true of two paths exactly if it is true of two others that equal them
 abbrev pub HoldsOnEqualPairs : (List ℕ → List ℕ → Type 0) → Type 0
 HoldsOnEqualPairs Holds =
     (s t u w : List ℕ) → SameValues s t → SameValues u w → Holds s u ↔ Holds t w

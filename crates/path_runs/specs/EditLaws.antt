@@ -57,7 +57,7 @@ NewNameIsLast =
 abbrev pub HasNone : ℕ → List ℕ → Type 0
 HasNone b s = All (λ c. c ≢ b) s
 
--- not empty, and without a dot or a slash
+-- the extension x is not empty, and has neither a dot nor a slash
 pub record IsPlainExtension (x : List ℕ) : Type 0 where
   pub some : x ≢ []
   pub no_dot : HasNone dot x

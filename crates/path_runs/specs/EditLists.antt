@@ -40,8 +40,7 @@ edits_of s (e ∷ es) =
     let more = edits_of one.0 es in
     (more.0, one.1 ∷ more.1)
 
--- a push, a new file name, or an extension that isn't empty and holds no slash; no other edit
--- allocates
+-- the edit is a push, a new file name, or an extension that isn't empty and holds no slash
 abbrev pub may_allocate : EditValue → Bool
 may_allocate (Push b) = true
 may_allocate (SetFileName name) = true

@@ -16,17 +16,17 @@ UnderIsInterval =
     (base u v w : List Value) → Begins base u → Begins base w
     → is_le (values_cmp u v) ≡ true → is_le (values_cmp v w) ≡ true → Begins base v
 
--- a value list stands before all that it begins, but itself
+-- a value list is not greater than any that it begins
 abbrev pub BaseBeforeUnder : Type 0
 BaseBeforeUnder = (base v : List Value) → Begins base v → is_le (values_cmp base v) ≡ true
 
--- where two paths begin with the same bytes and then a slash, what follows it decides
+-- two paths that begin with the same bytes and then a slash are in the order of what follows it
 abbrev pub OrderBehindSlash : Type 0
 OrderBehindSlash = (front s t : List ℕ)
     → values_cmp (values (front ++ slash ∷ s)) (values (front ++ slash ∷ t))
     ≡ values_cmp (inner_values s) (inner_values t)
 
--- where the common front of two paths has a slash, what follows its last one decides
+-- two paths whose common front has a slash are in the order of what follows its last slash
 abbrev pub OrderBehindCommonDir : Type 0
 OrderBehindCommonDir = (s t : List ℕ) → let n = common_dir_of s t in 0 < n
     → values_cmp (values s) (values t)

@@ -7,7 +7,7 @@ use Rattle.unix_path.specs.Parts.{Value, RootDir, slash, value_bytes}
 abbrev pub row_of : List Value → List ℕ
 row_of vs = join_with_byte slash (map value_bytes vs)
 
--- the root as a slash, and then the row of the other values
+-- a first root as a slash, and then the row of the other values
 unfoldable pub spelling_of : List Value → List ℕ
 spelling_of [] = []
 spelling_of (RootDir ∷ vs) = slash ∷ row_of vs

@@ -15,9 +15,9 @@ use unix_path::{ExtensionError, Path, PathBuf};
 
 /// One edit of a path, with the bytes that it holds.
 ///
-/// Each is the call of `PathBuf` of that name. Two pushes are equal if their paths are equal, and
-/// two other edits of one kind if they hold the same bytes. Copying an edit copies views and not
-/// bytes. Not in Rust's std.
+/// Each variant is the method of `PathBuf` of its name. Two pushes are equal if their paths are
+/// equal, and two other edits of one kind if they hold the same bytes. Copying an edit copies views
+/// and not bytes. Not in Rust's std.
 ///
 /// `Edit::Push(path)` joins `path` to the edited path.
 #[derive(Clone, Copy, Debug, PartialEq, Eq)]
@@ -38,7 +38,7 @@ pub enum Edit<'a> {
 
 /// What an edit answers. Not in Rust's std.
 ///
-/// For a pop of the path `/` it is `Flag(false)`, and for the extension `x/y` it is `Separator`.
+/// For a pop of `/` it is `Flag(false)`, and for the extension `x/y` it is `Separator`.
 #[derive(Clone, Copy, Debug, PartialEq, Eq)]
 pub enum Answer {
     /// Nothing: an edit of this kind always takes place.
@@ -49,8 +49,8 @@ pub enum Answer {
     Separator,
 }
 
-/// The error of a list of edits: an allocation failed. An edit that answers `Separator` is no error
-/// of the list. Not in Rust's std.
+/// Why a list of edits ended early: an allocation failed. An edit that answers `Separator` is no
+/// error of the list. Not in Rust's std.
 ///
 /// `ApplyError { done: 1 }` says that the first edit was made, and that the second one failed.
 #[derive(Debug, Drop)]
@@ -70,7 +70,7 @@ fn extension_answer(edited: Result<bool, ExtensionError>) -> Result<Answer, Allo
     }
 }
 
-// Makes one edit, and answers what it answers.
+// Makes one edit and returns its answer.
 fn apply_one(path: &mut PathBuf, edit: &Edit<'_>) -> Result<Answer, AllocError>
     ensures ok { OnOk result
         (path_bytes path.new ≡ (edit_of (path_bytes path.old) (edit_value edit.now)).0) }
@@ -98,14 +98,14 @@ fn apply_one(path: &mut PathBuf, edit: &Edit<'_>) -> Result<Answer, AllocError>
     }
 }
 
-/// Makes these edits, one after the other, and answers what each of them answers.
+/// Makes these edits one after the other, and returns the answer of each.
 ///
-/// Allocates once for all answers, before the first edit; then each edit allocates as the call of
-/// `PathBuf` does that it stands for. An empty list allocates nothing. If an allocation fails, the
-/// edits before it stay made, and the error has their number: 0 if the answers could not be
-/// allocated. An edit that fails leaves the bytes as they were. One whose extension holds a `/`
-/// does not fail: it is answered `Separator`, leaves the bytes as they were, and the next one is
-/// made. Not in Rust's std; each edit is the method of its name of Rust's `PathBuf`.
+/// Allocates once for all answers, before the first edit; then each edit allocates as the method of
+/// `PathBuf` of its name does. An empty list allocates nothing. If an allocation fails, the path
+/// keeps what the edits before it left, and the error has their number: 0 if the answers could not
+/// be allocated. An edit whose extension holds a `/` does not fail: its answer is `Separator`, it
+/// leaves the bytes as they were, and the next edit is made. Not in Rust's std; each edit is the
+/// method of its name of Rust's `PathBuf`.
 ///
 /// For `foo/.` with the extension `bar`, a pop and a pop it leaves the empty path, and answers
 /// true, true and false.
@@ -142,9 +142,9 @@ pub fn apply(
 
 /// `base`, joined with what follows it in `path`; `None` if `path` doesn't start with `base`.
 ///
-/// The path that it gives is equal to `path`. Allocates once, the length of the answer in bytes, or
-/// not at all for `None` and for an empty answer; fails if the allocation fails. Not in Rust's std:
-/// there it is a `Path::strip_prefix` and a `Path::join`.
+/// The path that is returned is equal to `path`. Allocates once, the length of the answer in bytes,
+/// or not at all for `None` and for an empty answer; fails if the allocation fails. Not in Rust's
+/// std: there it is a `Path::strip_prefix` and a `Path::join`.
 ///
 /// For `/a//b/.` and `/a/` it is `/a/b`, and for `a` and `a` it is `a/`.
 #[tactic(auto, using(crate::proofs::StripLemmas::strip_then_join))]

@@ -22,7 +22,8 @@ pub enum Turn {
 
 /// What a walk took from each end of a path, and what it left between. Not in Rust's std.
 ///
-/// For `a/b/c` by front and back it has `a` in front, `b` as the rest, and `c` behind.
+/// For `a/b/c` by a turn in front and one behind it has `a` in front, `b` as the rest, and `c`
+/// behind.
 #[derive(Debug, Drop)]
 pub struct Walked<'a> {
     /// The parts taken in front, in the order of the path.
@@ -52,11 +53,11 @@ fn push_some<'a>(
 /// Each turn takes one part, or nothing if none is left. The parts in front, those of the rest, and
 /// those behind in reverse are the path's parts. The rest is a slice of the path. Allocates as the
 /// two lists of parts grow, or not at all if no part is taken; fails if an allocation fails, and
-/// the lists are dropped. Not in Rust's std; each turn is a `next` or `next_back` of Rust's
+/// then the lists are dropped. Not in Rust's std; each turn is a `next` or `next_back` of Rust's
 /// `Components`.
 ///
-/// For `/a/./b/../c` by front, back, front, back it takes `/` and `a` in front, leaves `b`, and
-/// takes `c` and `..` behind. With no turn it leaves `foo` of `foo/`.
+/// For `/a/./b/../c` and the turns front, back, front, back it takes `/` and `a` in front, leaves
+/// `b`, and takes `c` and `..` behind. With no turn it leaves `foo` of `foo/`.
 #[tactic(auto, using(crate::proofs::WalkLemmas::whole_walk))]
 pub fn walk<'a>(alloc: Global, path: Path<'a>, turns: &[Turn]) -> Result<Walked<'a>, AllocError>
     ensures front { let all = values path.entry.bytes.now in

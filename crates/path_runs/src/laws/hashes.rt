@@ -3,8 +3,8 @@ ghost use Rattle.path_runs.specs.HashLaws.{InputsTell, InputsBegin};
 
 /// Paths that feed a hasher the same bytes are equal.
 ///
-/// However the bytes are cut into writes. And what a path feeds begins what another feeds only
-/// where its values begin the other's. Calling it does nothing. Not in Rust's std.
+/// That holds however the bytes are cut into writes. What a path feeds begins what another path
+/// feeds only where its values begin the other's. Calling it does nothing. Not in Rust's std.
 ///
 /// `ab` and `a/b` feed different bytes, and so do `/a`, `./a` and `a`.
 pub fn hash_inputs_tell()

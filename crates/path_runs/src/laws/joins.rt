@@ -21,9 +21,9 @@ pub fn join_associative()
 
 /// A join has the values of the first path, and then those of the second.
 ///
-/// That holds if the first isn't empty and the second is rootless; its leading dot is lost. Behind
-/// a slash any bytes add their values without a leading root or dot. Calling it does nothing. Not
-/// in Rust's std.
+/// That holds if the first isn't empty and the second is rootless; a leading dot of the second is
+/// lost. Behind a slash any bytes add their values without a leading root or dot. Calling it does
+/// nothing. Not in Rust's std.
 ///
 /// `/a` joined with `./b` has the values of `/a` and then `b`, and so has `/a/` followed by `/b`.
 pub fn join_values()
@@ -33,8 +33,9 @@ pub fn join_values()
 
 /// A join with a rootless path starts with the path that it was joined to.
 ///
-/// That holds for the empty path too. Behind that path's values come those of the other, without a
-/// leading dot unless that path is empty. Calling it does nothing. Not in Rust's std.
+/// That holds for a join to the empty path too. Behind the first path's values come those of the
+/// second, without a leading dot unless the first is empty. Calling it does nothing. Not in Rust's
+/// std.
 ///
 /// `/srv` joined with `./a` is `/srv/./a`, which starts with `/srv`.
 pub fn join_starts_with()
@@ -46,7 +47,7 @@ pub fn join_starts_with()
 
 /// A path without its base, joined to that base, is equal to the path.
 ///
-/// The spelling may change, the values don't. Calling it does nothing. Not in Rust's std.
+/// The spelling may change; the values don't. Calling it does nothing. Not in Rust's std.
 ///
 /// `/a//b` stripped of `/a` is `b`, and `/a` joined with `b` has the values of `/a//b`.
 pub fn strip_then_join()

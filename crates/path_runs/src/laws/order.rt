@@ -10,7 +10,7 @@ ghost use Rattle.path_runs.specs.OrderLaws.{UnderIsInterval, BaseBeforeUnder};
 /// The order of lists of values is total, and only equal lists tie in it.
 ///
 /// So of two paths exactly one holds: they have the same values, the first is less, or the second
-/// is. And less is transitive. Calling it does nothing. Not in Rust's std.
+/// is. Being less is transitive. Calling it does nothing. Not in Rust's std.
 ///
 /// `a` is less than `a/b`, and `a/b` is less than `b`; so `a` is less than `b`.
 pub fn order_total()
@@ -40,8 +40,8 @@ pub fn under_is_interval()
 
 /// A list of values is not greater than those that it begins.
 ///
-/// So a base stands before all paths that start with it, but those that equal it. Calling it does
-/// nothing. Not in Rust's std.
+/// So a base stands before all paths that start with it, except those that equal it. Calling it
+/// does nothing. Not in Rust's std.
 ///
 /// `a/b` is less than `a/b/c`, which starts with it.
 pub fn base_before_under()

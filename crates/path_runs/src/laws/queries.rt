@@ -15,7 +15,7 @@ ghost use Rattle.path_runs.specs.QueryLaws.{ParentIsBefore, ParentJoinsName};
 ghost use Rattle.path_runs.specs.QueryLaws.{AncestorsEnd, AncestorsStep, AncestorsArePrefixes};
 ghost use Rattle.path_runs.specs.AlikeLaws.{SameOnEqual, SameOnEqualPairs, HoldsOnEqualPairs};
 
-/// A stem, a dot and the extension are the file name; without an extension the stem is all of it.
+/// A stem, a dot and the extension make up the file name; without an extension it is the stem.
 ///
 /// That holds for every name, and for the file name of every path that has a stem. Calling it does
 /// nothing. Not in Rust's std.
