@@ -9,6 +9,7 @@ use Rattle.unix_path.specs.Parents.{parent_of, depth_of, ancestors_of}
 use Rattle.unix_path.specs.Prefixes.{Begins, Ends, stripped_of}
 use Rattle.path_runs.proofs.CongruenceLemmas.{depths_same, rests_same}
 
+-- of equal paths both start with a base, or with one equal to it, or neither does
 pub prefixes_same : (s t base other : List ℕ) → SameValues s t → SameValues base other
     → Begins (values base) (values s) ↔ Begins (values other) (values t)
 prefixes_same s t base other e f = (
@@ -16,6 +17,7 @@ prefixes_same s t base other e f = (
   λ h. subst (λ v. Begins v (values s)) (sym f) (subst (Begins (values other)) (sym e) h),
 )
 
+-- of equal paths both end with a child, or with one equal to it, or neither does
 pub suffixes_same : (s t child other : List ℕ) → SameValues s t → SameValues child other
     → Ends (values child) (values s) ↔ Ends (values other) (values t)
 suffixes_same s t child other e f = (
@@ -23,6 +25,7 @@ suffixes_same s t child other e f = (
   λ h. subst (λ v. Ends v (values s)) (sym f) (subst (Ends (values other)) (sym e) h),
 )
 
+-- two paths are equal exactly if two others are that equal them
 pub equality_same : (s t u w : List ℕ) → SameValues s t → SameValues u w
     → SameValues s u ↔ SameValues t w
 equality_same s t u w e f = (λ h. sym e ∙ h ∙ f, λ h. e ∙ h ∙ sym f)
@@ -32,6 +35,7 @@ parents_by : (c : Bool) (q r : List ℕ) → SameValues q r
 parents_by true q r e = refl
 parents_by false q r e = ap Some e
 
+-- equal paths have equal parents, or none
 pub parents_same : (s t : List ℕ) → SameValues s t
     → option_map values (parent_of s) ≡ option_map values (parent_of t)
 unfolding parent_of
@@ -39,7 +43,7 @@ parents_same s t e =
     ap (λ n. option_map values (cond (eqb n 0) None (Some (rest s 0 1)))) (depths_same s t e)
     ∙ parents_by (eqb (depth_of t) 0) (rest s 0 1) (rest t 0 1) (rests_same s t 0 1 e)
 
--- the values of what is left before the last a parts, and of the n - 1 after it
+-- the values of n rests: before the last a parts, before the last a + 1, and so on
 rest_values : List ℕ → ℕ → ℕ → List (List Value)
 rest_values s a n = map values (map (λ m. rest s 0 m) (range_with_len a n))
 
@@ -49,6 +53,7 @@ rest_values_same s t a zero e = refl
 rest_values_same s t a (suc n) e =
     ap₂ (λ v vs. v ∷ vs) (rests_same s t 0 a e) (rest_values_same s t (a + 1) n e)
 
+-- equal paths have equal ancestors, one by one
 pub ancestors_same : (s t : List ℕ) → SameValues s t
     → map values (ancestors_of s) ≡ map values (ancestors_of t)
 unfolding ancestors_of rest_values
@@ -56,6 +61,7 @@ ancestors_same s t e =
     ap₂ (λ v vs. v ∷ vs) e
     (rest_values_same s t 1 (depth_of s) e ∙ ap (rest_values t 1) (depths_same s t e))
 
+-- equal paths without equal bases are equal
 pub stripped_of-same : (s t base other : List ℕ) → SameValues s t → SameValues base other
     → SameValues (stripped_of s base) (stripped_of t other)
 stripped_of-same s t base other e f =

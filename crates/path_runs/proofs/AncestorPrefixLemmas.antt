@@ -9,17 +9,20 @@ use Rattle.unix_path.specs.Prefixes.{Begins}
 use Rattle.unix_path.proofs.AncestorLemmas.{ancestors_by, ancestors_of-parent}
 use Rattle.unix_path.proofs.RestLemmas.{take-rest}
 
+-- a path without a parent is its only ancestor
 pub ancestors_of-alone : (s : List ℕ) → parent_of s ≡ None → ancestors_of s ≡ s ∷ []
 ancestors_of-alone s e = ancestors_of-parent s ∙ ap (λ o. s ∷ ancestors_by o) e
 
+-- a path's ancestors are the path and those of its parent
 pub ancestors_of-above : (s parent : List ℕ) → parent_of s ≡ Some parent
     → ancestors_of s ≡ s ∷ ancestors_of parent
 ancestors_of-above s parent e = ancestors_of-parent s ∙ ap (λ o. s ∷ ancestors_by o) e
 
--- s begins with `prefix`
+-- a path begins with `prefix`
 abbrev IsPrefixOf : List ℕ → List ℕ → Type 0
 IsPrefixOf s prefix = Begins prefix s
 
+-- a path begins with each rest before its last parts
 rest-prefix : (s : List ℕ) (m : ℕ) → IsPrefixOf s (rest s 0 m)
 rest-prefix s m =
     let n = length (rest s 0 m) in
@@ -34,6 +37,7 @@ ancestors-recursion : (s : List ℕ) → AllByRecursion (IsPrefixOf s) (ancestor
 unfolding ancestors_of
 ancestors-recursion s = (([], append-nil s), rests-prefixes s 1 (depth_of s))
 
+-- a path begins with each of its ancestors
 pub ancestors_of-prefixes : (s : List ℕ) → All (λ prefix. Begins prefix s) (ancestors_of s)
 ancestors_of-prefixes s =
     All-from_recursion (IsPrefixOf s) (ancestors_of s) (ancestors-recursion s)

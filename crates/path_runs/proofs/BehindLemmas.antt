@@ -14,12 +14,14 @@ use Rattle.unix_path.proofs.SpanLemmas.{length-rest_whole, rest-whole, span-part
 use Rattle.unix_path.proofs.StemLemmas.{length-rest_whole-le}
 use Rattle.unix_path.proofs.StepLemmas.{rest-last}
 use Rattle.unix_path.proofs.TrimLemmas.{leading_past_slash, parts-slash}
-use Rattle.path_runs.proofs.AssociativeLemmas.{sep}
+use Rattle.path_runs.proofs.AssociativeLemmas.{separator}
 use Rattle.path_runs.proofs.ValueLemmas.{ends_open, not_open}
 
+-- a part without its place
 abbrev value_of_part : Part → Value
 value_of_part p = p.value
 
+-- the parts on both sides of a slash, those behind it without a lead
 parts-past_slash : (f b : List ℕ)
     → parts (f ++ slash ∷ b) ≡ parts (f ++ slash ∷ []) ++ inner_parts (0 + length f + 1) b
 unfolding parts
@@ -44,14 +46,15 @@ parts-open (x ∷ u) b o =
           ∙ ap (λ u. parts u ++ inner_parts (0 + length cut.0 + 1) b) cut.1,
     )
 
-single : (ps : List Part) (v : Value) → map value_of_part ps ≡ v ∷ []
+-- parts with one value are one part
+single_part : (ps : List Part) (v : Value) → map value_of_part ps ≡ v ∷ []
     → (p : Part) × (ps ≡ p ∷ [])
-single [] v e = absurd (let no : [] ≡ v ∷ [] = e in cc)
-single (p ∷ []) v e = (p, refl)
-single (p ∷ q ∷ ps) v e =
+single_part [] v e = absurd (let no : [] ≡ v ∷ [] = e in cc)
+single_part (p ∷ []) v e = (p, refl)
+single_part (p ∷ q ∷ ps) v e =
     absurd (let no : p.value ∷ q.value ∷ map value_of_part ps ≡ v ∷ [] = e in cc)
 
--- where the values are those of an open path and one more, so are the parts
+-- where b adds one value behind an open path, it adds one part
 last_behind : (u b : List ℕ) (v : Value) → is_open u ≡ true
     → values (u ++ b) ≡ values u ++ v ∷ []
     → (p : Part) × (parts (u ++ b) ≡ parts u ++ p ∷ [])
@@ -59,7 +62,7 @@ unfolding values
 last_behind u b v o e =
     let behind = parts-open u b o in
     let more = behind.0 in
-    let one = single more v (append_cancel_left (map value_of_part (parts u))
+    let one = single_part more v (append_cancel_left (map value_of_part (parts u))
     (map value_of_part more) (v ∷ [])
     (sym (map-append value_of_part (parts u) more) ∙ ap (map value_of_part) (sym behind.1) ∙ e)) in
     (one.0, behind.1 ∙ ap (λ ps. parts u ++ ps) one.1)
@@ -72,21 +75,23 @@ take-parts_end : (u b : List ℕ) → take (parts_end (parts u)) (u ++ b) ≡ re
 take-parts_end u b =
     take-append-le (parts_end (parts u)) u b (parts_end-le u) ∙ sym (rest-whole u)
 
--- without its last part, a path with an open prefix is that prefix's rest
+-- an open prefix and one more part, without that part, leave what the prefix alone leaves
 pub rest-behind : (u b : List ℕ) (v : Value) → is_open u ≡ true
     → values (u ++ b) ≡ values u ++ v ∷ [] → rest (u ++ b) 0 1 ≡ rest u 0 0
 rest-behind u b v o e =
     let last = last_behind u b v o e in
     rest-last (u ++ b) (parts u) last.0 last.1 ∙ span-parts (u ++ b) u ∙ take-parts_end u b
 
-parts-sep : (r : List ℕ) → parts (r ++ sep r) ≡ parts r
-parts-sep r = by_test (is_open r) (λ o. rw o (ap parts (append-nil r)))
+-- the slash that a join puts behind a path adds no part
+parts-separator : (r : List ℕ) → parts (r ++ separator r) ≡ parts r
+parts-separator r = by_test (is_open r) (λ o. rw o (ap parts (append-nil r)))
     (λ o. rw o (parts-slash r (not_open r o)))
 
-pub values-sep : (r : List ℕ) → values (r ++ sep r) ≡ values r
+pub values-separator : (r : List ℕ) → values (r ++ separator r) ≡ values r
 unfolding values
-values-sep r = ap (map value_of_part) (parts-sep r)
+values-separator r = ap (map value_of_part) (parts-separator r)
 
-pub rest-sep : (r : List ℕ) → rest (r ++ sep r) 0 0 ≡ rest r 0 0
-rest-sep r = rest-whole (r ++ sep r)
-    ∙ ap (λ ps. take (parts_end ps) (r ++ sep r)) (parts-sep r) ∙ take-parts_end r (sep r)
+pub rest-separator : (r : List ℕ) → rest (r ++ separator r) 0 0 ≡ rest r 0 0
+rest-separator r = rest-whole (r ++ separator r)
+    ∙ ap (λ ps. take (parts_end ps) (r ++ separator r)) (parts-separator r)
+    ∙ take-parts_end r (separator r)

@@ -28,16 +28,19 @@ use Rattle.path_runs.proofs.LeadLemmas.{joins_same, roots_same}
 use Rattle.path_runs.proofs.NamedLemmas.{NamedCut, named_cut}
 use Rattle.path_runs.proofs.ValueLemmas.{append_values}
 
+-- equal paths have the same depth
 pub depths_same : (s t : List ℕ) → SameValues s t → depth_of s ≡ depth_of t
 depths_same s t e = ap₂ (λ n rooted. n - cond rooted 1 0) (ap length e) (roots_same s t e)
 
+-- equal paths have equal rests
 pub rests_same : (s t : List ℕ) (k m : ℕ) → SameValues s t → SameValues (rest s k m) (rest t k m)
 rests_same s t k m e = values-rest s k m ∙ ap (middle k m) e ∙ sym (values-rest t k m)
 
--- the two left paths are equal, and the answers are the same
+-- two edits leave equal paths and answer the same
 abbrev Alike : List ℕ × Answer → List ℕ × Answer → Type 0
 Alike p q = SameValues p.0 q.0 × (p.1 ≡ q.1)
 
+-- pops of s and t, whose parents are q and r, leave equal paths and answer the same
 abbrev PopsAlike : List ℕ → List ℕ → Option (List ℕ) → Option (List ℕ) → Type 0
 PopsAlike s t q r =
     SameValues (unwrap_or q s) (unwrap_or r t) × (Flag (is_some q) ≡ Flag (is_some r))
@@ -47,6 +50,7 @@ pops_by : (c : Bool) (s t q r : List ℕ) → SameValues s t → SameValues q r
 pops_by true s t q r e f = (e, refl)
 pops_by false s t q r e f = (f, refl)
 
+-- a pop of equal paths leaves equal paths and answers the same
 pop_same : (s t : List ℕ) → SameValues s t → Alike (edit_of s Pop) (edit_of t Pop)
 unfolding popped_of parent_of
 pop_same s t e =
@@ -59,23 +63,26 @@ before_by : (s t : List ℕ) (named : Bool) → SameValues s t
 before_by s t true e = rests_same s t 0 1 e
 before_by s t false e = e
 
+-- what stands before the file names of equal paths is equal
 before_same : (s t : List ℕ) → SameValues s t → SameValues (before_name_of s) (before_name_of t)
 unfolding before_name_of
 before_same s t e =
     ap (λ vs. values (cond (is_some (file_name_of vs)) (rest s 0 1) s)) e
     ∙ before_by s t (is_some (file_name_of (values t))) e
 
+-- equal paths with the same new file name are equal
 pub with_name_same : (s t n : List ℕ) → SameValues s t
     → SameValues (with_name_of s n) (with_name_of t n)
 with_name_same s t n e =
     joins_same (before_name_of s) (before_name_of t) n n (before_same s t e) refl
 
--- the edit f leaves a path without file name as it is, and otherwise turns its file name into n
+-- f leaves a path without a file name as it is, and puts n of the file name in its place in others
 record Renames (f : List ℕ → List ℕ) (n : List ℕ → List ℕ) : Type 0 where
   none : (s : List ℕ) → file_name_of (values s) ≡ None → f s ≡ s
   some : (s name : List ℕ) → file_name_of (values s) ≡ Some name → (c : NamedCut s name)
       → values (f s) ≡ append_values (values c.prefix) (n name)
 
+-- an edit that renames leaves equal paths equal
 renames_same : (f n : List ℕ → List ℕ) → Renames f n → (s t : List ℕ) (o : Option (List ℕ))
     → file_name_of (values s) ≡ o → file_name_of (values t) ≡ o → SameValues s t
     → SameValues (f s) (f t)
@@ -89,6 +96,7 @@ renames_same f n r s t (Some name) a b e =
     ∙ ap (λ vs. append_values vs (n name)) prefixes.0
     ∙ sym (r.some t name b d)
 
+-- equal paths with the same extension set are equal
 pub with_extension_same : (s t x : List ℕ) → SameValues s t
     → SameValues (with_extension_of s x) (with_extension_of t x)
 with_extension_same s t x e =
@@ -98,6 +106,7 @@ with_extension_same s t x e =
       some = λ s name some c. values-with_extension_of s name x some c;
     }) s t (file_name_of (values t)) (ap file_name_of e) refl e
 
+-- equal paths with the same extension added are equal
 pub added_extension_same : (s t x : List ℕ) → SameValues s t
     → SameValues (added_extension_of s x) (added_extension_of t x)
 added_extension_same s t x e = by_test (eqb (length x) 0)
@@ -119,6 +128,7 @@ unless_slash_same s t x u v e f = by_test (has_slash x)
     (λ y. rw y (e, refl))
     (λ n. rw n (f, ap (λ vs. Flag (is_some (file_name_of vs))) e))
 
+-- one edit of equal paths leaves equal paths and answers the same
 one_same : (s t : List ℕ) (e : EditValue) → SameValues s t → Alike (edit_of s e) (edit_of t e)
 one_same s t (Push b) k = (joins_same s t b b k refl, refl)
 one_same s t Pop k = pop_same s t k
@@ -131,11 +141,13 @@ one_same s t (AddExtension x) k =
     (added_extension_same s t x k)
 one_same s t Clear k = (refl, refl)
 
+-- the same edit but for pushed paths, which are equal, leaves equal paths and answers the same
 edit_same : (s t : List ℕ) (d e : EditValue) → SameValues s t → SameEdit d e
     → Alike (edit_of s d) (edit_of t e)
 edit_same s t (Push b) (Push c) k h = (joins_same s t b c k h, refl)
 edit_same s t d e k h = subst (λ e. Alike (edit_of s d) (edit_of t e)) h (one_same s t d k)
 
+-- the same edits of equal paths leave equal paths and answer the same
 pub edits_same : (s t : List ℕ) (ds es : List EditValue) → SameValues s t → AllZip SameEdit ds es
     → SameValues (edits_of s ds).0 (edits_of t es).0 × ((edits_of s ds).1 ≡ (edits_of t es).1)
 edits_same s t [] [] k h = (k, refl)

@@ -12,6 +12,7 @@ use Rattle.unix_path.proofs.CaseLemmas.{by_test}
 use Rattle.unix_path.proofs.NameLemmas.{is_dot, past_last-is, split_name-whole, split_name-cut}
 use Rattle.path_runs.specs.EditLaws.{HasNone}
 
+-- where no byte is b, the byte at k isn't
 none_at : (s : List ℕ) (b k : ℕ) → HasNone b s → k < length s → eqb (get_or s k 0) b ≡ false
 none_at s b k h l =
     by_test (eqb (get_or s k 0) b) (λ e. absurd (h k 0 l (eqb-true _ _ e))) (λ e. e)
@@ -20,6 +21,7 @@ past_last-none : (s : List ℕ) → HasNone 46 s → 0 ≡ past_last is_dot s
 past_last-none s h = past_last-is is_dot s 0 (omega arith)
     (λ k a b. ap not (none_at s 46 k h b)) (λ l. absurd (omega arith))
 
+-- the last dot is the one behind which no dot stands
 past_last-dot : (f x : List ℕ) → HasNone 46 x → length f + 1 ≡ past_last is_dot (f ++ 46 ∷ x)
 past_last-dot f x h =
     let s = f ++ 46 ∷ x in
@@ -37,7 +39,7 @@ past_last-dot f x h =
         (omega arith))
         ∙ ap not (none_at x 46 (k - (length f + 1)) h (omega arith))
 
--- where the last dot stands
+-- a string has no dot, or is cut at its last dot into f and x
 data LastDot (s : List ℕ) : Type 0 where
   NoDot : HasNone 46 s → LastDot s
   AtDot : (f x : List ℕ) → s ≡ f ++ 46 ∷ x → HasNone 46 x → LastDot s
@@ -52,6 +54,7 @@ last_dot : (s : List ℕ) → LastDot s
 last_dot [] = NoDot (All-nil (λ c. c ≢ 46))
 last_dot (b ∷ s) = last_dot-cons b s (last_dot s)
 
+-- a name is cut at its last dot where a byte stands before that
 pub split_name-dot : (f x : List ℕ) → 0 < length f → HasNone 46 x
     → split_name (f ++ 46 ∷ x) ≡ (f, Some x)
 split_name-dot f x l h =

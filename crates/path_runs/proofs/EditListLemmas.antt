@@ -11,11 +11,13 @@ use Rattle.path_runs.specs.EditViews.{edit_value}
 abbrev left_of : List ℕ → List EditValue → List ℕ
 left_of s es = (edits_of s es).0
 
+-- one edit more is made on what the edits before it leave
 left_of-append : (s : List ℕ) (es : List EditValue) (e : EditValue)
     → left_of s (es ++ e ∷ []) ≡ (edit_of (left_of s es) e).0
 left_of-append s [] e = refl
 left_of-append s (d ∷ es) e = left_of-append (edit_of s d).0 es e
 
+-- one edit more has its answer behind those of the edits before it
 answers-append : (s : List ℕ) (es : List EditValue) (e : EditValue)
     → (edits_of s (es ++ e ∷ [])).1 ≡ (edits_of s es).1 ++ (edit_of (left_of s es) e).1 ∷ []
 answers-append s [] e = refl
@@ -28,7 +30,7 @@ pub record HasApplied (s : List ℕ) (edits : List Edit) (i : ℕ) (bytes : List
   pub bytes_are : bytes ≡ (edits_of s (map edit_value (take i edits))).0
   pub answers_are : answers ≡ (edits_of s (map edit_value (take i edits))).1
 
--- and one edit more
+-- where edit i leaves u of t and answers a, the first i + 1 edits leave u and answer a too
 pub HasApplied-more : (s : List ℕ) (es : List Edit) (i : ℕ) (d : Edit) (t u : List ℕ)
     (answers : List Answer) (a : Answer) → HasApplied s es i t answers → i < length es
     → u ≡ (edit_of t (edit_value (get_or es i d))).0

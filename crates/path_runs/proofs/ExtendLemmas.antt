@@ -1,12 +1,13 @@
 -- Rootless paths that are joined to a path, all of them or up to one.
-use Rattle.std.proofs.Common.{◌≡◌, ℕ, zero, suc, ◌≤◌, ◌<◌, false, List, [], ◌∷◌, ◌++◌, length, take}
+use Rattle.std.proofs.Common.{◌≡◌, ℕ, suc, ◌≤◌, ◌<◌, false, List, [], ◌∷◌, ◌++◌, length, take}
 use Rattle.std.proofs.Common.{drop, map, Option, slice_get, Some, refl, sym, ap, subst, ◌∙◌, arith}
 use Rattle.std.proofs.Common.{map-id, length-append}
 use Rattle.std.specs.List.{AllByRecursion}
 use Rattle.std.proofs.lemmas.Iterator.{YieldsList}
 use Rattle.std.proofs.lemmas.Iterator.Consumers.{YieldsList-so_far, nth_from_yields_List}
 use Rattle.std.proofs.lemmas.List.{map-append}
-use Rattle.std.proofs.lemmas.Option.{same_Some, none-some}
+use Rattle.std.proofs.lemmas.Option.{get_or_from_slice_get, slice_get_within}
+use Rattle.std.proofs.Math.Seq.{split_at}
 use Rattle.unix_path.specs.Buffers.{texts, JoinsBeginning}
 use Rattle.unix_path.specs.Joins.{is_open, join_of, join_all_of}
 use Rattle.unix_path.specs.Parts.{is_rooted}
@@ -18,6 +19,7 @@ use Rattle.unix_path.proofs.JoinLemmas.{join_of_open, join_of_closed}
 abbrev pub AllRootless : List (List ℕ) → Type 0
 AllRootless bs = AllByRecursion (λ b. is_rooted b ≡ false) bs
 
+-- a join with a rootless path is no shorter than the first path
 length-join_of : (a b : List ℕ) → is_rooted b ≡ false → length a ≤ length (join_of a b)
 length-join_of a b r = by_test (is_open a)
     (λ o. omega (arith, ap length (join_of_open a b r o), length-append a b))
@@ -34,7 +36,7 @@ length-join_all_of a [] h = omega arith
 length-join_all_of a (b ∷ bs) h =
     omega (arith, length-join_of a b h.0, length-join_all_of (join_of a b) bs h.1)
 
-join_all_of-append : (a : List ℕ) (bs cs : List (List ℕ))
+pub join_all_of-append : (a : List ℕ) (bs cs : List (List ℕ))
     → join_all_of a (bs ++ cs) ≡ join_all_of (join_all_of a bs) cs
 join_all_of-append a [] cs = refl
 join_all_of-append a (b ∷ bs) cs = join_all_of-append (join_of a b) bs cs
@@ -43,11 +45,11 @@ AllRootless-end : (bs cs : List (List ℕ)) → AllRootless (bs ++ cs) → AllRo
 AllRootless-end [] cs h = h
 AllRootless-end (b ∷ bs) cs h = AllRootless-end bs cs h.1
 
-split_at : {X : Type 0} (xs : List X) (n : ℕ) (y : X) → slice_get xs n ≡ Some y
+-- a list is what stands before one of its items, that item, and what stands behind it
+slice_get-split : {X : Type 0} (xs : List X) (n : ℕ) (y : X) → slice_get xs n ≡ Some y
     → xs ≡ take n xs ++ y ∷ drop (suc n) xs
-split_at [] n y e = absurd (none-some y e)
-split_at (x ∷ xs) zero y e = ap (λ y. y ∷ xs) (same_Some x y e)
-split_at (x ∷ xs) (suc n) y e = ap (λ l. x ∷ l) (split_at xs n y e)
+slice_get-split xs n y e = split_at xs n y (slice_get_within xs n y e)
+    ∙ ap (λ z. take n xs ++ z ∷ drop (suc n) xs) (get_or_from_slice_get xs n y y e)
 
 -- the join up to one path is no longer than the join with all
 length-join_of_next : (old : List ℕ) (all xs : List Path) (x : Path)
@@ -57,7 +59,7 @@ length-join_of_next : (old : List ℕ) (all xs : List Path) (x : Path)
     ≤ length (join_all_of old (texts all))
 length-join_of_next old all xs x prefix at h =
     let rest = drop (suc (length xs)) all in
-    let whole : all ≡ xs ++ x ∷ rest = split_at all (length xs) x (sym at)
+    let whole : all ≡ xs ++ x ∷ rest = slice_get-split all (length xs) x (sym at)
     ∙ ap (λ ys. ys ++ x ∷ rest) (sym prefix ∙ map-id xs) in
     let parts : texts all ≡ texts xs ++ texts (x ∷ rest) = ap texts whole
     ∙ map-append (λ x. x.bytes.now) xs (x ∷ rest) in

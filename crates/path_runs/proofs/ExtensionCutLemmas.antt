@@ -16,6 +16,7 @@ use Rattle.path_runs.proofs.DotLemmas.{stem_prefix}
 use Rattle.path_runs.proofs.NamedLemmas.{NamedCut}
 use Rattle.path_runs.proofs.ValueLemmas.{append_values, values-append_open}
 
+-- what stands up to the stem's end is the prefix and the stem
 take-stem_end : (s name : List ℕ) (c : NamedCut s name)
     → take (last_start_of (parts s) + length (split_name name).0) s
     ≡ c.prefix ++ (split_name name).0
@@ -32,7 +33,7 @@ take-stem_end s name c =
     regroup : (f a b c : List ℕ) → (f ++ (a ++ b)) ++ c ≡ (f ++ a) ++ (b ++ c)
     regroup f a b c = simp append_assoc
 
--- the bytes with an extension set
+-- with an extension set a path is the prefix, the stem, the dot if there is one, and the extension
 pub with_extension_of-cut : (s name x : List ℕ) → file_name_of (values s) ≡ Some name
     → (c : NamedCut s name)
     → with_extension_of s x ≡ c.prefix ++ ((split_name name).0 ++ (dot_before x ++ x))
@@ -45,6 +46,7 @@ with_extension_of-cut s name x e c =
     regroup : (f a b c : List ℕ) → ((f ++ a) ++ b) ++ c ≡ f ++ (a ++ (b ++ c))
     regroup f a b c = simp append_assoc
 
+-- with an extension set a path has the prefix's values, and what the new name adds
 pub values-with_extension_of : (s name x : List ℕ) → file_name_of (values s) ≡ Some name
     → (c : NamedCut s name)
     → values (with_extension_of s x)
@@ -53,11 +55,13 @@ values-with_extension_of s name x e c =
     ap values (with_extension_of-cut s name x e c)
     ∙ values-append_open c.prefix ((split_name name).0 ++ (dot_before x ++ x)) c.ends
 
+-- setting an extension leaves a path without a file name as it is
 pub with_extension_of-none : (s x : List ℕ) → file_name_of (values s) ≡ None
     → with_extension_of s x ≡ s
 unfolding with_extension_of stem_end_of
 with_extension_of-none s x e = ap (λ o. with_extension_at s x (stem_end_by s o)) e
 
+-- what stands up to the file name's end is the prefix and the name
 take-name_end : (s name : List ℕ) (c : NamedCut s name)
     → take (last_start_of (parts s) + length name) s ≡ c.prefix ++ name
 take-name_end s name c =
@@ -66,7 +70,7 @@ take-name_end s name c =
     length-append c.prefix name ∙ ap (λ z. z + length name) (sym c.start) in
     ap (take n) c.whole ∙ take_at (c.prefix ++ name) c.back n size
 
--- the bytes with an extension added
+-- with an extension added a path is the prefix, the name, a dot and the extension
 pub added_extension_of-cut : (s name x : List ℕ) → eqb (length x) 0 ≡ false
     → file_name_of (values s) ≡ Some name → (c : NamedCut s name)
     → added_extension_of s x ≡ c.prefix ++ (name ++ 46 ∷ x)
@@ -80,6 +84,7 @@ added_extension_of-cut s name x some e c =
     regroup : (f a b : List ℕ) → ((f ++ a) ++ 46 ∷ []) ++ b ≡ f ++ (a ++ 46 ∷ b)
     regroup f a b = append_assoc (f ++ a) (46 ∷ []) b ∙ append_assoc f a (46 ∷ b)
 
+-- with an extension added a path has the prefix's values, and what the new name adds
 pub values-added_extension_of : (s name x : List ℕ) → eqb (length x) 0 ≡ false
     → file_name_of (values s) ≡ Some name → (c : NamedCut s name)
     → values (added_extension_of s x) ≡ append_values (values c.prefix) (name ++ 46 ∷ x)

@@ -28,6 +28,7 @@ use Rattle.path_runs.proofs.PieceNameLemmas.{long-name, values-name}
 use Rattle.path_runs.proofs.SiblingLemmas.{parent_of-name, file_name_of-name}
 use Rattle.path_runs.proofs.ValueLemmas.{append_values, values-append_open}
 
+-- the stem of a name has a byte
 some_stem : (name : List ℕ) → 0 < length name → 0 < length (split_name name).0
 some_stem name l = by (split_case name)
   where
@@ -35,13 +36,14 @@ some_stem name l = by (split_case name)
     by (Whole e) = subst (λ c. 0 < length c.0) (sym e) l
     by (Cut b f x w e) = subst (λ c. 0 < length c.0) (sym e) (omega arith)
 
--- the new name, and what stands before it
+-- t has a new file name, of this stem and the extension x, and the parent of s
 record NewExtension (s t stem x : List ℕ) : Type 0 where
   pub name : List ℕ
   pub file_name : file_name_of (values t) ≡ Some name
   pub split : split_name name ≡ (stem, Some x)
   pub parent : parent_of t ≡ parent_of s
 
+-- the stem of a piece is a piece
 stem_piece : (name : List ℕ) → IsPiece name → IsPiece (split_name name).0
 stem_piece name h =
     let stem = stem_prefix name in
@@ -57,6 +59,7 @@ new_name name b x h k =
     (piece-append stem (46 ∷ b ∷ x) (stem_piece name h.no_slash)
     (piece-append (46 ∷ []) (b ∷ x) refl (piece-none (b ∷ x) k)))
 
+-- a name adds itself behind any values
 values-open_name : (u name : List ℕ) → values name ≡ Normal name ∷ []
     → append_values (values u) name ≡ values u ++ Normal name ∷ []
 values-open_name u name e = by (values u)
@@ -74,10 +77,11 @@ parent_of-open s u b name is o e =
     ∙ ap Some (ap (λ s. rest s 0 1) is
     ∙ rest-behind u b (Normal name) o (ap values (sym is) ∙ e))
 
-set_from : (s name : List ℕ) (b : ℕ) (x : List ℕ) → file_name_of (values s) ≡ Some name
+-- a path, cut at its file name, has the new extension after it was set
+new_extension-cut : (s name : List ℕ) (b : ℕ) (x : List ℕ) → file_name_of (values s) ≡ Some name
     → NamedCut s name → HasNone 46 (b ∷ x) → HasNone 47 (b ∷ x)
     → NewExtension s (with_extension_of s (b ∷ x)) (split_name name).0 (b ∷ x)
-set_from s name b x e c dot slash =
+new_extension-cut s name b x e c dot slash =
     let stem = (split_name name).0 in
     let new = stem ++ 46 ∷ b ∷ x in
     let t = with_extension_of s (b ∷ x) in
@@ -95,12 +99,15 @@ set_from s name b x e c dot slash =
           (c.whole ∙ append_assoc c.prefix name c.back) c.ends c.before);
     }
 
+-- a path with a file name has the new extension after it was set
 set_extension : (s name x : List ℕ) → file_name_of (values s) ≡ Some name
     → IsPlainExtension x
     → NewExtension s (with_extension_of s x) (split_name name).0 x
 set_extension s name [] e h = absurd (h.some refl)
-set_extension s name (b ∷ x) e h = set_from s name b x e (named_cut s name e) h.no_dot h.no_slash
+set_extension s name (b ∷ x) e h =
+    new_extension-cut s name b x e (named_cut s name e) h.no_dot h.no_slash
 
+-- where setting an extension answers true, there is a file name
 some_name : (s : List ℕ) → Flag (is_some (file_name_of (values s))) ≡ Flag true
     → (name : List ℕ) × (file_name_of (values s) ≡ Some name)
 some_name s e = by (file_name_of (values s)) refl e
@@ -110,22 +117,22 @@ some_name s e = by (file_name_of (values s)) refl e
     by None is e = absurd (cc)
     by (Some name) is e = (name, is)
 
--- an extension that was set holds no slash
-set_without_slash : (s x t : List ℕ) → edit_of s (SetExtension x) ≡ (t, Flag true)
+-- where setting an extension answers true, it has no slash, and the edit is `with_extension_of`
+edit_of-set_extension : (s x t : List ℕ) → edit_of s (SetExtension x) ≡ (t, Flag true)
     → (with_extension_of s x ≡ t) × (Flag (is_some (file_name_of (values s))) ≡ Flag true)
-set_without_slash s x t e =
+edit_of-set_extension s x t e =
     let left : (unless_slash s x (with_extension_of s x)).0 ≡ t = ap (λ p. p.0) e in
     let said : (unless_slash s x (with_extension_of s x)).1 ≡ Flag true = ap (λ p. p.1) e in
     by_test (has_slash x)
     (λ y. absurd (let no : Separator ≡ Flag true = rw y at said in cc))
     (λ n. (rw n at left, rw n at said))
 
--- the new file name of a path that takes an extension
+-- a path that takes an extension has a file name, and then a new one with that extension
 new_extension : (s x t : List ℕ) → TakesExtension s x t
     → (name : List ℕ) × (file_name_of (values s) ≡ Some name)
     × NewExtension s t (split_name name).0 x
 new_extension s x t h =
-    let is = set_without_slash s x t h.1 in
+    let is = edit_of-set_extension s x t h.1 in
     let name = some_name s is.1 in (
       name.0,
       name.1,
@@ -133,6 +140,7 @@ new_extension s x t h =
           (set_extension s name.0 x name.1 h.0),
     )
 
+-- a path that takes an extension keeps its stem
 pub stem_of-new_extension : (s x t : List ℕ) → TakesExtension s x t
     → stem_of (values t) ≡ stem_of (values s)
 stem_of-new_extension s x t h =
@@ -140,11 +148,13 @@ stem_of-new_extension s x t h =
     ap (option_map (λ name. (split_name name).0)) new.2.file_name ∙ ap (λ c. Some c.0) new.2.split
     ∙ sym (ap (option_map (λ name. (split_name name).0)) new.1)
 
+-- a path that takes an extension has it
 pub extension_of-new_extension : (s x t : List ℕ) → TakesExtension s x t
     → extension_of (values t) ≡ Some x
 extension_of-new_extension s x t h =
     let new = new_extension s x t h in
     ap (option_and_then (λ name. (split_name name).1)) new.2.file_name ∙ ap (λ c. c.1) new.2.split
 
+-- a path that takes an extension keeps its parent
 pub parent_of-new_extension : (s x t : List ℕ) → TakesExtension s x t → parent_of t ≡ parent_of s
 parent_of-new_extension s x t h = (new_extension s x t h).2.parent

@@ -2,13 +2,14 @@
 use Rattle.std.proofs.Common.{◌≡◌, ℕ, suc, zero, ◌+◌, ◌-◌, ◌*◌, ◌/◌, List, [], ◌∷◌, ◌++◌, length}
 use Rattle.std.proofs.Common.{take, drop, refl, sym, ap, ◌∙◌, arith, length-append, append_assoc}
 use Rattle.std.proofs.lemmas.List.{append_cancel_left}
+use Rattle.std.proofs.lemmas.List.Folds.{concat-append}
 use Rattle.std.proofs.Math.Seq.{take-add, take-append-add}
-use Rattle.std.specs.Hash.{HashWrites}
 use Rattle.std.specs.List.{concat, repeat}
 use Rattle.std.specs.Simd.{first_chunks}
 use Rattle.unix_path.specs.Hashed.{end_mark, in_eights, value_input, hash_input_of}
 use Rattle.unix_path.specs.Parts.{slash, Value, value_bytes}
 
+-- the first k eights are the first 8 * k
 concat-first_chunks : (k : ℕ) (xs : List ℕ) → concat (first_chunks 8 k xs) ≡ take (8 * k) xs
 concat-first_chunks zero xs = refl
 concat-first_chunks (suc k) xs =
@@ -19,6 +20,7 @@ concat-first_chunks (suc k) xs =
 zeros_behind : ℕ → List ℕ
 zeros_behind n = take (8 * ((n + 8) / 8) - (n + 1)) (repeat 7 (0 ∷ []))
 
+-- the whole eights of bytes with an end mark are the bytes, a slash and zeros
 concat-in_eights : (b : List ℕ)
     → concat (in_eights (b ++ end_mark)) ≡ b ++ slash ∷ zeros_behind (length b)
 unfolding in_eights zeros_behind
@@ -30,11 +32,6 @@ concat-in_eights b =
     ∙ ap (λ k. take k (b ++ end_mark)) count
     ∙ take-append-add b end_mark (suc (8 * ((n + 8) / 8) - (n + 1)))
 
-concat-append : (us vs : HashWrites) → concat (us ++ vs) ≡ concat us ++ concat vs
-concat-append [] vs = refl
-concat-append (u ∷ us) vs =
-    ap (λ ys. u ++ ys) (concat-append us vs) ∙ sym (append_assoc u (concat us) (concat vs))
-
 -- the zeros behind a value's bytes and a slash, and then others
 pub zeros_and : Value → List ℕ → List ℕ
 zeros_and v x = zeros_behind (length (value_bytes v)) ++ x
@@ -43,7 +40,7 @@ pub zeros_and-cancel : (v : Value) (x y : List ℕ) → zeros_and v x ≡ zeros_
 unfolding zeros_and
 zeros_and-cancel v x y e = append_cancel_left (zeros_behind (length (value_bytes v))) x y e
 
--- the bytes of the first value, a slash, zeros, and then what the others feed
+-- values feed the bytes of the first, a slash, zeros, and then what the others feed
 pub concat-hash_input_of : (v : Value) (vs : List Value) (x : List ℕ)
     → concat (hash_input_of (v ∷ vs)) ++ x
     ≡ value_bytes v ++ slash ∷ zeros_and v (concat (hash_input_of vs) ++ x)

@@ -11,6 +11,7 @@ use Rattle.path_runs.proofs.LeanLemmas.{spelling_of-shortest}
 abbrev pub byte_count : List Value → ℕ
 byte_count vs = sum_by (λ v. length (value_bytes v)) vs
 
+-- values have no more bytes than their row
 byte_count-row_of : (vs : List Value) → byte_count vs ≤ length (row_of vs)
 byte_count-row_of [] = omega arith
 byte_count-row_of (v ∷ []) = omega (arith, sum_by-cons (λ v. length (value_bytes v)) v [])
@@ -21,6 +22,7 @@ byte_count-row_of (v ∷ w ∷ vs) = omega (
   byte_count-row_of (w ∷ vs),
 )
 
+-- values have no more bytes than their spelling
 byte_count-spelling_of : (vs : List Value) → byte_count vs ≤ length (spelling_of vs)
 unfolding spelling_of
 byte_count-spelling_of [] = omega arith
@@ -31,6 +33,7 @@ byte_count-spelling_of (RootDir ∷ vs) = omega (
 )
 byte_count-spelling_of (v ∷ vs) = byte_count-row_of (v ∷ vs)
 
+-- a path's values have no more bytes than the path
 pub byte_count-values : (s : List ℕ) → byte_count (values s) ≤ length s
 byte_count-values s =
     let spelled = byte_count-spelling_of (values s) in
@@ -46,5 +49,6 @@ sum_by-map (v ∷ vs) = omega (
   sum_by-map vs,
 )
 
+-- the names of a path's parts have no more bytes than the path
 pub sum_by-names : (s : List ℕ) → sum_by length (map value_bytes (values s)) ≤ length s
 sum_by-names s = omega (arith, sum_by-map (values s), byte_count-values s)

@@ -1,4 +1,4 @@
--- Value lists that begin alike stand side by side in the order, and what begins them before them.
+-- Value lists that begin alike stand side by side in the order, and what begins them stands before.
 use Rattle.std.proofs.Common.{◌≡◌, true, true≢false, List, [], ◌∷◌, ◌++◌, refl, sym, ap, ap₂}
 use Rattle.std.proofs.Common.{◌∙◌, Ordering, Less, Equal, Greater}
 use Rattle.std.specs.Ordering.{is_le, ordering_then, ordering_reverse}
@@ -8,43 +8,48 @@ use Rattle.unix_path.specs.Parts.{Value}
 use Rattle.unix_path.specs.Order.{value_cmp, values_cmp}
 use Rattle.unix_path.specs.OrderLaws.{value_cmp-total, value_cmp-equal}
 
--- where the first values don't tie, one of the two lists is on the wrong side
-step : (a b : Value) (base v : List Value) (o p q r : Ordering)
+-- between two lists that begin with a value stand only lists that begin with it
+begins_between-cons : (a b : Value) (base v : List Value) (o p q r : Ordering)
     → value_cmp a b ≡ o → p ≡ ordering_reverse o
     → is_le (ordering_then o q) ≡ true → is_le (ordering_then p r) ≡ true
     → (is_le q ≡ true → is_le r ≡ true → Begins base v) → Begins (a ∷ base) (b ∷ v)
-step a b base v Less p q r is back after before behind =
+begins_between-cons a b base v Less p q r is back after before behind =
     absurd (true≢false (sym before ∙ ap (λ o. is_le (ordering_then o r)) back))
-step a b base v Equal p q r is back after before behind =
+begins_between-cons a b base v Equal p q r is back after before behind =
     let tail = behind after (sym (ap (λ o. is_le (ordering_then o r)) back) ∙ before) in
     (tail.0, ap₂ (λ c t. c ∷ t) (value_cmp-equal a b is) tail.1)
-step a b base v Greater p q r is back after before behind = absurd (true≢false (sym after))
+begins_between-cons a b base v Greater p q r is back after before behind =
+    absurd (true≢false (sym after))
 
-between : (base v x y : List Value)
+-- what lies between base with x and base with y behind it begins with base
+begins_between-append : (base v x y : List Value)
     → is_le (values_cmp (base ++ x) v) ≡ true → is_le (values_cmp v (base ++ y)) ≡ true
     → Begins base v
-between [] v x y after before = (v, refl)
-between (a ∷ base) [] x y after before = absurd (true≢false (sym after))
-between (a ∷ base) (b ∷ v) x y after before =
-    step a b base v (value_cmp a b) (value_cmp b a)
+begins_between-append [] v x y after before = (v, refl)
+begins_between-append (a ∷ base) [] x y after before = absurd (true≢false (sym after))
+begins_between-append (a ∷ base) (b ∷ v) x y after before =
+    begins_between-cons a b base v (value_cmp a b) (value_cmp b a)
     (values_cmp (base ++ x) v) (values_cmp v (base ++ y))
-    refl (value_cmp-total.antisymm b a) after before (between base v x y)
+    refl (value_cmp-total.antisymm b a) after before (begins_between-append base v x y)
 
+-- what lies between two lists that begin with base begins with base
 pub begins_between : (base u v w : List Value) → Begins base u → Begins base w
     → is_le (values_cmp u v) ≡ true → is_le (values_cmp v w) ≡ true → Begins base v
 begins_between base u v w first last after before =
-    between base v first.0 last.0
+    begins_between-append base v first.0 last.0
     (ap (λ t. is_le (values_cmp t v)) first.1 ∙ after)
     (ap (λ t. is_le (values_cmp v t)) last.1 ∙ before)
 
-not_less : (base more : List Value) → is_le (values_cmp base (base ++ more)) ≡ true
-not_less [] [] = refl
-not_less [] (v ∷ more) = refl
-not_less (v ∷ base) more =
+-- a list isn't greater than itself with more behind it
+is_le-append : (base more : List Value) → is_le (values_cmp base (base ++ more)) ≡ true
+is_le-append [] [] = refl
+is_le-append [] (v ∷ more) = refl
+is_le-append (v ∷ base) more =
     ap (λ o. is_le (ordering_then o (values_cmp base (base ++ more))))
     (tied_itself value_cmp-total v)
-    ∙ not_less base more
+    ∙ is_le-append base more
 
-pub begun_not_less : (base v : List Value) → Begins base v → is_le (values_cmp base v) ≡ true
-begun_not_less base v begins =
-    sym (ap (λ t. is_le (values_cmp base t)) begins.1) ∙ not_less base begins.0
+-- a list isn't greater than one that it begins
+pub base_not_greater : (base v : List Value) → Begins base v → is_le (values_cmp base v) ≡ true
+base_not_greater base v begins =
+    sym (ap (λ t. is_le (values_cmp base t)) begins.1) ∙ is_le-append base begins.0

@@ -10,6 +10,7 @@ use Rattle.path_runs.proofs.SpellLemmas.{spelling_of-root}
 use Rattle.path_runs.proofs.PlainLemmas.{IsPlain, IsPlainValue, Shape, Rooted, Rootless}
 use Rattle.path_runs.proofs.PlainLemmas.{values-shape}
 
+-- what stands before a row stands before its first piece
 row_onto : (x b : List ℕ) (bs : List (List ℕ))
     → join_with_byte slash ((x ++ b) ∷ bs) ≡ x ++ join_with_byte slash (b ∷ bs)
 row_onto x b [] = refl
@@ -22,9 +23,11 @@ is_open-append_closed (x ∷ []) [] e = absurd (let d : true ≡ false = e in cc
 is_open-append_closed (x ∷ []) (y ∷ b) e = e
 is_open-append_closed (x ∷ y ∷ a) b e = is_open-append_closed (y ∷ a) b e
 
+-- all these are plain
 abbrev AllPlain : List (List ℕ) → Type 0
 AllPlain bs = AllByRecursion IsPlain bs
 
+-- plain paths, joined to a path that isn't open, are a row behind it
 join_all_of-closed : (a : List ℕ) (bs : List (List ℕ)) → is_open a ≡ false → AllPlain bs
     → join_all_of a bs ≡ join_with_byte slash (a ∷ bs)
 join_all_of-closed a [] o h = refl
@@ -39,6 +42,7 @@ join_all_of-plain [] h = refl
 join_all_of-plain (b ∷ bs) h = ap (λ c. join_all_of c bs) (join_of_open [] b h.0.rootless refl)
     ∙ join_all_of-closed b bs h.0.closed h.1
 
+-- plain paths, joined to the root, are a row behind it
 join_all_of-root : (bs : List (List ℕ)) → AllPlain bs
     → join_all_of [] ((slash ∷ []) ∷ bs) ≡ slash ∷ join_with_byte slash bs
 join_all_of-root [] h = join_of_rooted [] (slash ∷ []) refl
@@ -58,6 +62,7 @@ spelling_of-plain [] h = refl
 spelling_of-plain (RootDir ∷ vs) h = absurd (h.0.no_root refl)
 spelling_of-plain (v ∷ vs) h = refl
 
+-- the values' bytes, each joined to those before it, are the spelling
 pub join_all_of-values : (s : List ℕ)
     → join_all_of [] (map value_bytes (values s)) ≡ spelling_of (values s)
 join_all_of-values s = by (values-shape s)

@@ -25,6 +25,7 @@ IsInner CurDir = ⊥
 IsInner ParentDir = Unit {0}
 IsInner (Normal name) = Unit {0}
 
+-- the values of the pieces that count can each stand behind another
 inner_pieces : (at : ℕ) (ps : List (List ℕ))
     → AllByRecursion IsInner (map (λ p. p.value) (parts_of_pieces at ps))
 inner_pieces at [] = tt
@@ -46,6 +47,7 @@ pub record HasNoLead (vs : List Value) : Type 0 where
   pub no_dot : drop_dot vs ≡ vs
   pub no_root : root_first vs ≡ false
 
+-- of inner values neither the root nor a dot stands first
 pub inner-no_lead : (vs : List Value) → AllByRecursion IsInner vs → HasNoLead vs
 inner-no_lead [] h = record { no_lead = refl; no_dot = refl; no_root = refl }
 inner-no_lead (RootDir ∷ vs) h = absurd h.0
@@ -61,6 +63,7 @@ abbrev pub dot_first : List (List ℕ) → Bool
 dot_first [] = false
 dot_first (p ∷ ps) = bytes_eq p cur_dir
 
+-- the value that stands first: the root, or else a dot, or else none
 abbrev pub lead_by : Bool → Bool → List Value
 lead_by rooted dotted = cond rooted (RootDir ∷ []) (cond dotted (CurDir ∷ []) [])
 
@@ -72,6 +75,7 @@ leading_values s = by_test (is_rooted s) (λ e. rw e refl)
     (λ e. rw (e, slice_split-first s) (by_test (bytes_eq (first_piece s) cur_dir)
     (λ d. rw d refl) (λ d. rw d refl)))
 
+-- a path's values are its leading root or dot, and then its inner values
 pub values-lead : (s : List ℕ)
     → values s ≡ lead_by (is_rooted s) (dot_first (slice_split is_slash s)) ++ inner_values s
 values-lead s = values-leading s ∙ ap (λ vs. vs ++ inner_values s) (leading_values s)
@@ -82,6 +86,7 @@ drop_lead-lead_by true d vs h = refl
 drop_lead-lead_by false true vs h = refl
 drop_lead-lead_by false false vs h = h.no_lead
 
+-- without a leading root or dot a path's values are its inner values
 pub drop_lead-values : (s : List ℕ) → drop_lead (values s) ≡ inner_values s
 drop_lead-values s =
     ap drop_lead (values-lead s)
@@ -90,6 +95,7 @@ drop_lead-values s =
 same_tail : {x y : Value} {xs ys : List Value} → x ∷ xs ≡ y ∷ ys → xs ≡ ys
 same_tail e = cc
 
+-- behind the first of some values, which is a lead or an inner value, stand inner values
 inner_lead : (c d : Bool) (vs : List Value) (x : Value) (xs : List Value)
     → AllByRecursion IsInner vs → lead_by c d ++ vs ≡ x ∷ xs → AllByRecursion IsInner xs
 inner_lead true d vs x xs h e = subst (AllByRecursion IsInner) (same_tail e) h
@@ -109,6 +115,7 @@ drop_dot-lead_by : (d : Bool) (vs : List Value) → HasNoLead vs
 drop_dot-lead_by true vs h = refl
 drop_dot-lead_by false vs h = h.no_dot
 
+-- without a leading dot a rootless path's values are its inner values
 pub drop_dot-values : (s : List ℕ) → is_rooted s ≡ false → drop_dot (values s) ≡ inner_values s
 drop_dot-values s r =
     ap drop_dot (values-lead s
@@ -116,7 +123,7 @@ drop_dot-values s r =
     ∙ drop_dot-lead_by (dot_first (slice_split is_slash s)) (inner_values s)
     (inner_values-no_lead s)
 
--- what a join adds behind the values of its first path
+-- a join with a rootless path has the values of the first path, and then the values added
 pub values-join_of_values_added : (a b : List ℕ) → is_rooted b ≡ false
     → values (join_of a b) ≡ values a ++ values_added a b
 values-join_of_values_added [] b r =
@@ -124,10 +131,11 @@ values-join_of_values_added [] b r =
 values-join_of_values_added (x ∷ a) b r = values-join_of (x ∷ a) b (omega arith) r
     ∙ ap (λ vs. values (x ∷ a) ++ vs) (sym (drop_dot-values b r))
 
+-- of equal paths both are rooted or neither is
 pub roots_same : (s t : List ℕ) → values s ≡ values t → is_rooted s ≡ is_rooted t
 roots_same s t e = sym (root_first-values s) ∙ ap root_first e ∙ root_first-values t
 
--- only the values of what is joined count
+-- equal paths, joined to equal paths, are equal
 pub joins_same : (a b c d : List ℕ) → values a ≡ values b → values c ≡ values d
     → values (join_of a c) ≡ values (join_of b d)
 joins_same a b c d e f = by_test (is_rooted c)
@@ -146,9 +154,10 @@ joins_same a b c d e f = by_test (is_rooted c)
     append_same [] = f
     append_same (v ∷ vs) = ap (λ z. (v ∷ vs) ++ z) bodies
 
+-- a join with the empty path adds no value
 pub values-join_of_nil : (a : List ℕ) → values (join_of a []) ≡ values a
-values-join_of_nil a = values-join_of_rootless a [] refl ∙ nothing (values a)
+values-join_of_nil a = values-join_of_rootless a [] refl ∙ append_values-nil (values a)
   where
-    nothing : (vs : List Value) → append_values vs [] ≡ vs
-    nothing [] = values-nil
-    nothing (v ∷ vs) = ap (λ b. (v ∷ vs) ++ b) inner_values-nil ∙ append-nil (v ∷ vs)
+    append_values-nil : (vs : List Value) → append_values vs [] ≡ vs
+    append_values-nil [] = values-nil
+    append_values-nil (v ∷ vs) = ap (λ b. (v ∷ vs) ++ b) inner_values-nil ∙ append-nil (v ∷ vs)

@@ -9,8 +9,8 @@ use Rattle.std.proofs.lemmas.Slice.Eq.{bytes_eq-Decides}
 use Rattle.unix_path.specs.Parts.{is_slash, slash, cur_dir, counts, is_rooted, values}
 use Rattle.unix_path.proofs.CaseLemmas.{by_test}
 use Rattle.path_runs.specs.Spelling.{spelling_of}
-use Rattle.path_runs.proofs.PieceValueLemmas.{rooted_is}
-use Rattle.path_runs.proofs.SpellLemmas.{kept_of, spelling_of-rooted, spelling_of-rootless}
+use Rattle.path_runs.proofs.PieceValueLemmas.{is_rooted-slash}
+use Rattle.path_runs.proofs.SpellLemmas.{lean_pieces, spelling_of-rooted, spelling_of-rootless}
 
 -- the same bytes, or fewer
 abbrev Leaner : List ℕ → List ℕ → Type 0
@@ -24,7 +24,7 @@ Leaner-longer : (u s t : List ℕ) → Leaner u s → length s < length t → Le
 Leaner-longer u s t (inl e) l = inr (omega (arith, ap length e))
 Leaner-longer u s t (inr h) l = inr (omega arith)
 
--- with a piece less there is at least a byte less
+-- a row without its second piece has fewer bytes
 row_less : (p q : List ℕ) (qs : List (List ℕ))
     → length (join_with_byte slash (p ∷ qs)) < length (join_with_byte slash (p ∷ q ∷ qs))
 row_less p q [] = omega (arith, length-append p (slash ∷ q))
@@ -37,73 +37,76 @@ row_less p q (r ∷ qs) =
       length-append q (slash ∷ u),
     )
 
-lean_after : (p : List ℕ) (qs : List (List ℕ))
+-- behind a first piece, dropping the pieces that don't count leaves the same bytes or fewer
+Leaner-row_behind : (p : List ℕ) (qs : List (List ℕ))
     → Leaner (join_with_byte slash (p ∷ filter counts qs)) (join_with_byte slash (p ∷ qs))
-lean_after p [] = inl refl
-lean_after p (q ∷ qs) = by_test (counts q)
+Leaner-row_behind p [] = inl refl
+Leaner-row_behind p (q ∷ qs) = by_test (counts q)
     (λ e. rw e (subst (λ z. Leaner z (p ++ slash ∷ join_with_byte slash (q ∷ qs)))
     (append_assoc p (slash ∷ []) (join_with_byte slash (q ∷ filter counts qs)))
     (subst (Leaner ((p ++ slash ∷ []) ++ join_with_byte slash (q ∷ filter counts qs)))
     (append_assoc p (slash ∷ []) (join_with_byte slash (q ∷ qs)))
     (Leaner-append (p ++ slash ∷ []) (join_with_byte slash (q ∷ filter counts qs))
-    (join_with_byte slash (q ∷ qs)) (lean_after q qs)))))
+    (join_with_byte slash (q ∷ qs)) (Leaner-row_behind q qs)))))
     (λ e. rw e (Leaner-longer (join_with_byte slash (p ∷ filter counts qs))
-    (join_with_byte slash (p ∷ qs)) (join_with_byte slash (p ∷ q ∷ qs)) (lean_after p qs)
+    (join_with_byte slash (p ∷ qs)) (join_with_byte slash (p ∷ q ∷ qs)) (Leaner-row_behind p qs)
     (row_less p q qs)))
 
-lean_first : (q : List ℕ) (qs : List (List ℕ))
+-- dropping the first piece too leaves the same bytes or fewer
+Leaner-row_cons : (q : List ℕ) (qs : List (List ℕ))
     → Leaner (join_with_byte slash (filter counts qs)) (join_with_byte slash qs)
     → Leaner (join_with_byte slash (filter counts qs)) (join_with_byte slash (q ∷ qs))
-lean_first [] [] h = inl refl
-lean_first (x ∷ q) [] h = inr (omega arith)
-lean_first q (r ∷ qs) h =
+Leaner-row_cons [] [] h = inl refl
+Leaner-row_cons (x ∷ q) [] h = inr (omega arith)
+Leaner-row_cons q (r ∷ qs) h =
     Leaner-longer (join_with_byte slash (filter counts (r ∷ qs))) (join_with_byte slash (r ∷ qs))
     (q ++ slash ∷ join_with_byte slash (r ∷ qs)) h
     (omega (arith, length-append q (slash ∷ join_with_byte slash (r ∷ qs))))
 
--- dropping pieces leaves fewer bytes
-lean_row : (qs : List (List ℕ))
+-- dropping the pieces that don't count leaves the same bytes or fewer
+Leaner-row : (qs : List (List ℕ))
     → Leaner (join_with_byte slash (filter counts qs)) (join_with_byte slash qs)
-lean_row [] = inl refl
-lean_row (q ∷ qs) = by_test (counts q) (λ e. rw e (lean_after q qs))
-    (λ e. rw e (lean_first q qs (lean_row qs)))
+Leaner-row [] = inl refl
+Leaner-row (q ∷ qs) = by_test (counts q) (λ e. rw e (Leaner-row_behind q qs))
+    (λ e. rw e (Leaner-row_cons q qs (Leaner-row qs)))
 
 -- a string is its pieces, joined
 pub join_with_byte-pieces : (s : List ℕ) → join_with_byte slash (slice_split is_slash s) ≡ s
 join_with_byte-pieces s = join_with_byte-slice_split 47 s
 
-lean_rooted : (t : List ℕ) → Leaner (spelling_of (values (slash ∷ t))) (slash ∷ t)
-lean_rooted t =
+-- the spelling of a rooted path is the path itself, or has fewer bytes
+spelling_of-lean_rooted : (t : List ℕ) → Leaner (spelling_of (values (slash ∷ t))) (slash ∷ t)
+spelling_of-lean_rooted t =
     let ps = slice_split is_slash t in
     subst (λ u. Leaner u (slash ∷ t)) (sym (spelling_of-rooted t))
     (Leaner-append (slash ∷ []) (join_with_byte slash (filter counts ps)) t
     (subst (Leaner (join_with_byte slash (filter counts ps))) (join_with_byte-pieces t)
-    (lean_row ps)))
+    (Leaner-row ps)))
 
-lean_kept_of : (ps : List (List ℕ))
-    → Leaner (join_with_byte slash (kept_of ps)) (join_with_byte slash ps)
-lean_kept_of [] = inl refl
-lean_kept_of (p ∷ qs) = by (bytes_eq p cur_dir) refl
+Leaner-lean_pieces : (ps : List (List ℕ))
+    → Leaner (join_with_byte slash (lean_pieces ps)) (join_with_byte slash ps)
+Leaner-lean_pieces [] = inl refl
+Leaner-lean_pieces (p ∷ qs) = by (bytes_eq p cur_dir) refl
   where
     by : (c : Bool) → bytes_eq p cur_dir ≡ c
-        → Leaner (join_with_byte slash (kept_of (p ∷ qs))) (join_with_byte slash (p ∷ qs))
-    by true d = subst (λ p. Leaner (join_with_byte slash (kept_of (p ∷ qs)))
+        → Leaner (join_with_byte slash (lean_pieces (p ∷ qs))) (join_with_byte slash (p ∷ qs))
+    by true d = subst (λ p. Leaner (join_with_byte slash (lean_pieces (p ∷ qs)))
         (join_with_byte slash (p ∷ qs))) (sym ((bytes_eq-Decides p cur_dir).0 d))
-        (lean_after cur_dir qs)
+        (Leaner-row_behind cur_dir qs)
     by false d = subst (λ c. Leaner
         (join_with_byte slash (cond c (cur_dir ∷ filter counts qs) (filter counts (p ∷ qs))))
-        (join_with_byte slash (p ∷ qs))) (sym d) (lean_row (p ∷ qs))
+        (join_with_byte slash (p ∷ qs))) (sym d) (Leaner-row (p ∷ qs))
 
--- the spelling is the path itself, or has fewer bytes
+-- the spelling of a path is the path itself, or has fewer bytes
 spelling_of-lean : (s : List ℕ) → Leaner (spelling_of (values s)) s
 spelling_of-lean s = by_test (is_rooted s)
-    (λ r. let t = rooted_is s r in
-    subst (λ s. Leaner (spelling_of (values s)) s) (sym t.1) (lean_rooted t.0))
+    (λ r. let t = is_rooted-slash s r in
+    subst (λ s. Leaner (spelling_of (values s)) s) (sym t.1) (spelling_of-lean_rooted t.0))
     (λ r. subst (λ u. Leaner u s) (sym (spelling_of-rootless s (slice_split is_slash s) r refl))
-    (subst (Leaner (join_with_byte slash (kept_of (slice_split is_slash s))))
-    (join_with_byte-pieces s) (lean_kept_of (slice_split is_slash s))))
+    (subst (Leaner (join_with_byte slash (lean_pieces (slice_split is_slash s))))
+    (join_with_byte-pieces s) (Leaner-lean_pieces (slice_split is_slash s))))
 
--- each path with these values is the spelling, or longer
+-- each path with the values of s is the spelling of these, or longer
 pub spelling_of-shortest : (s t : List ℕ) → values t ≡ values s
     → (t ≡ spelling_of (values s)) ⊎ (length (spelling_of (values s)) < length t)
 spelling_of-shortest s t e =

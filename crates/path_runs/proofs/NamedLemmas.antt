@@ -41,20 +41,24 @@ pub record NamedCut (s name : List ℕ) : Type 0 where
   pub before : values s ≡ values prefix ++ Normal name ∷ []
   pub is_name : IsName name
 
+-- where a path has a file name, it is the last of its values
 name_of_push : (s name : List ℕ) (vs : List Value) (v : Value) → values s ≡ vs ++ v ∷ []
     → file_name_of (values s) ≡ Some name → v ≡ Normal name
 name_of_push s name vs v is e =
     name_of-some v name (sym (ap file_name_of is ∙ file_name_of-last vs v) ∙ e)
 
+-- a path without values has no file name
 no_name : (s name : List ℕ) → values s ≡ [] → file_name_of (values s) ≡ Some name → ⊥
 unfolding file_name_of
 no_name s name is e = none-some name (sym (ap file_name_of is) ∙ e)
 
+-- the piece y is the name, and neither `.` nor `..`
 record IsNamePiece (y name : List ℕ) : Type 0 where
   same : y ≡ name
   no_dot : bytes_eq y cur_dir ≡ false
   no_dots : bytes_eq y parent_dir ≡ false
 
+-- a piece whose value is a name is that name
 name_piece : (y name : List ℕ) → first_value y ≡ Normal name → IsNamePiece y name
 name_piece y name h = by (bytes_eq y cur_dir) refl (bytes_eq y parent_dir) refl h
   where
@@ -64,6 +68,7 @@ name_piece y name h = by (bytes_eq y cur_dir) refl (bytes_eq y parent_dir) refl 
     by false e true k h = absurd (let no : ParentDir ≡ Normal name = h in cc)
     by false e false k h = record { same = cc; no_dot = e; no_dots = k }
 
+-- a beginning of a string is open where a slash stands last in it
 is_open-take : (t : List ℕ) (a : ℕ) → a ≤ length t → (0 < a → get_or t (a - 1) 0 ≡ 47)
     → is_open (take a t) ≡ true
 is_open-take t zero l h = refl
@@ -73,6 +78,7 @@ is_open-take t (suc k) l h =
     ∙ eq-eqb _ 47 (get_or-take (suc k) t (suc k - 1) 47 (omega arith)
     ∙ get_or_default t (suc k - 1) 47 0 (omega arith) ∙ h (omega arith))
 
+-- a path whose last part starts at a, before its end, is cut there
 cut_at : (s name : List ℕ) (trim : TrimsEnd s) (a : ℕ) → file_name_of (values s) ≡ Some name
     → IsLastStart (take trim.len s) a → a < length (take trim.len s) → NamedCut s name
 unfolding values
@@ -109,10 +115,11 @@ cut_at s name trim a e h l =
       };
     }
 
-no_cut : (s name : List ℕ) (trim : TrimsEnd s) (a : ℕ) → file_name_of (values s) ≡ Some name
+-- a path whose last part would start at its end has no file name
+no_name_at_end : (s name : List ℕ) (trim : TrimsEnd s) (a : ℕ) → file_name_of (values s) ≡ Some name
     → IsLastStart (take trim.len s) a → length (take trim.len s) ≤ a → ⊥
 unfolding values
-no_cut s name trim a e h l =
+no_name_at_end s name trim a e h l =
     let t = take trim.len s in
     let m = h.in_range in
     let here : a ≡ length t = omega arith in
@@ -128,10 +135,11 @@ no_cut s name trim a e h l =
     no_name s name (ap (map (λ (p : Part). p.value)) (sym trim.same) ∙ ap values nil ∙ values-nil)
     e)
 
+-- a path with a file name is cut at it
 pub named_cut : (s name : List ℕ) → file_name_of (values s) ≡ Some name → NamedCut s name
 named_cut s name e =
     let trim = trims_end s in
     let at = last_start (take trim.len s) in
     by_test (ltb at.0 (length (take trim.len s)))
     (λ l. cut_at s name trim at.0 e at.1 (ltb-true _ _ l))
-    (λ l. absurd (no_cut s name trim at.0 e at.1 (ltb-false _ _ l)))
+    (λ l. absurd (no_name_at_end s name trim at.0 e at.1 (ltb-false _ _ l)))

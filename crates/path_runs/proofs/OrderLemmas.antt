@@ -7,11 +7,12 @@ use Rattle.unix_path.specs.Parts.{Value}
 use Rattle.unix_path.specs.Order.{values_cmp}
 use Rattle.unix_path.specs.OrderLaws.{values_cmp-total, values_cmp-equal}
 
+-- only equal value lists tie in the order
 pub values_cmp-ties : (v w : List Value) → (values_cmp v w ≡ Equal) ↔ (v ≡ w)
 values_cmp-ties v w =
     (values_cmp-equal v w, λ e. ap (values_cmp v) (sym e) ∙ tied_itself values_cmp-total v)
 
--- neither list is longer than the other, so nothing is behind
+-- value lists of which each begins the other are equal, since neither is longer
 pub begins_both_ways : (v w x y : List Value) → v ++ x ≡ w → w ++ y ≡ v → v ≡ w
 begins_both_ways v w x y d e =
     let none = nil_from_length x

@@ -1,4 +1,4 @@
--- The parent of a path: before it in the order, and the path again with its name.
+-- The parent of a path stands before it in the order, and with its file name is the path again.
 use Rattle.std.proofs.Common.{◌≡◌, ℕ, List, [], ◌∷◌, ◌++◌, Some, refl, sym, ap, ap₂, ◌∙◌}
 use Rattle.std.specs.Ordering.{ordering_then}
 use Rattle.std.proofs.lemmas.Cmp.{tied_itself}
@@ -16,15 +16,18 @@ use Rattle.path_runs.proofs.NamedLemmas.{named_cut}
 use Rattle.path_runs.proofs.PieceNameLemmas.{values-name}
 use Rattle.path_runs.proofs.SiblingLemmas.{values-rest_push, values-join_of_one}
 
+-- values stand before themselves with one more behind
 before_push : (vs : List Value) (v : Value) → IsBefore vs (vs ++ v ∷ [])
 before_push [] v = refl
 before_push (w ∷ vs) v =
     ap (λ o. ordering_then o (values_cmp vs (vs ++ v ∷ []))) (tied_itself value_cmp-total w)
     ∙ before_push vs v
 
+-- a path without values has no parent
 no_parent : (s parent : List ℕ) → values s ≡ [] → parent_of s ≡ Some parent → ⊥
 no_parent s parent is e = none-some parent (sym (parent_of-alone s (depth_of-none s is)) ∙ e)
 
+-- a path's parent stands before it in the order
 pub parent-before : (s parent : List ℕ) → parent_of s ≡ Some parent
     → IsBefore (values parent) (values s)
 parent-before s parent e = by (snoc (values s))
@@ -35,6 +38,7 @@ parent-before s parent e = by (snoc (values s))
         ap₂ values_cmp (ap values (parent_of-some s parent e) ∙ values-rest_push s vs v is) is
         ∙ before_push vs v
 
+-- a path's parent, joined with its file name, is equal to the path
 pub parent-join_name : (s parent name : List ℕ) → parent_of s ≡ Some parent
     → file_name_of (values s) ≡ Some name → values (join_of parent name) ≡ values s
 parent-join_name s parent name e f =

@@ -19,10 +19,12 @@ use Rattle.path_runs.proofs.NamedLemmas.{IsName}
 abbrev pub IsPiece : List ℕ → Type 0
 IsPiece s = position_or_len is_slash s ≡ length s
 
+-- the first byte of a piece is no slash
 piece_head : (b : ℕ) (s : List ℕ) → IsPiece (b ∷ s) → eqb b 47 ≡ false
 piece_head b s h = by_test (eqb b 47)
     (λ e. absurd (omega (arith, h, position_or_len-slash b s e))) (λ e. e)
 
+-- what follows the first byte of a piece is a piece
 piece_tail : (b : ℕ) (s : List ℕ) → IsPiece (b ∷ s) → IsPiece s
 piece_tail b s h = omega (arith, h, position_or_len-other b s (piece_head b s h))
 
@@ -39,6 +41,7 @@ piece-append [] b h k = k
 piece-append (x ∷ a) b h k = piece_cons x (a ++ b) (piece_head x a h)
     (piece-append a b (piece_tail x a h) k)
 
+-- bytes of which none is a slash are a piece
 pub piece-none : (s : List ℕ) → HasNone 47 s → IsPiece s
 piece-none [] h = refl
 piece-none (x ∷ s) h = piece_cons x s other (piece-none s (λ k d l. h (suc k) d (omega arith)))
@@ -46,7 +49,7 @@ piece-none (x ∷ s) h = piece_cons x s other (piece-none s (λ k d l. h (suc k)
     other : eqb x 47 ≡ false
     other = by_test (eqb x 47) (λ e. absurd (h 0 0 (omega arith) (eqb-true x 47 e))) (λ e. e)
 
--- longer than `..`
+-- a piece longer than `..` is a name
 pub long-name : (s : List ℕ) → 2 < length s → IsPiece s → IsName s
 long-name s l h = record {
   some = omega arith;
@@ -59,10 +62,12 @@ long-name s l h = record {
     differs t m = by_test (bytes_eq s t)
         (λ e. absurd (omega (arith, ap length ((bytes_eq-Decides s t).0 e)))) (λ e. e)
 
+-- the first byte of a piece of a byte or more is no slash
 first_other : (s : List ℕ) → 0 < length s → IsPiece s → eqb (get_or s 0 0) 47 ≡ false
 first_other [] l h = absurd (omega arith)
 first_other (b ∷ s) l h = piece_head b s h
 
+-- a name is a path of that name alone
 pub values-name : (s : List ℕ) → IsName s → values s ≡ Normal s ∷ []
 unfolding values
 values-name s h =

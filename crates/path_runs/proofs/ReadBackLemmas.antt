@@ -12,12 +12,14 @@ use Rattle.unix_path.proofs.CaseLemmas.{by_test}
 use Rattle.path_runs.specs.Spelling.{spelling_of}
 use Rattle.path_runs.proofs.LeadLemmas.{dot_first}
 use Rattle.path_runs.proofs.PieceValueLemmas.{names_of, values-rooted, values-rootless}
-use Rattle.path_runs.proofs.PieceValueLemmas.{rooted_is, NoSlash, slice_split-no_slash}
-use Rattle.path_runs.proofs.SpellLemmas.{kept_of, spelling_of-rooted, spelling_of-rootless}
+use Rattle.path_runs.proofs.PieceValueLemmas.{is_rooted-slash, NoSlash, slice_split-no_slash}
+use Rattle.path_runs.proofs.SpellLemmas.{lean_pieces, spelling_of-rooted, spelling_of-rootless}
 
+-- all these pieces count
 abbrev AllCount : List (List ℕ) → Type 0
 AllCount ps = AllByRecursion (λ p. counts p ≡ true) ps
 
+-- a row of pieces without a slash is cut into these pieces
 slice_split-row : (p : List ℕ) (ps : List (List ℕ)) → AllByRecursion NoSlash (p ∷ ps)
     → slice_split is_slash (join_with_byte slash (p ∷ ps)) ≡ p ∷ ps
 slice_split-row p [] h =
@@ -43,6 +45,7 @@ names_of-counts : (ps : List (List ℕ)) → AllCount ps → names_of ps ≡ map
 names_of-counts [] h = refl
 names_of-counts (p ∷ ps) h = rw h.0 (ap (λ vs. value_of_piece p ∷ vs) (names_of-counts ps h.1))
 
+-- the pieces of a row of pieces that count have the values of these
 names_of-row : (ps : List (List ℕ)) → AllByRecursion NoSlash ps → AllCount ps
     → names_of (slice_split is_slash (join_with_byte slash ps)) ≡ map value_of_piece ps
 names_of-row [] h k = refl
@@ -64,6 +67,7 @@ counts-no_dot p e = by (bytes_eq p []) (bytes_eq p cur_dir) refl refl e
     by true true f g h = absurd (let k : false ≡ true = rw f at h in cc)
     by false true f g h = absurd (let k : false ≡ true = rw (f, g) at h in cc)
 
+-- the spelling of a rooted path's values has these values
 values-spelling_rooted : (t : List ℕ)
     → values (spelling_of (values (slash ∷ t))) ≡ values (slash ∷ t)
 values-spelling_rooted t =
@@ -74,6 +78,7 @@ values-spelling_rooted t =
     (names_of-row kept (filter-no_slash ps (slice_split-no_slash t)) (filter-counts ps))
     ∙ sym (values-rooted t)
 
+-- a row of pieces that count has the values of these
 values-row : (ps : List (List ℕ)) → AllByRecursion NoSlash ps → AllCount ps
     → values (join_with_byte slash ps) ≡ map value_of_piece ps
 values-row [] h k = values-rootless [] ([] ∷ []) refl refl
@@ -87,20 +92,22 @@ dot_rootless : (ps : List (List ℕ)) → is_rooted (join_with_byte slash (cur_d
 dot_rootless [] = refl
 dot_rootless (p ∷ ps) = refl
 
+-- behind a first `.`, a row of pieces that count has that `.` and the values of these
 values-dot_row : (ps : List (List ℕ)) → AllByRecursion NoSlash ps → AllCount ps
     → values (join_with_byte slash (cur_dir ∷ ps)) ≡ CurDir ∷ map value_of_piece ps
 values-dot_row ps h k =
     values-rootless (join_with_byte slash (cur_dir ∷ ps)) (cur_dir ∷ ps) (dot_rootless ps)
     (slice_split-row cur_dir ps ((refl, (tt)), h)) ∙ ap (λ vs. CurDir ∷ vs) (names_of-counts ps k)
 
-values-kept_of : (ps : List (List ℕ)) → AllByRecursion NoSlash ps
-    → values (join_with_byte slash (kept_of ps)) ≡ cond (dot_first ps)
+-- what the spelling keeps of a rootless path's pieces has the path's values
+values-lean_pieces : (ps : List (List ℕ)) → AllByRecursion NoSlash ps
+    → values (join_with_byte slash (lean_pieces ps)) ≡ cond (dot_first ps)
     (CurDir ∷ []) [] ++ names_of ps
-values-kept_of [] h = values-rootless [] ([] ∷ []) refl refl
-values-kept_of (p ∷ qs) h = by (bytes_eq p cur_dir) refl
+values-lean_pieces [] h = values-rootless [] ([] ∷ []) refl refl
+values-lean_pieces (p ∷ qs) h = by (bytes_eq p cur_dir) refl
   where
     by : (c : Bool) → bytes_eq p cur_dir ≡ c
-        → values (join_with_byte slash (kept_of (p ∷ qs))) ≡ cond (bytes_eq p cur_dir)
+        → values (join_with_byte slash (lean_pieces (p ∷ qs))) ≡ cond (bytes_eq p cur_dir)
         (CurDir ∷ []) [] ++ names_of (p ∷ qs)
     by true d = rw ((bytes_eq-Decides p cur_dir).0 d)
         (values-dot_row (filter counts qs) (filter-no_slash qs h.1) (filter-counts qs))
@@ -109,13 +116,14 @@ values-kept_of (p ∷ qs) h = by (bytes_eq p cur_dir) refl
         ≡ cond c (CurDir ∷ []) [] ++ names_of (p ∷ qs)) (sym d)
         (values-row (filter counts (p ∷ qs)) (filter-no_slash (p ∷ qs) h) (filter-counts (p ∷ qs)))
 
+-- the spelling of a path's values has these values
 pub values-spelling_of : (s : List ℕ) → values (spelling_of (values s)) ≡ values s
 values-spelling_of s = by_test (is_rooted s)
-    (λ r. let t = rooted_is s r in
+    (λ r. let t = is_rooted-slash s r in
     subst (λ s. values (spelling_of (values s)) ≡ values s) (sym t.1)
     (values-spelling_rooted t.0))
     (λ r. ap values (spelling_of-rootless s (slice_split is_slash s) r refl)
-    ∙ values-kept_of (slice_split is_slash s) (slice_split-no_slash s)
+    ∙ values-lean_pieces (slice_split is_slash s) (slice_split-no_slash s)
     ∙ sym (values-rootless s (slice_split is_slash s) r refl))
 
 -- equal spellings come from equal values

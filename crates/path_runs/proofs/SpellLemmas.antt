@@ -1,4 +1,4 @@
--- The spelling of a path's values is the row of the pieces that are kept.
+-- The spelling of a path's values is the row of the pieces that count, and of a first `.`.
 use Rattle.std.proofs.Common.{◌≡◌, ℕ, Bool, true, false, cond, List, [], ◌∷◌, ◌++◌, map, filter}
 use Rattle.std.proofs.Common.{refl, sym, ap, ap₂, subst, ◌∙◌}
 use Rattle.std.specs.List.{slice_split, join_with_byte}
@@ -12,6 +12,7 @@ use Rattle.unix_path.proofs.StemLemmas.{value_bytes-piece}
 use Rattle.path_runs.specs.Spelling.{row_of, spelling_of}
 use Rattle.path_runs.proofs.PieceValueLemmas.{names_of, values-rooted, values-rootless}
 
+-- the values of pieces have the bytes of these pieces
 bytes_of_pieces : (ps : List (List ℕ)) → map value_bytes (map value_of_piece ps) ≡ ps
 bytes_of_pieces [] = refl
 bytes_of_pieces (p ∷ ps) = ap₂ (λ q qs. q ∷ qs) (value_bytes-piece p) (bytes_of_pieces ps)
@@ -38,12 +39,14 @@ spelling_of-nil : spelling_of [] ≡ []
 unfolding spelling_of
 spelling_of-nil = refl
 
+-- where no root stands first, a spelling is a row
 spelling_of-pieces : (ps : List (List ℕ))
     → spelling_of (map value_of_piece ps) ≡ row_of (map value_of_piece ps)
 spelling_of-pieces [] = spelling_of-nil
 spelling_of-pieces (p ∷ ps) =
     spelling_of-cons (value_of_piece p) (map value_of_piece ps) (no_root_piece p)
 
+-- a rooted path is spelled as a slash and the row of the pieces behind it that count
 pub spelling_of-rooted : (t : List ℕ)
     → spelling_of (values (slash ∷ t)) ≡ slash ∷ join_with_byte slash
     (filter counts (slice_split is_slash t))
@@ -52,21 +55,22 @@ spelling_of-rooted t =
     ap spelling_of (values-rooted t) ∙ spelling_of-root (names_of ps)
     ∙ ap (λ r. slash ∷ r) (row_of-names ps)
 
--- where no root stands: a first `.`, and the pieces that count
-abbrev pub kept_of : List (List ℕ) → List (List ℕ)
-kept_of [] = []
-kept_of (p ∷ ps) = cond (bytes_eq p cur_dir) (cur_dir ∷ filter counts ps)
+-- what the spelling of a rootless path keeps of its pieces: a first `.`, and those that count
+abbrev pub lean_pieces : List (List ℕ) → List (List ℕ)
+lean_pieces [] = []
+lean_pieces (p ∷ ps) = cond (bytes_eq p cur_dir) (cur_dir ∷ filter counts ps)
     (filter counts (p ∷ ps))
 
+-- a rootless path is spelled as the row of what is kept of its pieces
 pub spelling_of-rootless : (s : List ℕ) (ps : List (List ℕ)) → is_rooted s ≡ false
-    → slice_split is_slash s ≡ ps → spelling_of (values s) ≡ join_with_byte slash (kept_of ps)
+    → slice_split is_slash s ≡ ps → spelling_of (values s) ≡ join_with_byte slash (lean_pieces ps)
 spelling_of-rootless s [] r e = ap spelling_of (values-rootless s [] r e) ∙ spelling_of-nil
 spelling_of-rootless s (p ∷ ps) r e = ap spelling_of (values-rootless s (p ∷ ps) r e)
     ∙ by (bytes_eq p cur_dir) refl
   where
     by : (c : Bool) → bytes_eq p cur_dir ≡ c
         → spelling_of (cond (bytes_eq p cur_dir) (CurDir ∷ []) [] ++ names_of (p ∷ ps))
-        ≡ join_with_byte slash (kept_of (p ∷ ps))
+        ≡ join_with_byte slash (lean_pieces (p ∷ ps))
     by true d = rw (((bytes_eq-Decides p cur_dir).0 d))
         (spelling_of-dot (names_of ps)
         ∙ ap (λ bs. join_with_byte slash (cur_dir ∷ bs)) (bytes_of_pieces (filter counts ps)))

@@ -6,6 +6,7 @@ use Rattle.unix_path.specs.Names.{split_name}
 use Rattle.path_runs.specs.QueryLaws.{name_from_stem}
 use Rattle.path_runs.proofs.DotLemmas.{SplitCase, Whole, Cut, split_case}
 
+-- a name is its stem, and behind it a dot and its extension if it has one
 pub name_from_stem-split_name : (name : List ℕ)
     → name_from_stem (split_name name).0 (split_name name).1 ≡ name
 name_from_stem-split_name name = by (split_case name)

@@ -16,22 +16,26 @@ use Rattle.path_runs.proofs.LeadLemmas.{drop_lead-values}
 use Rattle.unix_path.specs.Fronts.{inner_values}
 use Rattle.path_runs.proofs.ValueLemmas.{some_values, append_values, values-join_of_rootless}
 
+-- behind the values of vs stand those of ws
 middle-append : (vs ws : List Value) → middle (length vs) 0 (vs ++ ws) ≡ ws
 middle-append vs ws =
     let n = length vs in
     let size : length (vs ++ ws) - (n + 0) ≡ length ws = omega (arith, length-append vs ws) in
     ap₂ take size (drop_at vs ws n refl) ∙ take_all (length ws) ws (omega arith)
 
-values-stripped_of : (s base : List ℕ) (more : List Value) → values base ++ more ≡ values s
+-- what is left of a path whose values begin with those of the base
+pub values-stripped_of : (s base : List ℕ) (more : List Value) → values base ++ more ≡ values s
     → values (stripped_of s base) ≡ more
 values-stripped_of s base more e =
     values-rest s (length (values base)) 0 ∙ ap (middle (length (values base)) 0) (sym e)
     ∙ middle-append (values base) more
 
+-- the last of inner values are inner values
 inner-end : (vs ws : List Value) → AllByRecursion IsInner (vs ++ ws) → AllByRecursion IsInner ws
 inner-end [] ws h = h
 inner-end (v ∷ vs) ws h = inner-end vs ws h.1
 
+-- bytes with the values behind those of base, joined to base, have the values of the path
 join_behind : (s base r : List ℕ) (v : Value) (vs more : List Value)
     → values base ≡ v ∷ vs → values r ≡ more → v ∷ vs ++ more ≡ values s
     → values (join_of base r) ≡ values s
@@ -54,11 +58,12 @@ strip_join s (b ∷ base) more e =
     join_behind s (b ∷ base) (stripped_of s (b ∷ base)) some.0 some.1 more some.2
     (values-stripped_of s (b ∷ base) more e) (ap (λ vs. vs ++ more) (sym some.2) ∙ e)
 
+-- a path without its base, joined to that base, has the values of the path
 pub values-join_of_stripped : (s base : List ℕ) → Begins (values base) (values s)
     → values (join_of base (stripped_of s base)) ≡ values s
 values-join_of_stripped s base h = strip_join s base h.0 h.1
 
--- what was stripped, joined to its base, has the values of the path
+-- where `joined` is a path without its base, joined to that base, it is equal to the path
 pub strip_then_join : (s base joined : List ℕ) → Begins (values base) (values s)
     → joined ≡ join_of base (stripped_of s base) → values joined ≡ values s
 strip_then_join s base joined h e = ap values e ∙ values-join_of_stripped s base h

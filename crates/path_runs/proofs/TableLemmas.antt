@@ -8,12 +8,14 @@ use Rattle.unix_path.specs.Order.{values_cmp}
 use Rattle.unix_path.specs.Parts.{Value, values}
 use Rattle.path_runs.specs.TableLaws.{rows_of, LookupByValues, InsertByValues, RemoveByValues}
 
+-- a look-up by a path finds what the rows have at its values
 pub lookup-rows_of : {K V : Type 0} (bytes_of : K → List ℕ) → LookupByValues bytes_of V
 lookup-rows_of bytes_of w [] = refl
 lookup-rows_of bytes_of w (e ∷ entries) =
     ap (λ r. cond (is_at (values_cmp w) (values (bytes_of e.0))) (Some e.1) r)
     (lookup-rows_of bytes_of w entries)
 
+-- a removal by a path removes from the rows at its values
 pub remove-rows_of : {K V : Type 0} (bytes_of : K → List ℕ) → RemoveByValues bytes_of V
 remove-rows_of bytes_of w [] = refl
 remove-rows_of {K} {V} bytes_of w (e ∷ entries) =
@@ -27,6 +29,7 @@ remove-rows_of {K} {V} bytes_of w (e ∷ entries) =
       | false ↦ ap (λ rows. row ∷ rows) (remove-rows_of bytes_of w entries)
     ]
 
+-- an insertion by a path inserts into the rows at its values
 pub insert-rows_of : {K V : Type 0} (bytes_of : K → List ℕ) → InsertByValues bytes_of V
 insert-rows_of bytes_of [] key value = refl
 insert-rows_of {K} {V} bytes_of (e ∷ entries) key value =

@@ -6,7 +6,7 @@ use Rattle.std.proofs.lemmas.List.{take-append-drop, reverse-append, reverse-rev
 use Rattle.std.proofs.lemmas.List.{length-reverse}
 use Rattle.unix_path.proofs.MiddleLemmas.{middle}
 
--- the last m, taken from behind and reversed
+-- the last m of a list, taken from behind and reversed, stand as they do in the list
 reverse-take_reverse : {X : Type 0} (m : ℕ) (xs : List X) → m ≤ length xs
     → reverse (take m (reverse xs)) ≡ drop (length xs - m) xs
 reverse-take_reverse m xs l =
@@ -19,7 +19,7 @@ reverse-take_reverse m xs l =
     ap reverse (ap₂ take size reversed ∙ take-append_seam (reverse last) (reverse (take n xs)))
     ∙ reverse-reverse last
 
--- the first k, those between, and the last m
+-- the first k of a list, those between, and the last m, taken from behind, are the list
 pub take-middle-reverse : {X : Type 0} (k m : ℕ) (xs : List X) → k + m ≤ length xs
     → take k xs ++ middle k m xs ++ reverse (take m (reverse xs)) ≡ xs
 take-middle-reverse k m xs l =

@@ -1,6 +1,6 @@
 -- The values of a path can be told from the bytes that they feed a hasher.
-use Rattle.std.proofs.Common.{◌≡◌, ℕ, Bool, true, false, cond, List, [], ◌∷◌, ◌++◌, length}
-use Rattle.std.proofs.Common.{refl, sym, ap, ap₂, subst, ◌∙◌, arith, append-nil, length-append}
+use Rattle.std.proofs.Common.{◌≡◌, ℕ, false, cond, List, [], ◌∷◌, ◌++◌, length}
+use Rattle.std.proofs.Common.{refl, sym, ap, ap₂, ◌∙◌, arith, append-nil, length-append}
 use Rattle.std.specs.List.{AllByRecursion, slice_split, concat}
 use Rattle.std.specs.Str.{bytes_eq}
 use Rattle.std.proofs.lemmas.List.{append_cancel_left}
@@ -8,13 +8,10 @@ use Rattle.std.proofs.lemmas.List.Elements.{All-from_recursion}
 use Rattle.std.proofs.lemmas.List.Splits.{slice_split_at}
 use Rattle.unix_path.specs.Hashed.{hash_input_of}
 use Rattle.unix_path.specs.Parts.{is_slash, slash, cur_dir, Value, RootDir, CurDir}
-use Rattle.unix_path.specs.Parts.{value_of_piece, value_bytes, is_rooted, values}
+use Rattle.unix_path.specs.Parts.{value_of_piece, value_bytes, values}
 use Rattle.unix_path.specs.Prefixes.{Begins}
-use Rattle.unix_path.proofs.CaseLemmas.{by_test}
 use Rattle.path_runs.proofs.FedLemmas.{zeros_and, zeros_and-cancel, concat-hash_input_of}
-use Rattle.path_runs.proofs.LeadLemmas.{dot_first}
-use Rattle.path_runs.proofs.PieceValueLemmas.{names_of, values-rooted, values-rootless}
-use Rattle.path_runs.proofs.PieceValueLemmas.{rooted_is, NoSlash, slice_split-no_slash}
+use Rattle.path_runs.proofs.PieceValueLemmas.{NoSlash, values-hold}
 use Rattle.unix_path.proofs.StemLemmas.{value_bytes-piece}
 
 -- the value of what stands before the first slash that is fed
@@ -60,33 +57,11 @@ piece_told p h d e = record {
   tells = rw (d, e) refl;
 }
 
-names_of-told : (ps : List (List ℕ)) → AllByRecursion NoSlash ps
-    → AllByRecursion IsTold (names_of ps)
-names_of-told [] h = tt
-names_of-told (p ∷ ps) h =
-    by (bytes_eq p []) (bytes_eq p cur_dir) refl refl (names_of-told ps h.1)
-  where
-    by : (c d : Bool) → bytes_eq p [] ≡ c → bytes_eq p cur_dir ≡ d
-        → AllByRecursion IsTold (names_of ps) → AllByRecursion IsTold (names_of (p ∷ ps))
-    by true d e f more = rw e more
-    by false true e f more = rw (e, f) more
-    by false false e f more = rw (e, f) (piece_told p h.0 e f, more)
-
-lead-told : (c : Bool) (vs : List Value) → AllByRecursion IsTold vs
-    → AllByRecursion IsTold (cond c (CurDir ∷ []) [] ++ vs)
-lead-told true vs h = (dot_told, h)
-lead-told false vs h = h
-
+-- each value of a path is told by what stands before its first slash
 values-told : (s : List ℕ) → AllByRecursion IsTold (values s)
-values-told s = by_test (is_rooted s)
-    (λ r. let t = rooted_is s r in
-    subst (AllByRecursion IsTold) (sym (ap values t.1 ∙ values-rooted t.0))
-    (root_told, names_of-told (slice_split is_slash t.0) (slice_split-no_slash t.0)))
-    (λ r. let ps = slice_split is_slash s in
-    subst (AllByRecursion IsTold) (sym (values-rootless s ps r refl))
-    (lead-told (dot_first ps) (names_of ps) (names_of-told ps (slice_split-no_slash s))))
+values-told s = values-hold IsTold root_told dot_told piece_told s
 
--- what stands before the first slash is the same
+-- two strings that are the same have the same piece before their first slashes
 same_piece : (p q x y : List ℕ) → NoSlash p → NoSlash q → p ++ slash ∷ x ≡ q ++ slash ∷ y → p ≡ q
 same_piece p q x y h k e =
     let split : (r z : List ℕ) → NoSlash r
@@ -96,6 +71,7 @@ same_piece p q x y h k e =
     let both = sym (split p x h) ∙ ap (slice_split is_slash) e ∙ split q y k in
     cc
 
+-- two values whose bytes begin the same string, each with a slash behind, are the same
 same_value : (v w : Value) (x y : List ℕ) → IsTold v → IsTold w
     → value_bytes v ++ slash ∷ x ≡ value_bytes w ++ slash ∷ y → v ≡ w
 same_value v w x y m n e =
@@ -103,6 +79,7 @@ same_value v w x y m n e =
     (sym (m.fed x) ∙ e ∙ n.fed y) in
     sym m.tells ∙ ap told_by pieces ∙ n.tells
 
+-- two values that begin the same fed bytes are the same, and so is what follows
 same_first : (v w : Value) (x y : List ℕ) → IsTold v → IsTold w
     → value_bytes v ++ slash ∷ zeros_and v x ≡ value_bytes w ++ slash ∷ zeros_and w y
     → (v ≡ w) × (x ≡ y)
@@ -112,6 +89,7 @@ same_first v w x y m n e =
     let after = append_cancel_left (value_bytes v) _ _ whole in
     (same, zeros_and-cancel v x y (append_cancel_left (slash ∷ []) _ _ after))
 
+-- where what some values feed begins what others feed, they begin the others
 begins-told : (vs ws : List Value) → AllByRecursion IsTold vs → AllByRecursion IsTold ws
     → (x : List ℕ) → concat (hash_input_of vs) ++ x ≡ concat (hash_input_of ws) ++ []
     → Begins vs ws
@@ -129,8 +107,9 @@ begins-told (v ∷ vs) (w ∷ ws) m n x e =
     let others = begins-told vs ws m.1 n.1 x first.1 in
     (others.0, ap₂ (λ u us. u ∷ us) first.0 others.1)
 
-pub fed_begins : (s t x : List ℕ)
+-- where what one path feeds begins what another feeds, its values begin the other's
+pub bytes_fed-Begins : (s t x : List ℕ)
     → concat (hash_input_of (values s)) ++ x ≡ concat (hash_input_of (values t))
     → Begins (values s) (values t)
-fed_begins s t x e = begins-told (values s) (values t) (values-told s) (values-told t) x
+bytes_fed-Begins s t x e = begins-told (values s) (values t) (values-told s) (values-told t) x
     (e ∙ sym (append-nil (concat (hash_input_of (values t)))))

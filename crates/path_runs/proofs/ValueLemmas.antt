@@ -11,6 +11,7 @@ use Rattle.unix_path.specs.Fronts.{inner_values}
 use Rattle.unix_path.proofs.JoinLemmas.{join_of_open, join_of_closed}
 use Rattle.unix_path.proofs.PartLemmas.{parts-root, parts-name, values-nil}
 
+-- an open path of a byte or more ends in a slash
 pub ends_open : (u : List ℕ) → is_open u ≡ true → 0 < length u
     → (f : List ℕ) × (f ++ slash ∷ [] ≡ u)
 ends_open [] o l = absurd (omega arith)
@@ -19,6 +20,7 @@ ends_open (x ∷ y ∷ u) o l =
     let more = ends_open (y ∷ u) o (omega arith) in
     (x ∷ more.0, ap (λ z. x ∷ z) more.1)
 
+-- behind an open path of a byte or more, bytes add their inner values
 values-open : (u b : List ℕ) → is_open u ≡ true → 0 < length u
     → values (u ++ b) ≡ values u ++ inner_values b
 values-open u b o l =
@@ -26,11 +28,12 @@ values-open u b o l =
     ap (λ u. values (u ++ b)) (sym cut.1) ∙ values-past_slash cut.0 b
     ∙ ap (λ u. values u ++ inner_values b) cut.1
 
+-- a path that isn't open has a byte
 pub not_open : (a : List ℕ) → is_open a ≡ false → 0 < length a
 not_open [] o = absurd (let d : true ≡ false = o in cc)
 not_open (x ∷ a) o = omega arith
 
--- behind a path that isn't empty
+-- joined to a path that isn't empty, a rootless path adds its inner values
 pub values-join_of : (a b : List ℕ) → 0 < length a → is_rooted b ≡ false
     → values (join_of a b) ≡ values a ++ inner_values b
 values-join_of a b l r = by_test (is_open a)
@@ -46,23 +49,26 @@ some_values s l = by_test (eqb (get_or s 0 0) 47)
     (λ e. (_, _, ap (map (λ (p : Part). p.value)) (parts-root s (eqb-true _ 47 e))))
     (λ e. (_, _, ap (map (λ (p : Part). p.value)) (parts-name s l e)))
 
--- the values of a join: some values, and behind them those of b without a leading root or dot
+-- the values of a join with b: what b adds is its inner values, or its own behind no value
 abbrev pub append_values : List Value → List ℕ → List Value
 append_values [] b = values b
 append_values (v ∷ vs) b = (v ∷ vs) ++ inner_values b
 
+-- behind a path of a byte or more, b adds its inner values
 append_values-some : (s b : List ℕ) → 0 < length s
     → values s ++ inner_values b ≡ append_values (values s) b
 append_values-some s b l =
     let some = some_values s l in
     ap (λ vs. vs ++ inner_values b) some.2 ∙ sym (ap (λ vs. append_values vs b) some.2)
 
+-- behind an open path, bytes add values as in a join
 pub values-append_open : (u b : List ℕ) → is_open u ≡ true
     → values (u ++ b) ≡ append_values (values u) b
 values-append_open [] b o = sym (ap (λ vs. append_values vs b) values-nil)
 values-append_open (x ∷ u) b o =
     values-open (x ∷ u) b o (omega arith) ∙ append_values-some (x ∷ u) b (omega arith)
 
+-- the values of a join with a rootless path
 pub values-join_of_rootless : (a b : List ℕ) → is_rooted b ≡ false
     → values (join_of a b) ≡ append_values (values a) b
 values-join_of_rootless [] b r = ap values (join_of_open [] b r refl)

@@ -18,7 +18,7 @@ use Rattle.path_runs.specs.Turns.{is_front, front_turns, back_turns}
 use Rattle.path_runs.specs.declared.walk.Turn.{Turn}
 use Rattle.path_runs.specs.declared.walk.Turn.TheVariants.{Front, Back}
 
--- the turn is behind
+-- the turn takes the last part that is left
 abbrev pub is_back : Turn → Bool
 is_back turn = not (is_front turn)
 
@@ -30,11 +30,12 @@ pub record HasWalked (s : List ℕ) (turns : List Turn) (i : ℕ) (front : List 
       (back_turns (length (values s)) (take i turns))
   pub behind_is : behind ≡ take (back_turns (length (values s)) (take i turns)) (reverse (values s))
 
--- each turn is in front or behind
+-- each turn takes a part in front, or one behind
 one_turn : (t : Turn) → cond (is_front t) 1 0 + cond (is_back t) 1 0 ≡ 1
 one_turn Front = refl
 one_turn Back = refl
 
+-- the turns in front and those behind are all turns
 pub turns_total : (ts : List Turn) → count_by is_front ts + count_by is_back ts ≡ length ts
 turns_total [] = refl
 turns_total (t ∷ ts) =
@@ -42,16 +43,16 @@ turns_total (t ∷ ts) =
     let backs = sum_by-cons (λ t. cond (is_back t) 1 0) t ts in
     omega (arith, one_turn t, turns_total ts, fronts, backs)
 
--- where as many turns as parts have been made, another takes nothing
+-- behind n turns or more, another is none of the first n
 pub take-take_late : (n i : ℕ) (ts : List Turn) → n ≤ i
     → take n (take (i + 1) ts) ≡ take n (take i ts)
 take-take_late n i ts l = take-take n (i + 1) ts (omega arith) ∙ sym (take-take n i ts l)
 
--- until then each turn takes a part
+-- of n turns or fewer all are among the first n
 pub take-take_early : (n i : ℕ) (ts : List Turn) → i ≤ n → take n (take i ts) ≡ take i ts
 take-take_early n i ts l = take_all n (take i ts) (omega (arith, length-take i ts))
 
--- where v stands first of what is left, it is the value at k
+-- where v stands first behind the first k values, it is the value at k
 pub get_or-first : (vs ws : List Value) (k n : ℕ) (v : Value) → v ∷ ws ≡ take n (drop k vs)
     → (0 < n) × (k < length vs) × (get_or vs k v ≡ v)
 get_or-first vs ws k n v e =
@@ -65,7 +66,7 @@ get_or-first vs ws k n v e =
           ∙ ap (λ l. get_or l 0 v) (sym e),
     )
 
--- where v stands last of what is left, it is the value before the last m
+-- where v stands last between the first k values and the last m, it is the value before these m
 pub get_or-last : (vs ws : List Value) (k m : ℕ) (v : Value) → ws ++ v ∷ [] ≡ middle k m vs
     → (k + m < length vs) × (get_or vs (length vs - 1 - m) v ≡ v)
 get_or-last vs ws k m v e =
@@ -83,7 +84,7 @@ get_or-last vs ws k m v e =
           ∙ get_or-append_seam ws v [] v,
     )
 
--- the values that are left
+-- what is left has the values between those taken in front and those taken behind
 pub values-left : {s : List ℕ} {ts : List Turn} {i : ℕ} {front behind : List Value} {left : List ℕ}
     → HasWalked s ts i front left behind
     → values left ≡ middle (front_turns (length (values s)) (take i ts))
@@ -92,7 +93,7 @@ values-left {s} {ts} {i} h = ap values h.left_is
     ∙ values-rest s (front_turns (length (values s)) (take i ts))
     (back_turns (length (values s)) (take i ts))
 
--- where a part is left, fewer turns than parts have been made
+-- while a part is left, fewer turns than parts have been made
 pub in_time : (n i k m : ℕ) (ts : List Turn) → i < length ts → k + m < n
     → k + m ≡ length (take n (take i ts)) → i < n
 in_time n i k m ts l some total = by_test (ltb i n) (λ e. ltb-true _ _ e)

@@ -15,7 +15,7 @@ use Rattle.path_runs.specs.declared.walk.Turn.TheVariants.{Front, Back}
 use Rattle.path_runs.proofs.WalkLemmas.{is_back, HasWalked, turns_total, in_time, values-left}
 use Rattle.path_runs.proofs.WalkLemmas.{take-take_late, take-take_early, get_or-first, get_or-last}
 
--- one more turn in front, where a part is left
+-- one more turn in front takes the first part that is left
 HasWalked-front_some : (s : List ℕ) (ts : List Turn) (i : ℕ) (front : List Value) (left : List ℕ)
     (behind : List Value) (v : Value) (after : List ℕ) → HasWalked s ts i front left behind
     → i < length ts → get_or ts i Front ≡ Front
@@ -45,7 +45,7 @@ HasWalked-front_some s ts i front left behind v after h l turn gives leaves =
       behind_is = h.behind_is ∙ ap (λ j. take j (reverse vs)) (sym backs);
     }
 
--- one more turn behind, where a part is left
+-- one more turn behind takes the last part that is left
 HasWalked-back_some : (s : List ℕ) (ts : List Turn) (i : ℕ) (front : List Value) (left : List ℕ)
     (behind : List Value) (v : Value) (after : List ℕ) → HasWalked s ts i front left behind
     → i < length ts → get_or ts i Front ≡ Back
@@ -77,7 +77,7 @@ HasWalked-back_some s ts i front left behind v after h l turn gives leaves =
           ∙ sym (take_more (reverse vs) m v place) ∙ ap (λ j. take j (reverse vs)) (sym backs);
     }
 
--- one more turn at either end, where no part is left
+-- one more turn at either end takes nothing where no part is left
 HasWalked-none : (s : List ℕ) (ts : List Turn) (i : ℕ) (front : List Value) (left : List ℕ)
     (behind : List Value) (after : List ℕ) (a b : ℕ) → HasWalked s ts i front left behind
     → values left ≡ [] → after ≡ rest left a b → HasWalked s ts (i + 1) front after behind
@@ -100,7 +100,7 @@ HasWalked-none s ts i front left behind after a b h none leaves =
       behind_is = h.behind_is ∙ ap (λ us. take (count_by is_back us) (reverse vs)) (sym same);
     }
 
--- one more turn in front, and the part that it gave, if any
+-- one more turn in front takes the part that a call of `next` gave, if it gave one
 pub HasWalked-front : {A : Type 0} (shows : A → Value) (s : List ℕ) (ts : List Turn) (i : ℕ)
     (front : List Value) (left : List ℕ) (behind : List Value) (item : Option A) (after : List ℕ)
     → HasWalked s ts i front left behind → i < length ts → get_or ts i Front ≡ Front
@@ -113,7 +113,7 @@ HasWalked-front shows s ts i front left behind None after h l turn gives leaves 
 HasWalked-front shows s ts i front left behind (Some x) after h l turn gives leaves =
     HasWalked-front_some s ts i front left behind (shows x) after h l turn gives leaves
 
--- one more turn behind, and the part that it gave, if any
+-- one more turn behind takes the part that a call of `next_back` gave, if it gave one
 pub HasWalked-back : {A : Type 0} (shows : A → Value) (s : List ℕ) (ts : List Turn) (i : ℕ)
     (front : List Value) (left : List ℕ) (behind : List Value) (item : Option A) (after : List ℕ)
     → HasWalked s ts i front left behind → i < length ts → get_or ts i Front ≡ Back

@@ -1,18 +1,18 @@
--- What climbs, read from the left by a depth, and what the values of a path that doesn't leave.
+-- What climbs, read from the left by a depth, and what values leave that don't climb.
 use Rattle.std.proofs.Common.{◌≡◌, ℕ, suc, zero, ◌+◌, ◌<◌, Bool, true, false, cond}
 use Rattle.std.proofs.Common.{List, [], ◌∷◌, ◌++◌, length, take, refl, sym, ap, ap₂, ◌∙◌, arith}
 use Rattle.std.proofs.Common.{inl, inr, ⊎_elim, ◌⊎◌, ◌↔◌}
 use Rattle.std.specs.List.{AllByRecursion, count_by}
+use Rattle.std.proofs.lemmas.Bool.{false_from_ne_true}
 use Rattle.std.proofs.lemmas.List.Sums.{sum_by-cons}
 use Rattle.unix_path.specs.Parts.{Value, RootDir, CurDir, ParentDir, Normal, is_rooted, values}
-use Rattle.unix_path.proofs.CaseLemmas.{by_test}
 use Rattle.unix_path.proofs.PartLemmas.{root_first, root_first-values}
 use Rattle.unix_path.proofs.RootLemmas.{rooted-Begins}
 use Rattle.path_runs.proofs.LeadLemmas.{IsInner, inner-behind}
 use Rattle.path_within.specs.Resolved.{AreNames, Climbs, GoesAbove, is_name, is_parent}
 use Rattle.path_within.specs.Resolved.{kept_of}
 
--- from depth n the values go above depth 0
+-- read from depth n on, the values go above depth 0
 abbrev pub above_from : ℕ → List Value → Bool
 above_from n [] = false
 above_from n (RootDir ∷ vs) = above_from n vs
@@ -21,7 +21,7 @@ above_from zero (ParentDir ∷ vs) = true
 above_from (suc n) (ParentDir ∷ vs) = above_from n vs
 above_from n (Normal name ∷ vs) = above_from (suc n) vs
 
--- from depth n some first values have more `..` than names
+-- some first values have more `..` than there are names in them and n
 abbrev pub GoesAboveFrom : ℕ → List Value → Type 0
 GoesAboveFrom n vs =
     (k : ℕ) × (n + count_by is_name (take k vs) < count_by is_parent (take k vs))
@@ -34,23 +34,26 @@ parent_count : (v : Value) (vs : List Value)
     → count_by is_parent (v ∷ vs) ≡ cond (is_parent v) 1 0 + count_by is_parent vs
 parent_count v vs = sum_by-cons (λ v. cond (is_parent v) 1 0) v vs
 
+-- one more value in front moves the depth by as much as it counts
 one_more : (n m : ℕ) (v : Value) (vs : List Value)
     → n + cond (is_name v) 1 0 ≡ m + cond (is_parent v) 1 0
     → GoesAboveFrom m vs → GoesAboveFrom n (v ∷ vs)
 one_more n m v vs e (k, h) =
     (suc k, omega (arith, name_count v (take k vs), parent_count v (take k vs)))
 
-above-found : (n : ℕ) (vs : List Value) → above_from n vs ≡ true → GoesAboveFrom n vs
-above-found n [] e = absurd (let d : false ≡ true = e in cc)
-above-found n (RootDir ∷ vs) e = one_more n n RootDir vs refl (above-found n vs e)
-above-found n (CurDir ∷ vs) e = one_more n n CurDir vs refl (above-found n vs e)
-above-found n (Normal name ∷ vs) e =
-    one_more n (suc n) (Normal name) vs (omega arith) (above-found (suc n) vs e)
-above-found zero (ParentDir ∷ vs) e =
+-- what goes above in the reading by depth has some first values with more `..`
+above_from-goes : (n : ℕ) (vs : List Value) → above_from n vs ≡ true → GoesAboveFrom n vs
+above_from-goes n [] e = absurd (let d : false ≡ true = e in cc)
+above_from-goes n (RootDir ∷ vs) e = one_more n n RootDir vs refl (above_from-goes n vs e)
+above_from-goes n (CurDir ∷ vs) e = one_more n n CurDir vs refl (above_from-goes n vs e)
+above_from-goes n (Normal name ∷ vs) e =
+    one_more n (suc n) (Normal name) vs (omega arith) (above_from-goes (suc n) vs e)
+above_from-goes zero (ParentDir ∷ vs) e =
     (1, omega (arith, name_count ParentDir [], parent_count ParentDir []))
-above-found (suc n) (ParentDir ∷ vs) e =
-    one_more (suc n) n ParentDir vs (omega arith) (above-found n vs e)
+above_from-goes (suc n) (ParentDir ∷ vs) e =
+    one_more (suc n) n ParentDir vs (omega arith) (above_from-goes n vs e)
 
+-- one value less in front moves the depth by as much as it counts
 one_less : (n m k : ℕ) (v : Value) (vs : List Value)
     → n + cond (is_name v) 1 0 ≡ m + cond (is_parent v) 1 0
     → n + count_by is_name (v ∷ take k vs) < count_by is_parent (v ∷ take k vs)
@@ -58,42 +61,43 @@ one_less : (n m k : ℕ) (v : Value) (vs : List Value)
 one_less n m k v vs e h =
     omega (arith, name_count v (take k vs), parent_count v (take k vs))
 
-above-reached : (n k : ℕ) (vs : List Value)
+-- what has some first values with more `..` goes above in the reading by depth
+goes-above_from : (n k : ℕ) (vs : List Value)
     → n + count_by is_name (take k vs) < count_by is_parent (take k vs) → above_from n vs ≡ true
-above-reached n zero vs h = absurd (omega arith)
-above-reached n (suc k) [] h = absurd (omega arith)
-above-reached n (suc k) (RootDir ∷ vs) h =
-    above-reached n k vs (one_less n n k RootDir vs refl h)
-above-reached n (suc k) (CurDir ∷ vs) h =
-    above-reached n k vs (one_less n n k CurDir vs refl h)
-above-reached n (suc k) (Normal name ∷ vs) h =
-    above-reached (suc n) k vs (one_less n (suc n) k (Normal name) vs (omega arith) h)
-above-reached zero (suc k) (ParentDir ∷ vs) h = refl
-above-reached (suc n) (suc k) (ParentDir ∷ vs) h =
-    above-reached n k vs (one_less (suc n) n k ParentDir vs (omega arith) h)
+goes-above_from n zero vs h = absurd (omega arith)
+goes-above_from n (suc k) [] h = absurd (omega arith)
+goes-above_from n (suc k) (RootDir ∷ vs) h =
+    goes-above_from n k vs (one_less n n k RootDir vs refl h)
+goes-above_from n (suc k) (CurDir ∷ vs) h =
+    goes-above_from n k vs (one_less n n k CurDir vs refl h)
+goes-above_from n (suc k) (Normal name ∷ vs) h =
+    goes-above_from (suc n) k vs (one_less n (suc n) k (Normal name) vs (omega arith) h)
+goes-above_from zero (suc k) (ParentDir ∷ vs) h = refl
+goes-above_from (suc n) (suc k) (ParentDir ∷ vs) h =
+    goes-above_from n k vs (one_less (suc n) n k ParentDir vs (omega arith) h)
 
-pub above-goes : (vs : List Value) → above_from 0 vs ≡ true → GoesAbove vs
-above-goes vs e = let found = above-found 0 vs e in (found.0, omega (arith, found.1))
+above_from-GoesAbove : (vs : List Value) → above_from 0 vs ≡ true → GoesAbove vs
+above_from-GoesAbove vs e = let found = above_from-goes 0 vs e in (found.0, omega (arith, found.1))
 
-pub goes-above : (vs : List Value) → GoesAbove vs → above_from 0 vs ≡ true
-goes-above vs h = above-reached 0 h.0 vs (omega (arith, h.1))
+GoesAbove-above_from : (vs : List Value) → GoesAbove vs → above_from 0 vs ≡ true
+GoesAbove-above_from vs h = goes-above_from 0 h.0 vs (omega (arith, h.1))
 
--- what climbs has a root, or goes above in the reading by depth
+-- a path climbs exactly if it has a root or goes above depth 0 in the reading by depth
 pub climbs_by_depth : (s : List ℕ)
     → Climbs (values s) ↔ ((is_rooted s ≡ true) ⊎ (above_from 0 (values s) ≡ true))
 climbs_by_depth s = let root = rooted-Begins s (is_rooted s) refl in (
-  λ h. ⊎_elim (λ r. inl (root.1 r)) (λ a. inr (goes-above (values s) a)) h,
-  λ h. ⊎_elim (λ r. inl (root.0 r)) (λ a. inr (above-goes (values s) a)) h,
+  λ h. ⊎_elim (λ r. inl (root.1 r)) (λ a. inr (GoesAbove-above_from (values s) a)) h,
+  λ h. ⊎_elim (λ r. inl (root.0 r)) (λ a. inr (above_from-GoesAbove (values s) a)) h,
 )
 
--- `..` at depth 0
+-- a path with a `..` that is read at depth 0 climbs
 pub climbs_here : (s : List ℕ) (n : ℕ) (v : Value) (left more : List Value)
     → above_from n left ≡ above_from 0 (values s) → n ≡ 0 → left ≡ v ∷ more → v ≡ ParentDir
     → Climbs (values s)
 climbs_here s n v left more h none e up =
     (climbs_by_depth s).1 (inr (sym h ∙ ap₂ above_from none (e ∙ ap (λ v. v ∷ more) up)))
 
--- no root, and nothing is left
+-- a path that has no root and of which nothing is left to be read doesn't climb
 pub climbs_nowhere : (s : List ℕ) (n : ℕ) (left : List Value)
     → above_from n left ≡ above_from 0 (values s) → left ≡ [] → is_rooted s ≡ false
     → Climbs (values s) → false ≡ true
@@ -110,6 +114,7 @@ NoRoots (CurDir ∷ vs) = NoRoots vs
 NoRoots (ParentDir ∷ vs) = NoRoots vs
 NoRoots (Normal name ∷ vs) = NoRoots vs
 
+-- no inner value is the root
 pub inner-no_roots : (vs : List Value) → AllByRecursion IsInner vs → NoRoots vs
 inner-no_roots [] h = tt
 inner-no_roots (RootDir ∷ vs) h = absurd h.0
@@ -117,6 +122,7 @@ inner-no_roots (CurDir ∷ vs) h = absurd h.0
 inner-no_roots (ParentDir ∷ vs) h = inner-no_roots vs h.1
 inner-no_roots (Normal name ∷ vs) h = inner-no_roots vs h.1
 
+-- no value of a rootless path is the root
 pub rootless-no_roots : (s : List ℕ) → is_rooted s ≡ false → NoRoots (values s)
 rootless-no_roots s r = by (values s) refl
   where
@@ -128,11 +134,12 @@ rootless-no_roots s r = by (values s) refl
     by (ParentDir ∷ vs) e = inner-no_roots vs (inner-behind s ParentDir vs e)
     by (Normal name ∷ vs) e = inner-no_roots vs (inner-behind s (Normal name) vs e)
 
--- values that don't climb leave what was kept, and add names
+-- the values vs leave ks, which was kept behind the names ns, as it is, and names stand before it
 pub record Stays (ks ns vs : List Value) : Type 0 where
   pub kept : kept_of (ns ++ ks) vs ≡ kept_of ns vs ++ ks
   pub names : AreNames (kept_of ns vs)
 
+-- values without a root that never go above the depth of ns leave what was kept behind ns
 stays : (ks ns vs : List Value) → AreNames ns → NoRoots vs → above_from (length ns) vs ≡ false
     → Stays ks ns vs
 stays ks ns [] h r e = record { kept = refl; names = h }
@@ -150,12 +157,13 @@ stays ks (RootDir ∷ ns) (ParentDir ∷ vs) h r e = absurd h
 stays ks (CurDir ∷ ns) (ParentDir ∷ vs) h r e = absurd h
 stays ks (ParentDir ∷ ns) (ParentDir ∷ vs) h r e = absurd h
 
+-- a path that doesn't climb leaves what was kept as it is, and adds names
 pub stays_within : (ks : List Value) (b : List ℕ) → (Climbs (values b) → ⊥)
     → Stays ks [] (values b)
 stays_within ks b h =
     let depth = climbs_by_depth b in
     let rootless : is_rooted b ≡ false =
-    by_test (is_rooted b) (λ r. absurd (h (depth.1 (inl r)))) (λ r. r) in
+    false_from_ne_true (is_rooted b) (λ r. h (depth.1 (inl r))) in
     let below : above_from 0 (values b) ≡ false =
-    by_test (above_from 0 (values b)) (λ a. absurd (h (depth.1 (inr a)))) (λ a. a) in
+    false_from_ne_true (above_from 0 (values b)) (λ a. h (depth.1 (inr a))) in
     stays ks [] (values b) tt (rootless-no_roots b rootless) below

@@ -10,17 +10,17 @@ use Rattle.path_within.specs.Resolved.{AreNames, kept_of, up_from}
 use Rattle.path_within.specs.Resolved.{resolved_of, resolved_bytes_of, steps_between, way_of}
 use Rattle.path_within.specs.Steps.{IsKept}
 use Rattle.path_within.proofs.ClimbLemmas.{NoRoots, rootless-no_roots}
-use Rattle.path_within.proofs.KeptLemmas.{kept_all}
+use Rattle.path_within.proofs.KeptLemmas.{IsKept-kept_of}
 use Rattle.path_within.proofs.KeptLemmas.{names_reverse}
 use Rattle.path_within.proofs.ResolvedLemmas.{kept_of-join, values-resolved}
-use Rattle.path_within.proofs.SharedLemmas.{shared, leads}
-use Rattle.path_within.proofs.SharedLemmas.{steps_between-some}
+use Rattle.path_within.proofs.SharedStartLemmas.{shared_count, leads}
+use Rattle.path_within.proofs.BetweenLemmas.{steps_between-some}
 
--- `..` takes nothing of these values away, the last of them first
+-- `..` takes nothing of the kept values ks away
 abbrev pub IsFloor : List Value → Type 0
 IsFloor ks = (up_from ks ≡ ks) ⊎ (up_from ks ≡ ParentDir ∷ ks)
 
--- names, and below them a floor
+-- the kept values ks are names, and before these a floor
 pub record OnFloor (ks : List Value) : Type 0 where
   pub top : List Value
   pub floor : List Value
@@ -28,6 +28,7 @@ pub record OnFloor (ks : List Value) : Type 0 where
   pub is_floor : IsFloor floor
   pub is : ks ≡ top ++ floor
 
+-- kept values stand on a floor
 on_floor : (ks : List Value) → IsKept ks → OnFloor ks
 on_floor [] h =
     record { top = []; floor = []; names = tt; is_floor = inr refl; is = refl }
@@ -44,12 +45,13 @@ on_floor (Normal name ∷ ks) h = let more = on_floor ks h in record {
   is = ap (λ zs. Normal name ∷ zs) more.is;
 }
 
--- the floor stays, and no root comes upon it
+-- the kept values ks are a floor and no root behind it
 pub record KeepsFloor (ks floor : List Value) : Type 0 where
   pub top : List Value
   pub no_roots : NoRoots top
   pub is : ks ≡ top ++ floor
 
+-- `..` keeps the floor
 up_on : (top floor : List Value) → IsFloor floor → NoRoots top
     → KeepsFloor (up_from (top ++ floor)) floor
 up_on [] floor h k = ⊎_elim
@@ -62,6 +64,7 @@ up_on (ParentDir ∷ top) floor h k =
     record { top = ParentDir ∷ ParentDir ∷ top; no_roots = k; is = refl }
 up_on (Normal name ∷ top) floor h k = record { top = top; no_roots = k; is = refl }
 
+-- values without a root keep the floor
 keeps_floor : (top floor vs : List Value) → IsFloor floor → NoRoots top → NoRoots vs
     → KeepsFloor (kept_of (top ++ floor) vs) floor
 keeps_floor top floor [] h k r = record { top = top; no_roots = k; is = refl }
@@ -73,6 +76,7 @@ keeps_floor top floor (ParentDir ∷ vs) h k r =
     subst (λ ks. KeepsFloor (kept_of ks vs) floor) (sym up.is)
     (keeps_floor up.top floor vs h up.no_roots r)
 
+-- no name is the root
 no_roots_names : (vs : List Value) → AreNames vs → NoRoots vs
 no_roots_names [] h = tt
 no_roots_names (Normal name ∷ vs) h = no_roots_names vs h
@@ -99,7 +103,7 @@ no_roots_reverse (Normal name ∷ vs) h = rw (reverse_onto vs (Normal name) [])
 
 -- where values without a root lead from one list to another, there is a way
 some_way : (ks vs : List Value) → IsKept ks → NoRoots vs
-    → (let v = reverse ks in let w = reverse (kept_of ks vs) in let n = shared v w in
+    → (let v = reverse ks in let w = reverse (kept_of ks vs) in let n = shared_count v w in
     (steps : List Value) × (steps_between (drop n v) (drop n w) ≡ Some steps))
 some_way ks vs h r =
     let on = on_floor ks h in
@@ -107,7 +111,7 @@ some_way ks vs h r =
     let f = reverse on.floor in
     let x = f ++ reverse on.top in
     let y = f ++ reverse keeps.top in
-    let n = shared x y in
+    let n = shared_count x y in
     let v : reverse ks ≡ x = ap reverse on.is ∙ reverse-append on.top on.floor in
     let w : reverse (kept_of ks vs) ≡ y =
     ap (λ zs. reverse (kept_of zs vs)) on.is ∙ ap reverse keeps.is
@@ -117,6 +121,7 @@ some_way ks vs h r =
     rw (v, w)
     (_, steps_between-some (drop n x) (drop n y) lead.names lead.no_roots)
 
+-- where there is no way, no rootless path, joined to the first, resolves to the other
 pub no_way : (from to b : List ℕ) → way_of (values from) (values to) ≡ None
     → is_rooted b ≡ false → resolved_bytes_of (join_of from b) ≡ resolved_bytes_of to → ⊥
 unfolding way_of resolved_of
@@ -125,7 +130,8 @@ no_way from to b none r e =
     let joined : reverse (kept_of ks (values b)) ≡ resolved_of (values to) =
     ap reverse (sym (kept_of-join from b)) ∙ sym (values-resolved (join_of from b))
     ∙ ap values e ∙ values-resolved to in
-    let some = some_way ks (values b) (kept_all [] (values from) tt) (rootless-no_roots b r) in
-    let same = subst (λ w. let n = shared (reverse ks) w in
+    let some =
+    some_way ks (values b) (IsKept-kept_of [] (values from) tt) (rootless-no_roots b r) in
+    let same = subst (λ w. let n = shared_count (reverse ks) w in
     steps_between (drop n (reverse ks)) (drop n w) ≡ Some some.0) joined some.1 in
     let no : None ≡ Some some.0 = sym none ∙ same in cc

@@ -6,34 +6,40 @@ use Rattle.path_within.specs.Resolved.{up_from, keep, kept_of, resolved_of, AreN
 use Rattle.path_within.specs.Resolved.{AreUpsThenNames, IsNormal}
 use Rattle.path_within.specs.Steps.{AreUps, IsKept}
 
-pub kept_ups : (ks : List Value) → AreUps ks → IsKept ks
-kept_ups [] h = tt
-kept_ups (ParentDir ∷ ks) h = h
-kept_ups (RootDir ∷ ks) h = absurd h
-kept_ups (CurDir ∷ ks) h = absurd h
-kept_ups (Normal name ∷ ks) h = absurd h
+-- values that are all `..` are such as are kept
+pub IsKept-ups : (ks : List Value) → AreUps ks → IsKept ks
+IsKept-ups [] h = tt
+IsKept-ups (ParentDir ∷ ks) h = h
+IsKept-ups (RootDir ∷ ks) h = absurd h
+IsKept-ups (CurDir ∷ ks) h = absurd h
+IsKept-ups (Normal name ∷ ks) h = absurd h
 
-kept_up : (ks : List Value) → IsKept ks → IsKept (up_from ks)
-kept_up [] h = tt
-kept_up (RootDir ∷ ks) h = h
-kept_up (CurDir ∷ ks) h = absurd h
-kept_up (ParentDir ∷ ks) h = h
-kept_up (Normal name ∷ ks) h = h
+-- what is kept, after `..`, is such as is kept
+IsKept-up_from : (ks : List Value) → IsKept ks → IsKept (up_from ks)
+IsKept-up_from [] h = tt
+IsKept-up_from (RootDir ∷ ks) h = h
+IsKept-up_from (CurDir ∷ ks) h = absurd h
+IsKept-up_from (ParentDir ∷ ks) h = h
+IsKept-up_from (Normal name ∷ ks) h = h
 
-pub kept_one : (ks : List Value) (v : Value) → IsKept ks → IsKept (keep ks v)
-kept_one ks RootDir h = refl
-kept_one ks CurDir h = h
-kept_one ks ParentDir h = kept_up ks h
-kept_one ks (Normal name) h = h
+-- what is kept, after one more value, is such as is kept
+pub IsKept-keep : (ks : List Value) (v : Value) → IsKept ks → IsKept (keep ks v)
+IsKept-keep ks RootDir h = refl
+IsKept-keep ks CurDir h = h
+IsKept-keep ks ParentDir h = IsKept-up_from ks h
+IsKept-keep ks (Normal name) h = h
 
-pub kept_all : (ks vs : List Value) → IsKept ks → IsKept (kept_of ks vs)
-kept_all ks [] h = h
-kept_all ks (v ∷ vs) h = kept_all (keep ks v) vs (kept_one ks v h)
+-- what is kept, after more values, is such as is kept
+pub IsKept-kept_of : (ks vs : List Value) → IsKept ks → IsKept (kept_of ks vs)
+IsKept-kept_of ks [] h = h
+IsKept-kept_of ks (v ∷ vs) h = IsKept-kept_of (keep ks v) vs (IsKept-keep ks v h)
 
+-- what is kept after two lists of values is what is kept after one and then the other
 pub kept_of-append : (ks vs ws : List Value) → kept_of ks (vs ++ ws) ≡ kept_of (kept_of ks vs) ws
 kept_of-append ks [] ws = refl
 kept_of-append ks (v ∷ vs) ws = kept_of-append (keep ks v) vs ws
 
+-- behind values that are all `..`, one more is kept
 pub up_behind : (ks : List Value) → AreUps ks → up_from ks ≡ ParentDir ∷ ks
 up_behind [] h = refl
 up_behind (ParentDir ∷ ks) h = refl
@@ -41,25 +47,26 @@ up_behind (RootDir ∷ ks) h = absurd h
 up_behind (CurDir ∷ ks) h = absurd h
 up_behind (Normal name ∷ ks) h = absurd h
 
--- what is kept behind the values before the last of those kept
+-- the last of kept values is kept behind those before it
 keep_last : (v : Value) (ks : List Value) → IsKept (v ∷ ks) → keep ks v ≡ v ∷ ks
 keep_last RootDir ks h = ap (λ ks. RootDir ∷ ks) (sym h)
 keep_last CurDir ks h = absurd h
 keep_last ParentDir ks h = up_behind ks h
 keep_last (Normal name) ks h = refl
 
-pub kept_tail : (v : Value) (ks : List Value) → IsKept (v ∷ ks) → IsKept ks
-kept_tail RootDir ks h = rw h tt
-kept_tail CurDir ks h = absurd h
-kept_tail ParentDir ks h = kept_ups ks h
-kept_tail (Normal name) ks h = h
+-- the values before the last of kept ones are such as are kept
+pub IsKept-tail : (v : Value) (ks : List Value) → IsKept (v ∷ ks) → IsKept ks
+IsKept-tail RootDir ks h = rw h tt
+IsKept-tail CurDir ks h = absurd h
+IsKept-tail ParentDir ks h = IsKept-ups ks h
+IsKept-tail (Normal name) ks h = h
 
--- what is kept is kept again
+-- kept values, read again in the order of the path, are all kept
 pub kept_of-kept : (ks : List Value) → IsKept ks → kept_of [] (reverse ks) ≡ ks
 kept_of-kept [] h = refl
 kept_of-kept (v ∷ ks) h =
     ap (kept_of []) (reverse_onto ks v []) ∙ kept_of-append [] (reverse ks) (v ∷ [])
-    ∙ ap (λ js. keep js v) (kept_of-kept ks (kept_tail v ks h)) ∙ keep_last v ks h
+    ∙ ap (λ js. keep js v) (kept_of-kept ks (IsKept-tail v ks h)) ∙ keep_last v ks h
 
 ups_push : (vs : List Value) → AreUps vs → AreUps (vs ++ ParentDir ∷ [])
 ups_push [] h = tt
@@ -112,7 +119,7 @@ normal_push (ParentDir ∷ vs) name h = ups_names_push vs name h
 normal_push (RootDir ∷ vs) name h = names_push vs name h
 normal_push (CurDir ∷ vs) name h = absurd h
 
--- what is kept, in the order of the path, is normal
+-- kept values, in the order of the path, are normal
 normal_kept : (ks : List Value) → IsKept ks → IsNormal (reverse ks)
 normal_kept [] h = tt
 normal_kept (Normal name ∷ ks) h = rw (reverse_onto ks (Normal name) [])
@@ -124,20 +131,21 @@ normal_kept (ParentDir ∷ ks) h = rw (reverse_onto ks ParentDir [])
 
 pub resolved_normal : (vs : List Value) → IsNormal (resolved_of vs)
 unfolding resolved_of
-resolved_normal vs = normal_kept (kept_of [] vs) (kept_all [] vs tt)
+resolved_normal vs = normal_kept (kept_of [] vs) (IsKept-kept_of [] vs tt)
 
-pub resolved_again : (vs : List Value) → resolved_of (resolved_of vs) ≡ resolved_of vs
+-- resolving again changes nothing
+pub resolved_of-resolved_of : (vs : List Value) → resolved_of (resolved_of vs) ≡ resolved_of vs
 unfolding resolved_of
-resolved_again vs = ap reverse (kept_of-kept (kept_of [] vs) (kept_all [] vs tt))
+resolved_of-resolved_of vs = ap reverse (kept_of-kept (kept_of [] vs) (IsKept-kept_of [] vs tt))
 
--- what was resolved, and then more, resolves as all of it does
+-- resolved values and then others resolve as the unresolved ones and those others do
 pub resolved_of-append : (vs ws : List Value)
     → resolved_of (resolved_of vs ++ ws) ≡ resolved_of (vs ++ ws)
 unfolding resolved_of
 resolved_of-append vs ws =
     let ks = kept_of [] vs in
     ap reverse (kept_of-append [] (reverse ks) ws
-    ∙ ap (λ js. kept_of js ws) (kept_of-kept ks (kept_all [] vs tt))
+    ∙ ap (λ js. kept_of js ws) (kept_of-kept ks (IsKept-kept_of [] vs tt))
     ∙ sym (kept_of-append [] vs ws))
 
 pub names_reverse : (ks : List Value) → AreNames ks → AreNames (reverse ks)

@@ -4,7 +4,8 @@ pub mod ResolvedLemmas
 pub mod ClimbLemmas
 pub mod RequestLemmas
 pub mod WithinLemmas
-pub mod SharedLemmas
+pub mod SharedStartLemmas
+pub mod BetweenLemmas
 pub mod WayLemmas
 pub mod LeadsLemmas
 pub mod FloorLemmas
@@ -12,4 +13,4 @@ pub mod PopLemmas
 pub mod StepLemmas
 pub mod PlainLemmas
 pub mod SkipLemmas
-pub mod FoundLemmas
+pub mod WaySpellingLemmas

@@ -1,5 +1,6 @@
 -- Requests with neither a root nor a `..`.
-use Rattle.std.proofs.Common.{◌≡◌, ℕ, suc, Bool, true, false, List, [], ◌∷◌, refl, sym, ◌∙◌, ⊎_elim}
+use Rattle.std.proofs.Common.{◌≡◌, ℕ, suc, true, false, List, [], ◌∷◌, refl, sym, ◌∙◌, ⊎_elim}
+use Rattle.std.proofs.lemmas.Bool.{both_ways}
 use Rattle.std.specs.List.{AllByRecursion}
 use Rattle.unix_path.specs.Parts.{Value, RootDir, CurDir, ParentDir, Normal, is_rooted, values}
 use Rattle.unix_path.proofs.PartLemmas.{root_first, root_first-values}
@@ -8,6 +9,7 @@ use Rattle.path_runs.proofs.LeadLemmas.{IsInner, inner-behind}
 use Rattle.path_within.specs.Resolved.{AreNames, Climbs, has_root_or_up}
 use Rattle.path_within.proofs.ClimbLemmas.{above_from, climbs_by_depth}
 
+-- values without a root or a `..` have no root in front
 no_root_first : (vs : List Value) → has_root_or_up vs ≡ false → root_first vs ≡ false
 no_root_first [] e = refl
 no_root_first (RootDir ∷ vs) e = absurd (let no : true ≡ false = e in cc)
@@ -15,9 +17,11 @@ no_root_first (CurDir ∷ vs) e = refl
 no_root_first (ParentDir ∷ vs) e = refl
 no_root_first (Normal name ∷ vs) e = refl
 
+-- a request without a root or a `..` is rootless
 pub plain_rootless : (b : List ℕ) → has_root_or_up (values b) ≡ false → is_rooted b ≡ false
 plain_rootless b e = sym (root_first-values b) ∙ no_root_first (values b) e
 
+-- values without a root or a `..` go above nowhere
 above_from-plain : (n : ℕ) (vs : List Value) → has_root_or_up vs ≡ false
     → above_from n vs ≡ false
 above_from-plain n [] e = refl
@@ -26,15 +30,14 @@ above_from-plain n (CurDir ∷ vs) e = above_from-plain n vs e
 above_from-plain n (ParentDir ∷ vs) e = absurd (let no : true ≡ false = e in cc)
 above_from-plain n (Normal name ∷ vs) e = above_from-plain (suc n) vs e
 
-contradiction : {P : Type 0} (c : Bool) → c ≡ true → c ≡ false → P
-contradiction c e f = absurd (let no : true ≡ false = sym e ∙ f in cc)
-
+-- a request without a root or a `..` doesn't climb
 pub plain_stays : (b : List ℕ) → has_root_or_up (values b) ≡ false → Climbs (values b) → ⊥
 plain_stays b e h = ⊎_elim
-    (λ r. contradiction (is_rooted b) r (plain_rootless b e))
-    (λ a. contradiction (above_from 0 (values b)) a (above_from-plain 0 (values b) e))
+    (λ r. both_ways (is_rooted b) (plain_rootless b e) r)
+    (λ a. both_ways (above_from 0 (values b)) (above_from-plain 0 (values b) e) a)
     ((climbs_by_depth b).0 h)
 
+-- inner values without a `..` are names
 inner_names : (vs : List Value) → AllByRecursion IsInner vs → has_root_or_up vs ≡ false
     → AreNames vs
 inner_names [] h e = tt
@@ -43,6 +46,7 @@ inner_names (CurDir ∷ vs) h e = absurd h.0
 inner_names (ParentDir ∷ vs) h e = absurd (let no : true ≡ false = e in cc)
 inner_names (Normal name ∷ vs) h e = inner_names vs h.1 e
 
+-- a request without a root or a `..` has names alone behind a leading dot
 pub plain_names : (b : List ℕ) → has_root_or_up (values b) ≡ false
     → AreNames (drop_dot (values b))
 plain_names b plain = by (values b) refl plain

@@ -7,19 +7,22 @@ use Rattle.unix_path.proofs.JoinLemmas.{join_of_rooted}
 use Rattle.path_runs.specs.JoinLaws.{drop_dot, values_added}
 use Rattle.path_runs.specs.Spelling.{spelling_of}
 use Rattle.path_runs.proofs.LeadLemmas.{values-join_of_values_added}
-use Rattle.path_runs.proofs.PieceValueLemmas.{rooted_is, values-rooted}
+use Rattle.path_runs.proofs.PieceValueLemmas.{is_rooted-slash, values-rooted}
 use Rattle.path_within.specs.Resolved.{kept_of, resolved_of, resolved_bytes_of}
-use Rattle.path_within.proofs.KeptLemmas.{kept_all, kept_of-append, resolved_of-append}
-use Rattle.path_within.proofs.SpelledLemmas.{path_of-spelled, values-path_of, values_one, one_kept}
+use Rattle.path_within.proofs.KeptLemmas.{IsKept-kept_of, kept_of-append, resolved_of-append}
+use Rattle.path_within.proofs.SpelledLemmas.{AllOne-kept_of, AllOne-values}
+use Rattle.path_within.proofs.SpelledLemmas.{path_of-spelled, values-path_of}
 
+-- a resolved path has the resolved values
 pub values-resolved : (s : List ℕ) → values (resolved_bytes_of s) ≡ resolved_of (values s)
 unfolding resolved_of
 values-resolved s =
     let ks = kept_of [] (values s) in
-    let kept = kept_all [] (values s) tt in
-    let one = one_kept [] (values s) tt (values_one s) in
+    let kept = IsKept-kept_of [] (values s) tt in
+    let one = AllOne-kept_of [] (values s) tt (AllOne-values s) in
     ap values (sym (path_of-spelled ks kept one)) ∙ values-path_of ks kept one
 
+-- a leading dot changes nothing of what is kept
 kept_of-drop_dot : (ks vs : List Value) → kept_of ks (drop_dot vs) ≡ kept_of ks vs
 kept_of-drop_dot ks [] = refl
 kept_of-drop_dot ks (RootDir ∷ vs) = refl
@@ -27,6 +30,7 @@ kept_of-drop_dot ks (CurDir ∷ vs) = refl
 kept_of-drop_dot ks (ParentDir ∷ vs) = refl
 kept_of-drop_dot ks (Normal name ∷ vs) = refl
 
+-- the values that b adds to a join change what is kept as those of b do
 kept_of-added : (ks : List Value) (a b : List ℕ)
     → kept_of ks (values_added a b) ≡ kept_of ks (values b)
 kept_of-added ks [] b = refl
@@ -36,10 +40,11 @@ kept_of-added ks (x ∷ a) b = kept_of-drop_dot ks (values b)
 kept_of-rooted : (ks : List Value) (b : List ℕ) → is_rooted b ≡ true
     → kept_of [] (values b) ≡ kept_of ks (values b)
 kept_of-rooted ks b r =
-    let t = rooted_is b r in
+    let t = is_rooted-slash b r in
     let lead = ap values t.1 ∙ values-rooted t.0 in
     ap (kept_of []) lead ∙ sym (ap (kept_of ks) lead)
 
+-- what is kept of a join is what is kept of the first path, and then of the second
 pub kept_of-join : (a b : List ℕ)
     → kept_of [] (values (join_of a b)) ≡ kept_of (kept_of [] (values a)) (values b)
 kept_of-join a b = by_test (is_rooted b)
@@ -48,13 +53,14 @@ kept_of-join a b = by_test (is_rooted b)
     (λ r. ap (kept_of []) (values-join_of_values_added a b r)
     ∙ kept_of-append [] (values a) (values_added a b) ∙ kept_of-added (kept_of [] (values a)) a b)
 
--- the values of a join resolve as those of both paths in a row
+-- the values of a join resolve as those of the first path and then those of the second
 pub resolved_of-both : (a b : List ℕ)
     → resolved_of (values (join_of a b)) ≡ resolved_of (values a ++ values b)
 unfolding resolved_of
 resolved_of-both a b =
     ap reverse (kept_of-join a b ∙ sym (kept_of-append [] (values a) (values b)))
 
+-- resolving a join is resolving it with the first path resolved
 pub resolved_of-join : (a b : List ℕ)
     → resolved_bytes_of (join_of a b) ≡ resolved_bytes_of (join_of (resolved_bytes_of a) b)
 resolved_of-join a b = ap spelling_of (resolved_of-both a b

@@ -1,100 +1,82 @@
 -- The values that are kept, spelled: each joined to those before it.
-use Rattle.std.proofs.Common.{◌≡◌, ℕ, Bool, true, false, cond, List, [], ◌∷◌, ◌++◌, map}
-use Rattle.std.proofs.Common.{reverse, refl, sym, ap, subst, ◌∙◌}
-use Rattle.std.specs.List.{AllByRecursion, slice_split}
-use Rattle.std.specs.Str.{bytes_eq}
+use Rattle.std.proofs.Common.{◌≡◌, ℕ, false, cond, List, [], ◌∷◌, ◌++◌, map}
+use Rattle.std.proofs.Common.{reverse, refl, sym, ap, ◌∙◌}
+use Rattle.std.specs.List.{slice_split}
 use Rattle.std.proofs.lemmas.Grind.{reverse_onto}
 use Rattle.std.proofs.lemmas.List.{map-append}
 use Rattle.std.proofs.lemmas.List.Elements.{All-from_recursion}
 use Rattle.std.proofs.lemmas.List.Splits.{slice_split_none}
 use Rattle.unix_path.specs.Fronts.{inner_values}
 use Rattle.unix_path.specs.Joins.{join_of, join_all_of}
-use Rattle.unix_path.specs.Parts.{is_slash, dot, cur_dir, is_rooted, value_of_piece}
+use Rattle.unix_path.specs.Parts.{is_slash, dot, is_rooted, value_of_piece}
 use Rattle.unix_path.specs.Parts.{Value, RootDir, CurDir, ParentDir, Normal, value_bytes, values}
-use Rattle.unix_path.proofs.CaseLemmas.{by_test}
 use Rattle.unix_path.proofs.JoinLemmas.{join_of_rooted}
 use Rattle.unix_path.proofs.PartLemmas.{root_first, root_first-values, values-nil}
 use Rattle.unix_path.proofs.StemLemmas.{value_bytes-piece}
 use Rattle.path_runs.specs.JoinLaws.{drop_lead}
 use Rattle.path_runs.specs.Spelling.{spelling_of}
+use Rattle.path_runs.proofs.ExtendLemmas.{join_all_of-append}
 use Rattle.path_runs.proofs.JoinAllLemmas.{join_all_of-values}
-use Rattle.path_runs.proofs.LeadLemmas.{IsInner, inner-no_lead, drop_lead-values, dot_first}
-use Rattle.path_runs.proofs.PieceValueLemmas.{names_of, values-rooted, values-rootless}
-use Rattle.path_runs.proofs.PieceValueLemmas.{rooted_is, NoSlash, slice_split-no_slash}
+use Rattle.path_runs.proofs.LeadLemmas.{IsInner, inner-no_lead, drop_lead-values}
+use Rattle.path_runs.proofs.PieceValueLemmas.{HoldsOfPieces, names_of, NoSlash}
+use Rattle.path_runs.proofs.PieceValueLemmas.{values-hold, values-rooted, values-rootless}
 use Rattle.path_runs.proofs.ValueLemmas.{append_values, values-join_of_rootless}
 use Rattle.path_within.specs.Resolved.{up_from, keep, kept_of}
 use Rattle.path_within.specs.Steps.{AllOne, IsKept, IsOne, path_of}
-use Rattle.path_within.proofs.KeptLemmas.{kept_ups}
+use Rattle.path_within.proofs.KeptLemmas.{IsKept-ups}
 
-pub root_one : IsOne RootDir
-root_one = values-rooted []
+pub IsOne-root : IsOne RootDir
+IsOne-root = values-rooted []
 
-dot_one : IsOne CurDir
-dot_one = values-rootless (dot ∷ []) ((dot ∷ []) ∷ []) refl refl
+IsOne-dot : IsOne CurDir
+IsOne-dot = values-rootless (dot ∷ []) ((dot ∷ []) ∷ []) refl refl
 
-pub up_one : IsOne ParentDir
-up_one = values-rootless (dot ∷ dot ∷ []) ((dot ∷ dot ∷ []) ∷ []) refl refl
-
-one_piece : (p : List ℕ) → NoSlash p → bytes_eq p [] ≡ false → bytes_eq p cur_dir ≡ false
-    → is_rooted p ≡ false → IsOne (value_of_piece p)
-one_piece p h e f r =
-    let alone : slice_split is_slash p ≡ p ∷ [] =
-    slice_split_none is_slash p (All-from_recursion (λ b. is_slash b ≡ false) p h) in
-    let single : names_of (p ∷ []) ≡ value_of_piece p ∷ [] = rw (e, f) refl in
-    ap values (value_bytes-piece p) ∙ values-rootless p (p ∷ []) r alone
-    ∙ ap (λ c. cond c (CurDir ∷ []) [] ++ names_of (p ∷ [])) f ∙ single
+pub IsOne-up : IsOne ParentDir
+IsOne-up = values-rootless (dot ∷ dot ∷ []) ((dot ∷ dot ∷ []) ∷ []) refl refl
 
 piece_rootless : (p : List ℕ) → NoSlash p → is_rooted p ≡ false
 piece_rootless [] h = refl
 piece_rootless (x ∷ p) h = h.0
 
-one_names : (ps : List (List ℕ)) → AllByRecursion NoSlash ps → AllOne (names_of ps)
-one_names [] h = tt
-one_names (p ∷ ps) h = by (bytes_eq p []) (bytes_eq p cur_dir) refl refl (one_names ps h.1)
-  where
-    by : (c d : Bool) → bytes_eq p [] ≡ c → bytes_eq p cur_dir ≡ d → AllOne (names_of ps)
-        → AllOne (names_of (p ∷ ps))
-    by true d e f more = rw e more
-    by false true e f more = rw (e, f) more
-    by false false e f more =
-        rw (e, f) (one_piece p h.0 e f (piece_rootless p h.0), more)
-
-one_lead : (c : Bool) (vs : List Value) → AllOne vs → AllOne (cond c (CurDir ∷ []) [] ++ vs)
-one_lead true vs h = (dot_one, h)
-one_lead false vs h = h
+-- a piece that counts is spelled as a path of that piece alone
+IsOne-piece : HoldsOfPieces IsOne
+IsOne-piece p h e f =
+    let alone : slice_split is_slash p ≡ p ∷ [] =
+    slice_split_none is_slash p (All-from_recursion (λ b. is_slash b ≡ false) p h) in
+    let single : names_of (p ∷ []) ≡ value_of_piece p ∷ [] = rw (e, f) refl in
+    ap values (value_bytes-piece p) ∙ values-rootless p (p ∷ []) (piece_rootless p h) alone
+    ∙ ap (λ c. cond c (CurDir ∷ []) [] ++ names_of (p ∷ [])) f ∙ single
 
 -- each value of a path is spelled as a path of that value alone
-pub values_one : (s : List ℕ) → AllOne (values s)
-values_one s = by_test (is_rooted s)
-    (λ r. let t = rooted_is s r in
-    subst AllOne (sym (ap values t.1 ∙ values-rooted t.0))
-    (root_one, one_names (slice_split is_slash t.0) (slice_split-no_slash t.0)))
-    (λ r. let ps = slice_split is_slash s in
-    subst AllOne (sym (values-rootless s ps r refl))
-    (one_lead (dot_first ps) (names_of ps) (one_names ps (slice_split-no_slash s))))
+pub AllOne-values : (s : List ℕ) → AllOne (values s)
+AllOne-values s = values-hold IsOne IsOne-root IsOne-dot IsOne-piece s
 
-one_up : (ks : List Value) → AllOne ks → AllOne (up_from ks)
-one_up [] h = (up_one, tt)
-one_up (RootDir ∷ ks) h = h
-one_up (CurDir ∷ ks) h = (up_one, h)
-one_up (ParentDir ∷ ks) h = (up_one, h)
-one_up (Normal name ∷ ks) h = h.1
+-- what is kept, after `..`, is spelled value by value
+AllOne-up_from : (ks : List Value) → AllOne ks → AllOne (up_from ks)
+AllOne-up_from [] h = (IsOne-up, tt)
+AllOne-up_from (RootDir ∷ ks) h = h
+AllOne-up_from (CurDir ∷ ks) h = (IsOne-up, h)
+AllOne-up_from (ParentDir ∷ ks) h = (IsOne-up, h)
+AllOne-up_from (Normal name ∷ ks) h = h.1
 
-pub one_keep : (ks : List Value) (v : Value) → AllOne ks → IsOne v → AllOne (keep ks v)
-one_keep ks RootDir h k = (root_one, tt)
-one_keep ks CurDir h k = h
-one_keep ks ParentDir h k = one_up ks h
-one_keep ks (Normal name) h k = (k, h)
+-- what is kept, after one more value, is spelled value by value
+pub AllOne-keep : (ks : List Value) (v : Value) → AllOne ks → IsOne v → AllOne (keep ks v)
+AllOne-keep ks RootDir h k = (IsOne-root, tt)
+AllOne-keep ks CurDir h k = h
+AllOne-keep ks ParentDir h k = AllOne-up_from ks h
+AllOne-keep ks (Normal name) h k = (k, h)
 
-pub one_kept : (ks vs : List Value) → AllOne ks → AllOne vs → AllOne (kept_of ks vs)
-one_kept ks [] h k = h
-one_kept ks (v ∷ vs) h k = one_kept (keep ks v) vs (one_keep ks v h k.0) k.1
+-- what is kept, after more values, is spelled value by value
+pub AllOne-kept_of : (ks vs : List Value) → AllOne ks → AllOne vs → AllOne (kept_of ks vs)
+AllOne-kept_of ks [] h k = h
+AllOne-kept_of ks (v ∷ vs) h k = AllOne-kept_of (keep ks v) vs (AllOne-keep ks v h k.0) k.1
 
 append_inner : (vs : List Value) (b : List ℕ) (v : Value) → values b ≡ v ∷ []
     → inner_values b ≡ v ∷ [] → append_values vs b ≡ vs ++ v ∷ []
 append_inner [] b v e f = e
 append_inner (w ∷ vs) b v e f = ap (λ ws. w ∷ vs ++ ws) f
 
+-- a join with the bytes of an inner value adds that value
 values-join_of_value : (s : List ℕ) (v : Value) → IsInner v → IsOne v
     → values (join_of s (value_bytes v)) ≡ values s ++ v ∷ []
 values-join_of_value s v i e =
@@ -105,26 +87,24 @@ values-join_of_value s v i e =
     values-join_of_rootless s b rootless
     ∙ append_inner (values s) b v e (sym (drop_lead-values b) ∙ ap drop_lead e ∙ inner.no_lead)
 
+-- an inner value, joined to kept values, is read behind them
 push_value : (ks : List Value) (v : Value) → IsInner v → IsOne v
     → values (path_of ks) ≡ reverse ks → values (path_of (v ∷ ks)) ≡ reverse (v ∷ ks)
 push_value ks v i e h = values-join_of_value (path_of ks) v i e
     ∙ ap (λ vs. vs ++ v ∷ []) h ∙ sym (reverse_onto ks v [])
 
+-- the joins of kept values are read back as these, in the order of the path
 pub values-path_of : (ks : List Value) → IsKept ks → AllOne ks → values (path_of ks) ≡ reverse ks
 values-path_of [] h k = values-nil
 values-path_of (RootDir ∷ ks) h k =
-    rw h (ap values (join_of_rooted [] (value_bytes RootDir) refl) ∙ root_one)
+    rw h (ap values (join_of_rooted [] (value_bytes RootDir) refl) ∙ IsOne-root)
 values-path_of (CurDir ∷ ks) h k = absurd h
 values-path_of (ParentDir ∷ ks) h k =
-    push_value ks ParentDir tt k.0 (values-path_of ks (kept_ups ks h) k.1)
+    push_value ks ParentDir tt k.0 (values-path_of ks (IsKept-ups ks h) k.1)
 values-path_of (Normal name ∷ ks) h k =
     push_value ks (Normal name) tt k.0 (values-path_of ks h k.1)
 
-join_all_of-append : (a : List ℕ) (bs cs : List (List ℕ))
-    → join_all_of a (bs ++ cs) ≡ join_all_of (join_all_of a bs) cs
-join_all_of-append a [] cs = refl
-join_all_of-append a (b ∷ bs) cs = join_all_of-append (join_of a b) bs cs
-
+-- the joins of kept values are those of their bytes, in the order of the path
 join_all_of-reverse : (ks : List Value)
     → join_all_of [] (map value_bytes (reverse ks)) ≡ path_of ks
 join_all_of-reverse [] = refl
@@ -134,7 +114,7 @@ join_all_of-reverse (v ∷ ks) =
     ∙ join_all_of-append [] (map value_bytes (reverse ks)) (value_bytes v ∷ [])
     ∙ ap (λ a. join_of a (value_bytes v)) (join_all_of-reverse ks)
 
--- the joins of what is kept are its spelling
+-- the joins of kept values are their spelling
 pub path_of-spelled : (ks : List Value) → IsKept ks → AllOne ks
     → path_of ks ≡ spelling_of (reverse ks)
 path_of-spelled ks h k =

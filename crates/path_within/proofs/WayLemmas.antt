@@ -1,4 +1,4 @@
--- The way from one path to another leads there.
+-- What is kept after names, after `..`, and after what stands behind a start of kept values.
 use Rattle.std.proofs.Common.{◌≡◌, List, [], ◌∷◌, ◌++◌, reverse, length}
 use Rattle.std.proofs.Common.{arith, refl, sym, ap, subst, ◌∙◌, append_assoc}
 use Rattle.std.proofs.lemmas.Grind.{reverse_onto}
@@ -8,9 +8,10 @@ use Rattle.path_within.specs.Resolved.{AreNames, AreUpsThenNames, IsNormal, kept
 use Rattle.path_within.specs.Steps.{AreUps, IsKept}
 use Rattle.path_within.proofs.ClimbLemmas.{NoRoots}
 use Rattle.path_within.proofs.KeptLemmas.{kept_of-append, kept_of-kept}
-use Rattle.path_within.proofs.KeptLemmas.{kept_tail, up_behind}
-use Rattle.path_within.proofs.SharedLemmas.{ups_of}
+use Rattle.path_within.proofs.KeptLemmas.{IsKept-tail, up_behind}
+use Rattle.path_within.proofs.BetweenLemmas.{ups_of}
 
+-- behind what is kept, names are kept as they stand
 pub kept_of-names : (ks vs : List Value) → AreNames vs → kept_of ks vs ≡ reverse vs ++ ks
 kept_of-names ks [] h = refl
 kept_of-names ks (Normal name ∷ vs) h =
@@ -21,6 +22,7 @@ kept_of-names ks (RootDir ∷ vs) h = absurd h
 kept_of-names ks (CurDir ∷ vs) h = absurd h
 kept_of-names ks (ParentDir ∷ vs) h = absurd h
 
+-- behind `..`, more of them and then names are kept as they stand
 pub kept_of-straight : (us vs : List Value) → AreUps us → AreUpsThenNames vs
     → kept_of us vs ≡ reverse vs ++ us
 kept_of-straight us [] h k = refl
@@ -44,27 +46,29 @@ kept_of-ups (RootDir ∷ ns) ks (v ∷ vs) h e = absurd h
 kept_of-ups (CurDir ∷ ns) ks (v ∷ vs) h e = absurd h
 kept_of-ups (ParentDir ∷ ns) ks (v ∷ vs) h e = absurd h
 
-kept_behind : (xs ks : List Value) → IsKept (xs ++ ks) → IsKept ks
-kept_behind [] ks h = h
-kept_behind (x ∷ xs) ks h = kept_behind xs ks (kept_tail x (xs ++ ks) h)
+-- the first of kept values are such as are kept
+IsKept-append : (xs ks : List Value) → IsKept (xs ++ ks) → IsKept ks
+IsKept-append [] ks h = h
+IsKept-append (x ∷ xs) ks h = IsKept-append xs ks (IsKept-tail x (xs ++ ks) h)
 
--- the front of what is kept is kept as it stands
-kept_front : (ks front rest : List Value) → IsKept ks → front ++ rest ≡ reverse ks
-    → kept_of [] front ≡ reverse front
-kept_front ks front rest h e =
-    let turned : ks ≡ reverse rest ++ reverse front =
-    sym (reverse-reverse ks) ∙ ap reverse (sym e) ∙ reverse-append front rest in
-    let kept : IsKept (reverse front) =
-    kept_behind (reverse rest) (reverse front) (subst IsKept turned h) in
-    ap (kept_of []) (sym (reverse-reverse front)) ∙ kept_of-kept (reverse front) kept
+-- a start of kept values is kept as it stands
+kept_of-start : (ks start rest : List Value) → IsKept ks → start ++ rest ≡ reverse ks
+    → kept_of [] start ≡ reverse start
+kept_of-start ks start rest h e =
+    let all : ks ≡ reverse rest ++ reverse start =
+    sym (reverse-reverse ks) ∙ ap reverse (sym e) ∙ reverse-append start rest in
+    let kept : IsKept (reverse start) =
+    IsKept-append (reverse rest) (reverse start) (subst IsKept all h) in
+    ap (kept_of []) (sym (reverse-reverse start)) ∙ kept_of-kept (reverse start) kept
 
--- the values behind the shared front, kept behind it
-pub kept_rest : (ks front rest : List Value) → IsKept ks → front ++ rest ≡ reverse ks
-    → kept_of (reverse front) rest ≡ ks
-kept_rest ks front rest h e =
-    ap (λ js. kept_of js rest) (sym (kept_front ks front rest h e))
-    ∙ sym (kept_of-append [] front rest) ∙ ap (kept_of []) e ∙ kept_of-kept ks h
+-- the rest of kept values, kept behind their start, gives all of them
+pub kept_of-rest : (ks start rest : List Value) → IsKept ks → start ++ rest ≡ reverse ks
+    → kept_of (reverse start) rest ≡ ks
+kept_of-rest ks start rest h e =
+    ap (λ js. kept_of js rest) (sym (kept_of-start ks start rest h e))
+    ∙ sym (kept_of-append [] start rest) ∙ ap (kept_of []) e ∙ kept_of-kept ks h
 
+-- names are `..`, none of them, and then names
 names_straight : (vs : List Value) → AreNames vs → AreUpsThenNames vs
 names_straight [] h = tt
 names_straight (Normal name ∷ vs) h = h
@@ -72,32 +76,36 @@ names_straight (RootDir ∷ vs) h = absurd h
 names_straight (CurDir ∷ vs) h = absurd h
 names_straight (ParentDir ∷ vs) h = absurd h
 
-names_end : (front rest : List Value) → AreNames (front ++ rest) → AreNames rest
+-- the rest of names is names
+names_end : (start rest : List Value) → AreNames (start ++ rest) → AreNames rest
 names_end [] rest h = h
-names_end (Normal name ∷ front) rest h = names_end front rest h
-names_end (RootDir ∷ front) rest h = absurd h
-names_end (CurDir ∷ front) rest h = absurd h
-names_end (ParentDir ∷ front) rest h = absurd h
+names_end (Normal name ∷ start) rest h = names_end start rest h
+names_end (RootDir ∷ start) rest h = absurd h
+names_end (CurDir ∷ start) rest h = absurd h
+names_end (ParentDir ∷ start) rest h = absurd h
 
-straight_end : (front rest : List Value) → AreUpsThenNames (front ++ rest) → AreUpsThenNames rest
+-- the rest of `..` and then names is `..` and then names
+straight_end : (start rest : List Value) → AreUpsThenNames (start ++ rest) → AreUpsThenNames rest
 straight_end [] rest h = h
-straight_end (Normal name ∷ front) rest h = names_straight rest (names_end front rest h)
-straight_end (RootDir ∷ front) rest h = absurd h
-straight_end (CurDir ∷ front) rest h = absurd h
-straight_end (ParentDir ∷ front) rest h = straight_end front rest h
+straight_end (Normal name ∷ start) rest h = names_straight rest (names_end start rest h)
+straight_end (RootDir ∷ start) rest h = absurd h
+straight_end (CurDir ∷ start) rest h = absurd h
+straight_end (ParentDir ∷ start) rest h = straight_end start rest h
 
-pub normal_end : (front rest : List Value) → IsNormal (front ++ rest) → NoRoots rest
+-- the rest of normal values without a root is `..` and then names
+pub normal_end : (start rest : List Value) → IsNormal (start ++ rest) → NoRoots rest
     → AreUpsThenNames rest
 normal_end [] [] h k = tt
 normal_end [] (Normal name ∷ rest) h k = h
 normal_end [] (RootDir ∷ rest) h k = absurd k
 normal_end [] (CurDir ∷ rest) h k = absurd h
 normal_end [] (ParentDir ∷ rest) h k = h
-normal_end (RootDir ∷ front) rest h k = names_straight rest (names_end front rest h)
-normal_end (Normal name ∷ front) rest h k = straight_end (Normal name ∷ front) rest h
-normal_end (CurDir ∷ front) rest h k = absurd h
-normal_end (ParentDir ∷ front) rest h k = straight_end (ParentDir ∷ front) rest h
+normal_end (RootDir ∷ start) rest h k = names_straight rest (names_end start rest h)
+normal_end (Normal name ∷ start) rest h k = straight_end (Normal name ∷ start) rest h
+normal_end (CurDir ∷ start) rest h k = absurd h
+normal_end (ParentDir ∷ start) rest h k = straight_end (ParentDir ∷ start) rest h
 
+-- `..` before `..` and then names are `..` and then names
 pub ups_straight : (xs vs : List Value) → AreUpsThenNames vs → AreUpsThenNames (ups_of xs ++ vs)
 ups_straight [] vs h = h
 ups_straight (x ∷ xs) vs h = ups_straight xs vs h

@@ -11,9 +11,9 @@ use Rattle.unix_path.proofs.CursorLemmas.{Components-yields}
 use Rattle.path_runs.proofs.JoinAllLemmas.{join_all_of-values}
 use Rattle.path_runs.proofs.canonical.canonical.Goals as goal
 
-map-drained : {S A B : Type 0} {steps : S → Option A → S → Type 0} (v : A → B) (xs : List A)
+map-Drains : {S A B : Type 0} {steps : S → Option A → S → Type 0} (v : A → B) (xs : List A)
     (ys : List B) {s : S} → Drains steps s xs → YieldsList steps v s ys → map v xs ≡ ys
-map-drained {S} {A} {B} {steps} v xs ys {s} drains yields =
+map-Drains {S} {A} {B} {steps} v xs ys {s} drains yields =
     gives_Drains steps v xs ys s yields.runs drains
 
 pub returns : goal.returns
@@ -23,7 +23,7 @@ returns c =
     let values_left = cursor_values c.components-parts.result in
     joins.bytes
     ∙ ap₂ join_all_of c.in_ok-spelling.ensures.bytes
-    (map-drained bytes_of joins.paths (map value_bytes values_left) joins.drained
+    (map-Drains bytes_of joins.paths (map value_bytes values_left) joins.drained
     (YieldsList-from_map_by _ bytes_of value_bytes
     (YieldsList-at c.map.ensures.source (Components-yields c.components-parts.result))
     c.map.ensures.closure

@@ -9,9 +9,9 @@ loop-done-preserved c =
     let one = c.in-Ok-apply_one.ensures in
     let pushed = c.push_reserved.ensures in
     record {
-      applied = rw pushed.items
+      so_far = rw pushed.items
           (HasApplied-more (path_bytes c.args.path.now) c.args.edits.now c.loop-done.done _ _ _ _ _
-          h.applied c.loop-done-test.true one.ok one.value);
+          h.so_far c.loop-done-test.true one.ok one.value);
       len = omega (arith, pushed.len, h.len);
       capacity = omega (arith, pushed.capacity, h.capacity);
     }

@@ -5,7 +5,7 @@ use Rattle.path_runs.proofs.edits.apply.Given as goal
 
 abbrev pub invariant-loop-done : goal.invariant-loop-done
 invariant-loop-done l = record {
-  applied : HasApplied (path_bytes l.initial.path) l.edits l.done
+  so_far : HasApplied (path_bytes l.initial.path) l.edits l.done
       (path_bytes l.path) l.answers.items;
   len : vec_len l.answers ≡ l.done;
   capacity : length l.edits ≤ vec_capacity l.answers;

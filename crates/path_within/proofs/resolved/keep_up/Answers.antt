@@ -3,22 +3,22 @@ use Rattle.std.proofs.lemmas.Result.{on_ok_weaker}
 use Rattle.unix_path.specs.Joins.{join_of}
 use Rattle.unix_path.specs.Parts.{is_rooted}
 use Rattle.unix_path.specs.Buffers.{path_bytes}
-use Rattle.path_within.proofs.PopLemmas.{is_named, spells_pop, spells_root, spells_up}
+use Rattle.path_within.proofs.PopLemmas.{file_name-is_some, spells_pop, spells_root, spells_up}
 use Rattle.path_within.proofs.resolved.keep_up.Goals as goal
 
 pub returns-then-is_some : goal.returns-then-is_some
 returns-then-is_some c = record {
   ok = λ ks h. spells_pop h
-      (is_named c.file_name.result (path_bytes c.args.kept.now) c.as_path.result.bytes.now _
-      c.file_name.ensures c.as_path.ensures (sym c.is_some.ensures ∙ c.if-is_some.true))
+      (file_name-is_some _ _ _ _ c.file_name.ensures c.as_path.ensures
+      (sym c.is_some.ensures ∙ c.if-is_some.true))
       c.pop.ensures.bytes;
 }
 
 pub returns-then-has_root : goal.returns-then-has_root
 returns-then-has_root c = record {
   ok = λ ks h. spells_root h
-      (is_named c.file_name.result (path_bytes c.args.kept.now) c.as_path.result.bytes.now _
-      c.file_name.ensures c.as_path.ensures (sym c.is_some.ensures ∙ c.if-is_some.false))
+      (file_name-is_some _ _ _ _ c.file_name.ensures c.as_path.ensures
+      (sym c.is_some.ensures ∙ c.if-is_some.false))
       (ap is_rooted (sym c.as_path-2.ensures) ∙ sym c.has_root.ensures.value ∙ c.if-has_root.true);
 }
 
@@ -26,8 +26,8 @@ pub returns : goal.returns
 returns c = record {
   ok = on_ok_weaker c.push.result
       (λ e ks h. spells_up h
-      (is_named c.file_name.result (path_bytes c.args.kept.now) c.as_path.result.bytes.now _
-      c.file_name.ensures c.as_path.ensures (sym c.is_some.ensures ∙ c.if-is_some.false))
+      (file_name-is_some _ _ _ _ c.file_name.ensures c.as_path.ensures
+      (sym c.is_some.ensures ∙ c.if-is_some.false))
       (ap is_rooted (sym c.as_path-2.ensures) ∙ sym c.has_root.ensures.value ∙ c.if-has_root.false)
       (e ∙ ap (join_of (path_bytes c.args.kept.now)) c.as_path-3.ensures))
       c.push.ensures.ok;

@@ -1,13 +1,13 @@
 use Rattle.std.proofs.Common.{sym, ◌∙◌}
 use Rattle.unix_path.specs.Cursor.{cursor_values}
 use Rattle.unix_path.specs.Views.{value_of}
-use Rattle.path_within.proofs.SkipLemmas.{Skipped, skipped_differ, skips_next}
+use Rattle.path_within.proofs.SkipLemmas.{SkipsAll, skips_all_differ, skips_next}
 use Rattle.path_within.proofs.way.skip_shared.Goals as goal
 
 differ : (c : goal.Then-not-is_same)
-    → Skipped (cursor_values c.args.from) (cursor_values c.args.to)
+    → SkipsAll (cursor_values c.args.from) (cursor_values c.args.to)
     (cursor_values c.loop-first.left) (cursor_values c.loop-first.onward)
-differ c = skipped_differ (cursor_values c.args.from) (cursor_values c.args.to)
+differ c = skips_all_differ (cursor_values c.args.from) (cursor_values c.args.to)
     (cursor_values c.loop-first.left) (cursor_values c.loop-first.onward)
     (value_of c.in-Some.first) (value_of c.in-Some-next.second)
     (cursor_values c.next.new.self) (cursor_values c.next-in-loop-first.new.self)

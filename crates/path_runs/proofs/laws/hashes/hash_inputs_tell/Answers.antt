@@ -1,13 +1,13 @@
 use Rattle.std.proofs.Common.{[], sym, ◌∙◌, append-nil}
 use Rattle.path_runs.proofs.OrderLemmas.{begins_both_ways}
-use Rattle.path_runs.proofs.ToldLemmas.{fed_begins}
+use Rattle.path_runs.proofs.ToldLemmas.{bytes_fed-Begins}
 use Rattle.path_runs.proofs.laws.hashes.hash_inputs_tell.Goals as goal
 
 pub returns-clause-equal : goal.returns-clause-equal
 returns-clause-equal c = λ s t e.
-    let there = fed_begins s t [] (append-nil _ ∙ e) in
-    let back = fed_begins t s [] (append-nil _ ∙ sym e) in
+    let there = bytes_fed-Begins s t [] (append-nil _ ∙ e) in
+    let back = bytes_fed-Begins t s [] (append-nil _ ∙ sym e) in
     begins_both_ways _ _ there.0 back.0 there.1 back.1
 
 pub returns-clause-begins : goal.returns-clause-begins
-returns-clause-begins c = λ s t begins. fed_begins s t begins.0 begins.1
+returns-clause-begins c = λ s t begins. bytes_fed-Begins s t begins.0 begins.1

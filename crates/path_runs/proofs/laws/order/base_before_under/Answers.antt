@@ -1,5 +1,5 @@
-use Rattle.path_runs.proofs.IntervalLemmas.{begun_not_less}
+use Rattle.path_runs.proofs.IntervalLemmas.{base_not_greater}
 use Rattle.path_runs.proofs.laws.order.base_before_under.Goals as goal
 
 pub returns : goal.returns
-returns c = begun_not_less
+returns c = base_not_greater

@@ -2,8 +2,8 @@ use Rattle.std.proofs.Common.{sym}
 use Rattle.unix_path.specs.Joins.{join_of}
 use Rattle.path_runs.specs.JoinLaws.{values_added}
 use Rattle.path_runs.proofs.LeadLemmas.{values-join_of_values_added}
+use Rattle.path_runs.proofs.StripLemmas.{values-stripped_of}
 use Rattle.path_within.proofs.RequestLemmas.{plain_names, plain_rootless, plain_stays}
-use Rattle.path_within.proofs.WithinLemmas.{values-stripped_of}
 use Rattle.path_within.proofs.laws.within.plain_stays_within.Goals as goal
 
 pub returns-clause-climbs : goal.returns-clause-climbs
@@ -21,4 +21,4 @@ returns-clause-begins c = λ a b e.
 
 pub returns-clause-stripped : goal.returns-clause-stripped
 returns-clause-stripped c = λ a b e. values-stripped_of (join_of a b) a (values_added a b)
-    (values-join_of_values_added a b (plain_rootless b e))
+    (sym (values-join_of_values_added a b (plain_rootless b e)))

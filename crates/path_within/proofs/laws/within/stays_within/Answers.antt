@@ -2,8 +2,8 @@ use Rattle.std.proofs.Common.{sym}
 use Rattle.unix_path.specs.Parts.{values}
 use Rattle.path_within.specs.Resolved.{resolved_bytes_of}
 use Rattle.unix_path.specs.Joins.{join_of}
+use Rattle.path_runs.proofs.StripLemmas.{values-stripped_of}
 use Rattle.path_within.proofs.WithinLemmas.{resolved_of-within, names-within, values-within}
-use Rattle.path_within.proofs.WithinLemmas.{values-stripped_of}
 use Rattle.path_within.proofs.laws.within.stays_within.Goals as goal
 
 pub returns-clause-values : goal.returns-clause-values
@@ -18,4 +18,4 @@ returns-clause-begins c = λ a b h. (values (resolved_bytes_of b), sym (values-w
 pub returns-clause-stripped : goal.returns-clause-stripped
 returns-clause-stripped c = λ a b h.
     values-stripped_of (resolved_bytes_of (join_of a b)) (resolved_bytes_of a)
-    (values (resolved_bytes_of b)) (values-within a b h)
+    (values (resolved_bytes_of b)) (sym (values-within a b h))

@@ -1,4 +1,4 @@
--- What is spelled of a way that is found, and of none.
+-- How a way is spelled, and that there is none.
 use Rattle.std.proofs.Common.{◌≡◌, ℕ, Bool, true, false, not, ◌&&◌, List, [], ◌++◌, drop}
 use Rattle.std.proofs.Common.{Some, None, option_map, reverse, refl, sym, ap, ap₂, ◌∙◌}
 use Rattle.std.proofs.Common.{append-nil, cond}
@@ -12,40 +12,43 @@ use Rattle.path_within.specs.Steps.{Spells}
 use Rattle.path_within.proofs.KeptLemmas.{kept_of-append}
 use Rattle.path_within.proofs.LeadsLemmas.{way_is}
 use Rattle.path_within.proofs.ResolvedLemmas.{values-resolved}
-use Rattle.path_within.proofs.SharedLemmas.{names_all, no_roots_any, shared, steps_between-some}
-use Rattle.path_within.proofs.SharedLemmas.{ups_of}
+use Rattle.path_within.proofs.SharedStartLemmas.{shared_count}
+use Rattle.path_within.proofs.BetweenLemmas.{names_all, no_roots_any, steps_between-some}
+use Rattle.path_within.proofs.BetweenLemmas.{ups_of}
 use Rattle.path_within.proofs.SpelledLemmas.{path_of-spelled}
 use Rattle.path_within.proofs.WayLemmas.{kept_of-straight}
 
--- these are left of both paths, resolved
+-- x and y are left of both paths, resolved, behind what these share
 pub record AreLeft (from to : List ℕ) (x y : List Value) : Type 0 where
-  pub first : x ≡ drop (shared (resolved_of (values from)) (resolved_of (values to)))
+  pub first : x ≡ drop (shared_count (resolved_of (values from)) (resolved_of (values to)))
       (resolved_of (values from))
-  pub second : y ≡ drop (shared (resolved_of (values from)) (resolved_of (values to)))
+  pub second : y ≡ drop (shared_count (resolved_of (values from)) (resolved_of (values to)))
       (resolved_of (values to))
 
-pub are_left : (from to : List ℕ) (v w x y : List Value) (s t : List ℕ)
+-- what is left of the values of two resolved paths is left of both paths
+pub AreLeft-resolved : (from to : List ℕ) (v w x y : List Value) (s t : List ℕ)
     → s ≡ resolved_bytes_of from → t ≡ resolved_bytes_of to → v ≡ values s → w ≡ values t
-    → x ≡ drop (shared v w) v → y ≡ drop (shared v w) w → AreLeft from to x y
-are_left from to v w x y s t e f g h i j =
+    → x ≡ drop (shared_count v w) v → y ≡ drop (shared_count v w) w → AreLeft from to x y
+AreLeft-resolved from to v w x y s t e f g h i j =
     let first = g ∙ ap values e ∙ values-resolved from in
     let second = h ∙ ap values f ∙ values-resolved to in record {
-      first = i ∙ ap₂ (λ v w. drop (shared v w) v) first second;
-      second = j ∙ ap₂ (λ v w. drop (shared v w) w) first second;
+      first = i ∙ ap₂ (λ v w. drop (shared_count v w) v) first second;
+      second = j ∙ ap₂ (λ v w. drop (shared_count v w) w) first second;
     }
 
+-- where a conjunction is true, both its sides are
 both_hold : (c d : Bool) → (c && not d) ≡ true → (c ≡ true) × (d ≡ false)
 both_hold true false e = (refl, refl)
 both_hold true true e = absurd (let no : false ≡ true = e in cc)
 both_hold false d e = absurd (let no : false ≡ true = e in cc)
 
--- what leads is spelled, where it was kept from nothing
-pub way_found : (from to : List ℕ) (x y : List Value) (t : List ℕ) → AreLeft from to x y
+-- where names are left of the first path and no root of the other, what is kept is the way
+pub spelling_of-way : (from to : List ℕ) (x y : List Value) (t : List ℕ) → AreLeft from to x y
     → (list_all is_name x && not (list_any is_root y)) ≡ true
     → Spells t (kept_of (kept_of [] (ups_of x)) y)
     → Some t ≡ option_map spelling_of (way_of (values from) (values to))
 unfolding way_of
-way_found from to x y t left can spells =
+spelling_of-way from to x y t left can spells =
     let both = both_hold (list_all is_name x) (list_any is_root y) can in
     let steps = ups_of x ++ y in
     let some : way_of (values from) (values to) ≡ Some steps =
@@ -64,12 +67,12 @@ none_between : (c d : Bool) (steps : List Value) → (c && not d) ≡ false
     → cond (c && not d) (Some steps) None ≡ None
 none_between c d steps e = rw e refl
 
--- no way, where more than names are left of the first, or the root of the other
-pub way_missing : (from to : List ℕ) (x y : List Value) → AreLeft from to x y
+-- where more than names are left of the first path, or the root of the other, there is no way
+pub spelling_of-no_way : (from to : List ℕ) (x y : List Value) → AreLeft from to x y
     → (list_all is_name x && not (list_any is_root y)) ≡ false
     → None ≡ option_map spelling_of (way_of (values from) (values to))
 unfolding way_of
-way_missing from to x y left fails =
+spelling_of-no_way from to x y left fails =
     sym (ap (option_map spelling_of)
     (ap₂ steps_between (sym left.first) (sym left.second)
     ∙ none_between (list_all is_name x) (list_any is_root y) (ups_of x ++ y) fails))

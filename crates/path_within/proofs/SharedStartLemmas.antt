@@ -1,0 +1,97 @@
+-- What two lists of values begin with, and what is left of both behind that.
+use Rattle.std.proofs.Common.{◌≡◌, ℕ, ◌+◌, zero, suc, true, false}
+use Rattle.std.proofs.Common.{List, [], ◌∷◌, ◌++◌, drop, refl, ap, ◌∙◌, arith}
+use Rattle.std.proofs.lemmas.Cmp.{tied_itself}
+use Rattle.std.specs.Cmp.{Equal-is}
+use Rattle.std.specs.List.{common_prefix_len}
+use Rattle.std.specs.Ordering.{is_eq}
+use Rattle.unix_path.specs.Order.{same_value, value_cmp}
+use Rattle.unix_path.specs.OrderLaws.{value_cmp-equal, value_cmp-total}
+use Rattle.unix_path.specs.Parts.{Value, RootDir, CurDir, ParentDir, Normal}
+use Rattle.unix_path.proofs.CaseLemmas.{by_test}
+use Rattle.path_within.specs.Resolved.{AreNames}
+use Rattle.path_within.proofs.ClimbLemmas.{NoRoots}
+
+pub same_value-equal : (v w : Value) → same_value v w ≡ true → v ≡ w
+same_value-equal v w e = value_cmp-equal v w ((Equal-is (value_cmp v w)).0 e)
+
+-- a value is the same as itself
+pub same_value-self : (v : Value) → same_value v v ≡ true
+same_value-self v = ap is_eq (tied_itself value_cmp-total v)
+
+-- how many first values two lists have in common
+abbrev pub shared_count : List Value → List Value → ℕ
+shared_count v w = common_prefix_len same_value v w
+
+pub drop-more : (x : Value) (xs : List Value) (n : ℕ) → drop (1 + n) (x ∷ xs) ≡ drop n xs
+drop-more x xs n = ap (λ k. drop k (x ∷ xs)) (let e : 1 + n ≡ suc n = omega arith in e)
+
+-- two lists that begin with the same value have one more value in common than what follows
+pub shared_count-yes : (x y : Value) (xs ys : List Value) → same_value x y ≡ true
+    → shared_count (x ∷ xs) (y ∷ ys) ≡ 1 + shared_count xs ys
+shared_count-yes x y xs ys e = rw e refl
+
+-- two lists that begin with different values have none in common
+pub shared_count-no : (x y : Value) (xs ys : List Value) → same_value x y ≡ false
+    → shared_count (x ∷ xs) (y ∷ ys) ≡ 0
+shared_count-no x y xs ys e = rw e refl
+
+-- what two lists both begin with, which is each without what is left of it behind that
+pub record SharedStart (v w : List Value) : Type 0 where
+  pub start : List Value
+  pub first : start ++ drop (shared_count v w) v ≡ v
+  pub second : start ++ drop (shared_count v w) w ≡ w
+
+-- any two lists have a start that both share
+pub shared_start : (v w : List Value) → SharedStart v w
+shared_start [] w = record { start = []; first = refl; second = refl }
+shared_start (x ∷ xs) [] = record { start = []; first = refl; second = refl }
+shared_start (x ∷ xs) (y ∷ ys) = let more = shared_start xs ys in by_test (same_value x y)
+    (λ e. let n = shared_count-yes x y xs ys e in record {
+      start = x ∷ more.start;
+      first = ap (λ k. x ∷ more.start ++ drop k (x ∷ xs)) n
+          ∙ ap (λ zs. x ∷ more.start ++ zs) (drop-more x xs (shared_count xs ys))
+          ∙ ap (λ zs. x ∷ zs) more.first;
+      second = ap (λ k. x ∷ more.start ++ drop k (y ∷ ys)) n
+          ∙ ap (λ zs. x ∷ more.start ++ zs) (drop-more y ys (shared_count xs ys))
+          ∙ ap (λ zs. x ∷ zs) more.second ∙ ap (λ z. z ∷ ys) (same_value-equal x y e);
+    })
+    (λ e. let n = shared_count-no x y xs ys e in record {
+      start = [];
+      first = ap (λ k. drop k (x ∷ xs)) n;
+      second = ap (λ k. drop k (y ∷ ys)) n;
+    })
+
+names-drop : (n : ℕ) (vs : List Value) → AreNames vs → AreNames (drop n vs)
+names-drop zero vs h = h
+names-drop (suc n) [] h = tt
+names-drop (suc n) (Normal name ∷ vs) h = names-drop n vs h
+names-drop (suc n) (RootDir ∷ vs) h = absurd h
+names-drop (suc n) (CurDir ∷ vs) h = absurd h
+names-drop (suc n) (ParentDir ∷ vs) h = absurd h
+
+no_roots-drop : (n : ℕ) (vs : List Value) → NoRoots vs → NoRoots (drop n vs)
+no_roots-drop zero vs h = h
+no_roots-drop (suc n) [] h = tt
+no_roots-drop (suc n) (Normal name ∷ vs) h = no_roots-drop n vs h
+no_roots-drop (suc n) (RootDir ∷ vs) h = absurd h
+no_roots-drop (suc n) (CurDir ∷ vs) h = no_roots-drop n vs h
+no_roots-drop (suc n) (ParentDir ∷ vs) h = no_roots-drop n vs h
+
+-- behind what both begin with, names are left of the first and no root of the second
+pub record Leads (v w : List Value) : Type 0 where
+  pub names : AreNames (drop (shared_count v w) v)
+  pub no_roots : NoRoots (drop (shared_count v w) w)
+
+-- behind what two lists begin with, names stay names and no root comes up
+pub leads : (f x y : List Value) → AreNames x → NoRoots y → Leads (f ++ x) (f ++ y)
+leads [] x y h k = record {
+  names = names-drop (shared_count x y) x h;
+  no_roots = no_roots-drop (shared_count x y) y k;
+}
+leads (z ∷ f) x y h k =
+    let more = leads f x y h k in
+    let n = shared_count-yes z z (f ++ x) (f ++ y) (same_value-self z) in record {
+      names = rw (n, drop-more z (f ++ x) (shared_count (f ++ x) (f ++ y))) more.names;
+      no_roots = rw (n, drop-more z (f ++ y) (shared_count (f ++ x) (f ++ y))) more.no_roots;
+    }
