@@ -1,4 +1,4 @@
--- Why a join was refused.
+-- What the refusal of a join is printed as. Not in Rust's std.
 use Rattle.std.specs.Prelude.{ℕ, List, codes}
 use Rattle.path_within.specs.declared.within.WithinError.{WithinError}
 use Rattle.path_within.specs.declared.within.WithinError.TheVariants.{Escapes, Memory}

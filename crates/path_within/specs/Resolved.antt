@@ -37,18 +37,18 @@ resolved_of vs = reverse (kept_of [] vs)
 abbrev pub resolved_bytes_of : List ℕ → List ℕ
 resolved_bytes_of s = spelling_of (resolved_of (values s))
 
--- all are names
+-- all these values are names
 abbrev pub AreNames : List Value → Type 0
 AreNames [] = ⊤
 AreNames (Normal name ∷ vs) = AreNames vs
 AreNames vs = ⊥
 
--- `..` any number of times, and then names
+-- these values are `..` any number of times, and then names
 abbrev pub AreUpsThenNames : List Value → Type 0
 AreUpsThenNames (ParentDir ∷ vs) = AreUpsThenNames vs
 AreUpsThenNames vs = AreNames vs
 
--- no `.`, no `..` behind a name or the root, and a root only in front
+-- of these values none is `.`, no `..` stands behind a name or the root, and a root only in front
 abbrev pub IsNormal : List Value → Type 0
 IsNormal (RootDir ∷ vs) = AreNames vs
 IsNormal vs = AreUpsThenNames vs
@@ -67,11 +67,11 @@ abbrev pub is_root : Value → Bool
 is_root RootDir = true
 is_root _ = false
 
--- of some first values more are `..` than are names
+-- of some first of these values more are `..` than are names
 abbrev pub GoesAbove : List Value → Type 0
 GoesAbove vs = (n : ℕ) × (count_by is_name (take n vs) < count_by is_parent (take n vs))
 
--- read from the left, it goes above where it starts, or it has a root
+-- these values begin with a root or, read from the left, go above where they start
 abbrev pub Climbs : List Value → Type 0
 Climbs vs = Begins (RootDir ∷ []) vs ⊎ GoesAbove vs
 

@@ -7,11 +7,11 @@ use Rattle.path_runs.specs.JoinLaws.{drop_dot, values_added}
 use Rattle.path_within.specs.Resolved.{resolved_of, resolved_bytes_of, AreNames, IsNormal}
 use Rattle.path_within.specs.Resolved.{Climbs, has_root_or_up}
 
--- what is resolved is normal
+-- resolved values are normal
 abbrev pub ResolvedIsNormal : Type 0
 ResolvedIsNormal = (s : List ℕ) → IsNormal (resolved_of (values s))
 
--- the spelling of what is resolved has its values
+-- a resolved path, spelled, has the resolved values
 abbrev pub ResolvedReadsBack : Type 0
 ResolvedReadsBack = (s : List ℕ) → values (resolved_bytes_of s) ≡ resolved_of (values s)
 
@@ -31,23 +31,25 @@ ResolvedOfJoin =
     (a b : List ℕ)
     → resolved_bytes_of (join_of a b) ≡ resolved_bytes_of (join_of (resolved_bytes_of a) b)
 
--- behind a root stand the names of a request that doesn't climb, and nothing of the root goes
+-- a join with a request that doesn't climb has the resolved values of the root, and then those of
+-- the request
 abbrev pub WithinAddsNames : Type 0
 WithinAddsNames =
     (a b : List ℕ) → (Climbs (values b) → ⊥)
     → resolved_of (values (join_of a b)) ≡ resolved_of (values a) ++ resolved_of (values b)
 
--- what a request that doesn't climb resolves to has names alone
+-- a request that doesn't climb resolves to names alone
 abbrev pub WithinHasNames : Type 0
 WithinHasNames = (b : List ℕ) → (Climbs (values b) → ⊥) → AreNames (resolved_of (values b))
 
--- the resolved join starts with the resolved root
+-- the resolved join with a request that doesn't climb starts with the resolved root
 abbrev pub WithinBegins : Type 0
 WithinBegins =
     (a b : List ℕ) → (Climbs (values b) → ⊥)
     → Begins (values (resolved_bytes_of a)) (values (resolved_bytes_of (join_of a b)))
 
--- the resolved join without the resolved root is the resolved request
+-- the resolved join with a request that doesn't climb, without the resolved root, is equal to the
+-- resolved request
 abbrev pub WithinStripped : Type 0
 WithinStripped =
     (a b : List ℕ) → (Climbs (values b) → ⊥)
@@ -58,24 +60,26 @@ WithinStripped =
 abbrev pub PlainStays : Type 0
 PlainStays = (b : List ℕ) → has_root_or_up (values b) ≡ false → Climbs (values b) → ⊥
 
--- such a request is names alone, but for a leading dot
+-- a request with neither a root nor a `..` has names alone, but for a leading dot
 abbrev pub PlainHasNames : Type 0
 PlainHasNames =
     (b : List ℕ) → has_root_or_up (values b) ≡ false → AreNames (drop_dot (values b))
 
--- a join with it has the root's own values, and then what it adds
+-- a join with a request that has neither a root nor a `..` has the root's own values, and then
+-- what the request adds
 abbrev pub PlainAddsValues : Type 0
 PlainAddsValues =
     (a b : List ℕ) → has_root_or_up (values b) ≡ false
     → values (join_of a b) ≡ values a ++ values_added a b
 
--- and starts with the root
+-- a join with a request that has neither a root nor a `..` starts with the root
 abbrev pub PlainBegins : Type 0
 PlainBegins =
     (a b : List ℕ) → has_root_or_up (values b) ≡ false
     → Begins (values a) (values (join_of a b))
 
--- and without the root has what was added
+-- a join with a request that has neither a root nor a `..`, without its root, has what the request
+-- added
 abbrev pub PlainStripped : Type 0
 PlainStripped =
     (a b : List ℕ) → has_root_or_up (values b) ≡ false

@@ -1,17 +1,17 @@
--- Words of private steps. No public clause cites them.
+-- What a resolved path is kept as while its parts are read. No public clause cites it.
 use Rattle.std.specs.Prelude.{◌≡◌, ◌==◌, ◌&&◌, ◌||◌, ℕ, Bool, not, List, [], ◌∷◌, ⊤}
 use Rattle.std.specs.List.{AllByRecursion}
 use Rattle.unix_path.specs.Joins.{join_of}
 use Rattle.unix_path.specs.Parts.{dot, is_slash, Value, RootDir, ParentDir, Normal}
 use Rattle.unix_path.specs.Parts.{value_bytes, values}
 
--- all are `..`
+-- all these values are `..`
 abbrev pub AreUps : List Value → Type 0
 AreUps [] = ⊤
 AreUps (ParentDir ∷ vs) = AreUps vs
 AreUps vs = ⊥
 
--- the values, the last first, are such as are kept: names, and before them the root alone or `..`
+-- these values, the last first, are such as are kept: names, and before them the root alone or `..`
 abbrev pub IsKept : List Value → Type 0
 IsKept (Normal name ∷ ks) = IsKept ks
 IsKept (RootDir ∷ ks) = ks ≡ []
@@ -21,11 +21,11 @@ IsKept ks = AreUps ks
 abbrev pub IsOne : Value → Type 0
 IsOne v = values (value_bytes v) ≡ v ∷ []
 
--- all are so
+-- the bytes of each of these values are a path of that value alone
 abbrev pub AllOne : List Value → Type 0
 AllOne vs = AllByRecursion IsOne vs
 
--- the values, the last first, each joined to those before it
+-- the bytes of these values, the last first, each joined to those before it
 abbrev pub path_of : List Value → List ℕ
 path_of [] = []
 path_of (v ∷ ks) = join_of (path_of ks) (value_bytes v)

@@ -25,7 +25,7 @@ pub(crate) fn keep_up(kept: &mut PathBuf) -> Result<(), AllocError>
     kept.push(Component::ParentDir.as_path())
 }
 
-// Keeps one part more.
+// Keeps one more part behind what is kept.
 fn keep(kept: &mut PathBuf, part: Component<'_>) -> Result<(), AllocError>
     ensures ok { OnOk result ((ks : List Value)
         → Spells (path_bytes kept.old) ks → IsOne (value_of part.entry)
@@ -83,9 +83,9 @@ fn is_resolved(path: Path<'_>) -> bool
 /// so does `..` behind the root. Without a root, `..` with no name before it stays in front.
 ///
 /// It goes by names alone: where a part before a `..` may be a link, only the system knows where
-/// that `..` leads. The empty path stands for here. Allocates once, as many bytes as the path has,
-/// or not at all for the empty path; fails if the allocation fails. Not in Rust's std; as Go's
-/// `path.Clean`, which gives `.` for the empty path.
+/// that `..` leads. The empty path stands for the current directory. Allocates once, as many bytes
+/// as the path has, or not at all for the empty path; fails if the allocation fails. Not in Rust's
+/// std; as Go's `path.Clean`, which gives `.` for the empty path.
 ///
 /// For `a/../..//b/.` it is `../b`, for `/../a` it is `/a`, and for `a/..` the empty path.
 pub fn resolved(alloc: Global, path: Path<'_>) -> Result<PathBuf, AllocError>

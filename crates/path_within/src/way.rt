@@ -105,14 +105,14 @@ fn keep_ups(kept: &mut PathBuf, parts: Components<'_>) -> Result<(), AllocError>
     Ok(())
 }
 
-/// The way by names from one path to another: `..` for each name of the first that the other
-/// doesn't share, and then what is left of the other, both resolved.
+/// The way by names from one path to another, both resolved: `..` for each name of the first behind
+/// what both begin with, and then what is left of the other.
 ///
-/// None exactly where one has a root and the other has none, or where what is left of the first
-/// holds a `..`: then no path without a root leads there. For equal paths it is the empty path. It
-/// goes by names alone: where a part may be a link, only the system knows where `..` leads.
-/// Allocates both paths resolved, and the way as it grows; fails if an allocation fails. Not in
-/// Rust's std; as Python's `PurePath.relative_to` with `walk_up`, which doesn't resolve.
+/// `None` exactly where one path has a root and the other has none, or where what is left of the
+/// first holds a `..`: then no path without a root leads there. For equal paths it is the empty
+/// path. It goes by names alone: where a part may be a link, only the system knows where `..`
+/// leads. Allocates both resolved paths, and the way as it grows; fails if an allocation fails. Not
+/// in Rust's std; as Python's `PurePath.relative_to` with `walk_up`, which doesn't resolve.
 ///
 /// From `/a/b/c` to `/a/d` it is `../../d`; from `../x` to `y` there is none.
 pub fn way(alloc: Global, from: Path<'_>, to: Path<'_>) -> Result<Option<PathBuf>, AllocError>

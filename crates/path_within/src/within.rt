@@ -18,7 +18,7 @@ use unix_path::{Component, Path, PathBuf};
 
 /// Why a request couldn't be joined to its root.
 ///
-/// Its text is padded like any text. Not in Rust's std.
+/// A display pads its text like any text. Not in Rust's std.
 #[derive(Debug, Drop)]
 pub enum WithinError {
     /// The request would leave the root: `path leaves its root`.
@@ -27,8 +27,7 @@ pub enum WithinError {
     Memory(AllocError),
 }
 
-/// The texts that the variants name, padded by width, precision, fill and alignment. Does not
-/// allocate.
+/// The text of each variant, padded by width, precision, fill and alignment. Does not allocate.
 ///
 /// `WithinError::Escapes` is printed as `path leaves its root`.
 impl fmt::Display for WithinError {
@@ -62,7 +61,7 @@ impl From<AllocError> for WithinError {
 }
 
 /// Whether the path has a root or, read from the left, ever goes above where it starts: some of its
-/// first parts then hold more `..` than names, even if later names come down again.
+/// first parts then hold more `..` than names, even if names follow.
 ///
 /// It goes by names alone: where a part may be a link, only the system knows where `..` leads. Does
 /// not allocate. Not in Rust's std; Go's `filepath.IsLocal` is its opposite, but for the empty
