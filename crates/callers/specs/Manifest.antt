@@ -13,7 +13,7 @@ use Rattle.path_runs.specs.Spelling.{spelling_of}
 abbrev pub paths_cmp : PathBuf → PathBuf → Ordering
 paths_cmp p q = values_cmp (values (path_bytes p)) (values (path_bytes q))
 
--- a view is equal to the owned path p
+-- the view `path` is equal to the owned path p
 abbrev pub is_same : PathBuf → Path → Bool
 is_same p path = is_eq (values_cmp (values path.bytes.now) (values (path_bytes p)))
 

@@ -13,9 +13,10 @@ use path_runs::laws;
 use std::collections::BTreeMap;
 use unix_path::{Path, PathBuf};
 
-/// The value at the key that is equal to this path, in a map whose keys are views.
+/// The value at the key that is equal to this path, in a map whose keys are views; `None` if no key
+/// is equal to it.
 ///
-/// Does not allocate.
+/// Does not allocate. As Rust's `BTreeMap::get`.
 ///
 /// With 1 at `a/b`, for `a//b/` it is 1.
 pub fn value_at<'m, 'a, V>(files: &'m BTreeMap<Path<'a>, V>, path: Path<'a>) -> Option<&'m V>
@@ -26,8 +27,10 @@ pub fn value_at<'m, 'a, V>(files: &'m BTreeMap<Path<'a>, V>, path: Path<'a>) -> 
     files.get(&path)
 }
 
-/// The place of an entry with this path, in a list that is sorted by path; or the place at which
-/// this path can be inserted. As Rust's `slice::binary_search_by`. Does not allocate.
+/// The place of an entry with this path, in a list that is sorted by path, or as an error the place
+/// at which this path can be inserted.
+///
+/// Does not allocate. As Rust's `slice::binary_search_by`.
 ///
 /// Among `a`, `a/b` and `b` it is `Ok(1)` for `a//b`, and `Err(2)` for `a/c`.
 pub fn place_of<V>(files: &[(PathBuf, V)], path: Path<'_>) -> Result<usize, usize>

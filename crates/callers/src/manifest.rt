@@ -11,10 +11,11 @@ use std::alloc::{AllocError, Global};
 use std::collections::BTreeSet;
 use unix_path::{Path, PathBuf};
 
-/// The paths in canonical form, sorted, and each once.
+/// The set of these paths in canonical form.
 ///
-/// The set contains a path exactly if it is equal to one of these. Allocates for each path and its
-/// place in the set; fails if an allocation fails, and the set is dropped.
+/// The set is sorted and has each path once; it contains a path exactly if that is equal to one of
+/// these. Allocates for each path and its place in the set; fails if an allocation fails, and then
+/// the set is dropped. Not in Rust's std.
 ///
 /// For `b`, `a//b/.`, `a/b` and `./a` it is `./a`, `a/b` and `b`.
 pub fn normalise(alloc: Global, paths: &[Path<'_>]) -> Result<BTreeSet<PathBuf>, AllocError>

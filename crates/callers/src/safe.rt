@@ -13,7 +13,7 @@ use unix_path::{Component, Path, PathBuf};
 
 /// Whether a path stays below whatever it is joined to: it is relative, and no part is `..`.
 ///
-/// Does not allocate.
+/// Does not allocate. Not in Rust's std.
 ///
 /// For `a/..b` it is true; for `a/../b` and `/a` it is false.
 pub fn stays_below(request: Path<'_>) -> bool
@@ -30,7 +30,7 @@ pub fn stays_below(request: Path<'_>) -> bool
 ///
 /// The join begins with the root's parts. It is a join of paths: symbolic links are not followed.
 /// Allocates once, the length of the join in bytes, or not at all for `None` and for an empty join;
-/// fails if the allocation fails.
+/// fails if the allocation fails. Not in Rust's std.
 ///
 /// For `/srv` and `a//b` it is `/srv/a//b`, and for `/srv` and `a/../../b` it is `None`.
 pub fn safe_join(

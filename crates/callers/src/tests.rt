@@ -123,6 +123,7 @@ fn manifests_are_normalised(rt: HostRuntime) -> Result<(), Fail> {
     Ok(())
 }
 
+// Whether the tree has what is wanted at the path.
 fn has(tree: &Tree<u8>, path: &PathBuf, want: Option<u8>) -> bool {
     tree.get(path).copied() == want
 }

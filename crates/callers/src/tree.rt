@@ -15,14 +15,14 @@ use unix_path::{Path, PathBuf};
 
 /// Values by path, where equal paths are one key.
 ///
-/// A tree with 1 at `a/b` has 1 at `a//b` too.
+/// A tree with 1 at `a/b` has 1 at `a//b` too. Not in Rust's std; as a `BTreeMap<PathBuf, V>`.
 #[derive(Drop)]
 pub struct Tree<V> {
     files: BTreeMap<PathBuf, V>,
 }
 
 impl<V> Tree<V> {
-    /// A tree without files. Does not allocate.
+    /// A tree without files. Does not allocate. As Rust's `BTreeMap::new`.
     ///
     /// At `a` it has no value.
     pub fn new(alloc: Global) -> Tree<V>
@@ -33,11 +33,12 @@ impl<V> Tree<V> {
         }
     }
 
-    /// Inserts the value at the path, and gives the value that an equal path had.
+    /// Inserts the value at the path, and returns the value that an equal path had; `None` if there
+    /// was no such path.
     ///
     /// If an equal path has a value, that path stays as the key and its value is replaced.
-    /// Allocates for the path, and for its place in the tree; fails if an allocation fails, and the
-    /// tree stays as it was.
+    /// Allocates for the path, and for its place in the tree; fails if an allocation fails: then
+    /// the tree stays as it was, and the value is dropped. As Rust's `BTreeMap::insert`.
     ///
     /// With 1 at `a/b`, inserting 2 at `a//b/` gives 1 and leaves 2 at `a/b` alone.
     pub fn insert(
@@ -61,7 +62,8 @@ impl<V> Tree<V> {
         Ok(old)
     }
 
-    /// The value at the path that is equal to this one. Does not allocate.
+    /// The value at the path that is equal to this one; `None` if there is no such path. Does not
+    /// allocate. As Rust's `BTreeMap::get`.
     ///
     /// With 1 at `a/b`, for `a/./b` it is 1.
     pub fn get(&self, path: &PathBuf) -> Option<&V>
@@ -72,7 +74,8 @@ impl<V> Tree<V> {
         self.files.get(path)
     }
 
-    /// Removes the path that is equal to this one, and gives its value. Does not allocate.
+    /// Removes the path that is equal to this one, and returns its value; `None` if there is no
+    /// such path. Does not allocate. As Rust's `BTreeMap::remove`.
     ///
     /// With 1 at `a/b` alone, removing `a//b` gives 1 and leaves no files.
     pub fn remove(&mut self, path: &PathBuf) -> Option<V>

@@ -15,7 +15,7 @@ use unix_path::{Path, PathBuf};
 ///
 /// `None` if the path doesn't start with the prefix, or if what follows has a `..` or, for an empty
 /// prefix, a root. Allocates once, the length of the join in bytes, or not at all for `None` and
-/// for an empty join; fails if the allocation fails.
+/// for an empty join; fails if the allocation fails. Not in Rust's std.
 ///
 /// With the prefix `/static` and the root `/srv/www`, for `/static/css/a.css` it is
 /// `/srv/www/css/a.css`.
