@@ -30,6 +30,7 @@ pub equality_same : (s t u w : List ℕ) → SameValues s t → SameValues u w
     → SameValues s u ↔ SameValues t w
 equality_same s t u w e f = (λ h. sym e ∙ h ∙ f, λ h. e ∙ h ∙ sym f)
 
+-- equal paths q and r, or neither of them, have equal values, or none
 parents_by : (c : Bool) (q r : List ℕ) → SameValues q r
     → option_map values (cond c None (Some q)) ≡ option_map values (cond c None (Some r))
 parents_by true q r e = refl

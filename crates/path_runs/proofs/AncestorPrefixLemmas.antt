@@ -28,6 +28,7 @@ rest-prefix s m =
     let n = length (rest s 0 m) in
     (drop n s, ap (λ u. u ++ drop n s) (sym (take-rest s m)) ∙ take-append-drop n s)
 
+-- a path begins with each of n rests before its last parts
 rests-prefixes : (s : List ℕ) (a n : ℕ)
     → AllByRecursion (IsPrefixOf s) (map (λ m. rest s 0 m) (range_with_len a n))
 rests-prefixes s a zero = tt

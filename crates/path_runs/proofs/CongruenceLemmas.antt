@@ -45,6 +45,7 @@ abbrev PopsAlike : List ℕ → List ℕ → Option (List ℕ) → Option (List 
 PopsAlike s t q r =
     SameValues (unwrap_or q s) (unwrap_or r t) × (Flag (is_some q) ≡ Flag (is_some r))
 
+-- pops of equal paths whose parents are equal, or that have none, leave equal paths
 pops_by : (c : Bool) (s t q r : List ℕ) → SameValues s t → SameValues q r
     → PopsAlike s t (cond c None (Some q)) (cond c None (Some r))
 pops_by true s t q r e f = (e, refl)
@@ -58,6 +59,7 @@ pop_same s t e =
     (depths_same s t e)
     (pops_by (eqb (depth_of s) 0) s t (rest s 0 1) (rest t 0 1) e (rests_same s t 0 1 e))
 
+-- of equal paths the rests before the last parts are equal, and so are the paths themselves
 before_by : (s t : List ℕ) (named : Bool) → SameValues s t
     → SameValues (cond named (rest s 0 1) s) (cond named (rest t 0 1) t)
 before_by s t true e = rests_same s t 0 1 e
@@ -122,6 +124,7 @@ added_extension_same s t x e = by_test (eqb (length x) 0)
 abbrev pub unless_slash : List ℕ → List ℕ → List ℕ → List ℕ × Answer
 unless_slash s x u = cond (has_slash x) (s, Separator) (u, Flag (is_some (file_name_of (values s))))
 
+-- an extension that leaves equal paths, or has a slash, answers the same on equal paths
 unless_slash_same : (s t x u v : List ℕ) → SameValues s t → SameValues u v
     → Alike (unless_slash s x u) (unless_slash t x v)
 unless_slash_same s t x u v e f = by_test (has_slash x)

@@ -30,12 +30,14 @@ length-join_of a b r = by_test (is_open a)
       length-append a (47 ∷ []),
     ))
 
+-- a join with rootless paths is no shorter than the first path
 length-join_all_of : (a : List ℕ) (bs : List (List ℕ)) → AllRootless bs
     → length a ≤ length (join_all_of a bs)
 length-join_all_of a [] h = omega arith
 length-join_all_of a (b ∷ bs) h =
     omega (arith, length-join_of a b h.0, length-join_all_of (join_of a b) bs h.1)
 
+-- a join with two lists of paths is one with the first list, and then with the second
 pub join_all_of-append : (a : List ℕ) (bs cs : List (List ℕ))
     → join_all_of a (bs ++ cs) ≡ join_all_of (join_all_of a bs) cs
 join_all_of-append a [] cs = refl

@@ -67,6 +67,7 @@ dot_first (p ∷ ps) = bytes_eq p cur_dir
 abbrev pub lead_by : Bool → Bool → List Value
 lead_by rooted dotted = cond rooted (RootDir ∷ []) (cond dotted (CurDir ∷ []) [])
 
+-- the leading part has the value that stands first
 leading_values : (s : List ℕ)
     → map (λ (p : Part). p.value) (leading_part s) ≡ lead_by (is_rooted s)
     (dot_first (slice_split is_slash s))
@@ -80,6 +81,7 @@ pub values-lead : (s : List ℕ)
     → values s ≡ lead_by (is_rooted s) (dot_first (slice_split is_slash s)) ++ inner_values s
 values-lead s = values-leading s ∙ ap (λ vs. vs ++ inner_values s) (leading_values s)
 
+-- without the root or the dot that stands first, only what follows it is left
 drop_lead-lead_by : (c d : Bool) (vs : List Value) → HasNoLead vs
     → drop_lead (lead_by c d ++ vs) ≡ vs
 drop_lead-lead_by true d vs h = refl
@@ -110,6 +112,7 @@ inner-behind s x xs e =
     inner_lead (is_rooted s) _ (inner_values s) x xs (inner_values-inner s)
     (sym (values-lead s) ∙ e)
 
+-- without the dot that stands first, only what follows it is left
 drop_dot-lead_by : (d : Bool) (vs : List Value) → HasNoLead vs
     → drop_dot (lead_by false d ++ vs) ≡ vs
 drop_dot-lead_by true vs h = refl

@@ -1,4 +1,4 @@
--- No path with these values is shorter than their spelling.
+-- No path is shorter than the spelling of its values.
 use Rattle.std.proofs.Common.{◌≡◌, ℕ, ◌<◌, Bool, true, false, cond, List, [], ◌∷◌, ◌++◌}
 use Rattle.std.proofs.Common.{length, filter, refl, sym, ap, subst, ◌⊎◌, inl, inr, arith}
 use Rattle.std.proofs.Common.{append_assoc, length-append}
@@ -83,6 +83,7 @@ spelling_of-lean_rooted t =
     (subst (Leaner (join_with_byte slash (filter counts ps))) (join_with_byte-pieces t)
     (Leaner-row ps)))
 
+-- what the spelling keeps of a rootless path's pieces has the same bytes or fewer
 Leaner-lean_pieces : (ps : List (List ℕ))
     → Leaner (join_with_byte slash (lean_pieces ps)) (join_with_byte slash ps)
 Leaner-lean_pieces [] = inl refl

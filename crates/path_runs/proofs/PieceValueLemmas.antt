@@ -77,6 +77,7 @@ HoldsOfPieces P =
     (p : List ℕ) → NoSlash p → bytes_eq p [] ≡ false → bytes_eq p cur_dir ≡ false
     → P (value_of_piece p)
 
+-- what holds of the pieces holds of the values of those that count
 names_of-hold : (P : Value → Type 0) → HoldsOfPieces P → (ps : List (List ℕ))
     → AllByRecursion NoSlash ps → AllByRecursion P (names_of ps)
 names_of-hold P of_piece [] h = tt
@@ -89,6 +90,7 @@ names_of-hold P of_piece (p ∷ ps) h =
     by false true e f more = rw (e, f) more
     by false false e f more = rw (e, f) (of_piece p h.0 e f, more)
 
+-- what holds of `.` and of some values holds of these behind a first `.`, if there is one
 lead-hold : (P : Value → Type 0) → P CurDir → (c : Bool) (vs : List Value)
     → AllByRecursion P vs → AllByRecursion P (cond c (CurDir ∷ []) [] ++ vs)
 lead-hold P of_dot true vs h = (of_dot, h)

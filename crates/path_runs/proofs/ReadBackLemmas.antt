@@ -29,6 +29,7 @@ slice_split-row p (q ∷ ps) h =
     (All-from_recursion (λ b. is_slash b ≡ false) p h.0) refl
     ∙ ap (λ qs. p ∷ qs) (slice_split-row q ps h.1)
 
+-- the pieces that count of pieces without a slash have none
 filter-no_slash : (ps : List (List ℕ)) → AllByRecursion NoSlash ps
     → AllByRecursion NoSlash (filter counts ps)
 filter-no_slash [] h = tt

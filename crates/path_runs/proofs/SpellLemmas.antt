@@ -29,6 +29,7 @@ spelling_of-dot : (vs : List Value) → spelling_of (CurDir ∷ vs) ≡ row_of (
 unfolding spelling_of
 spelling_of-dot vs = refl
 
+-- values of which the first isn't the root are spelled as a row
 spelling_of-cons : (v : Value) (vs : List Value) → (v ≡ RootDir → ⊥)
     → spelling_of (v ∷ vs) ≡ row_of (v ∷ vs)
 unfolding spelling_of

@@ -48,6 +48,7 @@ join_behind s base r v vs more is left all =
     values-join_of_rootless base r rootless ∙ ap (λ ws. append_values ws r) is
     ∙ ap (λ ws. v ∷ vs ++ ws) bodies ∙ all
 
+-- a path without its base, joined to that base, has the values of base and what follows them
 strip_join : (s base : List ℕ) (more : List Value) → values base ++ more ≡ values s
     → values (join_of base (stripped_of s base)) ≡ values s
 strip_join s [] more e =

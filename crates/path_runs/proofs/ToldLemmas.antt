@@ -11,12 +11,12 @@ use Rattle.unix_path.specs.Parts.{is_slash, slash, cur_dir, Value, RootDir, CurD
 use Rattle.unix_path.specs.Parts.{value_of_piece, value_bytes, values}
 use Rattle.unix_path.specs.Prefixes.{Begins}
 use Rattle.path_runs.proofs.FedLemmas.{zeros_and, zeros_and-cancel, concat-hash_input_of}
-use Rattle.path_runs.proofs.PieceValueLemmas.{NoSlash, values-hold}
+use Rattle.path_runs.proofs.PieceValueLemmas.{HoldsOfPieces, NoSlash, values-hold}
 use Rattle.unix_path.proofs.StemLemmas.{value_bytes-piece}
 
 -- the value of what stands before the first slash that is fed
-told_by : List ℕ → Value
-told_by b = cond (bytes_eq b []) RootDir (cond (bytes_eq b cur_dir) CurDir (value_of_piece b))
+told_value : List ℕ → Value
+told_value b = cond (bytes_eq b []) RootDir (cond (bytes_eq b cur_dir) CurDir (value_of_piece b))
 
 -- what stands before the first slash tells the value
 record IsTold (v : Value) : Type 0 where
@@ -24,10 +24,10 @@ record IsTold (v : Value) : Type 0 where
   behind : List ℕ
   no_slash : NoSlash piece
   fed : (x : List ℕ) → value_bytes v ++ slash ∷ x ≡ piece ++ slash ∷ (behind ++ x)
-  tells : told_by piece ≡ v
+  tells : told_value piece ≡ v
 
 root_told : IsTold RootDir
-unfolding told_by
+unfolding told_value
 root_told = record {
   piece = [];
   behind = slash ∷ [];
@@ -37,7 +37,7 @@ root_told = record {
 }
 
 dot_told : IsTold CurDir
-unfolding told_by
+unfolding told_value
 dot_told = record {
   piece = cur_dir;
   behind = [];
@@ -46,9 +46,8 @@ dot_told = record {
   tells = refl;
 }
 
-piece_told : (p : List ℕ) → NoSlash p → bytes_eq p [] ≡ false → bytes_eq p cur_dir ≡ false
-    → IsTold (value_of_piece p)
-unfolding told_by
+piece_told : HoldsOfPieces IsTold
+unfolding told_value
 piece_told p h d e = record {
   piece = p;
   behind = [];
@@ -77,7 +76,7 @@ same_value : (v w : Value) (x y : List ℕ) → IsTold v → IsTold w
 same_value v w x y m n e =
     let pieces = same_piece m.piece n.piece (m.behind ++ x) (n.behind ++ y) m.no_slash n.no_slash
     (sym (m.fed x) ∙ e ∙ n.fed y) in
-    sym m.tells ∙ ap told_by pieces ∙ n.tells
+    sym m.tells ∙ ap told_value pieces ∙ n.tells
 
 -- two values that begin the same fed bytes are the same, and so is what follows
 same_first : (v w : Value) (x y : List ℕ) → IsTold v → IsTold w

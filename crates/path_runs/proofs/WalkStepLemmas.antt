@@ -1,5 +1,6 @@
 -- One more turn of a walk.
 use Rattle.std.proofs.Common.{◌≡◌, ℕ, ◌+◌, ◌-◌, ◌≤◌, ◌<◌, length, List, [], ◌∷◌, ◌++◌, map}
+use Rattle.std.proofs.Common.{Bool, true, false}
 use Rattle.std.proofs.Common.{take, drop, get_or, reverse, sym, ap, ap₂, ◌∙◌, arith}
 use Rattle.std.proofs.Common.{length-drop, add-zero, append-nil, Option, Some, None, MatchOption}
 use Rattle.std.specs.List.{count_by}
@@ -15,6 +16,24 @@ use Rattle.path_runs.specs.declared.walk.Turn.TheVariants.{Front, Back}
 use Rattle.path_runs.proofs.WalkLemmas.{is_back, HasWalked, turns_total, in_time, values-left}
 use Rattle.path_runs.proofs.WalkLemmas.{take-take_late, take-take_early, get_or-first, get_or-last}
 
+-- while fewer than n turns have been made, one more that passes the test adds one that passes
+count_by-more_yes : (test : Turn → Bool) (n i : ℕ) (ts : List Turn) → i < n → i < length ts
+    → test (get_or ts i Front) ≡ true
+    → count_by test (take n (take (i + 1) ts)) ≡ count_by test (take n (take i ts)) + 1
+count_by-more_yes test n i ts early l passes =
+    ap (count_by test) (take-take_early n (i + 1) ts (omega arith))
+    ∙ count_by_more_yes test ts i Front l passes
+    ∙ ap (λ us. count_by test us + 1) (sym (take-take_early n i ts (omega arith)))
+
+-- while fewer than n turns have been made, one more that fails the test adds none that passes
+count_by-more_no : (test : Turn → Bool) (n i : ℕ) (ts : List Turn) → i < n → i < length ts
+    → test (get_or ts i Front) ≡ false
+    → count_by test (take n (take (i + 1) ts)) ≡ count_by test (take n (take i ts))
+count_by-more_no test n i ts early l fails =
+    ap (count_by test) (take-take_early n (i + 1) ts (omega arith))
+    ∙ count_by_more_no test ts i Front l fails
+    ∙ ap (count_by test) (sym (take-take_early n i ts (omega arith)))
+
 -- one more turn in front takes the first part that is left
 HasWalked-front_some : (s : List ℕ) (ts : List Turn) (i : ℕ) (front : List Value) (left : List ℕ)
     (behind : List Value) (v : Value) (after : List ℕ) → HasWalked s ts i front left behind
@@ -29,14 +48,10 @@ HasWalked-front_some s ts i front left behind v after h l turn gives leaves =
     let first = get_or-first vs (values after) k (n - (k + m)) v (sym gives ∙ values-left h) in
     let some = first.0 in
     let early : i < n = in_time n i k m ts l (omega arith) (turns_total (take n (take i ts))) in
-    let now = take-take_early n i ts (omega arith) in
-    let then = take-take_early n (i + 1) ts (omega arith) in
-    let fronts : front_turns n (take (i + 1) ts) ≡ k + 1 = ap (count_by is_front) then
-    ∙ count_by_more_yes is_front ts i Front l (ap is_front turn)
-    ∙ ap (λ us. count_by is_front us + 1) (sym now) in
-    let backs : back_turns n (take (i + 1) ts) ≡ m = ap (count_by is_back) then
-    ∙ count_by_more_no is_back ts i Front l (ap is_back turn)
-    ∙ ap (count_by is_back) (sym now) in
+    let fronts : front_turns n (take (i + 1) ts) ≡ k + 1 =
+    count_by-more_yes is_front n i ts early l (ap is_front turn) in
+    let backs : back_turns n (take (i + 1) ts) ≡ m =
+    count_by-more_no is_back n i ts early l (ap is_back turn) in
     record {
       front_is = ap₂ (λ f x. f ++ x ∷ []) h.front_is (sym first.2) ∙ sym (take_more vs k v first.1)
           ∙ ap (λ j. take j vs) (sym fronts);
@@ -59,14 +74,10 @@ HasWalked-back_some s ts i front left behind v after h l turn gives leaves =
     let last = get_or-last vs (values after) k m v (sym gives ∙ values-left h) in
     let some = last.0 in
     let early : i < n = in_time n i k m ts l some (turns_total (take n (take i ts))) in
-    let now = take-take_early n i ts (omega arith) in
-    let then = take-take_early n (i + 1) ts (omega arith) in
-    let fronts : front_turns n (take (i + 1) ts) ≡ k = ap (count_by is_front) then
-    ∙ count_by_more_no is_front ts i Front l (ap is_front turn)
-    ∙ ap (count_by is_front) (sym now) in
-    let backs : back_turns n (take (i + 1) ts) ≡ m + 1 = ap (count_by is_back) then
-    ∙ count_by_more_yes is_back ts i Front l (ap is_back turn)
-    ∙ ap (λ us. count_by is_back us + 1) (sym now) in
+    let fronts : front_turns n (take (i + 1) ts) ≡ k =
+    count_by-more_no is_front n i ts early l (ap is_front turn) in
+    let backs : back_turns n (take (i + 1) ts) ≡ m + 1 =
+    count_by-more_yes is_back n i ts early l (ap is_back turn) in
     let place : m < length (reverse vs) = omega (arith, length-reverse vs) in
     record {
       front_is = h.front_is ∙ ap (λ j. take j vs) (sym fronts);
@@ -89,9 +100,9 @@ HasWalked-none s ts i front left behind after a b h none leaves =
     let size = ap length (sym none ∙ values-left h) in
     let all : n ≤ k + m =
     omega (arith, size, length-take (n - (k + m)) (drop k vs), length-drop k vs) in
-    let made : n ≤ i = omega
+    let late : n ≤ i = omega
     (arith, turns_total (take n (take i ts)), length-take n (take i ts), length-take i ts) in
-    let same = take-take_late n i ts made in
+    let same = take-take_late n i ts late in
     record {
       front_is = h.front_is ∙ ap (λ us. take (count_by is_front us) vs) (sym same);
       left_is = leaves ∙ ap (λ t. rest t a b) h.left_is ∙ rest-rest s k m a b

@@ -16,7 +16,7 @@ is_eq-differ v w differ =
     false_from_ne_true (is_eq (values_cmp v w)) (λ is. differ (is_eq-values_cmp v w is))
 
 module _ {V : Type 0} (v w : List Value) (differ : v ≡ w → ⊥) where
-  -- a first row at w is not what stands at v
+  -- a first row at w changes nothing of what stands at v
   value_at-other : (key : List Value) (x : V) (rows : List (List Value × V)) → w ≡ key
       → value_at v ((key, x) ∷ rows) ≡ value_at v rows
   value_at-other key x rows same =

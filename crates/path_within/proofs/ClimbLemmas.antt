@@ -26,10 +26,12 @@ abbrev pub GoesAboveFrom : ℕ → List Value → Type 0
 GoesAboveFrom n vs =
     (k : ℕ) × (n + count_by is_name (take k vs) < count_by is_parent (take k vs))
 
+-- a first value adds one name if it is one
 name_count : (v : Value) (vs : List Value)
     → count_by is_name (v ∷ vs) ≡ cond (is_name v) 1 0 + count_by is_name vs
 name_count v vs = sum_by-cons (λ v. cond (is_name v) 1 0) v vs
 
+-- a first value adds one `..` if it is one
 parent_count : (v : Value) (vs : List Value)
     → count_by is_parent (v ∷ vs) ≡ cond (is_parent v) 1 0 + count_by is_parent vs
 parent_count v vs = sum_by-cons (λ v. cond (is_parent v) 1 0) v vs

@@ -104,6 +104,7 @@ names_push (ParentDir ∷ vs) name h = absurd h
 names_push (RootDir ∷ vs) name h = absurd h
 names_push (CurDir ∷ vs) name h = absurd h
 
+-- `..` and then names, with one more name behind, are `..` and then names
 ups_names_push : (vs : List Value) (name : List ℕ) → AreUpsThenNames vs
     → AreUpsThenNames (vs ++ Normal name ∷ [])
 ups_names_push [] name h = tt
@@ -120,18 +121,18 @@ normal_push (RootDir ∷ vs) name h = names_push vs name h
 normal_push (CurDir ∷ vs) name h = absurd h
 
 -- kept values, in the order of the path, are normal
-normal_kept : (ks : List Value) → IsKept ks → IsNormal (reverse ks)
-normal_kept [] h = tt
-normal_kept (Normal name ∷ ks) h = rw (reverse_onto ks (Normal name) [])
-    (normal_push (reverse ks) name (normal_kept ks h))
-normal_kept (RootDir ∷ ks) h = rw h tt
-normal_kept (CurDir ∷ ks) h = absurd h
-normal_kept (ParentDir ∷ ks) h = rw (reverse_onto ks ParentDir [])
+kept_normal : (ks : List Value) → IsKept ks → IsNormal (reverse ks)
+kept_normal [] h = tt
+kept_normal (Normal name ∷ ks) h = rw (reverse_onto ks (Normal name) [])
+    (normal_push (reverse ks) name (kept_normal ks h))
+kept_normal (RootDir ∷ ks) h = rw h tt
+kept_normal (CurDir ∷ ks) h = absurd h
+kept_normal (ParentDir ∷ ks) h = rw (reverse_onto ks ParentDir [])
     (normal_ups (reverse ks ++ ParentDir ∷ []) (ups_push (reverse ks) (ups_reverse ks h)))
 
 pub resolved_normal : (vs : List Value) → IsNormal (resolved_of vs)
 unfolding resolved_of
-resolved_normal vs = normal_kept (kept_of [] vs) (IsKept-kept_of [] vs tt)
+resolved_normal vs = kept_normal (kept_of [] vs) (IsKept-kept_of [] vs tt)
 
 -- resolving again changes nothing
 pub resolved_of-resolved_of : (vs : List Value) → resolved_of (resolved_of vs) ≡ resolved_of vs

@@ -40,8 +40,8 @@ AllOne-ups_of [] = tt
 AllOne-ups_of (v ∷ vs) = (IsOne-up, AllOne-ups_of vs)
 
 -- `..` and then names are read back from their spelling
-read_back : (vs : List Value) → AreUpsThenNames vs → AllOne vs → values (spelling_of vs) ≡ vs
-read_back vs h k =
+values-spelling_of_straight : (vs : List Value) → AreUpsThenNames vs → AllOne vs → values (spelling_of vs) ≡ vs
+values-spelling_of_straight vs h k =
     let same : kept_of [] vs ≡ reverse vs = kept_of-straight [] vs tt h ∙ append-nil (reverse vs) in
     let kept : IsKept (reverse vs) = subst IsKept same (IsKept-kept_of [] vs tt) in
     let one = AllOne-reverse vs k in
@@ -97,7 +97,7 @@ way_is from to steps e =
 pub values-way : (from to : List ℕ) (steps : List Value)
     → way_of (values from) (values to) ≡ Some steps → values (spelling_of steps) ≡ steps
 values-way from to steps e = let way = way_is from to steps e in
-    read_back steps way.straight way.one
+    values-spelling_of_straight steps way.straight way.one
 
 -- a path, joined with its way to another, resolves to the other
 pub way_leads : (from to : List ℕ) (steps : List Value)

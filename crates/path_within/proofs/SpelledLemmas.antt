@@ -71,6 +71,7 @@ pub AllOne-kept_of : (ks vs : List Value) → AllOne ks → AllOne vs → AllOne
 AllOne-kept_of ks [] h k = h
 AllOne-kept_of ks (v ∷ vs) h k = AllOne-kept_of (keep ks v) vs (AllOne-keep ks v h k.0) k.1
 
+-- bytes with one value, which is an inner value, add that value behind any others
 append_inner : (vs : List Value) (b : List ℕ) (v : Value) → values b ≡ v ∷ []
     → inner_values b ≡ v ∷ [] → append_values vs b ≡ vs ++ v ∷ []
 append_inner [] b v e f = e

@@ -1,8 +1,9 @@
 -- How a way is spelled, and that there is none.
 use Rattle.std.proofs.Common.{◌≡◌, ℕ, Bool, true, false, not, ◌&&◌, List, [], ◌++◌, drop}
 use Rattle.std.proofs.Common.{Some, None, option_map, reverse, refl, sym, ap, ap₂, ◌∙◌}
-use Rattle.std.proofs.Common.{append-nil, cond}
+use Rattle.std.proofs.Common.{append-nil}
 use Rattle.std.specs.List.{list_all, list_any}
+use Rattle.std.proofs.lemmas.Bool.{cond-false}
 use Rattle.std.proofs.lemmas.List.{reverse-reverse}
 use Rattle.unix_path.specs.Parts.{Value, values}
 use Rattle.path_runs.specs.Spelling.{spelling_of}
@@ -63,10 +64,6 @@ spelling_of-way from to x y t left can spells =
     ∙ ap (λ ks. spelling_of (reverse ks)) all ∙ ap spelling_of (reverse-reverse steps) in
     ap Some same ∙ sym (ap (option_map spelling_of) some)
 
-none_between : (c d : Bool) (steps : List Value) → (c && not d) ≡ false
-    → cond (c && not d) (Some steps) None ≡ None
-none_between c d steps e = rw e refl
-
 -- where more than names are left of the first path, or the root of the other, there is no way
 pub spelling_of-no_way : (from to : List ℕ) (x y : List Value) → AreLeft from to x y
     → (list_all is_name x && not (list_any is_root y)) ≡ false
@@ -75,4 +72,4 @@ unfolding way_of
 spelling_of-no_way from to x y left fails =
     sym (ap (option_map spelling_of)
     (ap₂ steps_between (sym left.first) (sym left.second)
-    ∙ none_between (list_all is_name x) (list_any is_root y) (ups_of x ++ y) fails))
+    ∙ cond-false (list_all is_name x && not (list_any is_root y)) _ _ fails))

@@ -49,8 +49,8 @@ pub(crate) fn keep_all(kept: &mut PathBuf, parts: Components<'_>) -> Result<(), 
     Ok(())
 }
 
-// Whether no piece is empty or begins with a dot. No test in it depends on a byte, so that it takes
-// the same time for any names.
+// Whether no piece is empty or begins with a dot. No branch depends on a byte, so it takes the same
+// time for any names.
 #[inline]
 fn has_plain_pieces(bytes: &[u8]) -> bool
     ensures { result ≡ has_plain_pieces true bytes.now }
@@ -65,7 +65,7 @@ fn has_plain_pieces(bytes: &[u8]) -> bool
     is_plain & !begins
 }
 
-// True only for a path that is resolved as it stands; false too where a name begins with a dot.
+// True only for a path that is resolved as it stands; false also where a name begins with a dot.
 #[inline]
 fn is_resolved(path: Path<'_>) -> bool
     ensures { IsTrue result
