@@ -62,7 +62,7 @@ ancestors_same s t e =
     ap₂ (λ v vs. v ∷ vs) e
     (rest_values_same s t 1 (depth_of s) e ∙ ap (rest_values t 1) (depths_same s t e))
 
--- equal paths without equal bases are equal
+-- equal paths, each without one of two equal bases, are equal
 pub stripped_of-same : (s t base other : List ℕ) → SameValues s t → SameValues base other
     → SameValues (stripped_of s base) (stripped_of t other)
 stripped_of-same s t base other e f =

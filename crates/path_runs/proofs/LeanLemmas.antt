@@ -52,7 +52,7 @@ Leaner-row_behind p (q ∷ qs) = by_test (counts q)
     (join_with_byte slash (p ∷ qs)) (join_with_byte slash (p ∷ q ∷ qs)) (Leaner-row_behind p qs)
     (row_less p q qs)))
 
--- dropping the first piece too leaves the same bytes or fewer
+-- what is leaner than a row is leaner than that row behind one more piece
 Leaner-row_cons : (q : List ℕ) (qs : List (List ℕ))
     → Leaner (join_with_byte slash (filter counts qs)) (join_with_byte slash qs)
     → Leaner (join_with_byte slash (filter counts qs)) (join_with_byte slash (q ∷ qs))

@@ -45,7 +45,7 @@ lean_pieces-all (p ∷ ps) h = by (bytes_eq p cur_dir) refl
     by false d = subst (λ c. cond c (cur_dir ∷ filter counts ps) (filter counts (p ∷ ps)) ≡ p ∷ ps)
         (sym d) (filter-all (p ∷ ps) h)
 
--- a rooted path is its own spelling where all pieces of t count, which is what follows the root
+-- a rooted path is its own spelling where all pieces of t, which follows the root, count
 pub spelling_of-own_rooted : (s t : List ℕ) → AllCount (slice_split is_slash t)
     → is_rooted s ≡ true → t ≡ drop 1 s → spelling_of (values s) ≡ s
 spelling_of-own_rooted s t h r e =

@@ -12,14 +12,14 @@ use Rattle.unix_path.specs.declared.buf.PathBuf.{PathBuf}
 use Rattle.path_runs.specs.TableLaws.{rows_of}
 
 module _ {V : Type 0} where
-  -- where paths are greater than v, their rows are
+  -- where paths are greater than v, their rows are too
   ascend_behind : (v : List Value) (entries : List (PathBuf × V))
       → AllByRecursion (λ p. values_cmp v (values (path_bytes p)) ≡ Less) (keys_of entries)
       → AllByRecursion (λ w. values_cmp v w ≡ Less) (keys_of (rows_of path_bytes entries))
   ascend_behind v [] behind = tt
   ascend_behind v (e ∷ entries) behind = (behind.0, ascend_behind v entries behind.1)
 
-  -- where paths ascend, their rows do
+  -- where paths ascend, their rows do too
   pub sorted-rows_of : (entries : List (PathBuf × V))
       → IsStrictlySortedBy (on (λ p. values (path_bytes p)) values_cmp) (keys_of entries)
       → IsStrictlySortedBy values_cmp (keys_of (rows_of path_bytes entries))

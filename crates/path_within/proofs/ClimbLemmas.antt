@@ -1,4 +1,4 @@
--- What climbs, read from the left by a depth, and what values leave that don't climb.
+-- What climbs, read from the left by a depth, and what is kept behind values that don't climb.
 use Rattle.std.proofs.Common.{◌≡◌, ℕ, suc, zero, ◌+◌, ◌<◌, Bool, true, false, cond}
 use Rattle.std.proofs.Common.{List, [], ◌∷◌, ◌++◌, length, take, refl, sym, ap, ap₂, ◌∙◌, arith}
 use Rattle.std.proofs.Common.{inl, inr, ⊎_elim, ◌⊎◌, ◌↔◌}

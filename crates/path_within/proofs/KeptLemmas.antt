@@ -39,7 +39,7 @@ pub kept_of-append : (ks vs ws : List Value) → kept_of ks (vs ++ ws) ≡ kept_
 kept_of-append ks [] ws = refl
 kept_of-append ks (v ∷ vs) ws = kept_of-append (keep ks v) vs ws
 
--- behind values that are all `..`, one more is kept
+-- behind values that are all `..`, one more `..` is kept
 pub up_behind : (ks : List Value) → AreUps ks → up_from ks ≡ ParentDir ∷ ks
 up_behind [] h = refl
 up_behind (ParentDir ∷ ks) h = refl

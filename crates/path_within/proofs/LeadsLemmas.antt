@@ -40,7 +40,8 @@ AllOne-ups_of [] = tt
 AllOne-ups_of (v ∷ vs) = (IsOne-up, AllOne-ups_of vs)
 
 -- `..` and then names are read back from their spelling
-values-spelling_of_straight : (vs : List Value) → AreUpsThenNames vs → AllOne vs → values (spelling_of vs) ≡ vs
+values-spelling_of_straight : (vs : List Value) → AreUpsThenNames vs → AllOne vs
+    → values (spelling_of vs) ≡ vs
 values-spelling_of_straight vs h k =
     let same : kept_of [] vs ≡ reverse vs = kept_of-straight [] vs tt h ∙ append-nil (reverse vs) in
     let kept : IsKept (reverse vs) = subst IsKept same (IsKept-kept_of [] vs tt) in

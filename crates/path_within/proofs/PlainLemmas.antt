@@ -103,7 +103,7 @@ resolved_of-root vs h =
     ap reverse (kept_of-names (RootDir ∷ []) vs h ∙ sym (reverse_onto vs RootDir []))
     ∙ reverse-reverse (RootDir ∷ vs)
 
--- a rooted path is resolved as it stands where all pieces of t are plain, which follows the root
+-- a rooted path is resolved as it stands where all pieces of t, which follows the root, are plain
 pub plain_rooted : (s t : List ℕ) → has_plain_pieces true t ≡ true → is_rooted s ≡ true
     → t ≡ drop 1 s → resolved_bytes_of s ≡ s
 plain_rooted s t h r e =

@@ -68,7 +68,7 @@ kept_of-rest ks start rest h e =
     ap (λ js. kept_of js rest) (sym (kept_of-start ks start rest h e))
     ∙ sym (kept_of-append [] start rest) ∙ ap (kept_of []) e ∙ kept_of-kept ks h
 
--- names are `..`, none of them, and then names
+-- names are `..` no times, and then names
 names_straight : (vs : List Value) → AreNames vs → AreUpsThenNames vs
 names_straight [] h = tt
 names_straight (Normal name ∷ vs) h = h

@@ -48,7 +48,7 @@ abbrev pub AreUpsThenNames : List Value → Type 0
 AreUpsThenNames (ParentDir ∷ vs) = AreUpsThenNames vs
 AreUpsThenNames vs = AreNames vs
 
--- of these values none is `.`, no `..` stands behind a name or the root, and a root only in front
+-- no value is `.`, no `..` stands behind a name or the root, and a root stands only in front
 abbrev pub IsNormal : List Value → Type 0
 IsNormal (RootDir ∷ vs) = AreNames vs
 IsNormal vs = AreUpsThenNames vs
@@ -67,7 +67,7 @@ abbrev pub is_root : Value → Bool
 is_root RootDir = true
 is_root _ = false
 
--- of some first of these values more are `..` than are names
+-- some first of these values hold more `..` than names
 abbrev pub GoesAbove : List Value → Type 0
 GoesAbove vs = (n : ℕ) × (count_by is_name (take n vs) < count_by is_parent (take n vs))
 

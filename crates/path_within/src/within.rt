@@ -21,8 +21,8 @@ use unix_path::{Component, Path, PathBuf};
 /// A display pads its text like any text. Not in Rust's std.
 #[derive(Debug, Drop)]
 pub enum WithinError {
-    /// The request would leave the root or, for `join_plain`, has a root or a `..`. It is printed as
-    /// `path leaves its root`.
+    /// The request would leave the root or, for `join_plain`, has a root or a `..`. It is printed
+    /// as `path leaves its root`.
     Escapes,
     /// An allocation failed. It is printed as `out of memory`.
     Memory(AllocError),
