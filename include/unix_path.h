@@ -2,21 +2,22 @@
  *
  * A path is a pointer to its bytes and how many there are. It may hold any byte, NUL too, and
  * needs none behind it. Its parts are the root, a leading `.`, and then each name and each `..`;
- * paths are equal where their parts are. No file is touched: `..` is a part like a name, but for
- * unix_path_resolved, unix_path_join_within and unix_path_climbs, which go by names alone.
+ * paths are equal where their parts are. No file is touched: `..` is a part like a name, except
+ * for unix_path_resolved, unix_path_join_within and unix_path_climbs, which take it against the
+ * name before it.
  *
  * For every call:
  *  - It returns, whatever the bytes are, and reads nothing but the bytes and records given to it.
  *  - Lengths and places count bytes. A length is at most PTRDIFF_MAX.
- *  - No pointer is null, also where the length beside it is 0.
+ *  - No pointer is null, even where the length beside it is 0.
  *  - What a call writes (walk, part, place, out) overlaps nothing else that the call is given.
  *  - Where a call answers false, its record stays as it was.
- *  - No call keeps anything, so that threads may call at once. None allocates but
- *    unix_path_resolved and unix_path_join_within, which give back what malloc gave them.
+ *  - No call keeps anything, so that threads may call at once. None allocates except
+ *    unix_path_resolved and unix_path_join_within, which free what they allocate by malloc.
  *
- * The calls with `out` answer how many bytes their answer has. Where that is at most out_length,
+ * The calls with `out` return how many bytes their answer has. Where that is at most out_length,
  * the answer stands at the beginning of out, and the bytes behind it stay as they were. Else
- * nothing is written, and a second call with as much room as was answered gives all of it.
+ * nothing is written, and a second call with room for as many bytes writes all of the answer.
  */
 #ifndef UNIX_PATH_H
 #define UNIX_PATH_H
@@ -37,8 +38,8 @@ extern "C" {
  * written. */
 #define UNIX_PATH_NO_MEMORY (SIZE_MAX - 2)
 
-/* What is left of a walk over a path: the bytes from front up to back, and none where they aren't
- * in this order or end behind the path. So a record may hold anything. */
+/* What is left of a walk over a path: the bytes from front up to back. Nothing is left where front
+ * is greater than back, or back than the path's length; so a record may hold anything. */
 typedef struct {
     size_t front, back;
 } unix_path_walk;
@@ -77,8 +78,8 @@ bool unix_path_next(const uint8_t *path, size_t path_length, unix_path_walk *wal
 bool unix_path_next_back(const uint8_t *path, size_t path_length, unix_path_walk *walk,
                          unix_path_part *part);
 
-/* Where the path of the parts that are left stands. Of `a/./b/` before any part is taken it is
- * `a/./b`, and after the first it is `b`. */
+/* Where the parts that are left stand, from the first to the end of the last. Of `a/./b/` it is
+ * `a/./b` before any part is taken, and `b` after the first. */
 void unix_path_as_path(const uint8_t *path, size_t path_length, const unix_path_walk *walk,
                        unix_path_place *place);
 
@@ -95,7 +96,8 @@ bool unix_path_file_name(const uint8_t *path, size_t path_length, unix_path_plac
  * False where there is no file name. Of `a.tar.gz` it is `a.tar`, and of `.a` it is `.a`. */
 bool unix_path_file_stem(const uint8_t *path, size_t path_length, unix_path_place *place);
 
-/* What stands behind that dot; false where there is no such dot. Of `a.tar.gz` it is `gz`. */
+/* The file name behind its last dot; false where that dot is its first byte, or there is no dot or
+ * no file name. Of `a.tar.gz` it is `gz`. */
 bool unix_path_extension(const uint8_t *path, size_t path_length, unix_path_place *place);
 
 /* The file name up to its first dot behind its first byte; all of it where there is none. False
@@ -115,15 +117,15 @@ bool unix_path_starts_with(const uint8_t *a, size_t a_length, const uint8_t *b, 
 /* Whether the parts of b end those of a: `/etc/passwd` ends with `passwd`. */
 bool unix_path_ends_with(const uint8_t *a, size_t a_length, const uint8_t *b, size_t b_length);
 
-/* Whether the parts are the same: those of `a/./b//` and `a/b` are, of `./a` and `a` aren't. */
+/* Whether a and b have the same parts. `a/./b//` and `a/b` have, and `./a` and `a` haven't. */
 bool unix_path_equal(const uint8_t *a, size_t a_length, const uint8_t *b, size_t b_length);
 
 /* The order by parts: -1, 0 or 1 where a is less than, equal to or greater than b. The root is
- * less than `.`, that than `..`, and that than a name; `a/b` is less than `a.b`. */
+ * less than `.`, `.` is less than `..`, and `..` is less than a name; `a/b` is less than `a.b`. */
 int32_t unix_path_compare(const uint8_t *a, size_t a_length, const uint8_t *b, size_t b_length);
 
-/* A number that is the same for equal paths, and in each run. Not made against chosen paths that
- * share a number. */
+/* A number that is the same for equal paths, and in each run. It has no key: whoever chooses the
+ * paths can find many that share a number. */
 uint64_t unix_path_hash(const uint8_t *path, size_t path_length);
 
 /* Whether the bytes are UTF-8. */
@@ -142,8 +144,8 @@ size_t unix_path_common_dir(const uint8_t *a, size_t a_length, const uint8_t *b,
 
 /* New paths and text, written to out. */
 
-/* The path against base: path itself where it has a root, else base, a slash where base has bytes
- * and none at its end, and path. `/a` with `./b` gives `/a/./b`, and with `/b` gives `/b`. */
+/* path joined to base: path alone where it has a root; else base, a slash unless base is empty or
+ * ends with one, and path. `/a` with `./b` gives `/a/./b`, and with `/b` gives `/b`. */
 size_t unix_path_join(const uint8_t *base, size_t base_length, const uint8_t *path,
                       size_t path_length, uint8_t *out, size_t out_length);
 
@@ -163,8 +165,8 @@ size_t unix_path_with_extension(const uint8_t *path, size_t path_length, const u
 size_t unix_path_canonical(const uint8_t *path, size_t path_length, uint8_t *out,
                            size_t out_length);
 
-/* The path as UTF-8, with U+FFFD in the place of what isn't. It has at most three times as many
- * bytes as the path. Where the length can't be counted it is SIZE_MAX. */
+/* The path as UTF-8, with U+FFFD in place of what isn't. It has at most three times as many bytes
+ * as the path. A length above SIZE_MAX is returned as SIZE_MAX. */
 size_t unix_path_to_string_lossy(const uint8_t *path, size_t path_length, uint8_t *out,
                                  size_t out_length);
 

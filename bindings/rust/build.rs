@@ -41,22 +41,22 @@ struct Place {
     named_by: &'static str,
 }
 
-/// The folders, in the order in which they are looked at. One that the environment names is the
-/// only one.
+/// The folders, in the order in which they are looked at. A folder that the environment names is
+/// the only one.
 fn places() -> Vec<Place> {
     if let Some(place) = from_environment() {
         return vec![place];
     }
     let here = Path::new(env!("CARGO_MANIFEST_DIR"));
-    let built = Place {
+    let repository = Place {
         folder: here.join("../../crates/unix_path_c/out"),
         named_by: "this repository",
     };
-    let told = from_pkg_config().map(|folder| Place {
+    let system = from_pkg_config().map(|folder| Place {
         folder,
         named_by: "pkg-config",
     });
-    once(built).chain(told).collect()
+    once(repository).chain(system).collect()
 }
 
 /// The folder that `UNIX_PATH_LIB_DIR` names, or that of the file that `UNIX_PATH_LIB` names.
@@ -74,16 +74,16 @@ fn from_environment() -> Option<Place> {
     })
 }
 
-/// The folder that pkg-config knows; none where there is no pkg-config, or it doesn't know the
+/// The folder that pkg-config knows; `None` where there is no pkg-config, or it doesn't know the
 /// library.
 fn from_pkg_config() -> Option<PathBuf> {
     let program = env::var_os("PKG_CONFIG").unwrap_or_else(|| "pkg-config".into());
-    let told = Command::new(program)
+    let output = Command::new(program)
         .args(["--variable=libdir", "unix_path"])
         .output()
         .ok()?;
-    let folder = String::from_utf8(told.stdout).ok()?;
-    let is_known = told.status.success() && !folder.trim().is_empty();
+    let folder = String::from_utf8(output.stdout).ok()?;
+    let is_known = output.status.success() && !folder.trim().is_empty();
     is_known.then(|| folder.trim().into())
 }
 

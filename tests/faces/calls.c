@@ -156,7 +156,7 @@ static size_t common_dir(view a, view b) {
     return unix_path_common_dir(a.bytes, a.length, b.bytes, b.length);
 }
 
-static void orders_hashes_and_fronts(void) {
+static void orders_hashes_and_common_dirs(void) {
     CHECK(compare(view_of("a/b"), view_of("a.b")) == -1, "less");
     CHECK(compare(view_of("a/./b//"), view_of("a/b")) == 0, "equal");
     CHECK(compare(view_of("a"), view_of("./a")) == 1, "greater");
@@ -174,7 +174,7 @@ static const struct {
     call_of_one one;
     call_of_two two;
     const char *a, *b, *answer;
-} written[] = {
+} outputs[] = {
     {NULL, unix_path_join, "/foo/bar", "./baz", "/foo/bar/./baz"},
     {NULL, unix_path_join, "foo", "", "foo/"},
     {NULL, unix_path_join, "", "foo", "foo"},
@@ -207,19 +207,19 @@ static const struct {
     {unix_path_resolved, NULL, "a/b", NULL, "a/b"},
 };
 
-static const size_t written_rows = sizeof written / sizeof *written;
+static const size_t output_count = sizeof outputs / sizeof *outputs;
 
 // Makes the call of a row.
 static size_t call_row(size_t row, uint8_t *out, size_t room) {
-    view a = view_of(written[row].a);
-    if (written[row].one != NULL) {
-        return written[row].one(a.bytes, a.length, out, room);
+    view a = view_of(outputs[row].a);
+    if (outputs[row].one != NULL) {
+        return outputs[row].one(a.bytes, a.length, out, room);
     }
-    view b = view_of(written[row].b);
-    return written[row].two(a.bytes, a.length, b.bytes, b.length, out, room);
+    view b = view_of(outputs[row].b);
+    return outputs[row].two(a.bytes, a.length, b.bytes, b.length, out, room);
 }
 
-// Whether the memory has so many bytes of the answer, and behind them only guards.
+// Whether the memory begins with the answer, and has only guards behind it.
 static bool is_written(const uint8_t *memory, size_t size, view answer) {
     for (size_t at = answer.length; at < size; at++) {
         if (memory[at] != 0xA5) {
@@ -230,18 +230,18 @@ static bool is_written(const uint8_t *memory, size_t size, view answer) {
 }
 
 static void ample_memory(void) {
-    for (size_t row = 0; row < written_rows; row++) {
+    for (size_t row = 0; row < output_count; row++) {
         uint8_t memory[64];
         memset(memory, 0xA5, sizeof memory);
-        view answer = view_of(written[row].answer);
+        view answer = view_of(outputs[row].answer);
         CHECK(call_row(row, memory, sizeof memory) == answer.length, "row %zu", row);
         CHECK(is_written(memory, sizeof memory, answer), "row %zu", row);
     }
 }
 
 static void short_buffers(void) {
-    for (size_t row = 0; row < written_rows; row++) {
-        view answer = view_of(written[row].answer);
+    for (size_t row = 0; row < output_count; row++) {
+        view answer = view_of(outputs[row].answer);
         for (size_t room = 0; room <= answer.length + 2; room++) {
             uint8_t memory[64];
             memset(memory, 0xA5, sizeof memory);
@@ -256,8 +256,8 @@ static void short_buffers(void) {
 // The place beside a page that can't be read or written is all the room there is.
 static void fenced_buffers(void) {
     fence around = new_fence();
-    for (size_t row = 0; row < written_rows; row++) {
-        view answer = view_of(written[row].answer);
+    for (size_t row = 0; row < output_count; row++) {
+        view answer = view_of(outputs[row].answer);
         for (size_t room = 0; room <= answer.length; room++) {
             uint8_t *out = around.begin + around.size - room;
             memset(out, 0xA5, room);
@@ -268,7 +268,7 @@ static void fenced_buffers(void) {
     }
 }
 
-static void refused(void) {
+static void refusals(void) {
     view path = view_of("a.rs"), extension = view_of("x/y"), request = view_of("a/../../x");
     for (size_t room = 0; room <= 16; room++) {
         uint8_t memory[16];
@@ -435,8 +435,8 @@ static void call_all_of_one(view path) {
 }
 
 static void call_fenced(view path) {
-    call_all_of_one(fenced(first_fence, path, true));
-    call_all_of_one(fenced(first_fence, path, false));
+    call_all_of_one(fence_in(first_fence, path, true));
+    call_all_of_one(fence_in(first_fence, path, false));
 }
 
 static void nothing_beside_is_read(void) {
@@ -449,7 +449,7 @@ static view first_of_pair;
 
 // Laws that tie the calls of two paths together.
 static void pair_with(view path) {
-    view a = fenced(first_fence, first_of_pair, true), b = fenced(second_fence, path, true);
+    view a = fence_in(first_fence, first_of_pair, true), b = fence_in(second_fence, path, true);
     unix_path_place place = no_place;
     bool is_equal = unix_path_equal(a.bytes, a.length, b.bytes, b.length);
     bool starts = unix_path_starts_with(a.bytes, a.length, b.bytes, b.length);
@@ -460,7 +460,7 @@ static void pair_with(view path) {
           "equal paths");
     CHECK(unix_path_strip_prefix(a.bytes, a.length, b.bytes, b.length, &place) == starts, "prefix");
     CHECK(starts ? is_inside(a, place) : same_place(place, no_place), "place");
-    CHECK(common_dir(a, b) <= a.length && common_dir(a, b) == common_dir(b, a), "front");
+    CHECK(common_dir(a, b) <= a.length && common_dir(a, b) == common_dir(b, a), "common dir");
     text first = new_text(), second = new_text();
     add_one(&first, unix_path_canonical, a);
     add_one(&second, unix_path_canonical, b);
@@ -494,11 +494,11 @@ int main(void) {
     run("prefixes", prefixes);
     run("relations", relations);
     run("truths", truths);
-    run("orders, hashes and fronts", orders_hashes_and_fronts);
+    run("orders, hashes and common dirs", orders_hashes_and_common_dirs);
     run("ample memory", ample_memory);
     run("short buffers", short_buffers);
     run("buffers before a page that can't be written", fenced_buffers);
-    run("separators and escapes write nothing", refused);
+    run("separators and escapes write nothing", refusals);
     run("a walk", walk_of_rows);
     run("walks from both ends", walks_from_both_ends);
     run("walks with absurd places", absurd_walks);

@@ -53,14 +53,14 @@ static inline fence new_fence(void) {
     return (fence){all + page, page};
 }
 
-// A copy of the bytes behind which nothing can be read, or before which nothing can.
-static inline view fenced(fence around, view bytes, bool at_end) {
+// A copy of the bytes at the end of the memory, or at its beginning: nothing beside can be read.
+static inline view fence_in(fence around, view bytes, bool at_end) {
     uint8_t *begin = at_end ? around.begin + around.size - bytes.length : around.begin;
     memcpy(begin, bytes.bytes, bytes.length);
     return (view){begin, bytes.length};
 }
 
-// Calls a function with each string of at most so many of these letters.
+// Calls a function with each string of at most `longest` of these letters.
 static inline void each_string(const char *letters, size_t longest, void (*call)(view)) {
     uint8_t bytes[16];
     size_t places[16] = {0}, count = strlen(letters);

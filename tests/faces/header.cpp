@@ -31,7 +31,7 @@ constexpr std::array<Relation, 3> relations{unix_path_starts_with, unix_path_end
 constexpr std::array<Truth, 3> truths{unix_path_is_utf8, unix_path_is_absolute, unix_path_climbs};
 
 // The bytes that a call of one path gives.
-std::string written(OfOne call, std::string_view path) {
+std::string output_of(OfOne call, std::string_view path) {
     uint8_t none = 0;
     std::string out(call(bytes(path), path.size(), &none, 0), '\0');
     call(bytes(path), path.size(), reinterpret_cast<uint8_t *>(out.data()), out.size());
@@ -43,7 +43,7 @@ int right_calls() {
     std::string_view root = "/";
     int right = 0;
     for (OfOne call : of_one) {
-        right += written(call, root) == "/";
+        right += output_of(call, root) == "/";
     }
     for (OfTwo call : of_two) {
         uint8_t out[4] = {};
@@ -74,7 +74,7 @@ int main() {
     std::string_view path = ".//a/./b/", base = "./a";
     unix_path_place rest;
     bool strips = unix_path_strip_prefix(bytes(path), path.size(), bytes(base), base.size(), &rest);
-    bool is_right = written(unix_path_canonical, path) == "./a/b" && right_calls() == 20 && strips
+    bool is_right = output_of(unix_path_canonical, path) == "./a/b" && right_calls() == 20 && strips
                     && path.substr(rest.start, rest.length) == "b"
                     && unix_path_compare(bytes(path), path.size(), bytes(base), base.size()) == 1
                     && unix_path_common_dir(bytes(path), path.size(), bytes(base), 3) == 2;

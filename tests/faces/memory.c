@@ -30,7 +30,7 @@ void __wrap_free(void *block) {
     __real_free(block);
 }
 
-// Counts the requests from here on, and refuses that one.
+// Counts the requests from here on, and refuses the one with this number.
 static void refuse(size_t number) {
     requests = 0;
     held_blocks = 0;
@@ -40,7 +40,7 @@ static void refuse(size_t number) {
 static const char *const paths[] = {"a/../..//b/.", "/../a", "a/b", ".a/..b", "//", "a/.."};
 static const size_t path_count = sizeof paths / sizeof *paths;
 
-// Calls of one path or of two that ask for memory, the second with a request that doesn't climb.
+// Makes the call of a row, which asks for memory: of one path, or of two and no climbing request.
 static size_t call_row(size_t row, uint8_t *out, size_t room) {
     view path = view_of(paths[row % path_count]), request = view_of("x/../y//z/.");
     if (row < path_count) {

@@ -8,7 +8,7 @@
 
 #include "unix_path.h"
 
-// So many bytes, which nothing here changes.
+// Bytes that nothing here changes.
 typedef struct {
     const uint8_t *bytes;
     size_t length;
@@ -40,7 +40,7 @@ static inline bool same_bytes(view a, view b) {
     return a.length == b.length && memcmp(a.bytes, b.bytes, a.length) == 0;
 }
 
-// Makes room for so many bytes.
+// Makes room for at least `room` bytes.
 static inline void make_room(text *made, size_t room) {
     if (made->bytes != NULL && made->room >= room) {
         return;
@@ -87,7 +87,8 @@ static inline void add_one(text *made, call_of_one call, view path) {
     made->length += length;
 }
 
-// The same for a call of two paths; false for an answer that is none, of which nothing is added.
+// Adds the answer of a call of two paths, as add_one does of a call of one; false where the call is
+// refused, and then nothing is added.
 static inline bool add_two(text *made, call_of_two call, view a, view b) {
     size_t room = made->room - made->length;
     uint8_t *end = made->bytes + made->length;

@@ -5,8 +5,8 @@
 use crate::error::Error;
 use crate::ffi::{Make, MakeOfTwo};
 
-/// `path` against `base`: it alone where it has a root, else behind `base`, with a slash between
-/// them where one is missing.
+/// `path` joined to `base`: `path` alone where it has a root; else `base` and `path`, with a slash
+/// between them where one is missing.
 ///
 /// Fails only with `Short`. Does not allocate. As Rust's `Path::join`.
 ///
@@ -33,8 +33,8 @@ pub fn with_file_name<'o>(path: &[u8], name: &[u8], out: &'o mut [u8]) -> Result
     MakeOfTwo::WITH_FILE_NAME.write(path, name, out)
 }
 
-/// The path with `extension` in place of that of its file name, or behind it where it has none; an
-/// empty one takes it away. A path without a file name stays as it is.
+/// The path with `extension` in place of its own, or added where it has none. An empty `extension`
+/// takes the old one away. A path without a file name stays as it is.
 ///
 /// Fails with `Separator` exactly where the extension has a slash, and with `Short`. Does not
 /// allocate. As Rust's `Path::with_extension`, which panics at a slash.
@@ -84,7 +84,7 @@ pub fn to_string_lossy<'o>(path: &[u8], out: &'o mut [u8]) -> Result<&'o [u8], E
 }
 
 /// The path with each `..` taken against the name before it, and spelled canonically: `.` goes, and
-/// so does `..` behind the root. The empty path stands for here.
+/// so does `..` behind the root. An answer of no bytes stands for the current directory.
 ///
 /// It goes by names alone: where a part before a `..` may be a link, only the system knows where
 /// that `..` leads. It has at most as many bytes as the path. Fails with `NoMemory` where an

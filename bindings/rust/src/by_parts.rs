@@ -4,7 +4,7 @@ use core::hash::{Hash, Hasher};
 
 /// Bytes that are compared, ordered and hashed as paths, by their parts.
 ///
-/// Not in Rust's std, whose `Path` is so of itself.
+/// Not in Rust's std, where `Path` itself is compared, ordered and hashed by its parts.
 ///
 /// ```
 /// use std::collections::BTreeMap;
@@ -39,8 +39,8 @@ impl<P: AsRef<[u8]>> Ord for ByParts<P> {
     }
 }
 
-/// One number is fed to the hasher, [`hash`](crate::hash); so whoever finds two paths with the same
-/// number has found a collision for each key of the hasher.
+/// The hasher is fed one number, [`hash`](crate::hash). So two paths with the same number collide
+/// whatever the key of the hasher is.
 impl<P: AsRef<[u8]>> Hash for ByParts<P> {
     fn hash<H: Hasher>(&self, state: &mut H) {
         state.write_u64(crate::hash(self.0.as_ref()));

@@ -39,9 +39,9 @@ impl<'a> Component<'a> {
         }
     }
 
-    /// The part that the library told of this path.
+    /// The component that a part of this path is, as the library gave it.
     #[inline]
-    fn told(part: Part, path: &'a [u8]) -> Option<Component<'a>> {
+    fn from_part(part: Part, path: &'a [u8]) -> Option<Component<'a>> {
         match part.kind {
             Part::ROOT_DIR => Some(Component::RootDir),
             Part::CUR_DIR => Some(Component::CurDir),
@@ -52,10 +52,10 @@ impl<'a> Component<'a> {
     }
 }
 
-/// The parts of a path, from either end; [`components`](crate::components) makes it.
+/// A walk over the parts of a path, from either end; [`components`](crate::components) begins one.
 ///
-/// It is the path and two places in it: no call of it allocates. Two are compared and hashed by the
-/// parts that they have left. As Rust's `std::path::Components`.
+/// It holds the path and two places in it, and no method of it allocates. Two walks are compared by
+/// the parts that they have left, and a walk is hashed by those. As Rust's `std::path::Components`.
 #[derive(Clone)]
 pub struct Components<'a> {
     path: &'a [u8],
@@ -90,7 +90,7 @@ impl<'a> Components<'a> {
     #[inline]
     fn step(&mut self, step: Step) -> Option<Component<'a>> {
         let part = step.take(self.path, &mut self.walk)?;
-        Component::told(part, self.path)
+        Component::from_part(part, self.path)
     }
 }
 

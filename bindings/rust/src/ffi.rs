@@ -7,8 +7,8 @@
 //! is given and writes the record or the buffer that it is given, and touches nothing else; it
 //! keeps no pointer; it returns. Slices of Rust are what it asks for: never null, even where they
 //! are empty, at most `isize::MAX` bytes, and one that is written shares no byte with the others.
-//! That a call has written as many bytes as it answers is a promise of the library too, on which
-//! `Vec`s rest that are filled by it.
+//! The library also promises that a call wrote as many bytes as it answers: each `Vec` that a call
+//! fills rests on that.
 mod raw;
 
 use crate::error::Error;
@@ -18,7 +18,7 @@ use core::cmp::Ordering;
 use raw::*;
 pub(crate) use raw::{Part, Walk};
 
-/// Why a call wrote nothing whose answer is no length that fits.
+/// Why a call wrote nothing, by its answer: a number that is greater than the buffer's length.
 #[cold]
 fn refusal(answer: usize) -> Error {
     match answer {
@@ -29,13 +29,14 @@ fn refusal(answer: usize) -> Error {
     }
 }
 
-/// What a call wrote that answers this, at the beginning of the buffer.
+/// What a call wrote at the beginning of the buffer, by the number that it answered.
 #[inline]
-fn written(out: &[u8], answer: usize) -> Result<&[u8], Error> {
+fn output(out: &[u8], answer: usize) -> Result<&[u8], Error> {
     out.get(..answer).ok_or_else(|| refusal(answer))
 }
 
-/// Has a call write into the capacity of the vector, which then has what it wrote alone.
+/// Lets a call write into the vector's capacity. The vector then has what the call wrote, and no
+/// more.
 #[cfg(feature = "alloc")]
 #[inline]
 fn fill(bytes: &mut Vec<u8>, call: impl FnOnce(*mut u8, usize) -> usize) -> Result<(), Error> {
@@ -44,12 +45,12 @@ fn fill(bytes: &mut Vec<u8>, call: impl FnOnce(*mut u8, usize) -> usize) -> Resu
     if answer > bytes.capacity() {
         return Err(refusal(answer));
     }
-    // SAFETY: the capacity has so many bytes, and the library promises that it wrote them.
+    // SAFETY: the capacity has that many bytes, and the library promises that it wrote them.
     unsafe { bytes.set_len(answer) };
     Ok(())
 }
 
-/// The bytes between two places, or none where they don't lie in the path: no place is trusted.
+/// The bytes from `start` on, or `None` where they don't all lie in the path: no place is trusted.
 #[inline]
 fn cut(path: &[u8], start: usize, length: usize) -> Option<&[u8]> {
     path.get(start..start.checked_add(length)?)
@@ -113,8 +114,8 @@ impl Step {
             length: 0,
             kind: 0,
         };
-        // SAFETY: the slice is read, and both records are written. For a walk over another path,
-        // which no caller in this crate has, the answer may be another one, and no more.
+        // SAFETY: the slice is read, and both records are written. A walk over another path, which
+        // no caller in this crate passes, would only get another answer.
         let is_taken = unsafe { (self.0)(path.as_ptr(), path.len(), walk, &mut part) };
         is_taken.then_some(part)
     }
@@ -218,7 +219,7 @@ impl Make {
     pub fn write<'o>(self, path: &[u8], out: &'o mut [u8]) -> Result<&'o [u8], Error> {
         // SAFETY: the slice is read, and the buffer is written.
         let answer = unsafe { (self.0)(path.as_ptr(), path.len(), out.as_mut_ptr(), out.len()) };
-        written(out, answer)
+        output(out, answer)
     }
 
     #[cfg(feature = "alloc")]
@@ -252,7 +253,7 @@ impl MakeOfTwo {
         let (begin, room) = (out.as_mut_ptr(), out.len());
         // SAFETY: the slices are read, and the buffer is written.
         let answer = unsafe { (self.0)(start, length, other.as_ptr(), other.len(), begin, room) };
-        written(out, answer)
+        output(out, answer)
     }
 
     #[cfg(feature = "alloc")]

@@ -16,16 +16,16 @@
 //! ```
 //!
 //! With the feature `alloc` the calls of [`owned`] give a `Vec<u8>`; with `std`, the default, those
-//! of [`os`] take and give `Path` and `OsStr` on Unix. No call of any of them panics, and lack of
-//! memory is an answer, [`Error::NoMemory`].
+//! of [`os`] take and give `Path` and `OsStr` on Unix. No call panics, and a failed allocation is
+//! an error, [`Error::NoMemory`].
 //!
 //! # What is proved
 //!
 //! That each call of the library returns what its contract says, on all bytes; the contracts stand
 //! in `crates/unix_path_c`. This crate isn't proved: it passes the slices, and cuts the answers out
-//! of them with a test of their bounds, so that a wrong library would give wrong answers, and could
-//! do harm only by what it reads and writes itself, or doesn't write: an answer in memory of its
-//! own has the bytes that the library says it wrote.
+//! of them with a test of their bounds. So a wrong library would give wrong answers, and could do
+//! harm only by what it reads or writes itself, or by bytes that it says it wrote and didn't: a new
+//! `Vec` has as many bytes as the library answers.
 //!
 //! # Building
 //!

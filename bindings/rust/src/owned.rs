@@ -1,4 +1,4 @@
-//! The calls that make a path, with an answer in memory of its own.
+//! The calls that make a path, with the answer in a new `Vec` or `String`.
 //!
 //! Each fails with [`Error::NoMemory`] where an allocation failed, and never with
 //! [`Error::Short`].
@@ -7,8 +7,8 @@ use crate::ffi::{Make, MakeOfTwo};
 use alloc::string::String;
 use alloc::vec::Vec;
 
-/// What the call writes in so much memory; an error of the call is passed on.
-fn filled<F>(room: usize, fill: &F) -> Result<Vec<u8>, Error>
+/// What the call writes into a new vector that has room for `room` bytes.
+fn vec_with_room<F>(room: usize, fill: &F) -> Result<Vec<u8>, Error>
 where
     F: Fn(&mut Vec<u8>) -> Result<(), Error>,
 {
@@ -18,14 +18,15 @@ where
     Ok(bytes)
 }
 
-/// What the call writes, in so much memory or, where that is too little, as much as it needs.
-fn made<F>(room: usize, fill: F) -> Result<Vec<u8>, Error>
+/// What the call writes into a new vector that has room for `room` bytes, or for as many as the
+/// call needs where these are more.
+fn vec_of<F>(room: usize, fill: F) -> Result<Vec<u8>, Error>
 where
     F: Fn(&mut Vec<u8>) -> Result<(), Error>,
 {
-    match filled(room, &fill) {
-        Err(Error::Short { needed }) => filled(needed, &fill),
-        made => made,
+    match vec_with_room(room, &fill) {
+        Err(Error::Short { needed }) => vec_with_room(needed, &fill),
+        result => result,
     }
 }
 
@@ -35,7 +36,7 @@ where
 /// assert_eq!(unix_path_rattle::owned::join(b"/a", b"b").unwrap(), b"/a/b");
 /// ```
 pub fn join(base: &[u8], path: &[u8]) -> Result<Vec<u8>, Error> {
-    made(base.len() + 1 + path.len(), |bytes| {
+    vec_of(base.len() + 1 + path.len(), |bytes| {
         MakeOfTwo::JOIN.fill(base, path, bytes)
     })
 }
@@ -46,7 +47,7 @@ pub fn join(base: &[u8], path: &[u8]) -> Result<Vec<u8>, Error> {
 /// assert_eq!(unix_path_rattle::owned::with_file_name(b"/a/b", b"c").unwrap(), b"/a/c");
 /// ```
 pub fn with_file_name(path: &[u8], name: &[u8]) -> Result<Vec<u8>, Error> {
-    made(path.len() + 1 + name.len(), |bytes| {
+    vec_of(path.len() + 1 + name.len(), |bytes| {
         MakeOfTwo::WITH_FILE_NAME.fill(path, name, bytes)
     })
 }
@@ -59,7 +60,7 @@ pub fn with_file_name(path: &[u8], name: &[u8]) -> Result<Vec<u8>, Error> {
 /// assert_eq!(owned::with_extension(b"a/b.c", b"d/e"), Err(Error::Separator));
 /// ```
 pub fn with_extension(path: &[u8], extension: &[u8]) -> Result<Vec<u8>, Error> {
-    made(path.len() + 1 + extension.len(), |bytes| {
+    vec_of(path.len() + 1 + extension.len(), |bytes| {
         MakeOfTwo::WITH_EXTENSION.fill(path, extension, bytes)
     })
 }
@@ -70,7 +71,7 @@ pub fn with_extension(path: &[u8], extension: &[u8]) -> Result<Vec<u8>, Error> {
 /// assert_eq!(unix_path_rattle::owned::canonical(b".//a/./b/").unwrap(), b"./a/b");
 /// ```
 pub fn canonical(path: &[u8]) -> Result<Vec<u8>, Error> {
-    made(path.len(), |bytes| Make::CANONICAL.fill(path, bytes))
+    vec_of(path.len(), |bytes| Make::CANONICAL.fill(path, bytes))
 }
 
 /// As [`to_string_lossy`](crate::to_string_lossy), as text of its own.
@@ -79,8 +80,8 @@ pub fn canonical(path: &[u8]) -> Result<Vec<u8>, Error> {
 /// assert_eq!(unix_path_rattle::owned::to_string_lossy(b"caf\xE9").unwrap(), "caf\u{FFFD}");
 /// ```
 pub fn to_string_lossy(path: &[u8]) -> Result<String, Error> {
-    let bytes = made(path.len(), |bytes| Make::TO_STRING_LOSSY.fill(path, bytes))?;
-    // It is text; were it none, Rust would make it so.
+    let bytes = vec_of(path.len(), |bytes| Make::TO_STRING_LOSSY.fill(path, bytes))?;
+    // The bytes are UTF-8; if a wrong library gave others, Rust would replace what isn't.
     Ok(String::from_utf8(bytes)
         .unwrap_or_else(|error| String::from_utf8_lossy(error.as_bytes()).into_owned()))
 }
@@ -91,7 +92,7 @@ pub fn to_string_lossy(path: &[u8]) -> Result<String, Error> {
 /// assert_eq!(unix_path_rattle::owned::resolved(b"/a/../b/.").unwrap(), b"/b");
 /// ```
 pub fn resolved(path: &[u8]) -> Result<Vec<u8>, Error> {
-    made(path.len(), |bytes| Make::RESOLVED.fill(path, bytes))
+    vec_of(path.len(), |bytes| Make::RESOLVED.fill(path, bytes))
 }
 
 /// As [`join_within`](crate::join_within), in memory of its own.
@@ -102,7 +103,7 @@ pub fn resolved(path: &[u8]) -> Result<Vec<u8>, Error> {
 /// assert_eq!(owned::join_within(b"/srv/www", b"/etc"), Err(Error::Escapes));
 /// ```
 pub fn join_within(root: &[u8], request: &[u8]) -> Result<Vec<u8>, Error> {
-    made(root.len() + 1 + request.len(), |bytes| {
+    vec_of(root.len() + 1 + request.len(), |bytes| {
         MakeOfTwo::JOIN_WITHIN.fill(root, request, bytes)
     })
 }

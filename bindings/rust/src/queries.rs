@@ -1,4 +1,4 @@
-//! What is asked of a path or of two. Answers lie in the path; nothing allocates.
+//! Questions about a path or about two. Answers lie in the path, and no call allocates.
 use crate::components::Components;
 use crate::ffi::{self, Ask, AskTwo, Find};
 use core::cmp::Ordering;
@@ -33,7 +33,7 @@ pub fn parent(path: &[u8]) -> Option<&[u8]> {
     Find::PARENT.find(path)
 }
 
-/// The last part, where it is a name. As Rust's `Path::file_name`.
+/// The last part, if it is a name. As Rust's `Path::file_name`.
 ///
 /// ```
 /// assert_eq!(unix_path_rattle::file_name(b"foo.txt/."), Some(&b"foo.txt"[..]));
@@ -45,7 +45,7 @@ pub fn file_name(path: &[u8]) -> Option<&[u8]> {
     Find::FILE_NAME.find(path)
 }
 
-/// The file name up to its last dot; all of it where it has none or that dot stands first.
+/// The file name up to its last dot; all of it where it has no dot, or where that dot is first.
 ///
 /// As Rust's `Path::file_stem`.
 ///
@@ -59,7 +59,7 @@ pub fn file_stem(path: &[u8]) -> Option<&[u8]> {
     Find::FILE_STEM.find(path)
 }
 
-/// The file name behind its last dot; none where it has none or that dot stands first.
+/// The file name behind its last dot; `None` where it has no dot, or where that dot is first.
 ///
 /// As Rust's `Path::extension`.
 ///
@@ -74,7 +74,7 @@ pub fn extension(path: &[u8]) -> Option<&[u8]> {
     Find::EXTENSION.find(path)
 }
 
-/// The file name up to its first dot behind its first byte; all of it where it has none.
+/// The file name up to its first dot behind its first byte; all of it where there is no such dot.
 ///
 /// As Rust's `Path::file_prefix`.
 ///
@@ -88,10 +88,10 @@ pub fn file_prefix(path: &[u8]) -> Option<&[u8]> {
     Find::FILE_PREFIX.find(path)
 }
 
-/// What follows `base` in `path`; none where [`starts_with`] is false.
+/// What follows `base` in `path`; `None` where [`starts_with`] is false.
 ///
-/// As Rust's `Path::strip_prefix`, but that where nothing follows, the empty answer may stand
-/// elsewhere in the path.
+/// As Rust's `Path::strip_prefix`, except that an answer of no bytes may stand elsewhere in the
+/// path.
 ///
 /// ```
 /// assert_eq!(unix_path_rattle::strip_prefix(b"/a//b/", b"/a"), Some(&b"b"[..]));
@@ -127,7 +127,7 @@ pub fn ends_with(path: &[u8], child: &[u8]) -> bool {
     AskTwo::ENDS_WITH.ask(path, child)
 }
 
-/// Whether the two have the same parts. As `==` of Rust's `Path`.
+/// Whether two paths have the same parts. As `==` of Rust's `Path`.
 ///
 /// ```
 /// assert!(unix_path_rattle::equal(b"a//b/.", b"a/b"));
@@ -139,7 +139,7 @@ pub fn equal(a: &[u8], b: &[u8]) -> bool {
     AskTwo::EQUAL.ask(a, b)
 }
 
-/// The order of the two by their parts. As `cmp` of Rust's `Path`.
+/// The order of two paths by their parts. As `cmp` of Rust's `Path`.
 ///
 /// ```
 /// use std::cmp::Ordering::{Equal, Less};
@@ -154,8 +154,8 @@ pub fn compare(a: &[u8], b: &[u8]) -> Ordering {
 
 /// A number that equal paths share, the same in every run and on every machine.
 ///
-/// It has no key: where an enemy chooses the paths, feed it to a hasher that has one, or hash the
-/// canonical bytes.
+/// It has no key: where an attacker may choose the paths, hash their [canonical](crate::canonical)
+/// bytes with a hasher that has one.
 ///
 /// ```
 /// assert_eq!(unix_path_rattle::hash(b"a//b/."), unix_path_rattle::hash(b"a/b"));
@@ -206,8 +206,8 @@ pub fn climbs(path: &[u8]) -> bool {
     Ask::CLIMBS.ask(path)
 }
 
-/// The front of `a` up to and with the last slash of what both begin with, byte by byte; empty
-/// where that has no slash.
+/// The bytes of `a` up to and with the last slash of the longest string that both begin with; none
+/// where that string has no slash.
 ///
 /// Not in Rust's std.
 ///

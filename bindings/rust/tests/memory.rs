@@ -1,4 +1,4 @@
-//! Lack of memory is an answer of each call that allocates.
+//! Lack of memory: each call that allocates has an error for it.
 use std::alloc::{GlobalAlloc, Layout, System};
 use std::cell::Cell;
 use std::ptr::null_mut;
@@ -10,10 +10,10 @@ thread_local! {
 }
 
 /// The system's memory, unless it is refused.
-struct Refusing;
+struct RefusingAllocator;
 
 // SAFETY: each call is passed on to the system's allocator, or answers null.
-unsafe impl GlobalAlloc for Refusing {
+unsafe impl GlobalAlloc for RefusingAllocator {
     unsafe fn alloc(&self, layout: Layout) -> *mut u8 {
         if IS_REFUSED.get() {
             return null_mut();
@@ -27,10 +27,10 @@ unsafe impl GlobalAlloc for Refusing {
 }
 
 #[global_allocator]
-static MEMORY: Refusing = Refusing;
+static MEMORY: RefusingAllocator = RefusingAllocator;
 
 /// The answer of the call where no memory is given.
-fn refused<T>(call: impl FnOnce() -> Result<T, Error>) -> Result<T, Error> {
+fn without_memory<T>(call: impl FnOnce() -> Result<T, Error>) -> Result<T, Error> {
     IS_REFUSED.set(true);
     let answer = call();
     IS_REFUSED.set(false);
@@ -38,7 +38,7 @@ fn refused<T>(call: impl FnOnce() -> Result<T, Error>) -> Result<T, Error> {
 }
 
 #[test]
-fn is_told() {
+fn it_is_an_error() {
     let of_two = [
         owned::join,
         owned::with_file_name,
@@ -46,19 +46,19 @@ fn is_told() {
         owned::join_within,
     ];
     for call in of_two {
-        assert_eq!(refused(|| call(b"a/b", b"c")), Err(Error::NoMemory));
+        assert_eq!(without_memory(|| call(b"a/b", b"c")), Err(Error::NoMemory));
         assert!(call(b"a/b", b"c").is_ok());
     }
     for call in [owned::canonical, owned::resolved] {
-        assert_eq!(refused(|| call(b"a/b")), Err(Error::NoMemory));
+        assert_eq!(without_memory(|| call(b"a/b")), Err(Error::NoMemory));
         assert!(call(b"a/b").is_ok());
     }
-    let text = refused(|| owned::to_string_lossy(b"a/b"));
+    let text = without_memory(|| owned::to_string_lossy(b"a/b"));
     assert_eq!(text, Err(Error::NoMemory));
 }
 
 #[test]
-fn is_not_needed_for_nothing() {
-    assert_eq!(refused(|| owned::canonical(b"")), Ok(vec![]));
-    assert_eq!(refused(|| owned::resolved(b"")), Ok(vec![]));
+fn empty_answers_need_none() {
+    assert_eq!(without_memory(|| owned::canonical(b"")), Ok(vec![]));
+    assert_eq!(without_memory(|| owned::resolved(b"")), Ok(vec![]));
 }

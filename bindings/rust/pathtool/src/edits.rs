@@ -1,7 +1,7 @@
 //! Answers to lists of edits.
 use unix_path_rattle::{self as paths, owned, Error};
 
-/// The path onto whose file name the extension is added; the face has no call for it.
+/// The path with the extension added to its file name; the library has no call for it.
 fn with_added_extension(path: &[u8], extension: &[u8]) -> Result<Vec<u8>, Error> {
     if extension.contains(&b'/') {
         return Err(Error::Separator);
@@ -16,7 +16,7 @@ fn with_added_extension(path: &[u8], extension: &[u8]) -> Result<Vec<u8>, Error>
 /// A call that makes a path with another extension.
 type Extend = fn(&[u8], &[u8]) -> Result<Vec<u8>, Error>;
 
-/// Does the edit of an extension, and gives its word.
+/// Edits the extension, and gives the word of the answer.
 fn edit_extension(
     edited: &mut Vec<u8>,
     extension: &[u8],
@@ -25,12 +25,12 @@ fn edit_extension(
     let is_named = paths::file_name(edited).is_some();
     match extend(edited, extension) {
         Err(Error::Separator) => return Ok("separator"),
-        made => *edited = made?,
+        result => *edited = result?,
     }
     Ok(if is_named { "true" } else { "false" })
 }
 
-/// Takes the last part away, and gives the word for whether there was one.
+/// Takes the last part away, and gives the word of the answer.
 fn pop(edited: &mut Vec<u8>) -> &'static str {
     match paths::parent(edited).map(<[u8]>::len) {
         Some(length) => {
@@ -41,7 +41,8 @@ fn pop(edited: &mut Vec<u8>) -> &'static str {
     }
 }
 
-/// Does the edit that the field names, and gives its word; none where it names none.
+/// Makes the edit that the field names, and gives the word of the answer; `None` where the field
+/// names no edit.
 fn edit(edited: &mut Vec<u8>, field: &[u8]) -> Result<Option<&'static str>, Error> {
     let mut cut = field.splitn(2, |byte| *byte == b':');
     let word = match (cut.next(), cut.next()) {

@@ -2,7 +2,7 @@
 use std::iter::{once, successors};
 use unix_path_rattle::{self as paths, owned, ByParts, Component, Error};
 
-/// Adds the items.
+/// Adds the items, with a tab between two of them.
 pub fn push_list<'a>(items: impl Iterator<Item = &'a [u8]>, answer: &mut Vec<u8>) {
     for (place, item) in items.enumerate() {
         if place > 0 {
@@ -12,17 +12,17 @@ pub fn push_list<'a>(items: impl Iterator<Item = &'a [u8]>, answer: &mut Vec<u8>
     }
 }
 
-/// Adds the bytes of the parts.
+/// Adds the bytes of the parts as a list.
 pub fn push_parts<'a>(parts: impl Iterator<Item = Component<'a>>, answer: &mut Vec<u8>) {
     push_list(parts.map(Component::as_bytes), answer);
 }
 
-/// Adds the path, its parent, the parent of that, and so on.
+/// Adds the path and each path above it as a list.
 pub fn push_ancestors(path: &[u8], answer: &mut Vec<u8>) {
     push_list(successors(Some(path), |path| paths::parent(path)), answer);
 }
 
-/// Adds what the turns take from both ends, and what they leave; false where one is no turn.
+/// Adds what the turns take from both ends, and what is left; false where a letter is no turn.
 pub fn push_walk(path: &[u8], turns: &[u8], answer: &mut Vec<u8>) -> bool {
     let mut left = paths::components(path);
     let (mut front, mut behind) = (vec![], vec![]);

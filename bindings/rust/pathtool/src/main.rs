@@ -18,7 +18,7 @@ fn push_option(item: Option<&[u8]>, answer: &mut Vec<u8>) {
     }
 }
 
-/// Adds what follows the base.
+/// Adds what follows the base in the path, or that the base doesn't begin the path.
 fn push_stripped(path: &[u8], base: &[u8], answer: &mut Vec<u8>) {
     match paths::strip_prefix(path, base) {
         Some(rest) => push_option(Some(rest), answer),
@@ -40,7 +40,7 @@ fn push_order(order: Ordering, answer: &mut Vec<u8>) {
     });
 }
 
-/// Adds the answer to a line of these fields; false where it is no command.
+/// Adds the answer to a line with these fields; false for an unknown command.
 fn push_answer(fields: &[&[u8]], answer: &mut Vec<u8>) -> Result<bool, Error> {
     match fields {
         [b"parts", p] => lists::push_parts(paths::components(p), answer),
@@ -66,7 +66,7 @@ fn push_answer(fields: &[&[u8]], answer: &mut Vec<u8>) -> Result<bool, Error> {
     Ok(true)
 }
 
-/// The answers to the lines of an input.
+/// Writes the answer to each line of an input.
 fn answers(input: &[u8], output: &mut impl Write) -> io::Result<()> {
     for line in input.split_inclusive(|byte| *byte == b'\n') {
         let line = line.strip_suffix(b"\n").unwrap_or(line);

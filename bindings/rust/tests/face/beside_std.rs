@@ -21,13 +21,13 @@ fn bytes(path: &(impl AsRef<OsStr> + ?Sized)) -> &[u8] {
     path.as_ref().as_bytes()
 }
 
-/// The bytes of an answer and where they stand; empty ones stand anywhere.
-fn placed(found: Option<&[u8]>) -> Option<(&[u8], Option<*const u8>)> {
+/// The bytes of an answer, and where they stand unless there are none.
+fn with_place(found: Option<&[u8]>) -> Option<(&[u8], Option<*const u8>)> {
     found.map(|found| (found, found.first().map(|first| first as *const u8)))
 }
 
 fn same_place(found: Option<&[u8]>, want: Option<&[u8]>, of: &[u8]) {
-    assert_eq!(placed(found), placed(want), "{}", of.escape_ascii());
+    assert_eq!(with_place(found), with_place(want), "{}", of.escape_ascii());
 }
 
 fn as_std(part: Component<'_>) -> std::path::Component<'_> {
@@ -122,12 +122,13 @@ fn joins() {
     }
 }
 
-/// The longest front of `a` that `b` begins with too and that is empty or ends with a slash.
+/// The longest beginning of `a` that `b` begins with too and that is empty or ends with a slash.
 fn common_dir<'a>(a: &'a [u8], b: &[u8]) -> &'a [u8] {
-    let fronts = (0..=a.len()).map(|length| &a[..length]);
-    let is_dir =
-        |front: &&[u8]| b.starts_with(front) && front.last().map_or(true, |byte| *byte == b'/');
-    fronts.rev().find(is_dir).unwrap_or_default()
+    let beginnings = (0..=a.len()).map(|length| &a[..length]);
+    let is_dir = |beginning: &&[u8]| {
+        b.starts_with(beginning) && beginning.last().map_or(true, |byte| *byte == b'/')
+    };
+    beginnings.rev().find(is_dir).unwrap_or_default()
 }
 
 #[test]

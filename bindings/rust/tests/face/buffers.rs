@@ -11,7 +11,7 @@ type RowOfTwo = (OfTwo, &'static [u8], &'static [u8], &'static [u8]);
 /// What a buffer holds before a call.
 const OLD: u8 = 0xA5;
 
-/// Calls with every room from none to some bytes too many; other bytes stand behind each.
+/// Calls with every room, from none to 3 bytes more than needed; other bytes stand behind each.
 fn in_every_room<C>(call: C, want: &[u8])
 where
     C: Fn(&mut [u8]) -> Result<&[u8], Error>,
@@ -31,7 +31,7 @@ where
     }
 }
 
-/// The call writes nothing in any room, and fails so.
+/// Calls with every room up to 15 bytes: each call fails with this error, and writes nothing.
 fn in_no_room<C>(call: C, want: Error)
 where
     C: Fn(&mut [u8]) -> Result<&[u8], Error>,
@@ -99,7 +99,7 @@ fn of_two() {
 }
 
 #[test]
-fn refused() {
+fn refusals_write_nothing() {
     in_no_room(
         |out| paths::with_extension(b"a", b"b/c", out),
         Error::Separator,
@@ -120,7 +120,7 @@ fn owned_text_grows() {
 }
 
 #[test]
-fn errors_are_told() {
+fn errors_have_texts() {
     let rows = [
         (
             Error::Short { needed: 4 },

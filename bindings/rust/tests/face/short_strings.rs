@@ -1,6 +1,6 @@
-//! All short strings of what matters to paths.
+//! All short strings over some letters.
 
-/// The strings of at most so many of these bytes, shorter ones first.
+/// The strings of at most `longest` of these bytes, shorter ones first.
 pub fn over(letters: &[u8], longest: usize) -> Vec<Vec<u8>> {
     let mut strings = vec![vec![]];
     let mut at = 0;

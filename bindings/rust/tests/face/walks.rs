@@ -5,7 +5,7 @@ use std::os::unix::ffi::OsStrExt;
 use std::path::Path;
 use unix_path_rattle::{components, Component, Components};
 
-/// Goes on with both walks by every list of so many turns.
+/// Goes on with both walks by every list of this many turns.
 fn go_on(ours: &Components<'_>, want: &std::path::Components<'_>, turns: usize) {
     assert_eq!(ours.as_path(), want.as_path().as_os_str().as_bytes());
     if turns == 0 {

@@ -2,8 +2,8 @@
 use crate::short_strings::over;
 use unix_path_rattle::{climbs, components, owned, starts_with, Component, Error};
 
-/// The parts that are kept, of which each `..` took the name before it.
-fn kept(path: &[u8]) -> Vec<&[u8]> {
+/// The parts that are kept where each `..` takes the name before it away.
+fn kept_parts(path: &[u8]) -> Vec<&[u8]> {
     let mut kept: Vec<&[u8]> = vec![];
     for part in components(path) {
         match (part, kept.last()) {
@@ -17,8 +17,8 @@ fn kept(path: &[u8]) -> Vec<&[u8]> {
     kept
 }
 
-/// They with a slash between two, unless the first is the root.
-fn spelled(kept: &[&[u8]]) -> Vec<u8> {
+/// The parts with a slash between two of them, but none behind the root.
+fn spelling(kept: &[&[u8]]) -> Vec<u8> {
     match kept.split_first() {
         Some((&b"/", names)) => [b"/", &names.join(&b'/')[..]].concat(),
         _ => kept.join(&b'/'),
@@ -43,7 +43,7 @@ fn resolved_and_climbing() {
     for s in over(b"/.ab", 6) {
         assert_eq!(
             owned::resolved(&s),
-            Ok(spelled(&kept(&s))),
+            Ok(spelling(&kept_parts(&s))),
             "{}",
             s.escape_ascii()
         );
@@ -63,7 +63,7 @@ fn joined_within() {
             }
             let joined = joined.unwrap();
             let plain = owned::join(root, request).unwrap();
-            assert_eq!(joined, spelled(&kept(&plain)));
+            assert_eq!(joined, spelling(&kept_parts(&plain)));
             assert!(starts_with(&joined, &owned::resolved(root).unwrap()));
         }
     }
