@@ -15,8 +15,8 @@ use Rattle.unix_path.proofs.SplitLemmas.{drops_to}
 use Rattle.unix_path.proofs.StemLemmas.{length-rest_whole-le}
 use Rattle.unix_path_c.proofs.FollowLemmas.{BeginsWith, Follow, begins_with}
 
--- v is the first value of s, whose parts end at n: it begins s, and the m bytes up to n are left
-pub record TakesFront (s : List ℕ) (v : Value) (n m : ℕ) : Type 0 where
+-- v is the first value of s, whose parts end at n: its bytes begin s, and the m up to n are left
+pub record TakesInFront (s : List ℕ) (v : Value) (n m : ℕ) : Type 0 where
   pub is : parts s ≡ record { start = 0; end = length (value_bytes v); value = v }
       ∷ map (part_at (n - m)) (parts (rest s 1 0))
   pub bytes : take (length (value_bytes v)) s ≡ value_bytes v
@@ -25,12 +25,13 @@ pub record TakesFront (s : List ℕ) (v : Value) (n m : ℕ) : Type 0 where
   pub fewer : m ≤ n
   pub in_range : n ≤ length s
 
+-- a string that has values has bytes
 pub some_bytes : (s : List ℕ) → (values s ≡ [] → ⊥) → 0 < length s
 some_bytes s some = by_test (ltb 0 (length s)) (λ e. ltb-true _ _ e)
     (λ e. absurd (some
     (ap values (nil_from_length s (omega (arith, ltb-false _ _ e))) ∙ values-nil)))
 
--- no part, no byte
+-- a string without values has no bytes
 pub no_bytes : (s : List ℕ) → values s ≡ [] → s ≡ []
 unfolding values
 no_bytes s none = by_test (ltb 0 (length s))
@@ -45,7 +46,7 @@ parts-none s e = ap parts (nil_from_length s e) ∙ parts-nil
 middle-first : (p : Part) (ps : List Part) → middle 1 0 (p ∷ ps) ≡ ps
 middle-first p ps = take_all (length (p ∷ ps) - (1 + 0)) ps (omega arith)
 
--- where what is left behind a first part stands
+-- the parts behind a first one are those of what is left behind it, moved to where that stands
 behind_first : (s : List ℕ) (b : BeginsWith s) (h : Middle s 1 0)
     → b.more ≡ map (part_at h.at) (parts h.left)
 behind_first s b h =
@@ -53,7 +54,7 @@ behind_first s b h =
     record { start = 0; end = length (value_bytes b.value); value = b.value } in
     sym (middle-first p b.more) ∙ ap (middle 1 0) (sym b.is) ∙ h.is
 
--- where the parts end that stand behind a first one
+-- where parts that stand behind another one end
 end_behind : (p : Part) (at : ℕ) (w : List ℕ) (b : BeginsWith w)
     → last_end p (map (part_at at) (parts w)) ≡ parts_end (parts w) + at
 end_behind p at w b =
@@ -62,8 +63,9 @@ end_behind p at w b =
     ap (λ ps. last_end p (map (part_at at) ps)) b.is ∙ last_end-part_at at q b.more
     ∙ ap (λ ps. parts_end ps + at) (sym b.is)
 
+-- the first part is the only one
 takes_alone : (s : List ℕ) (b : BeginsWith s) (h : Middle s 1 0) → length h.left ≡ 0
-    → TakesFront s b.value (length (rest s 0 0)) (length (rest s 1 0))
+    → TakesInFront s b.value (length (rest s 0 0)) (length (rest s 1 0))
 takes_alone s b h e =
     let n = length (rest s 0 0) in
     let m = length (rest s 1 0) in
@@ -86,8 +88,9 @@ takes_alone s b h e =
       in_range = length-rest_whole-le s;
     }
 
+-- other parts stand behind the first one
 takes_more : (s : List ℕ) (b : BeginsWith s) (h : Middle s 1 0) → 0 < length h.left
-    → TakesFront s b.value (length (rest s 0 0)) (length (rest s 1 0))
+    → TakesInFront s b.value (length (rest s 0 0)) (length (rest s 1 0))
 takes_more s b h l =
     let n = length (rest s 0 0) in
     let m = length (rest s 1 0) in
@@ -115,19 +118,20 @@ takes_more s b h l =
       in_range = length-rest_whole-le s;
     }
 
-front_by : (s : List ℕ) (v : Value) (vs : List Value) (b : BeginsWith s) (h : Middle s 1 0)
-    → values s ≡ v ∷ vs → TakesFront s v (length (rest s 0 0)) (length (rest s 1 0))
+takes_in_front-by : (s : List ℕ) (v : Value) (vs : List Value) (b : BeginsWith s) (h : Middle s 1 0)
+    → values s ≡ v ∷ vs → TakesInFront s v (length (rest s 0 0)) (length (rest s 1 0))
 unfolding values
-front_by s v vs b h e =
+takes_in_front-by s v vs b h e =
     let firsts = ap (map (λ p. p.value)) (sym b.is) ∙ e in
     let same : b.value ≡ v = cc in
-    subst (λ v. TakesFront s v (length (rest s 0 0)) (length (rest s 1 0))) same
+    subst (λ v. TakesInFront s v (length (rest s 0 0)) (length (rest s 1 0))) same
     (by_test (ltb 0 (length h.left)) (λ some. takes_more s b h (ltb-true _ _ some))
     (λ none. takes_alone s b h (omega (arith, ltb-false _ _ none))))
 
-pub takes_front : (s : List ℕ) (v : Value) (vs : List Value) → values s ≡ v ∷ vs
-    → TakesFront s v (length (rest s 0 0)) (length (rest s 1 0))
-takes_front s v vs e = front_by s v vs
+-- the first value of a string, with the places of its part and of what is left
+pub takes_in_front : (s : List ℕ) (v : Value) (vs : List Value) → values s ≡ v ∷ vs
+    → TakesInFront s v (length (rest s 0 0)) (length (rest s 1 0))
+takes_in_front s v vs e = takes_in_front-by s v vs
     (begins_with s (some_bytes s (λ none. let no = sym none ∙ e in cc))) (middle_of s 1 0) e
 
 -- with nothing taken in front, what is left begins the string

@@ -46,9 +46,10 @@ value_bytes-first p = by_test (bytes_eq p cur_dir)
     (λ e. rw e (sym ((bytes_eq-Decides p cur_dir).0 e))) (λ e. rw e (value_bytes-piece p))
 
 -- a first piece ends where the bytes of its value do
-size_first : (s : List ℕ)
+position_or_len-first_piece : (s : List ℕ)
     → position_or_len is_slash s ≡ length (value_bytes (first_value (first_piece s)))
-size_first s = sym (length-first_piece s) ∙ ap length (sym (value_bytes-first (first_piece s)))
+position_or_len-first_piece s =
+    sym (length-first_piece s) ∙ ap length (sym (value_bytes-first (first_piece s)))
 
 -- the first part of a string begins it, with its value's bytes
 pub record BeginsWith (s : List ℕ) : Type 0 where
@@ -77,7 +78,7 @@ begins_by_name s l e =
     let n = position_or_len is_slash s in
     let v = first_value (first_piece s) in
     let tail = inner_parts n (drop n s) in
-    let size = size_first s in
+    let size = position_or_len-first_piece s in
     record {
       value = v;
       more = tail;
@@ -99,7 +100,7 @@ Follow-parts s = by_test (ltb 0 (length s))
     (λ e. subst (Follow 0)
     (sym (ap parts (nil_from_length s (omega (arith, ltb-false _ _ e))) ∙ parts-nil)) tt)
 
--- the last of some parts begins where the others have ended
+-- p begins where these parts have ended, or later, and is as long as its value's bytes
 pub record EndsWith (ps : List Part) (p : Part) : Type 0 where
   pub before : parts_end ps ≤ p.start
   pub size : p.end ≡ p.start + length (value_bytes p.value)

@@ -20,8 +20,8 @@ use Rattle.unix_path_c.proofs.FollowLemmas.{BeginsWith, Follow, Follow-parts, be
 use Rattle.unix_path_c.proofs.FollowLemmas.{ends_with}
 use Rattle.unix_path_c.proofs.FirstLemmas.{middle_of-at, parts-none}
 
--- v is the last value of s, whose parts end at n: it ends there, and the first m bytes are left
-pub record TakesBack (s : List ℕ) (v : Value) (n m : ℕ) : Type 0 where
+-- v is the last value of s, whose parts end at n: its bytes end there, and the first m are left
+pub record TakesBehind (s : List ℕ) (v : Value) (n m : ℕ) : Type 0 where
   pub is : parts s ≡ parts (rest s 0 1)
       ++ record { start = n - length (value_bytes v); end = n; value = v } ∷ []
   pub bytes : take (length (value_bytes v)) (drop (n - length (value_bytes v)) s) ≡ value_bytes v
@@ -39,6 +39,7 @@ middle-last ps p =
 first_same : {p q : Part} {ps qs : List Part} → p ∷ ps ≡ q ∷ qs → p ≡ q
 first_same e = cc
 
+-- the bytes of a part stand at its place if it is the only part of what stands at `at`
 stands_by : (s : List ℕ) (p : Part) (at : ℕ) (w : List ℕ) (b : BeginsWith w)
     → take (length w) (drop at s) ≡ w → p ∷ [] ≡ map (part_at at) (parts w)
     → take (length (value_bytes p.value)) (drop p.start s) ≡ value_bytes p.value
@@ -65,6 +66,7 @@ stands_last s ps p e =
     (parts-none h.left (omega (arith, ltb-false _ _ none))) in
     absurd (let size = ap length no in omega (arith, size)))
 
+-- the parts before the last one are those of what is left before it
 before_last : (s : List ℕ) (ps : List Part) (p : Part) → parts s ≡ ps ++ p ∷ []
     → ps ≡ parts (rest s 0 1)
 before_last s ps p e =
@@ -79,7 +81,7 @@ parts_end-rest s =
     parts_end-whole (rest s 0 1) (subst EndsInPart (sym (rest-middle s 0 1 h)) h.ends)
 
 takes_last : (s : List ℕ) (ps : List Part) (p : Part) → parts s ≡ ps ++ p ∷ []
-    → TakesBack s p.value (length (rest s 0 0)) (length (rest s 0 1))
+    → TakesBehind s p.value (length (rest s 0 0)) (length (rest s 0 1))
 takes_last s ps p e =
     let n = length (rest s 0 0) in
     let k = length (value_bytes p.value) in
@@ -100,12 +102,13 @@ takes_last s ps p e =
       in_range = length-rest_whole-le s;
     }
 
-pub takes_back : (s : List ℕ) (v : Value) (vs : List Value) → values s ≡ vs ++ v ∷ []
-    → TakesBack s v (length (rest s 0 0)) (length (rest s 0 1))
+-- the last value of a string, with the places of its part and of what is left
+pub takes_behind : (s : List ℕ) (v : Value) (vs : List Value) → values s ≡ vs ++ v ∷ []
+    → TakesBehind s v (length (rest s 0 0)) (length (rest s 0 1))
 unfolding values
-takes_back s v vs e = by (snoc (parts s))
+takes_behind s v vs e = by (snoc (parts s))
   where
-    by : Snoc (parts s) → TakesBack s v (length (rest s 0 0)) (length (rest s 0 1))
+    by : Snoc (parts s) → TakesBehind s v (length (rest s 0 0)) (length (rest s 0 1))
     by (Empty none) =
         let size = ap (λ ps. length (map (λ p. p.value) ps)) (sym none) ∙ ap length e in
         absurd (omega (arith, size, length-append vs (v ∷ [])))
@@ -115,5 +118,5 @@ takes_back s v vs e = by (snoc (parts s))
         ∙ ap (last_or None) (sym (map-append (λ p. p.value) ps (p ∷ [])))
         ∙ ap (λ ps. last_or None (map (λ p. p.value) ps)) (sym last)
         ∙ ap (last_or None) e ∙ last_or-push None vs v) in
-        subst (λ v. TakesBack s v (length (rest s 0 0)) (length (rest s 0 1))) same
+        subst (λ v. TakesBehind s v (length (rest s 0 0)) (length (rest s 0 1))) same
         (takes_last s ps p last)

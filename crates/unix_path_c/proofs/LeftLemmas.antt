@@ -33,10 +33,11 @@ pub record Between (path : List ℕ) (walk : Walk) (s : List ℕ) : Type 0 where
   pub is : s ≡ slice_range path walk.front walk.back
   pub size : length s ≡ walk.back - walk.front
 
-pub between : (path : List ℕ) (walk : Walk) → 0 < length (left path walk)
+-- where a byte is left, the walk's places lie in the path, in order
+pub stands_between : (path : List ℕ) (walk : Walk) → 0 < length (left path walk)
     → Between path walk (left path walk)
 unfolding left
-between path walk some =
+stands_between path walk some =
     let s = slice_range path walk.front walk.back in
     by_test (leb walk.front walk.back && leb walk.back (length path))
     (λ e.
@@ -53,13 +54,15 @@ between path walk some =
     let none : length (left path walk) ≡ 0 = ap (λ c. length (cond c s [])) e in
     absurd (omega (arith, some, none)))
 
-pub left-between : (path : List ℕ) (walk : Walk) → walk.front ≤ walk.back
+-- where the walk's places lie in the path, in order, the bytes between them are left
+pub left-in_range : (path : List ℕ) (walk : Walk) → walk.front ≤ walk.back
     → walk.back ≤ length path → left path walk ≡ slice_range path walk.front walk.back
 unfolding left
-left-between path walk in_order in_range =
+left-in_range path walk in_order in_range =
     ap₂ (λ a b. cond (a && b) (slice_range path walk.front walk.back) [])
     (le-leb walk.front walk.back in_order) (le-leb walk.back (length path) in_range)
 
+-- where the walk's places are out of order or past the path's end, nothing is left
 pub left-outside : (path : List ℕ) (walk : Walk)
     → (walk.back < walk.front) ⊎ (length path < walk.back) → left path walk ≡ []
 unfolding left
@@ -92,6 +95,7 @@ take-left path walk s from i k h l start =
     ∙ sym (take-range path walk.front walk.back i k (omega (arith, l, h.size)))
     ∙ ap (λ s. take k (drop i s)) (sym h.is)
 
+-- what stands between two places of the path, by where it stands in what is left
 pub range-left : (path : List ℕ) (walk : Walk) (s : List ℕ) (from to i k : ℕ)
     → Between path walk s → i + k ≤ length s → from ≡ walk.front + i → to ≡ from + k
     → slice_range path from to ≡ take k (drop i s)
@@ -124,20 +128,20 @@ parts-whole s =
     ∙ take_all (length (parts s) - (0 + 0)) (parts s) (omega arith)
 
 -- a walk from the first byte to the end of the last part
-pub record Begins (path : List ℕ) (walk : Walk) : Type 0 where
+pub record IsFresh (path : List ℕ) (walk : Walk) : Type 0 where
   pub left_is : left path walk ≡ rest path 0 0
   pub parts_are : parts_left path walk ≡ parts path
   pub values_are : values (left path walk) ≡ values path
   pub in_order : walk.front ≤ walk.back
   pub in_range : walk.back ≤ length path
 
-pub begins : (path : List ℕ) (walk : Walk) → walk.front ≡ 0
-    → walk.back ≡ length (rest path 0 0) → Begins path walk
-begins path walk front back =
+pub is_fresh : (path : List ℕ) (walk : Walk) → walk.front ≡ 0
+    → walk.back ≡ length (rest path 0 0) → IsFresh path walk
+is_fresh path walk front back =
     let in_range : walk.back ≤ length path = omega (arith, back, length-rest_whole-le path) in
     let size : walk.back - walk.front ≡ length (rest path 0 0) = omega (arith, front, back) in
     let is : left path walk ≡ rest path 0 0 =
-    left-between path walk (omega (arith, front)) in_range
+    left-in_range path walk (omega (arith, front)) in_range
     ∙ ap₂ (λ n i. take n (drop i path)) size front ∙ take-rest path 0 in
     record {
       left_is = is;
@@ -149,32 +153,32 @@ begins path walk front back =
     }
 
 -- the place of what is left, without what doesn't count at its end
-pub record Stands (path : List ℕ) (walk : Walk) (place : Place) : Type 0 where
+pub record HoldsLeft (path : List ℕ) (walk : Walk) (place : Place) : Type 0 where
   pub bytes : place_bytes path place ≡ rest (left path walk) 0 0
   pub same : values (place_bytes path place) ≡ values (left path walk)
   pub in_range : place_end place ≤ length path
 
-stands_at : (path : List ℕ) (walk : Walk) (place : Place)
+holds_left-at : (path : List ℕ) (walk : Walk) (place : Place)
     → place_bytes path place ≡ rest (left path walk) 0 0 → place_end place ≤ length path
-    → Stands path walk place
-stands_at path walk place bytes in_range = record {
+    → HoldsLeft path walk place
+holds_left-at path walk place bytes in_range = record {
   bytes = bytes;
   same = values-whole (left path walk) (place_bytes path place) bytes;
   in_range = in_range;
 }
 
-pub stands : (path : List ℕ) (walk : Walk) (place : Place)
+pub holds_left : (path : List ℕ) (walk : Walk) (place : Place)
     → place.start ≡ min walk.front (length path)
-    → place.length ≡ length (rest (left path walk) 0 0) → Stands path walk place
-stands path walk place start size =
+    → place.length ≡ length (rest (left path walk) 0 0) → HoldsLeft path walk place
+holds_left path walk place start size =
     let s = left path walk in
     let n = length (rest s 0 0) in
     by_test (ltb 0 (length s))
     (λ e.
-    let h = between path walk (ltb-true _ _ e) in
+    let h = stands_between path walk (ltb-true _ _ e) in
     let l = length-rest_whole-le s in
     let here : place.start ≡ walk.front + 0 = omega (arith, start, h.in_order, h.in_range) in
-    stands_at path walk place
+    holds_left-at path walk place
     (ap (λ k. take k (drop place.start path)) size
     ∙ take-left path walk s place.start 0 n h (omega (arith, l)) here ∙ take-rest s 0)
     (omega (arith, here, size, l, h.size, h.in_order, h.in_range)))
@@ -182,6 +186,6 @@ stands path walk place start size =
     let nothing : s ≡ [] = nil_from_length s (omega (arith, ltb-false _ _ e)) in
     let none : rest s 0 0 ≡ [] = ap (λ s. rest s 0 0) nothing ∙ rest-nil 0 0 in
     let zero_long : place.length ≡ 0 = size ∙ ap length none in
-    stands_at path walk place
+    holds_left-at path walk place
     (ap (λ k. take k (drop place.start path)) zero_long ∙ sym none)
     (omega (arith, size, ap length none, start, min-le_right walk.front (length path))))

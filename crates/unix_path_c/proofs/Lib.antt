@@ -4,12 +4,12 @@ pub mod FollowLemmas
 pub mod FirstLemmas
 pub mod LastLemmas
 pub mod LeftLemmas
-pub mod FrontLemmas
-pub mod BehindLemmas
+pub mod TakeFirstLemmas
+pub mod TakeLastLemmas
 pub mod SignLemmas
 pub mod OverlayLemmas
 pub mod EndLemmas
 pub mod WritingLemmas
 pub mod SpelledLemmas
 pub mod NameLemmas
-pub mod OverLemmas
+pub mod StepLemmas

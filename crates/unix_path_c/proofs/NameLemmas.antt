@@ -1,8 +1,7 @@
 -- Steps over a name that stands between bytes that are neither slashes nor dots.
-use Rattle.std.proofs.Common.{◌≡◌, ℕ, ◌-◌, ◌≤◌, ◌<◌, true, false, ltb, eqb, List, []}
-use Rattle.std.proofs.Common.{◌∷◌, length, get_or, take, refl, sym, ap, ◌∙◌, arith}
-use Rattle.std.proofs.Common.{take_all, lt-ltb, ltb-true, ltb-false}
-use Rattle.std.proofs.Common.{subst}
+use Rattle.std.proofs.Common.{◌≡◌, ℕ, ◌-◌, ◌≤◌, ◌<◌, true, false, ltb, eqb, List}
+use Rattle.std.proofs.Common.{length, get_or, take, refl, sym, ap, ◌∙◌, arith}
+use Rattle.std.proofs.Common.{take_all, lt-ltb, ltb-true, ltb-false, subst}
 use Rattle.std.specs.Str.{bytes_eq}
 use Rattle.std.proofs.lemmas.Bool.{both_ways}
 use Rattle.std.proofs.lemmas.Slice.Eq.{bytes_eq-Decides}
@@ -27,7 +26,7 @@ is_trailing-plain s i h = by_test (ltb 0 i)
     (λ e. rw (e, h.no_slash, h.no_dot) refl)
     (λ e. rw e refl)
 
--- what ends in such a byte ends in a part
+-- what ends in a byte that is neither a slash nor a dot ends in a part
 pub ends_plain : (s : List ℕ) → IsPlain s (length s - 1) → EndsInPart s
 ends_plain s h = λ _. is_trailing-plain s (length s - 1) h
 
@@ -66,12 +65,12 @@ module _ (s : List ℕ) (start : ℕ) (some : 0 < length s) (last : IsPlain s (l
             (takes_last s start before is begins_in ends l same trimmed);
       }
 
-  -- nothing, or a root, stands before the name
+  -- a name before which nothing stands, or a root
   pub name_first : start < 2 → EndsInName s start start
   name_first few = name_behind start (omega arith) refl
       (λ l. ap (is_trailing s) {x = start - 1} {y = 0} (omega arith))
 
-  -- a slash stands before it, and another name before that
+  -- a name before which a slash stands, and another name before that slash
   pub name_after : 2 ≤ start → IsPlain s (start - 2) → EndsInName s (start - 1) start
   name_after enough plain =
       let slash : eqb (get_or s (start - 1) 0) 47 ≡ true =
@@ -82,12 +81,8 @@ module _ (s : List ℕ) (start : ℕ) (some : 0 < length s) (last : IsPlain s (l
       (λ _. ap (is_trailing s) {x = start - 1 - 1} {y = start - 2} (omega arith)
       ∙ is_trailing-plain s (start - 2) plain)
 
--- what ends in a part is its rest
+-- what ends in a part is its own rest after no parts
 pub rest-ends : (s : List ℕ) → EndsInPart s → rest s 0 0 ≡ s
 rest-ends s ends =
     let all = take_all (length s) s (omega arith) in
     rest-trimmed s (length s) (omega arith) (ap parts all) (rw all ends) ∙ all
-
-pub some_bytes : (s : List ℕ) → eqb (length s) 0 ≡ false → 0 < length s
-some_bytes [] e = cc
-some_bytes (b ∷ s) e = omega arith

@@ -7,47 +7,47 @@ use Rattle.unix_path_c.specs.Overlay.{overlay}
 use Rattle.unix_path_c.specs.Buffer.{buffer_after}
 
 -- these bytes, and behind them what stood there
-abbrev pub begun : List ℕ → List ℕ → List ℕ
-begun bytes old = bytes ++ drop (length bytes) old
+abbrev pub bytes_over : List ℕ → List ℕ → List ℕ
+bytes_over bytes old = bytes ++ drop (length bytes) old
 
--- what follows a beginning
-drop-begun : (front old : List ℕ) (n : ℕ)
-    → drop (length front + n) (begun front old) ≡ drop (length front + n) old
-drop-begun front old n =
-    sym (drop-drop n (length front) (begun front old))
-    ∙ ap (drop n) (drop_at front (drop (length front) old) (length front) refl)
-    ∙ drop-drop n (length front) old
+-- what stands behind bytes at the beginning of a buffer is what stood there
+drop-bytes_over : (first old : List ℕ) (n : ℕ)
+    → drop (length first + n) (bytes_over first old) ≡ drop (length first + n) old
+drop-bytes_over first old n =
+    sym (drop-drop n (length first) (bytes_over first old))
+    ∙ ap (drop n) (drop_at first (drop (length first) old) (length first) refl)
+    ∙ drop-drop n (length first) old
 
--- more bytes, behind those at the beginning
-pub overlay-begun : (front bytes old : List ℕ)
-    → overlay (length front) bytes (begun front old) ≡ begun (front ++ bytes) old
-overlay-begun front bytes old =
-    ap₂ (λ before behind. (before ++ bytes) ++ behind)
-    (take_at front (drop (length front) old) (length front) refl)
-    (drop-begun front old (length bytes)
-    ∙ ap (λ n. drop n old) (sym (length-append front bytes)))
+-- bytes put at the beginning, and more put behind them, are both together put at the beginning
+pub overlay-bytes_over : (first second old : List ℕ)
+    → overlay (length first) second (bytes_over first old) ≡ bytes_over (first ++ second) old
+overlay-bytes_over first second old =
+    ap₂ (λ before behind. (before ++ second) ++ behind)
+    (take_at first (drop (length first) old) (length first) refl)
+    (drop-bytes_over first old (length second)
+    ∙ ap (λ n. drop n old) (sym (length-append first second)))
 
--- the first bytes
-overlay-first : (bytes old : List ℕ) → overlay 0 bytes old ≡ begun bytes old
-overlay-first bytes old = overlay-begun [] bytes old
+-- bytes put at the beginning
+overlay-first : (bytes old : List ℕ) → overlay 0 bytes old ≡ bytes_over bytes old
+overlay-first bytes old = overlay-bytes_over [] bytes old
 
--- bytes for which there is room
+-- a buffer with room for the bytes has them at its beginning after the call
 pub buffer_after-fits : (bytes old : List ℕ) → length bytes ≤ length old
-    → buffer_after bytes old ≡ begun bytes old
+    → buffer_after bytes old ≡ bytes_over bytes old
 buffer_after-fits bytes old h = cond-true _ _ _ (le-leb (length bytes) (length old) h)
 
--- three, put one behind the other
-pub buffer_after-three : {one two three : List ℕ} (old front mark end : List ℕ) (n : ℕ)
-    → n ≡ length front + length mark → n + length end ≤ length old
-    → one ≡ overlay 0 front old → two ≡ overlay (length front) mark one
-    → three ≡ overlay n end two → three ≡ buffer_after ((front ++ mark) ++ end) old
-buffer_after-three old front mark end n at fits first second third =
-    let both : n ≡ length (front ++ mark) = omega (arith, at, length-append front mark) in
-    let all : length ((front ++ mark) ++ end) ≤ length old =
-    omega (arith, both, fits, length-append (front ++ mark) end) in
+-- three stretches, put one behind the other into a buffer that has room for all of them
+pub buffer_after-three : {one two three : List ℕ} (old start mark end : List ℕ) (n : ℕ)
+    → n ≡ length start + length mark → n + length end ≤ length old
+    → one ≡ overlay 0 start old → two ≡ overlay (length start) mark one
+    → three ≡ overlay n end two → three ≡ buffer_after ((start ++ mark) ++ end) old
+buffer_after-three old start mark end n at fits first second third =
+    let both : n ≡ length (start ++ mark) = omega (arith, at, length-append start mark) in
+    let all : length ((start ++ mark) ++ end) ≤ length old =
+    omega (arith, both, fits, length-append (start ++ mark) end) in
     third
     ∙ ap₂ (λ n two. overlay n end two) both (second
-    ∙ ap (overlay (length front) mark) (first ∙ overlay-first front old)
-    ∙ overlay-begun front mark old)
-    ∙ overlay-begun (front ++ mark) end old
-    ∙ sym (buffer_after-fits ((front ++ mark) ++ end) old all)
+    ∙ ap (overlay (length start) mark) (first ∙ overlay-first start old)
+    ∙ overlay-bytes_over start mark old)
+    ∙ overlay-bytes_over (start ++ mark) end old
+    ∙ sym (buffer_after-fits ((start ++ mark) ++ end) old all)

@@ -1,13 +1,13 @@
 -- Where a parent, a file name with what it is made of, and what follows a base stand.
 use Rattle.std.proofs.Common.{◌≡◌, ℕ, zero, suc, ◌+◌, ◌-◌, ◌≤◌, ◌<◌, ltb, List, [], ◌∷◌, ◌++◌}
-use Rattle.std.proofs.Common.{◌==◌, Bool, true, false, cond}
+use Rattle.std.proofs.Common.{Bool, true, false, cond}
 use Rattle.std.proofs.Common.{length, take, drop, Option, Some, None, option_map, refl, sym, ap}
 use Rattle.std.proofs.Common.{ap₂, subst, ◌∙◌, arith, append_assoc, length-drop, take_all}
 use Rattle.std.proofs.Math.Seq.{take-append_seam, drop-append_seam, take-length}
 use Rattle.std.specs.Option.{option_and_then}
 use Rattle.std.proofs.lemmas.List.{length-take}
 use Rattle.std.proofs.lemmas.Option.{same_Some, none-some}
-use Rattle.unix_path.specs.Parts.{dot, Part, parts, values}
+use Rattle.unix_path.specs.Parts.{Part, parts, values}
 use Rattle.unix_path.specs.Rest.{rest, span_of}
 use Rattle.unix_path.specs.Parents.{parent_of}
 use Rattle.unix_path.specs.Names.{past_last, file_name_of, split_name, stem_of, extension_of}
@@ -15,6 +15,7 @@ use Rattle.unix_path.specs.Prefixes.{stripped_of}
 use Rattle.unix_path.specs.Edits.{last_start_of}
 use Rattle.unix_path.specs.Steps.{parts_end}
 use Rattle.unix_path.proofs.CaseLemmas.{by_test}
+use Rattle.unix_path.proofs.NameLemmas.{is_dot}
 use Rattle.unix_path.proofs.ParentLemmas.{parent_of-some}
 use Rattle.unix_path.proofs.RestLemmas.{take-rest}
 use Rattle.unix_path.proofs.SpanLemmas.{length-rest_whole}
@@ -48,7 +49,7 @@ name_stands s name e =
     (ap₂ (λ i t. take (length name) (drop i t)) cut.start cut.whole
     ∙ take-inside cut.prefix name cut.back)
 
--- it ends where the last part ends
+-- the file name ends where the last part ends
 pub name_ends : (s name : List ℕ) (end : ℕ) → Some name ≡ file_name_of (values s)
     → end ≡ length (rest s 0 0) → EndsAt s end name
 name_ends s name end e at =
@@ -71,15 +72,19 @@ name_start_of-some s name end e at =
     omega (arith, last_start_of-name s name e) in
     ap Some start ∙ ap (option_map (λ name. last_start_of (parts s))) e
 
-abbrev is_dot : ℕ → Bool
-is_dot b = b == dot
-
 -- a stem begins its name
-split_name-stem : (name : List ℕ) → take (length (split_name name).0) name ≡ (split_name name).0
+pub split_name-stem : (name : List ℕ) → take (length (split_name name).0) name ≡ (split_name name).0
 unfolding split_name
 split_name-stem name = by_test (ltb 1 (past_last is_dot name))
     (λ e. rw e (take-take_front (past_last is_dot name - 1) name))
     (λ e. rw e (take-length name))
+
+-- a stem is what its name has before the last dot, or the whole name
+pub stem_of-name : (s name stem : List ℕ) → Some name ≡ file_name_of (values s)
+    → Some stem ≡ stem_of (values s) → stem ≡ (split_name name).0
+stem_of-name s name stem named e =
+    same_Some stem (split_name name).0
+    (e ∙ ap (option_map (λ name. (split_name name).0)) (sym named))
 
 -- the stem stands where the file name does
 pub stem_stands : (s stem : List ℕ) (start n : ℕ) → start + n ≤ length s
@@ -87,12 +92,11 @@ pub stem_stands : (s stem : List ℕ) (start n : ℕ) → start + n ≤ length s
     → Stands s start stem
 stem_stands s stem start n l named e =
     let name = take n (drop start s) in
-    let is : stem ≡ (split_name name).0 =
-    same_Some stem _ (e ∙ ap (option_map (λ name. (split_name name).0)) (sym named)) in
+    let is = stem_of-name s name stem named e in
     stands-beginning s name stem start (range_stands s start n (omega arith))
     (ap (λ w. take (length w) name) is ∙ split_name-stem name ∙ sym is)
 
--- the extension is the name from some place on
+-- an extension is the end of a name, from some place on
 record IsEnd (name extension : List ℕ) : Type 0 where
   from : ℕ
   in_range : from ≤ length name
@@ -118,7 +122,7 @@ split_name-extension name extension = by (ltb 1 (past_last is_dot name))
       is = sym (same_Some extension _ e);
     }
 
--- it ends where the file name does
+-- the extension ends where the file name does
 pub extension_ends : (s extension : List ℕ) (start n : ℕ) → start + n ≤ length s
     → Some (take n (drop start s)) ≡ file_name_of (values s)
     → Some extension ≡ extension_of (values s) → EndsAt s (start + n) extension
@@ -146,7 +150,7 @@ parts_end-drop (suc k) [] l = absurd (omega arith)
 parts_end-drop (suc k) (p ∷ []) l = absurd (omega arith)
 parts_end-drop (suc k) (p ∷ q ∷ ps) l = parts_end-drop k (q ∷ ps) (omega arith)
 
--- so its end is that of their span
+-- a span of parts ends where the last of them does
 span_ends : (s : List ℕ) (ps : List Part) (end : ℕ) → end ≤ length s
     → (0 < length ps → parts_end ps ≡ end) → EndsAt s end (span_of s ps)
 span_ends s [] end l h = nothing_ends s end l
@@ -166,7 +170,7 @@ rest_ends s k =
     (span_ends s (drop k all) end (length-rest_whole-le s)
     (λ l. parts_end-drop k all (omega (arith, length-drop k all)) ∙ sym (length-rest_whole s)))
 
--- so does what follows a base
+-- what follows a base ends where the last part does
 pub stripped_ends : (s base left : List ℕ) (end : ℕ) → left ≡ stripped_of s base
     → end ≡ length (rest s 0 0) → EndsAt s end left
 stripped_ends s base left end is at =

@@ -1,4 +1,4 @@
--- A spelling is its values' bytes, each behind the gap that the value before it asks for.
+-- The canonical spelling, as the values' bytes, each behind the gap after the value before it.
 use Rattle.std.proofs.Common.{◌≡◌, ◌≤◌, ℕ, ◌+◌, List, [], ◌∷◌, ◌++◌, length, refl, sym, ap, ◌∙◌}
 use Rattle.std.proofs.Common.{⊎_elim, append_assoc, append-nil, arith}
 use Rattle.std.specs.List.{AllByRecursion}
@@ -14,7 +14,7 @@ gap_after-plain : (v : Value) → (v ≡ RootDir → ⊥) → gap_after v ≡ sl
 gap_after-plain RootDir h = absurd (h refl)
 gap_after-plain v h = refl
 
--- of plain values: the gap, and the row
+-- plain values spelled behind a gap are that gap, and then their row
 spelled_behind-plain : (gap : List ℕ) (v : Value) (vs : List Value)
     → AllByRecursion IsPlainValue (v ∷ vs) → spelled_behind gap (v ∷ vs) ≡ gap ++ row_of (v ∷ vs)
 spelled_behind-plain gap v [] h = append-nil (gap ++ value_bytes v)
@@ -35,6 +35,7 @@ spelling_of-plain [] h = refl
 spelling_of-plain (RootDir ∷ vs) h = absurd (h.0.no_root refl)
 spelling_of-plain (v ∷ vs) h = refl
 
+-- a path's values, spelled one behind the other, are the canonical spelling
 pub spelled_behind-values : (s : List ℕ) → spelled_behind [] (values s) ≡ spelling_of (values s)
 spelled_behind-values s = by (values-shape s)
   where
@@ -49,7 +50,7 @@ pub length-spelling_of : (s : List ℕ) → length (spelling_of (values s)) ≤ 
 length-spelling_of s =
     ⊎_elim (λ e. omega (arith, ap length e)) (λ h. omega (arith, h)) (spelling_of-shortest s s refl)
 
--- what is counted, and one value more, is never more than the path
+-- the bytes that are counted, with those of one value more, are never more than the path's
 pub spelled_behind-fits : {left : List Value} (s gap : List ℕ) (v : Value) (more : List Value)
     (len : ℕ) → len + length (spelled_behind gap left) ≡ length (spelling_of (values s))
     → left ≡ v ∷ more → len + (length gap + length (value_bytes v)) ≤ length s

@@ -33,7 +33,7 @@ take-take_front (suc n) (b ∷ s) = ap (λ t. b ∷ t) (take-take_front n s)
 pub range_stands : (s : List ℕ) (i n : ℕ) → i ≤ length s → Stands s i (take n (drop i s))
 range_stands s i n l = stands s (take n (drop i s)) i l (take-take_front n (drop i s))
 
--- so does a beginning of them
+-- a beginning of what stands at a place stands there too
 pub stands-beginning : (s w v : List ℕ) (i : ℕ) → Stands s i w
     → take (length v) w ≡ v → Stands s i v
 stands-beginning s w v i h e =
@@ -43,7 +43,7 @@ stands-beginning s w v i h e =
       inside = omega (arith, h.inside);
     }
 
--- and an end of them further on
+-- an end of what stands at a place stands further on
 pub stands-end : (s w : List ℕ) (i n : ℕ) → Stands s i w → n ≤ length w
     → Stands s (i + n) (drop n w)
 stands-end s w i n h l = record {

@@ -3,36 +3,37 @@ use Rattle.std.proofs.Common.{◌≡◌, ◌≤◌, ℕ, ◌+◌, List, [], ◌+
 use Rattle.std.proofs.Common.{append_assoc, append-nil, arith, length-append}
 use Rattle.unix_path_c.specs.Overlay.{overlay}
 use Rattle.unix_path_c.specs.Buffer.{buffer_after}
-use Rattle.unix_path_c.proofs.OverlayLemmas.{begun, overlay-begun, buffer_after-fits}
+use Rattle.unix_path_c.proofs.OverlayLemmas.{bytes_over, overlay-bytes_over, buffer_after-fits}
 
--- a front of the whole stands at the beginning of what was old, and this of the whole is left
+-- the first `at` bytes of the whole are put at the beginning of the old, and `left` follows them
 pub record WritesOn (whole old : List ℕ) (at : ℕ) (out left : List ℕ) : Type 0 where
-  pub front : List ℕ
-  pub at_is : at ≡ length front
-  pub out_is : out ≡ begun front old
-  pub whole_is : front ++ left ≡ whole
+  pub start : List ℕ
+  pub at_is : at ≡ length start
+  pub out_is : out ≡ bytes_over start old
+  pub whole_is : start ++ left ≡ whole
 
+-- before anything is written the whole is left
 pub writes_first : {left : List ℕ} (whole old : List ℕ) → left ≡ whole
     → WritesOn whole old 0 old left
-writes_first whole old e = record { front = []; at_is = refl; out_is = refl; whole_is = e }
+writes_first whole old e = record { start = []; at_is = refl; out_is = refl; whole_is = e }
 
--- two stretches more
+-- two more stretches of what is left are written, one behind the other
 pub writes_next : {whole old out left new : List ℕ} {at end : ℕ} (first second more : List ℕ)
     → WritesOn whole old at out left → left ≡ (first ++ second) ++ more
     → new ≡ overlay (at + length first) second (overlay at first out)
     → end ≡ at + length first + length second → WritesOn whole old end new more
 writes_next {whole} {old} {out} {left} {new} {at} {end} first second more h e placing ending =
-    let begins : overlay at first out ≡ begun (h.front ++ first) old =
-    ap₂ (λ n old. overlay n first old) h.at_is h.out_is ∙ overlay-begun h.front first old in
-    let middle : at + length first ≡ length (h.front ++ first) =
-    omega (arith, h.at_is, length-append h.front first) in record {
-      front = (h.front ++ first) ++ second;
-      at_is = omega (arith, ending, middle, length-append (h.front ++ first) second);
+    let begins : overlay at first out ≡ bytes_over (h.start ++ first) old =
+    ap₂ (λ n old. overlay n first old) h.at_is h.out_is ∙ overlay-bytes_over h.start first old in
+    let middle : at + length first ≡ length (h.start ++ first) =
+    omega (arith, h.at_is, length-append h.start first) in record {
+      start = (h.start ++ first) ++ second;
+      at_is = omega (arith, ending, middle, length-append (h.start ++ first) second);
       out_is = placing ∙ ap₂ (λ n old. overlay n second old) middle begins
-          ∙ overlay-begun (h.front ++ first) second old;
-      whole_is = ap (λ front. front ++ more) (append_assoc h.front first second)
-          ∙ append_assoc h.front (first ++ second) more
-          ∙ ap (λ left. h.front ++ left) (sym e) ∙ h.whole_is;
+          ∙ overlay-bytes_over (h.start ++ first) second old;
+      whole_is = ap (λ start. start ++ more) (append_assoc h.start first second)
+          ∙ append_assoc h.start (first ++ second) more
+          ∙ ap (λ left. h.start ++ left) (sym e) ∙ h.whole_is;
     }
 
 -- where there is room for the whole, there is room for two stretches of it
@@ -44,24 +45,26 @@ writes_room {whole} {old} {out} {left} {at} first second more h e fits =
       arith,
       h.at_is,
       ap length h.whole_is,
-      length-append h.front left,
+      length-append h.start left,
       ap length e,
       length-append (first ++ second) more,
       length-append first second,
       fits,
     )
 
+-- where nothing is left the whole is written
 pub writes_last : {whole old out left : List ℕ} {at : ℕ} → WritesOn whole old at out left
     → left ≡ [] → length whole ≤ length old → out ≡ buffer_after whole old
 writes_last {whole} {old} {out} {left} {at} h e fits =
-    let all : h.front ≡ whole =
-    sym (append-nil h.front) ∙ ap (λ left. h.front ++ left) (sym e) ∙ h.whole_is in
-    h.out_is ∙ ap (λ front. begun front old) all ∙ sym (buffer_after-fits whole old fits)
+    let all : h.start ≡ whole =
+    sym (append-nil h.start) ∙ ap (λ left. h.start ++ left) (sym e) ∙ h.whole_is in
+    h.out_is ∙ ap (λ start. bytes_over start old) all ∙ sym (buffer_after-fits whole old fits)
 
+-- where nothing is left as many bytes are written as the whole has
 pub writes_end : {whole old out left : List ℕ} {at : ℕ} → WritesOn whole old at out left
     → left ≡ [] → at ≡ length whole
 writes_end {whole} {old} {out} {left} {at} h e =
-    omega (arith, h.at_is, ap length h.whole_is, length-append h.front left, ap length e)
+    omega (arith, h.at_is, ap length h.whole_is, length-append h.start left, ap length e)
 
 -- how many bytes two stretches have, and what is left behind them
 pub length-both : {left : List ℕ} (first second more : List ℕ) → left ≡ (first ++ second) ++ more

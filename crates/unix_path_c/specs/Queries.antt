@@ -7,12 +7,12 @@ use Rattle.std.specs.Hash.DefaultHasher as sip
 use Rattle.unix_path.specs.Hashed.{hash_input_of}
 use Rattle.unix_path.specs.Parts.{Value}
 
--- -1, 0 or 1
+-- -1 for less, 0 for equal, and 1 for greater
 abbrev pub sign_of : Ordering → ℤ
 sign_of Less = negsuc 0
 sign_of Equal = pos 0
 sign_of Greater = pos 1
 
--- SipHash-1-3 with both keys 0 of what these values feed a hasher
+-- the hash by SipHash-1-3, with both keys 0, of what these values feed a hasher
 unfoldable pub path_hash : List Value → ℕ
 path_hash vs = sip.finish (fold sip.write sip.initial (hash_input_of vs))

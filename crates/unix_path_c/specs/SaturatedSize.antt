@@ -1,4 +1,4 @@
--- How an answer's length is told.
+-- A length as a `size_t` of C tells it.
 use Rattle.std.specs.Prelude.{ℕ, min, ◌-◌, ◌^◌}
 
 -- the number, or the greatest `size_t` where the number is more

@@ -8,8 +8,8 @@ use Rattle.unix_path_c.specs.Walks.{part_value, parts_left}
 use Rattle.unix_path_c.specs.declared.walks.Part.{Part}
 use Rattle.unix_path_c.specs.declared.walks.Walk.{Walk}
 
--- s ends where its last part ends, and its first part has so many bytes and this kind, and takes
--- `step` bytes with what doesn't count behind it
+-- s ends where its last part ends, and its first part has `size` bytes and this kind; with what
+-- doesn't count behind it that part takes `step` bytes
 pub record BeginsInPart (s : List ℕ) (size step kind : ℕ) : Type 0 where
   pub ends : EndsInPart s
   pub value : Value
@@ -17,8 +17,8 @@ pub record BeginsInPart (s : List ℕ) (size step kind : ℕ) : Type 0 where
   pub kind_is : kind ≡ kind_of value
   pub steps : StepsFirst s step value
 
--- s ends where its last part ends, which is the name from `start` on; the first `before` bytes are
--- left before it
+-- s ends where its last part ends, which is the name from `start` on; before that name the first
+-- `before` bytes are left
 pub record EndsInName (s : List ℕ) (before start : ℕ) : Type 0 where
   pub ends : EndsInPart s
   pub in_range : start ≤ length s

@@ -22,11 +22,11 @@ left path walk =
 abbrev pub part_from : ℕ → paths.Part → paths.Part
 part_from at p = record { start = p.start + at; end = p.end + at; value = p.value }
 
--- the parts of those bytes, with their places in the path
+-- the parts of the bytes that are left, with their places in the path
 abbrev pub parts_left : List ℕ → Walk → List paths.Part
 parts_left path walk = map (part_from walk.front) (parts (left path walk))
 
--- what a kind says: a root, `.`, `..` and a name
+-- the kind of a value: 0 for the root, 1 for `.`, 2 for `..`, and 3 for a name
 abbrev pub kind_of : Value → ℕ
 kind_of RootDir = 0
 kind_of CurDir = 1
@@ -39,7 +39,7 @@ value_of_kind kind bytes =
     if kind == 0 then RootDir
     else (if kind == 1 then CurDir else (if kind == 2 then ParentDir else Normal bytes))
 
--- just after the part's last byte
+-- the place just after the part's last byte
 abbrev pub part_end : Part → ℕ
 part_end part = part.start + part.length
 

@@ -9,6 +9,6 @@ escapes = 2 ^ 64 - 2
 abbrev pub no_memory : ℕ
 no_memory = 2 ^ 64 - 3
 
--- the answer is a length, and neither of these
+-- the answer is a length, and so less than `no_memory` and `escapes`
 abbrev pub IsLength : ℕ → Type 0
 IsLength answer = answer < no_memory

@@ -11,7 +11,7 @@ use crate::spelled::own_spelling;
 use crate::writing::{mark_len, place_behind, place_whole};
 use unix_path::{Component, Path};
 
-// What stands between the part and one behind it.
+// The byte behind the part and before the next one: none behind the root.
 #[inline]
 fn gap_after(part: Component<'_>) -> Option<u8>
     ensures { gap_bytes result ≡ gap_after (value_of part.entry) }
@@ -36,7 +36,7 @@ fn spelling_len(path: Path<'_>) -> usize
     len
 }
 
-// Writes the canonical spelling to the beginning of the buffer, and says how many bytes it has.
+// Writes the canonical spelling to the beginning of the buffer, and gives how many bytes it has.
 #[inline]
 fn write_spelling(path: Path<'_>, out: &mut [u8]) -> usize
     requires { length (spelling_of (values path.bytes.now)) ≤ length out.old }
@@ -52,7 +52,7 @@ fn write_spelling(path: Path<'_>, out: &mut [u8]) -> usize
     at
 }
 
-/// Writes the canonical spelling of a path to `out`, and answers how many bytes it has.
+/// Writes the canonical spelling of a path to `out`, and gives how many bytes it has.
 ///
 /// It is the path's parts with one `/` between two of them, and none behind the root: the one
 /// shortest path that is equal to this one, never longer than it. For the empty path it has no
@@ -71,7 +71,7 @@ pub extern "C" fn unix_path_canonical(path: &[u8], out: &mut [u8]) -> usize
     if let Some(spelling) = own_spelling(path) {
         return place_whole(out, spelling);
     }
-    // The spelling is never longer than the path: it is counted first only where that wouldn't fit.
+    // The spelling is never longer than the path: no need to count it where the path would fit.
     if path.as_unix_str().len() > out.len() {
         let len = spelling_len(path);
         if len > out.len() {

@@ -1,5 +1,5 @@
-//! The first part of what is left of a walk, where that ends in a part and doesn't begin with a
-//! root or a `.`: so a step tells it that isn't a walk's first.
+//! A quick step over the first part that is left of a walk, where what is left ends in a part and
+//! begins with neither the root nor a `.`. After a walk's first step it does.
 ghost use Rattle.std.specs.Prelude.{◌≡◌, ℕ, ◌+◌, ◌<◌, ◌≤◌, true, false, IfSome};
 ghost use Rattle.std.specs.Prelude.{length, drop, take};
 ghost use Rattle.unix_path.specs.Parts.{inner_parts, Normal, ParentDir};
@@ -23,7 +23,7 @@ fn is_idle(bytes: &[u8], i: usize) -> bool
     bytes[i] == b'/' || (bytes[i] == b'.' && (i + 1 == bytes.len() || bytes[i + 1] == b'/'))
 }
 
-// Whether the byte at `i` is a slash, or a `.` after a slash, and not the first.
+// Whether the byte at `i` isn't the first, and is a slash or a `.` after a slash.
 #[inline]
 fn is_trailing(bytes: &[u8], i: usize) -> bool
     requires { i < length bytes.now }
@@ -44,7 +44,7 @@ fn begins_with_parent(bytes: &[u8]) -> bool
         && (bytes.len() == 2 || bytes[2] == b'/')
 }
 
-// How many bytes stand before the next part.
+// How many bytes stand before the next part, all of them slashes and pieces that are `.`.
 #[inline]
 fn idle_len(bytes: &[u8]) -> usize
     ensures in_range { result ≤ length bytes.now }
@@ -59,7 +59,7 @@ fn idle_len(bytes: &[u8]) -> usize
     len
 }
 
-// How many bytes a step takes over the `..` that these begin with.
+// How many bytes a step over the first part takes, where that is `..`.
 #[inline]
 fn parent_step(bytes: &[u8]) -> usize
     requires { begins_with_parent bytes.now ≡ true }
@@ -68,7 +68,7 @@ fn parent_step(bytes: &[u8]) -> usize
     2 + idle_len(&bytes[2..])
 }
 
-// How many bytes the name has that these begin with, and how many a step over it takes.
+// How many bytes the first part has, where that is a name, and how many a step over it takes.
 #[inline]
 fn name_step(bytes: &[u8]) -> (usize, usize)
     requires some { 0 < length bytes.now }
@@ -82,8 +82,8 @@ fn name_step(bytes: &[u8]) -> (usize, usize)
     (end, step)
 }
 
-// How many bytes the first part has, how many a step over it takes, and its kind. None where a root
-// or a `.` is first, and where something stands last that doesn't count.
+// How many bytes the first part has, how many a step over it takes, and its kind. `None` if the
+// bytes begin with the root or a `.`, or don't end in a part.
 #[inline(always)]
 pub(crate) fn first_part(bytes: &[u8]) -> Option<(usize, usize, u32)>
     requires { 0 < length bytes.now }

@@ -11,31 +11,31 @@ ghost use Rattle.unix_path_c.specs.Buffer.{buffer_after};
 use crate::writing::{mark_len, place, place_mark};
 use unix_path::{Component, Path};
 
-/// What `unix_path_with_extension` answers where the extension has a slash. No buffer is so
-/// long.
+/// What `unix_path_with_extension` answers where the extension has a slash. No buffer has as many
+/// bytes.
 pub const SEPARATOR: usize = usize::MAX;
 
-// What an answer is made of: a front, a byte behind it or none, and an end.
+// What an answer is made of: a beginning, a byte behind it or none, and an end.
 #[derive(Clone, Copy)]
 struct Pieces<'a> {
-    front: &'a [u8],
+    beginning: &'a [u8],
     mark: Option<u8>,
     end: &'a [u8],
 }
 
 impl Pieces<'_> {
-    // How many bytes they have.
+    // How many bytes the pieces have.
     #[inline]
     fn total_len(&self) -> usize
         ensures total { result ≡ length (pieces_bytes self.now) }
-        ensures pieces { result ≡ length self.now.front.now
+        ensures pieces { result ≡ length self.now.beginning.now
             + length (gap_bytes self.now.mark) + length self.now.end.now }
     {
-        self.front.len() + mark_len(self.mark) + self.end.len()
+        self.beginning.len() + mark_len(self.mark) + self.end.len()
     }
 
-    // Writes them to the beginning of the buffer, if it has room for all, and says how many bytes
-    // they have.
+    // Writes the pieces to the beginning of the buffer if it has room for all of them, and gives
+    // how many bytes they have.
     #[inline]
     fn write(&self, out: &mut [u8]) -> usize
         ensures out { out.new ≡ buffer_after (pieces_bytes self.now) out.old }
@@ -45,8 +45,8 @@ impl Pieces<'_> {
         if total > out.len() {
             return total;
         }
-        place(out, 0, self.front);
-        place_mark(out, self.front.len(), self.mark);
+        place(out, 0, self.beginning);
+        place_mark(out, self.beginning.len(), self.mark);
         place(out, total - self.end.len(), self.end);
         total
     }
@@ -68,21 +68,21 @@ fn join_pieces<'a>(base: Path<'a>, path: Path<'a>) -> Pieces<'a>
     let end = path.bytes;
     if path.has_root() {
         return Pieces {
-            front: &[],
+            beginning: &[],
             mark: None,
             end,
         };
     }
-    let front = base.bytes;
-    if is_open(front) {
+    let beginning = base.bytes;
+    if is_open(beginning) {
         return Pieces {
-            front,
+            beginning,
             mark: None,
             end,
         };
     }
     Pieces {
-        front,
+        beginning,
         mark: Some(b'/'),
         end,
     }
@@ -137,13 +137,13 @@ fn extension_pieces<'a>(path: Path<'a>, extension: &'a [u8]) -> Pieces<'a>
 {
     let Some(end) = stem_end(path) else {
         return Pieces {
-            front: path.bytes,
+            beginning: path.bytes,
             mark: None,
             end: &[],
         };
     };
     Pieces {
-        front: &path.bytes[..end],
+        beginning: &path.bytes[..end],
         mark: dot_before(extension),
         end: extension,
     }

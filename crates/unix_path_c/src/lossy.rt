@@ -8,7 +8,7 @@ ghost use Rattle.unix_path_c.specs.Buffer.{buffer_after};
 use crate::writing::place_both;
 use unix_bytes::lossy::Utf8Lossy;
 
-// What is shown for a broken front, or nothing where nothing is broken.
+// What is shown for a broken front: U+FFFD, or nothing where nothing is broken.
 #[inline]
 fn replacement_for(broken: &[u8]) -> &'static [u8]
     ensures { result.now ≡ replacement_for broken.now }
@@ -19,7 +19,7 @@ fn replacement_for(broken: &[u8]) -> &'static [u8]
     b"\xEF\xBF\xBD"
 }
 
-// How many bytes the lossy text has, as far as that can be counted.
+// How many bytes the lossy text has, or `usize::MAX` if it has more.
 #[inline]
 fn lossy_len(path: &[u8]) -> usize
     ensures { result ≡ saturated_size (length (lossy_of path.now)) }
@@ -47,7 +47,7 @@ fn write_lossy(path: &[u8], out: &mut [u8])
     }
 }
 
-/// Writes the lossy text of a path to `out`, and answers how many bytes it has.
+/// Writes the lossy text of a path to `out`, and gives how many bytes it has.
 ///
 /// It is the path itself where that is UTF-8 (RFC 3629 section 4); otherwise U+FFFD, of 3 bytes,
 /// stands for each broken front. If `out` has room for all of it, it stands at the beginning of

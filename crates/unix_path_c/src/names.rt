@@ -1,4 +1,4 @@
-//! Names that end what is left of a walk, behind other names: a step over one is told by few bytes.
+//! A quick step over the last part that is left of a walk, where that is a name behind a name.
 ghost use Rattle.std.specs.Prelude.{◌≡◌, ◌<◌, ◌==◌, false, length, IfSome, IsTrue};
 ghost use Rattle.unix_path.specs.Parts.{dot, slash};
 ghost use Rattle.unix_path_c.specs.Steps.{EndsInName};
@@ -14,8 +14,8 @@ fn is_plain(byte: u8) -> bool
     byte != b'/' && byte != b'.'
 }
 
-// Where what stands before the name ends that these bytes end with, and where that begins. None
-// where a slash or a dot stands last, or before that name's slash.
+// Where what is left before the last part ends, and where the last part begins, which is a name.
+// `None` if the last byte, or the one before the last slash, is a slash or a dot.
 #[inline(always)]
 pub(crate) fn last_name(bytes: &[u8]) -> Option<(usize, usize)>
     requires { 0 < length bytes.now }

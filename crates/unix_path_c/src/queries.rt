@@ -43,7 +43,7 @@ pub extern "C" fn unix_path_ends_with(path: &[u8], child: &[u8]) -> bool
 /// The place just after the last `/` of the longest string that both paths begin with, in bytes, or
 /// 0 where that string has none.
 ///
-/// It is the length of a front that both have. Does not allocate. Not in Rust's std.
+/// Both paths begin with the same bytes up to that place. Does not allocate. Not in Rust's std.
 ///
 /// For `a/./b` and `a/b` it is 2, and for `a/b` and `ab` it is 0.
 #[unsafe(no_mangle)]
@@ -79,9 +79,9 @@ fn sign(order: Ordering) -> i32
     }
 }
 
-/// -1, 0 or 1: the first path comes before the other, is equal to it, or comes behind it.
+/// -1, 0 or 1: the first path comes before the second, is equal to it, or comes after it.
 ///
-/// Paths go by their values: the root, `.`, `..`, and then names, which go by their bytes; a path
+/// Paths are compared value by value: the root, `.`, `..`, and then names, by their bytes; a path
 /// comes before those that it begins. Does not allocate. As Rust's `Path::cmp`.
 ///
 /// `a/b` comes before `a.b`, and for `a//b` and `a/b` it is 0.
@@ -98,9 +98,9 @@ pub extern "C" fn unix_path_compare(a: &[u8], b: &[u8]) -> i32
 /// A hash of the path's values, the same on every machine and in every run; equal paths have the
 /// same.
 ///
-/// It is SipHash-1-3 with both keys 0, so whoever chooses the paths can find many of one hash. Does
-/// not allocate. As Rust's `DefaultHasher::new()` fed a `Path`, but for what a path feeds, which is
-/// this library's own.
+/// It is SipHash-1-3 with both keys 0, so whoever chooses the paths can find many of the same hash.
+/// Does not allocate. As Rust's `DefaultHasher::new()` fed a `Path`, but for what a path feeds,
+/// which is this library's own.
 ///
 /// For `a//b` and `a/b` it is the same.
 #[tactic(auto, unfolding(crate::specs::Queries::path_hash))]

@@ -22,7 +22,8 @@ fn all_count(bytes: &[u8]) -> bool
     bytes.split(|byte| *byte == b'/').all(counts)
 }
 
-// True only for a path that is its own canonical spelling; false for `/` and where a `.` is first.
+// True only for a path that is its own canonical spelling. Of those it is false for the empty path,
+// for `/`, and for paths whose first part is `.`.
 #[inline]
 fn is_spelled(path: Path<'_>) -> bool
     ensures { IsTrue result → spelling_of (values path.entry.bytes.now) ≡ path.entry.bytes.now }
@@ -35,8 +36,8 @@ fn is_spelled(path: Path<'_>) -> bool
     }
 }
 
-// The canonical spelling, where the path is that up to the end of its last part. None for `/`, and
-// where a `.` is first.
+// The canonical spelling, if the path is just that up to the end of its last part. `None` for other
+// paths, for the empty path, for `/`, and for paths whose first part is `.`.
 #[inline]
 pub(crate) fn own_spelling(path: Path<'_>) -> Option<&[u8]>
     ensures { IfSome result (λ bytes. bytes.now ≡ spelling_of (values path.entry.bytes.now)) }

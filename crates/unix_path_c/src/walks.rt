@@ -16,24 +16,25 @@ use unix_path::{Component, Path};
 
 /// A walk over the parts of a path, from both ends: what is left stands between two places.
 ///
-/// The caller keeps it, and hands it in with the bytes of the same path. Where the places don't lie
-/// in the path, in order, the walk has ended. Copying it forks the walk. As Rust's `Components`.
+/// The caller keeps the walk, and hands it in with the bytes of the same path. A walk has ended if
+/// its places are out of order or lie past the path's end. A copy of it goes on by itself. As
+/// Rust's `Components`.
 #[derive(Clone, Copy)]
 #[repr(C)]
 pub struct Walk {
     /// Where what is left begins, in bytes from the beginning of the path.
     pub front: usize,
-    /// Where it ends.
+    /// Where what is left ends, in bytes from the beginning of the path.
     pub back: usize,
 }
 
-/// A part of a path: where it stands, and of what kind it is. As Rust's `Component`.
+/// A part of a path: where the part stands, and its kind. As Rust's `Component`.
 #[derive(Clone, Copy)]
 #[repr(C)]
 pub struct Part {
-    /// Where it begins, in bytes from the beginning of the path.
+    /// Where the part begins, in bytes from the beginning of the path.
     pub start: usize,
-    /// How many bytes it has.
+    /// How many bytes the part has.
     pub length: usize,
     /// 0 for the root, 1 for a `.` that a path begins with, 2 for `..`, and 3 for a name.
     pub kind: u32,
@@ -63,8 +64,7 @@ fn left_of<'a>(path: &'a [u8], walk: &Walk) -> Path<'a>
     }
 }
 
-// Takes the first part that is left, whatever it is. It stands apart, so that most steps stay
-// small.
+// Takes the first part that is left, whatever its kind. Not inlined, so that most steps stay small.
 #[inline(never)]
 fn take_first(path: &[u8], walk: &mut Walk, part: &mut Part) -> bool
     ensures ended { IsFalse result → (left path.now walk.old ≡ []) }
@@ -90,7 +90,7 @@ fn take_first(path: &[u8], walk: &mut Walk, part: &mut Part) -> bool
     true
 }
 
-// Takes the last part that is left, whatever it is.
+// Takes the last part that is left, whatever its kind. Not inlined, so that most steps stay small.
 #[inline(never)]
 fn take_last(path: &[u8], walk: &mut Walk, part: &mut Part) -> bool
     ensures ended { IsFalse result → (left path.now walk.old ≡ []) }

@@ -1,5 +1,5 @@
 //! Paths from outside: resolved, and joined so that they stay under a root.
-ghost use Rattle.std.specs.Prelude.{◌≡◌, ◌↔◌, ◌⊎◌, ◌<◌, ◌^◌, length};
+ghost use Rattle.std.specs.Prelude.{◌≡◌, ◌↔◌, ◌⊎◌, length};
 ghost use Rattle.unix_path.specs.Joins.{join_of};
 ghost use Rattle.unix_path.specs.Parts.{values};
 ghost use Rattle.unix_path.specs.Prefixes.{Begins};
@@ -7,6 +7,7 @@ ghost use Rattle.path_within.specs.Resolved.{Climbs, resolved_bytes_of};
 ghost use Rattle.unix_path_c.specs.Within.{IsLength, escapes, no_memory};
 ghost use Rattle.unix_path_c.specs.Buffer.{buffer_after};
 
+use crate::writing::place_whole;
 use path_within::WithinError;
 use path_within::resolved::resolved;
 use path_within::within::join_within;
@@ -19,18 +20,6 @@ const ESCAPES: usize = usize::MAX - 1;
 // The answer where an allocation failed.
 const NO_MEMORY: usize = usize::MAX - 2;
 
-// Copies the bytes to the beginning of `out` if they all fit, and gives how many they are.
-fn copy_out(bytes: &[u8], out: &mut [u8]) -> usize
-    ensures length { result ≡ length bytes.now }
-    ensures fits { result < 2 ^ 63 }
-    ensures out { out.new ≡ buffer_after bytes.now out.old }
-{
-    if bytes.len() <= out.len() {
-        out[..bytes.len()].copy_from_slice(bytes);
-    }
-    bytes.len()
-}
-
 /// The path with each `..` taken against the name before it, and spelled canonically: `.` goes, and
 /// so does `..` behind the root. Without a root, `..` with no name before it stays in front.
 ///
@@ -40,9 +29,10 @@ fn copy_out(bytes: &[u8], out: &mut [u8]) -> usize
 /// the path.
 ///
 /// It goes by names alone: where a part before a `..` may be a link, only the system knows where
-/// that `..` leads. The empty path stands for here. Allocates once, as many bytes as the path has,
-/// or not at all for the empty path, and frees what it allocates. C passes nothing for `alloc`. Not
-/// in Rust's std; as Go's `path.Clean`, which gives `.` for the empty path.
+/// that `..` leads. An answer of no bytes stands for the current directory. Allocates once, as many
+/// bytes as the path has, or not at all for the empty path, and frees what it allocates. C passes
+/// nothing for `alloc`. Not in Rust's std; as Go's `path.Clean`, which gives `.` for the empty
+/// path.
 ///
 /// For `a/../..//b/.` it is `../b`, for `/../a` it is `/a`, and for `a/..` the empty path.
 #[unsafe(no_mangle)]
@@ -54,7 +44,7 @@ pub extern "C" fn unix_path_resolved(alloc: Global, path: &[u8], out: &mut [u8])
     ensures refused { result ≡ no_memory → out.new ≡ out.old }
 {
     match resolved(alloc, Path::from_bytes(path)) {
-        Ok(resolved) => copy_out(resolved.as_path().bytes, out),
+        Ok(resolved) => place_whole(out, resolved.as_path().bytes),
         Err(_) => NO_MEMORY,
     }
 }
@@ -90,7 +80,7 @@ pub extern "C" fn unix_path_join_within(
     ensures refused { result ≡ no_memory → out.new ≡ out.old }
 {
     match join_within(alloc, Path::from_bytes(root), Path::from_bytes(request)) {
-        Ok(joined) => copy_out(joined.as_path().bytes, out),
+        Ok(joined) => place_whole(out, joined.as_path().bytes),
         Err(WithinError::Escapes) => ESCAPES,
         Err(WithinError::Memory(_)) => NO_MEMORY,
     }

@@ -1,10 +1,10 @@
-//! Stretches of bytes that are written one behind the other.
-ghost use Rattle.std.specs.Prelude.{◌≡◌, ◌≤◌, ◌+◌, length};
+//! Writes stretches of bytes into a buffer, one behind the other.
+ghost use Rattle.std.specs.Prelude.{◌≡◌, ◌≤◌, ◌<◌, ◌+◌, ◌^◌, length};
 ghost use Rattle.unix_path.specs.Steps.{gap_bytes};
 ghost use Rattle.unix_path_c.specs.Buffer.{buffer_after};
 ghost use Rattle.unix_path_c.specs.Overlay.{overlay};
 
-// Puts the bytes in the place of as many from `at` on.
+// Puts the bytes at `at`, in place of as many.
 #[inline]
 pub(crate) fn place(out: &mut [u8], at: usize, bytes: &[u8])
     requires { at + length bytes.now ≤ length out.old }
@@ -13,12 +13,13 @@ pub(crate) fn place(out: &mut [u8], at: usize, bytes: &[u8])
     out[at..at + bytes.len()].copy_from_slice(bytes);
 }
 
-// Puts the bytes at the beginning of the buffer, if it has room for all of them, and says how many
+// Puts the bytes at the beginning of the buffer if it has room for all of them, and gives how many
 // they are.
 #[inline]
 pub(crate) fn place_whole(out: &mut [u8], bytes: &[u8]) -> usize
     ensures out { out.new ≡ buffer_after bytes.now out.old }
     ensures len { result ≡ length bytes.now }
+    ensures fits { result < 2 ^ 63 }
 {
     if bytes.len() <= out.len() {
         place(out, 0, bytes);
@@ -26,7 +27,7 @@ pub(crate) fn place_whole(out: &mut [u8], bytes: &[u8]) -> usize
     bytes.len()
 }
 
-// Puts the byte, if there is one, in the place of the one at `at`.
+// Puts the mark, if there is one, in place of the byte at `at`.
 #[inline]
 pub(crate) fn place_mark(out: &mut [u8], at: usize, mark: Option<u8>)
     requires { at + length (gap_bytes mark) ≤ length out.old }
@@ -37,7 +38,7 @@ pub(crate) fn place_mark(out: &mut [u8], at: usize, mark: Option<u8>)
     }
 }
 
-// How many bytes it takes: one, or none.
+// How many bytes the mark takes: one, or none.
 #[inline]
 pub(crate) fn mark_len(mark: Option<u8>) -> usize
     ensures { result ≡ length (gap_bytes mark) }
@@ -48,7 +49,7 @@ pub(crate) fn mark_len(mark: Option<u8>) -> usize
     }
 }
 
-// Puts the two, one behind the other, in the place of as many bytes from `at` on, and says where
+// Puts both stretches, one behind the other, at `at`, in place of as many bytes, and gives where
 // they end.
 #[inline]
 pub(crate) fn place_both(out: &mut [u8], at: usize, first: &[u8], second: &[u8]) -> usize
@@ -63,8 +64,8 @@ pub(crate) fn place_both(out: &mut [u8], at: usize, first: &[u8], second: &[u8])
     middle + second.len()
 }
 
-// Puts the byte, if there is one, and the bytes behind it in the place of as many from `at` on, and
-// says where they end.
+// Puts the mark, if there is one, and the bytes behind it at `at`, in place of as many bytes, and
+// gives where they end.
 #[inline]
 pub(crate) fn place_behind(out: &mut [u8], at: usize, mark: Option<u8>, bytes: &[u8]) -> usize
     requires { at + length (gap_bytes mark) + length bytes.now ≤ length out.old }

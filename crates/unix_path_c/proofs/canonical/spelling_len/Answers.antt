@@ -9,7 +9,7 @@ use Rattle.unix_path_c.proofs.WritingLemmas.{length-both}
 use Rattle.unix_path_c.proofs.canonical.spelling_len.Goals as goal
 use Rattle.unix_path_c.proofs.canonical.spelling_len.Goals.{After-len}
 
--- what is counted, and one part more, is never more than the path
+-- the bytes that are counted, with those of one part more, are never more than the path's
 fits : (c : After-len)
     → c.loop-part.len + (c.mark_len.result + c.len.result) ≤ length c.args.path.bytes.now
 fits c =

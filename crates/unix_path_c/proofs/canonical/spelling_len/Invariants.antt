@@ -6,7 +6,7 @@ use Rattle.path_runs.specs.Spelling.{spelling_of}
 use Rattle.unix_path_c.specs.Spelled.{spelled_behind}
 use Rattle.unix_path_c.proofs.canonical.spelling_len.Given as goal
 
--- the bytes counted, and those of the values left, are all
+-- the bytes counted, and those of the values left, are as many as the canonical spelling has
 abbrev pub invariant-loop-part : goal.invariant-loop-part
 invariant-loop-part l =
     (goal.iterator-loop-part).can_next l.part-iterator

@@ -4,7 +4,7 @@ use Rattle.unix_path_c.proofs.canonical.unix_path_canonical.Goals as goal
 use Rattle.unix_path_c.proofs.canonical.unix_path_canonical.Goals.{then-len-out+else-len-out-2}
 use Rattle.unix_path_c.proofs.canonical.unix_path_canonical.Goals.{else-len-out}
 
--- either it was counted, or there is room for the whole path
+-- either the spelling's bytes were counted, or there is room for the whole path
 pub write_spelling-requires : goal.write_spelling-requires
 write_spelling-requires c = elim c.if-len-out.branch [
   | then-len-out+else-len-out-2 w ↦

@@ -6,7 +6,7 @@ use Rattle.unix_path_c.specs.Spelled.{spelled_behind}
 use Rattle.unix_path_c.proofs.WritingLemmas.{WritesOn}
 use Rattle.unix_path_c.proofs.canonical.write_spelling.Given as goal
 
--- a front of the spelling is written, and the values left spell what follows it
+-- a beginning of the canonical spelling is written, and the values left spell what follows it
 abbrev pub invariant-loop-part : goal.invariant-loop-part
 invariant-loop-part l =
     (goal.iterator-loop-part).can_next l.part-iterator

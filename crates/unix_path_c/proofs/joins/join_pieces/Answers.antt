@@ -11,7 +11,7 @@ pub returns-then-is_open : goal.returns-then-is_open
 returns-then-is_open c =
     let base = c.args.base.bytes.now in
     let path = c.args.path.bytes.now in
-    ap (λ front. front ++ path) (append-nil base)
+    ap (λ beginning. beginning ++ path) (append-nil base)
     ∙ sym (join_of_open base path (sym c.has_root.ensures.value ∙ c.if-has_root.false)
     (sym c.is_open.ensures ∙ c.if-is_open.true))
 

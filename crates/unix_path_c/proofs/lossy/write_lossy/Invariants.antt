@@ -4,7 +4,7 @@ use Rattle.unix_bytes.specs.Lossy.{lossy_of}
 use Rattle.unix_path_c.proofs.WritingLemmas.{WritesOn}
 use Rattle.unix_path_c.proofs.lossy.write_lossy.Given as goal
 
--- a front of the lossy text is written, and the chunks left show what follows it
+-- a beginning of the lossy text is written, and the chunks left show what follows it
 abbrev pub invariant-loop-chunk : goal.invariant-loop-chunk
 invariant-loop-chunk l =
     (goal.iterator-loop-chunk).can_next l.chunk-iterator

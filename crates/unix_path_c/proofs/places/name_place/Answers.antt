@@ -6,9 +6,9 @@ use Rattle.unix_path_c.specs.declared.places.Place.{Place}
 use Rattle.unix_path_c.proofs.places.name_place.Goals as goal
 use Rattle.unix_path_c.proofs.places.name_place.Goals.{After-place_at_end}
 
-made : (c : After-place_at_end) → IsPlaceOf c.args.path.bytes.now c.last_end.result
+is_place : (c : After-place_at_end) → IsPlaceOf c.args.path.bytes.now c.last_end.result
     c.in-Some.name.bytes.now c.place_at_end.result
-made c =
+is_place c =
     let s = c.args.path.bytes.now in
     let name = c.in-Some.name.bytes.now in
     let end = c.last_end.result in
@@ -28,7 +28,7 @@ place_at_end-requires c =
     c.last_end.ensures).fits
 
 pub returns-clause-bytes : goal.returns-clause-bytes
-returns-clause-bytes c = ap Some (made c).bytes ∙ c.in-Some.ensures
+returns-clause-bytes c = ap Some (is_place c).bytes ∙ c.in-Some.ensures
 
 pub returns-clause-start : goal.returns-clause-start
 returns-clause-start c =
@@ -38,9 +38,9 @@ returns-clause-start c =
 
 pub returns-clause-end : goal.returns-clause-end
 returns-clause-end c =
-    ap Some (made c).end_is
+    ap Some (is_place c).end_is
     ∙ name_end_of-some c.args.path.bytes.now c.in-Some.name.bytes.now c.last_end.result
     c.in-Some.ensures c.last_end.ensures
 
 pub returns-clause-inside : goal.returns-clause-inside
-returns-clause-inside c = (made c).inside
+returns-clause-inside c = (is_place c).inside

@@ -4,10 +4,10 @@ use Rattle.unix_path_c.proofs.StretchLemmas.{IsPlaceOf, place_of}
 use Rattle.unix_path_c.proofs.places.unix_path_extension.Goals as goal
 use Rattle.unix_path_c.proofs.places.unix_path_extension.Goals.{After-place_at_end}
 
-made : (c : After-place_at_end) → IsPlaceOf c.args.path.now
+is_place : (c : After-place_at_end) → IsPlaceOf c.args.path.now
     (c.in-Some.name.start + c.in-Some.name.length) c.in-Some-extension.extension.bytes.now
     c.place_at_end.result
-made c =
+is_place c =
     let s = c.args.path.now in
     let name = c.in-Some.name in
     let extension = c.in-Some-extension.extension.bytes.now in
@@ -22,10 +22,10 @@ place_at_end-requires c =
     c.in-Some.ensures.inside c.in-Some.ensures.bytes c.in-Some-extension.ensures).fits
 
 pub returns-clause-bytes : goal.returns-clause-bytes
-returns-clause-bytes c = ap Some (made c).bytes ∙ c.in-Some-extension.ensures
+returns-clause-bytes c = ap Some (is_place c).bytes ∙ c.in-Some-extension.ensures
 
 pub returns-clause-end : goal.returns-clause-end
-returns-clause-end c = ap Some (made c).end_is ∙ c.in-Some.ensures.end
+returns-clause-end c = ap Some (is_place c).end_is ∙ c.in-Some.ensures.end
 
 pub returns-clause-inside : goal.returns-clause-inside
-returns-clause-inside c = (made c).inside
+returns-clause-inside c = (is_place c).inside

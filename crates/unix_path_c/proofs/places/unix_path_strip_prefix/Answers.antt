@@ -4,9 +4,9 @@ use Rattle.unix_path_c.proofs.StretchLemmas.{IsPlaceOf, place_of}
 use Rattle.unix_path_c.proofs.places.unix_path_strip_prefix.Goals as goal
 use Rattle.unix_path_c.proofs.places.unix_path_strip_prefix.Goals.{After-place_at_end}
 
-made : (c : After-place_at_end) → IsPlaceOf c.args.path.now c.last_end.result
+is_place : (c : After-place_at_end) → IsPlaceOf c.args.path.now c.last_end.result
     c.in-Ok.left.bytes.now c.place_at_end.result
-made c =
+is_place c =
     let s = c.args.path.now in
     let left = c.in-Ok.left.bytes.now in
     let end = c.last_end.result in
@@ -20,10 +20,10 @@ place_at_end-requires c =
     c.in-Ok.ensures.value c.last_end.ensures).fits
 
 pub returns-clause-bytes : goal.returns-clause-bytes
-returns-clause-bytes c = (made c).bytes ∙ c.in-Ok.ensures.value
+returns-clause-bytes c = (is_place c).bytes ∙ c.in-Ok.ensures.value
 
 pub returns-clause-end : goal.returns-clause-end
-returns-clause-end c = (made c).end_is ∙ c.last_end.ensures
+returns-clause-end c = (is_place c).end_is ∙ c.last_end.ensures
 
 pub returns-clause-inside : goal.returns-clause-inside
-returns-clause-inside c = (made c).inside
+returns-clause-inside c = (is_place c).inside

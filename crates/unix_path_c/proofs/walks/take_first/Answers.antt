@@ -1,6 +1,6 @@
 use Rattle.std.proofs.Common.{◌≡◌, true, false, refl, ap, arith, ◌∙◌}
 use Rattle.unix_path.specs.Rest.{rest}
-use Rattle.unix_path_c.proofs.FrontLemmas.{front_fits, next_gives, nothing_first}
+use Rattle.unix_path_c.proofs.TakeFirstLemmas.{step_in_front_fits, next_gives, nothing_first}
 use Rattle.unix_path_c.proofs.walks.take_first.Goals as goal
 
 pub returns-in_default-clause-ended : goal.returns-in_default-clause-ended
@@ -11,14 +11,14 @@ returns-in_default-clause-ended c =
 
 pub overflow_add-back : goal.overflow_add-back
 overflow_add-back c =
-    let h = front_fits c.args.path.now c.args.walk.now _ _ _ _ _
+    let h = step_in_front_fits c.args.path.now c.args.walk.now _ _ _ _ _
     (c.components-parts.ensures.rest ∙ ap (λ s. rest s 0 0) c.left_of.ensures)
     c.in-Some.ensures.steps c.as_path.ensures.bytes refl in
     omega (arith, h.in_range)
 
 pub overflow_sub-walk : goal.overflow_sub-walk
 overflow_sub-walk c =
-    let h = front_fits c.args.path.now c.args.walk.now _ _ _ _ _
+    let h = step_in_front_fits c.args.path.now c.args.walk.now _ _ _ _ _
     (c.components-parts.ensures.rest ∙ ap (λ s. rest s 0 0) c.left_of.ensures)
     c.in-Some.ensures.steps c.as_path.ensures.bytes c.as_path-2.ensures.bytes in
     omega (arith, h.fewer)

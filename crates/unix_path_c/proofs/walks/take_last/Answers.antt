@@ -1,16 +1,16 @@
 use Rattle.std.proofs.Common.{◌≡◌, true, false, ap, length, arith, ◌∙◌}
 use Rattle.unix_path.specs.Cursor.{cursor_rest}
 use Rattle.unix_path.specs.Rest.{rest}
-use Rattle.unix_path_c.proofs.BehindLemmas.{BehindFits, behind_fits, next_back_gives}
-use Rattle.unix_path_c.proofs.BehindLemmas.{nothing_last}
+use Rattle.unix_path_c.proofs.TakeLastLemmas.{StepBehindFits, step_behind_fits, next_back_gives}
+use Rattle.unix_path_c.proofs.TakeLastLemmas.{nothing_last}
 use Rattle.unix_path_c.proofs.walks.take_last.Goals as goal
 use Rattle.unix_path_c.proofs.walks.take_last.Goals.{After-as_unix_str}
 
-fits : (c : After-as_unix_str) → BehindFits c.args.path.now c.args.walk.now
+fits : (c : After-as_unix_str) → StepBehindFits c.args.path.now c.args.walk.now
     c.as_path.result.bytes.now c.as_unix_str.result.bytes.now
     (length (cursor_rest c.next_back.new.self))
 fits c =
-    behind_fits c.args.path.now c.args.walk.now _ _ _ _ _
+    step_behind_fits c.args.path.now c.args.walk.now _ _ _ _ _
     (c.components-parts.ensures.rest ∙ ap (λ s. rest s 0 0) c.left_of.ensures)
     c.in-Some.ensures.steps c.as_path.ensures.bytes c.as_unix_str.ensures
 

@@ -1,11 +1,11 @@
 use Rattle.std.proofs.Common.{ap, length, ◌∙◌}
 use Rattle.unix_path.specs.Rest.{rest}
-use Rattle.unix_path_c.proofs.LeftLemmas.{stands}
+use Rattle.unix_path_c.proofs.LeftLemmas.{holds_left}
 use Rattle.unix_path_c.proofs.walks.unix_path_as_path.Goals as goal
 
 pub returns : goal.returns
 returns c =
-    let h = stands c.args.path.now c.args.walk.now _ c.min.ensures
+    let h = holds_left c.args.path.now c.args.walk.now _ c.min.ensures
     (ap length (c.as_path.ensures.bytes ∙ c.components.ensures.rest
     ∙ ap (λ s. rest s 0 0) c.left_of.ensures)) in
     record { bytes = h.bytes; values = h.same; start = c.min.ensures; in_range = h.in_range }

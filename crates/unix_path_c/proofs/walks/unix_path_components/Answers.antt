@@ -1,11 +1,11 @@
 use Rattle.std.proofs.Common.{refl, ap, length, ◌∙◌}
 use Rattle.unix_path.specs.Rest.{rest}
-use Rattle.unix_path_c.proofs.LeftLemmas.{begins}
+use Rattle.unix_path_c.proofs.LeftLemmas.{is_fresh}
 use Rattle.unix_path_c.proofs.walks.unix_path_components.Goals as goal
 
 pub returns : goal.returns
 returns c =
-    let b = begins c.args.path.now _ refl
+    let b = is_fresh c.args.path.now _ refl
     (ap length (c.as_path.ensures.bytes ∙ c.components-parts.ensures.rest
     ∙ ap (λ s. rest s 0 0) c.from_bytes.ensures)) in
     record {

@@ -1,31 +1,31 @@
 use Rattle.std.proofs.Common.{◌≡◌, ◌<◌, true, false, length, sym, ◌∙◌, arith, subst}
+use Rattle.std.proofs.lemmas.Bool.{eqb-false}
 use Rattle.unix_path_c.specs.Steps.{BeginsInPart}
 use Rattle.unix_path_c.specs.Walks.{left}
-use Rattle.unix_path_c.proofs.NameLemmas.{some_bytes}
-use Rattle.unix_path_c.proofs.OverLemmas.{takes_first_part, first_fits}
+use Rattle.unix_path_c.proofs.StepLemmas.{takes_first_part, first_fits}
 use Rattle.unix_path_c.proofs.walks.unix_path_next.Goals as goal
 use Rattle.unix_path_c.proofs.walks.unix_path_next.Goals.{In-Some}
 
-some : (c : In-Some) → 0 < length (left c.args.path.now c.args.walk.now)
-some c = subst (λ s. 0 < length s) c.left_of.ensures
-    (some_bytes c.left_of.result.bytes.now (sym c.is_empty.ensures ∙ c.if-is_empty.false))
+some_left : (c : In-Some) → 0 < length (left c.args.path.now c.args.walk.now)
+some_left c = subst (λ s. 0 < length s) c.left_of.ensures
+    (omega (arith, eqb-false _ 0 (sym c.is_empty.ensures ∙ c.if-is_empty.false)))
 
-is : (c : In-Some)
+begins_in_part : (c : In-Some)
     → BeginsInPart (left c.args.path.now c.args.walk.now)
     c.in-Some.length c.in-Some.step c.in-Some.kind
-is c =
+begins_in_part c =
     subst (λ s. BeginsInPart s c.in-Some.length c.in-Some.step c.in-Some.kind)
     c.left_of.ensures c.in-Some.ensures
 
 pub overflow_add-walk : goal.overflow_add-walk
 overflow_add-walk c =
     let d = (goal.at.overflow_add-walk c).In-Some in
-    omega (arith, first_fits c.args.path.now c.args.walk.now (some d) (is d))
+    omega (arith, first_fits c.args.path.now c.args.walk.now (some_left d) (begins_in_part d))
 
 pub returns : goal.returns
 returns c =
     let d = (goal.at.returns c).In-Some in
-    let t = takes_first_part c.args.path.now c.args.walk.now (some d) (is d) in
+    let t = takes_first_part c.args.path.now c.args.walk.now (some_left d) (begins_in_part d) in
     record {
       ended = (λ no. let e : true ≡ false = no in cc, λ nothing. absurd (t.some nothing));
       walk_stays = λ no. let e : true ≡ false = no in cc;

@@ -1,34 +1,35 @@
 use Rattle.std.proofs.Common.{◌≡◌, ◌<◌, true, false, length, sym, ap, ◌∙◌, arith, subst}
+use Rattle.std.proofs.lemmas.Bool.{eqb-false}
 use Rattle.unix_path_c.specs.Steps.{EndsInName}
 use Rattle.unix_path_c.specs.Walks.{left}
-use Rattle.unix_path_c.proofs.NameLemmas.{some_bytes}
-use Rattle.unix_path_c.proofs.OverLemmas.{takes_last_name, last_fits}
+use Rattle.unix_path_c.proofs.StepLemmas.{takes_last_name, last_fits}
 use Rattle.unix_path_c.proofs.walks.unix_path_next_back.Goals as goal
 use Rattle.unix_path_c.proofs.walks.unix_path_next_back.Goals.{In-Some}
 
-some : (c : In-Some) → 0 < length (left c.args.path.now c.args.walk.now)
-some c = subst (λ s. 0 < length s) c.left_of.ensures
-    (some_bytes c.left_of.result.bytes.now (sym c.is_empty.ensures ∙ c.if-is_empty.false))
+some_left : (c : In-Some) → 0 < length (left c.args.path.now c.args.walk.now)
+some_left c = subst (λ s. 0 < length s) c.left_of.ensures
+    (omega (arith, eqb-false _ 0 (sym c.is_empty.ensures ∙ c.if-is_empty.false)))
 
-is : (c : In-Some)
+ends_in_name : (c : In-Some)
     → EndsInName (left c.args.path.now c.args.walk.now) c.in-Some.before c.in-Some.start
-is c =
+ends_in_name c =
     subst (λ s. EndsInName s c.in-Some.before c.in-Some.start) c.left_of.ensures c.in-Some.ensures
 
 pub overflow_add-part : goal.overflow_add-part
 overflow_add-part c =
     let d = (goal.at.overflow_add-part c).In-Some in
-    omega (arith, last_fits c.args.path.now c.args.walk.now (some d) (is d))
+    omega (arith, last_fits c.args.path.now c.args.walk.now (some_left d) (ends_in_name d))
 
 pub overflow_add-walk : goal.overflow_add-walk
 overflow_add-walk c =
     let d = (goal.at.overflow_add-walk c).In-Some in
-    omega (arith, last_fits c.args.path.now c.args.walk.now (some d) (is d), (is d).in_order)
+    let name = ends_in_name d in
+    omega (arith, last_fits c.args.path.now c.args.walk.now (some_left d) name, name.in_order)
 
 pub returns : goal.returns
 returns c =
     let d = (goal.at.returns c).In-Some in
-    let t = takes_last_name c.args.path.now c.args.walk.now (some d) (is d)
+    let t = takes_last_name c.args.path.now c.args.walk.now (some_left d) (ends_in_name d)
     (ap length c.left_of.ensures) in
     record {
       ended = (λ no. let e : true ≡ false = no in cc, λ nothing. absurd (t.some nothing));

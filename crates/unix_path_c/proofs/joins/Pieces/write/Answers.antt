@@ -7,6 +7,6 @@ pub returns-clause-out : goal.returns-clause-out
 returns-clause-out c =
     let pieces = c.args.self.now in
     let total = c.total_len-total in
-    buffer_after-three c.args.out.now pieces.front.now (gap_bytes pieces.mark) pieces.end.now
+    buffer_after-three c.args.out.now pieces.beginning.now (gap_bytes pieces.mark) pieces.end.now
     (total.result - length pieces.end.now) (omega (arith, total.ensures.pieces))
     (omega (arith, total.ensures.pieces)) c.place.ensures c.place_mark.ensures c.place-2.ensures

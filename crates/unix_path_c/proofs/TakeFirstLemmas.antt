@@ -17,11 +17,11 @@ use Rattle.unix_path_c.specs.Walks.{kind_of, left, part_bytes}
 use Rattle.unix_path_c.specs.Steps.{TakenInFront}
 use Rattle.unix_path_c.specs.declared.walks.Part.{Part}
 use Rattle.unix_path_c.specs.declared.walks.Walk.{Walk}
-use Rattle.unix_path_c.proofs.LeftLemmas.{between, kind_of-lt, left-between, part_value-is}
+use Rattle.unix_path_c.proofs.LeftLemmas.{stands_between, kind_of-lt, left-in_range, part_value-is}
 use Rattle.unix_path_c.proofs.LeftLemmas.{range-left, take-left}
-use Rattle.unix_path_c.proofs.FirstLemmas.{no_bytes, some_bytes, takes_front}
+use Rattle.unix_path_c.proofs.FirstLemmas.{no_bytes, some_bytes, takes_in_front}
 
--- a part at places that are equal to these, with an equal value
+-- two parts are equal if their places and their values are
 pub same_part : {a b c d : ℕ} {v w : Value} → a ≡ c → b ≡ d → v ≡ w
     → (let p : paths.Part = record { start = a; end = b; value = v } in p)
     ≡ record { start = c; end = d; value = w }
@@ -29,6 +29,7 @@ same_part {c = c} {d = d} {v = v} start end value =
     ap₂ (λ a b. record { start = a; end = b; value = v }) start end
     ∙ ap (λ v. record { start = c; end = d; value = v }) value
 
+-- a step whose places are computed from the first value of what is left takes its part
 pub taken_in_front : (path : List ℕ) (old new : Walk) (part : Part) (v : Value)
     → values (left path old) ≡ v ∷ values (rest (left path old) 1 0)
     → part.start ≡ old.front → part.length ≡ length (value_bytes v) → part.kind ≡ kind_of v
@@ -40,9 +41,9 @@ taken_in_front path old new part v e start size kind back front =
     let m = length (rest s 1 0) in
     let k = length (value_bytes v) in
     let f = old.front in
-    let t = takes_front s v (values (rest s 1 0)) e in
+    let t = takes_in_front s v (values (rest s 1 0)) e in
     let some = some_bytes s (λ none. let no = sym none ∙ e in cc) in
-    let h = between path old some in
+    let h = stands_between path old some in
     let before = t.before in
     let fewer = t.fewer in
     let in_range = t.in_range in
@@ -54,7 +55,7 @@ taken_in_front path old new part v e start size kind back front =
     ∙ take-left path old s part.start 0 k h (omega arith) (omega arith) ∙ t.bytes in
     let value = part_value-is path part v kind first in
     let moved : f + (n - m) ≡ new.front = omega arith in
-    let left_is : left path new ≡ rest s 1 0 = left-between path new (omega arith) (omega arith)
+    let left_is : left path new ≡ rest s 1 0 = left-in_range path new (omega arith) (omega arith)
     ∙ range-left path old s new.front new.back (n - m) m h (omega arith) (omega arith)
     (omega arith) ∙ t.left in
     record {
@@ -73,17 +74,18 @@ taken_in_front path old new part v e start size kind back front =
       );
     }
 
--- what a fresh cursor leaves after one part
-first_rest : (s : List ℕ) (old new : Components) (item : Option Component)
+-- what a fresh cursor has left after one part in front
+cursor_rest-first : (s : List ℕ) (old new : Components) (item : Option Component)
     → cursor_rest old ≡ rest s 0 0 → GivesFirstPart old item new → cursor_rest new ≡ rest s 1 0
-first_rest s old new item whole h =
+cursor_rest-first s old new item whole h =
     h.rest_is ∙ ap (λ u. rest u 1 0) whole ∙ rest-rest s 0 0 1 0
 
-first_values : (s : List ℕ) (old new : Components) (x : Component)
+-- the values of a string, by the first part that a fresh cursor gives
+values-first : (s : List ℕ) (old new : Components) (x : Component)
     → cursor_rest old ≡ rest s 0 0 → GivesFirstPart old (Some x) new
     → values s ≡ value_of x ∷ values (rest s 1 0)
-first_values s old new x whole h = sym (values-whole s (cursor_rest old) whole) ∙ h.item_is
-    ∙ ap (λ u. value_of x ∷ values u) (first_rest s old new (Some x) whole h)
+values-first s old new x whole h = sym (values-whole s (cursor_rest old) whole) ∙ h.item_is
+    ∙ ap (λ u. value_of x ∷ values u) (cursor_rest-first s old new (Some x) whole h)
 
 -- a fresh cursor that gives nothing stands for no byte
 pub nothing_first : (s : List ℕ) (old new : Components) → cursor_rest old ≡ rest s 0 0
@@ -91,22 +93,23 @@ pub nothing_first : (s : List ℕ) (old new : Components) → cursor_rest old �
 nothing_first s old new whole h =
     no_bytes s (sym (values-whole s (cursor_rest old) whole) ∙ h.item_is.0)
 
--- the places that a step in front computes lie in the path
-pub record FrontFits (path : List ℕ) (walk : Walk) (whole behind : List ℕ) : Type 0 where
+-- the places that a step in front computes lie in the path, in order
+pub record StepInFrontFits (path : List ℕ) (walk : Walk) (whole behind : List ℕ) : Type 0 where
   pub in_range : walk.front + length whole ≤ length path
   pub fewer : length behind ≤ length whole
 
-pub front_fits : (path : List ℕ) (walk : Walk) (old new : Components) (x : Component)
+-- the places that a step in front computes from a fresh cursor lie in the path, in order
+pub step_in_front_fits : (path : List ℕ) (walk : Walk) (old new : Components) (x : Component)
     (whole behind : List ℕ) → cursor_rest old ≡ rest (left path walk) 0 0
     → GivesFirstPart old (Some x) new → whole ≡ cursor_rest old → behind ≡ cursor_rest new
-    → FrontFits path walk whole behind
-front_fits path walk old new x whole behind w h all but =
+    → StepInFrontFits path walk whole behind
+step_in_front_fits path walk old new x whole behind w h all but =
     let s = left path walk in
-    let e = first_values s old new x w h in
-    let t = takes_front s (value_of x) (values (rest s 1 0)) e in
-    let b = between path walk (some_bytes s (λ none. let no = sym none ∙ e in cc)) in
+    let e = values-first s old new x w h in
+    let t = takes_in_front s (value_of x) (values (rest s 1 0)) e in
+    let b = stands_between path walk (some_bytes s (λ none. let no = sym none ∙ e in cc)) in
     let long = ap length (all ∙ w) in
-    let less = ap length (but ∙ first_rest s old new (Some x) w h) in
+    let less = ap length (but ∙ cursor_rest-first s old new (Some x) w h) in
     record {
       in_range = omega (arith, t.in_range, b.size, b.in_order, b.in_range, long);
       fewer = omega (arith, t.fewer, long, less);
@@ -123,7 +126,7 @@ pub next_gives : (path : List ℕ) (walk : Walk) (old new : Components) (x : Com
     }) (record { start = walk.front; length = length text; kind = kind })
 next_gives path walk old new x whole behind text kind w h all but bytes is =
     let s = left path walk in
-    taken_in_front path walk _ _ (value_of x) (first_values s old new x w h) refl
+    taken_in_front path walk _ _ (value_of x) (values-first s old new x w h) refl
     (ap length bytes) is (ap (λ u. walk.front + length u) (all ∙ w))
     (ap (λ u. walk.front + length whole - length u)
-    (but ∙ first_rest s old new (Some x) w h))
+    (but ∙ cursor_rest-first s old new (Some x) w h))

@@ -17,17 +17,19 @@ use Rattle.unix_path_c.specs.Walks.{kind_of, left, part_bytes}
 use Rattle.unix_path_c.specs.Steps.{TakenBehind}
 use Rattle.unix_path_c.specs.declared.walks.Part.{Part}
 use Rattle.unix_path_c.specs.declared.walks.Walk.{Walk}
-use Rattle.unix_path_c.proofs.FrontLemmas.{same_part}
-use Rattle.unix_path_c.proofs.LeftLemmas.{between, kind_of-lt, left-between, part_value-is}
+use Rattle.unix_path_c.proofs.TakeFirstLemmas.{same_part}
+use Rattle.unix_path_c.proofs.LeftLemmas.{stands_between, kind_of-lt, left-in_range, part_value-is}
 use Rattle.unix_path_c.proofs.LeftLemmas.{range-left, take-left}
 use Rattle.unix_path_c.proofs.FirstLemmas.{no_bytes, some_bytes}
-use Rattle.unix_path_c.proofs.LastLemmas.{takes_back}
+use Rattle.unix_path_c.proofs.LastLemmas.{takes_behind}
 
+-- a list with a last value isn't empty
 not_none : {us : List Value} (vs : List Value) (v : Value) → us ≡ vs ++ v ∷ []
     → us ≡ [] → ⊥
 not_none vs v e none =
     omega (arith, ap length (sym none ∙ e), length-append vs (v ∷ []))
 
+-- a step whose places are computed from the last value of what is left takes its part
 pub taken_behind : (path : List ℕ) (old new : Walk) (part : Part) (v : Value)
     → values (left path old) ≡ values (rest (left path old) 0 1) ++ v ∷ []
     → part.start ≡ old.front + length (rest (left path old) 0 0) - part.length
@@ -39,9 +41,9 @@ taken_behind path old new part v e start size kind front back =
     let m = length (rest s 0 1) in
     let k = length (value_bytes v) in
     let f = old.front in
-    let t = takes_back s v (values (rest s 0 1)) e in
+    let t = takes_behind s v (values (rest s 0 1)) e in
     let some = some_bytes s (not_none (values (rest s 0 1)) v e) in
-    let h = between path old some in
+    let h = stands_between path old some in
     let before = t.before in
     let enough = t.fits in
     let in_range = t.in_range in
@@ -52,7 +54,7 @@ taken_behind path old new part v e start size kind front back =
     ap (λ n. take n (drop part.start path)) size
     ∙ take-left path old s part.start (n - k) k h (omega arith) (omega arith) ∙ t.bytes in
     let value = part_value-is path part v kind last in
-    let left_is : left path new ≡ rest s 0 1 = left-between path new (omega arith) (omega arith)
+    let left_is : left path new ≡ rest s 0 1 = left-in_range path new (omega arith) (omega arith)
     ∙ range-left path old s new.front new.back 0 m h (omega arith) (omega arith)
     (omega arith) ∙ t.left in
     record {
@@ -72,16 +74,17 @@ taken_behind path old new part v e start size kind front back =
       );
     }
 
--- what a fresh cursor leaves before one part
-last_rest : (s : List ℕ) (old new : Components) (item : Option Component)
+-- what a fresh cursor has left before one part behind
+cursor_rest-last : (s : List ℕ) (old new : Components) (item : Option Component)
     → cursor_rest old ≡ rest s 0 0 → GivesLastPart old item new → cursor_rest new ≡ rest s 0 1
-last_rest s old new item whole h = rest-whole_last s whole h.rest_is
+cursor_rest-last s old new item whole h = rest-whole_last s whole h.rest_is
 
-last_values : (s : List ℕ) (old new : Components) (x : Component)
+-- the values of a string, by the last part that a fresh cursor gives
+values-last : (s : List ℕ) (old new : Components) (x : Component)
     → cursor_rest old ≡ rest s 0 0 → GivesLastPart old (Some x) new
     → values s ≡ values (rest s 0 1) ++ value_of x ∷ []
-last_values s old new x whole h = sym (values-whole s (cursor_rest old) whole) ∙ h.item_is
-    ∙ ap (λ u. values u ++ value_of x ∷ []) (last_rest s old new (Some x) whole h)
+values-last s old new x whole h = sym (values-whole s (cursor_rest old) whole) ∙ h.item_is
+    ∙ ap (λ u. values u ++ value_of x ∷ []) (cursor_rest-last s old new (Some x) whole h)
 
 -- a fresh cursor that gives nothing stands for no byte
 pub nothing_last : (s : List ℕ) (old new : Components) → cursor_rest old ≡ rest s 0 0
@@ -89,25 +92,27 @@ pub nothing_last : (s : List ℕ) (old new : Components) → cursor_rest old ≡
 nothing_last s old new whole h =
     no_bytes s (sym (values-whole s (cursor_rest old) whole) ∙ h.item_is.0)
 
--- the places that a step behind computes lie in the path
-pub record BehindFits (path : List ℕ) (walk : Walk) (whole text : List ℕ) (left : ℕ) : Type 0 where
+-- the places that a step behind computes lie in the path, in order
+pub record StepBehindFits (path : List ℕ) (walk : Walk) (whole text : List ℕ) (left : ℕ)
+    : Type 0 where
   pub in_range : walk.front + length whole ≤ length path
   pub fits : length text ≤ length whole
   pub fewer : left ≤ length whole
 
-pub behind_fits : (path : List ℕ) (walk : Walk) (old new : Components) (x : Component)
+-- the places that a step behind computes from a fresh cursor lie in the path, in order
+pub step_behind_fits : (path : List ℕ) (walk : Walk) (old new : Components) (x : Component)
     (whole text : List ℕ) → cursor_rest old ≡ rest (left path walk) 0 0
     → GivesLastPart old (Some x) new → whole ≡ cursor_rest old → text ≡ value_bytes (value_of x)
-    → BehindFits path walk whole text (length (cursor_rest new))
-behind_fits path walk old new x whole text w h all bytes =
+    → StepBehindFits path walk whole text (length (cursor_rest new))
+step_behind_fits path walk old new x whole text w h all bytes =
     let s = left path walk in
     let vs = values (rest s 0 1) in
-    let e = last_values s old new x w h in
-    let t = takes_back s (value_of x) vs e in
-    let b = between path walk (some_bytes s (not_none vs (value_of x) e)) in
+    let e = values-last s old new x w h in
+    let t = takes_behind s (value_of x) vs e in
+    let b = stands_between path walk (some_bytes s (not_none vs (value_of x) e)) in
     let long = ap length (all ∙ w) in
     let size = ap length bytes in
-    let less = ap length (last_rest s old new (Some x) w h) in
+    let less = ap length (cursor_rest-last s old new (Some x) w h) in
     record {
       in_range = omega (arith, t.in_range, b.size, b.in_order, b.in_range, long);
       fits = omega (arith, t.fits, long, size);
@@ -128,6 +133,6 @@ pub next_back_gives : (path : List ℕ) (walk : Walk) (old new : Components) (x 
     })
 next_back_gives path walk old new x whole before text kind w h all but bytes is =
     let s = left path walk in
-    taken_behind path walk _ _ (value_of x) (last_values s old new x w h)
+    taken_behind path walk _ _ (value_of x) (values-last s old new x w h)
     (ap (λ u. walk.front + length u - length text) (all ∙ w)) (ap length bytes) is refl
-    (ap (λ u. walk.front + length u) (but ∙ last_rest s old new (Some x) w h))
+    (ap (λ u. walk.front + length u) (but ∙ cursor_rest-last s old new (Some x) w h))
