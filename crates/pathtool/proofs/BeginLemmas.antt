@@ -21,6 +21,7 @@ is_eq-then_equal Greater = refl
 is_eq-values_cmp-one : (v w : Value) → is_eq (values_cmp (v ∷ []) (w ∷ [])) ≡ same_value v w
 is_eq-values_cmp-one v w = is_eq-then_equal (value_cmp v w)
 
+-- the test of two values says whether they are equal
 pub same_value-Decides : (v w : Value) → Decides (same_value v w) (v ≡ w)
 same_value-Decides v w = (
   λ e. ap (λ vs. get_or vs 0 v)
@@ -28,24 +29,28 @@ same_value-Decides v w = (
   λ e. sym (is_eq-values_cmp-one v w) ∙ values_cmp-same (v ∷ []) (w ∷ []) (ap (λ u. u ∷ []) e),
 )
 
+-- the test of two lists of values says whether the second begins the first
 pub starts_with-Decides : (w v : List Value) → Decides (starts_with same_value w v) (Begins v w)
-starts_with-Decides w v = let (begins, begun) = starts_is same_value-Decides w v _ refl in (
-  λ e. (drop (length v) w, sym (begins e)),
-  λ (more, e). begun more (sym e),
+starts_with-Decides w v = let (to, from) = starts_is same_value-Decides w v _ refl in (
+  λ e. (drop (length v) w, sym (to e)),
+  λ (more, e). from more (sym e),
 )
 
+-- the test of two lists of values says whether the second ends the first
 pub ends_with-Decides : (w v : List Value) → Decides (ends_with same_value w v) (Ends v w)
-ends_with-Decides w v = let (ends, ended) = ends_is same_value-Decides w v _ refl in (
-  λ e. (take (length w - length v) w, sym (ends e)),
-  λ (front, e). ended front (sym e),
+ends_with-Decides w v = let (to, from) = ends_is same_value-Decides w v _ refl in (
+  λ e. (take (length w - length v) w, sym (to e)),
+  λ (before, e). from before (sym e),
 )
 
+-- the answer where the base begins the path
 pub strip_answer-ok : (path base left : List ℕ) → Begins (values base) (values path)
     → left ≡ stripped_of path base → optional (Some left) ≡ strip_answer path base
 strip_answer-ok path base left h e =
     let test = (starts_with-Decides (values path) (values base)).1 h in
     rw test (ap (λ bytes. optional (Some bytes)) e)
 
+-- the answer where the base doesn't begin the path
 pub strip_answer-refused : (path base : List ℕ) → (Begins (values base) (values path) → ⊥)
     → codes "prefix not found" ≡ strip_answer path base
 strip_answer-refused path base h = by_test (starts_with same_value (values path) (values base))

@@ -3,16 +3,15 @@ use Rattle.std.proofs.Common.{◌≡◌, ℕ, ◌<◌, List, [], ◌∷◌, ◌+
 use Rattle.std.proofs.Common.{append-nil}
 use Rattle.std.specs.List.{slice_split, flat_map}
 use Rattle.pathtool.proofs.SplitLemmas.{is_newline, slice_split-cons, slice_split-one}
-use Rattle.pathtool.specs.Answers.{answer_of, lines_of, output_of}
+use Rattle.pathtool.specs.Answers.{answer_of, lines_of, output_of, without_empty_last}
 use Rattle.pathtool.specs.Texts.{newline}
-use Rattle.pathtool.specs.Answers.{without_empty_last}
 
 without_empty_last-cons : (line x : List ℕ) (xs : List (List ℕ))
     → without_empty_last (line ∷ x ∷ xs) ≡ line ∷ without_empty_last (x ∷ xs)
 without_empty_last-cons [] x xs = refl
 without_empty_last-cons (b ∷ line) x xs = refl
 
--- the first line ends at a newline
+-- the lines of an input whose first line ends at a newline
 pub cut_lines : (s line rest : List ℕ)
     → slice_split is_newline s ≡ line ∷ slice_split is_newline rest
     → lines_of s ≡ line ∷ lines_of rest
@@ -22,41 +21,42 @@ cut_lines s line rest e =
     ∙ without_empty_last-cons line x xs
     ∙ ap (λ parts. line ∷ without_empty_last parts) (sym more)
 
+-- the lines of an input that has bytes and no newline
 one_line : (s line : List ℕ) → 0 < length s → slice_split is_newline s ≡ line ∷ []
     → lines_of s ≡ line ∷ []
 one_line s [] l e = absurd (omega (arith, ap length (slice_split-one newline s [] e)))
 one_line s (b ∷ line) l e = ap without_empty_last e
 
--- there is no newline, and nothing is left
+-- an input without a newline is its one line, and nothing is left behind it
 pub only_line : (s line rest : List ℕ) → 0 < length s → slice_split is_newline s ≡ line ∷ []
     → rest ≡ [] → lines_of s ≡ line ∷ lines_of rest
 only_line s line rest l e none =
     one_line s line l e ∙ ap (λ rest. line ∷ lines_of rest) (sym none)
 
--- the first line is answered first
+-- what is written for an input begins with the answer to its first line
 pub output_of-cons : (s line rest : List ℕ) → lines_of s ≡ line ∷ lines_of rest
     → output_of s ≡ (answer_of line ++ newline ∷ []) ++ output_of rest
 unfolding output_of
 output_of-cons s line rest e = ap (flat_map (λ line. answer_of line ++ newline ∷ [])) e
 
--- the answer to the first line is what is to be written next
+-- what is written for the whole input goes on with the answer to the first line that is left
 pub output_of-next : (s line rest done all : List ℕ) → lines_of s ≡ line ∷ lines_of rest
     → done ++ output_of s ≡ all
     → done ++ ((answer_of line ++ newline ∷ []) ++ output_of rest) ≡ all
 output_of-next s line rest done all e h =
     ap (λ more. done ++ more) (sym (output_of-cons s line rest e)) ∙ h
 
--- what is written next is the answer to the line
-pub written_next : {said answer cleared : List ℕ} (line : List ℕ) → said ≡ answer
+-- an answer that was added to a cleared buffer is what is written for the line
+pub writes_answer : {said answer cleared : List ℕ} (line : List ℕ) → said ≡ answer
     → answer ≡ cleared ++ (answer_of line ++ newline ∷ []) → cleared ≡ []
     → said ≡ answer_of line ++ newline ∷ []
-written_next line s e none = s ∙ e ∙ ap (λ so_far. so_far ++ (answer_of line ++ newline ∷ [])) none
+writes_answer line s e none = s ∙ e ∙ ap (λ so_far. so_far ++ (answer_of line ++ newline ∷ [])) none
 
 pub output_of-nil : output_of [] ≡ []
 unfolding output_of
 output_of-nil = refl
 
--- nothing is left to be written
+-- where no input is left, what was written is all
 pub output_of-done : (done left all : List ℕ) → left ≡ [] → done ++ output_of left ≡ all
     → done ≡ all
 output_of-done done left all none e =

@@ -9,6 +9,7 @@ abbrev pub IsStep : {A B : Type 0} → (A → B) → List B → List A → Optio
 IsStep v all xs (Some x) = (length xs < length all) × (v x ≡ get_or all (length xs) (v x))
 IsStep v all xs None = length xs ≡ length all
 
+-- each step of a loop over such an iterator is one of the list that the iterator yields
 pub step_of : {S A B : Type 0} {steps : S → Option A → S → Type 0} {v : A → B} {s : S}
     {all : List B} (xs : List A) (t : S) → Yields steps s xs t → (r : Option A) (u : S)
     → steps t r u → YieldsList steps v s all → IsStep v all xs r

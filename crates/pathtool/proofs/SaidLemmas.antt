@@ -17,25 +17,25 @@ use Rattle.pathtool.proofs.BeginLemmas.{strip_answer-ok, strip_answer-refused}
 use Rattle.pathtool.proofs.ListLemmas.{adds}
 use Rattle.pathtool.proofs.QuotedLemmas.{json_of-text}
 
--- a name that was found, or none
+-- the answer of an optional name was added
 pub adds_found : {T E : Type 0} (r : Result T E) (new old : List ℕ) (found : Option UnixStr)
     (bytes : Option (List ℕ)) → option_map (λ name. name.bytes.now) found ≡ bytes
     → OnOk r (new ≡ old ++ optional (option_map (λ name. name.bytes.now) found))
     → OnOk r (new ≡ old ++ optional bytes)
 adds_found r new old found bytes e h = adds r new old (ap optional e) h
 
--- bytes that were found
+-- the answer of some bytes was added
 pub adds_some : {T E : Type 0} (r : Result T E) (new old found bytes : List ℕ)
     (known : Option (List ℕ)) → found ≡ bytes → Some bytes ≡ known
     → OnOk r (new ≡ old ++ optional (Some found)) → OnOk r (new ≡ old ++ optional known)
 adds_some r new old found bytes known e k h = adds r new old (ap optional (ap Some e ∙ k)) h
 
--- nothing was found
+-- the answer of no bytes was added
 pub adds_none : {T E : Type 0} (r : Result T E) (new old : List ℕ) (known : Option (List ℕ))
     → None ≡ known → OnOk r (new ≡ old ++ optional None) → OnOk r (new ≡ old ++ optional known)
 adds_none r new old known k h = adds r new old (ap optional k) h
 
--- the parts of one path begin those of another, or don't
+-- the answer was added to whether the parts of the base begin those of the path
 pub adds_starts : {T E : Type 0} (r : Result T E) (new old : List ℕ) (is_so : Bool)
     (path base : List ℕ) → Decides is_so (Begins (values base) (values path))
     → OnOk r (new ≡ old ++ truth is_so)
@@ -44,7 +44,7 @@ adds_starts r new old is_so path base d h = adds r new old
     (ap truth (same_from_decides is_so (starts_with same_value (values path) (values base)) d
     (starts_with-Decides (values path) (values base)))) h
 
--- the parts of one path end those of another, or don't
+-- the answer was added to whether the parts of the child end those of the path
 pub adds_ends : {T E : Type 0} (r : Result T E) (new old : List ℕ) (is_so : Bool)
     (path child : List ℕ) → Decides is_so (Ends (values child) (values path))
     → OnOk r (new ≡ old ++ truth is_so)
@@ -53,21 +53,21 @@ adds_ends r new old is_so path child d h = adds r new old
     (ap truth (same_from_decides is_so (ends_with same_value (values path) (values child)) d
     (ends_with-Decides (values path) (values child)))) h
 
--- what is left of a path whose first parts are those of the base
+-- what is left behind the base was added, for a path that the base begins
 pub adds_rest : {T E : Type 0} (r : Result T E) (new old path base left found : List ℕ)
     → Begins (values base) (values path) → left ≡ stripped_of path base → found ≡ left
     → OnOk r (new ≡ old ++ optional (Some found)) → OnOk r (new ≡ old ++ strip_answer path base)
 adds_rest r new old path base left found starts e is h =
     adds r new old (strip_answer-ok path base found starts (is ∙ e)) h
 
--- the first parts of the path aren't those of the base
+-- the refusal was added, for a path that the base doesn't begin
 pub adds_other : {T E : Type 0} (r : Result T E) (new old path base : List ℕ)
     → (Begins (values base) (values path) → ⊥) → OnOk r (new ≡ old ++ codes "prefix not found")
     → OnOk r (new ≡ old ++ strip_answer path base)
 adds_other r new old path base h said =
     adds r new old (strip_answer-refused path base h) said
 
--- the text of a path that is text
+-- the JSON string was added, for a path that is text
 pub adds_quoted : {T E : Type 0} (r : Result T E) (new old path said : List ℕ)
     → ((IsText path → ⊥) → ⊥) → said ≡ quoted path → OnOk r (new ≡ old ++ said)
     → OnOk r (new ≡ old ++ json_of path)

@@ -5,8 +5,7 @@ use Rattle.std.specs.List.{slice_split, position_or_len, join_with_byte}
 use Rattle.std.proofs.lemmas.List.Splits.{slice_split_none, length-slice_split}
 use Rattle.std.proofs.lemmas.List.Splits.{join_with_byte-slice_split}
 use Rattle.std.proofs.lemmas.List.Sums.{fails_before_first}
-use Rattle.pathtool.specs.Texts.{tab}
-use Rattle.pathtool.specs.Texts.{newline}
+use Rattle.pathtool.specs.Texts.{newline, tab}
 
 abbrev pub is_tab : ℕ → Bool
 is_tab b = b == tab
@@ -14,7 +13,7 @@ is_tab b = b == tab
 abbrev pub is_newline : ℕ → Bool
 is_newline b = b == newline
 
--- no byte passes
+-- a string of which no byte passes the test is one stretch
 pub slice_split-whole : (p : ℕ → Bool) (s : List ℕ) → position_or_len p s ≡ length s
     → slice_split p s ≡ s ∷ []
 slice_split-whole p s e =
@@ -25,7 +24,7 @@ has_first : (parts : List (List ℕ)) → 0 < length parts
 has_first [] l = absurd (omega arith)
 has_first (x ∷ xs) l = (x, xs, refl)
 
--- there is a first stretch
+-- a string that is cut has a first stretch
 pub slice_split-cons : (p : ℕ → Bool) (s : List ℕ)
     → (x : List ℕ) × (xs : List (List ℕ)) × (slice_split p s ≡ x ∷ xs)
 slice_split-cons p s = has_first (slice_split p s) (omega (arith, length-slice_split p s))

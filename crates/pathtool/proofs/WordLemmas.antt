@@ -4,18 +4,17 @@ use Rattle.std.proofs.Common.{sym, ap, ◌∙◌, append-nil, append_assoc}
 use Rattle.std.proofs.lemmas.List.{at_drop_more}
 use Rattle.path_runs.specs.declared.edits.Answer.{Answer}
 use Rattle.pathtool.specs.Fields.{tabs}
-use Rattle.pathtool.specs.Texts.{tab}
 use Rattle.pathtool.specs.EditFields.{answer_word}
-use Rattle.pathtool.specs.Texts.{words_of}
+use Rattle.pathtool.specs.Texts.{tab, words_of}
 
--- a list of these bytes and the words
+-- a list of some bytes and of answers' words is the bytes, and each word behind a tab
 pub tabs-words : (bytes : List ℕ) (answers : List Answer)
     → tabs (bytes ∷ map answer_word answers) ≡ bytes ++ words_of answers
 tabs-words bytes [] = sym (append-nil bytes)
 tabs-words bytes (answer ∷ answers) =
     ap (λ more. bytes ++ tab ∷ more) (tabs-words (answer_word answer) answers)
 
--- one more word
+-- bytes, a tab and the next word, before the words that follow, are the bytes before all of them
 pub words-push : (bytes : List ℕ) (answers : List Answer) (n : ℕ) (d : Answer) → n < length answers
     → ((bytes ++ tab ∷ []) ++ answer_word (get_or answers n d)) ++ words_of (drop (n + 1) answers)
     ≡ bytes ++ words_of (drop n answers)

@@ -7,7 +7,7 @@ use Rattle.std.proofs.KnownBytes.{Appends-trans}
 use Rattle.std.specs.Io.KnownBytes.{Appends}
 use Rattle.pathtool.specs.Watched.{AppendsBeginning}
 
--- what was written begins the whole
+-- bytes that were appended, and that begin the whole, are a beginning of it
 pub AppendsBeginning-of : (a b : Option (List ℕ)) (done left all : List ℕ) → Appends a b done
     → done ++ left ≡ all → AppendsBeginning a b all
 AppendsBeginning-of a b done left all h e = (
@@ -16,7 +16,7 @@ AppendsBeginning-of a b done left all h e = (
       ∙ ap (take (length done)) e) h,
 )
 
--- after some bytes a beginning of others was written
+-- some bytes that were appended, and a beginning of the next behind them, are one of the whole
 pub AppendsBeginning-then : (a b c : Option (List ℕ)) (done next left all : List ℕ)
     → Appends a b done → AppendsBeginning b c next → done ++ (next ++ left) ≡ all
     → AppendsBeginning a c all
@@ -28,7 +28,7 @@ AppendsBeginning-then a b c done next left all h (n, k) e =
     ∙ ap (λ l. done ++ l) (sym (append_assoc front (drop n next) left)
     ∙ ap (λ l. l ++ left) (take-append-drop n next)) ∙ e)
 
--- a fact that holds, where the result is an error
+-- a fact that holds anyway holds where the result is an error
 pub OnErr-of : {T E P : Type 0} (r : Result T E) → P → OnErr r P
 OnErr-of (Ok x) h = tt
 OnErr-of (Err e) h = h

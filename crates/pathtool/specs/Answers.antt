@@ -21,10 +21,11 @@ use Rattle.pathtool.specs.Tables.{under_answer}
 use Rattle.pathtool.specs.Walks.{part_bytes, walk_answer}
 use Rattle.pathtool.specs.Fields.{fields_of, tabs, bad_command, truth}
 
--- `-` for nothing, and else `+` and the bytes
+-- `+` and the bytes for some, and `-` for none
 abbrev pub optional : Option (List ℕ) → List ℕ
 optional found = option_map_or (λ bytes. codes "+" ++ bytes) found (codes "-")
 
+-- an order as a word
 abbrev pub order_text : Ordering → List ℕ
 order_text Less = codes "less"
 order_text Equal = codes "equal"

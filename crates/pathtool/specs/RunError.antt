@@ -3,7 +3,7 @@ use Rattle.std.specs.Prelude.{ℕ, List, codes}
 use Rattle.pathtool.specs.declared.run.RunError.{RunError}
 use Rattle.pathtool.specs.declared.run.RunError.TheVariants.{Read, Write, Memory}
 
--- what it is displayed as
+-- what an error of a run is displayed as
 abbrev pub error_text : RunError → List ℕ
 error_text Read = codes "read error"
 error_text Write = codes "write error"

@@ -33,7 +33,7 @@ newline = byte "\n"
 abbrev pub texts : List UnixStr → List (List ℕ)
 texts names = map (λ name. name.bytes.now) names
 
--- there is no name yet
+-- whether a list of names is empty
 abbrev pub has_none : List UnixStr → Bool
 has_none [] = true
 has_none (name ∷ names) = false
@@ -48,7 +48,7 @@ counts_text walked =
     ((decimal (length walked.front.items) ++ tab ∷ []) ++ decimal (length walked.behind.items))
     ++ tab ∷ []
 
--- the items of what is answered of a walk: two counts, the parts in front, the rest, those behind
+-- the items of the answer to a walk: two counts, the parts in front, the rest, the parts behind
 abbrev pub walked_texts : Walked → List (List ℕ)
 walked_texts walked =
     decimal (length walked.front.items) ∷ decimal (length walked.behind.items)

@@ -20,8 +20,8 @@ turn_of letter = lookup (λ key. key == letter) ((byte "f", Front) ∷ (byte "b"
 abbrev pub part_bytes : List ℕ → List (List ℕ)
 part_bytes path = map value_bytes (values path)
 
--- how many parts these letters take in front and behind; the parts in front, the rest, and those
--- behind in the order of taking
+-- how many parts these letters take in front and behind; the parts in front; the rest; and the
+-- parts behind, in the order of taking
 abbrev pub walk_answer : List ℕ → List ℕ → List ℕ
 walk_answer path letters =
     let parts = part_bytes path in

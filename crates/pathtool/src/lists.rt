@@ -11,7 +11,7 @@ use std::alloc::AllocError;
 use unix_bytes::bytes::UnixStr;
 use unix_path::{Component, Path};
 
-// Adds an item of a list, and a tab before it unless it is the first.
+// Adds an item of a list to the answer, and a tab before the item unless it is the first.
 fn push_item(item: &[u8], is_first: bool, answer: &mut Vec<u8>) -> Result<(), AllocError>
     ensures { OnOk result (answer.new.items
         ≡ answer.old.items ++ (if is_first then item.now else tab ∷ item.now)) }
@@ -22,7 +22,7 @@ fn push_item(item: &[u8], is_first: bool, answer: &mut Vec<u8>) -> Result<(), Al
     answer.extend_from_slice(item)
 }
 
-// Adds the items, with a tab between two of them.
+// Adds the items to the answer, with a tab between two of them.
 pub(crate) fn push_list<'a, I: Iterator<Item = UnixStr<'a>>>(
     items: I,
     answer: &mut Vec<u8>,

@@ -1,4 +1,4 @@
-//! Answers that are a name, or another slice of a path, if there is one.
+//! Answers that are a name or another slice of a path, or that there is none.
 ghost use Rattle.std.specs.Prelude.{◌≡◌, ◌++◌, OnOk, option_map};
 ghost use Rattle.unix_path.specs.Parts.{values};
 ghost use Rattle.unix_path.specs.Names.{file_name_of, stem_of, extension_of};
@@ -8,7 +8,7 @@ use std::alloc::AllocError;
 use unix_bytes::bytes::UnixStr;
 use unix_path::Path;
 
-/// Adds `-` to `answer` for nothing, and else `+` and the bytes.
+/// Adds `+` and the bytes to `answer`, or `-` for `None`.
 ///
 /// Allocates only for what it adds; if the allocation fails, the answer is left in any state.
 /// Not in Rust's std.
@@ -27,7 +27,7 @@ pub fn push_optional(found: Option<UnixStr<'_>>, answer: &mut Vec<u8>) -> Result
     }
 }
 
-/// Adds the path's file name to `answer`, if it has one.
+/// Adds `+` and the path's file name to `answer`, or `-` if it has none.
 ///
 /// Allocates only for what it adds; if the allocation fails, the answer is left in any state.
 /// By Rust's `Path::file_name`.
@@ -41,7 +41,7 @@ pub fn push_name(path: Path<'_>, answer: &mut Vec<u8>) -> Result<(), AllocError>
     push_optional(path.file_name(), answer)
 }
 
-/// Adds the stem of the path's file name to `answer`, if it has one.
+/// Adds `+` and the stem of the path's file name to `answer`, or `-` if it has none.
 ///
 /// Allocates only for what it adds; if the allocation fails, the answer is left in any state.
 /// By Rust's `Path::file_stem`.
@@ -55,7 +55,7 @@ pub fn push_stem(path: Path<'_>, answer: &mut Vec<u8>) -> Result<(), AllocError>
     push_optional(path.file_stem(), answer)
 }
 
-/// Adds the extension of the path's file name to `answer`, if it has one.
+/// Adds `+` and the extension of the path's file name to `answer`, or `-` if it has none.
 ///
 /// Allocates only for what it adds; if the allocation fails, the answer is left in any state.
 /// By Rust's `Path::extension`.

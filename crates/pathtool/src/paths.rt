@@ -35,11 +35,11 @@ pub fn push_canon(path: Path<'_>, answer: &mut Vec<u8>) -> Result<(), AllocError
     ensures { OnOk result (answer.new.items
         ≡ answer.old.items ++ spelling_of (values path.entry.bytes.now)) }
 {
-    let spelled = canonical(*answer.allocator(), path)?;
-    answer.extend_from_slice(spelled.as_path().as_unix_str().as_bytes())
+    let spelling = canonical(*answer.allocator(), path)?;
+    answer.extend_from_slice(spelling.as_path().as_unix_str().as_bytes())
 }
 
-/// Adds the path's parent to `answer`, if it has one.
+/// Adds `+` and the path's parent to `answer`, or `-` if it has none.
 ///
 /// Allocates only for what it adds; if the allocation fails, the answer is left in any state.
 /// By Rust's `Path::parent`.
@@ -56,9 +56,9 @@ pub fn push_parent(path: Path<'_>, answer: &mut Vec<u8>) -> Result<(), AllocErro
     }
 }
 
-/// Adds what is left of the path after the parts of `base` to `answer`.
+/// Adds `+` and what is left of the path after the parts of `base` to `answer`, or `prefix not
+/// found` if the path's first parts aren't those of `base`.
 ///
-/// `prefix not found` where the path's first parts aren't those of `base`.
 /// Allocates only for what it adds; if the allocation fails, the answer is left in any state.
 /// By Rust's `Path::strip_prefix`.
 ///

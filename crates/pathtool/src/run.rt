@@ -1,6 +1,6 @@
 //! Reads lines to the end of an input, and writes the answer to each.
 ghost use Rattle.std.specs.Prelude.{◌≡◌, ◌↔◌, false, IsTrue, IfOk, OnOk, OnErr, IfErr, IfSome};
-ghost use Rattle.std.specs.Prelude.{Some, IsErrOf, codes};
+ghost use Rattle.std.specs.Prelude.{Some, IsErrOf};
 ghost use Rattle.std.specs.Io.KnownBytes.{Appends, Consumes, IsAtEnd, Keeps};
 ghost use Rattle.pathtool.specs.Watched.{has_failed, has_ended, is_flushed, watched_inner};
 ghost use Rattle.pathtool.specs.Watched.{AppendsBeginning};
@@ -18,8 +18,8 @@ use std::io::{Read, Write};
 
 /// Why a run gave up.
 ///
-/// Displayed as `read error`, `write error` or `out of memory`, padded like a text. Not in
-/// Rust's std.
+/// Displayed as `read error`, `write error` or `out of memory`, padded as text is. Not in Rust's
+/// std.
 ///
 /// `RunError::Memory` is displayed as `out of memory`.
 #[derive(Clone, Copy, Debug, PartialEq, Eq)]
@@ -32,7 +32,7 @@ pub enum RunError {
     Memory,
 }
 
-/// The text of the error, padded like a text.
+/// The text of the error, padded as text is.
 impl fmt::Display for RunError {
     ghost output = { λ error. Some (error_text error) };
 
@@ -56,7 +56,7 @@ impl From<AllocError> for RunError {
     }
 }
 
-// Reads to the end.
+// Reads to the end, and gives all bytes.
 fn read_whole<R: Read>(alloc: Global, reader: &mut Watched<R>) -> Result<Vec<u8>, RunError>
     requires failed { has_failed reader.old ≡ false }
     requires ended { has_ended reader.old ≡ false }
@@ -132,9 +132,8 @@ fn write_answers<W: Write>(
 /// Reads the input to its end, writes the answer to each of its lines and a newline, and flushes.
 ///
 /// An input without lines is answered with nothing. Allocates for the input and for one answer; a
-/// failed allocation is `Memory`.
-/// A failed read is `Read`, and then nothing was written. A failed write or flush, or a write that
-/// takes none of some bytes, is `Write`. Not in Rust's std.
+/// failed allocation is `Memory`. A failed read is `Read`, and then nothing was written. A failed
+/// write or flush, or a write that takes none of some bytes, is `Write`. Not in Rust's std.
 ///
 /// The input `parts`, a tab, `a//b` and a newline is answered `a`, a tab, `b` and a newline.
 pub fn run<R: Read, W: Write>(
@@ -151,11 +150,11 @@ pub fn run<R: Read, W: Write>(
     ensures ended { OnOk result (IsTrue (has_ended reader.new)) }
     ensures flushed { OnOk result (IsTrue (is_flushed writer.new)) }
 
-    // Each error comes exactly where its end has failed, and `Memory` in no such case.
+    // `Read` comes exactly where the reader has failed, and `Write` where the writer has.
     ensures read { IsErrOf result RunError.Read ↔ IsTrue (has_failed reader.new) }
     ensures write { IsErrOf result RunError.Write ↔ IsTrue (has_failed writer.new) }
 
-    // What was written by then.
+    // What a run that fails has written.
     ensures err { OnErr result (IfSome (R.remaining (watched_inner reader.old)) (λ input.
         AppendsBeginning (W.contents (watched_inner writer.old))
         (W.contents (watched_inner writer.new)) (output_of input))) }

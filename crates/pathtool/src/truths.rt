@@ -10,7 +10,7 @@ use std::alloc::AllocError;
 use std::cmp::Ordering;
 use unix_path::Path;
 
-// Adds `true` or `false`.
+// Adds `true` or `false` to the answer.
 fn push_truth(is_so: bool, answer: &mut Vec<u8>) -> Result<(), AllocError>
     ensures { OnOk result (answer.new.items ≡ answer.old.items ++ truth is_so) }
 {

@@ -10,9 +10,9 @@ use std::io::{Read, Write};
 
 /// A reader or a writer, and whether it has failed, has ended or is flushed.
 ///
-/// It has failed once a call has failed, or once a write of some bytes took none. It has ended once
-/// a read with room for a byte found none. Both stay true. It is flushed from a flush that was Ok
-/// to the next write or flush. Not in Rust's std.
+/// It has failed from the first call on that failed, or write of some bytes that took none. It has
+/// ended from the first read on that had room for a byte and found none. It is flushed from a flush
+/// that was Ok to the next write or flush. Not in Rust's std.
 ///
 /// `Watched::new(b"a".as_slice())` has ended after two reads.
 #[derive(Drop)]
@@ -24,7 +24,7 @@ pub struct Watched<T> {
 }
 
 impl<T> Watched<T> {
-    /// Watches `inner`, which has neither failed nor ended, nor is flushed.
+    /// Watches `inner`, as one that hasn't failed, hasn't ended and isn't flushed.
     ///
     /// Does not allocate. Not in Rust's std.
     ///
@@ -79,7 +79,7 @@ impl<T> Watched<T> {
         *flushed
     }
 
-    /// The reader or the writer.
+    /// Gives back the reader or the writer.
     ///
     /// Does not allocate. Not in Rust's std.
     ///

@@ -5,7 +5,7 @@ use Rattle.std.proofs.lemmas.List.{nil_from_length}
 use Rattle.pathtool.specs.Answers.{answer_of, output_of}
 use Rattle.pathtool.specs.Texts.{newline}
 use Rattle.pathtool.specs.Watched.{AppendsBeginning}
-use Rattle.pathtool.proofs.LineLemmas.{output_of-done, output_of-next, written_next}
+use Rattle.pathtool.proofs.LineLemmas.{output_of-done, output_of-next, writes_answer}
 use Rattle.pathtool.proofs.WrittenLemmas.{AppendsBeginning-of, AppendsBeginning-then, OnErr-of}
 use Rattle.pathtool.proofs.run.write_answers.Goals as goal
 
@@ -18,7 +18,7 @@ pub returns-in_err-write_whole-clause-err : goal.returns-in_err-write_whole-clau
 returns-in_err-write_whole-clause-err g c =
     let (done, h, e) = c.loop-left.invariant.1 in
     let (line, rest) = c.first_line.result in
-    let next = written_next line.now c.as_slice.ensures.value c.in_ok-push_answer_line.ensures
+    let next = writes_answer line.now c.as_slice.ensures.value c.in_ok-push_answer_line.ensures
     c.clear.ensures.items in
     OnErr-of c.from_residual-in_err-write_whole.result
     (AppendsBeginning-then _ _ _ done (answer_of line.now ++ newline ∷ []) (output_of rest.now) _ h
@@ -30,7 +30,7 @@ loop-left-preserved g c =
     let (done, h, e) = c.loop-left.invariant.1 in
     let (line, rest) = c.first_line.result in
     let answer = answer_of line.now ++ newline ∷ [] in
-    let next = written_next line.now c.as_slice.ensures.value c.in_ok-push_answer_line.ensures
+    let next = writes_answer line.now c.as_slice.ensures.value c.in_ok-push_answer_line.ensures
     c.clear.ensures.items in (
       search rules,
       (
