@@ -6,11 +6,11 @@ use std::alloc::{AllocError, Global};
 // How many blocks are held at most.
 const BLOCKS: usize = 50_000;
 
-// How many blocks can be given back one by one.
+// How many blocks of `STEP` bytes can be given back one by one.
 const STEPS: usize = 200;
 
-// How many bytes such a block has: more than those that the C library keeps apart by their size, so
-// that neighbouring blocks become one again.
+// How many bytes a block has that can be given back alone: more than the blocks that the C library
+// keeps apart by their size, so that neighbouring blocks become one again.
 const STEP: usize = 2048;
 
 // How many sizes of short blocks the C library keeps apart, in steps of 16 bytes.
@@ -18,7 +18,7 @@ const SIZES: usize = 66;
 
 /// All memory that the process can still get. Dropping it gives the memory back.
 ///
-/// While it is held, an allocation fails, but for a growth in place. It rests on the C library's
+/// While it is held an allocation fails, except for a growth in place. It rests on the C library's
 /// allocator and on a finite address space. Not in Rust's std.
 ///
 /// With `let _drought = Drought::begin(alloc)?;` in scope, `Vec::<u8>::with_capacity(alloc, 1)` is
@@ -32,9 +32,10 @@ pub struct Drought {
 impl Drought {
     /// Takes all memory, or gives `None` if the process can get more than 50,000 blocks.
     ///
-    /// Fails if the lists of the blocks can't be allocated; then no memory is held.
+    /// Allocates all that it can get. Fails if the lists of the blocks can't be allocated; then no
+    /// memory is held. Not in Rust's std.
     ///
-    /// Under an allocator that takes any request, as that of a checker of memory, it is `None`.
+    /// Under an allocator that grants any request, as that of a checker of memory, it is `None`.
     pub fn begin(alloc: Global) -> Result<Option<Drought>, AllocError> {
         let mut steps = Vec::with_capacity(alloc, STEPS)?;
         for _ in 0..STEPS {
@@ -56,15 +57,17 @@ impl Drought {
         Ok(Some(Drought { steps, blocks }))
     }
 
-    /// Gives back a block of 2,048 bytes, or answers false if none of the 200 is left.
+    /// Gives back a block of 2,048 bytes. False if none of the 200 is left.
     ///
-    /// After it an allocation of 2,048 bytes succeeds, and one of 4,096 bytes fails.
+    /// Does not allocate. Not in Rust's std.
+    ///
+    /// After a first call an allocation of 2,048 bytes succeeds, and one of 4,096 bytes fails.
     pub fn ease(&mut self) -> bool {
         self.steps.pop().is_some()
     }
 }
 
-// Takes blocks of this length until an allocation fails. False if more come than can be held.
+// Takes blocks of `len` bytes until an allocation fails. False if there are more than can be held.
 fn takes_all(blocks: &mut Vec<Vec<u8>>, alloc: Global, len: usize) -> bool {
     for _ in blocks.len()..blocks.capacity() {
         let Ok(block) = Vec::with_capacity(alloc, len) else {

@@ -1,4 +1,4 @@
-//! Rows of calls, each of which shows a rule, callers, and a table beside a plain list.
+//! Rows of calls of a table, its callers, and a table beside a plain list.
 mod beside_list;
 mod callers;
 

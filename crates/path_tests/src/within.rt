@@ -9,7 +9,7 @@ use path_within::WithinError;
 use std::alloc::{AllocError, Global};
 use unix_path::PathBuf;
 
-// Whether the join was made, and has these bytes; or was refused, where none are wanted.
+// Whether the join was made and has these bytes, or was refused where none are wanted.
 fn is_joined(joined: Result<PathBuf, WithinError>, want: Option<&[u8]>) -> bool {
     match joined {
         Ok(path) => want == Some(path.as_path().as_unix_str().as_bytes()),
@@ -18,7 +18,7 @@ fn is_joined(joined: Result<PathBuf, WithinError>, want: Option<&[u8]>) -> bool 
     }
 }
 
-// The strings over these letters, shorter ones first, of which so many are the beginning of longer.
+// The strings over these letters, shorter ones first; the first `shorter` of them are made longer.
 fn strings_over(alloc: Global, letters: &[u8], shorter: usize) -> Result<Vec<Vec<u8>>, AllocError> {
     let mut strings = Vec::new(alloc);
     strings.push(Vec::new(alloc))?;

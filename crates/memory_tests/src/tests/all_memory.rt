@@ -1,8 +1,9 @@
+//! What a `Drought` promises: no request is granted while it is held.
 use memory_drought::Drought;
 use std::test::Fail;
 
-// With another allocator than the C library's, as that of a checker of memory, this test fails, and
-// so do the others that take a `Drought`.
+// With another allocator than the C library's, as that of a checker of memory, this and all other
+// tests that take a `Drought` fail.
 #[test]
 fn all_memory_is_taken_and_given_back(rt: HostRuntime) -> Result<(), Fail> {
     let alloc = rt.alloc();

@@ -1,3 +1,4 @@
+//! Buffers of paths while allocations fail.
 use super::drought;
 use std::alloc::Global;
 use std::test::Fail;
@@ -12,7 +13,7 @@ fn holds(buffer: &PathBuf, text: &str) -> bool {
     buffer.as_path().as_unix_str() == UnixStr::new(text)
 }
 
-// Pushes these until one is refused, and says whether none was.
+// Pushes the paths until one is refused, and says whether none was.
 fn pushes_all(buffer: &mut PathBuf, paths: &[Path<'_>]) -> bool {
     for path in paths {
         if buffer.push(*path).is_err() {
@@ -227,7 +228,7 @@ fn separators_are_refused_without_memory(rt: HostRuntime) -> Result<(), Fail> {
     Ok(())
 }
 
-// Each allocation of `extend` fails in some round, and what was pushed before it stays.
+// Each allocation of `extend` fails in some round, and what was pushed before that one stays.
 #[test]
 fn a_failed_extend_keeps_the_pushes_before(rt: HostRuntime) -> Result<(), Fail> {
     let alloc = rt.alloc();

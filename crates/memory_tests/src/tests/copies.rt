@@ -1,3 +1,4 @@
+//! Copies of paths while allocations fail.
 use super::drought;
 use std::alloc::Global;
 use std::test::Fail;

@@ -1,3 +1,4 @@
+//! Errors of JSON while allocations fail.
 use super::drought;
 use serde_json::Value;
 use std::alloc::Global;
@@ -5,7 +6,7 @@ use std::test::Fail;
 use unix_path::Path;
 use unix_path::json::{JsonError, from_json, to_json};
 
-// Bytes that aren't text are told before anything is requested.
+// Whether bytes that aren't text are refused before anything is requested.
 fn is_not_text(alloc: Global) -> bool {
     matches!(
         to_json(alloc, Path::from_bytes(b"f\xff")),

@@ -1,3 +1,4 @@
+//! Edits, walks and spellings while allocations fail.
 use super::drought;
 use path_runs::canonical::canonical;
 use path_runs::edits::{Edit, apply, rejoin};

@@ -1,3 +1,4 @@
+//! Byte strings while allocations fail.
 use super::drought;
 use std::test::Fail;
 use unix_bytes::bytes::{LossyText, UnixStr, UnixString};

@@ -6,7 +6,7 @@ use unix_bytes::lossy::{Utf8Lossy, Utf8LossyChunk};
 use unix_path::Path;
 use unix_path::bytes::UnixStr;
 
-// The piece, so many times.
+// The piece, `count` times.
 fn repeated(alloc: Global, piece: &str, count: usize) -> Result<Vec<u8>, AllocError> {
     let mut bytes = Vec::new(alloc);
     for _ in 0..count {

@@ -16,7 +16,7 @@ const LISTS: usize = 511;
 
 const SHORTER_LISTS: usize = 255;
 
-// The strings over these letters, shorter ones first, of which so many are the beginning of longer.
+// The strings over these letters, shorter ones first; the first `shorter` of them are made longer.
 fn strings_over(alloc: Global, letters: &[u8], shorter: usize) -> Result<Vec<Vec<u8>>, AllocError> {
     let mut strings = Vec::new(alloc);
     strings.push(Vec::new(alloc))?;

@@ -86,7 +86,7 @@ impl Plain {
     }
 }
 
-// One call of each of the two, and whether they answer alike.
+// Makes one call of the table and one of the list, and says whether they answer alike.
 fn answers_alike(
     alloc: Global,
     random: &mut Random,

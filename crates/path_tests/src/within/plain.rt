@@ -55,7 +55,7 @@ pub(super) fn spelled(
     Ok(bytes)
 }
 
-// The path resolved.
+// What a plain reading resolves the path to.
 pub(super) fn resolved_of(alloc: Global, path: &[u8]) -> Result<Vec<u8>, AllocError> {
     let pieces = pieces_left(alloc, path)?;
     spelled(alloc, is_rooted(path), pieces.as_slice())

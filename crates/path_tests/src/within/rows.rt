@@ -1,4 +1,4 @@
-//! Rows of the calls.
+//! Rows of resolved paths, joins under a root, and ways.
 use super::is_joined;
 use path_within::resolved::resolved;
 use path_within::way::way;

@@ -42,8 +42,8 @@ fn bytes_of(path: &PathBuf) -> &[u8] {
     path.as_path().as_unix_str().as_bytes()
 }
 
-// Whether the join within is the plain one, or is refused where the request climbs; and whether it
-// starts with the resolved root, and has the resolved request behind it.
+// Whether the join within is what a plain reading resolves the join to, or is refused where the
+// request climbs; and whether it is the resolved root and behind it the resolved request.
 fn stays_within(
     alloc: Global,
     root: &Short<'_>,
@@ -65,7 +65,8 @@ fn stays_within(
     Ok(is_behind && bytes_of(&joined) == want.as_slice())
 }
 
-// The same of the plain join.
+// Whether the plain join is the join that `Path` makes, or is refused where the request has a root
+// or a `..`; and whether the join starts with the root.
 fn stays_plain(alloc: Global, root: &Short<'_>, request: &Short<'_>, whole: &PathBuf) -> bool {
     let joined = join_plain(alloc, root.path, request.path);
     if request.has_root_or_up {
@@ -108,7 +109,7 @@ fn leads_there(alloc: Global, from: &Short<'_>, to: &Short<'_>) -> Result<bool, 
     }
 }
 
-// Whether all of this holds of the two.
+// Whether the joins of two paths stay below the first, and the way leads to the second.
 fn are_joined(alloc: Global, a: &Short<'_>, b: &Short<'_>) -> Result<bool, AllocError> {
     let whole = a.path.join(alloc, b.path)?;
     Ok(

@@ -1,3 +1,4 @@
+//! Rows of the commands that answer with a walk, edits, a table, a text or a path.
 use crate::run::run;
 use crate::watched::Watched;
 use std::alloc::{AllocError, Global};

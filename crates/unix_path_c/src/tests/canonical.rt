@@ -34,7 +34,7 @@ static SPELLINGS: [(&'static [u8], &'static [u8]); 27] = [
     (b"/./a\xffb", b"/a\xffb"),
 ];
 
-// Whether each buffer, from none to more than enough bytes, is answered the length and written to.
+// Whether the call gives the length and writes what it should, in buffers of 0 to 31 bytes.
 fn is_answered(path: &[u8], want: &[u8]) -> bool {
     for room in 0..32usize {
         let mut buffer = [b'#'; 32];

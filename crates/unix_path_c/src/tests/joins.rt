@@ -22,7 +22,7 @@ static JOINS: [(&'static str, &'static str, &'static str); 16] = [
     ("/etc", "passwd", "/etc/passwd"),
 ];
 
-// A path, a file name, and the path with it.
+// A path, a file name, and the path with that file name.
 static NAMES: [(&'static str, &'static str, &'static str); 14] = [
     ("foo", "foo", "foo"),
     ("foo", "bar", "bar"),
@@ -40,7 +40,7 @@ static NAMES: [(&'static str, &'static str, &'static str); 14] = [
     ("a//b/", "..", "a/.."),
 ];
 
-// A path, an extension, and the path with it.
+// A path, an extension, and the path with that extension.
 static EXTENSIONS: [(&'static str, &'static str, &'static str); 19] = [
     ("foo", "txt", "foo.txt"),
     ("foo.bar", "txt", "foo.txt"),
@@ -78,7 +78,7 @@ fn answer(call: Call, path: &str, more: &str, out: &mut [u8]) -> usize {
     }
 }
 
-// Whether each buffer, from none to more than enough bytes, is answered the length and written to.
+// Whether the call gives the length and writes what it should, in buffers of 0 to 31 bytes.
 fn is_answered(call: Call, path: &str, more: &str, want: &str) -> bool {
     for room in 0..32usize {
         let mut buffer = [b'#'; 32];

@@ -41,7 +41,7 @@ static TEXTS: [(&'static [u8], &'static [u8]); 19] = [
     (b"", b""),
 ];
 
-// Whether each buffer, from none to more than enough bytes, is answered the length and written to.
+// Whether the call gives the length and writes what it should, in buffers of 0 to 31 bytes.
 fn is_answered(path: &[u8], want: &[u8]) -> bool {
     for room in 0..32usize {
         let mut buffer = [b'#'; 32];

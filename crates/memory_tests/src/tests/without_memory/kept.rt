@@ -1,3 +1,4 @@
+//! Boxed, shared, and borrowed or owned paths need no memory for what promises so.
 use super::super::drought;
 use super::{debug_has, display_has, hash_same, is_view, path};
 use std::alloc::{AllocError, Global};

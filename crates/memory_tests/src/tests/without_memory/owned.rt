@@ -1,3 +1,4 @@
+//! Buffers, walks, spellings and edits need no memory for what promises so.
 use super::super::drought;
 use super::{debug_has, hash_same, path};
 use path_runs::canonical::canonical;

@@ -1,3 +1,4 @@
+//! Tables need no memory for what promises so.
 use super::super::drought;
 use path_table::PathTable;
 use std::test::Fail;

@@ -1,3 +1,4 @@
+//! Byte strings and texts need no memory for what promises so.
 use super::super::drought;
 use super::{debug_has, display_has, hash_same};
 use std::alloc::Global;

@@ -1,3 +1,4 @@
+//! Views of paths need no memory for what promises so.
 use super::super::drought;
 use super::{debug_has, display_has, hash_same, is_view, path};
 use std::cmp::Ordering;

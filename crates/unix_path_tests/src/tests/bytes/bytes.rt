@@ -1,3 +1,4 @@
+//! Rows of views and owned byte strings, and of the table of RFC 3629.
 use std::cmp::Ordering;
 use std::hash::{DefaultHasher, Hash, Hasher};
 use std::test::Fail;

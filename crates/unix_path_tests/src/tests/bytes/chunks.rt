@@ -1,3 +1,4 @@
+//! Rows of chunks and of lossy text, and what a caller proves of them.
 ghost use Rattle.std.specs.Prelude.{◌≡◌, IfOk, map};
 ghost use Rattle.std.specs.String.{string_bytes};
 ghost use Rattle.unix_bytes.specs.Lossy.{lossy_of};
@@ -25,14 +26,14 @@ fn widths_by_first_byte(rt: HostRuntime) {
     }
 }
 
-// What a caller can prove of the chunks that it collects.
+// What a caller can prove of the chunks of some bytes that it collects.
 fn collected<'a>(alloc: Global, bytes: &'a [u8]) -> Result<Vec<Utf8LossyChunk<'a>>, AllocError>
     ensures { IfOk result (λ v. map chunk_of v.items ≡ chunks_of bytes.now) }
 {
     Utf8Lossy::from_bytes(bytes).chunks().collect(alloc)
 }
 
-// And of the text that it prints.
+// What a caller can prove of the text that it prints.
 fn displayed(alloc: Global, bytes: &[u8]) -> Result<String, AllocError>
     ensures { IfOk result (λ text. string_bytes text ≡ lossy_of bytes.now) }
 {
@@ -134,7 +135,7 @@ fn long_runs(rt: HostRuntime) {
     }
 }
 
-// A text of each width, and where the sequence begins that a place is in.
+// A sequence of each width, and where the sequence begins that stands at a place.
 const WIDTHS: [u8; 10] = *b"a\xC3\xA9\xE7\x8E\xBB\xF0\x9F\xA6\x80";
 
 const STARTS: [usize; 10] = [0, 1, 1, 3, 3, 3, 6, 6, 6, 6];
@@ -158,7 +159,7 @@ fn long_mixed_runs(rt: HostRuntime) {
     }
 }
 
-// The first chunk has so many bytes of text and then so many that are broken.
+// Whether the first chunk has `text` bytes of text and `broken` bytes behind that are broken.
 fn is_broken_at(bytes: &[u8], text: usize, broken: usize) -> bool {
     match Utf8Lossy::from_bytes(bytes).chunks().next() {
         Some(chunk) => chunk.valid.len() == text && chunk.broken.len() == broken,

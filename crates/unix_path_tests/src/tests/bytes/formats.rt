@@ -1,3 +1,4 @@
+//! Rows of printed byte strings, and writers that fail.
 use std::alloc::Global;
 use std::fmt;
 use std::fmt::Write;
@@ -57,7 +58,7 @@ fn debug_texts(rt: HostRuntime) -> Result<(), Fail> {
     Ok(())
 }
 
-// Takes some writes, and refuses each after them.
+// A writer that takes `most` writes, and refuses all others.
 #[derive(Drop)]
 struct Refusing {
     text: String,
@@ -88,8 +89,8 @@ impl fmt::Write for Refusing {
     }
 }
 
-// Display fails where the writer does, writes no more, and fails nowhere else: one write after the
-// other is the one that fails, until all succeed.
+// Display fails where the writer does, writes no more, and fails nowhere else. Each write fails in
+// some round, and in the last round none does.
 #[test]
 fn failing_writers(rt: HostRuntime) -> Result<(), Fail> {
     let alloc = rt.alloc();
@@ -130,7 +131,7 @@ fn failing_writers_of_debug(rt: HostRuntime) -> Result<(), Fail> {
     Ok(())
 }
 
-// An error came from the one write that failed, and success is the whole text.
+// Whether an error came from the one write that failed, or else the whole text was written.
 fn keeps_to(writer: &Refusing, answer: fmt::Result, whole: &str) -> bool {
     let text = writer.text.as_str();
     match answer {

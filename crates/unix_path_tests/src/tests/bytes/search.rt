@@ -1,8 +1,8 @@
-//! Places of bytes, and common fronts.
+//! Rows of places of bytes, and of how long a common beginning is.
 use std::process::Abort;
 use unix_bytes::search::{common_len, first_place, past_last};
 
-// Where `:` stands first, and just after it stands last.
+// Asserts where `:` stands first, and which place is just after the last one.
 fn assert_places(rt: &impl Abort, bytes: &[u8], first: usize, past: usize) {
     assert_eq!(rt; first_place(bytes, b':'), first);
     assert_eq!(rt; past_last(bytes, b':'), past);
@@ -27,8 +27,8 @@ fn long_bytes(rt: HostRuntime) {
     assert_places(&rt, b"123456789abcdef0:23456789abcdef01", 16, 17);
 }
 
-// The second row has the first byte that differs in the last lane of a window, the next two just
-// before and just behind one.
+// The second row has the first byte that differs in the last lane of a window; the third and fourth
+// rows differ behind a window.
 static COMMON: [(&[u8], &[u8], usize); 12] = [
     (b"a/b", b"a/c", 2),
     (b"123456789abcdef0", b"123456789abcdefg", 15),

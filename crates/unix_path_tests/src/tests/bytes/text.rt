@@ -1,3 +1,4 @@
+//! Rows of lossy texts, borrowed and owned.
 use std::alloc::{AllocError, Global};
 use std::cmp::Ordering;
 use std::hash::{DefaultHasher, Hash, Hasher};
@@ -20,7 +21,7 @@ fn borrowed_and_owned_are_alike(rt: HostRuntime) -> Result<(), Fail> {
     Ok(())
 }
 
-// The text of 61 FF, plain, padded, cut and as its debug form.
+// Whether the text of 61 FF is printed right: plain, padded, cut and in its debug form.
 fn is_printed(alloc: Global, text: &LossyText<'_>) -> Result<bool, AllocError> {
     Ok(
         format!(in alloc; "{text}")?.as_str() == "a\u{FFFD}"
@@ -30,7 +31,7 @@ fn is_printed(alloc: Global, text: &LossyText<'_>) -> Result<bool, AllocError> {
     )
 }
 
-// They go by their bytes, a proper beginning being the lesser.
+// Lossy texts are ordered by their bytes, and a proper beginning is less.
 #[test]
 fn texts_in_order(rt: HostRuntime) -> Result<(), Fail> {
     let alloc = rt.alloc();
