@@ -27,7 +27,7 @@ overlay-bytes_over first second old =
     (drop-bytes_over first old (length second)
     ∙ ap (λ n. drop n old) (sym (length-append first second)))
 
--- bytes put at the beginning
+-- bytes put at place 0 are put at the beginning
 overlay-first : (bytes old : List ℕ) → overlay 0 bytes old ≡ bytes_over bytes old
 overlay-first bytes old = overlay-bytes_over [] bytes old
 

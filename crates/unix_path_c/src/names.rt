@@ -1,4 +1,5 @@
-//! A quick step over the last part that is left of a walk, where that is a name behind a name.
+//! A quick step over the last part that is left of a walk, where the bytes end in a name and a few
+//! of them tell what is left before it.
 ghost use Rattle.std.specs.Prelude.{◌≡◌, ◌<◌, ◌==◌, false, length, IfSome, IsTrue};
 ghost use Rattle.unix_path.specs.Parts.{dot, slash};
 ghost use Rattle.unix_path_c.specs.Steps.{EndsInName};

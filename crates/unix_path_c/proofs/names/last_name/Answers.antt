@@ -1,30 +1,34 @@
-use Rattle.std.proofs.Common.{refl}
+use Rattle.std.proofs.Common.{◌-◌, length, refl}
 use Rattle.unix_path.specs.Steps.{IsLastStart}
-use Rattle.unix_path_c.proofs.NameLemmas.{name_after, name_first}
+use Rattle.unix_path_c.proofs.NameLemmas.{IsPlain, name_after, name_first}
 use Rattle.unix_path_c.proofs.names.last_name.Goals as goal
+use Rattle.unix_path_c.proofs.names.last_name.Goals.{After-past_last-start}
+
+is_last_start : (c : After-past_last-start)
+    → IsLastStart c.args.bytes.now c.past_last-start.result
+is_last_start c = record {
+  in_range = c.past_last-start.ensures.in_range;
+  after_slash = c.past_last-start.ensures.after;
+  no_slash = c.past_last-start.ensures.none_behind;
+}
+
+ends_plain : (c : After-past_last-start)
+    → IsPlain c.args.bytes.now (length c.args.bytes.now - 1)
+ends_plain c = record {
+  no_slash = c.if-not-is_plain.ensures.no_slash refl;
+  no_dot = c.if-not-is_plain.ensures.no_dot refl;
+}
 
 pub returns-then-start-lt2 : goal.returns-then-start-lt2
 returns-then-start-lt2 c =
-    let last = c.if-not-is_plain.ensures in
-    let start = c.past_last-start in
-    let is : IsLastStart c.args.bytes.now start.result = record {
-      in_range = start.ensures.in_range;
-      after_slash = start.ensures.after;
-      no_slash = start.ensures.none_behind;
-    } in
-    name_first c.args.bytes.now start.result c.requires
-    (record { no_slash = last.no_slash refl; no_dot = last.no_dot refl }) is c.if-start-lt2.true
+    let d = (goal.at.returns-then-start-lt2 c).After-past_last-start in
+    name_first c.args.bytes.now c.past_last-start.result c.requires (ends_plain d)
+    (is_last_start d) c.if-start-lt2.true
 
 pub returns-then-is_plain : goal.returns-then-is_plain
 returns-then-is_plain c =
-    let last = c.if-not-is_plain.ensures in
-    let start = c.past_last-start in
+    let d = (goal.at.returns-then-is_plain c).After-past_last-start in
     let before = c.if-is_plain.ensures in
-    let is : IsLastStart c.args.bytes.now start.result = record {
-      in_range = start.ensures.in_range;
-      after_slash = start.ensures.after;
-      no_slash = start.ensures.none_behind;
-    } in
-    name_after c.args.bytes.now start.result c.requires
-    (record { no_slash = last.no_slash refl; no_dot = last.no_dot refl }) is c.if-start-lt2.false
+    name_after c.args.bytes.now c.past_last-start.result c.requires (ends_plain d)
+    (is_last_start d) c.if-start-lt2.false
     (record { no_slash = before.no_slash refl; no_dot = before.no_dot refl })
