@@ -7,7 +7,7 @@ use Rattle.std.proofs.KnownBytes.{Appends-trans}
 use Rattle.std.specs.Io.KnownBytes.{Appends}
 use Rattle.pathtool.specs.Watched.{AppendsBeginning}
 
--- bytes that were appended, and that begin the whole, are a beginning of it
+-- bytes that were appended and that begin the whole are a beginning of it
 pub AppendsBeginning-of : (a b : Option (List ℕ)) (done left all : List ℕ) → Appends a b done
     → done ++ left ≡ all → AppendsBeginning a b all
 AppendsBeginning-of a b done left all h e = (
@@ -16,7 +16,7 @@ AppendsBeginning-of a b done left all h e = (
       ∙ ap (take (length done)) e) h,
 )
 
--- some bytes that were appended, and a beginning of the next behind them, are one of the whole
+-- some bytes that were appended, and behind them a beginning of the next, begin the whole
 pub AppendsBeginning-then : (a b c : Option (List ℕ)) (done next left all : List ℕ)
     → Appends a b done → AppendsBeginning b c next → done ++ (next ++ left) ≡ all
     → AppendsBeginning a c all
