@@ -1,4 +1,4 @@
-"""How far the proof of a crate is, on standard error, and what the prover says where it fails."""
+"""Shows on standard error how far the proof of a crate is, and what the prover says if it fails."""
 import contextlib
 import re
 import subprocess
@@ -56,8 +56,8 @@ class Progress:
 
 
 def call_prover(words, folder, progress):
-    """Runs a command that proves a crate; shows how far it is, and all that it said where it fails.
-    The number of functions, or None where it proved nothing since that was done before."""
+    """Runs a command that proves a crate. Shows how far it is and, if it fails, all that it said.
+    Gives the number of functions, or None if it proved nothing since that was done before."""
     with tempfile.TemporaryFile("w+", errors="replace") as log:
         process = subprocess.Popen(words, cwd=folder, text=True, errors="replace",
                                    stdin=subprocess.DEVNULL,
@@ -80,7 +80,7 @@ def call_prover(words, folder, progress):
 
 
 def total(counts, start):
-    """What was proved of so many crates since then, in a line."""
+    """A line that says what was proved of so many crates since that start."""
     proved = [it for it in counts if it is not None]
     before = f", {len(counts) - len(proved)} before" if len(proved) < len(counts) else ""
     return (f"proved {sum(proved)} functions of {len(proved)} crates in "

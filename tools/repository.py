@@ -21,7 +21,7 @@ def read_lines():
 
 
 def read_crates():
-    """The crates of crates.txt, each with those of them that it stands on."""
+    """The crates of crates.txt, each with the crates among them that it stands on."""
     lines = read_lines()
     return {name: [it for it in line.libraries if it in lines] for name, line in lines.items()}
 
@@ -31,7 +31,7 @@ def is_program(crate):
 
 
 def built_of(crate):
-    """Where a program, or a library for C, stands once it is built."""
+    """The path of a program, or of a library for C, once it is built."""
     return f"crates/{crate}/out/{crate if is_program(crate) else f'lib{crate}.a'}"
 
 

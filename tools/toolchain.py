@@ -8,7 +8,7 @@ from repository import ROOT
 
 
 def check_toolchain():
-    """Stops where there is no toolchain, and warns of one that the proofs were not tried with."""
+    """Stops if there is no toolchain, and warns of one that the proofs were not tried with."""
     with open(f"{ROOT}/rattle-toolchain", encoding="utf-8") as file:
         wanted = file.read().strip()
     if not shutil.which("rt"):

@@ -1,4 +1,4 @@
-"""The wrong bodies of a crate, its edits in must-fail/, and in which function each is."""
+"""The wrong bodies of a crate, which are its edits in must-fail/, and the function of each."""
 import dataclasses
 import functools
 import glob
@@ -52,8 +52,8 @@ def read_text(crate, file):
 
 
 def body_lines(lines, head, indent):
-    """The numbers of the first line in the body of a function and of its last, as rt fmt lays it
-    out; None where both are one."""
+    """The numbers of the first line in the body of a function and of the line that closes it, as rt
+    fmt lays it out; None if the body has no line of its own."""
     begin = None
     for number in range(head, len(lines)):
         line = lines[number]
@@ -68,8 +68,8 @@ def body_lines(lines, head, indent):
 
 
 def place_of(crate, file, lines, head):
-    """Where the function at this line stands as a check says it: in a module, in the impl of a
-    type, whose file may be another, or in the impl of a trait for one."""
+    """The place of the function at this line, as a check names it: its module; or the type of the
+    impl that it is in, which may stand in another file, with the trait if there is one."""
     if lines[head].startswith(" "):
         number = max(number for number in range(head) if lines[number].startswith("impl"))
         impl = IMPL.match(lines[number])

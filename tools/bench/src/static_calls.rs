@@ -1,5 +1,5 @@
-//! The calls of `include/unix_path.h` from Rust, with nothing of the crate for Rust in between: what
-//! the static call of each takes.
+//! The calls of `include/unix_path.h` from Rust, with nothing of the crate for Rust in between:
+//! what each static call takes.
 use crate::calls::Start;
 
 #[repr(C)]

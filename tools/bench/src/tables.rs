@@ -1,5 +1,5 @@
-//! The table of a `PathTable` beside a `BTreeMap` of Rust: what is put in, looked up and found under
-//! a directory, and the memory that it takes.
+//! The table of a `PathTable` beside a `BTreeMap` of Rust: the time to put paths in, to look them
+//! up and to find what is under a directory, and the memory that it takes.
 use crate::calls::Start;
 use crate::corpora::realistic;
 use crate::options::Options;
