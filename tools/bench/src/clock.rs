@@ -1,4 +1,4 @@
-//! The time that the processor ran a program, which others on a busy machine add little to.
+//! The time that the processor ran a program, to which other programs on a busy machine add little.
 
 #[repr(C)]
 struct Time {
@@ -25,8 +25,8 @@ pub fn of_this_thread() -> f64 {
     time.seconds as f64 + time.nanoseconds as f64 * 1e-9
 }
 
-/// The seconds that the programs ran, and the system for them, which this one started and waited
-/// for.
+/// The seconds that the processor ran the programs that this one started and waited for, and the
+/// system for them.
 pub fn of_children() -> f64 {
     let mut usage = [0; 18];
     unsafe { getrusage(CHILDREN, &mut usage) };

@@ -38,8 +38,8 @@ pub fn print(options: &Options) {
     };
     let time =
         |command: &str, piece: &[u8], at: usize| nanoseconds(options, &timer, command, piece, at);
-    // An unknown command costs what reading does. An answer is made in buffers that grow too, in
-    // as many as four, and a long line's are new memory.
+    // An unknown command costs what reading does. An answer is made in up to four buffers that grow
+    // too, and for a long line these are new memory.
     let reading: [f64; SIZES.len()] = std::array::from_fn(|at| time("unknown", b"a", at));
     let fresh = memory(&options.timer());
     let memory =

@@ -77,7 +77,7 @@ pub fn corpora() -> Vec<Corpus> {
     .collect()
 }
 
-/// What is before and behind the middle one of the path's slashes; all and all where it has none.
+/// What is before and behind the middle one of the path's slashes; twice the path if it has none.
 fn at_middle(path: &[u8]) -> (&[u8], &[u8]) {
     let slashes: Vec<usize> = (0..path.len()).filter(|at| path[*at] == b'/').collect();
     match slashes.get(slashes.len() / 2) {
@@ -174,8 +174,8 @@ fn adversarial() -> Vec<Vec<u8>> {
     paths
 }
 
-/// Sorted paths of a thousand parts and 4,096 bytes; each goes another way from some part of one
-/// before it on.
+/// Sorted paths of a thousand parts and 4,096 bytes; each begins with some parts of one before it,
+/// and then goes another way.
 fn deep(count: usize) -> Vec<Vec<u8>> {
     let mut random = Random(3);
     let mut paths: Vec<Vec<u8>> = vec![];

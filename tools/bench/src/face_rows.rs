@@ -21,7 +21,7 @@ pub struct Row {
     pub std: Side,
     /// The call of the crates themselves, in code of Rattle that may inline it.
     pub own: Option<Side>,
-    /// The same, behind a function that isn't inlined and writes its answer for a caller.
+    /// The crates' call behind a function that isn't inlined and writes its answer for a caller.
     pub called: Option<Side>,
     /// The call from C, with nothing of the crate for Rust in between.
     pub alone: Side,
@@ -58,7 +58,7 @@ fn all<'a>(items: impl Iterator<Item = &'a [u8]>) -> u64 {
     })
 }
 
-/// The number of an answer that there may be none of.
+/// The number of an answer, if there is one.
 fn some(found: Option<&[u8]>) -> u64 {
     found.map_or(u64::MAX, digest)
 }
@@ -88,7 +88,7 @@ fn order(call: OfTwo, path: &[u8], other: &[u8]) -> u64 {
 thread_local! {
     /// A buffer with room for each answer, made once.
     static BUFFER: RefCell<Vec<u8>> = vec![0; 1 << 18].into();
-    /// The same, of which the capacity is used.
+    /// A vector whose capacity holds each answer, made once.
     static CAPACITY: RefCell<Vec<u8>> = Vec::with_capacity(1 << 18).into();
 }
 

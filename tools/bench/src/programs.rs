@@ -6,7 +6,7 @@ use crate::timing::{Measure, Score, Timer};
 use std::fs::{read, write, File};
 use std::process::{Command, Stdio};
 
-/// The bytes of the lines of a group.
+/// How many bytes the lines of a group have.
 const LEN: usize = 2 << 20;
 
 /// Prints a line for each group of commands.

@@ -1,4 +1,4 @@
-//! The memory that work takes, as Linux counts that of this process.
+//! The memory that work takes, as Linux counts the memory of this process.
 use std::fs::{read_to_string, write};
 use std::hint::black_box;
 

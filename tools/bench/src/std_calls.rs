@@ -17,12 +17,12 @@ pub unsafe fn bytes_of<'a>(start: Start, len: usize) -> &'a [u8] {
     slice::from_raw_parts(start, len)
 }
 
-/// They as a string of the system.
+/// The bytes that were passed, as a string of the system.
 unsafe fn text_of<'a>(start: Start, len: usize) -> &'a OsStr {
     OsStr::from_bytes(bytes_of(start, len))
 }
 
-/// They as a path.
+/// The bytes that were passed, as a path.
 pub unsafe fn path_of<'a>(start: Start, len: usize) -> &'a Path {
     Path::new(text_of(start, len))
 }
@@ -108,17 +108,17 @@ pub unsafe extern "C" fn file_name(path: Start, len: usize) -> u64 {
     some(path_of(path, len).file_name())
 }
 
-/// Its stem.
+/// The stem of the path's file name.
 pub unsafe extern "C" fn file_stem(path: Start, len: usize) -> u64 {
     some(path_of(path, len).file_stem())
 }
 
-/// Its extension.
+/// The extension of the path's file name.
 pub unsafe extern "C" fn extension(path: Start, len: usize) -> u64 {
     some(path_of(path, len).extension())
 }
 
-/// Its file name up to its first dot.
+/// The path's file name up to its first dot.
 pub unsafe extern "C" fn file_prefix(path: Start, len: usize) -> u64 {
     some(path_of(path, len).file_prefix())
 }

@@ -10,7 +10,7 @@ use crate::std_tables as std_side;
 use crate::timing::{median, Measure, Score, Timer};
 use std::time::Instant;
 
-/// How many paths are in a table, and under how many directories it is asked what stands there.
+/// How many paths a table has, and under how many directories it is asked what stands there.
 const PATHS: usize = 200_000;
 const DIRECTORIES: usize = 2_000;
 
@@ -25,7 +25,7 @@ struct Lines {
     bases: Vec<u8>,
 }
 
-/// What is timed of a table.
+/// What is timed or measured of a table.
 enum Work {
     Insert(OfLines),
     /// Look-ups of paths or of bases, so many times; the table is made before that.

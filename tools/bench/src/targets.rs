@@ -30,7 +30,7 @@ const TARGETS: &[(&str, &str, f64)] = &[
     ("table memory", "", 1.1),
 ];
 
-/// The greatest ratio that is wanted of a row on a corpus: 1 where nothing else is said.
+/// The greatest ratio that is wanted of a row on a corpus: 1 if no line of the table says another.
 pub fn target(row: &str, corpus: &str) -> f64 {
     TARGETS
         .iter()

@@ -41,7 +41,7 @@ pub fn print(options: &Options, score: &mut Score) {
 }
 
 impl Sources {
-    /// The ratio of a call; none of `to_str`, which ends at the first byte that is no text.
+    /// The ratio of a call; none for `to_str` over broken bytes, since it ends at the first one.
     fn cell(&self, row: &Row, timer: &Timer, score: &mut Score) -> String {
         if self.is_broken && row.name == "to_str" {
             return "-".to_string();

@@ -101,8 +101,8 @@ impl Score {
         }
     }
 
-    /// The ratio, with its target behind it where it is above that, and a mark where the answers
-    /// differ: `~` where they do so on purpose, `DIFFERS` where they must not.
+    /// The ratio, with its target behind it if it is above that, and a mark if the answers differ:
+    /// `~` if they do so on purpose, `DIFFERS` if they must not.
     pub fn cell(&mut self, measure: &Measure, row: &str, corpus: &str) -> String {
         let wanted = target(row, corpus);
         let mut cell = format!("{:.2}", measure.ratio);
