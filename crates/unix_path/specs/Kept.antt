@@ -4,7 +4,7 @@ use Rattle.std.specs.Box.{boxed_slice_items}
 use Rattle.std.specs.Rc.{rc_slice_items}
 use Rattle.unix_path.specs.Buffers.{path_bytes}
 use Rattle.unix_path.specs.declared.kept.boxed.BoxedPath.{BoxedPath}
-use Rattle.unix_path.specs.declared.kept.shared.RcPath.{RcPath}
+use Rattle.unix_path.specs.declared.kept.rc.RcPath.{RcPath}
 use Rattle.unix_path.specs.declared.kept.cow.CowPath.{CowPath}
 use Rattle.unix_path.specs.declared.kept.cow.CowPath.TheVariants.{Borrowed, Owned}
 
@@ -21,7 +21,7 @@ abbrev pub cow_bytes : CowPath → List ℕ
 cow_bytes (Borrowed path) = path.bytes.now
 cow_bytes (Owned path) = path_bytes path
 
--- it borrows its bytes
+-- the path borrows its bytes
 abbrev pub IsBorrowed : CowPath → Type 0
 IsBorrowed (Borrowed path) = ⊤
 IsBorrowed (Owned path) = ⊥

@@ -1,9 +1,9 @@
-//! Paths that are kept or shared: boxed, counted, and borrowed or owned.
+//! Paths that are kept: in a box, by several owners, and borrowed or owned.
 
 mod boxed;
 mod cow;
-mod shared;
+mod rc;
 
 pub use boxed::BoxedPath;
 pub use cow::CowPath;
-pub use shared::RcPath;
+pub use rc::RcPath;

@@ -1,4 +1,4 @@
-//! Boxed paths.
+//! Paths in a box.
 ghost use Rattle.std.specs.Prelude.{◌≡◌, ◌↔◌, IsTrue, Some, IsOk, IfOk};
 ghost use Rattle.std.specs.Ordering.{is_eq};
 ghost use Rattle.std.specs.Cmp;
@@ -26,6 +26,8 @@ use unix_bytes::bytes::UnixString;
 ///
 /// It keeps its allocator. It is compared and hashed by its values, as `Path` is. As Rust's
 /// `Box<Path>` on Unix.
+///
+/// The boxed `foo/` takes 4 bytes.
 #[derive(Drop)]
 pub struct BoxedPath {
     bytes: BoxedSlice<u8>,
@@ -66,7 +68,7 @@ impl BoxedPath {
     /// Allocates and fails as `from_path` does for a borrowed path, and as `from_path_buf` does for
     /// an owned one, which is dropped on failure. As Rust's `From<Cow<Path>>` of `Box<Path>`.
     ///
-    /// For a borrowed `foo/` it is an owned `foo/`.
+    /// For a borrowed `foo/` it is a boxed `foo/`.
     pub fn from_cow(alloc: Global, path: CowPath<'_>) -> Result<BoxedPath, AllocError>
         ensures bytes { IfOk result (λ p. boxed_bytes p ≡ cow_bytes path.entry) }
         ensures succeeds { (p : PathBuf) → path.entry ≡ CowPath.Owned p → room p ≡ 0 → IsOk result }
@@ -118,7 +120,7 @@ impl BoxedPath {
 }
 
 impl PathBuf {
-    /// The path without its room, to be kept.
+    /// The path's bytes in a box, without its room.
     ///
     /// Does not allocate where there is no room. Otherwise moving the bytes can fail, and then the
     /// path is dropped. As Rust's `PathBuf::into_boxed_path`.
@@ -133,7 +135,8 @@ impl PathBuf {
     }
 }
 
-/// Two boxed paths are equal if their values are, as `Path` has it: `a//b` equals `a/b`.
+/// Two boxed paths are equal if their values are, as `Path` has it: `a//b` equals `a/b`. Does not
+/// allocate.
 impl PartialEq for BoxedPath {
     ghost eq = { λ x y. is_eq (values_cmp (values (boxed_bytes x)) (values (boxed_bytes y))) };
 
@@ -166,7 +169,8 @@ impl PartialOrd for BoxedPath {
     }
 }
 
-/// Boxed paths go by their values, as `Path` has it: `a/b` comes before `a.b`.
+/// Boxed paths are ordered by their values, as `Path` has it: `a/b` comes before `a.b`. Does not
+/// allocate.
 impl Ord for BoxedPath {
     ghost cmp = { λ x y. values_cmp (values (boxed_bytes x)) (values (boxed_bytes y)) };
 
@@ -181,7 +185,7 @@ impl Ord for BoxedPath {
     }
 }
 
-/// The hash of `as_path`, which is the same for `a//b` and `a/b`.
+/// The hash of `as_path`, which is the same for `a//b` and `a/b`. Does not allocate.
 impl Hash for BoxedPath {
     ghost hash_input = { λ path. hash_input_of (values (boxed_bytes path)) };
 
@@ -192,7 +196,7 @@ impl Hash for BoxedPath {
     }
 }
 
-/// The debug form of `as_path`: for `/tmp` it is `"/tmp"`.
+/// The debug form of `as_path`: for `/tmp` it is `"/tmp"`. Does not allocate.
 impl fmt::Debug for BoxedPath {
     fn fmt<W: fmt::Write>(&self, f: &mut fmt::Formatter<W>) -> fmt::Result {
         fmt::Debug::fmt(&self.as_path(), f)

@@ -23,6 +23,8 @@ use std::hash::{Hash, Hasher};
 ///
 /// It is compared and hashed by its values, as `Path` is, be it borrowed or owned. As Rust's
 /// `Cow<Path>` on Unix.
+///
+/// `CowPath::from` of a `Path` is `Borrowed`, and of a `PathBuf` it is `Owned`.
 #[derive(Drop)]
 pub enum CowPath<'a> {
     /// A view of a path that stands elsewhere.
@@ -117,7 +119,7 @@ impl<'a> From<&'a PathBuf> for CowPath<'a> {
 }
 
 /// Two paths are equal if their values are, as `Path` has it, be they borrowed or owned: `a//b`
-/// equals `a/b`.
+/// equals `a/b`. Does not allocate.
 impl PartialEq for CowPath<'_> {
     ghost eq = { λ x y. is_eq (values_cmp (values (cow_bytes x)) (values (cow_bytes y))) };
 
@@ -150,7 +152,8 @@ impl PartialOrd for CowPath<'_> {
     }
 }
 
-/// Such paths go by their values, as `Path` has it: `a/b` comes before `a.b`.
+/// Paths that are borrowed or owned are ordered by their values, as `Path` has it: `a/b` comes
+/// before `a.b`. Does not allocate.
 impl Ord for CowPath<'_> {
     ghost cmp = { λ x y. values_cmp (values (cow_bytes x)) (values (cow_bytes y)) };
 
@@ -165,7 +168,7 @@ impl Ord for CowPath<'_> {
     }
 }
 
-/// The hash of `as_path`, which is the same for `a//b` and `a/b`.
+/// The hash of `as_path`, which is the same for `a//b` and `a/b`. Does not allocate.
 impl Hash for CowPath<'_> {
     ghost hash_input = { λ path. hash_input_of (values (cow_bytes path)) };
 
@@ -176,7 +179,7 @@ impl Hash for CowPath<'_> {
     }
 }
 
-/// The debug form of `as_path`: for `/tmp` it is `"/tmp"`.
+/// The debug form of `as_path`: for `/tmp` it is `"/tmp"`. Does not allocate.
 impl fmt::Debug for CowPath<'_> {
     fn fmt<W: fmt::Write>(&self, f: &mut fmt::Formatter<W>) -> fmt::Result {
         fmt::Debug::fmt(&self.as_path(), f)

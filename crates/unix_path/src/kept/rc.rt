@@ -23,6 +23,8 @@ use std::rc::RcSlice;
 /// A path that several own, and that none of them edits.
 ///
 /// It is compared and hashed by its values, as `Path` is. As Rust's `Rc<Path>` on Unix.
+///
+/// A clone of `foo/` is the same `foo/` with one more owner.
 #[derive(Drop)]
 pub struct RcPath {
     bytes: RcSlice<u8>,
@@ -66,7 +68,7 @@ impl RcPath {
         }
     }
 
-    /// One more owner of the path.
+    /// The same path, with one more owner.
     ///
     /// Does not allocate. Fails where the count of owners is at its limit. As `Clone` of Rust's
     /// `Rc<Path>`, which ends the process there.
@@ -81,7 +83,8 @@ impl RcPath {
     }
 }
 
-/// Two shared paths are equal if their values are, as `Path` has it: `a//b` equals `a/b`.
+/// Two shared paths are equal if their values are, as `Path` has it: `a//b` equals `a/b`. Does not
+/// allocate.
 impl PartialEq for RcPath {
     ghost eq = { λ x y. is_eq (values_cmp (values (rc_bytes x)) (values (rc_bytes y))) };
 
@@ -114,7 +117,8 @@ impl PartialOrd for RcPath {
     }
 }
 
-/// Shared paths go by their values, as `Path` has it: `a/b` comes before `a.b`.
+/// Shared paths are ordered by their values, as `Path` has it: `a/b` comes before `a.b`. Does not
+/// allocate.
 impl Ord for RcPath {
     ghost cmp = { λ x y. values_cmp (values (rc_bytes x)) (values (rc_bytes y)) };
 
@@ -129,7 +133,7 @@ impl Ord for RcPath {
     }
 }
 
-/// The hash of `as_path`, which is the same for `a//b` and `a/b`.
+/// The hash of `as_path`, which is the same for `a//b` and `a/b`. Does not allocate.
 impl Hash for RcPath {
     ghost hash_input = { λ path. hash_input_of (values (rc_bytes path)) };
 
@@ -140,7 +144,7 @@ impl Hash for RcPath {
     }
 }
 
-/// The debug form of `as_path`: for `/tmp` it is `"/tmp"`.
+/// The debug form of `as_path`: for `/tmp` it is `"/tmp"`. Does not allocate.
 impl fmt::Debug for RcPath {
     fn fmt<W: fmt::Write>(&self, f: &mut fmt::Formatter<W>) -> fmt::Result {
         fmt::Debug::fmt(&self.as_path(), f)
