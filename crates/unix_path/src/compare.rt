@@ -1,5 +1,5 @@
 //! The order of two paths, found behind the bytes that both begin with.
-ghost use Rattle.std.specs.Prelude.{◌≡◌, ℕ, ◌+◌, ◌<◌, ◌≤◌, ◌==◌, false, length, take, drop};
+ghost use Rattle.std.specs.Prelude.{◌≡◌, ◌<◌, ◌≤◌, ◌==◌, false, length, take, drop};
 ghost use Rattle.std.specs.Prelude.{slice_index, IsTrue, ◌↔◌};
 ghost use Rattle.std.specs.Ordering.{is_eq};
 ghost use Rattle.std.specs.List.{position_or_len};
@@ -13,9 +13,9 @@ use crate::cursor::{Component, Components, has_lead, long_first_step, long_idle_
 use std::cmp::Ordering;
 use unix_bytes::search::{common_len, past_last};
 
-// By the first values that differ; where one side has no more, it comes first. Each flag tells
-// whether its side begins with a root or with a `.` that counts. A walk would look for the end of
-// the last part at once, which mostly needn't be known.
+// The order of two paths by the first values that differ; a path with no more values comes first.
+// Each flag tells whether the path before it begins with a root or with a `.` that counts. A
+// `Components` would look for the end of the last part at once, which mostly needn't be known.
 fn compare_parts(a: &[u8], a_lead: bool, b: &[u8], b_lead: bool) -> Ordering
     requires first_lead { a_lead ≡ is_idle a.now 0 }
     requires second_lead { b_lead ≡ is_idle b.now 0 }
@@ -34,7 +34,7 @@ fn compare_parts(a: &[u8], a_lead: bool, b: &[u8], b_lead: bool) -> Ordering
         y = &y[y_len..];
         (x_lead, y_lead) = (false, false);
     }
-    // One of them is empty.
+    // `x` or `y` is empty.
     x.len().cmp(&y.len())
 }
 
@@ -47,7 +47,7 @@ fn past_idle(bytes: &[u8]) -> &[u8]
     &bytes[long_idle_len(bytes)..]
 }
 
-// Whether a name stands at `at` that doesn't begin with a dot.
+// Whether there is a byte at `at` that is neither a slash nor a dot.
 #[inline]
 fn begins_name(bytes: &[u8], at: usize) -> bool
     ensures in_range { IsTrue result → at < length bytes.now }
@@ -69,8 +69,8 @@ fn piece_rank(bytes: &[u8], at: usize) -> u16
     }
 }
 
-// By the parts of two strings that stand behind a slash. It stands apart, so that a comparison that
-// doesn't come so far stays small.
+// The order of two strings that stand behind a slash, by their parts. It isn't inlined, so that
+// `compare_behind`, which mostly needs no more than a byte of each, stays small.
 #[inline(never)]
 fn compare_inner(a: &[u8], b: &[u8]) -> Ordering
     ensures { result ≡ values_cmp (inner_values a.now) (inner_values b.now) }
@@ -78,7 +78,8 @@ fn compare_inner(a: &[u8], b: &[u8]) -> Ordering
     compare_parts(past_idle(a), false, past_idle(b), false)
 }
 
-// By the parts behind `dir`, where the bytes are the same up to `front` and hold no slash between.
+// The order of two paths by their parts behind `dir`, where their first `front` bytes are the same
+// and hold no slash from `dir` on.
 fn compare_behind(a: &[u8], b: &[u8], dir: usize, front: usize) -> Ordering
     requires in_order { dir ≤ front }
     requires in_first { front ≤ length a.now }
@@ -99,7 +100,7 @@ fn compare_behind(a: &[u8], b: &[u8], dir: usize, front: usize) -> Ordering
     compare_inner(&a[dir..], &b[dir..])
 }
 
-// By their values: what both begin with, up to its last slash, is skipped.
+// The order of two paths by their values. What both begin with, up to its last slash, is skipped.
 pub(crate) fn compare(a: &[u8], b: &[u8]) -> Ordering
     ensures { result ≡ values_cmp (values a.now) (values b.now) }
 {
@@ -115,15 +116,15 @@ pub(crate) fn compare(a: &[u8], b: &[u8]) -> Ordering
     }
 }
 
-// Whether the two parts have the same value.
+// Whether two parts have the same value.
 #[inline]
-fn is_same_part<'a>(x: Component<'a>, y: Component<'a>) -> bool
+pub(crate) fn is_same_part(x: Component<'_>, y: Component<'_>) -> bool
     ensures { IsTrue result ↔ (value_of x.entry ≡ value_of y.entry) }
 {
     x == y
 }
 
-// False only where the last parts differ.
+// Whether two paths have the same last part, or one of them has no part.
 #[inline]
 fn may_be_same(a: &[u8], b: &[u8]) -> bool
     ensures { values a.now ≡ values b.now → IsTrue result }
@@ -138,7 +139,8 @@ fn may_be_same(a: &[u8], b: &[u8]) -> bool
     is_same_part(x, y)
 }
 
-// Whether the bytes are the same. The last of them is asked first: in most that differ it does.
+// Whether two paths have the same bytes. Their last bytes are compared first, since those mostly
+// differ where the paths do.
 #[inline]
 fn has_same_bytes(a: &[u8], b: &[u8]) -> bool
     ensures { IsTrue result → a.now ≡ b.now }
@@ -150,8 +152,8 @@ fn has_same_bytes(a: &[u8], b: &[u8]) -> bool
     common_len(a, b) == len
 }
 
-// Whether they have the same values. Of paths that differ the last parts mostly do, and these are
-// found without what stands before them.
+// Whether two paths have the same values. Where they haven't, their last parts mostly differ, and
+// the last parts are found without a look at what stands before them.
 pub(crate) fn is_same(a: &[u8], b: &[u8]) -> bool
     ensures { result ≡ is_eq (values_cmp (values a.now) (values b.now)) }
 {

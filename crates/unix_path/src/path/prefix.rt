@@ -5,19 +5,20 @@ ghost use Rattle.unix_path.specs.Cursor.{cursor_rest, cursor_source, cursor_valu
 ghost use Rattle.unix_path.specs.Prefixes.{Begins, Ends, stripped_of};
 ghost use Rattle.unix_path.specs.Parts.{values};
 ghost use Rattle.unix_path.specs.Steps.{StripsOn};
-ghost use Rattle.unix_path.specs.Views.{value_of};
 ghost use Rattle.unix_path.specs.Places.{LiesIn};
 
-use crate::cursor::{Component, Components};
+use crate::compare::is_same_part;
+use crate::cursor::Components;
 use crate::path::{Path, walk_behind};
 use std::error::Error;
 use std::fmt;
 
 /// The refusal of `Path::strip_prefix`: the parts of the base don't begin those of the path.
 ///
-/// Its text is `prefix not found`, padded like any text. As Rust's `StripPrefixError`.
+/// It is printed as `prefix not found`, padded by width, precision, fill and alignment. As Rust's
+/// `StripPrefixError`.
 ///
-/// For `foo/bar` stripped of `foo/baz` it is the answer.
+/// `strip_prefix` of `foo/bar` by the base `foo/baz` answers it.
 #[derive(Clone, Copy, Debug, PartialEq, Eq)]
 pub struct StripPrefixError(());
 
@@ -33,15 +34,7 @@ impl fmt::Display for StripPrefixError {
 
 impl Error for StripPrefixError {}
 
-// Whether two parts have the same value.
-#[inline]
-fn same_value(a: Component<'_>, b: Component<'_>) -> bool
-    ensures { IsTrue result ↔ (value_of a.entry ≡ value_of b.entry) }
-{
-    a == b
-}
-
-// The walks over the path and over the base, past what both begin with up to its last slash.
+// The walks over the path and over the base, each from the place on that `common_dir` gives.
 #[inline]
 fn past_common<'a, 'b>(path: &'a [u8], base: &'b [u8]) -> (Components<'a>, Components<'b>)
     ensures strips { StripsOn path.now base.now (cursor_rest result.0) (cursor_values result.1) }
@@ -55,7 +48,7 @@ fn past_common<'a, 'b>(path: &'a [u8], base: &'b [u8]) -> (Components<'a>, Compo
     }
 }
 
-// The walk over what follows `base`, where its parts begin the path's.
+// The walk over what follows `base`, or `None` where the parts of `base` don't begin the path's.
 #[inline]
 fn after_prefix<'a>(path: &'a [u8], base: &[u8]) -> Option<Components<'a>>
     ensures ok { IsSome result ↔ Begins (values base.now) (values path.now) }
@@ -67,7 +60,7 @@ fn after_prefix<'a>(path: &'a [u8], base: &[u8]) -> Option<Components<'a>>
         let Some(own) = left.next() else {
             return None;
         };
-        if !same_value(own, part) {
+        if !is_same_part(own, part) {
             return None;
         }
     }
@@ -85,7 +78,7 @@ fn ends_with_parts(path: &[u8], child: &[u8]) -> bool
         let Some(own) = left.next_back() else {
             return false;
         };
-        if !same_value(own, part) {
+        if !is_same_part(own, part) {
             return false;
         }
     }

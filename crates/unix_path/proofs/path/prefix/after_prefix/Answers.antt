@@ -22,7 +22,7 @@ loop-part-preserved c =
       can = tt;
       finite = tt;
       so_far = strips_step c.loop-part.invariant.so_far c.in-Some.ensures.steps.item_is own.item_is
-          own.rest_is (c.if-not-same_value.ensures.0 refl);
+          own.rest_is (c.if-not-is_same_part.ensures.0 refl);
       place = LiesIn-trans _ _ _ own.place_is c.loop-part.invariant.place;
     }
 

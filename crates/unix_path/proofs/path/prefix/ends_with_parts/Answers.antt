@@ -16,9 +16,9 @@ returns-in_default-next_back c = (
       c.in_default-next_back.ensures.steps.item_is.0 h),
 )
 
-pub returns-then-not-same_value : goal.returns-then-not-same_value
-returns-then-not-same_value c =
-    let same = c.if-not-same_value.ensures in (
+pub returns-then-not-is_same_part : goal.returns-then-not-is_same_part
+returns-then-not-is_same_part c =
+    let same = c.if-not-is_same_part.ensures in (
       λ h. absurd (cc),
       λ h. absurd (ends_differs (cursor_rest c.next_back-in-Some.new.self)
           (cursor_values c.next_back.new.self) c.loop-part.invariant
@@ -29,7 +29,7 @@ returns-then-not-same_value c =
 pub loop-part-preserved : goal.loop-part-preserved
 loop-part-preserved c =
     ends_step c.loop-part.invariant c.in-Some.ensures.steps.item_is
-    c.in-Some-next_back.ensures.steps.item_is (c.if-not-same_value.ensures.0 refl)
+    c.in-Some-next_back.ensures.steps.item_is (c.if-not-is_same_part.ensures.0 refl)
 
 pub returns : goal.returns
 returns c = (λ _. ends_end c.loop-part.invariant c.in_default.ensures.steps.item_is.0, λ _. refl)
