@@ -39,4 +39,4 @@ pub mod FrontLemmas
 pub mod CommonDirLemmas
 pub mod BehindLemmas
 pub mod DifferLemmas
-pub mod ComparedLemmas
+pub mod ComparisonLemmas

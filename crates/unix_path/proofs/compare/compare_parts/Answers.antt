@@ -1,7 +1,6 @@
 use Rattle.std.proofs.Common.{length, eqb-true, ◌∙◌, sym, refl, arith}
-use Rattle.unix_path.specs.Views.{value_of}
-use Rattle.unix_path.proofs.ComparedLemmas.{compared_end, compared_first, compared_rest}
-use Rattle.unix_path.proofs.ComparedLemmas.{lead_behind, steps_smaller}
+use Rattle.unix_path.proofs.ComparisonLemmas.{lead_behind, steps_smaller, values_cmp-end}
+use Rattle.unix_path.proofs.ComparisonLemmas.{values_cmp-first, values_cmp-rest}
 use Rattle.unix_path.proofs.ComponentLemmas.{cmp-values}
 use Rattle.unix_path.proofs.compare.compare_parts.Goals.{else-loop-x_len-test}
 use Rattle.unix_path.proofs.compare.compare_parts.Goals.{then-loop-x_len-test+else-not-is_empty}
@@ -24,37 +23,32 @@ pub returns-then-is_ne : goal.returns-then-is_ne
 returns-then-is_ne c =
     let first = c.long_first_step-x_len in
     let second = c.long_first_step-y_len in
-    compared_first c.loop-x_len.x.now c.loop-x_len.y.now first.result.0 second.result.0
-    (value_of first.result.1) (value_of second.result.1) c.cmp-order.result first.ensures
-    second.ensures (c.cmp-order.ensures ∙ cmp-values first.result.1 second.result.1)
+    values_cmp-first first.ensures second.ensures
+    (c.cmp-order.ensures ∙ cmp-values first.result.1 second.result.1)
     (sym c.is_ne.ensures ∙ c.if-is_ne.true)
     ∙ c.loop-x_len.invariant.same
 
 pub loop-x_len-smaller : goal.loop-x_len-smaller
-loop-x_len-smaller c =
-    let first = c.long_first_step-x_len in
-    steps_smaller c.loop-x_len.x.now first.result.0 (value_of first.result.1) first.ensures
+loop-x_len-smaller c = steps_smaller c.long_first_step-x_len.ensures
 
 pub loop-x_len-preserved : goal.loop-x_len-preserved
 loop-x_len-preserved c =
     let first = c.long_first_step-x_len in
     let second = c.long_first_step-y_len in
     record {
-      same = compared_rest c.loop-x_len.x.now c.loop-x_len.y.now first.result.0 second.result.0
-          (value_of first.result.1) (value_of second.result.1) c.cmp-order.result first.ensures
-          second.ensures (c.cmp-order.ensures ∙ cmp-values first.result.1 second.result.1)
+      same = values_cmp-rest first.ensures second.ensures
+          (c.cmp-order.ensures ∙ cmp-values first.result.1 second.result.1)
           (sym c.is_ne.ensures ∙ c.if-is_ne.false)
           ∙ c.loop-x_len.invariant.same;
-      first_lead = lead_behind c.loop-x_len.x.now first.result.0 _ first.ensures;
-      second_lead = lead_behind c.loop-x_len.y.now second.result.0 _ second.ensures;
+      first_lead = lead_behind first.ensures;
+      second_lead = lead_behind second.ensures;
     }
 
 pub returns : goal.returns
 returns c =
     let x = c.loop-x_len.x.now in
-    let y = c.loop-x_len.y.now in
     c.cmp.ensures
-    ∙ compared_end x y
+    ∙ values_cmp-end x c.loop-x_len.y.now
     (λ some. elim c.loop-x_len-test.branch [
       | then-loop-x_len-test+else-not-is_empty w ↦
           eqb-true _ 0 (sym w.is_empty-in-loop-x_len.ensures ∙ w.if-not-is_empty.false)

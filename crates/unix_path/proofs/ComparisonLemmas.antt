@@ -1,4 +1,4 @@
--- Two strings compared part by part, from the front.
+-- The order of two strings, part by part from the first on.
 use Rattle.std.proofs.Common.{◌≡◌, ℕ, zero, suc, ◌-◌, ◌<◌, true, false, List, [], ◌∷◌, length}
 use Rattle.std.proofs.Common.{take, drop, map, refl, sym, ap, ap₂, ◌∙◌, arith, length-drop}
 use Rattle.std.proofs.lemmas.List.{take_rest, nil_from_length}
@@ -17,58 +17,61 @@ abbrev pub behind : List ℕ → ℕ → List ℕ
 behind s n = take (length s - n) (drop n s)
 
 -- a step takes at least a byte
-pub steps_smaller : (s : List ℕ) (n : ℕ) (v : Value) → StepsFirst s n v
+pub steps_smaller : {s : List ℕ} {n : ℕ} {v : Value} → StepsFirst s n v
     → length (behind s n) < length s
-steps_smaller s zero v h = absurd (omega (arith, ap length h.value))
-steps_smaller s (suc n) v h =
+steps_smaller {n = zero} h = absurd (omega (arith, ap length h.value))
+steps_smaller {s} {n = suc n} h =
     omega (arith, h.in_range, ap length (take_rest s (suc n)), length-drop (suc n) s)
 
 -- behind a part that was taken neither a root nor a `.` counts
-pub lead_behind : (s : List ℕ) (n : ℕ) (v : Value) → StepsFirst s n v
+pub lead_behind : {s : List ℕ} {n : ℕ} {v : Value} → StepsFirst s n v
     → false ≡ is_idle (behind s n) 0
-lead_behind s n v h =
+lead_behind {s} {n} h =
     not_idle (drop n s) h.busy ∙ ap (λ t. is_idle t 0) (sym (take_rest s n))
 
+-- of two orders one after the other the first decides where it is not equal
 then_differs : (o p : Ordering) → is_ne o ≡ true → o ≡ ordering_then o p
 then_differs Less p e = refl
 then_differs Equal p e = cc
 then_differs Greater p e = refl
 
+-- of two orders one after the other the second decides where the first is equal
 then_equal : (o p : Ordering) → is_ne o ≡ false → ordering_then o p ≡ p
 then_equal Less p e = cc
 then_equal Equal p e = refl
 then_equal Greater p e = cc
 
-first_compared : (s t : List ℕ) (n m : ℕ) (v w : Value) → StepsFirst s n v → StepsFirst t m w
+-- the first values decide, and where they are equal those behind them
+values_cmp-steps : {s t : List ℕ} {n m : ℕ} {v w : Value} → StepsFirst s n v → StepsFirst t m w
     → values_cmp (values s) (values t)
     ≡ ordering_then (value_cmp v w) (values_cmp (values (drop n s)) (values (drop m t)))
-first_compared s t n m v w h k = ap₂ values_cmp h.value k.value
+values_cmp-steps h k = ap₂ values_cmp h.value k.value
 
--- the first values differ
-pub compared_first : (s t : List ℕ) (n m : ℕ) (v w : Value) (o : Ordering) → StepsFirst s n v
+-- where the first values differ, their order is that of the strings
+pub values_cmp-first : {s t : List ℕ} {n m : ℕ} {v w : Value} {o : Ordering} → StepsFirst s n v
     → StepsFirst t m w → o ≡ value_cmp v w → is_ne o ≡ true
     → o ≡ values_cmp (values s) (values t)
-compared_first s t n m v w o h k is differs =
+values_cmp-first {s} {t} {n} {m} {o = o} h k is differs =
     let rest = values_cmp (values (drop n s)) (values (drop m t)) in
-    then_differs o rest differs ∙ ap (λ o. ordering_then o rest) is
-    ∙ sym (first_compared s t n m v w h k)
+    then_differs o rest differs ∙ ap (λ o. ordering_then o rest) is ∙ sym (values_cmp-steps h k)
 
--- the first values are equal, and don't count
-pub compared_rest : (s t : List ℕ) (n m : ℕ) (v w : Value) (o : Ordering) → StepsFirst s n v
+-- where the first values are equal, the order of the strings is that of what follows them
+pub values_cmp-rest : {s t : List ℕ} {n m : ℕ} {v w : Value} {o : Ordering} → StepsFirst s n v
     → StepsFirst t m w → o ≡ value_cmp v w → is_ne o ≡ false
     → values_cmp (values (behind s n)) (values (behind t m)) ≡ values_cmp (values s) (values t)
-compared_rest s t n m v w o h k is same =
+values_cmp-rest {s} {t} {n} {m} {o = o} h k is same =
     let rest = values_cmp (values (drop n s)) (values (drop m t)) in
     ap₂ (λ x y. values_cmp (values x) (values y)) (take_rest s n) (take_rest t m)
     ∙ sym (then_equal o rest same) ∙ ap (λ o. ordering_then o rest) is
-    ∙ sym (first_compared s t n m v w h k)
+    ∙ sym (values_cmp-steps h k)
 
--- some bytes are some values
+-- the values of s are `first` and `others`
 pub record SomeValue (s : List ℕ) : Type 0 where
   pub first : Value
   pub others : List Value
   pub is : values s ≡ first ∷ others
 
+-- a string that is not empty has a value
 some_value : (s : List ℕ) → 0 < length s → SomeValue s
 unfolding values
 some_value s l =
@@ -79,14 +82,14 @@ some_value s l =
       is = ap (map (λ p. p.value)) h.is;
     }
 
--- where one of them has no more
-pub compared_end : (s t : List ℕ) → (0 < length s → length t ≡ 0)
+-- two strings of which one is empty are in the order of their lengths
+pub values_cmp-end : (s t : List ℕ) → (0 < length s → length t ≡ 0)
     → nat_cmp (length s) (length t) ≡ values_cmp (values s) (values t)
-compared_end [] [] h = sym (ap₂ values_cmp values-nil values-nil)
-compared_end [] (y ∷ t) h =
+values_cmp-end [] [] h = sym (ap₂ values_cmp values-nil values-nil)
+values_cmp-end [] (y ∷ t) h =
     let some = some_value (y ∷ t) (omega arith) in
     sym (nat_cmp_is 0 (length (y ∷ t)) Less (omega arith)) ∙ sym (ap₂ values_cmp values-nil some.is)
-compared_end (x ∷ s) t h =
+values_cmp-end (x ∷ s) t h =
     let none : t ≡ [] = nil_from_length t (h (omega arith)) in
     let some = some_value (x ∷ s) (omega arith) in
     sym (nat_cmp_is (length (x ∷ s)) (length t) Greater (omega (arith, ap length none)))
