@@ -1,5 +1,5 @@
 -- The values behind a common front, and their order.
-use Rattle.std.proofs.Common.{Equal, append-nil, take-append-drop, false, take, drop, map, refl}
+use Rattle.std.proofs.Common.{Equal, take-append-drop, false, take, drop, map, refl}
 use Rattle.std.proofs.Common.{sym, ap, ap₂, ◌∙◌, arith, append_assoc, ◌≡◌, ℕ, ◌+◌, ◌-◌, ◌<◌, ◌≤◌}
 use Rattle.std.proofs.Common.{List, [], ◌∷◌, ◌++◌, length, get_or}
 use Rattle.std.proofs.Common.{length-append}
@@ -9,15 +9,15 @@ use Rattle.std.proofs.lemmas.List.{map-append, take_more}
 use Rattle.unix_path.specs.Fronts.{inner_values}
 use Rattle.unix_path.specs.Order.{values_cmp}
 use Rattle.unix_path.specs.OrderLaws.{value_cmp-total, values_cmp-total}
-use Rattle.unix_path.specs.Parts.{slash, Part, Value, RootDir, inner_parts, leading_part, parts}
+use Rattle.unix_path.specs.Parts.{slash, Part, Value, inner_parts, leading_part, parts}
 use Rattle.unix_path.specs.Parts.{values}
 use Rattle.unix_path.specs.Steps.{is_idle}
-use Rattle.unix_path.proofs.CutLemmas.{inner_parts-append, leading_part-append}
 use Rattle.unix_path.proofs.IdleLemmas.{parts-busy}
-use Rattle.unix_path.proofs.PartLemmas.{parts-root}
 use Rattle.unix_path.proofs.PieceLemmas.{inner_parts-nil}
 use Rattle.unix_path.proofs.PlaceLemmas.{values-inner_parts}
+use Rattle.unix_path.proofs.TrimLemmas.{parts-append, parts-slash}
 
+-- a string's values are those of its leading part and its inner values
 pub values-leading : (s : List ℕ)
     → values s ≡ map (λ (p : Part). p.value) (leading_part s) ++ inner_values s
 unfolding values parts
@@ -26,37 +26,28 @@ values-leading s = map-append (λ (p : Part). p.value) (leading_part s) (inner_p
 pub inner_values-nil : inner_values [] ≡ []
 inner_values-nil = ap (map (λ (p : Part). p.value)) (inner_parts-nil 0)
 
-parts-slash : (a b : List ℕ) → 0 < length a
-    → parts (a ++ slash ∷ b) ≡ parts a ++ inner_parts (0 + length a + 1) b
-unfolding parts
-parts-slash a b l =
-    ap₂ (λ x y. x ++ y) (leading_part-append a b l) (inner_parts-append 0 a b)
-    ∙ sym (append_assoc (leading_part a) (inner_parts 0 a) (inner_parts (0 + length a + 1) b))
-
+-- the values of a string cut at a slash that is not its first byte
 pub values-slash : (a b : List ℕ) → 0 < length a
     → values (a ++ slash ∷ b) ≡ values a ++ inner_values b
 unfolding values
-values-slash a b l = ap (map (λ (p : Part). p.value)) (parts-slash a b l)
-    ∙ map-append (λ (p : Part). p.value) (parts a) (inner_parts (0 + length a + 1) b)
-    ∙ ap (λ vs. map (λ (p : Part). p.value) (parts a) ++ vs)
-    (values-inner_parts (0 + length a + 1) b)
+values-slash a b l =
+    let n = 0 + length a + 1 in
+    ap (map (λ (p : Part). p.value))
+    (parts-append a b ∙ ap (λ ps. ps ++ inner_parts n b) (parts-slash a l))
+    ∙ map-append (λ (p : Part). p.value) (parts a) (inner_parts n b)
+    ∙ ap (λ vs. map (λ (p : Part). p.value) (parts a) ++ vs) (values-inner_parts n b)
 
--- behind a string that ends in a slash
+-- the parts of a string behind one that ends in a slash
 pub parts-past_slash : (f b : List ℕ)
     → parts ((f ++ slash ∷ []) ++ b)
     ≡ parts (f ++ slash ∷ []) ++ inner_parts (length (f ++ slash ∷ [])) b
-parts-past_slash [] b = parts-root (slash ∷ b) refl
-    ∙ sym (ap (λ ps. ps ++ inner_parts 1 b) (parts-root (slash ∷ []) refl
-    ∙ ap (λ ps. record { start = 0; end = 1; value = RootDir } ∷ ps) (inner_parts-nil 1)))
-parts-past_slash (x ∷ f) b =
-    let n = 0 + length (x ∷ f) + 1 in
-    let alone : parts (x ∷ f ++ slash ∷ []) ≡ parts (x ∷ f) = parts-slash (x ∷ f) [] (omega arith)
-    ∙ ap (λ ps. parts (x ∷ f) ++ ps) (inner_parts-nil n) ∙ append-nil (parts (x ∷ f)) in
-    ap parts (append_assoc (x ∷ f) (slash ∷ []) b) ∙ parts-slash (x ∷ f) b (omega arith)
-    ∙ ap (λ k. parts (x ∷ f) ++ inner_parts k b) {x = n} {y = length (x ∷ f ++ slash ∷ [])}
-    (omega (arith, length-append (x ∷ f) (slash ∷ [])))
-    ∙ sym (ap (λ ps. ps ++ inner_parts (length (x ∷ f ++ slash ∷ [])) b) alone)
+parts-past_slash f b =
+    let g = f ++ slash ∷ [] in
+    ap parts (append_assoc f (slash ∷ []) b) ∙ parts-append f b
+    ∙ ap (λ n. parts g ++ inner_parts n b) {x = 0 + length f + 1} {y = length g}
+    (omega (arith, length-append f (slash ∷ [])))
 
+-- the values of a string behind one that ends in a slash
 pub values-past_slash : (f b : List ℕ)
     → values ((f ++ slash ∷ []) ++ b) ≡ values (f ++ slash ∷ []) ++ inner_values b
 unfolding values
@@ -66,14 +57,14 @@ values-past_slash f b =
     ∙ map-append (λ (p : Part). p.value) (parts g) (inner_parts (length g) b)
     ∙ ap (λ vs. map (λ (p : Part). p.value) (parts g) ++ vs) (values-inner_parts (length g) b)
 
--- what two lists both begin with doesn't count
+-- what two lists both begin with doesn't count in their order
 values_cmp-front : (v w x : List Value) → values_cmp (v ++ w) (v ++ x) ≡ values_cmp w x
 values_cmp-front [] w x = refl
 values_cmp-front (y ∷ v) w x =
     ap (λ o. ordering_then o (values_cmp (v ++ w) (v ++ x))) (tied_itself value_cmp-total y)
     ∙ values_cmp-front v w x
 
--- nor does a common front that ends in a slash
+-- two strings behind the same one, which ends in a slash, are in their own order
 pub values_cmp-past_slash : (f a b : List ℕ)
     → values_cmp (values ((f ++ slash ∷ []) ++ a)) (values ((f ++ slash ∷ []) ++ b))
     ≡ values_cmp (inner_values a) (inner_values b)
@@ -81,6 +72,7 @@ values_cmp-past_slash f a b =
     ap₂ values_cmp (values-past_slash f a) (values-past_slash f b)
     ∙ values_cmp-front (values (f ++ slash ∷ [])) (inner_values a) (inner_values b)
 
+-- two strings with the same bytes up to a slash are in the order of what follows it
 pub values_cmp-slash : (f a b : List ℕ)
     → values_cmp (values (f ++ slash ∷ a)) (values (f ++ slash ∷ b))
     ≡ values_cmp (inner_values a) (inner_values b)
@@ -89,6 +81,7 @@ values_cmp-slash f a b =
     (sym (append_assoc f (slash ∷ []) b))
     ∙ values_cmp-past_slash f a b
 
+-- the first n bytes of a string, where the last of these is a slash
 pub take-past_slash : (s : List ℕ) (n : ℕ) → 0 < n → n ≤ length s → get_or s (n - 1) 0 ≡ slash
     → take n s ≡ take (n - 1) s ++ slash ∷ []
 take-past_slash s n some l is =
@@ -111,12 +104,13 @@ values_cmp-behind a b n some l same is =
     sym (ap₂ (λ x y. values_cmp (values x) (values y)) first second
     ∙ values_cmp-past_slash f (drop n a) (drop n b))
 
+-- equal strings tie
 pub values_cmp-equal_strings : (a b : List ℕ) → a ≡ b → Equal ≡ values_cmp (values a) (values b)
 values_cmp-equal_strings a b e =
     sym (ap (λ t. values_cmp (values a) (values t)) (sym e)
     ∙ tied_itself values_cmp-total (values a))
 
--- what follows its first bytes that don't count reads as the string's pieces
+-- what follows the first bytes that don't count has the inner values of the string
 pub values-idle : (s : List ℕ) (n : ℕ) → inner_parts 0 s ≡ inner_parts (0 + n) (drop n s)
     → (0 < length (drop n s) → is_idle (drop n s) 0 ≡ false)
     → values (drop n s) ≡ inner_values s

@@ -1,7 +1,7 @@
 -- The last piece of a string, and its last part.
 use Rattle.std.proofs.Common.{◌≡◌, ℕ, zero, suc, ◌+◌, ◌-◌, ◌<◌, true, false, eqb, List, [], ◌∷◌}
 use Rattle.std.proofs.Common.{◌++◌, length, get_or, take, drop, refl, sym, ap, ap₂, ◌∙◌, arith}
-use Rattle.std.proofs.Common.{eqb-true, take_all, append-nil, append_assoc, get_or-drop}
+use Rattle.std.proofs.Common.{eqb-true, take_all, append-nil, get_or-drop}
 use Rattle.std.proofs.Common.{length-drop, lt-ltb, length-take-le, take-append-drop}
 use Rattle.std.specs.List.{position_or_len}
 use Rattle.std.specs.Str.{bytes_eq}
@@ -9,17 +9,17 @@ use Rattle.std.proofs.lemmas.Slice.Eq.{bytes_eq-Decides}
 use Rattle.std.proofs.lemmas.Bool.{both_ways}
 use Rattle.std.proofs.lemmas.List.{drop_all, take_more, drop_more}
 use Rattle.unix_path.proofs.CaseLemmas.{by_test}
-use Rattle.unix_path.proofs.CutLemmas.{inner_parts-append}
 use Rattle.unix_path.proofs.IdleLemmas.{parts-busy}
 use Rattle.unix_path.proofs.PartLemmas.{parts-name, parts-root}
 use Rattle.unix_path.proofs.PieceLemmas.{inner_parts-first, inner_parts-nil, parts_of_piece}
 use Rattle.unix_path.proofs.PieceLemmas.{first_piece}
 use Rattle.unix_path.proofs.PieceLemmas.{position_or_len-other, position_or_len-slash}
-use Rattle.unix_path.proofs.TrimLemmas.{leading_past_slash}
-use Rattle.unix_path.specs.Parts.{RootDir, inner_parts, cur_dir, is_slash, leading_part, parts}
+use Rattle.unix_path.proofs.TrimLemmas.{parts-append}
+use Rattle.unix_path.specs.Parts.{RootDir, inner_parts, cur_dir, is_slash, parts}
 use Rattle.unix_path.specs.Parts.{value_of_piece}
 use Rattle.unix_path.specs.Steps.{EndsInPart, IsLastStart, first_value, is_trailing}
 
+-- a string whose last piece begins behind a slash is what stands before that, it, and the piece
 split_last : (s : List ℕ) (start : ℕ) → IsLastStart s start → 0 < start
     → s ≡ take (start - 1) s ++ 47 ∷ drop start s
 split_last s start h some =
@@ -30,6 +30,7 @@ split_last s start h some =
     sym (take-append-drop j s)
     ∙ ap (λ r. take j s ++ r) (next ∙ ap₂ (λ b k. b ∷ drop k s) (h.after_slash some) k)
 
+-- a string without a slash is its first piece
 whole_first : (s : List ℕ) → position_or_len is_slash s ≡ length s
     → (first_piece s ≡ s) × (drop (position_or_len is_slash s) s ≡ [])
 whole_first s e = (
@@ -55,7 +56,6 @@ last_after_slash : (s : List ℕ) (start : ℕ) → IsLastStart s start → 0 < 
     → bytes_eq (drop start s) [] ≡ false → bytes_eq (drop start s) cur_dir ≡ false
     → parts s ≡ parts (take start s) ++ record
     { start = start; end = length s; value = value_of_piece (drop start s) } ∷ []
-unfolding parts
 last_after_slash s start h some named no_dot =
     let x = take (start - 1) s in
     let y = drop start s in
@@ -72,13 +72,7 @@ last_after_slash s start h some named no_dot =
     { start = start; end = length s; value = value_of_piece y } ∷ [] =
     inner_parts_one (0 + length x + 1) y h.no_slash named no_dot
     ∙ ap₂ (λ a b. record { start = a; end = b; value = value_of_piece y } ∷ []) from to in
-    ap parts is ∙ ap₂ ◌++◌ (leading_past_slash x y [])
-    (inner_parts-append 0 x y ∙ ap (λ ps. inner_parts 0 x ++ ps) one)
-    ∙ sym (append_assoc (leading_part (x ++ 47 ∷ [])) (inner_parts 0 x) _)
-    ∙ ap (λ l. l ++ record { start = start; end = length s; value = value_of_piece y } ∷ [])
-    (sym (ap parts before ∙ ap (λ ps. leading_part (x ++ 47 ∷ []) ++ ps)
-    (inner_parts-append 0 x [] ∙ ap (λ ps. inner_parts 0 x ++ ps) (inner_parts-nil _)
-    ∙ append-nil (inner_parts 0 x))))
+    ap parts is ∙ parts-append x y ∙ ap₂ ◌++◌ (sym (ap parts before)) one
 
 -- the last piece of a string that ends in a part, where a slash stands before it, counts
 pub last_counts : (s : List ℕ) (start : ℕ) → IsLastStart s start → 0 < start → start < length s
@@ -103,6 +97,7 @@ last_counts s start h some l ends =
           (λ e. e),
     )
 
+-- a string without a slash doesn't begin with one
 no_slash_head : (s : List ℕ) → position_or_len is_slash s ≡ length s → 0 < length s
     → eqb (get_or s 0 0) 47 ≡ false
 no_slash_head [] e l = absurd (omega arith)
@@ -183,6 +178,7 @@ start_more b s (suc k) h =
       },
     )
 
+-- every string has a last piece, which begins somewhere
 pub last_start : (s : List ℕ) → (k : ℕ) × IsLastStart s k
 last_start [] = (
   0,

@@ -6,13 +6,14 @@ use Rattle.std.proofs.lemmas.List.{drop_all, drop-map, take-map, drop-take, leng
 use Rattle.std.proofs.lemmas.List.{take-take}
 use Rattle.unix_path.proofs.CaseLemmas.{by_test}
 use Rattle.unix_path.proofs.PlaceLemmas.{part_at}
-use Rattle.unix_path.proofs.SpanLemmas.{StandsAt, span_at}
+use Rattle.unix_path.proofs.SpanLemmas.{StandsAt, span_at, trims_end}
 use Rattle.unix_path.proofs.SplitLemmas.{drops_to, takes_to}
-use Rattle.unix_path.proofs.TrimLemmas.{EndsInPart-drop, EndsInPart-take, trims_to}
+use Rattle.unix_path.proofs.TrimLemmas.{EndsInPart-drop}
 use Rattle.unix_path.specs.Parts.{parts}
 use Rattle.unix_path.specs.Rest.{rest, span_of}
 use Rattle.unix_path.specs.Steps.{EndsInPart}
 
+-- what stands at j in what stands at i in s stands at i + j in s
 pub stands_in : (s w v : List ℕ) (i j : ℕ) → take (length w) (drop i s) ≡ w
     → take (length v) (drop j w) ≡ v → take (length v) (drop (i + j) s) ≡ v
 stands_in s w v i j outer inner = by_test (ltb j (length w))
@@ -30,6 +31,7 @@ stands_in s w v i j outer inner = by_test (ltb j (length w))
     ∙ take_all (length v) [] (omega arith) in
     ap (λ v. take (length v) (drop (i + j) s)) none ∙ sym none)
 
+-- a list without its first k and its last m elements
 abbrev pub middle : {X : Type 0} → ℕ → ℕ → List X → List X
 middle k m xs = take (length xs - (k + m)) (drop k xs)
 
@@ -41,19 +43,20 @@ pub record Middle (s : List ℕ) (k m : ℕ) : Type 0 where
   pub is : middle k m (parts s) ≡ map (part_at at) (parts left)
   pub ends : EndsInPart left
 
+-- after any number of parts is taken, a string is left that stands in s
 unfoldable pub middle_of : (s : List ℕ) (k m : ℕ) → Middle s k m
 middle_of s k m =
-    let trim = trims_to s (length s) (omega arith) in
+    let trim = trims_end s in
     let n = trim.len in
     let ln = trim.in_range in
     let s0 = take n s in
-    let all : parts s0 ≡ parts s = trim.same ∙ ap parts (take_all (length s) s (omega arith)) in
+    let all = trim.same in
     let size : length s0 ≡ n = length-take-le n s ln in
     let dropped = drops_to s0 k in
     let i = dropped.at in
     let li = dropped.in_range in
     let u = drop i s0 in
-    let taken = takes_to u m (EndsInPart-drop s0 i li (EndsInPart-take s n ln trim.ends)) in
+    let taken = takes_to u m (EndsInPart-drop s0 i li trim.ends) in
     let w = take taken.len u in
     let lw = taken.in_range in
     let size_u : length u ≡ length s0 - i = length-drop i s0 in
@@ -76,15 +79,18 @@ middle_of s k m =
       ends = taken.ends;
     }
 
+-- the rest is what is left of s
 pub rest-middle : (s : List ℕ) (k m : ℕ) (h : Middle s k m) → rest s k m ≡ h.left
 unfolding rest
 rest-middle s k m h = ap (span_of s) h.is ∙ span_at s h.left h.at h.stands h.ends
 
+-- a function of each element may be taken before or after some are left out
 pub map-middle : {X Y : Type 0} (f : X → Y) (k m : ℕ) (xs : List X)
     → middle k m (map f xs) ≡ map f (middle k m xs)
 map-middle f k m xs = ap₂ (λ n ys. take (n - (k + m)) ys) (length-map xs f) (drop-map f k xs)
     ∙ take-map f (length xs - (k + m)) (drop k xs)
 
+-- elements that are left out at two times may be left out at once
 pub middle-middle : {X : Type 0} (k m i j : ℕ) (xs : List X)
     → middle i j (middle k m xs) ≡ middle (k + i) (m + j) xs
 middle-middle k m i j xs =

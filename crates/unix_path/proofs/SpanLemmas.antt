@@ -14,6 +14,7 @@ use Rattle.unix_path.specs.Parts.{Part, Value, inner_parts, parts}
 use Rattle.unix_path.specs.Rest.{last_end, rest, span_of}
 use Rattle.unix_path.specs.Steps.{EndsInPart, parts_end}
 
+-- the last of some parts and one more behind them is that one
 last_end-append : (p : Part) (ps : List Part) (q : Part) → last_end p (ps ++ q ∷ []) ≡ q.end
 last_end-append p [] q = refl
 last_end-append p (r ∷ ps) q = last_end-append r ps q
@@ -40,6 +41,7 @@ parts_end-whole s ends =
     ∙ ap parts_end (parts-busy [] (λ l. absurd (omega arith)) ∙ inner_parts-nil 0)
     ∙ ap length (sym (nil_from_length s (omega (arith, ltb-false _ _ none))))))
 
+-- parts of which the first begins at place 0 span a beginning of the string
 from_zero : (t : List ℕ) {all : List Part} {v : Value} {e : ℕ} {ps : List Part}
     → all ≡ record { start = 0; end = e; value = v } ∷ ps → span_of t all ≡ take (parts_end all) t
 from_zero t {v = v} {e = e} {ps = ps} is =
@@ -59,12 +61,13 @@ span-parts t s = by_test (ltb 0 (length s))
     ∙ inner_parts-nil 0 in
     ap (span_of t) is ∙ ap (λ ps. take (parts_end ps) t) (sym is))
 
+-- where no part is taken, what is left ends where the last part ends
 pub rest-whole : (s : List ℕ) → rest s 0 0 ≡ take (parts_end (parts s)) s
 unfolding rest
 rest-whole s = ap (span_of s) (take_all (length (parts s) - (0 + 0)) (parts s) (omega arith))
     ∙ span-parts s s
 
--- a string, trims_end at its end, is its rest
+-- the beginning of a string that has all its parts and ends in one is the rest of the string
 pub rest-trimmed : (s : List ℕ) (n : ℕ) → n ≤ length s → parts (take n s) ≡ parts s
     → EndsInPart (take n s) → rest s 0 0 ≡ take n s
 rest-trimmed s n l same ends = rest-whole s
@@ -87,6 +90,7 @@ span_of-part_at s at (p ∷ ps) w span end stands none first =
     omega (arith, last_end-part_at at p ps, first p ps refl) in
     ap₂ (λ n i. take n (drop i s)) size start ∙ stands
 
+-- the first part of a string begins at its first byte
 first_start : (s : List ℕ) (p : Part) (qs : List Part) → parts s ≡ p ∷ qs → p.start ≡ 0
 first_start s p qs e = by_test (ltb 0 (length s))
     (λ some. by_test (eqb (get_or s 0 0) 47)
@@ -99,6 +103,7 @@ first_start s p qs e = by_test (ltb 0 (length s))
     start_of : {p q : Part} {ps qs : List Part} → p ∷ ps ≡ q ∷ qs → p.start ≡ q.start
     start_of h = cc
 
+-- the parts of w span it, where it stands in s
 pub span_at : (s w : List ℕ) (at : ℕ) → StandsAt s at w → EndsInPart w
     → span_of s (map (part_at at) (parts w)) ≡ w
 span_at s w at stands ends =
@@ -106,24 +111,14 @@ span_at s w at stands ends =
     span_of-part_at s at (parts w) w (span-parts w w) end stands
     (λ none. nil_from_length w (sym end ∙ ap parts_end none)) (first_start w)
 
--- a fresh cursor's rest ends where the last part ends
-pub length-rest_whole : (s : List ℕ) → length (rest s 0 0) ≡ parts_end (parts s)
-length-rest_whole s =
-    let trim = trims_to s (length s) (omega arith) in
-    let n = trim.len in
-    let ends = EndsInPart-take s n trim.in_range trim.ends in
-    let all : parts (take n s) ≡ parts s = trim.same
-    ∙ ap parts (take_all (length s) s (omega arith)) in
-    ap length (rest-trimmed s n trim.in_range all ends) ∙ sym (parts_end-whole (take n s) ends)
-    ∙ ap parts_end all
-
--- without what doesn't count at its end
+-- the first `len` bytes of s have all its parts and end in one
 pub record TrimsEnd (s : List ℕ) : Type 0 where
   pub len : ℕ
   pub in_range : len ≤ length s
   pub same : parts (take len s) ≡ parts s
   pub ends : EndsInPart (take len s)
 
+-- every string can lose what doesn't count at its end
 pub trims_end : (s : List ℕ) → TrimsEnd s
 trims_end s =
     let trim = trims_to s (length s) (omega arith) in
@@ -134,3 +129,10 @@ trims_end s =
           ∙ ap parts (take_all (length s) s (omega arith));
       ends = EndsInPart-take s trim.len trim.in_range trim.ends;
     }
+
+-- a fresh cursor's rest ends where the last part ends
+pub length-rest_whole : (s : List ℕ) → length (rest s 0 0) ≡ parts_end (parts s)
+length-rest_whole s =
+    let trim = trims_end s in
+    ap length (rest-trimmed s trim.len trim.in_range trim.same trim.ends)
+    ∙ sym (parts_end-whole (take trim.len s) trim.ends) ∙ ap parts_end trim.same

@@ -12,26 +12,40 @@ use Rattle.unix_path.proofs.PieceLemmas.{inner_parts-dot, inner_parts-nil}
 use Rattle.unix_path.specs.Parts.{inner_parts, leading_part, parts}
 use Rattle.unix_path.specs.Steps.{EndsInPart, is_trailing}
 
+-- a slash at the end doesn't count
 pub parts-slash : (x : List ℕ) → 0 < length x → parts (x ++ 47 ∷ []) ≡ parts x
 unfolding parts
 parts-slash x l = ap₂ ◌++◌ (leading_part-append x [] l)
     (inner_parts-append 0 x [] ∙ ap (λ ps. inner_parts 0 x ++ ps) (inner_parts-nil _)
     ∙ append-nil (inner_parts 0 x))
 
+-- what follows a slash doesn't change the leading part
 pub leading_past_slash : (x y z : List ℕ) → leading_part (x ++ 47 ∷ y) ≡ leading_part (x ++ 47 ∷ z)
 unfolding leading_part
 leading_past_slash [] y z = refl
 leading_past_slash (b ∷ x) y z = leading_part-append (b ∷ x) y (omega arith)
     ∙ sym (leading_part-append (b ∷ x) z (omega arith))
 
-parts-slash_dot : (x : List ℕ) → parts (x ++ 47 ∷ 46 ∷ []) ≡ parts (x ++ 47 ∷ [])
+-- cut just after a slash, a string has the parts of both sides
+pub parts-append : (x y : List ℕ)
+    → parts (x ++ 47 ∷ y) ≡ parts (x ++ 47 ∷ []) ++ inner_parts (0 + length x + 1) y
 unfolding parts
-parts-slash_dot x =
-    ap₂ ◌++◌ (leading_past_slash x (46 ∷ []) [])
-    (inner_parts-append 0 x (46 ∷ [])
-    ∙ ap (λ ps. inner_parts 0 x ++ ps) (inner_parts-dot _ ∙ sym (inner_parts-nil _))
-    ∙ sym (inner_parts-append 0 x []))
+parts-append x y =
+    let n = 0 + length x + 1 in
+    let lead = leading_part (x ++ 47 ∷ []) in
+    ap₂ ◌++◌ (leading_past_slash x y []) (inner_parts-append 0 x y)
+    ∙ sym (append_assoc lead (inner_parts 0 x) (inner_parts n y))
+    ∙ ap (λ ps. (lead ++ ps) ++ inner_parts n y)
+    (sym (inner_parts-append 0 x [] ∙ ap (λ ps. inner_parts 0 x ++ ps) (inner_parts-nil n)
+    ∙ append-nil (inner_parts 0 x)))
 
+-- a `.` behind a slash doesn't count
+parts-slash_dot : (x : List ℕ) → parts (x ++ 47 ∷ 46 ∷ []) ≡ parts (x ++ 47 ∷ [])
+parts-slash_dot x =
+    parts-append x (46 ∷ []) ∙ ap (λ ps. parts (x ++ 47 ∷ []) ++ ps) (inner_parts-dot _)
+    ∙ append-nil (parts (x ++ 47 ∷ []))
+
+-- a trailing byte is not the first, and is a slash, or a `.` after a slash
 trailing_from : (s : List ℕ) (i : ℕ) → is_trailing s i ≡ true
     → (0 < i) × ((get_or s i 0 ≡ 47) ⊎ ((get_or s i 0 ≡ 46) × (get_or s (i - 1) 0 ≡ 47)))
 trailing_from s i e =
@@ -45,6 +59,7 @@ trailing_from s i e =
           (eqb (get_or s i 0) 46 && eqb (get_or s (i - 1) 0) 47) both.1),
     )
 
+-- a trailing byte at the end doesn't count
 pub parts_trailing : (s : List ℕ) (i : ℕ) → i < length s → is_trailing s i ≡ true
     → parts (take (i + 1) s) ≡ parts (take i s)
 parts_trailing s i l e =
@@ -66,7 +81,7 @@ parts_trailing s i l e =
     ∙ ap parts (sym before))
     is.1
 
--- without its last byte, which doesn't count
+-- the first n bytes without a last one that doesn't count have the same parts
 pub parts_shorter : (s : List ℕ) (n : ℕ) → 0 < n → n ≤ length s → is_trailing s (n - 1) ≡ true
     → parts (take (n - 1) s) ≡ parts (take n s)
 parts_shorter s n some l e =
@@ -111,6 +126,7 @@ pub record TrimsTo (t : List ℕ) (n : ℕ) : Type 0 where
   pub same : parts (take len t) ≡ parts (take n t)
   pub ends : 0 < len → is_trailing t (len - 1) ≡ false
 
+-- the first n bytes can lose what doesn't count at their end
 pub trims_to : (t : List ℕ) (n : ℕ) → n ≤ length t → TrimsTo t n
 trims_to t zero l = record
     { len = 0; in_range = omega arith; same = refl; ends = λ l. absurd (omega arith) }
