@@ -1,27 +1,19 @@
 use Rattle.std.specs.Prelude.{slice_range}
 use Rattle.std.proofs.Common.{◌≡◌, ◌+◌, ◌&&◌, ltb, ap, ◌∙◌, sym, eqb-true, arith}
 use Rattle.std.proofs.lemmas.List.{nil_from_length}
-use Rattle.unix_path.specs.Parts.{values}
-use Rattle.unix_path.specs.Rest.{rest}
 use Rattle.unix_path.specs.Steps.{IsWalk}
 use Rattle.unix_path.specs.Cursor.{cursor_rest, cursor_source}
 use Rattle.unix_path.specs.Steps.{is_idle}
+use Rattle.unix_path.proofs.CursorLemmas.{GivesLast-none}
 use Rattle.unix_path.proofs.OffsetLemmas.{walks_back}
-use Rattle.unix_path.proofs.PartLemmas.{values-nil, rest-nil}
 use Rattle.unix_path.proofs.SourceLemmas.{LiesIn-itself}
 use Rattle.unix_path.proofs.cursor.components.Components.take_last.Goals.{then-self, else-self}
 use Rattle.unix_path.proofs.cursor.components.Components.take_last.Goals as goal
 
 pub returns-then-is_empty-clause-steps : goal.returns-then-is_empty-clause-steps
 returns-then-is_empty-clause-steps c =
-    let none = sym c.as_path.ensures.bytes
-    ∙ nil_from_length _ (eqb-true _ 0 (sym c.is_empty.ensures ∙ c.if-is_empty.true)) in
-    let no_value = ap values none ∙ values-nil in
-    record {
-      item_is = (no_value, no_value);
-      rest_is = none ∙ sym (ap (λ s. rest s 0 1) none ∙ rest-nil 0 1);
-      place_is = LiesIn-itself (cursor_source c.args.self.now);
-    }
+    GivesLast-none c.args.self.now (sym c.as_path.ensures.bytes
+    ∙ nil_from_length _ (eqb-true _ 0 (sym c.is_empty.ensures ∙ c.if-is_empty.true)))
 
 pub invariant_of-self : goal.invariant_of-self
 unfolding cursor_rest IsWalk
