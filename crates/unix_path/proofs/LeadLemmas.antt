@@ -18,28 +18,29 @@ use Rattle.unix_path.proofs.PlaceLemmas.{values-inner_parts}
 use Rattle.unix_path.specs.Steps.{StepsFirst, TakesFirst}
 use Rattle.unix_path.specs.Steps.{begins_with_parent, first_value, is_idle}
 
--- nothing, or a slash
-at_once : (s : List ℕ) → get_or s 0 47 ≡ 47 → position_or_len is_slash s ≡ 0
-at_once [] e = refl
-at_once (b ∷ s) e = position_or_len-slash b s (rw e refl)
+-- the first piece of an empty string, or of one that begins with a slash, has no byte
+position_or_len-cut : (s : List ℕ) → get_or s 0 47 ≡ 47 → position_or_len is_slash s ≡ 0
+position_or_len-cut [] e = refl
+position_or_len-cut (b ∷ s) e = position_or_len-slash b s (rw e refl)
 
--- a dot, and then a slash or nothing
+-- a `.` that a slash or the end follows is the first part
 parts-leading_dot : (s : List ℕ) → get_or s 0 47 ≡ 47
     → parts (46 ∷ s) ≡ record { start = 0; end = 1; value = CurDir } ∷ inner_parts 1 s
 parts-leading_dot s e =
     let one : position_or_len is_slash (46 ∷ s) ≡ 1 =
-    position_or_len-other 46 s refl ∙ ap (λ n. 1 + n) (at_once s e) in
+    position_or_len-other 46 s refl ∙ ap (λ n. 1 + n) (position_or_len-cut s e) in
     parts-name (46 ∷ s) (omega arith) refl
     ∙ ap (λ n. record { start = 0; end = n; value = first_value (take n (46 ∷ s)) }
     ∷ inner_parts n (drop n (46 ∷ s))) one
 
--- two dots, and then a slash or nothing
+-- a `..` that a slash or the end follows is the first part
 parts-two_dots : (s : List ℕ) → get_or s 0 47 ≡ 47
     → parts (46 ∷ 46 ∷ s) ≡ record { start = 0; end = 2; value = ParentDir } ∷ inner_parts 2 s
 parts-two_dots s e =
     let two : position_or_len is_slash (46 ∷ 46 ∷ s) ≡ 2 =
     position_or_len-other 46 (46 ∷ s) refl
-    ∙ ap (λ n. 1 + n) (position_or_len-other 46 s refl ∙ ap (λ n. 1 + n) (at_once s e)) in
+    ∙ ap (λ n. 1 + n)
+    (position_or_len-other 46 s refl ∙ ap (λ n. 1 + n) (position_or_len-cut s e)) in
     parts-name (46 ∷ 46 ∷ s) (omega arith) refl
     ∙ ap (λ n. record { start = 0; end = n; value = first_value (take n (46 ∷ 46 ∷ s)) }
     ∷ inner_parts n (drop n (46 ∷ 46 ∷ s))) two
@@ -56,29 +57,33 @@ parts-dot_first (b ∷ s) l e differs =
     slash_or_not : (b : ℕ) → b ≡ 47 → eqb b 47 ≡ false → ⊥
     slash_or_not b is e = cc
 
-alone : (b : ℕ) → (eqb b 46 && false) ≡ true → ⊥
-alone b e = by_test (eqb b 46) (λ h. both_ways _ (rw h refl) e) (λ h. both_ways _ (rw h refl) e)
+-- a string of one byte doesn't begin with `..`
+one_byte_no_parent : (b : ℕ) → (eqb b 46 && false) ≡ true → ⊥
+one_byte_no_parent b e =
+    by_test (eqb b 46) (λ h. both_ways _ (rw h refl) e) (λ h. both_ways _ (rw h refl) e)
 
 -- a string that begins with `..`
 pub parts-parent_first : (s : List ℕ) → begins_with_parent s ≡ true
     → parts s ≡ record { start = 0; end = 2; value = ParentDir } ∷ inner_parts 2 (drop 2 s)
 parts-parent_first [] e = cc
-parts-parent_first (b ∷ []) e = absurd (alone b e)
+parts-parent_first (b ∷ []) e = absurd (one_byte_no_parent b e)
 parts-parent_first (b ∷ c ∷ s) e =
     let first = and_parts (eqb b 46) (eqb c 46 && eqb (get_or s 0 47) 47) e in
     let second = and_parts (eqb c 46) (eqb (get_or s 0 47) 47) first.1 in
     ap₂ (λ b c. parts (b ∷ c ∷ s)) (eqb-true b 46 first.0) (eqb-true c 46 second.0)
     ∙ parts-two_dots s (eqb-true _ 47 second.1)
 
+-- a string that begins with `..` has two bytes at least
 pub length-parent_first : (s : List ℕ) → begins_with_parent s ≡ true → 2 ≤ length s
 length-parent_first [] e = cc
-length-parent_first (b ∷ []) e = absurd (alone b e)
+length-parent_first (b ∷ []) e = absurd (one_byte_no_parent b e)
 length-parent_first (b ∷ c ∷ s) e = omega arith
 
 -- what is not idle doesn't begin with a slash
 pub busy_no_slash : (s : List ℕ) → is_idle s 0 ≡ false → eqb (get_or s 0 0) 47 ≡ false
 busy_no_slash s e = (or_parts (eqb (get_or s 0 0) 47) _ e).0
 
+-- whether the first piece is `.`, by its first two bytes
 first_piece_dot : (s : List ℕ)
     → bytes_eq (first_piece s) cur_dir ≡ (eqb (get_or s 0 0) 46 && eqb (get_or s 1 47) 47)
 first_piece_dot [] = refl
@@ -89,6 +94,7 @@ first_piece_dot (b ∷ s) = by_test (eqb b 47)
     ∙ ap (λ p. bytes_eq p cur_dir) (take-suc_cons (position_or_len is_slash s) b s)
     ∙ ap (λ t. eqb b 46 && t) (first_piece_empty s))
 
+-- whether the first piece is `..`, by its first three bytes
 first_piece_parent : (s : List ℕ) → eqb (get_or s 0 0) 47 ≡ false
     → bytes_eq (first_piece s) parent_dir ≡ begins_with_parent s
 first_piece_parent [] e = refl

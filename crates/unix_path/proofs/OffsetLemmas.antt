@@ -24,12 +24,14 @@ use Rattle.unix_path.proofs.SpanLemmas.{parts_end-whole}
 pub length-range : (s : List ℕ) (a b : ℕ) → b ≤ length s → length (slice_range s a b) ≡ b - a
 length-range s a b l = omega (arith, length-take (b - a) (drop a s), length-drop a s)
 
+-- what stands from a to b, without its first n bytes, stands from a + n to b
 range-drop : (s : List ℕ) (a b n : ℕ) → n ≤ b - a
     → drop n (slice_range s a b) ≡ slice_range s (a + n) b
 range-drop s a b n l =
     ap (λ k. drop n (take k (drop a s))) {x = b - a} {y = n + (b - (a + n))} (omega arith)
     ∙ drop-take n (b - (a + n)) (drop a s) ∙ ap (take (b - (a + n))) (drop-drop n a s)
 
+-- the first n bytes of what stands from a to b stand from a to a + n
 range-take : (s : List ℕ) (a b n : ℕ) → n ≤ b - a
     → take n (slice_range s a b) ≡ slice_range s a (a + n)
 range-take s a b n l =
@@ -91,6 +93,7 @@ pub record StepsForward (s : List ℕ) (a b n : ℕ) (v : Value) : Type 0 where
   pub takes : TakesFirst (slice_range s a b) (slice_range s (a + n) b) v
   pub lead : false ≡ is_idle (slice_range s (a + n) b) 0
 
+-- a step over the first part of what stands from a to b moves a by n
 pub steps_forward : (s : List ℕ) (a b n : ℕ) (v : Value) → a ≤ b → b ≤ length s
     → EndsInPart (slice_range s a b) → StepsFirst (slice_range s a b) n v → StepsForward s a b n v
 steps_forward s a b n v in_order in_range ends step =
@@ -104,7 +107,7 @@ steps_forward s a b n v in_order in_range ends step =
           (subst (λ u. 0 < length u → is_idle u 0 ≡ false) is step.busy);
     }
 
--- so it is in what is left of a walk
+-- a step over the first part of what is left of a walk moves the first of its places by n
 pub walks_forward : {t : List ℕ} (c : Components) (n : ℕ) (v : Value) → t ≡ cursor_rest c
     → StepsFirst t n v → StepsForward c.source.now c.front c.back n v
 unfolding cursor_rest IsWalk
@@ -118,6 +121,7 @@ pub record StepsBack (s : List ℕ) (a b n : ℕ) (v : Value) : Type 0 where
   pub takes : TakesLast (slice_range s a b) (slice_range s a (a + n)) v
   pub lead : (is_idle (slice_range s a b) 0 && ltb 0 n) ≡ is_idle (slice_range s a (a + n)) 0
 
+-- a string that ends in a part and has none is empty
 no_values : (u : List ℕ) → EndsInPart u → values u ≡ [] → length u ≡ 0
 unfolding values
 no_values u ends e =
@@ -133,9 +137,11 @@ lead_first-push (CurDir ∷ vs) v some = refl
 lead_first-push (ParentDir ∷ vs) v some = refl
 lead_first-push (Normal name ∷ vs) v some = refl
 
-lead_left : (t u : List ℕ) (v : Value) (n : ℕ) → TakesLast t u v → length u ≡ n
+-- what is left before the last part begins with a root or a `.` that counts where all of it did,
+-- unless nothing is left
+lead_before_last : (t u : List ℕ) (v : Value) (n : ℕ) → TakesLast t u v → length u ≡ n
     → (is_idle t 0 && ltb 0 n) ≡ is_idle u 0
-lead_left t u v n h size = by_test (ltb 0 n)
+lead_before_last t u v n h size = by_test (ltb 0 n)
     (λ e.
     let some : 0 < n = ltb-true _ _ e in
     rw e (and_true (is_idle t 0) ∙ is_idle-first t ∙ ap lead_first h.value
@@ -153,6 +159,7 @@ lead_left t u v n h size = by_test (ltb 0 n)
     and_false true = refl
     and_false false = refl
 
+-- a step over the last part of what stands from a to b moves b to n bytes behind a
 pub steps_back : (s : List ℕ) (a b n : ℕ) (v : Value) → a ≤ b → b ≤ length s
     → n ≤ length (slice_range s a b) → TakesLast (slice_range s a b) (take n (slice_range s a b)) v
     → StepsBack s a b n v
@@ -166,10 +173,10 @@ steps_back s a b n v in_order in_range l takes =
     record {
       in_order = omega arith;
       takes = moved;
-      lead = lead_left (slice_range s a b) (slice_range s a (a + n)) v n moved before;
+      lead = lead_before_last (slice_range s a b) (slice_range s a (a + n)) v n moved before;
     }
 
--- so it is in what is left of a walk
+-- a step over the last part of what is left of a walk moves the second of its places
 pub walks_back : {t : List ℕ} (c : Components) (n : ℕ) (v : Value) → t ≡ cursor_rest c
     → n ≤ length t → TakesLast t (take n t) v → StepsBack c.source.now c.front c.back n v
 unfolding cursor_rest IsWalk

@@ -25,12 +25,14 @@ pub no_root_piece : (p : List ℕ) → value_of_piece p ≡ RootDir → ⊥
 no_root_piece p =
     by_test (bytes_eq p parent_dir) (λ e. rw e (λ h. cc)) (λ e. rw e (λ h. cc))
 
+-- none of the values of pieces is the root
 no_root_pieces : (at : ℕ) (ps : List (List ℕ)) → NoRoot (map (λ p. p.value) (parts_of_pieces at ps))
 no_root_pieces at [] = tt
 no_root_pieces at (p ∷ ps) =
     let next = no_root_pieces (at + length p + 1) ps in
     by_test (counts p) (λ e. rw e (no_root_piece p, next)) (λ e. rw e next)
 
+-- none of the inner values is the root
 no_root_inner : (at : ℕ) (s : List ℕ) → NoRoot (map (λ p. p.value) (inner_parts at s))
 unfolding inner_parts
 no_root_inner at s = no_root_pieces at (slice_split is_slash s)
@@ -41,6 +43,7 @@ pub record BeginsBy (s : List ℕ) (v : Value) : Type 0 where
   pub is : values s ≡ v ∷ more
   pub no_root : NoRoot more
 
+-- a string that begins with a slash has the root as its first value
 begins_by_root : (s : List ℕ) → eqb (get_or s 0 0) 47 ≡ true → BeginsBy s RootDir
 unfolding values
 begins_by_root s e = record {
@@ -49,6 +52,7 @@ begins_by_root s e = record {
   no_root = no_root_inner 1 (drop 1 s);
 }
 
+-- any other string that isn't empty has the value of its first piece as its first
 begins_by_name : (s : List ℕ) → 0 < length s → eqb (get_or s 0 0) 47 ≡ false
     → BeginsBy s (first_value (first_piece s))
 unfolding values
@@ -60,6 +64,7 @@ begins_by_name s l e =
       no_root = no_root_inner n (drop n s);
     }
 
+-- values of which the first is the root begin with it
 Begins-root : (vs : List Value) → root_first vs ≡ true → Begins (RootDir ∷ []) vs
 Begins-root [] e = absurd (let d : false ≡ true = e in cc)
 Begins-root (RootDir ∷ vs) e = (vs, refl)
@@ -77,17 +82,20 @@ rooted-Begins s r e = (
 abbrev pub root_count : List Value → ℕ
 root_count vs = cond (root_first vs) 1 0
 
+-- the number of roots among a path's values tells whether it is rooted
 pub root_count-values : (s : List ℕ) → cond (is_rooted s) 1 0 ≡ root_count (values s)
 root_count-values s = ap (λ c. cond c 1 0) (sym (root_first-values s))
 
+-- where none of the values is the root, the last is not
 no_root_last : (vs : List Value) (v : Value) → NoRoot (vs ++ v ∷ []) → v ≡ RootDir → ⊥
 no_root_last [] v h = h.0
 no_root_last (w ∷ vs) v h = no_root_last vs v h.1
 
-alone : (v w : Value) (more vs : List Value) → NoRoot more → v ∷ more ≡ vs ++ w ∷ []
+-- where no value behind v is the root, nothing stands before a last one that is
+before_last_root : (v w : Value) (more vs : List Value) → NoRoot more → v ∷ more ≡ vs ++ w ∷ []
     → w ≡ RootDir → length vs ≡ 0
-alone v w more [] h e r = refl
-alone v w more (x ∷ vs) h e r =
+before_last_root v w more [] h e r = refl
+before_last_root v w more (x ∷ vs) h e r =
     let tail : more ≡ vs ++ w ∷ [] = cc in
     absurd (no_root_last vs w (subst NoRoot tail h) r)
 
@@ -97,10 +105,10 @@ root_last s vs e = by_test (ltb 0 (length s))
     (λ some. by_test (eqb (get_or s 0 0) 47)
     (λ slash.
     let h = begins_by_root s slash in
-    alone RootDir RootDir h.more vs h.no_root (sym h.is ∙ e) refl)
+    before_last_root RootDir RootDir h.more vs h.no_root (sym h.is ∙ e) refl)
     (λ other.
     let h = begins_by_name s (ltb-true _ _ some) other in
-    alone (first_value (first_piece s)) RootDir h.more vs h.no_root (sym h.is ∙ e) refl))
+    before_last_root (first_value (first_piece s)) RootDir h.more vs h.no_root (sym h.is ∙ e) refl))
     (λ none.
     let nil : values s ≡ [] =
     ap values (nil_from_length s (omega (arith, ltb-false _ _ none))) ∙ values-nil in

@@ -22,47 +22,50 @@ use Rattle.unix_path.proofs.ParentLemmas.{file_name_of-last}
 use Rattle.unix_path.proofs.RestLemmas.{take-rest}
 use Rattle.unix_path.proofs.SpanLemmas.{length-rest_whole, parts_end-append}
 
--- a part is as long as its bytes
-abbrev IsSized : Part → Type 0
-IsSized p = p.end ≡ p.start + length (value_bytes p.value)
+-- a part is as long as the bytes of its value
+abbrev SpansValue : Part → Type 0
+SpansValue p = p.end ≡ p.start + length (value_bytes p.value)
 
--- a piece is its value's bytes
+-- the value of a piece has the piece's bytes
 pub value_bytes-piece : (p : List ℕ) → value_bytes (value_of_piece p) ≡ p
 value_bytes-piece p = by_test (bytes_eq p parent_dir)
     (λ e. rw e (sym ((bytes_eq-Decides p parent_dir).0 e))) (λ e. rw e refl)
 
-IsSized-parts_of_pieces : (at : ℕ) (ps : List (List ℕ))
-    → AllByRecursion IsSized (parts_of_pieces at ps)
-IsSized-parts_of_pieces at [] = tt
-IsSized-parts_of_pieces at (p ∷ ps) =
-    let next = IsSized-parts_of_pieces (at + length p + 1) ps in
+SpansValue-parts_of_pieces : (at : ℕ) (ps : List (List ℕ))
+    → AllByRecursion SpansValue (parts_of_pieces at ps)
+SpansValue-parts_of_pieces at [] = tt
+SpansValue-parts_of_pieces at (p ∷ ps) =
+    let next = SpansValue-parts_of_pieces (at + length p + 1) ps in
     by_test (counts p)
     (λ e. rw e (ap (λ b. at + length b) (sym (value_bytes-piece p)), next))
     (λ e. rw e next)
 
-IsSized-append : (ps qs : List Part) → AllByRecursion IsSized ps → AllByRecursion IsSized qs
-    → AllByRecursion IsSized (ps ++ qs)
-IsSized-append [] qs h k = k
-IsSized-append (p ∷ ps) qs h k = (h.0, IsSized-append ps qs h.1 k)
+SpansValue-append : (ps qs : List Part) → AllByRecursion SpansValue ps
+    → AllByRecursion SpansValue qs → AllByRecursion SpansValue (ps ++ qs)
+SpansValue-append [] qs h k = k
+SpansValue-append (p ∷ ps) qs h k = (h.0, SpansValue-append ps qs h.1 k)
 
-IsSized-leading_part : (s : List ℕ) → AllByRecursion IsSized (leading_part s)
+SpansValue-leading_part : (s : List ℕ) → AllByRecursion SpansValue (leading_part s)
 unfolding leading_part
-IsSized-leading_part s = by_test (is_rooted s) (λ e. rw e (refl, tt))
+SpansValue-leading_part s = by_test (is_rooted s) (λ e. rw e (refl, tt))
     (λ e. rw e (by_test (bytes_eq (before_first is_slash s) cur_dir) (λ d. rw d (refl, tt))
     (λ d. rw d tt)))
 
-IsSized-parts : (s : List ℕ) → AllByRecursion IsSized (parts s)
+SpansValue-parts : (s : List ℕ) → AllByRecursion SpansValue (parts s)
 unfolding parts inner_parts
-IsSized-parts s = IsSized-append (leading_part s) (inner_parts 0 s) (IsSized-leading_part s)
-    (IsSized-parts_of_pieces 0 (slice_split is_slash s))
+SpansValue-parts s =
+    SpansValue-append (leading_part s) (inner_parts 0 s) (SpansValue-leading_part s)
+    (SpansValue-parts_of_pieces 0 (slice_split is_slash s))
 
-IsSized-last : (ps : List Part) (p : Part) → AllByRecursion IsSized (ps ++ p ∷ []) → IsSized p
-IsSized-last [] p h = h.0
-IsSized-last (q ∷ ps) p h = IsSized-last ps p h.1
+SpansValue-last : (ps : List Part) (p : Part) → AllByRecursion SpansValue (ps ++ p ∷ [])
+    → SpansValue p
+SpansValue-last [] p h = h.0
+SpansValue-last (q ∷ ps) p h = SpansValue-last ps p h.1
 
 last_start_of-push : (ps : List Part) (p : Part) → last_start_of (ps ++ p ∷ []) ≡ p.start
 last_start_of-push ps p = ap (λ o. option_map_or (λ p. p.start) o 0) (last_or-push None ps p)
 
+-- a value that has a name is that name
 pub name_of-some : (v : Value) (name : List ℕ) → name_of v ≡ Some name → v ≡ Normal name
 name_of-some RootDir name e = absurd (none-some name e)
 name_of-some CurDir name e = absurd (none-some name e)
@@ -87,7 +90,7 @@ last_start_of-name s name e = by_last (snoc (parts s))
         ∙ file_name_of-last (map (λ p. p.value) ps) p.value in
         let v : p.value ≡ Normal name = name_of-some p.value name (sym last ∙ sym e) in
         let size : p.end ≡ p.start + length (value_bytes p.value) =
-        IsSized-last ps p (subst (AllByRecursion IsSized) n (IsSized-parts s)) in
+        SpansValue-last ps p (subst (AllByRecursion SpansValue) n (SpansValue-parts s)) in
         let bytes : length (value_bytes p.value) ≡ length name =
         ap (λ v. length (value_bytes v)) v in
         let from : last_start_of (parts s) ≡ p.start =
@@ -95,6 +98,7 @@ last_start_of-name s name e = by_last (snoc (parts s))
         let to : parts_end (parts s) ≡ p.end = ap parts_end n ∙ parts_end-append ps p in
         omega (arith, length-rest_whole s)
 
+-- a name is no longer than what stands up to its end
 pub length-name : (s name : List ℕ) (end : ℕ) → Some name ≡ file_name_of (values s)
     → end ≡ length (rest s 0 0) → length name ≤ end
 length-name s name end e at = omega (arith, last_start_of-name s name e, at)
@@ -104,6 +108,7 @@ abbrev pub stem_end_by : List ℕ → Option (List ℕ) → Option ℕ
 stem_end_by s name = option_map (λ stem. last_start_of (parts s) + length stem)
     (option_map (λ name. (split_name name).0) name)
 
+-- without a file name there is no place where its stem ends
 pub stem_end_of-none : (s : List ℕ) → None ≡ file_name_of (values s) → None ≡ stem_end_of s
 unfolding stem_end_of
 stem_end_of-none s e = ap (stem_end_by s) e
@@ -120,10 +125,12 @@ stem_end_of-some {stem} s name end e at is =
     omega (arith, at, ap length is) in
     ap Some to ∙ ap (stem_end_by s) e
 
+-- no more is left of a path than its bytes
 pub length-rest_whole-le : (s : List ℕ) → length (rest s 0 0) ≤ length s
 length-rest_whole-le s =
     omega (arith, ap length (take-rest s 0), length-take (length (rest s 0 0)) s)
 
+-- a stem ends in its path
 pub stem_end-le : (s name stem : List ℕ) (end : ℕ) → Some name ≡ file_name_of (values s)
     → end ≡ length (rest s 0 0) → length stem ≤ length name
     → end - length name + length stem ≤ length s

@@ -4,9 +4,10 @@ use Rattle.unix_path.proofs.IdleLemmas.{inner_parts_idle_at}
 use Rattle.unix_path.proofs.cursor.steps.long_idle_len.Goals as goal
 use Rattle.unix_path.proofs.cursor.steps.long_idle_len.Goals.{Then-is_idle}
 
-further : (c : Then-is_idle) (at : ℕ) → inner_parts at c.args.path.now
+-- one idle byte more may be skipped
+skips_one : (c : Then-is_idle) (at : ℕ) → inner_parts at c.args.path.now
     ≡ inner_parts (at + (c.loop-len.len + 1)) (drop (c.loop-len.len + 1) c.args.path.now)
-further c at = c.loop-len.invariant.idle at
+skips_one c at = c.loop-len.invariant.idle at
     ∙ inner_parts_idle_at at c.args.path.now c.loop-len.len c.loop-len-test.true
     (sym c.is_idle.ensures ∙ c.if-is_idle.true)
 
@@ -14,13 +15,13 @@ pub loop-len-preserved : goal.loop-len-preserved
 loop-len-preserved c =
     record {
       in_range = omega arith;
-      idle = further (goal.at.loop-len-preserved c).Then-is_idle;
+      idle = skips_one (goal.at.loop-len-preserved c).Then-is_idle;
     }
 
 pub loop-len-preserved-then-len-eq8 : goal.loop-len-preserved-then-len-eq8
 loop-len-preserved-then-len-eq8 c =
     record {
       in_range = c.idle_blocks_len-len.ensures.in_range;
-      idle = λ at. further (goal.at.loop-len-preserved-then-len-eq8 c).Then-is_idle at
+      idle = λ at. skips_one (goal.at.loop-len-preserved-then-len-eq8 c).Then-is_idle at
           ∙ c.idle_blocks_len-len.ensures.idle at;
     }

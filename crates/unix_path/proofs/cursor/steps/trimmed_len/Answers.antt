@@ -4,9 +4,10 @@ use Rattle.unix_path.proofs.TrimLemmas.{parts_shorter}
 use Rattle.unix_path.proofs.cursor.steps.trimmed_len.Goals as goal
 use Rattle.unix_path.proofs.cursor.steps.trimmed_len.Goals.{Then-is_trailing}
 
-shorter : (c : Then-is_trailing)
+-- one trailing byte more may be left out
+trims_one : (c : Then-is_trailing)
     → parts (take (c.loop-end.end - 1) c.args.path.now) ≡ parts (take c.args.len c.args.path.now)
-shorter c =
+trims_one c =
     parts_shorter c.args.path.now c.loop-end.end (omega arith) (omega arith)
     (sym c.is_trailing.ensures ∙ c.if-is_trailing.true)
     ∙ c.loop-end.invariant.same
@@ -15,7 +16,7 @@ pub loop-end-preserved : goal.loop-end-preserved
 loop-end-preserved c =
     record {
       in_range = omega arith;
-      same = shorter (goal.at.loop-end-preserved c).Then-is_trailing;
+      same = trims_one (goal.at.loop-end-preserved c).Then-is_trailing;
     }
 
 pub loop-end-preserved-then-len-end-eq8 : goal.loop-end-preserved-then-len-end-eq8
@@ -23,5 +24,5 @@ loop-end-preserved-then-len-end-eq8 c =
     record {
       in_range = omega (arith, c.trimmed_blocks_len-end.ensures.in_range);
       same = c.trimmed_blocks_len-end.ensures.same
-          ∙ shorter (goal.at.loop-end-preserved-then-len-end-eq8 c).Then-is_trailing;
+          ∙ trims_one (goal.at.loop-end-preserved-then-len-end-eq8 c).Then-is_trailing;
     }
