@@ -20,10 +20,12 @@ use unix_bytes::bytes::{UnixStr, UnixString};
 
 /// An owned path: bytes, which slashes cut into parts, and which edits change.
 ///
-/// It keeps its allocator. An edit grows by one allocation at most, before it cuts anything; if the
-/// allocation fails, the bytes stay as they were. `extend` is one push for each item, and keeps
-/// those before the one that fails; `into_boxed_path` drops the path if it fails. As Rust's
+/// It keeps its allocator. An edit makes one allocation at most, before it cuts anything; if the
+/// allocation fails, the bytes stay as they were. `extend` is one push for each item, and where one
+/// fails the items before it stay joined; `into_boxed_path` drops the path if it fails. As Rust's
 /// `PathBuf` on Unix.
+///
+/// `foo//bar/.` after `pop` is `foo`.
 #[derive(Drop)]
 pub struct PathBuf {
     inner: UnixString,
@@ -141,7 +143,7 @@ impl<'a> IntoIterator for &'a PathBuf {
     }
 }
 
-/// The debug form of `as_path`: for `/tmp` it is `"/tmp"`.
+/// The debug form of `as_path`: for `/tmp` it is `"/tmp"`. Does not allocate.
 impl fmt::Debug for PathBuf {
     fn fmt<W: fmt::Write>(&self, f: &mut fmt::Formatter<W>) -> fmt::Result {
         fmt::Debug::fmt(&self.as_path(), f)

@@ -13,7 +13,8 @@ use unix_bytes::lossy::Utf8Lossy;
 
 /// Bytes that are printed as their lossy text.
 ///
-/// It is a view: making, copying and printing it do not allocate. As Rust's `std::path::Display`.
+/// It is a view, and making, copying or printing one does not allocate. As Rust's
+/// `std::path::Display`.
 ///
 /// The bytes of `tmp` are printed as `tmp`.
 #[derive(Clone, Copy)]
@@ -37,8 +38,9 @@ impl<'a> Display<'a> {
 /// The lossy text: well-formed UTF-8 as it is (RFC 3629 section 4), and U+FFFD for each broken
 /// front.
 ///
-/// Bytes that are wholly UTF-8 are padded as a text is, by width, precision, fill and alignment;
-/// any others ignore them. Does not allocate, and fails only where the writer does.
+/// Bytes that are UTF-8 are padded by width, precision, fill and alignment, as a `str` is; other
+/// bytes are printed without regard to these. Does not allocate, and fails only where the writer
+/// does.
 ///
 /// The bytes 61 FF are printed as `a` and U+FFFD.
 impl fmt::Display for Display<'_> {

@@ -16,7 +16,9 @@ use std::fmt;
 
 /// Why a path couldn't be written as JSON, or a JSON value read as a path.
 ///
-/// Its text is padded like any text. Not in Rust's std.
+/// It is printed padded by width, precision, fill and alignment. Not in Rust's std.
+///
+/// `to_json` of the path with the bytes 66 FF is refused with `NotUtf8`.
 #[derive(Debug, Drop)]
 pub enum JsonError {
     /// The path's bytes aren't UTF-8: `path contains invalid UTF-8 characters`.

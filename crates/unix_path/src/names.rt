@@ -4,9 +4,9 @@ ghost use Rattle.unix_path.specs.Names.{past_last, split_name, name_prefix};
 
 use unix_bytes::search::first_place;
 
-// The place just after the last such byte, or 0 where there is none.
+// The place just after the last `byte`, or 0 where there is none.
 #[inline]
-pub(crate) fn past_last(bytes: &[u8], byte: u8) -> usize
+fn past_last(bytes: &[u8], byte: u8) -> usize
     ensures value { result ≡ past_last (λ b. b == byte) bytes.now }
     ensures in_range { result ≤ length bytes.now }
 {
@@ -17,7 +17,8 @@ pub(crate) fn past_last(bytes: &[u8], byte: u8) -> usize
     end
 }
 
-// The stem and the extension of a file name.
+// The bytes of a file name before and after its last dot, as its stem and its extension. All of it
+// is the stem where that dot is the first byte or there is none.
 #[inline]
 pub(crate) fn split_name(name: &[u8]) -> (&[u8], Option<&[u8]>)
     ensures stem { result.0.now ≡ (split_name name.now).0 }
@@ -31,7 +32,7 @@ pub(crate) fn split_name(name: &[u8]) -> (&[u8], Option<&[u8]>)
     (&name[..after - 1], Some(&name[after..]))
 }
 
-// A file name up to its first dot after its first byte.
+// A file name up to the first dot that follows its first byte, or all of it where no dot does.
 #[inline]
 pub(crate) fn name_prefix(name: &[u8]) -> &[u8]
     ensures { result.now ≡ name_prefix name.now }

@@ -1,4 +1,4 @@
-//! Equality, order and hash by values.
+//! Equality, order and hash of paths and of walks, by their values.
 ghost use Rattle.std.specs.Prelude.{◌≡◌, ◌↔◌, IsTrue, Some, fold};
 ghost use Rattle.std.specs.Ordering.{is_eq};
 ghost use Rattle.std.specs.Cmp;
@@ -17,7 +17,7 @@ use crate::path::Path;
 use std::cmp::Ordering;
 use std::hash::{Hash, Hasher};
 
-// Feeds the hasher the parts that are left, one after the other.
+// Feeds a hasher the parts that a walk has left, one after the other.
 fn feed_parts<H: Hasher>(parts: Components<'_>, state: &mut H)
     ensures { state.new ≡ fold H.write state.old (hash_input_of (cursor_values parts.entry)) }
 {
@@ -26,7 +26,8 @@ fn feed_parts<H: Hasher>(parts: Components<'_>, state: &mut H)
     }
 }
 
-/// Two walks are equal if the values that are left are.
+/// Two walks are equal if the values that they have left are: those over `a//b` and `a/b` are. Does
+/// not allocate. As `PartialEq` of Rust's `Components`.
 impl PartialEq for Components<'_> {
     ghost eq = { λ x y. is_eq (values_cmp (cursor_values x) (cursor_values y)) };
 
@@ -56,8 +57,11 @@ impl PartialOrd for Components<'_> {
     }
 }
 
-/// Walks go by the values that are left, as `Component` orders them: the first that differ, and a
-/// proper beginning is the lesser.
+/// Walks are ordered by the first of the values left that differ, as `Component` orders them; where
+/// one has fewer left and none differs, it comes first. Does not allocate. As `Ord` of Rust's
+/// `Components`.
+///
+/// The walk over `a/b` comes before that over `a.b`.
 impl Ord for Components<'_> {
     ghost cmp = { λ x y. values_cmp (cursor_values x) (cursor_values y) };
 
@@ -73,6 +77,7 @@ impl Ord for Components<'_> {
 }
 
 /// Two paths are equal if their values are: `a//b` equals `a/b/.`, and `./a` doesn't equal `a`.
+/// Does not allocate. As `PartialEq` of Rust's `Path`.
 impl PartialEq for Path<'_> {
     ghost eq = { λ x y. is_eq (values_cmp (values x.bytes.now) (values y.bytes.now)) };
 
@@ -104,7 +109,8 @@ impl PartialOrd for Path<'_> {
     }
 }
 
-/// Paths go by their values: `a/b` comes before `a.b`, and `./a` before `a`.
+/// Paths are ordered by their values: `a/b` comes before `a.b`, and `./a` before `a`. Does not
+/// allocate. As `Ord` of Rust's `Path`.
 impl Ord for Path<'_> {
     ghost cmp = { λ x y. values_cmp (values x.bytes.now) (values y.bytes.now) };
 
@@ -119,7 +125,8 @@ impl Ord for Path<'_> {
     }
 }
 
-/// A path feeds a hasher its values one after the other, each as `Component` does.
+/// A path feeds a hasher its values one after the other, each as `Component` does, so `a//b` feeds
+/// what `a/b` feeds. Does not allocate.
 impl Hash for Path<'_> {
     ghost hash_input = { λ path. hash_input_of (values path.bytes.now) };
 

@@ -1,10 +1,17 @@
 //! The view of a path.
 //!
-//! More methods of `Path` stand by their subject: `path/parents.rt` has the parent and the
-//! ancestors, `path/file_name.rt` the file name, its stem, its prefix and its extension,
-//! `path/prefix.rt` what begins and ends a path, `path/common_dir.rt` how far two are written
-//! alike, `display.rt` its text, and `buf.rt` with `buf/` the copies that own their bytes.
-//! `order.rt` has its equality, order and hash; `json.rt` and `kept/` convert from it.
+//! The other methods of `Path` stand by their subject:
+//! - `path/parents.rt`: `parent` and `ancestors`;
+//! - `path/file_name.rt`: `file_name`, `file_stem`, `extension` and `file_prefix`;
+//! - `path/prefix.rt`: `strip_prefix`, `starts_with` and `ends_with`;
+//! - `path/common_dir.rt`: `common_dir`;
+//! - `display.rt`: `to_str`, `to_string_lossy` and `display`;
+//! - `buf/conversions.rt`: `to_path_buf`;
+//! - `buf/edits.rt`: `join` and `with_file_name`;
+//! - `buf/extensions.rt`: `with_extension` and `with_added_extension`.
+//!
+//! `order.rt` has the equality, the order and the hash of a `Path`. `json.rt`, `kept/boxed.rt`,
+//! `kept/rc.rt` and `kept/cow.rt` have the functions that convert one.
 ghost use Rattle.std.specs.Prelude.{◌≡◌, ◌↔◌, ◌<◌, ◌^◌, not, [], ◌∷◌, length, map};
 ghost use Rattle.std.specs.Prelude.{IsTrue, IsFalse};
 ghost use Rattle.unix_path.specs.Parts.{RootDir, slash, values, value_bytes, is_rooted};
@@ -33,21 +40,21 @@ use unix_bytes::bytes::UnixStr;
 ///
 /// Any bytes are a path, the empty string too, and a `Path` keeps them all. Copying one copies the
 /// view and not the bytes. As Rust's `Path` on Unix, which stands behind a reference.
+///
+/// `/tmp/./foo` has three parts: the root, `tmp` and `foo`.
 #[derive(Clone, Copy)]
 pub struct Path<'a> {
     /// The bytes.
     pub bytes: &'a [u8],
 }
 
-/// The byte between two parts of a path, as a character. As Rust's `std::path::MAIN_SEPARATOR` on
-/// Unix.
-///
-/// It is `/`.
+/// The character between two parts of a path, which is `/`. As Rust's
+/// `std::path::MAIN_SEPARATOR` on Unix.
 pub const MAIN_SEPARATOR: char = '/';
 
 const _: () = prove!(MAIN_SEPARATOR == '/');
 
-/// Whether the character stands between two parts of a path: `/` alone does. Does not allocate. As
+/// Whether the character separates the parts of a path: `/` alone does. Does not allocate. As
 /// Rust's `std::path::is_separator` on Unix.
 ///
 /// `is_separator('/')` is true, and `is_separator('\\')` is false.
@@ -180,7 +187,9 @@ impl<'a> Path<'a> {
     }
 }
 
-/// The walk that `iter` gives.
+/// The walk that `iter` gives. Does not allocate. As Rust's `IntoIterator` of `&Path`.
+///
+/// For `/tmp/./foo` it gives `/`, `tmp` and `foo`.
 impl<'a> IntoIterator for Path<'a> {
     type Item = UnixStr<'a>;
 
@@ -203,7 +212,7 @@ impl<'a> IntoIterator for Path<'a> {
     }
 }
 
-/// The debug form of the bytes, as `UnixStr` has it.
+/// The debug form of `as_unix_str`: for `/tmp` it is `"/tmp"`. Does not allocate.
 impl fmt::Debug for Path<'_> {
     fn fmt<W: fmt::Write>(&self, f: &mut fmt::Formatter<W>) -> fmt::Result {
         fmt::Debug::fmt(&self.as_unix_str(), f)

@@ -9,7 +9,7 @@ use std::alloc::{AllocError, Global};
 use unix_bytes::bytes::{UnixStr, UnixString};
 
 impl PathBuf {
-    /// A copy of the bytes.
+    /// The path with a copy of these bytes.
     ///
     /// Allocates once, or not at all for no bytes; fails if the allocation fails. As Rust's
     /// `From<&OsStr>` of `PathBuf`.
@@ -22,7 +22,7 @@ impl PathBuf {
         Ok(PathBuf { inner })
     }
 
-    /// A copy of the text's bytes, in UTF-8.
+    /// The path with a copy of the text's bytes, in UTF-8.
     ///
     /// Allocates once, or not at all for no bytes; fails if the allocation fails. As Rust's
     /// `From<&str>` of `PathBuf`.
@@ -34,7 +34,8 @@ impl PathBuf {
         PathBuf::from_unix_str(alloc, UnixStr::new(text))
     }
 
-    /// The bytes, in the same memory. Does not allocate. As Rust's `PathBuf::into_os_string`.
+    /// The path's bytes, in the same memory. Does not allocate. As Rust's
+    /// `PathBuf::into_os_string`.
     ///
     /// For the path `foo/` it is `foo/`.
     #[must_use]
@@ -61,7 +62,8 @@ impl<'a> Path<'a> {
     }
 }
 
-/// These bytes, in the same memory. Does not allocate. As Rust's `From<OsString>` of `PathBuf`.
+/// The path with these bytes, in the same memory. Does not allocate. As Rust's `From<OsString>` of
+/// `PathBuf`.
 ///
 /// For `foo/` it is the path `foo/`.
 impl From<UnixString> for PathBuf {
@@ -73,7 +75,8 @@ impl From<UnixString> for PathBuf {
     }
 }
 
-/// The text's bytes, in the same memory. Does not allocate. As Rust's `From<String>` of `PathBuf`.
+/// The path with the text's bytes, in the same memory. Does not allocate. As Rust's `From<String>`
+/// of `PathBuf`.
 ///
 /// For the text `/tmp/` it is the path `/tmp/`.
 impl From<String> for PathBuf {

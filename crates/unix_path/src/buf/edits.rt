@@ -1,6 +1,6 @@
 //! Edits of owned paths, and edited copies of paths. Those of an extension stand in
 //! `buf/extensions.rt`.
-ghost use Rattle.std.specs.Prelude.{◌≡◌, ◌+◌, ◌^◌, ◌<◌, ◌≤◌, [], ◌++◌, length, take};
+ghost use Rattle.std.specs.Prelude.{◌≡◌, ◌+◌, ◌^◌, ◌<◌, ◌≤◌, ◌++◌, length, take};
 ghost use Rattle.std.specs.Prelude.{false, IfOk, OnOk, OnErr, IsOk, is_some};
 ghost use Rattle.unix_bytes.specs.Owned.{owned_bytes, owned_room, owned_capacity};
 ghost use Rattle.unix_path.specs.Buffers.{path_bytes, capacity};
@@ -52,7 +52,7 @@ fn join_cut(base: &[u8], path: Path<'_>) -> (usize, Option<u8>)
     (base.len(), join_gap(base, path))
 }
 
-// How many bytes these are in all.
+// How many bytes the kept ones, the gap's byte if there is one, and the slice are in all.
 #[inline]
 pub(super) fn total_len(keep: usize, gap: Option<u8>, more: &[u8]) -> usize
     requires { keep < 2 ^ 63 }
@@ -64,7 +64,7 @@ pub(super) fn total_len(keep: usize, gap: Option<u8>, more: &[u8]) -> usize
     }
 }
 
-// Adds the byte, if there is one, and then the slice.
+// Adds the gap's byte, if there is one, and then the slice.
 #[inline]
 fn push_end(text: &mut UnixString, gap: Option<u8>, more: &[u8]) -> Result<(), AllocError>
     ensures ok { OnOk result
@@ -78,7 +78,8 @@ fn push_end(text: &mut UnixString, gap: Option<u8>, more: &[u8]) -> Result<(), A
     text.push(UnixStr::from_bytes(more))
 }
 
-// A copy of the three, by one allocation, or by none if they have no bytes.
+// A copy of the base, the gap's byte if there is one, and the slice, by one allocation, or by none
+// if that is no byte at all.
 pub(super) fn copy_of(
     alloc: Global,
     base: &[u8],
@@ -123,7 +124,7 @@ impl PathBuf {
         push_end(&mut self.inner, Some(b'/'), path.bytes)
     }
 
-    // Replaces all bytes. It stands apart, so that what `push` inlines stays small.
+    // Replaces all bytes. It isn't inlined, so that `push`, which always is, stays small.
     #[inline(never)]
     fn replace(&mut self, path: Path<'_>) -> Result<(), AllocError>
         ensures ok { OnOk result (path_bytes self.new ≡ path.entry.bytes.now) }
@@ -174,7 +175,8 @@ impl PathBuf {
         self.replace_end(keep, gap, name.bytes)
     }
 
-    // Cuts to `keep` bytes, and puts the byte and the slice behind them. The growth comes first.
+    // Keeps the first `keep` bytes, and puts the gap's byte and the slice behind them. It grows
+    // before it cuts, so that a refusal leaves the bytes as they were.
     #[inline]
     pub(super) fn replace_end(
         &mut self,

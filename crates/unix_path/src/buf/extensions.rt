@@ -19,8 +19,10 @@ use unix_bytes::bytes::UnixStr;
 
 /// Why an extension couldn't be set or added.
 ///
-/// Its text is padded like any text. Not in Rust's std, which panics where the extension holds a
-/// separator.
+/// It is printed padded by width, precision, fill and alignment. Not in Rust's std, which panics
+/// where the extension holds a separator.
+///
+/// `a` with the extension `x/y` is refused with `Separator`.
 #[derive(Debug, Drop)]
 pub enum ExtensionError {
     /// The extension holds a `/`, and would add parts: `extension contains a separator`.
@@ -71,7 +73,7 @@ fn has_slash(extension: &[u8]) -> bool
     extension.contains(&b'/')
 }
 
-// The dot before an extension, unless that is empty.
+// The dot before an extension, or `None` before an empty one.
 #[inline]
 fn dot_before(extension: &[u8]) -> Option<u8>
     ensures { gap_bytes result ≡ dot_before extension.now }
@@ -164,7 +166,7 @@ impl PathBuf {
         Ok(true)
     }
 
-    // As `replace_end`, and grows by no more than it needs.
+    // Does what `replace_end` does, and grows by no more bytes than it needs.
     #[inline]
     fn replace_end_exact(
         &mut self,

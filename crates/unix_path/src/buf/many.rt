@@ -8,7 +8,7 @@ use crate::path::Path;
 use std::alloc::{AllocError, Global};
 
 impl PathBuf {
-    /// The empty path, joined with each of these in turn.
+    /// The empty path, joined with each of these paths, one after the other.
     ///
     /// Allocates as the path grows; an empty list allocates nothing. Fails if an allocation fails.
     /// As `FromIterator` of Rust's `PathBuf`.
@@ -29,7 +29,7 @@ impl PathBuf {
         Ok(path)
     }
 
-    /// Pushes each of these in turn.
+    /// Pushes each of these paths, one after the other.
     ///
     /// Allocates as the path grows; an empty list allocates nothing. If an allocation fails, the
     /// path is as the pushes before it left it. As `Extend` of Rust's `PathBuf`.

@@ -1,4 +1,4 @@
-//! Equality, order and hash of owned paths, as of their views.
+//! Equality, order and hash of owned paths, which are those of their views.
 ghost use Rattle.std.specs.Prelude.{◌≡◌, ◌↔◌, IsTrue, Some};
 ghost use Rattle.std.specs.Ordering.{is_eq};
 ghost use Rattle.std.specs.Cmp;
@@ -15,7 +15,8 @@ use crate::buf::PathBuf;
 use std::cmp::Ordering;
 use std::hash::{Hash, Hasher};
 
-/// Two owned paths are equal if their values are, as `Path` has it: `a//b` equals `a/b`.
+/// Two owned paths are equal if their values are, as `Path` has it: `a//b` equals `a/b`. Does not
+/// allocate.
 impl PartialEq for PathBuf {
     ghost eq = { λ x y. is_eq (values_cmp (values (path_bytes x)) (values (path_bytes y))) };
 
@@ -48,7 +49,8 @@ impl PartialOrd for PathBuf {
     }
 }
 
-/// Owned paths go by their values, as `Path` has it: `a/b` comes before `a.b`.
+/// Owned paths are ordered by their values, as `Path` has it: `a/b` comes before `a.b`. Does not
+/// allocate.
 impl Ord for PathBuf {
     ghost cmp = { λ x y. values_cmp (values (path_bytes x)) (values (path_bytes y)) };
 
@@ -63,7 +65,7 @@ impl Ord for PathBuf {
     }
 }
 
-/// The hash of `as_path`, which is the same for `a//b` and `a/b`.
+/// The hash of `as_path`, which is the same for `a//b` and `a/b`. Does not allocate.
 impl Hash for PathBuf {
     ghost hash_input = { λ path. hash_input_of (values (path_bytes path)) };
 

@@ -1,4 +1,4 @@
-//! The room of an owned path: made ahead, and given back.
+//! The room of an owned path: what makes it before a push, and what gives it back.
 ghost use Rattle.std.specs.Prelude.{◌≡◌, ◌≤◌, length, max, min, OnOk, IsOk};
 ghost use Rattle.unix_path.specs.Buffers.{path_bytes, room, capacity};
 
@@ -6,7 +6,7 @@ use crate::buf::PathBuf;
 use std::alloc::AllocError;
 
 impl PathBuf {
-    /// Makes room for at least `count` more bytes, and for some more where it grows.
+    /// Makes room for at least `count` more bytes, and for more than that where it grows.
     ///
     /// Allocates only where the room is less. If the allocation fails, the bytes stay as they were.
     /// As Rust's `PathBuf::reserve`.
@@ -51,10 +51,10 @@ impl PathBuf {
         self.inner.shrink_to_fit()
     }
 
-    /// Lowers the capacity to `least` bytes, or to the bytes where they are more.
+    /// Lowers the capacity to `least` bytes, or to the path's length where that is more.
     ///
-    /// Does not allocate where the capacity is that or less, and leaves it. Otherwise moving the
-    /// bytes can fail, and then the bytes and the room stay as they were. As Rust's
+    /// Where the capacity is no more than that it stays, and nothing is allocated. Otherwise moving
+    /// the bytes can fail, and then the bytes and the room stay as they were. As Rust's
     /// `PathBuf::shrink_to`.
     ///
     /// For `foo` with the capacity 10, `shrink_to(5)` makes it 5, `shrink_to(0)` makes it 3, and

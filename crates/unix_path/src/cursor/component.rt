@@ -8,10 +8,12 @@ use unix_bytes::bytes::UnixStr;
 
 /// One part of a path.
 ///
-/// Two are equal if they are of one kind and, being names, have the same bytes. `RootDir` comes
-/// before `CurDir`, that before `ParentDir` and that before every name; names go by their bytes.
-/// A hasher is fed the part's bytes, a slash, and zeros up to a whole number of eights.
-/// As Rust's `Component`, without a prefix.
+/// Two are equal if they are of one kind and, where they are names, have the same bytes. In their
+/// order `RootDir` comes first, then `CurDir`, then `ParentDir`, then the names by their bytes. A
+/// hasher is fed the part's bytes, a slash, and zeros up to a multiple of eight bytes. As Rust's
+/// `Component`, which also has `Prefix`.
+///
+/// The parts of `./a/..` are `CurDir`, `Normal` of `a`, and `ParentDir`.
 #[derive(Clone, Copy, Debug, PartialEq, Eq, PartialOrd, Ord)]
 pub enum Component<'a> {
     /// The root that a path begins with, as in `/tmp`.

@@ -1,5 +1,5 @@
 //! The walk over a path's parts.
-ghost use Rattle.std.specs.Prelude.{◌≡◌, ◌≤◌, ◌<◌, ◌^◌, [], length, slice_range, None, IfSome};
+ghost use Rattle.std.specs.Prelude.{◌≡◌, ◌<◌, ◌^◌, [], length, None, IfSome};
 ghost use Rattle.unix_path.specs.Parts.{values};
 ghost use Rattle.unix_path.specs.Rest.{rest};
 ghost use Rattle.unix_path.specs.Steps.{HasLast, IsWalk, IsWalk-prop};
@@ -15,8 +15,10 @@ use std::iter::FusedIterator;
 /// A walk over the parts of a path, from both ends.
 ///
 /// It stands for the bytes that are left, from the first part not yet taken to the end of the last.
-/// It does not allocate, and copying it copies a view. An ended walk stays ended at both ends.
-/// As Rust's `Components`.
+/// It does not allocate, and copying it copies a view. A walk that has ended gives nothing more at
+/// either end. As Rust's `Components`.
+///
+/// For `/tmp/./foo` it gives the root, `tmp` and `foo`.
 // Only this file knows the fields, and it may change them: `cursor_rest` of specs/Cursor says what
 // they stand for, contracts and proofs elsewhere speak of a walk through that word alone, and only
 // `OffsetLemmas` and the proofs of this file's functions unfold it.
@@ -33,7 +35,8 @@ pub struct Components<'a> {
     ghost fields: { IsWalk source.now front back has_lead lead_left } by { IsWalk-prop _ _ _ _ _ },
 }
 
-// The last part of a path. It ends at `end`, and what is left before it at `before`.
+// The last part of a path, the place `end` where it ends, and the place `before` where what is left
+// without it ends.
 #[derive(Clone, Copy)]
 pub(crate) struct LastPart<'a> {
     pub(crate) before: usize,
@@ -46,8 +49,8 @@ impl<'a> Components<'a> {
     ghost use Rattle.unix_path.specs.Cursor.{GivesFirst, GivesLast};
     ghost use Rattle.std.specs.Iterator.Runs.{EveryRun, ItemsMapTo, ItemsMapToReversed};
 
-    // The walk over the parts of these bytes. Those that don't count after the last part are left
-    // out at once: `foo/` gives `foo`.
+    // The walk over the parts of a path. Bytes that don't count after the last part are left out at
+    // once: for `foo/` it stands for `foo`.
     #[inline]
     pub(crate) fn new(path: &'a [u8]) -> Components<'a>
         ensures rest { cursor_rest result ≡ rest path.now 0 0 }
@@ -62,7 +65,7 @@ impl<'a> Components<'a> {
         Components::whole(path)
     }
 
-    // The walk that stands for these bytes up to the end of their last part.
+    // The walk that stands for the bytes of a path up to the end of its last part.
     #[inline]
     fn whole(path: &'a [u8]) -> Components<'a>
         ensures rest { cursor_rest result ≡ rest path.now 0 0 }
@@ -96,7 +99,7 @@ impl<'a> Components<'a> {
         }
     }
 
-    // Takes the last part that is left; where the first begins stays. Always inlined, as `next` is.
+    // Takes the last part that is left. Always inlined, as `next` is.
     #[inline(always)]
     #[tactic(auto, unfolding(crate::specs::Cursor::cursor_rest, crate::specs::Steps::IsWalk))]
     fn take_last(&mut self) -> Option<Component<'a>>
@@ -115,8 +118,8 @@ impl<'a> Components<'a> {
         Some(last)
     }
 
-    // The last part of these bytes, with its place. Always inlined, so that nothing is made that a
-    // caller doesn't ask for.
+    // The last part of a path, with its place. Always inlined, so that a caller pays only for the
+    // fields that it reads.
     #[inline(always)]
     pub(crate) fn last_part(path: &'a [u8]) -> Option<LastPart<'a>>
         ensures none { result ≡ None → values path.now ≡ [] }

@@ -8,7 +8,8 @@ ghost use Rattle.unix_path.specs.Views.{value_of};
 use crate::cursor::Component;
 use std::hash::{Hash, Hasher};
 
-// What fills no eight, with a slash and zeros behind it, as a number with the first byte lowest.
+// Fewer than eight bytes, with a slash and zeros behind them, as a number whose lowest byte is the
+// first.
 #[inline]
 fn last_eight(rest: &[u8]) -> u64
     requires { length rest.now < 8 }
@@ -40,9 +41,9 @@ fn feed_bytes<H: Hasher>(bytes: &[u8], state: &mut H)
     state.write_u64(last_eight(rest));
 }
 
-/// Feeds the bytes of `as_unix_str`, a slash, and zeros up to a whole number of eights, eight in a
-/// write. So a hasher can read words, and since no name in a path has a slash, what is fed tells
-/// where a part ends. The form is this crate's own.
+/// Feeds the bytes of `as_unix_str`, a slash, and zeros up to a multiple of eight bytes, eight in
+/// each write. So a hasher can read words, and since no name in a path has a slash, what is fed
+/// tells where a part ends. Does not allocate. The form is this crate's own.
 ///
 /// For `Component::ParentDir` it is `../` and five zeros.
 impl Hash for Component<'_> {

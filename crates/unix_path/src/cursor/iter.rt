@@ -10,7 +10,10 @@ use unix_bytes::bytes::UnixStr;
 
 /// A walk over the bytes of a path's parts, from both ends.
 ///
-/// It does not allocate, and copying it copies a view. As Rust's `std::path::Iter`.
+/// It does not allocate, and copying it copies a view. A walk that has ended gives nothing more at
+/// either end. As Rust's `std::path::Iter`.
+///
+/// For `/tmp/./foo` it gives `/`, `tmp` and `foo`.
 #[must_use]
 #[derive(Clone, Copy)]
 pub struct Iter<'a> {
@@ -20,7 +23,7 @@ pub struct Iter<'a> {
 impl<'a> Iter<'a> {
     ghost use Rattle.unix_path.specs.Cursor.{cursor_rest, cursor_source, iter_rest, iter_source};
 
-    // The walk over the bytes of the parts that are left.
+    // The walk over the bytes of the parts that `components` has left.
     #[inline]
     pub(crate) fn new(components: Components<'a>) -> Iter<'a>
         ensures rest { iter_rest result ≡ cursor_rest components.entry }
@@ -29,7 +32,8 @@ impl<'a> Iter<'a> {
         Iter { components }
     }
 
-    /// The bytes that are left, as `Components::as_path` gives them. Does not allocate.
+    /// The bytes that are left, as `Components::as_path` gives them. Does not allocate. As Rust's
+    /// `std::path::Iter::as_path`.
     ///
     /// For `/tmp/foo` after one `next` it is `tmp/foo`.
     #[must_use]

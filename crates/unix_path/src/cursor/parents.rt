@@ -4,10 +4,10 @@ ghost use Rattle.std.specs.Prelude.{◌≡◌};
 use crate::path::Path;
 use std::iter::FusedIterator;
 
-/// A walk over a path, its parent, the parent of that, and so on.
+/// A walk over a path, its parent, the parent's parent, and so on.
 ///
-/// It does not allocate, and copying it copies a view. An ended walk stays ended. As Rust's
-/// `Ancestors`.
+/// It does not allocate, and copying it copies a view. A walk that has ended gives nothing more. As
+/// Rust's `Ancestors`.
 ///
 /// For `/foo` it gives `/foo` and `/`.
 #[must_use]
@@ -20,7 +20,7 @@ impl<'a> Ancestors<'a> {
     ghost use Rattle.unix_path.specs.Parents.{ancestors_of};
     ghost use Rattle.unix_path.specs.Ancestors.{ancestors_left};
 
-    // The walk from this path on.
+    // The walk that begins with `path`.
     #[inline]
     pub(crate) fn new(path: Path<'a>) -> Ancestors<'a>
         ensures { ancestors_left result ≡ ancestors_of path.entry.bytes.now }

@@ -36,8 +36,8 @@ fn is_idle_block(path: &[u8], at: usize) -> bool
     other.to_bitmask() == 0
 }
 
-// How many bytes stand before the next part, or some bytes fewer, where those before `start` don't
-// count: as far as blocks of 16 say.
+// How many bytes stand before the next part, or fewer: it stops at the first block of 16 bytes that
+// don't all stand before it. The bytes before `start` are known not to count.
 #[inline(never)]
 fn idle_blocks_len(path: &[u8], start: usize) -> usize
     requires { start ≤ length path.now }
@@ -53,7 +53,7 @@ fn idle_blocks_len(path: &[u8], start: usize) -> usize
     len
 }
 
-// How many bytes stand before the next part.
+// How many bytes stand before the next part, looked at one by one, since they are mostly few.
 #[inline]
 pub(crate) fn idle_len(path: &[u8]) -> usize
     ensures in_range { result ≤ length path.now }
@@ -68,8 +68,8 @@ pub(crate) fn idle_len(path: &[u8]) -> usize
     len
 }
 
-// The same, for where they may be many: beyond eight, blocks are looked at. A walk would take
-// longer by it, since there are few between two parts.
+// How many bytes stand before the next part, for where they may be many: behind the first eight,
+// blocks of 16 are looked at. `idle_len` is quicker where they are few, as between two parts.
 #[inline]
 pub(crate) fn long_idle_len(path: &[u8]) -> usize
     ensures in_range { result ≤ length path.now }
@@ -110,7 +110,8 @@ fn lead(path: &[u8]) -> Component<'_>
     }
 }
 
-// The root or the `.` that a path begins with, and how many bytes it takes.
+// The root or the `.` that a path begins with, and how many bytes it takes with what doesn't count
+// after it.
 #[inline]
 fn lead_step(path: &[u8]) -> (usize, Component<'_>)
     requires some { 0 < length path.now }
@@ -129,7 +130,7 @@ fn begins_with_parent(path: &[u8]) -> bool
     path[0] == b'.' && path.len() > 1 && path[1] == b'.' && (path.len() == 2 || path[2] == b'/')
 }
 
-// The `..` that a path begins with, and how many bytes it takes.
+// The `..` that a path begins with, and how many bytes it takes with what doesn't count after it.
 #[inline(always)]
 fn parent_step(path: &[u8]) -> (usize, Component<'_>)
     requires parent { begins_with_parent path.now ≡ true }
@@ -138,7 +139,7 @@ fn parent_step(path: &[u8]) -> (usize, Component<'_>)
     (2 + idle_len(&path[2..]), Component::ParentDir)
 }
 
-// The name that a path begins with, and how many bytes it takes.
+// The name that a path begins with, and how many bytes it takes with what doesn't count after it.
 #[inline(always)]
 fn name_step(path: &[u8]) -> (usize, Component<'_>)
     requires some { 0 < length path.now }
@@ -169,7 +170,8 @@ pub(crate) fn first_step(path: &[u8], has_lead: bool) -> (usize, Component<'_>)
     }
 }
 
-// The same, for where many bytes that don't count may follow a root or a `.`.
+// The first part, and how many bytes it takes with what doesn't count after it, for where many such
+// bytes may follow a root or a `.`.
 #[inline(always)]
 pub(crate) fn long_first_step(path: &[u8], has_lead: bool) -> (usize, Component<'_>)
     requires some { 0 < length path.now }
@@ -208,8 +210,8 @@ fn is_trailing_block(path: &[u8], at: usize) -> bool
     other.to_bitmask() == 0
 }
 
-// Where the last part among the first `len` bytes ends, or some bytes further on: as far as blocks
-// of 16 say.
+// Where the last part among the first `len` bytes ends, or further on: it stops at the first block
+// of 16 bytes, from behind, that don't all stand behind that part.
 #[inline(never)]
 fn trimmed_blocks_len(path: &[u8], len: usize) -> usize
     requires { len ≤ length path.now }
@@ -223,8 +225,8 @@ fn trimmed_blocks_len(path: &[u8], len: usize) -> usize
     end
 }
 
-// Where the last part among the first `len` bytes ends. Blocks are looked at where there is much
-// behind it, which is rare.
+// Where the last part among the first `len` bytes ends. Blocks of 16 are looked at where eight
+// bytes or more stand behind that part, which is rare.
 #[inline]
 pub(super) fn trimmed_len(path: &[u8], len: usize) -> usize
     requires { len ≤ length path.now }
@@ -252,7 +254,8 @@ fn ends_with_parent(path: &[u8]) -> bool
     path[len - 1] == b'.' && len > 1 && path[len - 2] == b'.' && (len == 2 || path[len - 3] == b'/')
 }
 
-// The root or the name that a path ends with, and how many bytes stand before it.
+// The root or the name that a path ends with, and how many bytes stand before it, without what
+// doesn't count there.
 #[inline(always)]
 fn last_name_step(path: &[u8]) -> (usize, Component<'_>)
     requires some { 0 < length path.now }

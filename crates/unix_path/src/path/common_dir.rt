@@ -14,8 +14,9 @@ impl<'a> Path<'a> {
     /// The place just after the last `/` of the longest string that both paths begin with, or 0
     /// where that string has none.
     ///
-    /// It counts bytes, and not parts. Where it isn't 0, the paths go by what follows it in each,
-    /// of which neither a root nor a leading `.` counts. Does not allocate. Not in Rust's std.
+    /// The place is a number of bytes, and not of parts. Where it isn't 0, the two paths compare as
+    /// what follows that place in each of them, where neither a root nor a leading `.` counts. Does
+    /// not allocate. Not in Rust's std.
     ///
     /// For `a/./b` and `a/b` it is 2, and for `a/b` and `ab` it is 0.
     #[must_use]
@@ -30,8 +31,8 @@ impl<'a> Path<'a> {
     }
 }
 
-// The walk over what follows the first `dir` bytes, of which the last is a slash: there neither a
-// root nor a leading `.` counts.
+// The walk over what follows the first `dir` bytes. The last of these is a slash, so neither a root
+// nor a leading `.` counts in what follows.
 #[inline]
 pub(crate) fn walk_behind<'a>(path: &'a [u8], dir: usize) -> Components<'a>
     requires { dir ≤ length path.now }

@@ -30,7 +30,8 @@ impl<'a> Path<'a> {
         }
     }
 
-    /// The file name up to its last dot; all of it where that is its first byte or there is no dot.
+    /// The file name up to its last dot, or all of it where that dot is the first byte or there is
+    /// none.
     /// `None` where there is no file name. Does not allocate. As Rust's `Path::file_stem`.
     ///
     /// For `foo.tar.gz` it is `foo.tar`, and for `.foo` it is `.foo`.
@@ -47,8 +48,9 @@ impl<'a> Path<'a> {
         }
     }
 
-    /// The file name's bytes after its last dot, without the dot. `None` where that is its first
-    /// byte, or there is no dot or no file name. Does not allocate. As Rust's `Path::extension`.
+    /// The file name's bytes after its last dot, without the dot. `None` where that dot is the
+    /// first byte, and where there is no dot or no file name. Does not allocate. As Rust's
+    /// `Path::extension`.
     ///
     /// For `foo.tar.gz` it is `gz`, and for `foo.` it is empty.
     #[must_use]
@@ -66,8 +68,8 @@ impl<'a> Path<'a> {
         }
     }
 
-    /// The file name up to its first dot after its first byte; all of it where there is none.
-    /// `None` where there is no file name. Does not allocate. As Rust's `Path::file_prefix`.
+    /// The file name up to the first dot that follows its first byte, or all of it where no dot
+    /// does. `None` where there is no file name. Does not allocate. As Rust's `Path::file_prefix`.
     ///
     /// For `foo.tar.gz` it is `foo`, and for `.foo.rs` it is `.foo`.
     #[must_use]
@@ -101,7 +103,7 @@ impl<'a> Path<'a> {
         }
     }
 
-    // Where the stem of the file name ends.
+    // The place just after the stem of the file name, or `None` where there is no file name.
     #[inline]
     pub(crate) fn stem_end(&self) -> Option<usize>
         ensures value { result ≡ stem_end_of self.now.bytes.now }
@@ -118,7 +120,7 @@ impl<'a> Path<'a> {
         }
     }
 
-    // Where the file name ends.
+    // The place just after the file name, or `None` where there is none.
     #[inline]
     pub(crate) fn name_end(&self) -> Option<usize>
         ensures value { result ≡ name_end_of self.now.bytes.now }

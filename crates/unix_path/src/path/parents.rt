@@ -33,7 +33,8 @@ impl<'a> Path<'a> {
         }
     }
 
-    // How many bytes the parent has. It stands apart, so that what `pop` inlines stays small.
+    // How many bytes the parent has, or `None` where there is no parent. It isn't inlined, so that
+    // `parent` and `pop`, which call it, stay small.
     #[inline(never)]
     pub(crate) fn parent_len(&self) -> Option<usize>
         ensures value { option_map (λ len. take len self.now.bytes.now) result
@@ -49,7 +50,7 @@ impl<'a> Path<'a> {
         }
     }
 
-    /// A walk over the path itself, its parent, the parent of that, and so on. Does not allocate.
+    /// A walk over the path itself, its parent, the parent's parent, and so on. Does not allocate.
     /// As Rust's `Path::ancestors`.
     ///
     /// For `../a` it gives `../a`, `..` and the empty path.
