@@ -19,6 +19,8 @@ use Rattle.unix_path.proofs.ParentLemmas.{parent_of-alone, parent_of-deep}
 abbrev pub ancestors_by : Option (List ℕ) → List (List ℕ)
 ancestors_by parent = option_map_or ancestors_of parent []
 
+-- what is left before the last a + 1 parts is left before the last a of what is left before the
+-- last
 shift : (s : List ℕ) (a n : ℕ) → map (λ m. rest s 0 m) (range_with_len (a + 1) n)
     ≡ map (λ m. rest (rest s 0 1) 0 m) (range_with_len a n)
 shift s a zero = refl
@@ -27,11 +29,13 @@ shift s a (suc n) =
     ap (rest s 0) {x = a + 1} {y = 1 + a} (omega arith) ∙ sym (rest-rest s 0 1 0 a) in
     ap₂ (λ x xs. x ∷ xs) here (shift s (a + 1) n)
 
+-- a path of no depth is its only ancestor, and has no parent
 ancestors_of-alone : (s : List ℕ) → depth_of s ≡ 0 → ancestors_of s ≡ s ∷ ancestors_by (parent_of s)
 unfolding ancestors_of
 ancestors_of-alone s e = ap (λ n. s ∷ map (λ m. rest s 0 m) (range_with_len 1 n)) e
     ∙ sym (ap (λ o. s ∷ ancestors_by o) (parent_of-alone s e))
 
+-- the ancestors of a path whose last value is no root are the path and its parent's ancestors
 ancestors_of-deep : (s : List ℕ) (vs : List Value) (v : Value) → values s ≡ vs ++ v ∷ []
     → (v ≡ RootDir → ⊥) → ancestors_of s ≡ s ∷ ancestors_by (parent_of s)
 unfolding ancestors_of
@@ -46,6 +50,7 @@ ancestors_of-deep s vs v e differs =
     ∙ ap (λ ps. s ∷ q ∷ ps) (shift s 1 (depth_of q))
     ∙ sym (ap (λ o. s ∷ ancestors_by o) (parent_of-deep s (depth_of q) more))
 
+-- the ancestors of a path whose values end in v are the path and its parent's ancestors
 by_last : (s : List ℕ) (vs : List Value) (v : Value) → values s ≡ vs ++ v ∷ []
     → ancestors_of s ≡ s ∷ ancestors_by (parent_of s)
 by_last s vs RootDir e = ancestors_of-alone s (depth_of-root s vs e)
@@ -57,10 +62,11 @@ by_snoc : (s : List ℕ) → Snoc (values s) → ancestors_of s ≡ s ∷ ancest
 by_snoc s (Empty e) = ancestors_of-alone s (depth_of-none s e)
 by_snoc s (Pushed vs v e) = by_last s vs v e
 
+-- the ancestors of a path are the path and its parent's ancestors
 pub ancestors_of-parent : (s : List ℕ) → ancestors_of s ≡ s ∷ ancestors_by (parent_of s)
 ancestors_of-parent s = by_snoc s (snoc (values s))
 
--- what a walk gives from this path on
+-- what a walk gives that has `next` before it
 abbrev ancestors_from : Option Path → List (List ℕ)
 ancestors_from next = option_map_or (λ path. ancestors_of path.bytes.now) next []
 
@@ -69,7 +75,7 @@ ancestors_by-bytes : (o : Option Path)
 ancestors_by-bytes None = refl
 ancestors_by-bytes (Some path) = refl
 
--- the walk goes on from the parent
+-- a walk gives its path, and goes on from the parent of that
 pub ancestors_left-step : (o : Option Path) (path : Path) (parent : Option Path)
     → o ≡ Some path → option_map (λ path. path.bytes.now) parent ≡ parent_of path.bytes.now
     → ancestors_from o ≡ path.bytes.now ∷ ancestors_from parent

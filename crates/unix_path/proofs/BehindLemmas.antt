@@ -15,13 +15,13 @@ use Rattle.unix_path.specs.Prefixes.{Begins}
 use Rattle.unix_path.specs.Rest.{rest}
 use Rattle.unix_path.specs.Steps.{is_idle, StripsOn}
 
--- a string cut just after one of its slashes
+-- a string cut just after one of its slashes is both sides together
 cut_behind : (s : List ℕ) (n : ℕ) → 0 < n → n ≤ length s → get_or s (n - 1) 0 ≡ slash
     → (take (n - 1) s ++ slash ∷ []) ++ drop n s ≡ s
 cut_behind s n some l is =
     ap (λ t. t ++ drop n s) (sym (take-past_slash s n some l is)) ∙ take-append-drop n s
 
--- the parts behind that place
+-- the parts of a string cut just after one of its slashes are those of both sides
 parts-behind : (s : List ℕ) (n : ℕ) → 0 < n → n ≤ length s → get_or s (n - 1) 0 ≡ slash
     → parts s ≡ parts (take n s) ++ inner_parts n (drop n s)
 parts-behind s n some l is =
@@ -31,14 +31,15 @@ parts-behind s n some l is =
     ∙ ap (λ t. parts t ++ inner_parts (length t) (drop n s)) (sym front)
     ∙ ap (λ k. parts (take n s) ++ inner_parts k (drop n s)) (length-take-le n s l)
 
--- the values behind that place
+-- the values of a string cut just after one of its slashes are those of both sides
 pub values-behind : (s : List ℕ) (n : ℕ) → 0 < n → n ≤ length s → get_or s (n - 1) 0 ≡ slash
     → values s ≡ values (take n s) ++ inner_values (drop n s)
 values-behind s n some l is =
     ap values (sym (cut_behind s n some l is)) ∙ values-past_slash (take (n - 1) s) (drop n s)
     ∙ ap (λ t. values t ++ inner_values (drop n s)) (sym (take-past_slash s n some l is))
 
--- what is left after as many parts as stand before that place
+-- what follows n bytes, of which the last is a slash, and i more that don't count, has the rest of
+-- the string after the parts of the n bytes
 rest-behind_drop : (s : List ℕ) (n i : ℕ) → 0 < n → n ≤ length s → get_or s (n - 1) 0 ≡ slash
     → inner_parts 0 (drop n s) ≡ inner_parts (0 + i) (drop i (drop n s))
     → (0 < length (drop i (drop n s)) → is_idle (drop i (drop n s)) 0 ≡ false)
@@ -77,6 +78,7 @@ rest-behind_drop s n i some l is same busy =
     } in
     rest-middle u 0 0 h ∙ sym (rest-middle s k 0 behind)
 
+-- the rest behind n bytes and i more that don't count, where t is what follows the n bytes
 pub rest-behind : (s t : List ℕ) (n i : ℕ) → t ≡ drop n s → 0 < n → n ≤ length s
     → get_or s (n - 1) 0 ≡ slash → inner_parts 0 t ≡ inner_parts (0 + i) (drop i t)
     → (0 < length (drop i t) → is_idle (drop i t) 0 ≡ false)
@@ -87,15 +89,17 @@ rest-behind s t n i e some l is same busy =
     (subst (λ t. inner_parts 0 t ≡ inner_parts (0 + i) (drop i t)) e same)
     (subst (λ t. 0 < length (drop i t) → is_idle (drop i t) 0 ≡ false) e busy)
 
+-- what two lists both begin with may be left out in front of each
 begins_past : (v w x : List Value) → Begins (v ++ w) (v ++ x) → Begins w x
 begins_past [] w x h = h
 begins_past (y ∷ v) w x h = begins_past v w x (begins_tail y y (v ++ w) (v ++ x) h).1
 
+-- what is put in front of two lists keeps that one begins the other
 begins_all : (v w x : List Value) → Begins w x → Begins (v ++ w) (v ++ x)
 begins_all [] w x h = h
 begins_all (y ∷ v) w x h = begins_more y (v ++ w) (v ++ x) (begins_all v w x h)
 
--- two walks behind what both strings begin with
+-- u and `left` are what two walks have left behind the values v that s and base both begin with
 pub strips_behind : {s base u : List ℕ} {left : List Value} (v : List Value)
     → values s ≡ v ++ values u → values base ≡ v ++ left → u ≡ rest s (length v) 0
     → StripsOn s base u left

@@ -14,7 +14,7 @@ use Rattle.unix_path.proofs.CaseLemmas.{by_test}
 use Rattle.unix_path.proofs.FrontLemmas.{values_cmp-behind}
 use Rattle.unix_path.proofs.NameLemmas.{past_last-is}
 
--- a front that is no longer than the common one
+-- two strings have the same first bytes as far as their common front goes
 pub take-common : (a b : List ℕ) (n : ℕ) → n ≤ common_prefix_len eqb a b → take n a ≡ take n b
 take-common [] [] n l = refl
 take-common [] (y ∷ b) zero l = refl
@@ -27,14 +27,14 @@ take-common (x ∷ a) (y ∷ b) (suc n) l = by_test (eqb x y)
     ap₂ (λ z zs. z ∷ zs) (eqb-true x y e) (take-common a b n (omega arith)))
     (λ e. let m : suc n ≤ 0 = rw e at l in absurd (omega arith))
 
--- where the common front is all of both, they are the same
+-- strings of which the common front is all are the same
 pub common_prefix_len-whole : (a b : List ℕ) → common_prefix_len eqb a b ≡ length a
     → common_prefix_len eqb a b ≡ length b → a ≡ b
 common_prefix_len-whole a b e f =
     sym (take_all (length a) a (omega arith)) ∙ take-common a b (length a) (omega (arith, e))
     ∙ take_all (length a) b (omega (arith, e, f))
 
--- the place just after the common front's last slash, found in that front
+-- a place in the common front with a slash just before it, and none behind it, is the common dir
 pub common_dir_of-is : (a b : List ℕ) (front n : ℕ) → front ≡ common_prefix_len eqb a b
     → n ≤ length (take front a) → (0 < n → get_or (take front a) (n - 1) 0 ≡ slash)
     → position_or_len is_slash (drop n (take front a)) ≡ length (drop n (take front a))
@@ -54,7 +54,7 @@ common_dir_of-is a b front n is l after none =
 past_last-le : (p : ℕ → Bool) (s : List ℕ) → past_last p s ≤ length s
 past_last-le p s = omega arith
 
--- the byte before the place just after the last slash
+-- the byte before the place just after the last slash is a slash
 past_last-slash : (s : List ℕ) → 0 < past_last is_slash s
     → get_or s (past_last is_slash s - 1) 0 ≡ slash
 past_last-slash s some =
@@ -73,7 +73,7 @@ past_last-slash s some =
     not_false true e = refl
     not_false false e = cc
 
--- just before that place both strings have a slash, and the same bytes before it
+-- both strings have the same n first bytes, of which the last is a slash
 pub record CutsAlike (a b : List ℕ) (n : ℕ) : Type 0 where
   pub in_first : n ≤ length a
   pub in_second : n ≤ length b
@@ -81,6 +81,7 @@ pub record CutsAlike (a b : List ℕ) (n : ℕ) : Type 0 where
   pub first_slash : get_or a (n - 1) 0 ≡ slash
   pub second_slash : get_or b (n - 1) 0 ≡ slash
 
+-- where the common front has a slash, both strings can be cut just after it
 pub common_dir_of-cuts : (a b : List ℕ) → 0 < common_dir_of a b → CutsAlike a b (common_dir_of a b)
 unfolding common_dir_of
 common_dir_of-cuts a b some =

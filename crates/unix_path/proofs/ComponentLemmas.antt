@@ -12,6 +12,7 @@ use Rattle.unix_path.specs.declared.cursor.component.Component.{Component}
 use Rattle.unix_path.specs.declared.cursor.component.Component.TheVariants.{RootDir, CurDir}
 use Rattle.unix_path.specs.declared.cursor.component.Component.TheVariants.{ParentDir, Normal}
 
+-- a component that is no `Normal` has no name
 name_of-other : (x : Component) → ((name : UnixStr) → x ≡ Normal name → ⊥)
     → None ≡ name_of (value_of x)
 name_of-other RootDir h = refl
@@ -19,6 +20,7 @@ name_of-other CurDir h = refl
 name_of-other ParentDir h = refl
 name_of-other (Normal name) h = absurd (h name refl)
 
+-- the value of a component that isn't `RootDir` isn't the root
 pub value_of-other : (x : Component) → (x ≡ RootDir → ⊥) → value_of x ≡ parts.RootDir → ⊥
 value_of-other RootDir h e = h refl
 value_of-other CurDir h e = cc
@@ -32,6 +34,7 @@ pub file_name_of-normal : {x : Component} {name : UnixStr} (s w : List ℕ)
 file_name_of-normal {x} s w last is =
     ap (λ x. name_of (value_of x)) (sym is) ∙ file_name_of-push s w (value_of x) last
 
+-- where the last component is no `Normal` there is no file name
 pub file_name_of-other : (s w : List ℕ) (x : Component)
     → values s ≡ values w ++ value_of x ∷ [] → ((name : UnixStr) → x ≡ Normal name → ⊥)
     → None ≡ file_name_of (values s)

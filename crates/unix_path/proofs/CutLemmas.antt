@@ -10,10 +10,12 @@ use Rattle.unix_path.proofs.PieceLemmas.{parts_of_piece, first_piece, slice_spli
 use Rattle.unix_path.specs.Parts.{CurDir, RootDir, inner_parts, cur_dir, is_slash, leading_part}
 use Rattle.unix_path.specs.Parts.{parts_of_pieces}
 
+-- how many bytes pieces take with a slash behind each
 width : List (List ℕ) → ℕ
 width [] = 0
 width (p ∷ ps) = length p + 1 + width ps
 
+-- the parts of two lists of pieces follow one another
 parts_of_pieces-append : (at : ℕ) (ps qs : List (List ℕ))
     → parts_of_pieces at (ps ++ qs)
     ≡ parts_of_pieces at ps ++ parts_of_pieces (at + width ps) qs
@@ -27,15 +29,18 @@ parts_of_pieces-append at (p ∷ ps) qs =
     {y = at + (length p + 1 + width ps)} (omega arith))
     ∙ sym (append_assoc (parts_of_piece at p) _ _)
 
+-- a byte more in the first piece makes the pieces a byte wider
 width-onto_first : (x : ℕ) (ps : List (List ℕ)) → 0 < length ps
     → width (onto_first x ps) ≡ 1 + width ps
 unfolding width
 width-onto_first x [] l = absurd (omega arith)
 width-onto_first x (p ∷ ps) l = omega arith
 
+-- every string has a piece
 some_piece : (s : List ℕ) → 0 < length (slice_split is_slash s)
 some_piece s = omega (arith, length-slice_split is_slash s)
 
+-- the pieces of a string, with a slash behind each, are a byte longer than the string
 width-slice_split : (s : List ℕ) → width (slice_split is_slash s) ≡ length s + 1
 unfolding width
 width-slice_split [] = refl
@@ -49,11 +54,13 @@ width-slice_split (x ∷ s) = by_test (eqb x 47)
           (some_piece s),
     ))
 
+-- the first piece of two lists is that of the first list, if it has one
 onto_first-append : (x : ℕ) (ps qs : List (List ℕ)) → 0 < length ps
     → onto_first x (ps ++ qs) ≡ onto_first x ps ++ qs
 onto_first-append x [] qs l = absurd (omega arith)
 onto_first-append x (p ∷ ps) qs l = refl
 
+-- cut at any slash, the pieces of both sides follow one another
 slice_split-append : (x y : List ℕ)
     → slice_split is_slash (x ++ 47 ∷ y) ≡ slice_split is_slash x ++ slice_split is_slash y
 slice_split-append [] y = refl
@@ -76,12 +83,14 @@ inner_parts-append at x y =
     ∙ ap (λ n. inner_parts at x ++ inner_parts n y) {x = at + width (slice_split is_slash x)}
     {y = at + length x + 1} (omega (arith, width-slice_split x))
 
+-- what follows a slash leaves the first piece as it is
 first_piece-append : (x y : List ℕ) → first_piece (x ++ 47 ∷ y) ≡ first_piece x
 first_piece-append x y =
     let cut = sym (slice_split-first (x ++ 47 ∷ y)) ∙ slice_split-append x y
     ∙ ap (λ ps. ps ++ slice_split is_slash y) (slice_split-first x) in
     cc
 
+-- what follows a slash that is not the first byte leaves the leading part as it is
 pub leading_part-append : (x y : List ℕ) → 0 < length x
     → leading_part (x ++ 47 ∷ y) ≡ leading_part x
 unfolding leading_part

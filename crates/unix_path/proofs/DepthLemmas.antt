@@ -12,6 +12,7 @@ root_count-le (CurDir ∷ vs) = omega arith
 root_count-le (ParentDir ∷ vs) = omega arith
 root_count-le (Normal name ∷ vs) = omega arith
 
+-- a value that is no root leaves the count of roots as it is
 root_count-push : (vs : List Value) (v : Value) → (v ≡ RootDir → ⊥)
     → root_count (vs ++ v ∷ []) ≡ root_count vs
 root_count-push [] RootDir differs = absurd (differs refl)
@@ -23,12 +24,14 @@ root_count-push (CurDir ∷ vs) v differs = refl
 root_count-push (ParentDir ∷ vs) v differs = refl
 root_count-push (Normal name ∷ vs) v differs = refl
 
+-- the depth is the number of values but for the root
 pub depth_of-values : (s : List ℕ) → depth_of s ≡ length (values s) - root_count (values s)
 depth_of-values s = ap (λ n. length (values s) - n) (root_count-values s)
 
 pub depth_of-none : (s : List ℕ) → values s ≡ [] → depth_of s ≡ 0
 depth_of-none s e = omega (arith, depth_of-values s, ap length e)
 
+-- a path whose last value is the root has the depth 0
 pub depth_of-root : (s : List ℕ) (vs : List Value) → values s ≡ vs ++ RootDir ∷ [] → depth_of s ≡ 0
 depth_of-root s [] e = omega (arith, depth_of-values s, ap length e, ap root_count e)
 depth_of-root s (v ∷ vs) e = absurd (omega (arith, root_last s (v ∷ vs) e))

@@ -110,6 +110,7 @@ pub record BeginsName (s : List ℕ) (d : ℕ) : Type 0 where
   pub no_slash : eqb (get_or s d 0) 47 ≡ false
   pub no_dot : eqb (get_or s d 0) 46 ≡ false
 
+-- a name at place d of s stands first in what follows d bytes
 BeginsName-drop : (s : List ℕ) (d : ℕ) → BeginsName s d → BeginsName (drop d s) 0
 BeginsName-drop s d name =
     let here : get_or (drop d s) 0 0 ≡ get_or s d 0 =
@@ -120,6 +121,7 @@ BeginsName-drop s d name =
       no_dot = ap (λ b. eqb b 46) here ∙ name.no_dot;
     }
 
+-- the first inner value of a string that begins with a name is its first piece
 inner_values-name : (s : List ℕ) → BeginsName s 0
     → (more : List Value) × (inner_values s ≡ Normal (first_piece s) ∷ more)
 inner_values-name [] name = absurd (omega (arith, name.some))
@@ -137,6 +139,7 @@ inner_values-name (x ∷ s) name =
           ∙ ap (λ v. v ∷ more) (ap value_of_piece piece ∙ value ∙ ap Normal (sym piece)),
     )
 
+-- the order of the first pieces is the strings' order, where those are names that differ
 names_differ : (s t : List ℕ) (n : ℕ) → BeginsName s 0 → BeginsName t 0
     → (piece_rank s n ≡ piece_rank t n → ⊥)
     → slice_cmp nat_cmp (first_piece s) (first_piece t) ≡ nat_cmp (piece_rank s n) (piece_rank t n)
@@ -148,6 +151,7 @@ names_differ s t n first second differs pieces =
     sym (ap₂ values_cmp v.1 w.1 ∙ ap (λ o. ordering_then o behind) pieces
     ∙ (nat_cmp-differ (piece_rank s n) (piece_rank t n) behind differs).0)
 
+-- the rank at place n is that at place n - d of what follows d bytes
 piece_rank-drop : (s : List ℕ) (d n : ℕ) → d ≤ n → piece_rank (drop d s) (n - d) ≡ piece_rank s n
 piece_rank-drop s d n l =
     let back : d + (n - d) ≡ n = omega arith in

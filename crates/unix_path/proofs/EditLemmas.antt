@@ -11,6 +11,7 @@ use Rattle.unix_path.specs.Names.{file_name_of}
 use Rattle.unix_path.specs.Edits.{popped_of, stem_end_of, dot_before, with_extension_of}
 use Rattle.unix_path.proofs.StemLemmas.{stem_end_by}
 
+-- a path without a parent stays as it is
 pub popped_of-none : (s : List ℕ) → None ≡ parent_of s → popped_of s ≡ s
 unfolding popped_of
 popped_of-none s e = ap (λ o. unwrap_or o s) (sym e)
@@ -29,11 +30,13 @@ with_extension_at s extension end =
 pub dot_before-some : (b : ℕ) (extension : List ℕ) → dot_before (b ∷ extension) ≡ 46 ∷ []
 dot_before-some b extension = rw (eqb-suc-zero (length extension)) refl
 
+-- an extension leaves a path without a stem as it is
 pub with_extension_of-none : (s extension : List ℕ) → None ≡ stem_end_of s
     → with_extension_of s extension ≡ s
 unfolding with_extension_of
 with_extension_of-none s extension e = ap (with_extension_at s extension) (sym e)
 
+-- an extension is put behind the stem, with the dot if it is not empty
 pub with_extension_of-some : (s extension gap : List ℕ) (end : ℕ) → Some end ≡ stem_end_of s
     → gap ≡ dot_before extension
     → with_extension_of s extension ≡ (take end s ++ gap) ++ extension
@@ -52,6 +55,7 @@ file_name_of-stem s end e = by (file_name_of (values s)) e
     by None h = absurd (none-some end (sym h))
     by (Some name) h = refl
 
+-- where there is no stem there is no file name
 pub file_name_of-no_stem : (s : List ℕ) → None ≡ stem_end_of s
     → is_some (file_name_of (values s)) ≡ false
 unfolding stem_end_of

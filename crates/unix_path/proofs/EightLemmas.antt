@@ -37,11 +37,13 @@ in_eights-last s h =
 abbrev AreBytes : List ℕ → Type 0
 AreBytes s = (i : ℕ) → Fits w8 (get_or s i 0)
 
+-- two strings of bytes are one string of bytes
 bytes-append : (s t : List ℕ) → AreBytes s → AreBytes t → AreBytes (s ++ t)
 bytes-append [] t h k i = k i
 bytes-append (x ∷ s) t h k zero = h 0
 bytes-append (x ∷ s) t h k (suc i) = bytes-append s t (λ i. h (suc i)) k i
 
+-- the first bytes of a string are bytes
 bytes-take : (n : ℕ) (s : List ℕ) → AreBytes s → (i : ℕ) → get_or (take n s) i 0 < 256
 bytes-take zero s h i = omega arith
 bytes-take (suc n) [] h i = omega arith

@@ -5,24 +5,28 @@ use Rattle.std.specs.List.{last_or}
 use Rattle.std.proofs.lemmas.List.{take-append-le}
 use Rattle.unix_path.proofs.MiddleLemmas.{middle}
 
--- a list, by what stands last
+-- a list is empty, or some elements and one behind them
 pub data Snoc {X : Type 0} (xs : List X) : Type 0 where
   Empty : xs ≡ [] → Snoc xs
   Pushed : (ys : List X) (y : X) → xs ≡ ys ++ y ∷ [] → Snoc xs
 
+-- what stands last in a list stands last behind one more element in front, too
 snoc-cons : {X : Type 0} (x : X) (xs : List X) → Snoc xs → Snoc (x ∷ xs)
 snoc-cons x xs (Empty e) = Pushed [] x (ap (λ ys. x ∷ ys) e)
 snoc-cons x xs (Pushed ys y e) = Pushed (x ∷ ys) y (ap (λ ys. x ∷ ys) e)
 
+-- a list is empty or has a last element
 pub snoc : {X : Type 0} (xs : List X) → Snoc xs
 snoc [] = Empty refl
 snoc (x ∷ xs) = snoc-cons x xs (snoc xs)
 
+-- the last element of a list with one more behind it is that one
 pub last_or-push : {X : Type 0} (o : Option X) (xs : List X) (y : X)
     → last_or o (xs ++ y ∷ []) ≡ Some y
 last_or-push o [] y = refl
 last_or-push o (x ∷ xs) y = last_or-push (Some x) xs y
 
+-- without its last element a list with one more behind it is the list
 pub middle-push : {X : Type 0} (xs : List X) (y : X) → middle 0 1 (xs ++ y ∷ []) ≡ xs
 middle-push xs y =
     let n : length (xs ++ y ∷ []) - (0 + 1) ≡ length xs =

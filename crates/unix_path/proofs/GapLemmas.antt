@@ -7,7 +7,7 @@ use Rattle.unix_path.specs.Buffers.{texts}
 use Rattle.unix_path.specs.declared.path.Path.{Path}
 use Rattle.unix_path.proofs.JoinLemmas.{join_of_rooted, join_of_open, join_of_closed}
 
--- the beginning of a beginning
+-- the first n bytes of a beginning of s are the first n of s
 pub take-beginning : (s u : List ℕ) (n : ℕ) → take (length u) s ≡ u → n ≤ length u
     → take n u ≡ take n s
 take-beginning s u n e l = ap (take n) (sym e) ∙ take-take n (length u) s l
@@ -16,7 +16,7 @@ pub ruleset join_cases = (join_of_rooted, join_of_open, join_of_closed, take-len
 
 pub ruleset beginnings = (take-beginning, take-length)
 
--- one more path
+-- several paths and one more are joined by joining the one to the join of the others
 pub join_all_of_snoc : (a : List ℕ) (paths : List Path) (path : Path)
     → join_all_of a (texts (paths ++ path ∷ []))
     ≡ join_of (join_all_of a (texts paths)) path.bytes.now

@@ -14,14 +14,17 @@ is_open-at (b ∷ c ∷ s) =
     ∙ ap (λ k. eqb (get_or (b ∷ c ∷ s) k 47) 47) {x = suc (length (c ∷ s) - 1)}
     {y = length (b ∷ c ∷ s) - 1} (omega arith)
 
+-- a join with a rooted path is that path
 pub join_of_rooted : (a b : List ℕ) → is_rooted b ≡ true → join_of a b ≡ b
 unfolding join_of
 join_of_rooted a b r = rw r refl
 
+-- a join of an open path with one that isn't rooted puts nothing between them
 pub join_of_open : (a b : List ℕ) → is_rooted b ≡ false → is_open a ≡ true → join_of a b ≡ a ++ b
 unfolding join_of
 join_of_open a b r o = rw (r, o) refl
 
+-- a join of a path that isn't open with one that isn't rooted puts a slash between them
 pub join_of_closed : (a b : List ℕ) → is_rooted b ≡ false → is_open a ≡ false
     → join_of a b ≡ (a ++ 47 ∷ []) ++ b
 unfolding join_of

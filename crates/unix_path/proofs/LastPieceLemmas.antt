@@ -13,11 +13,13 @@ use Rattle.unix_path.specs.Parts.{CurDir, ParentDir, Normal, cur_dir, parent_dir
 use Rattle.unix_path.specs.Steps.{EndsInPart, IsLastStart}
 use Rattle.unix_path.specs.Steps.{ends_with_parent, first_value}
 
+-- the last piece of a string that ends in a part and isn't `.` is no `.`
 no_dot_piece : (s : List ℕ) (start : ℕ) → IsLastStart s start → start < length s → EndsInPart s
     → bytes_eq s cur_dir ≡ false → bytes_eq (drop start s) cur_dir ≡ false
 no_dot_piece s zero h l ends no_dot = no_dot
 no_dot_piece s (suc k) h l ends no_dot = (last_counts s (suc k) h (omega arith) l ends).1
 
+-- a last piece of two bytes is the whole string or stands behind a slash
 begins_piece : (s : List ℕ) (start : ℕ) → IsLastStart s start → length s ≡ start + 2
     → (eqb (length s) 2 || eqb (get_or s (length s - 3) 0) 47) ≡ true
 begins_piece s zero h n = rw n refl
@@ -27,6 +29,7 @@ begins_piece s (suc k) h n =
     ∙ h.after_slash (omega arith) in
     by_test (eqb (length s) 2) (λ e. rw e refl) (λ e. rw (e, slash) refl)
 
+-- the last piece is no `..` where `ends_with_parent` is false
 no_parent_piece : (s : List ℕ) (start : ℕ) → IsLastStart s start → start < length s
     → ends_with_parent s ≡ false → bytes_eq (drop start s) parent_dir ≡ false
 no_parent_piece s start h l no_parent =
@@ -52,6 +55,7 @@ pub last_name : (s : List ℕ) (start : ℕ) → IsLastStart s start → start <
 last_name s start h l ends no_dot no_parent =
     rw (no_dot_piece s start h l ends no_dot, no_parent_piece s start h l no_parent) refl
 
+-- a string that ends with `..` has two bytes at least
 pub length-with_parent : (s : List ℕ) → ends_with_parent s ≡ true → 1 < length s
 length-with_parent s e =
     let all = and_parts (eqb (get_or s (length s - 1) 0) 46) _ e in

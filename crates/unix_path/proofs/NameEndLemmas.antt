@@ -17,6 +17,7 @@ use Rattle.unix_path.proofs.StemLemmas.{last_start_of-name, length-rest_whole-le
 abbrev pub name_end_by : List ℕ → Option (List ℕ) → Option ℕ
 name_end_by s name = option_map (λ name. last_start_of (parts s) + length name) name
 
+-- without a file name there is no place where it ends
 pub name_end_of-none : (s : List ℕ) → None ≡ file_name_of (values s) → None ≡ name_end_of s
 unfolding name_end_of
 name_end_of-none s e = ap (name_end_by s) e
@@ -30,6 +31,7 @@ name_end_of-some s name end e at =
     omega (arith, at, last_start_of-name s name e) in
     ap Some to ∙ ap (name_end_by s) e
 
+-- a name ends in its path
 pub name_end-le : (s : List ℕ) (end : ℕ) → end ≡ length (rest s 0 0) → end ≤ length s
 name_end-le s end at = omega (arith, at, length-rest_whole-le s)
 
@@ -38,22 +40,25 @@ abbrev pub added_extension_at : List ℕ → List ℕ → Option ℕ → List �
 added_extension_at s x end =
     cond (eqb (length x) 0) s (option_map_or (λ end. (take end s ++ 46 ∷ []) ++ x) end s)
 
+-- an empty extension adds nothing
 pub added_extension_of-nil : (s x : List ℕ) → length x ≡ 0 → added_extension_of s x ≡ s
 unfolding added_extension_of
 added_extension_of-nil s x e = cond-true _ _ _ (eq-eqb (length x) 0 e)
 
+-- an extension leaves a path without a file name as it is
 pub added_extension_of-none : (s x : List ℕ) → None ≡ name_end_of s → added_extension_of s x ≡ s
 unfolding added_extension_of
 added_extension_of-none s x e =
     ap (added_extension_at s x) (sym e)
     ∙ by_test (eqb (length x) 0) (λ e. rw e refl) (λ e. rw e refl)
 
+-- an extension that is not empty is put behind the file name, with a dot
 pub added_extension_of-some : (s x : List ℕ) (end : ℕ) → Some end ≡ name_end_of s
     → eqb (length x) 0 ≡ false → added_extension_of s x ≡ (take end s ++ 46 ∷ []) ++ x
 unfolding added_extension_of
 added_extension_of-some s x end e h = ap (added_extension_at s x) (sym e) ∙ cond-false _ _ _ h
 
--- a name ends where there is a file name, and nowhere else
+-- where a name ends there is a file name
 pub file_name_of-name_end : (s : List ℕ) (end : ℕ) → Some end ≡ name_end_of s
     → is_some (file_name_of (values s)) ≡ true
 unfolding name_end_of
@@ -63,6 +68,7 @@ file_name_of-name_end s end e = by (file_name_of (values s)) e
     by None h = absurd (none-some end (sym h))
     by (Some name) h = refl
 
+-- where no name ends there is no file name
 pub file_name_of-no_name_end : (s : List ℕ) → None ≡ name_end_of s
     → is_some (file_name_of (values s)) ≡ false
 unfolding name_end_of

@@ -14,11 +14,12 @@ use Rattle.unix_path.proofs.RestLemmas.{values-rest, rest-rest}
 use Rattle.unix_path.proofs.EndLemmas.{last_or-push}
 use Rattle.unix_path.proofs.DepthLemmas.{depth_of-none, depth_of-root, depth_of-push}
 
--- where nothing was taken, all values are left
+-- the rest after no part has all values of the path
 pub values-whole : (s u : List ℕ) → u ≡ rest s 0 0 → values u ≡ values s
 values-whole s u e = ap values e ∙ values-rest s 0 0
     ∙ take_all (length (values s) - (0 + 0)) (values s) (omega arith)
 
+-- what is left before the last part of a fresh cursor's rest is left before that of the path
 pub rest-whole_last : {u w : List ℕ} (s : List ℕ) → u ≡ rest s 0 0 → w ≡ rest u 0 1 → w ≡ rest s 0 1
 rest-whole_last s e r = r ∙ ap (λ u. rest u 0 1) e ∙ rest-rest s 0 0 0 1
 
@@ -45,6 +46,7 @@ parent_of-none s is = sym (parent_of-alone s (depth_of-none s is))
 pub parent_of-root : (s w : List ℕ) → values s ≡ values w ++ RootDir ∷ [] → None ≡ parent_of s
 parent_of-root s w is = sym (parent_of-alone s (depth_of-root s (values w) is))
 
+-- a path that doesn't end in the root has what is left before its last part as its parent
 pub parent_of-push : {w : List ℕ} (s : List ℕ) (v : Value) → values s ≡ values w ++ v ∷ []
     → w ≡ rest s 0 1 → (v ≡ RootDir → ⊥) → Some w ≡ parent_of s
 parent_of-push {w} s v is left differs =
@@ -54,18 +56,22 @@ pub file_name_of-none : (s : List ℕ) → values s ≡ [] → None ≡ file_nam
 unfolding file_name_of
 file_name_of-none s is = sym (ap file_name_of is)
 
+-- the file name is that of the last value
 pub file_name_of-last : (vs : List Value) (v : Value) → file_name_of (vs ++ v ∷ []) ≡ name_of v
 unfolding file_name_of
 file_name_of-last vs v = ap (option_and_then name_of) (last_or-push None vs v)
 
+-- the last value of a path tells its file name
 pub file_name_of-push : (s w : List ℕ) (v : Value) → values s ≡ values w ++ v ∷ []
     → name_of v ≡ file_name_of (values s)
 file_name_of-push s w v is = sym (ap file_name_of is ∙ file_name_of-last (values w) v)
 
+-- a path without a file name is what stands before it
 pub before_name_of-none : (s : List ℕ) → None ≡ file_name_of (values s) → s ≡ before_name_of s
 unfolding before_name_of
 before_name_of-none s e = ap (λ o. cond (is_some o) (rest s 0 1) s) e
 
+-- what is left before the last part stands before the file name
 pub before_name_of-some : (s name : List ℕ) → Some name ≡ file_name_of (values s)
     → rest s 0 1 ≡ before_name_of s
 unfolding before_name_of

@@ -31,6 +31,7 @@ pub is_rooted-at : (s : List ℕ) → is_rooted s ≡ eqb (get_or s 0 0) 47
 is_rooted-at [] = refl
 is_rooted-at (b ∷ s) = refl
 
+-- the leading part of a string that begins with no slash
 pub leading_part-name : (s : List ℕ) → eqb (get_or s 0 0) 47 ≡ false
     → leading_part s ≡ cond (bytes_eq (first_piece s) cur_dir)
     (record { start = 0; end = 1; value = CurDir } ∷ []) []
@@ -38,6 +39,7 @@ unfolding leading_part
 leading_part-name s e =
     rw (is_rooted-at s ∙ e) refl
 
+-- a string that is not empty and begins with no slash doesn't have an empty first piece
 pub nonempty_first_piece : (s : List ℕ) → 0 < length s → eqb (get_or s 0 0) 47 ≡ false
     → bytes_eq (first_piece s) [] ≡ false
 nonempty_first_piece [] l e = absurd (omega arith)

@@ -11,7 +11,7 @@ use Rattle.unix_path.proofs.SplitLemmas.{drops_to, splits_first}
 use Rattle.unix_path.specs.Parts.{parts, values}
 use Rattle.unix_path.specs.Rest.{rest, span_of}
 
--- the values of what is left are those left
+-- the values of a rest are the path's, without the first k and the last m
 pub values-rest : (s : List ℕ) (k m : ℕ) → values (rest s k m) ≡ middle k m (values s)
 unfolding values
 values-rest s k m =
@@ -20,7 +20,7 @@ values-rest s k m =
     ∙ sym (values-part_at h.at (parts h.left)) ∙ ap (map (λ p. p.value)) (sym h.is)
     ∙ sym (map-middle (λ p. p.value) k m (parts s))
 
--- what is left of what is left
+-- the rest of a rest is the rest after the parts that both take
 pub rest-rest : (s : List ℕ) (k m i j : ℕ) → rest (rest s k m) i j ≡ rest s (k + i) (m + j)
 rest-rest s k m i j =
     let h = middle_of s k m in
@@ -71,11 +71,13 @@ few_parts (suc n) t l = by_test (ltb 0 (length t))
           (ap parts (nil_from_length t (omega (arith, ltb-false _ _ e))) ∙ parts-nil),
     ))
 
+-- a path has no more values than bytes
 pub length-values : (s : List ℕ) → length (values s) ≤ length s
 unfolding values
 length-values s = omega
     (arith, length-map (parts s) (λ p. p.value), few_parts (length s) s (omega arith))
 
+-- where nothing is taken in front, what is left stands at place 0
 middle_of-at : (s : List ℕ) (m : ℕ) → (middle_of s 0 m).at ≡ 0
 unfolding middle_of drops_to
 middle_of-at s m = refl

@@ -24,6 +24,7 @@ pub record SplitsFirst (t : List ℕ) : Type 0 where
   pub in_range : len ≤ length t
   pub is : parts t ≡ first ∷ map (part_at len) (parts (drop len t))
 
+-- a first part that ends at e is followed by what doesn't count, and then by the other parts
 splits_at : (t : List ℕ) (e : ℕ) (v : Value) → 0 < e → e ≤ length t
     → parts t ≡ record { start = 0; end = e; value = v } ∷ inner_parts e (drop e t) → SplitsFirst t
 splits_at t e v some l is =
@@ -42,11 +43,13 @@ splits_at t e v some l is =
           ∙ ap (λ u. map (part_at (e + d)) (parts u)) u);
     }
 
+-- a first piece that begins with no slash has a byte
 some_first : (t : List ℕ) → 0 < length t → eqb (get_or t 0 0) 47 ≡ false
     → 0 < position_or_len is_slash t
 some_first [] l e = absurd (omega arith)
 some_first (b ∷ t) l e = omega (arith, position_or_len-other b t e)
 
+-- a string that is not empty has a first part
 pub splits_first : (t : List ℕ) → 0 < length t → SplitsFirst t
 splits_first t l = by_test (eqb (get_or t 0 0) 47)
     (λ e. splits_at t 1 _ (omega arith) (omega arith) (parts-root t (eqb-true _ 47 e)))
@@ -60,6 +63,7 @@ pub record DropsTo (t : List ℕ) (k : ℕ) : Type 0 where
   pub in_range : at ≤ length t
   pub is : drop k (parts t) ≡ map (part_at at) (parts (drop at t))
 
+-- the parts after the first k stand in an end of the string, for any k
 unfoldable pub drops_to : (t : List ℕ) (k : ℕ) → DropsTo t k
 drops_to t zero = record { at = 0; in_range = omega arith; is = sym (part_at-zero (parts t)) }
 drops_to t (suc k) = by_test (ltb 0 (length t))
@@ -93,6 +97,7 @@ pub record SplitsLast (t : List ℕ) : Type 0 where
   pub is : parts t ≡ parts (take len t) ++ last ∷ []
   pub ends : EndsInPart (take len t)
 
+-- a string that is not empty and ends in a part has a last part
 splits_last : (t : List ℕ) → 0 < length t → EndsInPart t → SplitsLast t
 splits_last t l ends =
     let start = last_start t in
@@ -132,6 +137,7 @@ pub record TakesTo (t : List ℕ) (m : ℕ) : Type 0 where
   pub is : take (length (parts t) - m) (parts t) ≡ parts (take len t)
   pub ends : EndsInPart (take len t)
 
+-- the parts before the last m are those of a beginning of the string, for any m
 pub takes_to : (t : List ℕ) (m : ℕ) → EndsInPart t → TakesTo t m
 takes_to t zero ends =
     let all : take (length t) t ≡ t = take_all (length t) t (omega arith) in

@@ -14,11 +14,13 @@ use Rattle.unix_path.specs.Rest.{rest, span_of}
 use Rattle.unix_path.specs.Steps.{EndsInPart, IsLastStart, TakesFirst, TakesLast, first_value}
 use Rattle.unix_path.specs.Steps.{is_idle, is_trailing, parts_end}
 
+-- after the first part the others are left
 rest-first : (s : List ℕ) (p : Part) (ps : List Part) → parts s ≡ p ∷ ps
     → rest s 1 0 ≡ span_of s ps
 unfolding rest
 rest-first s p ps e = rw e (ap (span_of s) (take_all (length (p ∷ ps) - 1) ps (omega arith)))
 
+-- the parts of u, which is t from place i on, span all of u
 span_busy : (t u : List ℕ) (i : ℕ) → drop i t ≡ u → i ≤ length t
     → (0 < length u → is_idle u 0 ≡ false) → (0 < length u → parts_end (inner_parts i u) ≡ length t)
     → span_of t (inner_parts i u) ≡ u
@@ -30,6 +32,7 @@ span_busy t (b ∷ u) i is l busy end =
     ap (span_of t) first ∙ ap (λ n. take (n - i) (drop i t)) (sym (ap parts_end first) ∙ reaches)
     ∙ take_all (length t - i) (drop i t) (omega arith) ∙ is
 
+-- the first part is taken, which ends at e, and then d bytes that don't count
 pub takes_first : (t : List ℕ) (e d : ℕ) (v : Value) → EndsInPart t → e ≤ length t
     → d ≤ length (drop e t)
     → parts t ≡ record { start = 0; end = e; value = v } ∷ inner_parts e (drop e t)
@@ -59,6 +62,7 @@ takes_first t e d v ends l m first idle busy =
         (record { start = 0; end = e; value = v } ∷ inner_parts i u)
     end_of i u some busy e v = let first = inner_parts_busy i u some busy in rw first refl
 
+-- before the last part the others are left
 pub rest-last : (s : List ℕ) (ps : List Part) (p : Part) → parts s ≡ ps ++ p ∷ []
     → rest s 0 1 ≡ span_of s ps
 unfolding rest
@@ -70,6 +74,7 @@ rest-last s ps p e =
     ∙ ap (span_of s) (take-append-le (length ps) ps (p ∷ []) (omega arith)
     ∙ take_all (length ps) ps (omega arith))
 
+-- the last part is taken, and what is left ends in a part
 takes_last_to : (t : List ℕ) (n at to : ℕ) (v : Value) → n ≤ length t
     → parts t ≡ parts (take n t) ++ record { start = at; end = to; value = v } ∷ []
     → EndsInPart (take n t) → TakesLast t (take n t) v
@@ -84,6 +89,7 @@ takes_last_to t n at to v l all ends =
       ends = ends;
     }
 
+-- the last piece is taken, and then what doesn't count before it
 pub takes_last : (t : List ℕ) (start n : ℕ) → IsLastStart t start → start < length t → EndsInPart t
     → n ≤ start → parts (take n t) ≡ parts (take start t) → (0 < n → is_trailing t (n - 1) ≡ false)
     → TakesLast t (take n t) (first_value (drop start t))
@@ -94,6 +100,7 @@ takes_last t start n h l ends m same trimmed =
     { start = last.0; end = length t; value = first_value (drop start t) } ∷ []) (sym same))
     (EndsInPart-take t n (omega arith) trimmed)
 
+-- the root is taken from a string that ends in a part and in a slash
 pub takes_root : (t : List ℕ) → 0 < length t → EndsInPart t → get_or t (length t - 1) 0 ≡ 47
     → TakesLast t (take 0 t) RootDir
 takes_root t l ends e =

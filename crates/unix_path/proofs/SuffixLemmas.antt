@@ -12,6 +12,7 @@ pub record EndsOn (s child u : List ℕ) (left : List Value) : Type 0 where
   pub onward : Ends left (values u) → Ends (values child) (values s)
   pub back : Ends (values child) (values s) → Ends left (values u)
 
+-- both walks begin with all parts
 pub ends_start : {s child u b : List ℕ} → u ≡ rest s 0 0 → b ≡ rest child 0 0
     → EndsOn s child u (values b)
 ends_start {s} {child} {u} {b} e f =
@@ -23,16 +24,19 @@ ends_start {s} {child} {u} {b} e f =
           (subst (λ v. Ends v (values s)) (sym wanted) h);
     }
 
+-- where a list ends another one, so do the lists with the same element behind
 ends_more : (x : Value) (v w : List Value) → Ends v w → Ends (v ++ x ∷ []) (w ++ x ∷ [])
 ends_more x v w h =
     (h.0, sym (append_assoc h.0 v (x ∷ [])) ∙ ap (λ z. z ++ x ∷ []) h.1)
 
+-- where a list ends another one, so do the lists without their last elements, which are the same
 ends_before : (x y : Value) (v w : List Value) → Ends (v ++ x ∷ []) (w ++ y ∷ [])
     → (x ≡ y) × Ends v w
 ends_before x y v w h =
     let same = same_from_push (h.0 ++ v) w x y (append_assoc h.0 v (x ∷ []) ∙ h.1) in
     (same.1, (h.0, same.0))
 
+-- both walks go on by a part of the same value
 pub ends_step : {s child u t : List ℕ} {x y : Value} {left more : List Value}
     → EndsOn s child u left → left ≡ more ++ x ∷ [] → values u ≡ values t ++ y ∷ [] → y ≡ x
     → EndsOn s child t more
@@ -45,11 +49,13 @@ ends_step {s} {child} {u} {t} {x} {y} {left} {more} h l e same =
           (subst (λ l. Ends l (values u)) l (h.back b)))).1;
     }
 
+-- where nothing of the child's values is left, the child ends the path
 pub ends_end : {s child u : List ℕ} {left : List Value} → EndsOn s child u left → left ≡ []
     → Ends (values child) (values s)
 ends_end {u = u} h l =
     h.onward (values u, ap (λ l. values u ++ l) l ∙ append-nil (values u))
 
+-- where only the path has nothing left, the child doesn't end it
 pub ends_short : {s child u : List ℕ} {left : List Value} (x : Value) (more : List Value)
     → EndsOn s child u left → left ≡ more ++ x ∷ [] → values u ≡ []
     → Ends (values child) (values s) → ⊥
@@ -62,6 +68,7 @@ ends_short x more h l e b =
     not_empty [] x e = cc
     not_empty (y ∷ xs) x e = cc
 
+-- where the last values left differ, the child doesn't end the path
 pub ends_differs : {s child u : List ℕ} {x y : Value} {left : List Value} (t : List ℕ)
     (more : List Value) → EndsOn s child u left → left ≡ more ++ x ∷ []
     → values u ≡ values t ++ y ∷ [] → (y ≡ x → ⊥) → Ends (values child) (values s) → ⊥

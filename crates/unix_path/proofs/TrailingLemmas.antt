@@ -23,6 +23,7 @@ differ x y = cond (not (eqb x y)) 255 0
 abbrev stops : ℕ → ℕ → ℕ
 stops x y = bit_and (differ x 47) (bit_or (differ x 46) (differ y 47))
 
+-- a lane without its highest bit is of a slash, or of a dot after a slash
 goes_on : (x y : ℕ) → not (top 7 (stops x y)) ≡ true
     → (eqb x 47 || (eqb x 46 && eqb y 47)) ≡ true
 goes_on x y h = by_test (eqb x 47)
@@ -35,9 +36,11 @@ goes_on x y h = by_test (eqb x 47)
     (λ f. let no : false ≡ true = rw (e, d, f) at h in absurd (true≢false (sym no)))
     (λ f. let no : false ≡ true = rw (e, d, f) at h in absurd (true≢false (sym no)))))
 
+-- sixteen slashes
 abbrev slashes : List ℕ
 slashes = replicate 16 47
 
+-- sixteen dots
 abbrev dots : List ℕ
 dots = replicate 16 46
 
@@ -64,6 +67,7 @@ module _ (here before : List ℕ) (m : length here ≡ 16) (n : length before �
       (zip2 (λ x y. bit_or x y) (zip2 differ here dots) (zip2 differ before slashes))
       (length-same 47 ∙ sym length-either) ∙ length-same 47
 
+  -- a lane tells whether its byte differs from y
   lane : (xs : List ℕ) → length xs ≡ 16 → (y i : ℕ) → i < 16
       → get_or (zip2 differ xs (replicate 16 y)) i 0 ≡ differ (get_or xs i 0) y
   lane xs l y i few =
@@ -71,6 +75,7 @@ module _ (here before : List ℕ) (m : length here ≡ 16) (n : length before �
       (omega (arith, length-replicate 16 y))
       ∙ ap (λ z. differ (get_or xs i 0) z) (get_or-replicate 16 i y 0 few)
 
+  -- the lane at place i is that of the two bytes at place i
   stop_lane : (i : ℕ) → i < 16
       → get_or (stop_lanes here before) i 0 ≡ stops (get_or here i 0) (get_or before i 0)
   stop_lane i few =

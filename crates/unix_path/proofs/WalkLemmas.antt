@@ -67,6 +67,7 @@ ancestors_in_order =
     from_front {A = Path} (YieldsFirstBy (λ path. path.bytes.now) ancestors_left)
     (λ path. path.bytes.now) ancestors_left (λ s t h. ap length h.0) (λ s x t h. h)
 
+-- a path has no more ancestors than bytes, and one more
 pub length-ancestors_of : (s : List ℕ) → length (ancestors_of s) ≤ length s + 1
 unfolding ancestors_of
 length-ancestors_of s =

@@ -6,30 +6,31 @@ use Rattle.unix_path.specs.Joins.{join_of, join_all_of}
 use Rattle.unix_path.specs.declared.buf.PathBuf.{PathBuf}
 use Rattle.unix_path.specs.declared.path.Path.{Path}
 
--- the bytes that it holds
+-- the bytes that an owned path holds
 abbrev pub path_bytes : PathBuf → List ℕ
 path_bytes p = owned_bytes p.inner
 
--- how many more bytes it takes before it grows
+-- how many more bytes an owned path takes before it grows
 abbrev pub room : PathBuf → ℕ
 room p = owned_room p.inner
 
--- how many bytes it can hold before it grows
+-- how many bytes an owned path can hold before it grows
 abbrev pub capacity : PathBuf → ℕ
 capacity p = owned_capacity p.inner
 
--- the bytes of these paths
+-- the bytes of each of these paths
 abbrev pub texts : List Path → List (List ℕ)
 texts paths = map (λ path. path.bytes.now) paths
 
--- these were all items, and each was joined to what those before it made of the bytes
+-- an iterator's items were all joined to the old bytes, one after the other
 pub record JoinsAll {S : Type 0} (steps : S → Option Path → S → Type 0) (items : S)
     (old new : List ℕ) : Type 0 where
   pub paths : List Path
   pub drained : Drains steps items paths
   pub bytes : new ≡ join_all_of old (texts paths)
 
--- the items before one were joined, and the join with that one is longer than `most`
+-- the items before one were joined to the old bytes, one after the other, and the join with that
+-- one is longer than `most` bytes
 pub record JoinsBeginning {S : Type 0} (steps : S → Option Path → S → Type 0) (items : S)
     (old new : List ℕ) (most : ℕ) : Type 0 where
   pub paths : List Path

@@ -1,4 +1,5 @@
--- Extensions that hold no separator (Rust's `PathBuf::add_extension`).
+-- What an added extension leaves of a path, and which extensions are refused (Rust's
+-- `PathBuf::add_extension`).
 use Rattle.std.specs.Prelude.{ℕ, ◌+◌, ◌==◌, Bool, List, [], ◌∷◌, ◌++◌, length, take, Option, codes}
 use Rattle.std.specs.Prelude.{option_map, if◌then◌else◌}
 use Rattle.std.specs.Option.{option_map_or}
@@ -24,7 +25,7 @@ added_extension_of s extension =
     if length extension == 0 then s
     else option_map_or (λ end. (take end s ++ dot ∷ []) ++ extension) (name_end_of s) s
 
--- what an error is printed as
+-- what an error of an edit of the extension is printed as
 abbrev pub extension_error_text : ExtensionError → List ℕ
 extension_error_text Separator = codes "extension contains a separator"
 extension_error_text (Memory error) = codes "out of memory"

@@ -9,14 +9,14 @@ use Rattle.unix_path.specs.Parts.{Value, slash, value_bytes}
 abbrev pub end_mark : List ℕ
 end_mark = slash ∷ repeat 7 (0 ∷ [])
 
--- the whole eights of these bytes, each in a write
+-- the whole eights of these bytes, each in a write of its own
 unfoldable pub in_eights : List ℕ → HashWrites
 in_eights bytes = first_chunks 8 (length bytes / 8) bytes
 
--- those of the bytes that the value is written as, with the mark behind them
+-- the whole eights of the bytes that a value is written as with the end mark behind them
 abbrev pub value_input : Value → HashWrites
 value_input v = in_eights (value_bytes v ++ end_mark)
 
--- the values' inputs, one after the other
+-- the inputs of these values, one after the other
 abbrev pub hash_input_of : List Value → HashWrites
 hash_input_of = flat_map value_input

@@ -4,17 +4,17 @@ use Rattle.std.specs.Option.{option_map_or}
 use Rattle.std.specs.List.{last_or}
 use Rattle.unix_path.specs.Parts.{slash, is_slash, is_rooted}
 
--- the last byte is a slash, or there is none
+-- the last byte is a slash, or there is no byte
 abbrev pub is_open : List ℕ → Bool
 is_open s = option_map_or is_slash (last_or None s) true
 
--- a rooted b alone; else a, then b, with a slash between them unless a is empty or ends in one
+-- a rooted b alone; else a, then b, with a slash between them unless a is open
 unfoldable pub join_of : List ℕ → List ℕ → List ℕ
 join_of a b =
     if is_rooted b then b
     else (if is_open a then a ++ b else a ++ slash ∷ b)
 
--- a joined with the first of these, that with the second, and so on
+-- a joined with the first of some paths, that join with the second, and so on
 abbrev pub join_all_of : List ℕ → List (List ℕ) → List ℕ
 join_all_of a [] = a
 join_all_of a (b ∷ bs) = join_all_of (join_of a b) bs

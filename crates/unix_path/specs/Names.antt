@@ -18,8 +18,8 @@ file_name_of vs = option_and_then name_of (last_or None vs)
 abbrev pub past_last : (ℕ → Bool) → List ℕ → ℕ
 past_last p s = length s - suffix_len (λ b. not (p b)) s
 
--- a name's bytes before and after its last dot; all of it and None where that is its first byte or
--- there is none
+-- a name's bytes before and after its last dot; all of the name and None where that dot is the
+-- first byte or there is none
 unfoldable pub split_name : List ℕ → List ℕ × Option (List ℕ)
 split_name name =
     let n = past_last (λ b. b == dot) name in
@@ -33,7 +33,7 @@ stem_of vs = option_map (λ name. (split_name name).0) (file_name_of vs)
 abbrev pub extension_of : List Value → Option (List ℕ)
 extension_of vs = option_and_then (λ name. (split_name name).1) (file_name_of vs)
 
--- a name up to its first dot at place 1 or later; all of it where there is none
+-- a name up to its first dot at place 1 or later, or all of the name where it has none there
 abbrev pub name_prefix : List ℕ → List ℕ
 name_prefix name = take (1 + position_or_len (λ b. b == dot) (drop 1 name)) name
 

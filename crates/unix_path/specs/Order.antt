@@ -13,15 +13,15 @@ rank CurDir = 1
 rank ParentDir = 2
 rank (Normal name) = 3
 
--- by their kind, and two names by their bytes
+-- the order of two values: by their kind, and that of two names by their bytes
 abbrev pub value_cmp : Value → Value → Ordering
 value_cmp = then_cmp (on rank nat_cmp) (on value_bytes (slice_cmp nat_cmp))
 
--- whether the two are the same value
+-- whether v and w are the same value
 abbrev pub same_value : Value → Value → Bool
 same_value v w = is_eq (value_cmp v w)
 
--- by the first values that differ; a list comes before those that it begins
+-- the order of two lists: by the first values that differ; a list comes before those it begins
 abbrev pub values_cmp : List Value → List Value → Ordering
 values_cmp = slice_cmp value_cmp
 

@@ -1,4 +1,4 @@
--- Laws of the order: it is total, and only equal values tie.
+-- Laws of the order of values and of their lists: it is total, and only equal ones tie.
 use Rattle.std.proofs.Common.{◌≡◌, true, List, refl, ap}
 use Rattle.std.specs.Ordering.{is_eq}
 use Rattle.std.specs.Cmp.{IsTotalOrder, Equal-is}
@@ -25,6 +25,6 @@ value_cmp-equal v w e = cc
 pub values_cmp-equal : IsAntisymmetric values_cmp
 values_cmp-equal = slice_cmp-IsAntisymmetric value_cmp-equal
 
--- where `==` answers true, the values are equal
+-- lists of values that tie are equal
 pub is_eq-values_cmp : (v w : List Value) → is_eq (values_cmp v w) ≡ true → v ≡ w
 is_eq-values_cmp v w e = values_cmp-equal v w ((Equal-is (values_cmp v w)).0 e)

@@ -9,7 +9,7 @@ use Rattle.unix_path.specs.Rest.{rest}
 abbrev pub depth_of : List ℕ → ℕ
 depth_of s = length (values s) - (if is_rooted s then 1 else 0)
 
--- what is left before the last part, unless that is the root
+-- what is left before the last part; none where there is no part or the last is the root
 unfoldable pub parent_of : List ℕ → Option (List ℕ)
 parent_of s = if depth_of s == 0 then None else Some (rest s 0 1)
 

@@ -51,7 +51,7 @@ pub record IsLastStart (s : List ℕ) (start : ℕ) : Type 0 where
 abbrev pub first_value : List ℕ → Value
 first_value bytes = if bytes_eq bytes cur_dir then CurDir else value_of_piece bytes
 
--- the end of the last of these parts
+-- the end of the last of these parts, or 0 where there is none
 abbrev pub parts_end : List Part → ℕ
 parts_end [] = 0
 parts_end (p ∷ ps) = last_end p ps
@@ -62,7 +62,7 @@ pub record TakesFirst (s t : List ℕ) (v : Value) : Type 0 where
   pub rest : rest s 1 0 ≡ t
   pub ends : EndsInPart t
 
--- the first part of s, whose value is v, takes n bytes with what doesn't count after it
+-- the first part of s has the value v, and takes n bytes with what doesn't count after it
 pub record StepsFirst (s : List ℕ) (n : ℕ) (v : Value) : Type 0 where
   pub in_range : n ≤ length s
   pub value : values s ≡ v ∷ values (drop n s)
@@ -75,14 +75,15 @@ pub record TakesLast (s t : List ℕ) (v : Value) : Type 0 where
   pub rest : rest s 0 1 ≡ t
   pub ends : EndsInPart t
 
--- the last value of s is v: it ends at `end`, and what is left before it at `before`
+-- the last part of s has the value v and ends at `end`, and what is left before it ends at `before`
 pub record HasLast (s : List ℕ) (before end : ℕ) (v : Value) : Type 0 where
   pub in_range : before ≤ length s
   pub value : values s ≡ values (take before s) ++ v ∷ []
   pub before_is : take before s ≡ rest s 0 1
   pub end_is : end ≡ length (rest s 0 0)
 
--- u is what is left of s after as many values of base as aren't in `left`, and those were alike
+-- u is what is left of s after as many parts as base has before `left`, and those of both paths are
+-- the same: so base begins s exactly where `left` begins u
 pub record StripsOn (s base u : List ℕ) (left : List Value) : Type 0 where
   pub count : ℕ
   pub rest_is : u ≡ rest s count 0
@@ -99,11 +100,11 @@ pub record WalkFields (source : List ℕ) (front back : ℕ) (has_lead lead_left
   pub has_lead_is : has_lead ≡ is_idle source 0
   pub lead_left_is : lead_left ≡ is_idle (slice_range source front back) 0
 
--- the same as one fact, which no search opens
+-- what the fields of a walk say of each other, as one fact that no search unfolds
 unfoldable pub IsWalk : List ℕ → ℕ → ℕ → Bool → Bool → Type 0
 IsWalk source front back has_lead lead_left = WalkFields source front back has_lead lead_left
 
--- a fact, with no more than one proof
+-- `IsWalk` has no more than one proof
 pub IsWalk-prop : (source : List ℕ) (front back : ℕ) (has_lead lead_left : Bool)
     → IsProp (IsWalk source front back has_lead lead_left)
 unfolding IsWalk
