@@ -1,15 +1,13 @@
 -- The cuts that edits make.
 use Rattle.std.proofs.Common.{◌≡◌, ℕ, List, [], ◌∷◌, ◌++◌, length, take, refl}
-use Rattle.std.proofs.Common.{Option, Some, None, is_some, unwrap_or, true, false}
+use Rattle.std.proofs.Common.{Option, Some, None, is_some, option_map, unwrap_or, true, false}
 use Rattle.std.proofs.Common.{sym, ap, ◌∙◌}
 use Rattle.std.proofs.Math.Dec.{eqb-suc-zero}
 use Rattle.std.specs.Option.{option_map_or}
-use Rattle.std.proofs.lemmas.Option.{none-some}
 use Rattle.unix_path.specs.Parts.{values}
 use Rattle.unix_path.specs.Parents.{parent_of}
-use Rattle.unix_path.specs.Names.{file_name_of}
+use Rattle.unix_path.specs.Names.{file_name_of, stem_of}
 use Rattle.unix_path.specs.Edits.{popped_of, stem_end_of, dot_before, with_extension_of}
-use Rattle.unix_path.proofs.StemLemmas.{stem_end_by}
 
 -- a path without a parent stays as it is
 pub popped_of-none : (s : List ℕ) → None ≡ parent_of s → popped_of s ≡ s
@@ -45,25 +43,27 @@ with_extension_of-some s extension gap end e d =
     ap (with_extension_at s extension) (sym e)
     ∙ ap (λ gap. (take end s ++ gap) ++ extension) (sym d)
 
+-- a function of what an option has changes nothing of whether it has something
+pub is_some-option_map : {A B : Type 0} (f : A → B) (o : Option A)
+    → is_some (option_map f o) ≡ is_some o
+is_some-option_map f None = refl
+is_some-option_map f (Some x) = refl
+
 -- there is a stem exactly where there is a file name
+is_some-stem_end_of : (s : List ℕ) → is_some (stem_end_of s) ≡ is_some (file_name_of (values s))
+unfolding stem_end_of
+is_some-stem_end_of s =
+    is_some-option_map _ (stem_of (values s)) ∙ is_some-option_map _ (file_name_of (values s))
+
+-- where there is a stem there is a file name
 pub file_name_of-stem : (s : List ℕ) (end : ℕ) → Some end ≡ stem_end_of s
     → is_some (file_name_of (values s)) ≡ true
-unfolding stem_end_of
-file_name_of-stem s end e = by (file_name_of (values s)) e
-  where
-    by : (o : Option (List ℕ)) → Some end ≡ stem_end_by s o → is_some o ≡ true
-    by None h = absurd (none-some end (sym h))
-    by (Some name) h = refl
+file_name_of-stem s end e = sym (is_some-stem_end_of s) ∙ ap is_some (sym e)
 
 -- where there is no stem there is no file name
 pub file_name_of-no_stem : (s : List ℕ) → None ≡ stem_end_of s
     → is_some (file_name_of (values s)) ≡ false
-unfolding stem_end_of
-file_name_of-no_stem s e = by (file_name_of (values s)) e
-  where
-    by : (o : Option (List ℕ)) → None ≡ stem_end_by s o → is_some o ≡ false
-    by None h = refl
-    by (Some name) h = absurd (none-some _ h)
+file_name_of-no_stem s e = sym (is_some-stem_end_of s) ∙ ap is_some (sym e)
 
 pub ruleset pop_cases = (popped_of-none, popped_of-some)
 

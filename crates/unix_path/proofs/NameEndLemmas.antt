@@ -4,13 +4,13 @@ use Rattle.std.proofs.Common.{Option, Some, None, is_some, option_map, true, fal
 use Rattle.std.proofs.Common.{arith, eq-eqb}
 use Rattle.std.specs.Option.{option_map_or}
 use Rattle.std.proofs.lemmas.Bool.{cond-true, cond-false}
-use Rattle.std.proofs.lemmas.Option.{none-some}
 use Rattle.unix_path.specs.Parts.{parts, values}
 use Rattle.unix_path.specs.Rest.{rest}
 use Rattle.unix_path.specs.Names.{file_name_of}
 use Rattle.unix_path.specs.Edits.{last_start_of}
 use Rattle.unix_path.specs.Extensions.{name_end_of, added_extension_of}
 use Rattle.unix_path.proofs.CaseLemmas.{by_test}
+use Rattle.unix_path.proofs.EditLemmas.{is_some-option_map}
 use Rattle.unix_path.proofs.StemLemmas.{last_start_of-name, length-rest_whole-le}
 
 -- where this name ends in s
@@ -58,25 +58,20 @@ pub added_extension_of-some : (s x : List ℕ) (end : ℕ) → Some end ≡ name
 unfolding added_extension_of
 added_extension_of-some s x end e h = ap (added_extension_at s x) (sym e) ∙ cond-false _ _ _ h
 
+-- a name ends somewhere exactly where there is a file name
+is_some-name_end_of : (s : List ℕ) → is_some (name_end_of s) ≡ is_some (file_name_of (values s))
+unfolding name_end_of
+is_some-name_end_of s = is_some-option_map _ (file_name_of (values s))
+
 -- where a name ends there is a file name
 pub file_name_of-name_end : (s : List ℕ) (end : ℕ) → Some end ≡ name_end_of s
     → is_some (file_name_of (values s)) ≡ true
-unfolding name_end_of
-file_name_of-name_end s end e = by (file_name_of (values s)) e
-  where
-    by : (o : Option (List ℕ)) → Some end ≡ name_end_by s o → is_some o ≡ true
-    by None h = absurd (none-some end (sym h))
-    by (Some name) h = refl
+file_name_of-name_end s end e = sym (is_some-name_end_of s) ∙ ap is_some (sym e)
 
 -- where no name ends there is no file name
 pub file_name_of-no_name_end : (s : List ℕ) → None ≡ name_end_of s
     → is_some (file_name_of (values s)) ≡ false
-unfolding name_end_of
-file_name_of-no_name_end s e = by (file_name_of (values s)) e
-  where
-    by : (o : Option (List ℕ)) → None ≡ name_end_by s o → is_some o ≡ false
-    by None h = refl
-    by (Some name) h = absurd (none-some _ h)
+file_name_of-no_name_end s e = sym (is_some-name_end_of s) ∙ ap is_some (sym e)
 
 pub ruleset added_cases = (
   added_extension_of-nil,
