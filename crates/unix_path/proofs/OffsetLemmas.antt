@@ -21,6 +21,7 @@ use Rattle.unix_path.proofs.PartLemmas.{parts-nil, parts-root, parts-name}
 use Rattle.unix_path.proofs.PieceLemmas.{first_piece, position_or_len-other}
 use Rattle.unix_path.proofs.SpanLemmas.{parts_end-whole}
 
+-- what stands from a to b has b - a bytes
 pub length-range : (s : List ℕ) (a b : ℕ) → b ≤ length s → length (slice_range s a b) ≡ b - a
 length-range s a b l = omega (arith, length-take (b - a) (drop a s), length-drop a s)
 
@@ -43,12 +44,13 @@ pub length-cursor_rest : (c : Components) → length (cursor_rest c) ≤ length 
 unfolding cursor_rest
 length-cursor_rest c = omega (
   arith,
-  length-take (c.back - c.front) (drop c.front c.source.now),
-  length-drop c.front c.source.now,
+  length-take (c.end - c.start) (drop c.start c.source.now),
+  length-drop c.start c.source.now,
 )
 
-pub range-front : (s : List ℕ) (n : ℕ) → slice_range s 0 n ≡ take n s
-range-front s n = ap (λ k. take k s) {x = n - 0} {y = n} (omega arith)
+-- what stands from 0 to n are the first n bytes
+pub range-zero : (s : List ℕ) (n : ℕ) → slice_range s 0 n ≡ take n s
+range-zero s n = ap (λ k. take k s) {x = n - 0} {y = n} (omega arith)
 
 -- whether a root or a `.` comes first
 abbrev lead_first : List Value → Bool
@@ -109,10 +111,10 @@ steps_forward s a b n v in_order in_range ends step =
 
 -- a step over the first part of what is left of a walk moves the first of its places by n
 pub walks_forward : {t : List ℕ} (c : Components) (n : ℕ) (v : Value) → t ≡ cursor_rest c
-    → StepsFirst t n v → StepsForward c.source.now c.front c.back n v
+    → StepsFirst t n v → StepsForward c.source.now c.start c.end n v
 unfolding cursor_rest IsWalk
 walks_forward c n v e step =
-    steps_forward c.source.now c.front c.back n v c.fields.in_order c.fields.in_range c.fields.ends
+    steps_forward c.source.now c.start c.end n v c.fields.in_order c.fields.in_range c.fields.ends
     (subst (λ t. StepsFirst t n v) e step)
 
 -- the last part is taken: what is left ends n bytes after its first
@@ -178,10 +180,10 @@ steps_back s a b n v in_order in_range l takes =
 
 -- a step over the last part of what is left of a walk moves the second of its places
 pub walks_back : {t : List ℕ} (c : Components) (n : ℕ) (v : Value) → t ≡ cursor_rest c
-    → n ≤ length t → TakesLast t (take n t) v → StepsBack c.source.now c.front c.back n v
+    → n ≤ length t → TakesLast t (take n t) v → StepsBack c.source.now c.start c.end n v
 unfolding cursor_rest IsWalk
 walks_back c n v e l takes =
-    steps_back c.source.now c.front c.back n v c.fields.in_order c.fields.in_range
+    steps_back c.source.now c.start c.end n v c.fields.in_order c.fields.in_range
     (subst (λ t. n ≤ length t) e l) (subst (λ t. TakesLast t (take n t) v) e takes)
 
 -- the last part of s, by its fresh walk u and by what is left of that

@@ -10,7 +10,7 @@ use Rattle.unix_path.specs.declared.cursor.iter.Iter.{Iter}
 
 -- the string that a cursor stands for: its source between the two places
 unfoldable pub cursor_rest : Components → List ℕ
-cursor_rest c = slice_range c.source.now c.front c.back
+cursor_rest c = slice_range c.source.now c.start c.end
 
 -- the slice that a cursor goes over, in which that string lies
 abbrev pub cursor_source : Components → Bor (List ℕ)

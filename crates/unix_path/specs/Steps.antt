@@ -2,14 +2,12 @@
 use Rattle.std.specs.Prelude.{◌≡◌, ◌<◌, ◌≤◌, nat_lt, ℕ, ◌+◌, ◌-◌, ◌==◌, Bool, false, ◌||◌, ◌&&◌}
 use Rattle.std.specs.Prelude.{List, [], ◌∷◌, ◌++◌, length, take, drop, slice_index}
 use Rattle.std.specs.Prelude.{slice_index_or, slice_range}
-use Rattle.std.specs.Prelude.{Option, Some, None}
+use Rattle.std.specs.Prelude.{Option, Some, None, if◌then◌else◌}
 use Rattle.std.proofs.Props.{props}
-use Rattle.std.specs.Prelude.{if◌then◌else◌}
 use Rattle.std.specs.List.{position_or_len}
 use Rattle.std.specs.Str.{bytes_eq}
-use Rattle.unix_path.specs.Parts.{slash, is_slash, dot, cur_dir, Part, Value}
-use Rattle.unix_path.specs.Parts.{CurDir, value_of_piece}
-use Rattle.unix_path.specs.Parts.{values}
+use Rattle.unix_path.specs.Parts.{slash, is_slash, dot, cur_dir, Part, Value, CurDir}
+use Rattle.unix_path.specs.Parts.{value_of_piece, values}
 use Rattle.unix_path.specs.Prefixes.{Begins}
 use Rattle.unix_path.specs.Rest.{last_end, rest}
 
@@ -93,22 +91,22 @@ pub record StripsOn (s base u : List ℕ) (left : List Value) : Type 0 where
 
 -- what the fields of a walk say of each other: what is left stands between the two places and ends
 -- in a part, and the flags tell whether a root or a `.` that counts stands first
-pub record WalkFields (source : List ℕ) (front back : ℕ) (has_lead lead_left : Bool) : Type 0 where
-  pub in_order : front ≤ back
-  pub in_range : back ≤ length source
-  pub ends : EndsInPart (slice_range source front back)
+pub record WalkFields (source : List ℕ) (start end : ℕ) (has_lead lead_left : Bool) : Type 0 where
+  pub in_order : start ≤ end
+  pub in_range : end ≤ length source
+  pub ends : EndsInPart (slice_range source start end)
   pub has_lead_is : has_lead ≡ is_idle source 0
-  pub lead_left_is : lead_left ≡ is_idle (slice_range source front back) 0
+  pub lead_left_is : lead_left ≡ is_idle (slice_range source start end) 0
 
 -- what the fields of a walk say of each other, as one fact that no search unfolds
 unfoldable pub IsWalk : List ℕ → ℕ → ℕ → Bool → Bool → Type 0
-IsWalk source front back has_lead lead_left = WalkFields source front back has_lead lead_left
+IsWalk source start end has_lead lead_left = WalkFields source start end has_lead lead_left
 
 -- `IsWalk` has no more than one proof
-pub IsWalk-prop : (source : List ℕ) (front back : ℕ) (has_lead lead_left : Bool)
-    → IsProp (IsWalk source front back has_lead lead_left)
+pub IsWalk-prop : (source : List ℕ) (start end : ℕ) (has_lead lead_left : Bool)
+    → IsProp (IsWalk source start end has_lead lead_left)
 unfolding IsWalk
-IsWalk-prop source front back has_lead lead_left = hlevel props
+IsWalk-prop source start end has_lead lead_left = hlevel props
 
 -- one more than the byte at i, or 0 where a piece ends there: at a slash, or at the end
 abbrev pub piece_rank : List ℕ → ℕ → ℕ

@@ -27,12 +27,12 @@ use std::iter::FusedIterator;
 pub struct Components<'a> {
     source: &'a [u8],
     // What is left stands between these places of the source.
-    front: usize,
-    back: usize,
+    start: usize,
+    end: usize,
     // Whether the source begins with a root or with a `.` that counts, and whether that is left.
     has_lead: bool,
     lead_left: bool,
-    ghost fields: { IsWalk source.now front back has_lead lead_left } by { IsWalk-prop _ _ _ _ _ },
+    ghost fields: { IsWalk source.now start end has_lead lead_left } by { IsWalk-prop _ _ _ _ _ },
 }
 
 // The last part of a path, the place `end` where it ends, and the place `before` where what is left
@@ -70,13 +70,13 @@ impl<'a> Components<'a> {
     fn whole(path: &'a [u8]) -> Components<'a>
         ensures rest { cursor_rest result ≡ rest path.now 0 0 }
         ensures source { result.source ≡ path.entry }
-        ensures front { result.front ≡ 0 }
+        ensures start { result.start ≡ 0 }
     {
         let lead = has_lead(path);
         Components {
             source: path,
-            front: 0,
-            back: trimmed_len(path, path.len()),
+            start: 0,
+            end: trimmed_len(path, path.len()),
             has_lead: lead,
             lead_left: lead,
         }
@@ -95,7 +95,7 @@ impl<'a> Components<'a> {
         ensures place { LiesIn result.bytes (cursor_source self.now) }
     {
         Path {
-            bytes: &self.source[self.front..self.back],
+            bytes: &self.source[self.start..self.end],
         }
     }
 
@@ -106,14 +106,14 @@ impl<'a> Components<'a> {
         ensures steps { GivesLast value_of cursor_values cursor_rest cursor_source
             self.old result self.new }
         ensures source { self.new.source ≡ self.old.source }
-        ensures front { self.new.front ≡ self.old.front }
+        ensures start { self.new.start ≡ self.old.start }
     {
         let left = self.as_path().bytes;
         if left.is_empty() {
             return None;
         }
         let (len, last) = last_step(left);
-        self.back = self.front + len;
+        self.end = self.start + len;
         self.lead_left = self.lead_left && len > 0;
         Some(last)
     }
@@ -127,12 +127,12 @@ impl<'a> Components<'a> {
             (λ last. HasLast path.now last.before last.end (value_of last.part)) }
     {
         let mut walk = Components::whole(path);
-        let end = walk.back;
+        let end = walk.end;
         let Some(part) = walk.take_last() else {
             return None;
         };
         Some(LastPart {
-            before: walk.back,
+            before: walk.end,
             part,
             end,
         })
@@ -159,7 +159,7 @@ impl<'a> Iterator for Components<'a> {
             return None;
         }
         let (len, first) = first_step(left, self.lead_left);
-        self.front += len;
+        self.start += len;
         self.lead_left = false;
         Some(first)
     }

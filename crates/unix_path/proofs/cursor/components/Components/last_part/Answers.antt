@@ -3,7 +3,7 @@ use Rattle.std.specs.Prelude.{slice_range}
 use Rattle.unix_path.specs.Steps.{IsWalk}
 use Rattle.unix_path.specs.Cursor.{cursor_rest}
 use Rattle.unix_path.specs.Views.{value_of}
-use Rattle.unix_path.proofs.OffsetLemmas.{has_last, length-range, range-front}
+use Rattle.unix_path.proofs.OffsetLemmas.{has_last, length-range, range-zero}
 use Rattle.unix_path.proofs.ParentLemmas.{values-whole}
 use Rattle.unix_path.proofs.cursor.components.Components.last_part.Goals as goal
 
@@ -20,13 +20,13 @@ returns-clause-some c =
     let left = c.take_last.new.self in
     let last = c.in-Some.ensures in
     let source = ap (λ b. b.now) last.source ∙ ap (λ b. b.now) c.whole-walk.ensures.source in
-    has_last path left.back walk.back (value_of c.in-Some.part) c.whole-walk.ensures.rest
+    has_last path left.end walk.end (value_of c.in-Some.part) c.whole-walk.ensures.rest
     last.steps.item_is last.steps.rest_is
-    (ap₂ (λ s n. slice_range s n left.back) source (last.front ∙ c.whole-walk.ensures.front)
-    ∙ range-front path left.back)
+    (ap₂ (λ s n. slice_range s n left.end) source (last.start ∙ c.whole-walk.ensures.start)
+    ∙ range-zero path left.end)
     (omega (
       arith,
-      length-range walk.source.now walk.front walk.back walk.fields.in_range,
-      c.whole-walk.ensures.front,
+      length-range walk.source.now walk.start walk.end walk.fields.in_range,
+      c.whole-walk.ensures.start,
     ))
     (omega (arith, left.fields.in_range, ap length source))

@@ -3,7 +3,7 @@ use Rattle.unix_path.specs.Steps.{IsWalk}
 use Rattle.unix_path.specs.Cursor.{cursor_rest}
 use Rattle.unix_path.specs.Parts.{parts}
 use Rattle.unix_path.specs.Steps.{EndsInPart}
-use Rattle.unix_path.proofs.OffsetLemmas.{is_idle-same, range-front}
+use Rattle.unix_path.proofs.OffsetLemmas.{is_idle-same, range-zero}
 use Rattle.unix_path.proofs.SpanLemmas.{rest-trimmed}
 use Rattle.unix_path.proofs.TrimLemmas.{EndsInPart-take}
 use Rattle.unix_path.proofs.cursor.components.Components.whole.Goals as goal
@@ -12,16 +12,16 @@ pub invariant_of-result : goal.invariant_of-result
 unfolding IsWalk
 invariant_of-result c =
     let path = c.args.path.now in
-    let back = c.trimmed_len in
-    let front = range-front path back.result in
-    let same = ap parts front ∙ back.ensures.same
+    let end = c.trimmed_len in
+    let same_bytes = range-zero path end.result in
+    let same = ap parts same_bytes ∙ end.ensures.same
     ∙ ap parts (take_all (length path) path (omega arith)) in
     record {
       fields = record {
         in_order = omega arith;
-        in_range = back.ensures.in_range;
-        ends = subst EndsInPart (sym front)
-            (EndsInPart-take path back.result back.ensures.in_range back.ensures.ends);
+        in_range = end.ensures.in_range;
+        ends = subst EndsInPart (sym same_bytes)
+            (EndsInPart-take path end.result end.ensures.in_range end.ensures.ends);
         has_lead_is = c.has_lead-lead.ensures;
         lead_left_is = c.has_lead-lead.ensures ∙ sym (is_idle-same _ path same);
       };
@@ -31,8 +31,8 @@ pub returns-clause-rest : goal.returns-clause-rest
 unfolding cursor_rest IsWalk
 returns-clause-rest c =
     let path = c.args.path.now in
-    let back = c.trimmed_len in
-    range-front path back.result
-    ∙ sym (rest-trimmed path back.result back.ensures.in_range
-    (back.ensures.same ∙ ap parts (take_all (length path) path (omega arith)))
-    (EndsInPart-take path back.result back.ensures.in_range back.ensures.ends))
+    let end = c.trimmed_len in
+    range-zero path end.result
+    ∙ sym (rest-trimmed path end.result end.ensures.in_range
+    (end.ensures.same ∙ ap parts (take_all (length path) path (omega arith)))
+    (EndsInPart-take path end.result end.ensures.in_range end.ensures.ends))
