@@ -70,6 +70,7 @@ ancestors_of-parent s = by_snoc s (snoc (values s))
 abbrev ancestors_from : Option Path → List (List ℕ)
 ancestors_from next = option_map_or (λ path. ancestors_of path.bytes.now) next []
 
+-- a parent has the same ancestors as a path and as its bytes
 ancestors_by-bytes : (o : Option Path)
     → ancestors_by (option_map (λ path. path.bytes.now) o) ≡ ancestors_from o
 ancestors_by-bytes None = refl

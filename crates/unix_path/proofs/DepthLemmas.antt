@@ -5,6 +5,7 @@ use Rattle.unix_path.specs.Parts.{Value, RootDir, CurDir, ParentDir, Normal, val
 use Rattle.unix_path.specs.Parents.{depth_of}
 use Rattle.unix_path.proofs.RootLemmas.{root_count, root_count-values, root_last}
 
+-- a list has no more roots than values
 root_count-le : (vs : List Value) → root_count vs ≤ length vs
 root_count-le [] = omega arith
 root_count-le (RootDir ∷ vs) = omega arith

@@ -32,10 +32,12 @@ join_of_closed a b r o = rw (r, o) (sym (append_assoc a (47 ∷ []) b))
 
 pub ruleset rootless_joins = (join_of_open, join_of_closed, append-nil)
 
+-- a join that puts nothing between two paths is as long as both
 pub length-join_of_open : (a b : List ℕ) → is_rooted b ≡ false → is_open a ≡ true
     → length (join_of a b) ≡ length a + length b
 length-join_of_open a b r o = ap length (join_of_open a b r o) ∙ length-append a b
 
+-- a join that puts a slash between two paths is a byte longer than both
 pub length-join_of_closed : (a b : List ℕ) → is_rooted b ≡ false → is_open a ≡ false
     → length (join_of a b) ≡ length a + (1 + length b)
 length-join_of_closed a b r o =

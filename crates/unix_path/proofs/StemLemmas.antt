@@ -31,6 +31,7 @@ pub value_bytes-piece : (p : List ℕ) → value_bytes (value_of_piece p) ≡ p
 value_bytes-piece p = by_test (bytes_eq p parent_dir)
     (λ e. rw e (sym ((bytes_eq-Decides p parent_dir).0 e))) (λ e. rw e refl)
 
+-- the parts of pieces are as long as the bytes of their values
 SpansValue-parts_of_pieces : (at : ℕ) (ps : List (List ℕ))
     → AllByRecursion SpansValue (parts_of_pieces at ps)
 SpansValue-parts_of_pieces at [] = tt
@@ -51,6 +52,7 @@ SpansValue-leading_part s = by_test (is_rooted s) (λ e. rw e (refl, tt))
     (λ e. rw e (by_test (bytes_eq (before_first is_slash s) cur_dir) (λ d. rw d (refl, tt))
     (λ d. rw d tt)))
 
+-- the parts of a path are as long as the bytes of their values
 SpansValue-parts : (s : List ℕ) → AllByRecursion SpansValue (parts s)
 unfolding parts inner_parts
 SpansValue-parts s =
@@ -62,6 +64,7 @@ SpansValue-last : (ps : List Part) (p : Part) → AllByRecursion SpansValue (ps 
 SpansValue-last [] p h = h.0
 SpansValue-last (q ∷ ps) p h = SpansValue-last ps p h.1
 
+-- the last of some parts and one behind them starts where that one does
 last_start_of-push : (ps : List Part) (p : Part) → last_start_of (ps ++ p ∷ []) ≡ p.start
 last_start_of-push ps p = ap (λ o. option_map_or (λ p. p.start) o 0) (last_or-push None ps p)
 

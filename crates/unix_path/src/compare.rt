@@ -69,8 +69,8 @@ fn piece_rank(bytes: &[u8], at: usize) -> u16
     }
 }
 
-// The order of two strings that stand behind a slash, by their parts. It isn't inlined, so that
-// `compare_behind`, which mostly needs no more than a byte of each, stays small.
+// The order of two strings that stand behind a slash, by their parts. It isn't inlined, so that a
+// comparison that is decided before its call stays small.
 #[inline(never)]
 fn compare_inner(a: &[u8], b: &[u8]) -> Ordering
     ensures { result ≡ values_cmp (inner_values a.now) (inner_values b.now) }

@@ -16,7 +16,8 @@ use std::fmt;
 
 /// Why a path couldn't be written as JSON, or a JSON value read as a path.
 ///
-/// It is printed padded by width, precision, fill and alignment. Not in Rust's std.
+/// Each variant is printed as the text beside it, padded by width, precision, fill and alignment.
+/// Not in Rust's std.
 ///
 /// `to_json` of the path with the bytes 66 FF is refused with `NotUtf8`.
 #[derive(Debug, Drop)]

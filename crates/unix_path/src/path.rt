@@ -41,7 +41,7 @@ use unix_bytes::bytes::UnixStr;
 /// Any bytes are a path, the empty string too, and a `Path` keeps them all. Copying one copies the
 /// view and not the bytes. As Rust's `Path` on Unix, which stands behind a reference.
 ///
-/// `/tmp/./foo` has three parts: the root, `tmp` and `foo`.
+/// `///foo///bar` has three parts: the root, `foo` and `bar`.
 #[derive(Clone, Copy)]
 pub struct Path<'a> {
     /// The bytes.
@@ -151,7 +151,7 @@ impl<'a> Path<'a> {
 
     /// A walk over the parts, from both ends. Does not allocate. As Rust's `Path::components`.
     ///
-    /// For `/tmp/./foo` it gives the root, `tmp` and `foo`.
+    /// For `///foo///bar` it gives the root, `foo` and `bar`.
     #[inline]
     pub fn components(&self) -> Components<'a>
         ensures rest { cursor_rest result ≡ rest self.now.bytes.now 0 0 }
@@ -169,7 +169,7 @@ impl<'a> Path<'a> {
     /// A walk over the bytes of the parts, from both ends. Does not allocate. As Rust's
     /// `Path::iter`.
     ///
-    /// For `/tmp/./foo` it gives `/`, `tmp` and `foo`.
+    /// For `///foo///bar` it gives `/`, `foo` and `bar`.
     #[inline]
     pub fn iter(&self) -> Iter<'a>
         ensures rest { iter_rest result ≡ rest self.now.bytes.now 0 0 }
@@ -189,7 +189,7 @@ impl<'a> Path<'a> {
 
 /// The walk that `iter` gives. Does not allocate. As Rust's `IntoIterator` of `&Path`.
 ///
-/// For `/tmp/./foo` it gives `/`, `tmp` and `foo`.
+/// For `///foo///bar` it gives `/`, `foo` and `bar`.
 impl<'a> IntoIterator for Path<'a> {
     type Item = UnixStr<'a>;
 

@@ -19,8 +19,8 @@ use unix_bytes::bytes::UnixStr;
 
 /// Why an extension couldn't be set or added.
 ///
-/// It is printed padded by width, precision, fill and alignment. Not in Rust's std, which panics
-/// where the extension holds a separator.
+/// Each variant is printed as the text beside it, padded by width, precision, fill and alignment.
+/// Not in Rust's std, which panics where the extension holds a separator.
 ///
 /// `a` with the extension `x/y` is refused with `Separator`.
 #[derive(Debug, Drop)]

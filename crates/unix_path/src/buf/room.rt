@@ -6,7 +6,7 @@ use crate::buf::PathBuf;
 use std::alloc::AllocError;
 
 impl PathBuf {
-    /// Makes room for at least `count` more bytes, and for more than that where it grows.
+    /// Makes room for at least `count` more bytes, and maybe for more where it grows.
     ///
     /// Allocates only where the room is less. If the allocation fails, the bytes stay as they were.
     /// As Rust's `PathBuf::reserve`.

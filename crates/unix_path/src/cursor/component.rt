@@ -13,7 +13,7 @@ use unix_bytes::bytes::UnixStr;
 /// hasher is fed the part's bytes, a slash, and zeros up to a multiple of eight bytes. As Rust's
 /// `Component`, which also has `Prefix`.
 ///
-/// The parts of `./a/..` are `CurDir`, `Normal` of `a`, and `ParentDir`.
+/// The parts of `foo/../bar` are `Normal` of `foo`, `ParentDir`, and `Normal` of `bar`.
 #[derive(Clone, Copy, Debug, PartialEq, Eq, PartialOrd, Ord)]
 pub enum Component<'a> {
     /// The root that a path begins with, as in `/tmp`.

@@ -18,7 +18,7 @@ use std::iter::FusedIterator;
 /// It does not allocate, and copying it copies a view. A walk that has ended gives nothing more at
 /// either end. As Rust's `Components`.
 ///
-/// For `/tmp/./foo` it gives the root, `tmp` and `foo`.
+/// For `///foo///bar` it gives the root, `foo` and `bar`.
 // Only this file knows the fields, and it may change them: `cursor_rest` of specs/Cursor says what
 // they stand for, contracts and proofs elsewhere speak of a walk through that word alone, and only
 // `OffsetLemmas` and the proofs of this file's functions unfold it.

@@ -13,7 +13,7 @@ use unix_bytes::bytes::UnixStr;
 /// It does not allocate, and copying it copies a view. A walk that has ended gives nothing more at
 /// either end. As Rust's `std::path::Iter`.
 ///
-/// For `/tmp/./foo` it gives `/`, `tmp` and `foo`.
+/// For `///foo///bar` it gives `/`, `foo` and `bar`.
 #[must_use]
 #[derive(Clone, Copy)]
 pub struct Iter<'a> {
@@ -35,7 +35,7 @@ impl<'a> Iter<'a> {
     /// The bytes that are left, as `Components::as_path` gives them. Does not allocate. As Rust's
     /// `std::path::Iter::as_path`.
     ///
-    /// For `/tmp/foo` after one `next` it is `tmp/foo`.
+    /// For `/tmp//foo/` after one `next` it is `tmp//foo`.
     #[must_use]
     #[inline]
     pub fn as_path(&self) -> Path<'a>

@@ -1,4 +1,4 @@
-//! The first and the last part, found in bytes that hold just what is left of a walk.
+//! The first and the last part, found in the bytes that a walk has left.
 ghost use Rattle.std.specs.Prelude.{◌≡◌, ℕ, ◌+◌, ◌-◌, ◌<◌, ◌≤◌, true, false, length, IsTrue};
 ghost use Rattle.std.specs.Prelude.{◌∷◌, take, drop};
 ghost use Rattle.std.specs.Str.{bytes_eq};
@@ -37,7 +37,7 @@ fn is_idle_block(path: &[u8], at: usize) -> bool
 }
 
 // How many bytes stand before the next part, or fewer: it stops at the first block of 16 bytes that
-// don't all stand before it. The bytes before `start` are known not to count.
+// doesn't stand wholly before that part. The bytes before `start` are known not to count.
 #[inline(never)]
 fn idle_blocks_len(path: &[u8], start: usize) -> usize
     requires { start ≤ length path.now }
@@ -211,7 +211,7 @@ fn is_trailing_block(path: &[u8], at: usize) -> bool
 }
 
 // Where the last part among the first `len` bytes ends, or further on: it stops at the first block
-// of 16 bytes, from behind, that don't all stand behind that part.
+// of 16 bytes, from behind, that doesn't stand wholly behind that part.
 #[inline(never)]
 fn trimmed_blocks_len(path: &[u8], len: usize) -> usize
     requires { len ≤ length path.now }
