@@ -1,18 +1,18 @@
 -- The common front of two strings, and the place just after its last slash.
 use Rattle.std.proofs.Common.{Bool, true, length-take-le, zero, suc, eqb, eqb-true, take_all, false}
-use Rattle.std.proofs.Common.{not, get_or-drop, length-drop, take, drop, refl, sym, ap, ap₂, ◌∙◌}
+use Rattle.std.proofs.Common.{not, take, drop, refl, sym, ap, ap₂, ◌∙◌}
 use Rattle.std.proofs.Common.{arith, ◌≡◌, ℕ, ◌+◌, ◌-◌, ◌<◌, ◌≤◌, List, [], ◌∷◌, length, get_or}
 use Rattle.std.specs.List.{common_prefix_len, position_or_len, suffix_len}
 use Rattle.std.specs.Prelude.{reverse}
 use Rattle.std.proofs.lemmas.List.{get_or-reverse, length-reverse, get_or-take}
-use Rattle.std.proofs.lemmas.List.Sums.{common_prefix_len-le, prefix_len_stops, fails_before_first}
+use Rattle.std.proofs.lemmas.List.Sums.{common_prefix_len-le, prefix_len_stops}
 use Rattle.unix_path.specs.Fronts.{inner_values, common_dir_of}
 use Rattle.unix_path.specs.Names.{past_last}
 use Rattle.unix_path.specs.Order.{values_cmp}
 use Rattle.unix_path.specs.Parts.{is_slash, slash, values}
 use Rattle.unix_path.proofs.CaseLemmas.{by_test}
 use Rattle.unix_path.proofs.FrontLemmas.{values_cmp-behind}
-use Rattle.unix_path.proofs.NameLemmas.{past_last-is}
+use Rattle.unix_path.proofs.NameLemmas.{past_last-byte}
 
 -- two strings have the same first bytes as far as their common front goes
 pub take-common : (a b : List ℕ) (n : ℕ) → n ≤ common_prefix_len eqb a b → take n a ≡ take n b
@@ -41,14 +41,7 @@ pub common_dir_of-is : (a b : List ℕ) (front n : ℕ) → front ≡ common_pre
     → n ≡ common_dir_of a b
 unfolding common_dir_of
 common_dir_of-is a b front n is l after none =
-    let s = take front a in
-    past_last-is is_slash s n l
-    (λ k from to.
-    let back : n + (k - n) ≡ k = omega arith in
-    ap (λ z. not (is_slash z))
-    (ap (λ i. get_or s i 0) (sym back) ∙ sym (get_or-drop n s (k - n) 0))
-    ∙ ap not (fails_before_first is_slash (drop n s) (k - n) 0 (omega (arith, length-drop n s))))
-    (λ some. ap (λ z. not (is_slash z)) (after some))
+    past_last-byte slash (take front a) n l after none
     ∙ ap (λ m. past_last is_slash (take m a)) is
 
 past_last-le : (p : ℕ → Bool) (s : List ℕ) → past_last p s ≤ length s

@@ -1,7 +1,9 @@
 -- The last dot of a file name.
 use Rattle.std.proofs.Common.{◌≡◌, ◌==◌, ℕ, ◌-◌, ◌≤◌, ◌<◌, Bool, true, false, not, List, length}
 use Rattle.std.proofs.Common.{take, drop, get_or, Some, None, refl, sym, ap, arith, le-ltb, lt-ltb}
-use Rattle.std.proofs.lemmas.List.Sums.{suffix_len_is}
+use Rattle.std.proofs.Common.{◌+◌, ◌∙◌, eq-eqb, get_or-drop, length-drop}
+use Rattle.std.specs.List.{position_or_len}
+use Rattle.std.proofs.lemmas.List.Sums.{fails_before_first, suffix_len_is}
 use Rattle.unix_path.specs.Parts.{dot}
 use Rattle.unix_path.specs.Names.{past_last, split_name}
 
@@ -14,6 +16,21 @@ pub past_last-is : (p : ℕ → Bool) (s : List ℕ) (n : ℕ) → n ≤ length 
     → (0 < n → not (p (get_or s (n - 1) 0)) ≡ false) → n ≡ past_last p s
 past_last-is p s n l after here =
     omega (arith, suffix_len_is (λ b. not (p b)) s n 0 l after here)
+
+-- a place just after a byte that is `byte`, with no such byte behind it, is just after the last
+pub past_last-byte : (byte : ℕ) (s : List ℕ) (n : ℕ) → n ≤ length s
+    → (0 < n → get_or s (n - 1) 0 ≡ byte)
+    → position_or_len (λ b. b == byte) (drop n s) ≡ length (drop n s)
+    → n ≡ past_last (λ b. b == byte) s
+past_last-byte byte s n l after none =
+    past_last-is (λ b. b == byte) s n l
+    (λ k from to.
+    let back : n + (k - n) ≡ k = omega arith in
+    ap (λ z. not (z == byte))
+    (ap (λ i. get_or s i 0) (sym back) ∙ sym (get_or-drop n s (k - n) 0))
+    ∙ ap not (fails_before_first (λ b. b == byte) (drop n s) (k - n) 0
+    (omega (arith, length-drop n s))))
+    (λ some. ap not (eq-eqb (get_or s (n - 1) 0) byte (after some)))
 
 -- a name with no dot behind its first byte is all stem
 pub split_name-whole : (name : List ℕ) (n : ℕ) → n ≡ past_last is_dot name → n ≤ 1

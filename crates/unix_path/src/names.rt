@@ -1,21 +1,8 @@
 //! The cuts of a file name at its dots.
-ghost use Rattle.std.specs.Prelude.{◌≡◌, ◌≤◌, ◌==◌, length, option_map};
-ghost use Rattle.unix_path.specs.Names.{past_last, split_name, name_prefix};
+ghost use Rattle.std.specs.Prelude.{◌≡◌, ◌≤◌, length, option_map};
+ghost use Rattle.unix_path.specs.Names.{split_name, name_prefix};
 
-use unix_bytes::search::first_place;
-
-// The place just after the last `byte`, or 0 where there is none.
-#[inline]
-fn past_last(bytes: &[u8], byte: u8) -> usize
-    ensures value { result ≡ past_last (λ b. b == byte) bytes.now }
-    ensures in_range { result ≤ length bytes.now }
-{
-    let mut end = bytes.len();
-    while end > 0 && bytes[end - 1] != byte {
-        end -= 1;
-    }
-    end
-}
+use unix_bytes::search::{first_place, past_last};
 
 // The bytes of a file name before and after its last dot, as its stem and its extension. All of it
 // is the stem where that dot is the first byte or there is none.
