@@ -19,8 +19,7 @@ use Rattle.unix_path.proofs.ParentLemmas.{parent_of-alone, parent_of-deep}
 abbrev pub ancestors_by : Option (List ℕ) → List (List ℕ)
 ancestors_by parent = option_map_or ancestors_of parent []
 
--- what is left before the last a + 1 parts is left before the last a of what is left before the
--- last
+-- to leave out m + 1 parts behind is to leave out the last one and then m, for each m from a on
 shift : (s : List ℕ) (a n : ℕ) → map (λ m. rest s 0 m) (range_with_len (a + 1) n)
     ≡ map (λ m. rest (rest s 0 1) 0 m) (range_with_len a n)
 shift s a zero = refl
@@ -66,7 +65,7 @@ by_snoc s (Pushed vs v e) = by_last s vs v e
 pub ancestors_of-parent : (s : List ℕ) → ancestors_of s ≡ s ∷ ancestors_by (parent_of s)
 ancestors_of-parent s = by_snoc s (snoc (values s))
 
--- what a walk gives that has `next` before it
+-- the bytes of the paths that a walk over ancestors gives from `next` on
 abbrev ancestors_from : Option Path → List (List ℕ)
 ancestors_from next = option_map_or (λ path. ancestors_of path.bytes.now) next []
 
@@ -76,7 +75,7 @@ ancestors_by-bytes : (o : Option Path)
 ancestors_by-bytes None = refl
 ancestors_by-bytes (Some path) = refl
 
--- a walk gives its path, and goes on from the parent of that
+-- a walk over ancestors gives its path, and goes on from the parent of that path
 pub ancestors_left-step : (o : Option Path) (path : Path) (parent : Option Path)
     → o ≡ Some path → option_map (λ path. path.bytes.now) parent ≡ parent_of path.bytes.now
     → ancestors_from o ≡ path.bytes.now ∷ ancestors_from parent

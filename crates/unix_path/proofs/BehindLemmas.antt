@@ -38,8 +38,8 @@ values-behind s n some l is =
     ap values (sym (cut_behind s n some l is)) ∙ values-past_slash (take (n - 1) s) (drop n s)
     ∙ ap (λ t. values t ++ inner_values (drop n s)) (sym (take-past_slash s n some l is))
 
--- what follows n bytes, of which the last is a slash, and i more that don't count, has the rest of
--- the string after the parts of the n bytes
+-- where a slash ends the first n bytes, and i more don't count, what follows has the rest of the
+-- string after the parts of those n bytes
 rest-behind_drop : (s : List ℕ) (n i : ℕ) → 0 < n → n ≤ length s → get_or s (n - 1) 0 ≡ slash
     → inner_parts 0 (drop n s) ≡ inner_parts (0 + i) (drop i (drop n s))
     → (0 < length (drop i (drop n s)) → is_idle (drop i (drop n s)) 0 ≡ false)
@@ -78,7 +78,8 @@ rest-behind_drop s n i some l is same busy =
     } in
     rest-middle u 0 0 h ∙ sym (rest-middle s k 0 behind)
 
--- the rest behind n bytes and i more that don't count, where t is what follows the n bytes
+-- where a slash ends the first n bytes, t follows, and i bytes of t don't count, what follows them
+-- has the rest of the string after the parts of those n bytes
 pub rest-behind : (s t : List ℕ) (n i : ℕ) → t ≡ drop n s → 0 < n → n ≤ length s
     → get_or s (n - 1) 0 ≡ slash → inner_parts 0 t ≡ inner_parts (0 + i) (drop i t)
     → (0 < length (drop i t) → is_idle (drop i t) 0 ≡ false)
@@ -89,12 +90,12 @@ rest-behind s t n i e some l is same busy =
     (subst (λ t. inner_parts 0 t ≡ inner_parts (0 + i) (drop i t)) e same)
     (subst (λ t. 0 < length (drop i t) → is_idle (drop i t) 0 ≡ false) e busy)
 
--- what two lists both begin with may be left out in front of each
+-- where a list begins another, it does so without what both begin with
 begins_past : (v w x : List Value) → Begins (v ++ w) (v ++ x) → Begins w x
 begins_past [] w x h = h
 begins_past (y ∷ v) w x h = begins_past v w x (begins_tail y y (v ++ w) (v ++ x) h).1
 
--- what is put in front of two lists keeps that one begins the other
+-- where a list begins another, it does so with the same list in front of both
 begins_all : (v w x : List Value) → Begins w x → Begins (v ++ w) (v ++ x)
 begins_all [] w x h = h
 begins_all (y ∷ v) w x h = begins_more y (v ++ w) (v ++ x) (begins_all v w x h)

@@ -26,7 +26,7 @@ values-leading s = map-append (λ (p : Part). p.value) (leading_part s) (inner_p
 pub inner_values-nil : inner_values [] ≡ []
 inner_values-nil = ap (map (λ (p : Part). p.value)) (inner_parts-nil 0)
 
--- the values of a string cut at a slash that is not its first byte
+-- a string has the values before any slash but its first byte, and then the inner values behind it
 pub values-slash : (a b : List ℕ) → 0 < length a
     → values (a ++ slash ∷ b) ≡ values a ++ inner_values b
 unfolding values
@@ -37,7 +37,7 @@ values-slash a b l =
     ∙ map-append (λ (p : Part). p.value) (parts a) (inner_parts n b)
     ∙ ap (λ vs. map (λ (p : Part). p.value) (parts a) ++ vs) (values-inner_parts n b)
 
--- the parts of a string behind one that ends in a slash
+-- behind a string that ends in a slash the inner parts follow its parts
 pub parts-past_slash : (f b : List ℕ)
     → parts ((f ++ slash ∷ []) ++ b)
     ≡ parts (f ++ slash ∷ []) ++ inner_parts (length (f ++ slash ∷ [])) b
@@ -47,7 +47,7 @@ parts-past_slash f b =
     ∙ ap (λ n. parts g ++ inner_parts n b) {x = 0 + length f + 1} {y = length g}
     (omega (arith, length-append f (slash ∷ [])))
 
--- the values of a string behind one that ends in a slash
+-- behind a string that ends in a slash the inner values follow its values
 pub values-past_slash : (f b : List ℕ)
     → values ((f ++ slash ∷ []) ++ b) ≡ values (f ++ slash ∷ []) ++ inner_values b
 unfolding values
@@ -64,7 +64,8 @@ values_cmp-front (y ∷ v) w x =
     ap (λ o. ordering_then o (values_cmp (v ++ w) (v ++ x))) (tied_itself value_cmp-total y)
     ∙ values_cmp-front v w x
 
--- two strings behind the same one, which ends in a slash, are in their own order
+-- two strings behind the same beginning, which ends in a slash, are in the order of their inner
+-- values
 pub values_cmp-past_slash : (f a b : List ℕ)
     → values_cmp (values ((f ++ slash ∷ []) ++ a)) (values ((f ++ slash ∷ []) ++ b))
     ≡ values_cmp (inner_values a) (inner_values b)
@@ -72,7 +73,7 @@ values_cmp-past_slash f a b =
     ap₂ values_cmp (values-past_slash f a) (values-past_slash f b)
     ∙ values_cmp-front (values (f ++ slash ∷ [])) (inner_values a) (inner_values b)
 
--- two strings with the same bytes up to a slash are in the order of what follows it
+-- two strings with the same bytes up to a slash are in the order of the inner values behind it
 pub values_cmp-slash : (f a b : List ℕ)
     → values_cmp (values (f ++ slash ∷ a)) (values (f ++ slash ∷ b))
     ≡ values_cmp (inner_values a) (inner_values b)
@@ -81,7 +82,7 @@ values_cmp-slash f a b =
     (sym (append_assoc f (slash ∷ []) b))
     ∙ values_cmp-past_slash f a b
 
--- the first n bytes of a string, where the last of these is a slash
+-- the first n bytes of a string, of which the last is a slash, are the n - 1 before it, and it
 pub take-past_slash : (s : List ℕ) (n : ℕ) → 0 < n → n ≤ length s → get_or s (n - 1) 0 ≡ slash
     → take n s ≡ take (n - 1) s ++ slash ∷ []
 take-past_slash s n some l is =
@@ -89,7 +90,8 @@ take-past_slash s n some l is =
     ap (λ k. take k s) {x = n} {y = i + 1} (omega arith) ∙ take_more s i 0 (omega arith)
     ∙ ap (λ b. take i s ++ b ∷ []) is
 
--- the order of two strings that are the same up to a place just after a slash
+-- two strings with the same first n bytes, of which the last is a slash, are in the order of the
+-- inner values behind these
 pub values_cmp-behind : (a b : List ℕ) (n : ℕ) → 0 < n → n ≤ length a → take n a ≡ take n b
     → get_or a (n - 1) 0 ≡ slash
     → values_cmp (inner_values (drop n a)) (inner_values (drop n b))

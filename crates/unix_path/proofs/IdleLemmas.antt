@@ -64,7 +64,7 @@ first_piece_empty (b ∷ s) = by_test (eqb b 47)
     (λ e. ap (λ n. bytes_eq (take n (b ∷ s)) []) (position_or_len-other b s e)
     ∙ ap (λ p. bytes_eq p []) (take-suc_cons (position_or_len is_slash s) b s) ∙ sym e)
 
--- what stands at the start of a string that is not empty and not idle
+-- a string that begins with no idle byte begins with no slash, and its first piece is no `.`
 pub busy_parts : (s : List ℕ) → 0 < length s → is_idle s 0 ≡ false
     → (eqb (get_or s 0 0) 47 ≡ false) × (bytes_eq (first_piece s) cur_dir ≡ false)
 busy_parts [] l e = absurd (omega arith)

@@ -19,7 +19,8 @@ use Rattle.unix_path.specs.Parts.{RootDir, inner_parts, cur_dir, is_slash, parts
 use Rattle.unix_path.specs.Parts.{value_of_piece}
 use Rattle.unix_path.specs.Steps.{EndsInPart, IsLastStart, first_value, is_trailing}
 
--- a string whose last piece begins behind a slash is what stands before that, it, and the piece
+-- a string whose last piece stands behind a slash is what is before the slash, the slash and the
+-- piece
 split_last : (s : List ℕ) (start : ℕ) → IsLastStart s start → 0 < start
     → s ≡ take (start - 1) s ++ 47 ∷ drop start s
 split_last s start h some =
@@ -39,7 +40,7 @@ whole_first s e = (
       (position_or_len is_slash s) s (omega (arith, e)),
 )
 
--- a string that is one piece, which counts
+-- a string that is one piece, which counts, has one inner part
 inner_parts_one : (at : ℕ) (y : List ℕ) → position_or_len is_slash y ≡ length y
     → bytes_eq y [] ≡ false
     → bytes_eq y cur_dir ≡ false
@@ -51,7 +52,7 @@ inner_parts_one at y e some no_dot =
     ∙ ap (λ ps. parts_of_piece at y ++ ps) (inner_parts-nil _) ∙ append-nil (parts_of_piece at y)
     ∙ rw (some, no_dot) refl
 
--- the last part, where a slash stands before it
+-- a last piece that counts and stands behind a slash is the last part
 last_after_slash : (s : List ℕ) (start : ℕ) → IsLastStart s start → 0 < start
     → bytes_eq (drop start s) [] ≡ false → bytes_eq (drop start s) cur_dir ≡ false
     → parts s ≡ parts (take start s) ++ record
@@ -105,7 +106,7 @@ no_slash_head (b ∷ s) e l =
     by_test (eqb b 47) (λ slash. absurd (omega (arith, sym (position_or_len-slash b s slash) ∙ e)))
     (λ no. no)
 
--- the last part of a string that ends in a part, and what stands before it
+-- the last piece of a string that ends in a part is its last part, behind those before it
 pub last_part : (s : List ℕ) (start : ℕ) → IsLastStart s start → start < length s → EndsInPart s
     → (at : ℕ) × (parts s ≡ parts
     (take start s) ++ record { start = at; end = length s; value = first_value (drop start s) }
@@ -147,7 +148,7 @@ root_alone (b ∷ c ∷ s) l ends e =
     rw (lt-ltb 0 (length t - 1) (omega arith), e) refl in
     absurd (both_ways _ (ends l) hit)
 
--- every string has a last piece
+-- behind one more byte in front, a last piece begins one place further on, or with that byte
 start_more : (b : ℕ) (s : List ℕ) (k : ℕ) → IsLastStart s k → (j : ℕ) × IsLastStart (b ∷ s) j
 start_more b s zero h = by_test (eqb b 47)
     (λ e. (

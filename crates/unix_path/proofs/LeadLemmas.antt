@@ -45,7 +45,7 @@ parts-two_dots s e =
     ∙ ap (λ n. record { start = 0; end = n; value = first_value (take n (46 ∷ 46 ∷ s)) }
     ∷ inner_parts n (drop n (46 ∷ 46 ∷ s))) two
 
--- a string that begins with a `.` that counts
+-- a string that begins with a `.` that counts has it as its first part
 pub parts-dot_first : (s : List ℕ) → 0 < length s → is_idle s 0 ≡ true
     → eqb (get_or s 0 0) 47 ≡ false
     → parts s ≡ record { start = 0; end = 1; value = CurDir } ∷ inner_parts 1 (drop 1 s)
@@ -62,7 +62,7 @@ one_byte_no_parent : (b : ℕ) → (eqb b 46 && false) ≡ true → ⊥
 one_byte_no_parent b e =
     by_test (eqb b 46) (λ h. both_ways _ (rw h refl) e) (λ h. both_ways _ (rw h refl) e)
 
--- a string that begins with `..`
+-- a string that begins with `..` has it as its first part
 pub parts-parent_first : (s : List ℕ) → begins_with_parent s ≡ true
     → parts s ≡ record { start = 0; end = 2; value = ParentDir } ∷ inner_parts 2 (drop 2 s)
 parts-parent_first [] e = cc
@@ -112,7 +112,7 @@ first_value-name s l busy e =
     first_piece_parent s is.0 ∙ e in
     rw (is.1, no_parent) refl
 
--- the first part of a string, with what doesn't count after it
+-- a first part that ends at e, and d bytes behind it that don't count, are one step
 pub steps_first : (t : List ℕ) (e d : ℕ) (v : Value) → e ≤ length t
     → parts t ≡ record { start = 0; end = e; value = v } ∷ inner_parts e (drop e t)
     → d ≤ length (drop e t)

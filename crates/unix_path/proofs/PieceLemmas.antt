@@ -76,7 +76,7 @@ IsCut-drop (x ∷ xs) = by_test (eqb x 47)
     (λ e. subst (λ n. IsCut (drop n (x ∷ xs))) (sym (position_or_len-other x xs e))
     (subst IsCut (sym (drop-suc_cons (position_or_len is_slash xs) x xs)) (IsCut-drop xs)))
 
--- the first piece is as long as the first slash stands far
+-- the first piece ends where the first slash stands
 pub length-first_piece : (s : List ℕ) → length (first_piece s) ≡ position_or_len is_slash s
 length-first_piece [] = refl
 length-first_piece (x ∷ xs) = by_test (eqb x 47)

@@ -78,7 +78,7 @@ rest-trimmed s n l same ends = rest-whole s
 abbrev pub StandsAt : List ℕ → ℕ → List ℕ → Type 0
 StandsAt s at w = take (length w) (drop at s) ≡ w
 
--- the first part of a string begins at its first byte
+-- parts that span all of w span it in s, too, where w stands in s
 span_of-part_at : (s : List ℕ) (at : ℕ) (ps : List Part) (w : List ℕ)
     → span_of w ps ≡ take (parts_end ps) w → parts_end ps ≡ length w → StandsAt s at w
     → (ps ≡ [] → w ≡ []) → ((p : Part) (qs : List Part) → ps ≡ p ∷ qs → p.start ≡ 0)

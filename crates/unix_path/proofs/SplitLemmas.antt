@@ -16,7 +16,7 @@ use Rattle.unix_path.proofs.TrimLemmas.{EndsInPart-take, trims_to}
 use Rattle.unix_path.specs.Parts.{Part, RootDir, Value, inner_parts, is_slash, parts}
 use Rattle.unix_path.specs.Steps.{EndsInPart, first_value}
 
--- the first part is p, and the others stand `len` places further on
+-- the first part is `first`, and the others stand `len` places further on
 pub record SplitsFirst (t : List ℕ) : Type 0 where
   pub first : Part
   pub len : ℕ

@@ -119,7 +119,7 @@ EndsInPart-take s n l ends some =
     rw (here, before, m) refl in
     same ∙ ends (omega arith)
 
--- the first n bytes, without what doesn't count at their end
+-- the first `len` of n bytes have all parts of the n bytes, and end in one
 pub record TrimsTo (t : List ℕ) (n : ℕ) : Type 0 where
   pub len : ℕ
   pub in_range : len ≤ n
