@@ -37,7 +37,7 @@ pub depth_of-root : (s : List ℕ) (vs : List Value) → values s ≡ vs ++ Root
 depth_of-root s [] e = omega (arith, depth_of-values s, ap length e, ap root_count e)
 depth_of-root s (v ∷ vs) e = absurd (omega (arith, root_last s (v ∷ vs) e))
 
--- one more than the values before the last
+-- the depth of a path whose last value is no root is one more than that of the values before it
 pub depth_of-push : (s : List ℕ) (vs : List Value) (v : Value) → values s ≡ vs ++ v ∷ []
     → (v ≡ RootDir → ⊥) → depth_of s ≡ suc (length vs - root_count vs)
 depth_of-push s vs v e differs =

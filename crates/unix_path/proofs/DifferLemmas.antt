@@ -85,7 +85,7 @@ pieces_begin (x ∷ s) (y ∷ t) differs = by_test (eqb x 47)
     ap₂ (slice_cmp nat_cmp) (first_piece-other x s e) (first_piece-other y t f) ∙ by.0 ∙ by.1
     ∙ sym (ap₂ nat_cmp (piece_rank-other x s e) (piece_rank-other y t f))))
 
--- two pieces that are the same up to n, and differ there
+-- two pieces that are the same up to n and differ there are in the order of their bytes at n
 pieces_differ : (s t : List ℕ) (n : ℕ) → n ≤ length s → n ≤ length t
     → ((k : ℕ) → k < n → get_or s k 0 ≡ get_or t k 0)
     → ((k : ℕ) → k < n → eqb (get_or s k 0) 47 ≡ false)
@@ -158,7 +158,7 @@ piece_rank-drop s d n l =
     ap (λ b. if b == slash then 0 else 1 + b)
     (get_or-drop d s (n - d) 47 ∙ ap (λ k. get_or s k 47) back)
 
--- behind d the strings are the same up to n, where the names that stand at d differ
+-- where the names that stand at d are the same up to n and differ there, their bytes at n decide
 pub values_cmp-differ : (a b : List ℕ) (d n : ℕ) → d ≤ n → n ≤ length a → n ≤ length b
     → take n a ≡ take n b
     → position_or_len is_slash (drop d (take n a)) ≡ length (drop d (take n a))

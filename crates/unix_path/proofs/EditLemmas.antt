@@ -14,13 +14,13 @@ pub popped_of-none : (s : List ℕ) → None ≡ parent_of s → popped_of s ≡
 unfolding popped_of
 popped_of-none s e = ap (λ o. unwrap_or o s) (sym e)
 
--- a parent begins the path
+-- a path with a parent is cut to it
 pub popped_of-some : (s : List ℕ) (len : ℕ) → Some (take len s) ≡ parent_of s
     → popped_of s ≡ take len s
 unfolding popped_of
 popped_of-some s len e = ap (λ o. unwrap_or o s) (sym e)
 
--- the path s with an extension behind this place
+-- the path s with an extension behind the place `end`, or s where there is none
 abbrev pub with_extension_at : List ℕ → List ℕ → Option ℕ → List ℕ
 with_extension_at s extension end =
     option_map_or (λ end. (take end s ++ dot_before extension) ++ extension) end s

@@ -11,7 +11,7 @@ use Rattle.std.proofs.lemmas.List.FromFn.{fill_by_all}
 use Rattle.std.proofs.lemmas.Nat.{le_bytes_8}
 use Rattle.unix_path.specs.Hashed.{end_mark, in_eights}
 
--- eight bytes are fed, and then the others
+-- of eight bytes or more the first eight are fed, and then the others
 pub in_eights-more : (s : List ℕ) → 8 ≤ length s
     → in_eights (s ++ end_mark) ≡ take 8 s ∷ in_eights (drop 8 s ++ end_mark)
 unfolding in_eights
@@ -24,7 +24,7 @@ in_eights-more s h =
     ∙ ap₂ (λ p r. p ∷ first_chunks 8 (length rest / 8) r) (take-append-le 8 s end_mark h)
     (drop-append-le 8 s end_mark h)
 
--- fewer than eight end the input
+-- fewer than eight bytes are fed with the mark, in one write
 pub in_eights-last : (s : List ℕ) → length s < 8
     → in_eights (s ++ end_mark) ≡ take 8 (s ++ end_mark) ∷ []
 unfolding in_eights
@@ -33,7 +33,7 @@ in_eights-last s h =
     let count : length t / 8 ≡ 1 = omega (arith, length-append s end_mark) in
     ap (λ n. first_chunks 8 n t) count
 
--- each is a byte
+-- each number of s is a byte
 abbrev AreBytes : List ℕ → Type 0
 AreBytes s = (i : ℕ) → Fits w8 (get_or s i 0)
 

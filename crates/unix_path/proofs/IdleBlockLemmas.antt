@@ -27,7 +27,7 @@ idle_block s at l none k from to =
     (omega arith) in
     ap₂ (λ x y. eqb x 47 || (eqb x 46 && eqb y 47)) (sym here) (sym next) ∙ passes
 
--- so many bytes that don't count may be skipped
+-- n idle bytes from place i on may be skipped
 pub inner_parts_idle_block : (at : ℕ) (s : List ℕ) (i n : ℕ) → i + n ≤ length s
     → ((k : ℕ) → i ≤ k → k < i + n → is_idle s k ≡ true)
     → inner_parts (at + i) (drop i s) ≡ inner_parts (at + (i + n)) (drop (i + n) s)

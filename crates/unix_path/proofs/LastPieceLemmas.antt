@@ -61,7 +61,7 @@ length-with_parent s e =
     let all = and_parts (eqb (get_or s (length s - 1) 0) 46) _ e in
     ltb-true _ _ (and_parts (ltb 1 (length s)) _ all.1).0
 
--- the last piece is `..`
+-- the last piece of a string that ends with `..` is that, and begins two bytes before the end
 pub starts_parent : (s : List ℕ) → ends_with_parent s ≡ true
     → IsLastStart s (length s - 2) × (first_value (drop (length s - 2) s) ≡ ParentDir)
 starts_parent s e =
@@ -89,7 +89,7 @@ starts_parent s e =
       ap first_value is,
     )
 
--- the only piece is a `.`
+-- the last piece of `.` is that, and begins at place 0
 pub starts_dot : (s : List ℕ) → bytes_eq s cur_dir ≡ true
     → IsLastStart s 0 × (first_value (drop 0 s) ≡ CurDir)
 starts_dot s e =

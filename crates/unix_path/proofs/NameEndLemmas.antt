@@ -13,7 +13,7 @@ use Rattle.unix_path.proofs.CaseLemmas.{by_test}
 use Rattle.unix_path.proofs.EditLemmas.{is_some-option_map}
 use Rattle.unix_path.proofs.StemLemmas.{last_start_of-name, length-rest_whole-le}
 
--- where this name ends in s
+-- where `name` ends in s, if it is the file name
 abbrev pub name_end_by : List ℕ → Option (List ℕ) → Option ℕ
 name_end_by s name = option_map (λ name. last_start_of (parts s) + length name) name
 
@@ -35,7 +35,7 @@ name_end_of-some s name end e at =
 pub name_end-le : (s : List ℕ) (end : ℕ) → end ≡ length (rest s 0 0) → end ≤ length s
 name_end-le s end at = omega (arith, at, length-rest_whole-le s)
 
--- the path s with an extension added at this place
+-- the path s with the extension x added at the place `end`, or s where there is none
 abbrev pub added_extension_at : List ℕ → List ℕ → Option ℕ → List ℕ
 added_extension_at s x end =
     cond (eqb (length x) 0) s (option_map_or (λ end. (take end s ++ 46 ∷ []) ++ x) end s)

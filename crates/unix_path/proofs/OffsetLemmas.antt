@@ -186,7 +186,7 @@ walks_back c n v e l takes =
     steps_back c.source.now c.start c.end n v c.fields.in_order c.fields.in_range
     (subst (λ t. n ≤ length t) e l) (subst (λ t. TakesLast t (take n t) v) e takes)
 
--- the last part of s, by its fresh walk u and by what is left of that
+-- what a fresh walk u takes behind is the last part of s, and it leaves w
 pub has_last : {u w : List ℕ} (s : List ℕ) (before end : ℕ) (v : Value) → u ≡ rest s 0 0
     → values u ≡ values w ++ v ∷ [] → w ≡ rest u 0 1 → w ≡ take before s → length u ≡ end
     → before ≤ length s → HasLast s before end v

@@ -19,19 +19,19 @@ use Rattle.unix_path.specs.Steps.{first_value}
 abbrev root : Part
 root = record { start = 0; end = 1; value = RootDir }
 
--- a string that begins with a slash
+-- a string that begins with a slash has the root as its first part
 pub parts-root : (s : List ℕ) → get_or s 0 0 ≡ 47
     → parts s ≡ record { start = 0; end = 1; value = RootDir } ∷ inner_parts 1 (drop 1 s)
 unfolding parts leading_part
 parts-root [] e = absurd (omega arith)
 parts-root (b ∷ s) e = ap (λ b. parts (b ∷ s)) e ∙ ap (λ ps. root ∷ ps) (inner_parts-slash 0 s)
 
--- byte 0, where there is one
+-- whether a string is rooted is told by byte 0, where it has one
 pub is_rooted-at : (s : List ℕ) → is_rooted s ≡ eqb (get_or s 0 0) 47
 is_rooted-at [] = refl
 is_rooted-at (b ∷ s) = refl
 
--- the leading part of a string that begins with no slash
+-- a string that begins with no slash has a leading part only where its first piece is `.`
 pub leading_part-name : (s : List ℕ) → eqb (get_or s 0 0) 47 ≡ false
     → leading_part s ≡ cond (bytes_eq (first_piece s) cur_dir)
     (record { start = 0; end = 1; value = CurDir } ∷ []) []
@@ -46,7 +46,7 @@ nonempty_first_piece [] l e = absurd (omega arith)
 nonempty_first_piece (b ∷ s) l e =
     rw (position_or_len-other b s e) (rw (take-suc_cons (position_or_len is_slash s) b s) refl)
 
--- a string that begins with anything else
+-- a string that begins with another byte than a slash has its first piece as its first part
 pub parts-name : (s : List ℕ) → 0 < length s → eqb (get_or s 0 0) 47 ≡ false
     → parts s ≡ record {
       start = 0;

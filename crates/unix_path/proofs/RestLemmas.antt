@@ -47,7 +47,7 @@ rest-none s k m l =
     omega (arith, length-map (parts s) (λ p. p.value)) in
     ap (λ n. span_of s (take n (drop k (parts s)))) none
 
--- no more parts than bytes
+-- a string has no more parts than bytes
 few_parts : (n : ℕ) (t : List ℕ) → length t ≤ n → length (parts t) ≤ length t
 few_parts zero t l =
     omega (arith, ap length (ap parts (nil_from_length t (omega arith)) ∙ parts-nil))

@@ -52,7 +52,7 @@ begins_by_root s e = record {
   no_root = no_root_inner 1 (drop 1 s);
 }
 
--- any other string that isn't empty has the value of its first piece as its first
+-- a string that begins with another byte than a slash has the value of its first piece first
 begins_by_name : (s : List ℕ) → 0 < length s → eqb (get_or s 0 0) 47 ≡ false
     → BeginsBy s (first_value (first_piece s))
 unfolding values
