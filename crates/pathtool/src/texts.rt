@@ -45,10 +45,7 @@ fn json_text(alloc: Global, path: Path<'_>) -> Result<String, JsonError>
     ensures refused { IsErrOf result JsonError.NotUtf8 ↔ ¬ (IsText path.entry.bytes.now) }
 {
     let value = to_json(alloc, path)?;
-    match value.to_string(alloc) {
-        Ok(text) => Ok(text),
-        Err(error) => Err(JsonError::Memory(error)),
-    }
+    value.to_string(alloc).map_err(JsonError::Memory)
 }
 
 // Adds that the bytes aren't UTF-8.
@@ -65,7 +62,7 @@ fn push_refusal(answer: &mut Vec<u8>) -> Result<(), AllocError>
 /// an allocation fails, the answer is left in any state. Not in Rust's std.
 ///
 /// `a"b` adds `"a\"b"`, and FF adds `path contains invalid UTF-8 characters`.
-#[tactic(auto, using(crate::proofs::SaidLemmas::adds_quoted))]
+#[tactic(auto, using(crate::proofs::SayLemmas::adds_quoted))]
 pub fn push_json(path: Path<'_>, answer: &mut Vec<u8>) -> Result<(), AllocError>
     ensures { OnOk result (answer.new.items ≡ answer.old.items ++ json_of path.entry.bytes.now) }
 {
