@@ -31,7 +31,8 @@ help:
 	@echo 'five to seven minutes on four cores, and one of the library (lib, test-faces,'
 	@echo 'install_library) some five; bench and install may prove a few crates more. After'
 	@echo 'that a change has its crate and those above it proved again.'
-	@echo 'Each needs rt, the command of the Rattle toolchain: '"$$(cat rattle-toolchain)"
+	@echo 'Each needs rt, the command of the Rattle toolchain, in one of these versions:'
+	@sed 's/^/  /' rattle-toolchain
 
 # Proofs are told on standard error, so that standard output holds the answers alone.
 $(PROGRAM): $(SOURCES)

@@ -10,13 +10,14 @@ from repository import ROOT
 def check_toolchain():
     """Stops if there is no toolchain, and warns of one that the proofs were not tried with."""
     with open(f"{ROOT}/rattle-toolchain", encoding="utf-8") as file:
-        wanted = file.read().strip()
+        tried = file.read().splitlines()
     if not shutil.which("rt"):
-        sys.exit(f"rt, the command of the Rattle toolchain, is not on the path.\n"
-                 f"The crates were proved with this version of it: {wanted}")
+        sys.exit("rt, the command of the Rattle toolchain, is not on the path.\n"
+                 f"The crates were proved with these versions of it: {'; '.join(tried)}")
     found = subprocess.run(["rt", "version"], stdout=subprocess.PIPE, text=True).stdout.strip()
-    if found != wanted:
-        print(f"the toolchain is {found}; the crates were proved with {wanted}", file=sys.stderr)
+    if found not in tried:
+        print(f"the toolchain is {found}; the crates were proved with {'; '.join(tried)}",
+              file=sys.stderr)
 
 
 def toolchain_folder():
