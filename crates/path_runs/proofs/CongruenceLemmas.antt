@@ -25,7 +25,7 @@ use Rattle.path_runs.specs.EditLaws.{SameEdit}
 use Rattle.path_runs.proofs.ExtensionCutLemmas.{with_extension_of-none, values-with_extension_of}
 use Rattle.path_runs.proofs.ExtensionCutLemmas.{values-added_extension_of}
 use Rattle.path_runs.proofs.LeadLemmas.{joins_same, roots_same}
-use Rattle.path_runs.proofs.NamedLemmas.{NamedCut, named_cut}
+use Rattle.path_runs.proofs.NameCutLemmas.{NameCut, name_cut}
 use Rattle.path_runs.proofs.ValueLemmas.{append_values}
 
 -- equal paths have the same depth
@@ -81,7 +81,7 @@ with_name_same s t n e =
 -- f leaves a path without a file name as it is, and puts n of the file name in its place in others
 record Renames (f : List ℕ → List ℕ) (n : List ℕ → List ℕ) : Type 0 where
   none : (s : List ℕ) → file_name_of (values s) ≡ None → f s ≡ s
-  some : (s name : List ℕ) → file_name_of (values s) ≡ Some name → (c : NamedCut s name)
+  some : (s name : List ℕ) → file_name_of (values s) ≡ Some name → (c : NameCut s name)
       → values (f s) ≡ append_values (values c.prefix) (n name)
 
 -- an edit that renames leaves equal paths equal
@@ -90,8 +90,8 @@ renames_same : (f n : List ℕ → List ℕ) → Renames f n → (s t : List ℕ
     → SameValues (f s) (f t)
 renames_same f n r s t None a b e = ap values (r.none s a) ∙ e ∙ sym (ap values (r.none t b))
 renames_same f n r s t (Some name) a b e =
-    let c = named_cut s name a in
-    let d = named_cut t name b in
+    let c = name_cut s name a in
+    let d = name_cut t name b in
     let prefixes = same_from_push (values c.prefix) (values d.prefix) (Normal name) (Normal name)
     (sym c.before ∙ e ∙ d.before) in
     r.some s name a c

@@ -5,11 +5,12 @@ use Rattle.std.proofs.Common.{length, get_or, drop, Some, None, refl, sym, ap, a
 use Rattle.std.proofs.Common.{eqb-true, eq-eqb, length-append, append-nil, append_assoc}
 use Rattle.std.proofs.Math.Seq.{get_or-append_seam}
 use Rattle.std.proofs.lemmas.Bool.{both_ways}
-use Rattle.std.proofs.lemmas.List.{get_or-append_right, take_at, drop_at}
+use Rattle.std.proofs.lemmas.List.{get_or-append_right, take_at, drop_at, take-append-drop}
 use Rattle.std.proofs.lemmas.List.Elements.{All-nil, All-cons}
 use Rattle.unix_path.specs.Names.{past_last, split_name}
 use Rattle.unix_path.proofs.CaseLemmas.{by_test}
 use Rattle.unix_path.proofs.NameLemmas.{is_dot, past_last-is, split_name-whole, split_name-cut}
+use Rattle.unix_path.proofs.NameLemmas.{split_name-stem}
 use Rattle.path_runs.specs.EditLaws.{HasNone}
 
 -- where no byte is b, the byte at k isn't
@@ -84,8 +85,8 @@ split_case name = by (last_dot name)
 
 -- a name begins with its stem
 pub stem_prefix : (name : List ℕ) → (r : List ℕ) × (name ≡ (split_name name).0 ++ r)
-stem_prefix name = by (split_case name)
-  where
-    by : SplitCase name → (r : List ℕ) × (name ≡ (split_name name).0 ++ r)
-    by (Whole e) = ([], sym (ap (λ c. c.0 ++ []) e ∙ append-nil name))
-    by (Cut b f x w e) = (46 ∷ x, w ∙ sym (ap (λ c. c.0 ++ 46 ∷ x) e))
+stem_prefix name =
+    let n = length (split_name name).0 in (
+      drop n name,
+      sym (take-append-drop n name) ∙ ap (λ stem. stem ++ drop n name) (split_name-stem name),
+    )

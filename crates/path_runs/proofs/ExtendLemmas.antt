@@ -77,8 +77,9 @@ pub JoinsBeginning-exceeds : {S : Type 0} {steps : S → Option Path → S → T
     → AllRootless (texts all) → JoinsBeginning steps items old new most
     → most < length (join_all_of old (texts all))
 JoinsBeginning-exceeds {all = all} old new most yields h e =
-    let prefix = YieldsList-so_far yields e.paths e.given.0 e.given.1 in
-    let at = nth_from_yields_List (Some e.next) e.left (length e.paths) (e.paths, e.given, refl)
+    let prefix = YieldsList-so_far yields e.paths e.items_before.0 e.items_before.1 in
+    let at = nth_from_yields_List (Some e.next) e.left (length e.paths)
+    (e.paths, e.items_before, refl)
     yields in
     omega (
       arith,

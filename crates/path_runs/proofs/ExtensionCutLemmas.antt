@@ -13,11 +13,11 @@ use Rattle.unix_path.proofs.EditLemmas.{with_extension_at}
 use Rattle.unix_path.proofs.NameEndLemmas.{name_end_by, added_extension_at}
 use Rattle.unix_path.proofs.StemLemmas.{stem_end_by}
 use Rattle.path_runs.proofs.DotLemmas.{stem_prefix}
-use Rattle.path_runs.proofs.NamedLemmas.{NamedCut}
+use Rattle.path_runs.proofs.NameCutLemmas.{NameCut}
 use Rattle.path_runs.proofs.ValueLemmas.{append_values, values-append_open}
 
 -- what stands up to the stem's end is the prefix and the stem
-take-stem_end : (s name : List ℕ) (c : NamedCut s name)
+take-stem_end : (s name : List ℕ) (c : NameCut s name)
     → take (last_start_of (parts s) + length (split_name name).0) s
     ≡ c.prefix ++ (split_name name).0
 take-stem_end s name c =
@@ -35,7 +35,7 @@ take-stem_end s name c =
 
 -- with an extension set a path is the prefix, the stem, the dot if there is one, and the extension
 pub with_extension_of-cut : (s name x : List ℕ) → file_name_of (values s) ≡ Some name
-    → (c : NamedCut s name)
+    → (c : NameCut s name)
     → with_extension_of s x ≡ c.prefix ++ ((split_name name).0 ++ (dot_before x ++ x))
 unfolding with_extension_of stem_end_of
 with_extension_of-cut s name x e c =
@@ -48,7 +48,7 @@ with_extension_of-cut s name x e c =
 
 -- with an extension set a path has the prefix's values, and what the new name adds
 pub values-with_extension_of : (s name x : List ℕ) → file_name_of (values s) ≡ Some name
-    → (c : NamedCut s name)
+    → (c : NameCut s name)
     → values (with_extension_of s x)
     ≡ append_values (values c.prefix) ((split_name name).0 ++ (dot_before x ++ x))
 values-with_extension_of s name x e c =
@@ -62,7 +62,7 @@ unfolding with_extension_of stem_end_of
 with_extension_of-none s x e = ap (λ o. with_extension_at s x (stem_end_by s o)) e
 
 -- what stands up to the file name's end is the prefix and the name
-take-name_end : (s name : List ℕ) (c : NamedCut s name)
+take-name_end : (s name : List ℕ) (c : NameCut s name)
     → take (last_start_of (parts s) + length name) s ≡ c.prefix ++ name
 take-name_end s name c =
     let n = last_start_of (parts s) + length name in
@@ -72,7 +72,7 @@ take-name_end s name c =
 
 -- with an extension added a path is the prefix, the name, a dot and the extension
 pub added_extension_of-cut : (s name x : List ℕ) → eqb (length x) 0 ≡ false
-    → file_name_of (values s) ≡ Some name → (c : NamedCut s name)
+    → file_name_of (values s) ≡ Some name → (c : NameCut s name)
     → added_extension_of s x ≡ c.prefix ++ (name ++ 46 ∷ x)
 unfolding added_extension_of name_end_of
 added_extension_of-cut s name x some e c =
@@ -86,7 +86,7 @@ added_extension_of-cut s name x some e c =
 
 -- with an extension added a path has the prefix's values, and what the new name adds
 pub values-added_extension_of : (s name x : List ℕ) → eqb (length x) 0 ≡ false
-    → file_name_of (values s) ≡ Some name → (c : NamedCut s name)
+    → file_name_of (values s) ≡ Some name → (c : NameCut s name)
     → values (added_extension_of s x) ≡ append_values (values c.prefix) (name ++ 46 ∷ x)
 values-added_extension_of s name x some e c =
     ap values (added_extension_of-cut s name x some e c)

@@ -22,7 +22,7 @@ use Rattle.path_runs.proofs.ExtensionCutLemmas.{with_extension_of-cut}
 use Rattle.path_runs.proofs.DotLemmas.{SplitCase, Whole, Cut, split_case, split_name-dot}
 use Rattle.path_runs.proofs.DotLemmas.{stem_prefix}
 use Rattle.path_runs.proofs.LeadLemmas.{drop_lead-values}
-use Rattle.path_runs.proofs.NamedLemmas.{IsName, NamedCut, named_cut}
+use Rattle.path_runs.proofs.NameCutLemmas.{IsName, NameCut, name_cut}
 use Rattle.path_runs.proofs.PieceNameLemmas.{IsPiece, piece-prefix, piece-append, piece-none}
 use Rattle.path_runs.proofs.PieceNameLemmas.{long-name, values-name}
 use Rattle.path_runs.proofs.SiblingLemmas.{parent_of-name, file_name_of-name}
@@ -79,7 +79,7 @@ parent_of-open s u b name is o e =
 
 -- a path, cut at its file name, has the new extension after it was set
 new_extension-cut : (s name : List ℕ) (b : ℕ) (x : List ℕ) → file_name_of (values s) ≡ Some name
-    → NamedCut s name → HasNone 46 (b ∷ x) → HasNone 47 (b ∷ x)
+    → NameCut s name → HasNone 46 (b ∷ x) → HasNone 47 (b ∷ x)
     → NewExtension s (with_extension_of s (b ∷ x)) (split_name name).0 (b ∷ x)
 new_extension-cut s name b x e c dot slash =
     let stem = (split_name name).0 in
@@ -105,7 +105,7 @@ set_extension : (s name x : List ℕ) → file_name_of (values s) ≡ Some name
     → NewExtension s (with_extension_of s x) (split_name name).0 x
 set_extension s name [] e h = absurd (h.some refl)
 set_extension s name (b ∷ x) e h =
-    new_extension-cut s name b x e (named_cut s name e) h.no_dot h.no_slash
+    new_extension-cut s name b x e (name_cut s name e) h.no_dot h.no_slash
 
 -- where setting an extension answers true, there is a file name
 some_name : (s : List ℕ) → Flag (is_some (file_name_of (values s))) ≡ Flag true

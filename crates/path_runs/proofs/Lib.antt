@@ -16,7 +16,7 @@ pub mod JoinAllLemmas
 pub mod ExtendLemmas
 pub mod EditListLemmas
 pub mod DotLemmas
-pub mod NamedLemmas
+pub mod NameCutLemmas
 pub mod ExtensionCutLemmas
 pub mod CongruenceLemmas
 pub mod StemNameLemmas
@@ -24,8 +24,8 @@ pub mod StripLemmas
 pub mod BehindLemmas
 pub mod SiblingLemmas
 pub mod PieceNameLemmas
-pub mod FedLemmas
-pub mod ToldLemmas
+pub mod FeedLemmas
+pub mod TellLemmas
 pub mod ExtensionLemmas
 pub mod ParentBeforeLemmas
 pub mod AncestorPrefixLemmas

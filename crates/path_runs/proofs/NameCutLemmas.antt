@@ -32,7 +32,7 @@ pub record IsName (name : List ℕ) : Type 0 where
   pub no_dots : bytes_eq name parent_dir ≡ false
 
 -- s is an open prefix, the name, and what doesn't count behind it
-pub record NamedCut (s name : List ℕ) : Type 0 where
+pub record NameCut (s name : List ℕ) : Type 0 where
   pub prefix : List ℕ
   pub back : List ℕ
   pub whole : s ≡ (prefix ++ name) ++ back
@@ -80,7 +80,7 @@ is_open-take t (suc k) l h =
 
 -- a path whose last part starts at a, before its end, is cut there
 cut_at : (s name : List ℕ) (trim : TrimsEnd s) (a : ℕ) → file_name_of (values s) ≡ Some name
-    → IsLastStart (take trim.len s) a → a < length (take trim.len s) → NamedCut s name
+    → IsLastStart (take trim.len s) a → a < length (take trim.len s) → NameCut s name
 unfolding values
 cut_at s name trim a e h l =
     let t = take trim.len s in
@@ -136,8 +136,8 @@ no_name_at_end s name trim a e h l =
     e)
 
 -- a path with a file name is cut at it
-pub named_cut : (s name : List ℕ) → file_name_of (values s) ≡ Some name → NamedCut s name
-named_cut s name e =
+pub name_cut : (s name : List ℕ) → file_name_of (values s) ≡ Some name → NameCut s name
+name_cut s name e =
     let trim = trims_end s in
     let at = last_start (take trim.len s) in
     by_test (ltb at.0 (length (take trim.len s)))

@@ -10,9 +10,9 @@ use Rattle.unix_path.specs.Names.{file_name_of}
 use Rattle.unix_path.specs.Order.{values_cmp, IsBefore}
 use Rattle.unix_path.specs.OrderLaws.{value_cmp-total}
 use Rattle.unix_path.proofs.DepthLemmas.{depth_of-none}
-use Rattle.unix_path.proofs.EndLemmas.{Snoc, Empty, Pushed, snoc}
+use Rattle.unix_path.proofs.EndLemmas.{Snoc, Empty, Push, snoc}
 use Rattle.unix_path.proofs.ParentLemmas.{parent_of-alone, parent_of-some}
-use Rattle.path_runs.proofs.NamedLemmas.{named_cut}
+use Rattle.path_runs.proofs.NameCutLemmas.{name_cut}
 use Rattle.path_runs.proofs.PieceNameLemmas.{values-name}
 use Rattle.path_runs.proofs.SiblingLemmas.{values-rest_push, values-join_of_one}
 
@@ -34,7 +34,7 @@ parent-before s parent e = by (snoc (values s))
   where
     by : Snoc (values s) → IsBefore (values parent) (values s)
     by (Empty none) = absurd (no_parent s parent none e)
-    by (Pushed vs v is) =
+    by (Push vs v is) =
         ap₂ values_cmp (ap values (parent_of-some s parent e) ∙ values-rest_push s vs v is) is
         ∙ before_push vs v
 
@@ -42,7 +42,7 @@ parent-before s parent e = by (snoc (values s))
 pub parent-join_name : (s parent name : List ℕ) → parent_of s ≡ Some parent
     → file_name_of (values s) ≡ Some name → values (join_of parent name) ≡ values s
 parent-join_name s parent name e f =
-    let cut = named_cut s name f in
+    let cut = name_cut s name f in
     values-join_of_one parent name name (values-name name cut.is_name)
     ∙ ap (λ vs. vs ++ Normal name ∷ []) (ap values (parent_of-some s parent e)
     ∙ values-rest_push s (values cut.prefix) (Normal name) cut.before)

@@ -13,7 +13,7 @@ use Rattle.unix_path.proofs.PartLemmas.{parts-name}
 use Rattle.unix_path.proofs.PieceLemmas.{inner_parts-nil, position_or_len-other}
 use Rattle.unix_path.proofs.PieceLemmas.{position_or_len-slash}
 use Rattle.path_runs.specs.EditLaws.{HasNone}
-use Rattle.path_runs.proofs.NamedLemmas.{IsName}
+use Rattle.path_runs.proofs.NameCutLemmas.{IsName}
 
 -- no byte is a slash
 abbrev pub IsPiece : List ℕ → Type 0

@@ -10,7 +10,7 @@ use Rattle.unix_path.specs.Hashed.{hash_input_of}
 use Rattle.unix_path.specs.Parts.{is_slash, slash, cur_dir, Value, RootDir, CurDir}
 use Rattle.unix_path.specs.Parts.{value_of_piece, value_bytes, values}
 use Rattle.unix_path.specs.Prefixes.{Begins}
-use Rattle.path_runs.proofs.FedLemmas.{zeros_and, zeros_and-cancel, concat-hash_input_of}
+use Rattle.path_runs.proofs.FeedLemmas.{zeros_and, zeros_and-cancel, concat-hash_input_of}
 use Rattle.path_runs.proofs.PieceValueLemmas.{HoldsOfPieces, NoSlash, values-hold}
 use Rattle.unix_path.proofs.StemLemmas.{value_bytes-piece}
 

@@ -1,7 +1,7 @@
 pub mod BeginLemmas
 pub mod RowLemmas
 pub mod UnderLemmas
-pub mod LeftLemmas
+pub mod StripLemmas
 pub mod PartLemmas
 pub mod NextLemmas
 pub mod UpdateLemmas

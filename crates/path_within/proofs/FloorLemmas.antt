@@ -10,9 +10,9 @@ use Rattle.path_within.specs.Resolved.{AreNames, kept_of, up_from}
 use Rattle.path_within.specs.Resolved.{resolved_of, resolved_bytes_of, steps_between, way_of}
 use Rattle.path_within.specs.Steps.{IsKept}
 use Rattle.path_within.proofs.ClimbLemmas.{NoRoots, rootless-no_roots}
-use Rattle.path_within.proofs.KeptLemmas.{IsKept-kept_of}
-use Rattle.path_within.proofs.KeptLemmas.{names_reverse}
-use Rattle.path_within.proofs.ResolvedLemmas.{kept_of-join, values-resolved}
+use Rattle.path_within.proofs.KeepLemmas.{IsKept-kept_of}
+use Rattle.path_within.proofs.KeepLemmas.{names_reverse}
+use Rattle.path_within.proofs.ResolveLemmas.{kept_of-join, values-resolved}
 use Rattle.path_within.proofs.SharedStartLemmas.{shared_count, leads}
 use Rattle.path_within.proofs.BetweenLemmas.{steps_between-some}
 

@@ -10,13 +10,13 @@ use Rattle.path_runs.specs.Spelling.{spelling_of}
 use Rattle.path_within.specs.Resolved.{AreUpsThenNames, IsNormal, kept_of}
 use Rattle.path_within.specs.Resolved.{resolved_of, resolved_bytes_of, steps_between, way_of}
 use Rattle.path_within.specs.Steps.{AllOne, IsKept}
-use Rattle.path_within.proofs.KeptLemmas.{IsKept-kept_of, kept_of-append}
-use Rattle.path_within.proofs.KeptLemmas.{names_reverse, resolved_normal}
-use Rattle.path_within.proofs.ResolvedLemmas.{kept_of-join}
+use Rattle.path_within.proofs.KeepLemmas.{IsKept-kept_of, kept_of-append}
+use Rattle.path_within.proofs.KeepLemmas.{names_reverse, resolved_normal}
+use Rattle.path_within.proofs.ResolveLemmas.{kept_of-join}
 use Rattle.path_within.proofs.SharedStartLemmas.{shared_count, shared_start}
 use Rattle.path_within.proofs.BetweenLemmas.{ups_of, steps_between-is}
-use Rattle.path_within.proofs.SpelledLemmas.{IsOne-up, AllOne-kept_of, AllOne-values}
-use Rattle.path_within.proofs.SpelledLemmas.{path_of-spelled, values-path_of}
+use Rattle.path_within.proofs.PathOfLemmas.{IsOne-up, AllOne-kept_of, AllOne-values}
+use Rattle.path_within.proofs.PathOfLemmas.{path_of-spelled, values-path_of}
 use Rattle.path_within.proofs.WayLemmas.{kept_of-straight, kept_of-ups, kept_of-rest, normal_end}
 use Rattle.path_within.proofs.WayLemmas.{ups_straight}
 

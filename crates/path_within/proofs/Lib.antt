@@ -1,6 +1,6 @@
-pub mod KeptLemmas
-pub mod SpelledLemmas
-pub mod ResolvedLemmas
+pub mod KeepLemmas
+pub mod PathOfLemmas
+pub mod ResolveLemmas
 pub mod ClimbLemmas
 pub mod RequestLemmas
 pub mod WithinLemmas

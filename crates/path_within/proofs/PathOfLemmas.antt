@@ -23,7 +23,7 @@ use Rattle.path_runs.proofs.PieceValueLemmas.{values-hold, values-rooted, values
 use Rattle.path_runs.proofs.ValueLemmas.{append_values, values-join_of_rootless}
 use Rattle.path_within.specs.Resolved.{up_from, keep, kept_of}
 use Rattle.path_within.specs.Steps.{AllOne, IsKept, IsOne, path_of}
-use Rattle.path_within.proofs.KeptLemmas.{IsKept-ups}
+use Rattle.path_within.proofs.KeepLemmas.{IsKept-ups}
 
 pub IsOne-root : IsOne RootDir
 IsOne-root = values-rooted []

@@ -22,8 +22,8 @@ use Rattle.path_runs.proofs.LeanLemmas.{spelling_of-shortest}
 use Rattle.path_runs.proofs.SiblingLemmas.{parent_of-name, rest-join_of_one, values-join_of_one}
 use Rattle.path_within.specs.Resolved.{keep, up_from}
 use Rattle.path_within.specs.Steps.{AllOne, AreUps, IsKept, IsOne, path_of, Spells}
-use Rattle.path_within.proofs.KeptLemmas.{ups_reverse}
-use Rattle.path_within.proofs.SpelledLemmas.{IsOne-root, IsOne-up, path_of-spelled, values-path_of}
+use Rattle.path_within.proofs.KeepLemmas.{ups_reverse}
+use Rattle.path_within.proofs.PathOfLemmas.{IsOne-root, IsOne-up, path_of-spelled, values-path_of}
 
 -- the bytes of kept values end where their last part does
 rest-path_of : (ks : List Value) → IsKept ks → AllOne ks → rest (path_of ks) 0 0 ≡ path_of ks

@@ -9,9 +9,9 @@ use Rattle.path_runs.specs.Spelling.{spelling_of}
 use Rattle.path_runs.proofs.LeadLemmas.{values-join_of_values_added}
 use Rattle.path_runs.proofs.PieceValueLemmas.{is_rooted-slash, values-rooted}
 use Rattle.path_within.specs.Resolved.{kept_of, resolved_of, resolved_bytes_of}
-use Rattle.path_within.proofs.KeptLemmas.{IsKept-kept_of, kept_of-append, resolved_of-append}
-use Rattle.path_within.proofs.SpelledLemmas.{AllOne-kept_of, AllOne-values}
-use Rattle.path_within.proofs.SpelledLemmas.{path_of-spelled, values-path_of}
+use Rattle.path_within.proofs.KeepLemmas.{IsKept-kept_of, kept_of-append, resolved_of-append}
+use Rattle.path_within.proofs.PathOfLemmas.{AllOne-kept_of, AllOne-values}
+use Rattle.path_within.proofs.PathOfLemmas.{path_of-spelled, values-path_of}
 
 -- a resolved path has the resolved values
 pub values-resolved : (s : List ℕ) → values (resolved_bytes_of s) ≡ resolved_of (values s)

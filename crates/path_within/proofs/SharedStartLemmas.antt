@@ -1,23 +1,13 @@
 -- What two lists of values begin with, and what is left of both behind that.
 use Rattle.std.proofs.Common.{◌≡◌, ℕ, ◌+◌, zero, suc, true, false}
 use Rattle.std.proofs.Common.{List, [], ◌∷◌, ◌++◌, drop, refl, ap, ◌∙◌, arith}
-use Rattle.std.proofs.lemmas.Cmp.{tied_itself}
-use Rattle.std.specs.Cmp.{Equal-is}
 use Rattle.std.specs.List.{common_prefix_len}
-use Rattle.std.specs.Ordering.{is_eq}
-use Rattle.unix_path.specs.Order.{same_value, value_cmp}
-use Rattle.unix_path.specs.OrderLaws.{value_cmp-equal, value_cmp-total}
+use Rattle.unix_path.specs.Order.{same_value}
 use Rattle.unix_path.specs.Parts.{Value, RootDir, CurDir, ParentDir, Normal}
 use Rattle.unix_path.proofs.CaseLemmas.{by_test}
+use Rattle.unix_path.proofs.TieLemmas.{same_value-Decides}
 use Rattle.path_within.specs.Resolved.{AreNames}
 use Rattle.path_within.proofs.ClimbLemmas.{NoRoots}
-
-pub same_value-equal : (v w : Value) → same_value v w ≡ true → v ≡ w
-same_value-equal v w e = value_cmp-equal v w ((Equal-is (value_cmp v w)).0 e)
-
--- a value is the same as itself
-pub same_value-self : (v : Value) → same_value v v ≡ true
-same_value-self v = ap is_eq (tied_itself value_cmp-total v)
 
 -- how many first values two lists have in common
 abbrev pub shared_count : List Value → List Value → ℕ
@@ -54,7 +44,7 @@ shared_start (x ∷ xs) (y ∷ ys) = let more = shared_start xs ys in by_test (s
           ∙ ap (λ zs. x ∷ zs) more.first;
       second = ap (λ k. x ∷ more.start ++ drop k (y ∷ ys)) n
           ∙ ap (λ zs. x ∷ more.start ++ zs) (drop-more y ys (shared_count xs ys))
-          ∙ ap (λ zs. x ∷ zs) more.second ∙ ap (λ z. z ∷ ys) (same_value-equal x y e);
+          ∙ ap (λ zs. x ∷ zs) more.second ∙ ap (λ z. z ∷ ys) ((same_value-Decides x y).0 e);
     })
     (λ e. let n = shared_count-no x y xs ys e in record {
       start = [];
@@ -91,7 +81,7 @@ leads [] x y h k = record {
 }
 leads (z ∷ f) x y h k =
     let more = leads f x y h k in
-    let n = shared_count-yes z z (f ++ x) (f ++ y) (same_value-self z) in record {
+    let n = shared_count-yes z z (f ++ x) (f ++ y) ((same_value-Decides z z).1 refl) in record {
       names = rw (n, drop-more z (f ++ x) (shared_count (f ++ x) (f ++ y))) more.names;
       no_roots = rw (n, drop-more z (f ++ y) (shared_count (f ++ x) (f ++ y))) more.no_roots;
     }

@@ -4,9 +4,9 @@ use Rattle.unix_path.specs.Joins.{join_of}
 use Rattle.unix_path.specs.Parts.{Value, values}
 use Rattle.path_within.specs.Resolved.{kept_of, resolved_of, resolved_bytes_of}
 use Rattle.path_within.specs.Steps.{AllOne, Spells}
-use Rattle.path_within.proofs.ResolvedLemmas.{kept_of-join}
+use Rattle.path_within.proofs.ResolveLemmas.{kept_of-join}
 use Rattle.path_within.proofs.BetweenLemmas.{ups_of}
-use Rattle.path_within.proofs.SpelledLemmas.{path_of-spelled, AllOne-values}
+use Rattle.path_within.proofs.PathOfLemmas.{path_of-spelled, AllOne-values}
 
 -- s spells what is kept so far behind ks, and the values `left` of `all` are still to be kept
 pub record KeepsOn (ks : List Value) (s : List ℕ) (left all : List Value) : Type 0 where

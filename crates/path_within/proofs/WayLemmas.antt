@@ -7,8 +7,8 @@ use Rattle.unix_path.specs.Parts.{Value, RootDir, CurDir, ParentDir, Normal}
 use Rattle.path_within.specs.Resolved.{AreNames, AreUpsThenNames, IsNormal, kept_of}
 use Rattle.path_within.specs.Steps.{AreUps, IsKept}
 use Rattle.path_within.proofs.ClimbLemmas.{NoRoots}
-use Rattle.path_within.proofs.KeptLemmas.{kept_of-append, kept_of-kept}
-use Rattle.path_within.proofs.KeptLemmas.{IsKept-tail, up_behind}
+use Rattle.path_within.proofs.KeepLemmas.{kept_of-append, kept_of-kept}
+use Rattle.path_within.proofs.KeepLemmas.{IsKept-tail, up_behind}
 use Rattle.path_within.proofs.BetweenLemmas.{ups_of}
 
 -- behind what is kept, names are kept as they stand

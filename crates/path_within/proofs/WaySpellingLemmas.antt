@@ -10,13 +10,13 @@ use Rattle.path_runs.specs.Spelling.{spelling_of}
 use Rattle.path_within.specs.Resolved.{is_name, is_root, kept_of, resolved_of}
 use Rattle.path_within.specs.Resolved.{resolved_bytes_of, steps_between, way_of}
 use Rattle.path_within.specs.Steps.{Spells}
-use Rattle.path_within.proofs.KeptLemmas.{kept_of-append}
+use Rattle.path_within.proofs.KeepLemmas.{kept_of-append}
 use Rattle.path_within.proofs.LeadsLemmas.{way_is}
-use Rattle.path_within.proofs.ResolvedLemmas.{values-resolved}
+use Rattle.path_within.proofs.ResolveLemmas.{values-resolved}
 use Rattle.path_within.proofs.SharedStartLemmas.{shared_count}
 use Rattle.path_within.proofs.BetweenLemmas.{names_all, no_roots_any, steps_between-some}
 use Rattle.path_within.proofs.BetweenLemmas.{ups_of}
-use Rattle.path_within.proofs.SpelledLemmas.{path_of-spelled}
+use Rattle.path_within.proofs.PathOfLemmas.{path_of-spelled}
 use Rattle.path_within.proofs.WayLemmas.{kept_of-straight}
 
 -- x and y are left of both paths, resolved, behind what these share

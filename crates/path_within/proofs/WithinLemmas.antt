@@ -5,8 +5,8 @@ use Rattle.unix_path.specs.Joins.{join_of}
 use Rattle.unix_path.specs.Parts.{values}
 use Rattle.path_within.specs.Resolved.{kept_of, resolved_of, resolved_bytes_of, AreNames, Climbs}
 use Rattle.path_within.proofs.ClimbLemmas.{stays_within}
-use Rattle.path_within.proofs.ResolvedLemmas.{kept_of-join, values-resolved}
-use Rattle.path_within.proofs.KeptLemmas.{names_reverse}
+use Rattle.path_within.proofs.ResolveLemmas.{kept_of-join, values-resolved}
+use Rattle.path_within.proofs.KeepLemmas.{names_reverse}
 
 -- a join with a request that doesn't climb has the resolved values of both
 pub resolved_of-within : (a b : List ℕ) → (Climbs (values b) → ⊥)

@@ -1,33 +1,14 @@
 -- Lists of values that begin or end with others, as tests.
-use Rattle.std.proofs.Common.{◌≡◌, ℕ, ◌-◌, List, [], ◌∷◌, length, take, drop, get_or, sym, ap}
-use Rattle.std.proofs.Common.{◌∙◌, refl, Some, Decides, codes, Ordering, Less, Equal, Greater}
+use Rattle.std.proofs.Common.{◌≡◌, ℕ, ◌-◌, List, [], ◌∷◌, length, take, drop, sym, ap}
+use Rattle.std.proofs.Common.{◌∙◌, refl, Some, Decides, codes}
 use Rattle.std.specs.List.{starts_with, ends_with}
-use Rattle.std.specs.Ordering.{is_eq, ordering_then}
 use Rattle.std.proofs.lemmas.Slice.Eq.{starts_is, ends_is}
 use Rattle.unix_path.proofs.CaseLemmas.{by_test}
 use Rattle.unix_path.specs.Parts.{Value, values}
 use Rattle.unix_path.specs.Prefixes.{Begins, Ends, stripped_of}
-use Rattle.unix_path.specs.Order.{same_value, value_cmp, values_cmp}
-use Rattle.unix_path.specs.OrderLaws.{is_eq-values_cmp}
-use Rattle.unix_path.proofs.TieLemmas.{values_cmp-same}
+use Rattle.unix_path.specs.Order.{same_value}
+use Rattle.unix_path.proofs.TieLemmas.{same_value-Decides}
 use Rattle.pathtool.specs.Answers.{optional, strip_answer}
-
-is_eq-then_equal : (o : Ordering) → is_eq (ordering_then o Equal) ≡ is_eq o
-is_eq-then_equal Less = refl
-is_eq-then_equal Equal = refl
-is_eq-then_equal Greater = refl
-
--- the order of two lists of one value is that of the values
-is_eq-values_cmp-one : (v w : Value) → is_eq (values_cmp (v ∷ []) (w ∷ [])) ≡ same_value v w
-is_eq-values_cmp-one v w = is_eq-then_equal (value_cmp v w)
-
--- the test of two values says whether they are equal
-pub same_value-Decides : (v w : Value) → Decides (same_value v w) (v ≡ w)
-same_value-Decides v w = (
-  λ e. ap (λ vs. get_or vs 0 v)
-      (is_eq-values_cmp (v ∷ []) (w ∷ []) (is_eq-values_cmp-one v w ∙ e)),
-  λ e. sym (is_eq-values_cmp-one v w) ∙ values_cmp-same (v ∷ []) (w ∷ []) (ap (λ u. u ∷ []) e),
-)
 
 -- the test of two lists of values says whether the second begins the first
 pub starts_with-Decides : (w v : List Value) → Decides (starts_with same_value w v) (Begins v w)

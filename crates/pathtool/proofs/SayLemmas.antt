@@ -15,7 +15,7 @@ use Rattle.pathtool.specs.Quoted.{json_of}
 use Rattle.pathtool.proofs.BeginLemmas.{starts_with-Decides, ends_with-Decides}
 use Rattle.pathtool.proofs.BeginLemmas.{strip_answer-ok, strip_answer-refused}
 use Rattle.pathtool.proofs.ListLemmas.{adds}
-use Rattle.pathtool.proofs.QuotedLemmas.{json_of-text}
+use Rattle.pathtool.proofs.QuoteLemmas.{json_of-text}
 
 -- the answer of an optional name was added
 pub adds_found : {T E : Type 0} (r : Result T E) (new old : List ℕ) (found : Option UnixStr)

@@ -13,7 +13,7 @@ use Rattle.path_runs.specs.Spelling.{spelling_of}
 use Rattle.path_table.specs.Table.{answer_row, entries_under}
 use Rattle.pathtool.specs.Fields.{tabs}
 use Rattle.pathtool.specs.Tables.{entries_with, under_answer}
-use Rattle.pathtool.specs.Texts.{spelled, tab}
+use Rattle.pathtool.specs.Texts.{row_spelling, tab}
 use Rattle.pathtool.proofs.ListLemmas.{tabs-snoc}
 use Rattle.pathtool.proofs.LoopLemmas.{IsStep}
 
@@ -74,7 +74,7 @@ pub under_answer-found : (base : List ℕ) (paths : List (List ℕ))
     (found : List (Path × Bor (Unit {0}))) (key : List ℕ) (table : List (List Value × Unit {0}))
     → key ≡ base → table ≡ entries_with [] paths
     → map answer_row found ≡ entries_under (values key) table
-    → tabs (map spelled found) ≡ under_answer base paths
+    → tabs (map row_spelling found) ≡ under_answer base paths
 under_answer-found base paths found key table same holds is =
     let spell = λ (row : List Value × Unit {0}). spelling_of row.0 in
     ap tabs (sym (map-map spell answer_row found)

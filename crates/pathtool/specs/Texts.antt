@@ -63,8 +63,8 @@ walk_of path turns =
     decimal k ∷ decimal m ∷ (take k parts ++ rest path k m ∷ take m (reverse parts))
 
 -- the canonical spelling of a path that a table answered
-abbrev pub spelled : Path × Bor (Unit {0}) → List ℕ
-spelled found = spelling_of (values found.0.bytes.now)
+abbrev pub row_spelling : Path × Bor (Unit {0}) → List ℕ
+row_spelling found = spelling_of (values found.0.bytes.now)
 
 -- an edit before others, where both are known
 abbrev pub edit_before : Option EditValue → Option (List EditValue) → Option (List EditValue)

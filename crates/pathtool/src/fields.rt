@@ -1,7 +1,7 @@
 //! Cuts an input into lines, and a line into fields.
-ghost use Rattle.std.specs.Prelude.{◌≡◌, ◌+◌, ◌<◌, ◌≤◌, ◌==◌, [], ◌∷◌, length, take, drop};
+ghost use Rattle.std.specs.Prelude.{◌≡◌, ◌+◌, ◌<◌, ◌≤◌, ◌==◌, [], ◌∷◌, length};
 ghost use Rattle.std.specs.Prelude.{MatchOption, IfSome};
-ghost use Rattle.std.specs.List.{slice_split, position_or_len};
+ghost use Rattle.std.specs.List.{slice_split};
 ghost use Rattle.std.specs.Str.{bytes_eq};
 ghost use Rattle.pathtool.specs.Answers.{lines_of};
 ghost use Rattle.pathtool.specs.Fields.{fields_of};

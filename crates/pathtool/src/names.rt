@@ -33,7 +33,7 @@ pub fn push_optional(found: Option<UnixStr<'_>>, answer: &mut Vec<u8>) -> Result
 /// By Rust's `Path::file_name`.
 ///
 /// `a/b.c` adds `+b.c`, and `..` adds `-`.
-#[tactic(auto, using(crate::proofs::SaidLemmas::adds_found))]
+#[tactic(auto, using(crate::proofs::SayLemmas::adds_found))]
 pub fn push_name(path: Path<'_>, answer: &mut Vec<u8>) -> Result<(), AllocError>
     ensures { OnOk result (answer.new.items
         ≡ answer.old.items ++ optional (file_name_of (values path.entry.bytes.now))) }
@@ -47,7 +47,7 @@ pub fn push_name(path: Path<'_>, answer: &mut Vec<u8>) -> Result<(), AllocError>
 /// By Rust's `Path::file_stem`.
 ///
 /// `a/b.c` adds `+b`, and `..` adds `-`.
-#[tactic(auto, using(crate::proofs::SaidLemmas::adds_found))]
+#[tactic(auto, using(crate::proofs::SayLemmas::adds_found))]
 pub fn push_stem(path: Path<'_>, answer: &mut Vec<u8>) -> Result<(), AllocError>
     ensures { OnOk result (answer.new.items
         ≡ answer.old.items ++ optional (stem_of (values path.entry.bytes.now))) }
@@ -61,7 +61,7 @@ pub fn push_stem(path: Path<'_>, answer: &mut Vec<u8>) -> Result<(), AllocError>
 /// By Rust's `Path::extension`.
 ///
 /// `a/b.c` adds `+c`, and `b` adds `-`.
-#[tactic(auto, using(crate::proofs::SaidLemmas::adds_found))]
+#[tactic(auto, using(crate::proofs::SayLemmas::adds_found))]
 pub fn push_extension(path: Path<'_>, answer: &mut Vec<u8>) -> Result<(), AllocError>
     ensures { OnOk result (answer.new.items
         ≡ answer.old.items ++ optional (extension_of (values path.entry.bytes.now))) }

@@ -45,7 +45,7 @@ pub fn push_canon(path: Path<'_>, answer: &mut Vec<u8>) -> Result<(), AllocError
 /// By Rust's `Path::parent`.
 ///
 /// `a/b` adds `+a`, and `/` adds `-`.
-#[tactic(auto, using(crate::proofs::SaidLemmas::adds_some, crate::proofs::SaidLemmas::adds_none))]
+#[tactic(auto, using(crate::proofs::SayLemmas::adds_some, crate::proofs::SayLemmas::adds_none))]
 pub fn push_parent(path: Path<'_>, answer: &mut Vec<u8>) -> Result<(), AllocError>
     ensures { OnOk result (answer.new.items
         ≡ answer.old.items ++ optional (parent_of path.entry.bytes.now)) }
@@ -63,7 +63,7 @@ pub fn push_parent(path: Path<'_>, answer: &mut Vec<u8>) -> Result<(), AllocErro
 /// By Rust's `Path::strip_prefix`.
 ///
 /// `a/b` with `a` adds `+b`.
-#[tactic(auto, using(crate::proofs::SaidLemmas::adds_rest, crate::proofs::SaidLemmas::adds_other))]
+#[tactic(auto, using(crate::proofs::SayLemmas::adds_rest, crate::proofs::SayLemmas::adds_other))]
 pub fn push_stripped(path: Path<'_>, base: Path<'_>, answer: &mut Vec<u8>) -> Result<(), AllocError>
     ensures { OnOk result (answer.new.items ≡ answer.old.items
         ++ strip_answer path.entry.bytes.now base.entry.bytes.now) }

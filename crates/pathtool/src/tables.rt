@@ -8,7 +8,7 @@ ghost use Rattle.path_table.specs.Table.{table_of};
 ghost use Rattle.pathtool.specs.Fields.{fields_of, tabs};
 ghost use Rattle.pathtool.specs.Others.{other_fields};
 ghost use Rattle.pathtool.specs.Tables.{entries_with, under_answer};
-ghost use Rattle.pathtool.specs.Texts.{spelled, tab};
+ghost use Rattle.pathtool.specs.Texts.{row_spelling, tab};
 
 use crate::fields::Others;
 use crate::paths::push_canon;
@@ -64,7 +64,7 @@ fn push_spelled(path: Path<'_>, is_first: bool, answer: &mut Vec<u8>) -> Result<
 // Adds the canonical spelling of each path, with a tab between two of them.
 fn push_all(paths: &[(Path<'_>, &())], answer: &mut Vec<u8>) -> Result<(), AllocError>
     ensures { OnOk result (answer.new.items ≡ answer.old.items
-        ++ tabs (map spelled paths.now)) }
+        ++ tabs (map row_spelling paths.now)) }
 {
     let mut is_first = true;
     for (path, _) in paths {

@@ -27,7 +27,7 @@ fn push_truth(is_so: bool, answer: &mut Vec<u8>) -> Result<(), AllocError>
 /// By Rust's `Path::starts_with`.
 ///
 /// `a/b` with `a` adds `true`.
-#[tactic(auto, using(crate::proofs::SaidLemmas::adds_starts))]
+#[tactic(auto, using(crate::proofs::SayLemmas::adds_starts))]
 pub fn push_starts(path: Path<'_>, base: Path<'_>, answer: &mut Vec<u8>) -> Result<(), AllocError>
     ensures { OnOk result (answer.new.items ≡ answer.old.items
         ++ truth (starts_with same_value (values path.entry.bytes.now)
@@ -42,7 +42,7 @@ pub fn push_starts(path: Path<'_>, base: Path<'_>, answer: &mut Vec<u8>) -> Resu
 /// By Rust's `Path::ends_with`.
 ///
 /// `a/b` with `b` adds `true`.
-#[tactic(auto, using(crate::proofs::SaidLemmas::adds_ends))]
+#[tactic(auto, using(crate::proofs::SayLemmas::adds_ends))]
 pub fn push_ends(path: Path<'_>, child: Path<'_>, answer: &mut Vec<u8>) -> Result<(), AllocError>
     ensures { OnOk result (answer.new.items ≡ answer.old.items
         ++ truth (ends_with same_value (values path.entry.bytes.now)

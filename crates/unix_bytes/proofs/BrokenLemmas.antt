@@ -6,7 +6,7 @@ use Rattle.std.proofs.lemmas.Bool.{cases_Bool, cond-true, cond-false}
 use Rattle.unix_bytes.specs.Utf8.{is_sequence}
 use Rattle.unix_bytes.specs.Steps.{longest_len, longest_front_of, broken_len, HasBegun}
 use Rattle.unix_bytes.proofs.SequenceLemmas.{is_sequence-nil}
-use Rattle.unix_bytes.proofs.BegunLemmas.{pair_bounds}
+use Rattle.unix_bytes.proofs.HasBegunLemmas.{pair_bounds}
 use Rattle.unix_bytes.proofs.LongestLemmas.{longest_len-longest}
 use Rattle.unix_bytes.proofs.FrontLemmas.{longest_front_of-nil, longest_front_of-take}
 use Rattle.unix_bytes.proofs.FrontLemmas.{longest_front_of-sequence, front_within}

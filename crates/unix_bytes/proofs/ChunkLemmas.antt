@@ -188,5 +188,5 @@ shows_lossy_within (suc n) (b ∷ bs) le =
     ∙ sym (lossy_of-chunk s)
 
 -- the chunks as they are shown are the lossy text
-pub shown-chunks_of : (s : List ℕ) → flat_map shown_chunk (chunks_of s) ≡ lossy_of s
-shown-chunks_of s = shows_lossy_within (length s) s (le_refl (length s))
+pub flat_map-shown_chunk : (s : List ℕ) → flat_map shown_chunk (chunks_of s) ≡ lossy_of s
+flat_map-shown_chunk s = shows_lossy_within (length s) s (le_refl (length s))

@@ -15,7 +15,7 @@ use Rattle.unix_bytes.specs.Utf8.{is_sequence, IsSequence, BeginsSequence, begin
 use Rattle.unix_bytes.specs.Lossy.{fronts_of, replacement, lossy_of}
 use Rattle.unix_bytes.specs.Steps.{longest_len, longest_front_of}
 use Rattle.unix_bytes.specs.Begins.{IsLongest}
-use Rattle.unix_bytes.specs.Laws.{FrontsBegin, FrontsInTurn, FrontIsLongest, NoneInFront}
+use Rattle.unix_bytes.specs.Laws.{FrontsBegin, FrontsOneByOne, FrontIsLongest, NoneInFront}
 use Rattle.unix_bytes.specs.Laws.{BrokenIsShort, LossyOfBroken, LossyIsText}
 use Rattle.unix_bytes.proofs.BeginLemmas.{begins_sequence-from, BeginsSequence-from}
 use Rattle.unix_bytes.proofs.SequenceLemmas.{sequence_len}
@@ -59,10 +59,10 @@ may_stand_within (suc n) (b ∷ bs) le =
 pub fronts_begin : FrontsBegin
 fronts_begin s = may_stand_within (length s) s (le_refl (length s))
 
-pub fronts_in_turn : FrontsInTurn
+pub fronts_one_by_one : FrontsOneByOne
 unfolding fronts_of
-fronts_in_turn [] = refl
-fronts_in_turn (b ∷ bs) =
+fronts_one_by_one [] = refl
+fronts_one_by_one (b ∷ bs) =
     ap (drop 1) (fronts_of-some b bs)
     ∙ ap (λ u. fronts_of (drop (length u) (b ∷ bs))) (sym (front_of-longest (b ∷ bs)))
 

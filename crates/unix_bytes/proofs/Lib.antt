@@ -1,7 +1,7 @@
 pub mod SequenceLemmas
 pub mod WidthLemmas
 pub mod BeginLemmas
-pub mod BegunLemmas
+pub mod HasBegunLemmas
 pub mod LongestLemmas
 pub mod FrontLemmas
 pub mod GrowLemmas

@@ -10,7 +10,7 @@ use Rattle.unix_bytes.specs.Steps.{longest_len, longest_front_of, first_chunk_of
 use Rattle.unix_bytes.proofs.TextLemmas.{IsUtf8-from_IsText}
 use Rattle.unix_bytes.proofs.FrontLemmas.{longest_front_of-nil}
 use Rattle.unix_bytes.proofs.ChunkLemmas.{whole_text, chunks_of-nil, chunks_of-some}
-use Rattle.unix_bytes.proofs.ChunkLemmas.{first_chunk_of-text, shown-chunks_of}
+use Rattle.unix_bytes.proofs.ChunkLemmas.{first_chunk_of-text, flat_map-shown_chunk}
 use Rattle.unix_bytes.proofs.PartitionLemmas.{chunks_partition, whole_chunk_is_last}
 
 -- the chunk that stands first is `first_chunk_of`
@@ -38,7 +38,7 @@ only_text s c cs e z =
 -- the first chunk and those behind it, as they are shown, are the lossy text
 pub lossy_of-first_chunk : (s : List ℕ) (c : Chunk) (cs : List Chunk) → chunks_of s ≡ c ∷ cs
     → shown_chunk c ++ flat_map shown_chunk cs ≡ lossy_of s
-lossy_of-first_chunk s c cs e = ap (flat_map shown_chunk) (sym e) ∙ shown-chunks_of s
+lossy_of-first_chunk s c cs e = ap (flat_map shown_chunk) (sym e) ∙ flat_map-shown_chunk s
 
 -- the first chunk of text has no broken bytes
 pub text_has_none_broken : (s : List ℕ) (c : Chunk) (cs : List Chunk) → chunks_of s ≡ c ∷ cs

@@ -16,7 +16,7 @@ use Rattle.unix_bytes.proofs.TextLemmas.{IsText-nil}
 use Rattle.unix_bytes.proofs.BrokenLemmas.{broken_len_within}
 use Rattle.unix_bytes.proofs.StretchLemmas.{text_within}
 use Rattle.unix_bytes.proofs.LossyLemmas.{is_text-from_IsText, is_text-not}
-use Rattle.unix_bytes.proofs.ChunkLemmas.{chunk_some, shown-chunks_of}
+use Rattle.unix_bytes.proofs.ChunkLemmas.{chunk_some, flat_map-shown_chunk}
 use Rattle.unix_bytes.proofs.SplitLemmas.{Splits, splits_first_chunk}
 use Rattle.unix_bytes.proofs.LawLemmas.{replacement_is_sequence, lossy_is_text}
 use Rattle.unix_bytes.proofs.OnlyLemmas.{first_chunk_is, only_chunk, only_text}
@@ -87,7 +87,7 @@ lossy_of-split {s = []} {valid} {broken} {rest} p =
 lossy_of-split {s = x ∷ xs} {valid} {broken} {rest} p =
     let s = x ∷ xs in
     let c : Chunk = record { valid = valid; broken = broken } in
-    ap (λ t. shown_chunk c ++ t) (sym (shown-chunks_of rest))
+    ap (λ t. shown_chunk c ++ t) (sym (flat_map-shown_chunk rest))
     ∙ lossy_of-first_chunk s c (chunks_of rest) (splits_first_chunk (omega arith) p)
 
 -- bytes of which none are broken are padded as text

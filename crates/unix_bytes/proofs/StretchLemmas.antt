@@ -13,7 +13,7 @@ use Rattle.unix_bytes.specs.Steps.{longest_len, broken_len}
 use Rattle.unix_bytes.proofs.TextLemmas.{IsUtf8-from_IsText, IsText-from_IsUtf8, IsText-nil}
 use Rattle.unix_bytes.proofs.TextLemmas.{IsText-append, IsText-sequence}
 use Rattle.unix_bytes.proofs.SequenceLemmas.{IsSequence-two}
-use Rattle.unix_bytes.proofs.BegunLemmas.{take-two}
+use Rattle.unix_bytes.proofs.HasBegunLemmas.{take-two}
 use Rattle.unix_bytes.proofs.LongestLemmas.{longest_len-is, longest_len-longest}
 use Rattle.unix_bytes.proofs.LossyLemmas.{is_text-from_IsText, IsText-from_is_text, text_rest}
 use Rattle.unix_bytes.proofs.LossyLemmas.{no_text}

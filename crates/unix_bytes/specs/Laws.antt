@@ -28,8 +28,8 @@ abbrev pub FrontsPartition : Type 0
 FrontsPartition = (s : List ℕ) → concat (fronts_of s) ≡ s
 
 -- behind the first front stand the fronts of what follows it
-abbrev pub FrontsInTurn : Type 0
-FrontsInTurn = (s : List ℕ) → drop 1 (fronts_of s) ≡ fronts_of (drop (length (front_of s)) s)
+abbrev pub FrontsOneByOne : Type 0
+FrontsOneByOne = (s : List ℕ) → drop 1 (fronts_of s) ≡ fronts_of (drop (length (front_of s)) s)
 
 -- each front begins some sequence, or is one byte
 abbrev pub FrontsBegin : Type 0

@@ -1,6 +1,6 @@
 //! Laws of text and of lossy text: each function does nothing, and its contract is the law.
 ghost use Rattle.unix_bytes.specs.Laws.{TextIsUtf8, SequencesStandAlone, BeginningIsTested};
-ghost use Rattle.unix_bytes.specs.Laws.{TextIsTested, FrontsPartition, FrontsInTurn, FrontsBegin};
+ghost use Rattle.unix_bytes.specs.Laws.{TextIsTested, FrontsPartition, FrontsOneByOne, FrontsBegin};
 ghost use Rattle.unix_bytes.specs.Laws.{FrontIsLongest, BrokenIsShort, LossyOfSequence};
 ghost use Rattle.unix_bytes.specs.Laws.{LossyOfBroken, LossyOfText, LossyIsText, ChunksOfNothing};
 ghost use Rattle.unix_bytes.specs.Laws.{ChunksOfSome, ChunksPartition, ChunksAreShort};
@@ -23,9 +23,9 @@ pub fn tests_are_right()
 {}
 
 /// The fronts partition the bytes: the first, and then the fronts of what follows it.
-pub fn fronts_in_turn()
+pub fn fronts_one_by_one()
     ensures partition { FrontsPartition }
-    ensures turn { FrontsInTurn }
+    ensures next { FrontsOneByOne }
 {}
 
 /// A front is the longest prefix that begins some sequence, or one byte where none does. The first
@@ -37,7 +37,7 @@ pub fn broken_front()
 {}
 
 /// The lossy text copies sequences, and has U+FFFD for each broken front.
-pub fn lossy_in_turn()
+pub fn lossy_one_by_one()
     ensures sequence { LossyOfSequence }
     ensures broken { LossyOfBroken }
 {}
@@ -54,7 +54,7 @@ pub fn lossy_is_text()
 
 /// No bytes have no chunks. Of others, the first chunk is the longest prefix that is text with the
 /// front behind it, and then come the chunks of what follows these two.
-pub fn chunks_in_turn()
+pub fn chunks_one_by_one()
     ensures nothing { ChunksOfNothing }
     ensures some { ChunksOfSome }
 {}

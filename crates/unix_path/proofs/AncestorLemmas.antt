@@ -9,7 +9,7 @@ use Rattle.unix_path.specs.Parents.{parent_of, depth_of, ancestors_of}
 use Rattle.unix_path.specs.declared.path.Path.{Path}
 use Rattle.unix_path.proofs.RestLemmas.{values-rest, rest-rest}
 use Rattle.unix_path.proofs.MiddleLemmas.{middle}
-use Rattle.unix_path.proofs.EndLemmas.{Snoc, Empty, Pushed, snoc, middle-push}
+use Rattle.unix_path.proofs.EndLemmas.{Snoc, Empty, Push, snoc, middle-push}
 use Rattle.unix_path.proofs.RootLemmas.{root_count}
 use Rattle.unix_path.proofs.DepthLemmas.{depth_of-values, depth_of-none, depth_of-root}
 use Rattle.unix_path.proofs.DepthLemmas.{depth_of-push}
@@ -59,7 +59,7 @@ by_last s vs (Normal name) e = ancestors_of-deep s vs (Normal name) e (λ h. cc)
 
 by_snoc : (s : List ℕ) → Snoc (values s) → ancestors_of s ≡ s ∷ ancestors_by (parent_of s)
 by_snoc s (Empty e) = ancestors_of-alone s (depth_of-none s e)
-by_snoc s (Pushed vs v e) = by_last s vs v e
+by_snoc s (Push vs v e) = by_last s vs v e
 
 -- the ancestors of a path are the path and its parent's ancestors
 pub ancestors_of-parent : (s : List ℕ) → ancestors_of s ≡ s ∷ ancestors_by (parent_of s)

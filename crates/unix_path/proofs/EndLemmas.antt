@@ -8,12 +8,12 @@ use Rattle.unix_path.proofs.MiddleLemmas.{middle}
 -- a list is empty, or some elements and one behind them
 pub data Snoc {X : Type 0} (xs : List X) : Type 0 where
   Empty : xs ≡ [] → Snoc xs
-  Pushed : (ys : List X) (y : X) → xs ≡ ys ++ y ∷ [] → Snoc xs
+  Push : (ys : List X) (y : X) → xs ≡ ys ++ y ∷ [] → Snoc xs
 
 -- what stands last in a list stands last behind one more element in front, too
 snoc-cons : {X : Type 0} (x : X) (xs : List X) → Snoc xs → Snoc (x ∷ xs)
-snoc-cons x xs (Empty e) = Pushed [] x (ap (λ ys. x ∷ ys) e)
-snoc-cons x xs (Pushed ys y e) = Pushed (x ∷ ys) y (ap (λ ys. x ∷ ys) e)
+snoc-cons x xs (Empty e) = Push [] x (ap (λ ys. x ∷ ys) e)
+snoc-cons x xs (Push ys y e) = Push (x ∷ ys) y (ap (λ ys. x ∷ ys) e)
 
 -- a list is empty or has a last element
 pub snoc : {X : Type 0} (xs : List X) → Snoc xs

@@ -1,11 +1,14 @@
--- The last dot of a file name.
+-- The last dot of a file name, and the stem before it.
 use Rattle.std.proofs.Common.{◌≡◌, ◌==◌, ℕ, ◌-◌, ◌≤◌, ◌<◌, Bool, true, false, not, List, length}
+use Rattle.std.proofs.Common.{[], ◌∷◌, zero, suc, ltb}
 use Rattle.std.proofs.Common.{take, drop, get_or, Some, None, refl, sym, ap, arith, le-ltb, lt-ltb}
 use Rattle.std.proofs.Common.{◌+◌, ◌∙◌, eq-eqb, get_or-drop, length-drop}
 use Rattle.std.specs.List.{position_or_len}
+use Rattle.std.proofs.Math.Seq.{take-length}
 use Rattle.std.proofs.lemmas.List.Sums.{fails_before_first, suffix_len_is}
 use Rattle.unix_path.specs.Parts.{dot}
 use Rattle.unix_path.specs.Names.{past_last, split_name}
+use Rattle.unix_path.proofs.CaseLemmas.{by_test}
 
 abbrev pub is_dot : ℕ → Bool
 is_dot b = b == dot
@@ -45,3 +48,17 @@ unfolding split_name
 split_name-cut name n e l =
     rw (lt-ltb 1 (past_last is_dot name) (omega arith))
     (ap (λ k. (take (k - 1) name, Some (drop k name))) (sym e))
+
+-- a beginning is read again by its length
+pub take-take_front : (n : ℕ) (s : List ℕ) → take (length (take n s)) s ≡ take n s
+take-take_front zero s = refl
+take-take_front (suc n) [] = refl
+take-take_front (suc n) (b ∷ s) = ap (λ t. b ∷ t) (take-take_front n s)
+
+-- a stem begins its name
+pub split_name-stem : (name : List ℕ)
+    → take (length (split_name name).0) name ≡ (split_name name).0
+unfolding split_name
+split_name-stem name = by_test (ltb 1 (past_last is_dot name))
+    (λ e. rw e (take-take_front (past_last is_dot name - 1) name))
+    (λ e. rw e (take-length name))

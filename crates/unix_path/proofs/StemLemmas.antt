@@ -17,7 +17,7 @@ use Rattle.unix_path.specs.Steps.{parts_end}
 use Rattle.unix_path.specs.Names.{name_of, file_name_of, split_name}
 use Rattle.unix_path.specs.Edits.{last_start_of, stem_end_of}
 use Rattle.unix_path.proofs.CaseLemmas.{by_test}
-use Rattle.unix_path.proofs.EndLemmas.{Snoc, Empty, Pushed, snoc, last_or-push}
+use Rattle.unix_path.proofs.EndLemmas.{Snoc, Empty, Push, snoc, last_or-push}
 use Rattle.unix_path.proofs.ParentLemmas.{file_name_of-last}
 use Rattle.unix_path.proofs.RestLemmas.{take-rest}
 use Rattle.unix_path.proofs.SpanLemmas.{length-rest_whole, parts_end-append}
@@ -86,7 +86,7 @@ last_start_of-name s name e = by_last (snoc (parts s))
         let none : Some name ≡ None =
         e ∙ ap (λ ps. file_name_of (map (λ p. p.value) ps)) n in
         absurd (none-some name (sym none))
-    by_last (Pushed ps p n) =
+    by_last (Push ps p n) =
         let last : file_name_of (map (λ p. p.value) (parts s)) ≡ name_of p.value =
         ap (λ ps. file_name_of (map (λ p. p.value) ps)) n
         ∙ ap file_name_of (map-append (λ p. p.value) ps (p ∷ []))

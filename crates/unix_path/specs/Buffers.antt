@@ -26,7 +26,7 @@ texts paths = map (λ path. path.bytes.now) paths
 pub record JoinsAll {S : Type 0} (steps : S → Option Path → S → Type 0) (items : S)
     (old new : List ℕ) : Type 0 where
   pub paths : List Path
-  pub drained : Drains steps items paths
+  pub all_items : Drains steps items paths
   pub bytes : new ≡ join_all_of old (texts paths)
 
 -- the items before one were joined to the old bytes, one after the other, and the join with that
@@ -36,6 +36,6 @@ pub record JoinsBeginning {S : Type 0} (steps : S → Option Path → S → Type
   pub paths : List Path
   pub next : Path
   pub left : S
-  pub given : YieldsThen steps items paths (Some next) left
+  pub items_before : YieldsThen steps items paths (Some next) left
   pub bytes : new ≡ join_all_of old (texts paths)
   pub longer : most < length (join_of new next.bytes.now)

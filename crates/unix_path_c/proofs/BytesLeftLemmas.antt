@@ -19,7 +19,7 @@ use Rattle.unix_path.proofs.PlaceLemmas.{part_at, part_at-zero}
 use Rattle.unix_path.proofs.RestLemmas.{take-rest}
 use Rattle.unix_path.proofs.StemLemmas.{length-rest_whole-le}
 use Rattle.unix_path_c.specs.Places.{place_bytes, place_end}
-use Rattle.unix_path_c.specs.Walks.{kind_of, left, part_bytes, part_value, parts_left}
+use Rattle.unix_path_c.specs.Walks.{kind_of, bytes_left, part_bytes, part_value, parts_left}
 use Rattle.unix_path_c.specs.Walks.{value_of_kind}
 use Rattle.unix_path_c.specs.declared.places.Place.{Place}
 use Rattle.unix_path_c.specs.declared.walks.Part.{Part}
@@ -34,16 +34,16 @@ pub record Between (path : List ℕ) (walk : Walk) (s : List ℕ) : Type 0 where
   pub size : length s ≡ walk.back - walk.front
 
 -- where a byte is left, the walk's places lie in the path, in order
-pub stands_between : (path : List ℕ) (walk : Walk) → 0 < length (left path walk)
-    → Between path walk (left path walk)
-unfolding left
+pub stands_between : (path : List ℕ) (walk : Walk) → 0 < length (bytes_left path walk)
+    → Between path walk (bytes_left path walk)
+unfolding bytes_left
 stands_between path walk some =
     let s = slice_range path walk.front walk.back in
     by_test (leb walk.front walk.back && leb walk.back (length path))
     (λ e.
     let both = and_parts _ _ e in
     let in_range = leb-true walk.back (length path) both.1 in
-    let is : left path walk ≡ s = ap (λ c. cond c s []) e in
+    let is : bytes_left path walk ≡ s = ap (λ c. cond c s []) e in
     record {
       in_order = leb-true walk.front walk.back both.0;
       in_range = in_range;
@@ -51,22 +51,22 @@ stands_between path walk some =
       size = ap length is ∙ length-range path walk.front walk.back in_range;
     })
     (λ e.
-    let none : length (left path walk) ≡ 0 = ap (λ c. length (cond c s [])) e in
+    let none : length (bytes_left path walk) ≡ 0 = ap (λ c. length (cond c s [])) e in
     absurd (omega (arith, some, none)))
 
 -- where the walk's places lie in the path, in order, the bytes between them are left
-pub left-in_range : (path : List ℕ) (walk : Walk) → walk.front ≤ walk.back
-    → walk.back ≤ length path → left path walk ≡ slice_range path walk.front walk.back
-unfolding left
-left-in_range path walk in_order in_range =
+pub bytes_left-in_range : (path : List ℕ) (walk : Walk) → walk.front ≤ walk.back
+    → walk.back ≤ length path → bytes_left path walk ≡ slice_range path walk.front walk.back
+unfolding bytes_left
+bytes_left-in_range path walk in_order in_range =
     ap₂ (λ a b. cond (a && b) (slice_range path walk.front walk.back) [])
     (le-leb walk.front walk.back in_order) (le-leb walk.back (length path) in_range)
 
 -- where the walk's places are out of order or past the path's end, nothing is left
-pub left-outside : (path : List ℕ) (walk : Walk)
-    → (walk.back < walk.front) ⊎ (length path < walk.back) → left path walk ≡ []
-unfolding left
-left-outside path walk outside =
+pub bytes_left-outside : (path : List ℕ) (walk : Walk)
+    → (walk.back < walk.front) ⊎ (length path < walk.back) → bytes_left path walk ≡ []
+unfolding bytes_left
+bytes_left-outside path walk outside =
     let s = slice_range path walk.front walk.back in
     by_test (leb walk.front walk.back && leb walk.back (length path))
     (λ e.
@@ -87,21 +87,21 @@ take-range path a b i k l =
     ∙ ap (take k) (drop-drop i a path)
 
 -- what stands at a place of the path, by where it stands in what is left
-pub take-left : (path : List ℕ) (walk : Walk) (s : List ℕ) (from i k : ℕ)
+pub take-bytes_left : (path : List ℕ) (walk : Walk) (s : List ℕ) (from i k : ℕ)
     → Between path walk s → i + k ≤ length s → from ≡ walk.front + i
     → take k (drop from path) ≡ take k (drop i s)
-take-left path walk s from i k h l start =
+take-bytes_left path walk s from i k h l start =
     ap (λ j. take k (drop j path)) start
     ∙ sym (take-range path walk.front walk.back i k (omega (arith, l, h.size)))
     ∙ ap (λ s. take k (drop i s)) (sym h.is)
 
 -- what stands between two places of the path, by where it stands in what is left
-pub range-left : (path : List ℕ) (walk : Walk) (s : List ℕ) (from to i k : ℕ)
+pub range-bytes_left : (path : List ℕ) (walk : Walk) (s : List ℕ) (from to i k : ℕ)
     → Between path walk s → i + k ≤ length s → from ≡ walk.front + i → to ≡ from + k
     → slice_range path from to ≡ take k (drop i s)
-range-left path walk s from to i k h l start end =
+range-bytes_left path walk s from to i k h l start end =
     let size : to - from ≡ k = omega (arith, end) in
-    ap (λ n. take n (drop from path)) size ∙ take-left path walk s from i k h l start
+    ap (λ n. take n (drop from path)) size ∙ take-bytes_left path walk s from i k h l start
 
 value_of_kind-kind_of : (v : Value) → value_of_kind (kind_of v) (value_bytes v) ≡ v
 value_of_kind-kind_of RootDir = refl
@@ -129,9 +129,9 @@ parts-whole s =
 
 -- a walk from the first byte to the end of the last part
 pub record IsFresh (path : List ℕ) (walk : Walk) : Type 0 where
-  pub left_is : left path walk ≡ rest path 0 0
+  pub left_is : bytes_left path walk ≡ rest path 0 0
   pub parts_are : parts_left path walk ≡ parts path
-  pub values_are : values (left path walk) ≡ values path
+  pub values_are : values (bytes_left path walk) ≡ values path
   pub in_order : walk.front ≤ walk.back
   pub in_range : walk.back ≤ length path
 
@@ -140,12 +140,12 @@ pub is_fresh : (path : List ℕ) (walk : Walk) → walk.front ≡ 0
 is_fresh path walk front back =
     let in_range : walk.back ≤ length path = omega (arith, back, length-rest_whole-le path) in
     let size : walk.back - walk.front ≡ length (rest path 0 0) = omega (arith, front, back) in
-    let is : left path walk ≡ rest path 0 0 =
-    left-in_range path walk (omega (arith, front)) in_range
+    let is : bytes_left path walk ≡ rest path 0 0 =
+    bytes_left-in_range path walk (omega (arith, front)) in_range
     ∙ ap₂ (λ n i. take n (drop i path)) size front ∙ take-rest path 0 in
     record {
       left_is = is;
-      values_are = values-whole path (left path walk) is;
+      values_are = values-whole path (bytes_left path walk) is;
       parts_are = ap₂ (λ i s. map (part_at i) (parts s)) front is
           ∙ part_at-zero (parts (rest path 0 0)) ∙ parts-whole path;
       in_order = omega (arith, front);
@@ -154,24 +154,24 @@ is_fresh path walk front back =
 
 -- the place of what is left, without what doesn't count at its end
 pub record HoldsLeft (path : List ℕ) (walk : Walk) (place : Place) : Type 0 where
-  pub bytes : place_bytes path place ≡ rest (left path walk) 0 0
-  pub same : values (place_bytes path place) ≡ values (left path walk)
+  pub bytes : place_bytes path place ≡ rest (bytes_left path walk) 0 0
+  pub same : values (place_bytes path place) ≡ values (bytes_left path walk)
   pub in_range : place_end place ≤ length path
 
 holds_left-at : (path : List ℕ) (walk : Walk) (place : Place)
-    → place_bytes path place ≡ rest (left path walk) 0 0 → place_end place ≤ length path
+    → place_bytes path place ≡ rest (bytes_left path walk) 0 0 → place_end place ≤ length path
     → HoldsLeft path walk place
 holds_left-at path walk place bytes in_range = record {
   bytes = bytes;
-  same = values-whole (left path walk) (place_bytes path place) bytes;
+  same = values-whole (bytes_left path walk) (place_bytes path place) bytes;
   in_range = in_range;
 }
 
 pub holds_left : (path : List ℕ) (walk : Walk) (place : Place)
     → place.start ≡ min walk.front (length path)
-    → place.length ≡ length (rest (left path walk) 0 0) → HoldsLeft path walk place
+    → place.length ≡ length (rest (bytes_left path walk) 0 0) → HoldsLeft path walk place
 holds_left path walk place start size =
-    let s = left path walk in
+    let s = bytes_left path walk in
     let n = length (rest s 0 0) in
     by_test (ltb 0 (length s))
     (λ e.
@@ -180,7 +180,7 @@ holds_left path walk place start size =
     let here : place.start ≡ walk.front + 0 = omega (arith, start, h.in_order, h.in_range) in
     holds_left-at path walk place
     (ap (λ k. take k (drop place.start path)) size
-    ∙ take-left path walk s place.start 0 n h (omega (arith, l)) here ∙ take-rest s 0)
+    ∙ take-bytes_left path walk s place.start 0 n h (omega (arith, l)) here ∙ take-rest s 0)
     (omega (arith, here, size, l, h.size, h.in_order, h.in_range)))
     (λ e.
     let nothing : s ≡ [] = nil_from_length s (omega (arith, ltb-false _ _ e)) in

@@ -5,8 +5,9 @@ use Rattle.unix_path.specs.Edits.{stem_end_of}
 use Rattle.unix_path.specs.Names.{file_name_of, split_name, stem_of}
 use Rattle.unix_path.specs.Parts.{values}
 use Rattle.unix_path.specs.Rest.{rest}
+use Rattle.unix_path.proofs.NameLemmas.{split_name-stem}
 use Rattle.unix_path.proofs.StemLemmas.{stem_end_of-some, stem_end-le}
-use Rattle.unix_path_c.proofs.PlaceLemmas.{split_name-stem, stem_of-name}
+use Rattle.unix_path_c.proofs.PlaceLemmas.{stem_of-name}
 
 -- a stem is never longer than its name
 length-split_name : (name : List ℕ) → length (split_name name).0 ≤ length name

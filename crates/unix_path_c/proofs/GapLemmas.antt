@@ -7,7 +7,7 @@ use Rattle.path_runs.specs.Spelling.{row_of, spelling_of}
 use Rattle.path_runs.proofs.LeanLemmas.{spelling_of-shortest}
 use Rattle.path_runs.proofs.PlainLemmas.{IsPlainValue, Shape, Rooted, Rootless, values-shape}
 use Rattle.path_runs.proofs.SpellLemmas.{spelling_of-root}
-use Rattle.unix_path_c.specs.Spelled.{gap_after, spelled_behind}
+use Rattle.unix_path_c.specs.Gaps.{gap_after, spelling_behind}
 use Rattle.unix_path_c.proofs.WritingLemmas.{length-both}
 
 gap_after-plain : (v : Value) → (v ≡ RootDir → ⊥) → gap_after v ≡ slash ∷ []
@@ -15,19 +15,19 @@ gap_after-plain RootDir h = absurd (h refl)
 gap_after-plain v h = refl
 
 -- plain values spelled behind a gap are that gap, and then their row
-spelled_behind-plain : (gap : List ℕ) (v : Value) (vs : List Value)
-    → AllByRecursion IsPlainValue (v ∷ vs) → spelled_behind gap (v ∷ vs) ≡ gap ++ row_of (v ∷ vs)
-spelled_behind-plain gap v [] h = append-nil (gap ++ value_bytes v)
-spelled_behind-plain gap v (w ∷ ws) h =
-    ap (λ next. (gap ++ value_bytes v) ++ spelled_behind next (w ∷ ws))
+spelling_behind-plain : (gap : List ℕ) (v : Value) (vs : List Value)
+    → AllByRecursion IsPlainValue (v ∷ vs) → spelling_behind gap (v ∷ vs) ≡ gap ++ row_of (v ∷ vs)
+spelling_behind-plain gap v [] h = append-nil (gap ++ value_bytes v)
+spelling_behind-plain gap v (w ∷ ws) h =
+    ap (λ next. (gap ++ value_bytes v) ++ spelling_behind next (w ∷ ws))
     (gap_after-plain v h.0.no_root)
-    ∙ ap (λ s. (gap ++ value_bytes v) ++ s) (spelled_behind-plain (slash ∷ []) w ws h.1)
+    ∙ ap (λ s. (gap ++ value_bytes v) ++ s) (spelling_behind-plain (slash ∷ []) w ws h.1)
     ∙ append_assoc gap (value_bytes v) (slash ∷ row_of (w ∷ ws))
 
-spelled_behind-row : (vs : List Value) → AllByRecursion IsPlainValue vs
-    → spelled_behind [] vs ≡ row_of vs
-spelled_behind-row [] h = refl
-spelled_behind-row (v ∷ vs) h = spelled_behind-plain [] v vs h
+spelling_behind-row : (vs : List Value) → AllByRecursion IsPlainValue vs
+    → spelling_behind [] vs ≡ row_of vs
+spelling_behind-row [] h = refl
+spelling_behind-row (v ∷ vs) h = spelling_behind-plain [] v vs h
 
 spelling_of-plain : (vs : List Value) → AllByRecursion IsPlainValue vs → spelling_of vs ≡ row_of vs
 unfolding spelling_of
@@ -36,14 +36,14 @@ spelling_of-plain (RootDir ∷ vs) h = absurd (h.0.no_root refl)
 spelling_of-plain (v ∷ vs) h = refl
 
 -- a path's values, spelled one behind the other, are the canonical spelling
-pub spelled_behind-values : (s : List ℕ) → spelled_behind [] (values s) ≡ spelling_of (values s)
-spelled_behind-values s = by (values-shape s)
+pub spelling_behind-values : (s : List ℕ) → spelling_behind [] (values s) ≡ spelling_of (values s)
+spelling_behind-values s = by (values-shape s)
   where
-    by : Shape (values s) → spelled_behind [] (values s) ≡ spelling_of (values s)
-    by (Rooted ws e h) = ap (spelled_behind []) e
-        ∙ ap (λ row. slash ∷ row) (spelled_behind-row ws h)
+    by : Shape (values s) → spelling_behind [] (values s) ≡ spelling_of (values s)
+    by (Rooted ws e h) = ap (spelling_behind []) e
+        ∙ ap (λ row. slash ∷ row) (spelling_behind-row ws h)
         ∙ sym (ap spelling_of e ∙ spelling_of-root ws)
-    by (Rootless h) = spelled_behind-row (values s) h ∙ sym (spelling_of-plain (values s) h)
+    by (Rootless h) = spelling_behind-row (values s) h ∙ sym (spelling_of-plain (values s) h)
 
 -- a spelling is never longer than the path
 pub length-spelling_of : (s : List ℕ) → length (spelling_of (values s)) ≤ length s
@@ -51,14 +51,14 @@ length-spelling_of s =
     ⊎_elim (λ e. omega (arith, ap length e)) (λ h. omega (arith, h)) (spelling_of-shortest s s refl)
 
 -- the bytes that are counted, with those of one value more, are never more than the path's
-pub spelled_behind-fits : {left : List Value} (s gap : List ℕ) (v : Value) (more : List Value)
-    (len : ℕ) → len + length (spelled_behind gap left) ≡ length (spelling_of (values s))
+pub spelling_behind-fits : {left : List Value} (s gap : List ℕ) (v : Value) (more : List Value)
+    (len : ℕ) → len + length (spelling_behind gap left) ≡ length (spelling_of (values s))
     → left ≡ v ∷ more → len + (length gap + length (value_bytes v)) ≤ length s
-spelled_behind-fits s gap v more len h e =
+spelling_behind-fits s gap v more len h e =
     omega (
       arith,
       h,
       length-spelling_of s,
-      length-both gap (value_bytes v) (spelled_behind (gap_after v) more)
-          (ap (spelled_behind gap) e),
+      length-both gap (value_bytes v) (spelling_behind (gap_after v) more)
+          (ap (spelling_behind gap) e),
     )

@@ -10,7 +10,7 @@ use Rattle.unix_path.specs.Parts.{Part, Value, parts, value_bytes, values}
 use Rattle.unix_path.specs.Rest.{rest}
 use Rattle.unix_path.specs.Steps.{EndsInPart, parts_end}
 use Rattle.unix_path.proofs.CaseLemmas.{by_test}
-use Rattle.unix_path.proofs.EndLemmas.{Snoc, Empty, Pushed, snoc, last_or-push, middle-push}
+use Rattle.unix_path.proofs.EndLemmas.{Snoc, Empty, Push, snoc, last_or-push, middle-push}
 use Rattle.unix_path.proofs.MiddleLemmas.{middle, middle_of, rest-middle, stands_in}
 use Rattle.unix_path.proofs.PlaceLemmas.{part_at, part_at-zero}
 use Rattle.unix_path.proofs.RestLemmas.{take-rest}
@@ -112,7 +112,7 @@ takes_behind s v vs e = by (snoc (parts s))
     by (Empty none) =
         let size = ap (λ ps. length (map (λ p. p.value) ps)) (sym none) ∙ ap length e in
         absurd (omega (arith, size, length-append vs (v ∷ [])))
-    by (Pushed ps p last) =
+    by (Push ps p last) =
         let same : p.value ≡ v = same_Some p.value v
         (sym (last_or-push None (map (λ p. p.value) ps) p.value)
         ∙ ap (last_or None) (sym (map-append (λ p. p.value) ps (p ∷ [])))

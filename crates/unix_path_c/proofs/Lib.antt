@@ -3,13 +3,13 @@ pub mod PlaceLemmas
 pub mod FollowLemmas
 pub mod FirstLemmas
 pub mod LastLemmas
-pub mod LeftLemmas
+pub mod BytesLeftLemmas
 pub mod TakeFirstLemmas
 pub mod TakeLastLemmas
 pub mod SignLemmas
 pub mod OverlayLemmas
 pub mod EndLemmas
 pub mod WritingLemmas
-pub mod SpelledLemmas
+pub mod GapLemmas
 pub mod NameLemmas
 pub mod StepLemmas

@@ -15,14 +15,14 @@ use Rattle.unix_path.specs.Prefixes.{stripped_of}
 use Rattle.unix_path.specs.Edits.{last_start_of}
 use Rattle.unix_path.specs.Steps.{parts_end}
 use Rattle.unix_path.proofs.CaseLemmas.{by_test}
-use Rattle.unix_path.proofs.NameLemmas.{is_dot}
+use Rattle.unix_path.proofs.NameLemmas.{is_dot, split_name-stem}
 use Rattle.unix_path.proofs.ParentLemmas.{parent_of-some}
 use Rattle.unix_path.proofs.RestLemmas.{take-rest}
 use Rattle.unix_path.proofs.SpanLemmas.{length-rest_whole}
 use Rattle.unix_path.proofs.StemLemmas.{last_start_of-name, length-name, length-rest_whole-le}
-use Rattle.path_runs.proofs.NamedLemmas.{named_cut}
+use Rattle.path_runs.proofs.NameCutLemmas.{name_cut}
 use Rattle.unix_path_c.specs.Places.{name_start_of}
-use Rattle.unix_path_c.proofs.StretchLemmas.{Stands, stands, take-take_front, range_stands}
+use Rattle.unix_path_c.proofs.StretchLemmas.{Stands, stands, range_stands}
 use Rattle.unix_path_c.proofs.StretchLemmas.{stands-beginning, stands-end, EndsAt, nothing_ends}
 use Rattle.unix_path_c.proofs.StretchLemmas.{range_ends}
 
@@ -43,7 +43,7 @@ take-inside x y z =
 name_stands : (s name : List ℕ) → Some name ≡ file_name_of (values s)
     → Stands s (last_start_of (parts s)) name
 name_stands s name e =
-    let cut = named_cut s name (sym e) in
+    let cut = name_cut s name (sym e) in
     stands s name (last_start_of (parts s))
     (omega (arith, last_start_of-name s name e, length-rest_whole-le s))
     (ap₂ (λ i t. take (length name) (drop i t)) cut.start cut.whole
@@ -71,13 +71,6 @@ name_start_of-some s name end e at =
     let start : end - length name ≡ last_start_of (parts s) =
     omega (arith, last_start_of-name s name e) in
     ap Some start ∙ ap (option_map (λ name. last_start_of (parts s))) e
-
--- a stem begins its name
-pub split_name-stem : (name : List ℕ) → take (length (split_name name).0) name ≡ (split_name name).0
-unfolding split_name
-split_name-stem name = by_test (ltb 1 (past_last is_dot name))
-    (λ e. rw e (take-take_front (past_last is_dot name - 1) name))
-    (λ e. rw e (take-length name))
 
 -- a stem is what its name has before the last dot, or the whole name
 pub stem_of-name : (s name stem : List ℕ) → Some name ≡ file_name_of (values s)

@@ -3,27 +3,27 @@ use Rattle.std.proofs.Common.{◌≡◌, ℕ, ◌+◌, ◌-◌, ◌≤◌, ◌<�
 use Rattle.std.proofs.Common.{refl, sym, ap, ◌∙◌, arith, length-drop, length-take-le}
 use Rattle.unix_path.specs.Parts.{Normal, values}
 use Rattle.unix_path_c.specs.Steps.{BeginsInPart, EndsInName, TakenBehind, TakenInFront}
-use Rattle.unix_path_c.specs.Walks.{left}
+use Rattle.unix_path_c.specs.Walks.{bytes_left}
 use Rattle.unix_path_c.specs.declared.walks.Walk.{Walk}
 use Rattle.unix_path_c.proofs.TakeLastLemmas.{taken_behind}
 use Rattle.unix_path_c.proofs.TakeFirstLemmas.{taken_in_front}
-use Rattle.unix_path_c.proofs.LeftLemmas.{stands_between}
+use Rattle.unix_path_c.proofs.BytesLeftLemmas.{stands_between}
 use Rattle.unix_path_c.proofs.NameLemmas.{rest-ends}
 
-module _ (path : List ℕ) (walk : Walk) (some : 0 < length (left path walk)) where
+module _ (path : List ℕ) (walk : Walk) (some : 0 < length (bytes_left path walk)) where
   -- a step over the first part ends in the path
-  pub first_fits : {size step kind : ℕ} → BeginsInPart (left path walk) size step kind
+  pub first_fits : {size step kind : ℕ} → BeginsInPart (bytes_left path walk) size step kind
       → walk.front + step ≤ length path
   first_fits h =
       let b = stands_between path walk some in
       omega (arith, b.size, b.in_order, b.in_range, h.steps.in_range)
 
   -- a step over the first part takes that part
-  pub takes_first_part : {size step kind : ℕ} → BeginsInPart (left path walk) size step kind
+  pub takes_first_part : {size step kind : ℕ} → BeginsInPart (bytes_left path walk) size step kind
       → TakenInFront path walk (record { front = walk.front + step; back = walk.back })
       (record { start = walk.front; length = size; kind = kind })
   takes_first_part {size} {step} {kind} h =
-      let s = left path walk in
+      let s = bytes_left path walk in
       let v = h.value in
       let t = h.steps.takes h.ends in
       let b = stands_between path walk some in
@@ -34,19 +34,19 @@ module _ (path : List ℕ) (walk : Walk) (some : 0 < length (left path walk)) wh
       (omega (arith, behind, length-drop step s, h.steps.in_range, b.size, b.in_order))
 
   -- a name at the end of what is left starts in the path
-  pub last_fits : {before start : ℕ} → EndsInName (left path walk) before start
+  pub last_fits : {before start : ℕ} → EndsInName (bytes_left path walk) before start
       → walk.front + start ≤ length path
   last_fits h =
       let b = stands_between path walk some in
       omega (arith, b.size, b.in_order, b.in_range, h.in_range)
 
   -- a step over a name at the end of what is left takes that name
-  pub takes_last_name : {before start n : ℕ} → EndsInName (left path walk) before start
-      → n ≡ length (left path walk) → TakenBehind path walk
+  pub takes_last_name : {before start n : ℕ} → EndsInName (bytes_left path walk) before start
+      → n ≡ length (bytes_left path walk) → TakenBehind path walk
       (record { front = walk.front; back = walk.front + before })
       (record { start = walk.front + start; length = n - start; kind = 3 })
   takes_last_name {before} {start} {n} h all =
-      let s = left path walk in
+      let s = bytes_left path walk in
       let v = Normal (drop start s) in
       let t = h.takes in
       let b = stands_between path walk some in

@@ -7,6 +7,7 @@ use Rattle.std.proofs.lemmas.List.{length-take}
 use Rattle.unix_path.proofs.CaseLemmas.{by_test}
 use Rattle.unix_path.proofs.GapLemmas.{take-beginning}
 use Rattle.unix_path.proofs.MiddleLemmas.{stands_in}
+use Rattle.unix_path.proofs.NameLemmas.{take-take_front}
 use Rattle.unix_path.proofs.SpanLemmas.{StandsAt}
 use Rattle.unix_path_c.specs.Places.{place_end, place_bytes}
 use Rattle.unix_path_c.specs.declared.places.Place.{Place}
@@ -22,12 +23,6 @@ stands s w i l e = record {
   bytes = e;
   inside = omega (arith, ap length e, length-take (length w) (drop i s), length-drop i s);
 }
-
--- a beginning is read again by its length
-pub take-take_front : (n : ℕ) (s : List ℕ) → take (length (take n s)) s ≡ take n s
-take-take_front zero s = refl
-take-take_front (suc n) [] = refl
-take-take_front (suc n) (b ∷ s) = ap (λ t. b ∷ t) (take-take_front n s)
 
 -- the bytes of a stretch stand where it starts
 pub range_stands : (s : List ℕ) (i n : ℕ) → i ≤ length s → Stands s i (take n (drop i s))

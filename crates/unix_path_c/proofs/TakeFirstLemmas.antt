@@ -13,12 +13,13 @@ use Rattle.unix_path.proofs.CursorLemmas.{GivesFirstPart}
 use Rattle.unix_path.proofs.ParentLemmas.{values-whole}
 use Rattle.unix_path.proofs.PlaceLemmas.{part_at, part_at-part_at}
 use Rattle.unix_path.proofs.RestLemmas.{rest-rest}
-use Rattle.unix_path_c.specs.Walks.{kind_of, left, part_bytes}
+use Rattle.unix_path_c.specs.Walks.{kind_of, bytes_left, part_bytes}
 use Rattle.unix_path_c.specs.Steps.{TakenInFront}
 use Rattle.unix_path_c.specs.declared.walks.Part.{Part}
 use Rattle.unix_path_c.specs.declared.walks.Walk.{Walk}
-use Rattle.unix_path_c.proofs.LeftLemmas.{stands_between, kind_of-lt, left-in_range, part_value-is}
-use Rattle.unix_path_c.proofs.LeftLemmas.{range-left, take-left}
+use Rattle.unix_path_c.proofs.BytesLeftLemmas.{stands_between, kind_of-lt, part_value-is}
+use Rattle.unix_path_c.proofs.BytesLeftLemmas.{bytes_left-in_range}
+use Rattle.unix_path_c.proofs.BytesLeftLemmas.{range-bytes_left, take-bytes_left}
 use Rattle.unix_path_c.proofs.FirstLemmas.{no_bytes, some_bytes, takes_in_front}
 
 -- two parts are equal if their places and their values are
@@ -31,12 +32,13 @@ same_part {c = c} {d = d} {v = v} start end value =
 
 -- a step whose places are computed from the first value of what is left takes its part
 pub taken_in_front : (path : List ℕ) (old new : Walk) (part : Part) (v : Value)
-    → values (left path old) ≡ v ∷ values (rest (left path old) 1 0)
+    → values (bytes_left path old) ≡ v ∷ values (rest (bytes_left path old) 1 0)
     → part.start ≡ old.front → part.length ≡ length (value_bytes v) → part.kind ≡ kind_of v
-    → new.back ≡ old.front + length (rest (left path old) 0 0)
-    → new.front ≡ new.back - length (rest (left path old) 1 0) → TakenInFront path old new part
+    → new.back ≡ old.front + length (rest (bytes_left path old) 0 0)
+    → new.front ≡ new.back - length (rest (bytes_left path old) 1 0)
+    → TakenInFront path old new part
 taken_in_front path old new part v e start size kind back front =
-    let s = left path old in
+    let s = bytes_left path old in
     let n = length (rest s 0 0) in
     let m = length (rest s 1 0) in
     let k = length (value_bytes v) in
@@ -52,11 +54,12 @@ taken_in_front path old new part v e start size kind back front =
     let fits = h.in_range in
     let first : part_bytes path part ≡ value_bytes v =
     ap (λ n. take n (drop part.start path)) size
-    ∙ take-left path old s part.start 0 k h (omega arith) (omega arith) ∙ t.bytes in
+    ∙ take-bytes_left path old s part.start 0 k h (omega arith) (omega arith) ∙ t.bytes in
     let value = part_value-is path part v kind first in
     let moved : f + (n - m) ≡ new.front = omega arith in
-    let left_is : left path new ≡ rest s 1 0 = left-in_range path new (omega arith) (omega arith)
-    ∙ range-left path old s new.front new.back (n - m) m h (omega arith) (omega arith)
+    let left_is : bytes_left path new ≡ rest s 1 0 =
+    bytes_left-in_range path new (omega arith) (omega arith)
+    ∙ range-bytes_left path old s new.front new.back (n - m) m h (omega arith) (omega arith)
     (omega arith) ∙ t.left in
     record {
       parts_are = ap (map (part_at f)) t.is
@@ -100,11 +103,11 @@ pub record StepInFrontFits (path : List ℕ) (walk : Walk) (whole behind : List 
 
 -- the places that a step in front computes from a fresh cursor lie in the path, in order
 pub step_in_front_fits : (path : List ℕ) (walk : Walk) (old new : Components) (x : Component)
-    (whole behind : List ℕ) → cursor_rest old ≡ rest (left path walk) 0 0
+    (whole behind : List ℕ) → cursor_rest old ≡ rest (bytes_left path walk) 0 0
     → GivesFirstPart old (Some x) new → whole ≡ cursor_rest old → behind ≡ cursor_rest new
     → StepInFrontFits path walk whole behind
 step_in_front_fits path walk old new x whole behind w h all but =
-    let s = left path walk in
+    let s = bytes_left path walk in
     let e = values-first s old new x w h in
     let t = takes_in_front s (value_of x) (values (rest s 1 0)) e in
     let b = stands_between path walk (some_bytes s (λ none. let no = sym none ∙ e in cc)) in
@@ -117,7 +120,7 @@ step_in_front_fits path walk old new x whole behind w h all but =
 
 -- what a step in front gives, by what a fresh cursor gives
 pub next_gives : (path : List ℕ) (walk : Walk) (old new : Components) (x : Component)
-    (whole behind text : List ℕ) (kind : ℕ) → cursor_rest old ≡ rest (left path walk) 0 0
+    (whole behind text : List ℕ) (kind : ℕ) → cursor_rest old ≡ rest (bytes_left path walk) 0 0
     → GivesFirstPart old (Some x) new → whole ≡ cursor_rest old → behind ≡ cursor_rest new
     → text ≡ value_bytes (value_of x) → kind ≡ kind_of (value_of x)
     → TakenInFront path walk (record {
@@ -125,7 +128,7 @@ pub next_gives : (path : List ℕ) (walk : Walk) (old new : Components) (x : Com
       back = walk.front + length whole;
     }) (record { start = walk.front; length = length text; kind = kind })
 next_gives path walk old new x whole behind text kind w h all but bytes is =
-    let s = left path walk in
+    let s = bytes_left path walk in
     taken_in_front path walk _ _ (value_of x) (values-first s old new x w h) refl
     (ap length bytes) is (ap (λ u. walk.front + length u) (all ∙ w))
     (ap (λ u. walk.front + length whole - length u)

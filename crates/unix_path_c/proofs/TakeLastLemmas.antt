@@ -13,13 +13,14 @@ use Rattle.unix_path.specs.declared.cursor.components.Components.{Components}
 use Rattle.unix_path.proofs.CursorLemmas.{GivesLastPart}
 use Rattle.unix_path.proofs.ParentLemmas.{rest-whole_last, values-whole}
 use Rattle.unix_path.proofs.PlaceLemmas.{part_at}
-use Rattle.unix_path_c.specs.Walks.{kind_of, left, part_bytes}
+use Rattle.unix_path_c.specs.Walks.{kind_of, bytes_left, part_bytes}
 use Rattle.unix_path_c.specs.Steps.{TakenBehind}
 use Rattle.unix_path_c.specs.declared.walks.Part.{Part}
 use Rattle.unix_path_c.specs.declared.walks.Walk.{Walk}
 use Rattle.unix_path_c.proofs.TakeFirstLemmas.{same_part}
-use Rattle.unix_path_c.proofs.LeftLemmas.{stands_between, kind_of-lt, left-in_range, part_value-is}
-use Rattle.unix_path_c.proofs.LeftLemmas.{range-left, take-left}
+use Rattle.unix_path_c.proofs.BytesLeftLemmas.{stands_between, kind_of-lt, part_value-is}
+use Rattle.unix_path_c.proofs.BytesLeftLemmas.{bytes_left-in_range}
+use Rattle.unix_path_c.proofs.BytesLeftLemmas.{range-bytes_left, take-bytes_left}
 use Rattle.unix_path_c.proofs.FirstLemmas.{no_bytes, some_bytes}
 use Rattle.unix_path_c.proofs.LastLemmas.{takes_behind}
 
@@ -31,12 +32,12 @@ not_none vs v e none =
 
 -- a step whose places are computed from the last value of what is left takes its part
 pub taken_behind : (path : List ℕ) (old new : Walk) (part : Part) (v : Value)
-    → values (left path old) ≡ values (rest (left path old) 0 1) ++ v ∷ []
-    → part.start ≡ old.front + length (rest (left path old) 0 0) - part.length
+    → values (bytes_left path old) ≡ values (rest (bytes_left path old) 0 1) ++ v ∷ []
+    → part.start ≡ old.front + length (rest (bytes_left path old) 0 0) - part.length
     → part.length ≡ length (value_bytes v) → part.kind ≡ kind_of v → new.front ≡ old.front
-    → new.back ≡ old.front + length (rest (left path old) 0 1) → TakenBehind path old new part
+    → new.back ≡ old.front + length (rest (bytes_left path old) 0 1) → TakenBehind path old new part
 taken_behind path old new part v e start size kind front back =
-    let s = left path old in
+    let s = bytes_left path old in
     let n = length (rest s 0 0) in
     let m = length (rest s 0 1) in
     let k = length (value_bytes v) in
@@ -52,10 +53,11 @@ taken_behind path old new part v e start size kind front back =
     let fits = h.in_range in
     let last : part_bytes path part ≡ value_bytes v =
     ap (λ n. take n (drop part.start path)) size
-    ∙ take-left path old s part.start (n - k) k h (omega arith) (omega arith) ∙ t.bytes in
+    ∙ take-bytes_left path old s part.start (n - k) k h (omega arith) (omega arith) ∙ t.bytes in
     let value = part_value-is path part v kind last in
-    let left_is : left path new ≡ rest s 0 1 = left-in_range path new (omega arith) (omega arith)
-    ∙ range-left path old s new.front new.back 0 m h (omega arith) (omega arith)
+    let left_is : bytes_left path new ≡ rest s 0 1 =
+    bytes_left-in_range path new (omega arith) (omega arith)
+    ∙ range-bytes_left path old s new.front new.back 0 m h (omega arith) (omega arith)
     (omega arith) ∙ t.left in
     record {
       parts_are = ap (map (part_at f)) t.is
@@ -101,11 +103,11 @@ pub record StepBehindFits (path : List ℕ) (walk : Walk) (whole text : List ℕ
 
 -- the places that a step behind computes from a fresh cursor lie in the path, in order
 pub step_behind_fits : (path : List ℕ) (walk : Walk) (old new : Components) (x : Component)
-    (whole text : List ℕ) → cursor_rest old ≡ rest (left path walk) 0 0
+    (whole text : List ℕ) → cursor_rest old ≡ rest (bytes_left path walk) 0 0
     → GivesLastPart old (Some x) new → whole ≡ cursor_rest old → text ≡ value_bytes (value_of x)
     → StepBehindFits path walk whole text (length (cursor_rest new))
 step_behind_fits path walk old new x whole text w h all bytes =
-    let s = left path walk in
+    let s = bytes_left path walk in
     let vs = values (rest s 0 1) in
     let e = values-last s old new x w h in
     let t = takes_behind s (value_of x) vs e in
@@ -121,7 +123,7 @@ step_behind_fits path walk old new x whole text w h all bytes =
 
 -- what a step behind gives, by what a fresh cursor gives
 pub next_back_gives : (path : List ℕ) (walk : Walk) (old new : Components) (x : Component)
-    (whole before text : List ℕ) (kind : ℕ) → cursor_rest old ≡ rest (left path walk) 0 0
+    (whole before text : List ℕ) (kind : ℕ) → cursor_rest old ≡ rest (bytes_left path walk) 0 0
     → GivesLastPart old (Some x) new → whole ≡ cursor_rest old → before ≡ cursor_rest new
     → text ≡ value_bytes (value_of x) → kind ≡ kind_of (value_of x)
     → TakenBehind path walk
@@ -132,7 +134,7 @@ pub next_back_gives : (path : List ℕ) (walk : Walk) (old new : Components) (x 
       kind = kind;
     })
 next_back_gives path walk old new x whole before text kind w h all but bytes is =
-    let s = left path walk in
+    let s = bytes_left path walk in
     taken_behind path walk _ _ (value_of x) (values-last s old new x w h)
     (ap (λ u. walk.front + length u - length text) (all ∙ w)) (ap length bytes) is refl
     (ap (λ u. walk.front + length u) (but ∙ cursor_rest-last s old new (Some x) w h))

@@ -8,6 +8,6 @@ gap_after RootDir = []
 gap_after v = slash ∷ []
 
 -- the values' bytes: this gap before the first, and the gap after each before the next
-abbrev pub spelled_behind : List ℕ → List Value → List ℕ
-spelled_behind gap [] = []
-spelled_behind gap (v ∷ vs) = (gap ++ value_bytes v) ++ spelled_behind (gap_after v) vs
+abbrev pub spelling_behind : List ℕ → List Value → List ℕ
+spelling_behind gap [] = []
+spelling_behind gap (v ∷ vs) = (gap ++ value_bytes v) ++ spelling_behind (gap_after v) vs

@@ -6,5 +6,5 @@ pub mod Buffer
 pub mod Overlay
 pub mod Pieces
 pub mod SaturatedSize
-pub mod Spelled
+pub mod Gaps
 pub mod Steps

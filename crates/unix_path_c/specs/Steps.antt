@@ -3,7 +3,7 @@ use Rattle.std.specs.Prelude.{◌≡◌, ◌≤◌, ◌<◌, ℕ, List, [], ◌�
 use Rattle.unix_path.specs.Parts.{Normal, Value, value_bytes, values}
 use Rattle.unix_path.specs.Rest.{rest}
 use Rattle.unix_path.specs.Steps.{EndsInPart, StepsFirst, TakesLast}
-use Rattle.unix_path_c.specs.Walks.{InOrder, kind_of, left, part_bytes, part_end, part_in}
+use Rattle.unix_path_c.specs.Walks.{InOrder, kind_of, bytes_left, part_bytes, part_end, part_in}
 use Rattle.unix_path_c.specs.Walks.{part_value, parts_left}
 use Rattle.unix_path_c.specs.declared.walks.Part.{Part}
 use Rattle.unix_path_c.specs.declared.walks.Walk.{Walk}
@@ -28,22 +28,23 @@ pub record EndsInName (s : List ℕ) (before start : ℕ) : Type 0 where
 -- the part was the first that was left of `old`, and the others are left of `new`
 pub record TakenInFront (path : List ℕ) (old new : Walk) (part : Part) : Type 0 where
   pub parts_are : parts_left path old ≡ part_in path part ∷ parts_left path new
-  pub values_are : values (left path old) ≡ part_value path part ∷ values (left path new)
+  pub values_are : values (bytes_left path old)
+      ≡ part_value path part ∷ values (bytes_left path new)
   pub bytes : part_bytes path part ≡ value_bytes (part_value path part)
   pub kind : part.kind < 4
-  pub left_is : left path new ≡ rest (left path old) 1 0
-  pub some : left path old ≡ [] → ⊥
+  pub left_is : bytes_left path new ≡ rest (bytes_left path old) 1 0
+  pub some : bytes_left path old ≡ [] → ⊥
   pub in_order : InOrder
       (old.front ∷ part.start ∷ part_end part ∷ new.front ∷ new.back ∷ old.back ∷ length path ∷ [])
 
 -- the part was the last that was left of `old`, and the others are left of `new`
 pub record TakenBehind (path : List ℕ) (old new : Walk) (part : Part) : Type 0 where
   pub parts_are : parts_left path old ≡ parts_left path new ++ part_in path part ∷ []
-  pub values_are : values (left path old)
-      ≡ values (left path new) ++ part_value path part ∷ []
+  pub values_are : values (bytes_left path old)
+      ≡ values (bytes_left path new) ++ part_value path part ∷ []
   pub bytes : part_bytes path part ≡ value_bytes (part_value path part)
   pub kind : part.kind < 4
-  pub left_is : left path new ≡ rest (left path old) 0 1
-  pub some : left path old ≡ [] → ⊥
+  pub left_is : bytes_left path new ≡ rest (bytes_left path old) 0 1
+  pub some : bytes_left path old ≡ [] → ⊥
   pub in_order : InOrder
       (old.front ∷ new.front ∷ new.back ∷ part.start ∷ part_end part ∷ old.back ∷ length path ∷ [])

@@ -13,8 +13,8 @@ InOrder (m ∷ []) = Unit {0}
 InOrder (m ∷ n ∷ places) = (m ≤ n) × InOrder (n ∷ places)
 
 -- the bytes between the walk's places; none where these don't lie in the path, in order
-unfoldable pub left : List ℕ → Walk → List ℕ
-left path walk =
+unfoldable pub bytes_left : List ℕ → Walk → List ℕ
+bytes_left path walk =
     if nat_le walk.front walk.back && nat_le walk.back (length path)
     then slice_range path walk.front walk.back else []
 
@@ -24,7 +24,7 @@ part_from at p = record { start = p.start + at; end = p.end + at; value = p.valu
 
 -- the parts of the bytes that are left, with their places in the path
 abbrev pub parts_left : List ℕ → Walk → List paths.Part
-parts_left path walk = map (part_from walk.front) (parts (left path walk))
+parts_left path walk = map (part_from walk.front) (parts (bytes_left path walk))
 
 -- the kind of a value: 0 for the root, 1 for `.`, 2 for `..`, and 3 for a name
 abbrev pub kind_of : Value → ℕ

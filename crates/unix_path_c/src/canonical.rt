@@ -4,10 +4,10 @@ ghost use Rattle.unix_path.specs.Parts.{values};
 ghost use Rattle.unix_path.specs.Steps.{gap_bytes};
 ghost use Rattle.unix_path.specs.Views.{value_of};
 ghost use Rattle.path_runs.specs.Spelling.{spelling_of};
-ghost use Rattle.unix_path_c.specs.Spelled.{gap_after};
+ghost use Rattle.unix_path_c.specs.Gaps.{gap_after};
 ghost use Rattle.unix_path_c.specs.Buffer.{buffer_after};
 
-use crate::spelled::own_spelling;
+use crate::spelling::own_spelling;
 use crate::writing::{mark_len, place_behind, place_whole};
 use unix_path::{Component, Path};
 

@@ -8,7 +8,7 @@ mod lossy;
 mod names;
 mod places;
 mod queries;
-mod spelled;
+mod spelling;
 #[cfg(test)]
 mod tests;
 mod walks;

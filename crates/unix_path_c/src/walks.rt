@@ -6,7 +6,7 @@ ghost use Rattle.unix_path.specs.Rest.{rest};
 ghost use Rattle.unix_path.specs.Views.{value_of};
 ghost use Rattle.unix_path_c.specs.Places.{place_bytes, place_end};
 ghost use Rattle.unix_path_c.specs.Steps.{TakenBehind, TakenInFront};
-ghost use Rattle.unix_path_c.specs.Walks.{InOrder, left, kind_of as kind_of_value};
+ghost use Rattle.unix_path_c.specs.Walks.{InOrder, bytes_left, kind_of as kind_of_value};
 ghost use Rattle.unix_path_c.specs.Walks.{part_bytes, part_end, part_in, part_value, parts_left};
 
 use crate::firsts::{NORMAL, first_part};
@@ -56,7 +56,7 @@ fn kind_of(part: Component<'_>) -> u32
 // The bytes that are left of a walk.
 #[inline]
 fn left_of<'a>(path: &'a [u8], walk: &Walk) -> Path<'a>
-    ensures { result.bytes.now ≡ left path.now walk.now }
+    ensures { result.bytes.now ≡ bytes_left path.now walk.now }
 {
     match path.get(walk.front..walk.back) {
         Some(left) => Path::from_bytes(left),
@@ -67,7 +67,7 @@ fn left_of<'a>(path: &'a [u8], walk: &Walk) -> Path<'a>
 // Takes the first part that is left, whatever its kind. Not inlined, so that most steps stay small.
 #[inline(never)]
 fn take_first(path: &[u8], walk: &mut Walk, part: &mut Part) -> bool
-    ensures ended { IsFalse result → (left path.now walk.old ≡ []) }
+    ensures ended { IsFalse result → (bytes_left path.now walk.old ≡ []) }
     ensures walk_stays { IsFalse result → walk.new ≡ walk.old }
     ensures part_stays { IsFalse result → part.new ≡ part.old }
     ensures taken { IsTrue result → TakenInFront path.now walk.old walk.new part.new }
@@ -93,7 +93,7 @@ fn take_first(path: &[u8], walk: &mut Walk, part: &mut Part) -> bool
 // Takes the last part that is left, whatever its kind. Not inlined, so that most steps stay small.
 #[inline(never)]
 fn take_last(path: &[u8], walk: &mut Walk, part: &mut Part) -> bool
-    ensures ended { IsFalse result → (left path.now walk.old ≡ []) }
+    ensures ended { IsFalse result → (bytes_left path.now walk.old ≡ []) }
     ensures walk_stays { IsFalse result → walk.new ≡ walk.old }
     ensures part_stays { IsFalse result → part.new ≡ part.old }
     ensures taken { IsTrue result → TakenBehind path.now walk.old walk.new part.new }
@@ -123,8 +123,8 @@ fn take_last(path: &[u8], walk: &mut Walk, part: &mut Part) -> bool
 #[unsafe(no_mangle)]
 pub extern "C" fn unix_path_components(path: &[u8], walk: &mut Walk)
     ensures parts { parts_left path.now walk.new ≡ parts path.now }
-    ensures values { values (left path.now walk.new) ≡ values path.now }
-    ensures left { left path.now walk.new ≡ rest path.now 0 0 }
+    ensures values { values (bytes_left path.now walk.new) ≡ values path.now }
+    ensures left { bytes_left path.now walk.new ≡ rest path.now 0 0 }
     ensures in_order { InOrder (walk.new.front ∷ walk.new.back ∷ length path.now ∷ []) }
 {
     let parts = Path::from_bytes(path).components();
@@ -143,17 +143,18 @@ pub extern "C" fn unix_path_components(path: &[u8], walk: &mut Walk)
 /// For `/tmp//foo/` it gives the root at 0, then `tmp` at 1, then `foo` at 6, and then none.
 #[unsafe(no_mangle)]
 pub extern "C" fn unix_path_next(path: &[u8], walk: &mut Walk, part: &mut Part) -> bool
-    ensures ended { IsFalse result ↔ (left path.now walk.old ≡ []) }
+    ensures ended { IsFalse result ↔ (bytes_left path.now walk.old ≡ []) }
     ensures walk_stays { IsFalse result → walk.new ≡ walk.old }
     ensures part_stays { IsFalse result → part.new ≡ part.old }
     ensures parts { IsTrue result →
         parts_left path.now walk.old ≡ part_in path.now part.new ∷ parts_left path.now walk.new }
-    ensures values { IsTrue result → values (left path.now walk.old)
-        ≡ part_value path.now part.new ∷ values (left path.now walk.new) }
+    ensures values { IsTrue result → values (bytes_left path.now walk.old)
+        ≡ part_value path.now part.new ∷ values (bytes_left path.now walk.new) }
     ensures bytes { IsTrue result →
         part_bytes path.now part.new ≡ value_bytes (part_value path.now part.new) }
     ensures kind { IsTrue result → part.new.kind < 4 }
-    ensures left { IsTrue result → left path.now walk.new ≡ rest (left path.now walk.old) 1 0 }
+    ensures left { IsTrue result
+        → bytes_left path.now walk.new ≡ rest (bytes_left path.now walk.old) 1 0 }
     ensures in_order { IsTrue result → InOrder (walk.old.front ∷ part.new.start
         ∷ part_end part.new ∷ walk.new.front ∷ walk.new.back ∷ walk.old.back
         ∷ length path.now ∷ []) }
@@ -183,17 +184,18 @@ pub extern "C" fn unix_path_next(path: &[u8], walk: &mut Walk, part: &mut Part) 
 /// For `/tmp//foo/` it gives `foo` at 6, then `tmp` at 1, then the root at 0, and then none.
 #[unsafe(no_mangle)]
 pub extern "C" fn unix_path_next_back(path: &[u8], walk: &mut Walk, part: &mut Part) -> bool
-    ensures ended { IsFalse result ↔ (left path.now walk.old ≡ []) }
+    ensures ended { IsFalse result ↔ (bytes_left path.now walk.old ≡ []) }
     ensures walk_stays { IsFalse result → walk.new ≡ walk.old }
     ensures part_stays { IsFalse result → part.new ≡ part.old }
     ensures parts { IsTrue result → parts_left path.now walk.old
         ≡ parts_left path.now walk.new ++ part_in path.now part.new ∷ [] }
-    ensures values { IsTrue result → values (left path.now walk.old)
-        ≡ values (left path.now walk.new) ++ part_value path.now part.new ∷ [] }
+    ensures values { IsTrue result → values (bytes_left path.now walk.old)
+        ≡ values (bytes_left path.now walk.new) ++ part_value path.now part.new ∷ [] }
     ensures bytes { IsTrue result →
         part_bytes path.now part.new ≡ value_bytes (part_value path.now part.new) }
     ensures kind { IsTrue result → part.new.kind < 4 }
-    ensures left { IsTrue result → left path.now walk.new ≡ rest (left path.now walk.old) 0 1 }
+    ensures left { IsTrue result
+        → bytes_left path.now walk.new ≡ rest (bytes_left path.now walk.old) 0 1 }
     ensures in_order { IsTrue result → InOrder (walk.old.front ∷ walk.new.front ∷ walk.new.back
         ∷ part.new.start ∷ part_end part.new ∷ walk.old.back ∷ length path.now ∷ []) }
 {
@@ -222,8 +224,9 @@ pub extern "C" fn unix_path_next_back(path: &[u8], walk: &mut Walk, part: &mut P
 /// For `/tmp//foo/` after one `unix_path_next` it is 8 bytes from 1 on, `tmp//foo`.
 #[unsafe(no_mangle)]
 pub extern "C" fn unix_path_as_path(path: &[u8], walk: &Walk, place: &mut Place)
-    ensures bytes { place_bytes path.now place.new ≡ rest (left path.now walk.now) 0 0 }
-    ensures values { values (place_bytes path.now place.new) ≡ values (left path.now walk.now) }
+    ensures bytes { place_bytes path.now place.new ≡ rest (bytes_left path.now walk.now) 0 0 }
+    ensures values { values (place_bytes path.now place.new)
+        ≡ values (bytes_left path.now walk.now) }
     ensures start { place.new.start ≡ min walk.now.front (length path.now) }
     ensures in_range { place_end place.new ≤ length path.now }
 {

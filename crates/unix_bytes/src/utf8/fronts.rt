@@ -8,7 +8,7 @@ use crate::utf8::classes::{is_lead, is_tail, leads_four, leads_three, leads_two,
 
 // Whether the bytes may begin with a sequence of two or more, by the ranges of the first two.
 #[inline(always)]
-#[tactic(auto, using(crate::proofs::BegunLemmas::pair_bounds))]
+#[tactic(auto, using(crate::proofs::HasBegunLemmas::pair_bounds))]
 pub(crate) fn may_begin(source: &[u8]) -> bool
     requires { 0 < length source.now }
     ensures { HasBegun source.now 2 → IsTrue result }
@@ -18,7 +18,7 @@ pub(crate) fn may_begin(source: &[u8]) -> bool
 
 // Whether there are two bytes that begin some sequence.
 #[inline(always)]
-#[tactic(auto, using(crate::proofs::BegunLemmas::beginnings))]
+#[tactic(auto, using(crate::proofs::HasBegunLemmas::beginnings))]
 fn begins_two(source: &[u8]) -> bool
     requires { 0 < length source.now }
     ensures { IsTrue result ↔ HasBegun source.now 2 }
@@ -28,7 +28,7 @@ fn begins_two(source: &[u8]) -> bool
 
 // Whether there are three bytes that begin some sequence, where the first leads three or more.
 #[inline(always)]
-#[tactic(auto, using(crate::proofs::BegunLemmas::all_beginnings))]
+#[tactic(auto, using(crate::proofs::HasBegunLemmas::all_beginnings))]
 fn begins_three(source: &[u8]) -> bool
     requires some { 0 < length source.now }
     requires least { 0xE0 ≤ slice_index source.now 0 }
@@ -39,7 +39,7 @@ fn begins_three(source: &[u8]) -> bool
 
 // Whether there are four bytes that begin some sequence, where the first leads four.
 #[inline(always)]
-#[tactic(auto, using(crate::proofs::BegunLemmas::all_beginnings))]
+#[tactic(auto, using(crate::proofs::HasBegunLemmas::all_beginnings))]
 pub(crate) fn begins_four(source: &[u8]) -> bool
     requires some { 0 < length source.now }
     requires least { 0xF0 ≤ slice_index source.now 0 }

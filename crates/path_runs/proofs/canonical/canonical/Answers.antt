@@ -23,7 +23,7 @@ returns c =
     let values_left = cursor_values c.components-parts.result in
     joins.bytes
     ∙ ap₂ join_all_of c.in_ok-spelling.ensures.bytes
-    (map-Drains bytes_of joins.paths (map value_bytes values_left) joins.drained
+    (map-Drains bytes_of joins.paths (map value_bytes values_left) joins.all_items
     (YieldsList-from_map_by _ bytes_of value_bytes
     (YieldsList-at c.map.ensures.source (Components-yields c.components-parts.result))
     c.map.ensures.closure

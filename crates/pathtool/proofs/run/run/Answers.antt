@@ -1,7 +1,7 @@
 use Rattle.std.proofs.Common.{◌∙◌, [], ap, append-nil}
 use Rattle.std.proofs.KnownBytes.{Appends-kept, Consumes-whole}
 use Rattle.pathtool.specs.Answers.{output_of}
-use Rattle.pathtool.proofs.WrittenLemmas.{AppendsBeginning-of}
+use Rattle.pathtool.proofs.WriteLemmas.{AppendsBeginning-of}
 use Rattle.pathtool.proofs.run.run.Goals as goal
 
 pub returns-then-is_err-clause-err : goal.returns-then-is_err-clause-err

@@ -1,6 +1,6 @@
 use Rattle.std.proofs.Common.{◌≡◌, ◌++◌, map, take}
 use Rattle.pathtool.specs.Fields.{tabs}
-use Rattle.pathtool.specs.Texts.{spelled}
+use Rattle.pathtool.specs.Texts.{row_spelling}
 use Rattle.pathtool.proofs.TableLemmas.{is_zero}
 use Rattle.pathtool.proofs.tables.push_all.Given as goal
 
@@ -9,4 +9,4 @@ abbrev pub invariant-loop-path : goal.invariant-loop-path
 invariant-loop-path l =
     (l.is_first ≡ is_zero l.path-index)
     × (l.answer.items
-    ≡ l.initial.answer.items ++ tabs (map spelled (take l.path-index l.paths)))
+    ≡ l.initial.answer.items ++ tabs (map row_spelling (take l.path-index l.paths)))

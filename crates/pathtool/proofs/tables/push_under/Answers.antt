@@ -1,7 +1,7 @@
 use Rattle.std.proofs.Common.{ap, ◌∙◌, map}
 use Rattle.pathtool.specs.Fields.{tabs}
 use Rattle.pathtool.specs.Others.{other_fields}
-use Rattle.pathtool.specs.Texts.{spelled}
+use Rattle.pathtool.specs.Texts.{row_spelling}
 use Rattle.pathtool.proofs.ListLemmas.{adds}
 use Rattle.pathtool.proofs.TableLemmas.{under_answer-found}
 use Rattle.pathtool.proofs.tables.push_under.Goals as goal
@@ -9,7 +9,7 @@ use Rattle.pathtool.proofs.tables.push_under.Goals as goal
 pub returns : goal.returns
 returns c =
     adds c.push_all.result _ _
-    (ap (λ paths. tabs (map spelled paths)) c.as_slice.ensures.value
+    (ap (λ paths. tabs (map row_spelling paths)) c.as_slice.ensures.value
     ∙ under_answer-found c.args.base.bytes.now (other_fields c.args.others) _ _ _
     c.in_ok-base.ensures c.in_ok-table.ensures c.in_ok-found.ensures)
     c.push_all.ensures

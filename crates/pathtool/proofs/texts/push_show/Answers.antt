@@ -1,7 +1,7 @@
 use Rattle.std.proofs.Common.{◌++◌, ap, ◌∙◌}
 use Rattle.std.specs.List.{flat_map}
 use Rattle.unix_bytes.specs.Chunks.{shown_chunk, chunks_of, chunks_left}
-use Rattle.unix_bytes.proofs.ChunkLemmas.{shown-chunks_of}
+use Rattle.unix_bytes.proofs.ChunkLemmas.{flat_map-shown_chunk}
 use Rattle.pathtool.proofs.texts.push_show.Goals as goal
 
 pub loop-chunk-init : goal.loop-chunk-init
@@ -11,4 +11,4 @@ loop-chunk-init c =
     (ap (λ it. flat_map shown_chunk (chunks_left it))
     c.into_iter-chunk-iterator.ensures.into_iter_gives
     ∙ ap (flat_map shown_chunk) (c.chunks-chunk-items.ensures.left ∙ ap chunks_of bytes)
-    ∙ shown-chunks_of c.args.path.bytes.now)
+    ∙ flat_map-shown_chunk c.args.path.bytes.now)

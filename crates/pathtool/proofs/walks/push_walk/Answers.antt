@@ -1,14 +1,14 @@
 use Rattle.std.proofs.Common.{sym, ◌∙◌, ap}
 use Rattle.pathtool.specs.Fields.{tabs}
 use Rattle.pathtool.specs.Texts.{walk_of}
-use Rattle.pathtool.proofs.AddedLemmas.{added}
+use Rattle.pathtool.proofs.AddLemmas.{adds_if_ok}
 use Rattle.pathtool.proofs.ListLemmas.{adds}
-use Rattle.pathtool.proofs.TakenLemmas.{walked_texts-walk_of, walk_answer-bad, walk_answer-turns}
+use Rattle.pathtool.proofs.TakeLemmas.{walked_texts-walk_of, walk_answer-bad, walk_answer-turns}
 use Rattle.pathtool.proofs.walks.push_walk.Goals as goal
 
 pub returns-then-not-are_turns : goal.returns-then-not-are_turns
 returns-then-not-are_turns c =
-    added c.extend_from_slice.result _ _
+    adds_if_ok c.extend_from_slice.result _ _
     (walk_answer-bad c.args.path.bytes.now c.args.letters.now
     (sym c.are_turns.ensures ∙ c.if-not-are_turns.true))
     c.extend_from_slice.ensures.items

@@ -4,15 +4,15 @@ use Rattle.std.proofs.lemmas.Iterator.Consumers.{YieldsList-at, YieldsList-from_
 use Rattle.unix_path.specs.Parts.{value_bytes}
 use Rattle.unix_path.specs.Views.{value_of}
 use Rattle.unix_path.proofs.CursorLemmas.{name_bytes}
-use Rattle.pathtool.proofs.AddedLemmas.{added_behind}
+use Rattle.pathtool.proofs.AddLemmas.{adds_behind}
 use Rattle.pathtool.proofs.ListLemmas.{adds_list, once_yields}
-use Rattle.pathtool.proofs.TakenLemmas.{tabs-counted}
+use Rattle.pathtool.proofs.TakeLemmas.{tabs-counted}
 use Rattle.pathtool.proofs.walks.push_walked.Goals as goal
 
 pub returns : goal.returns
 returns c =
     let walked = c.args.walked.now in
-    added_behind c.push_list.result _ _ _ _ _ c.in_ok-push_counts.ensures
+    adds_behind c.push_list.result _ _ _ _ _ c.in_ok-push_counts.ensures
     (tabs-counted _ _ _ walked.rest.bytes.now _)
     (adds_list c.push_list.result _ _
     (YieldsList-from_chain (YieldsList-at c.chain-2.ensures.first

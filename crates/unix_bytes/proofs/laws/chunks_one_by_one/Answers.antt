@@ -1,6 +1,6 @@
 use Rattle.unix_bytes.proofs.ChunkLemmas.{chunks_of-nil}
 use Rattle.unix_bytes.proofs.PartitionLemmas.{chunks_of_some}
-use Rattle.unix_bytes.proofs.laws.chunks_in_turn.Goals as goal
+use Rattle.unix_bytes.proofs.laws.chunks_one_by_one.Goals as goal
 
 pub returns-clause-nothing : goal.returns-clause-nothing
 returns-clause-nothing c = chunks_of-nil

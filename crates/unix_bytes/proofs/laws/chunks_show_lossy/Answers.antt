@@ -1,5 +1,5 @@
-use Rattle.unix_bytes.proofs.ChunkLemmas.{shown-chunks_of}
+use Rattle.unix_bytes.proofs.ChunkLemmas.{flat_map-shown_chunk}
 use Rattle.unix_bytes.proofs.laws.chunks_show_lossy.Goals as goal
 
 pub returns : goal.returns
-returns c = shown-chunks_of
+returns c = flat_map-shown_chunk

@@ -1,7 +1,7 @@
 use Rattle.unix_bytes.proofs.LossyLemmas.{lossy_of-append}
 use Rattle.unix_bytes.proofs.LawLemmas.{lossy_of_broken}
 use Rattle.unix_bytes.proofs.TextLemmas.{IsText-sequence}
-use Rattle.unix_bytes.proofs.laws.lossy_in_turn.Goals as goal
+use Rattle.unix_bytes.proofs.laws.lossy_one_by_one.Goals as goal
 
 pub returns-clause-sequence : goal.returns-clause-sequence
 returns-clause-sequence c = λ u s h. lossy_of-append u s (IsText-sequence u h)

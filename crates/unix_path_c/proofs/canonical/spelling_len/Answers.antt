@@ -3,8 +3,8 @@ use Rattle.unix_path.specs.Cursor.{cursor_values}
 use Rattle.unix_path.specs.Parts.{value_bytes}
 use Rattle.unix_path.specs.Steps.{gap_bytes}
 use Rattle.unix_path.specs.Views.{value_of}
-use Rattle.unix_path_c.specs.Spelled.{gap_after, spelled_behind}
-use Rattle.unix_path_c.proofs.SpelledLemmas.{spelled_behind-fits, spelled_behind-values}
+use Rattle.unix_path_c.specs.Gaps.{gap_after, spelling_behind}
+use Rattle.unix_path_c.proofs.GapLemmas.{spelling_behind-fits, spelling_behind-values}
 use Rattle.unix_path_c.proofs.WritingLemmas.{length-both}
 use Rattle.unix_path_c.proofs.canonical.spelling_len.Goals as goal
 use Rattle.unix_path_c.proofs.canonical.spelling_len.Goals.{After-len}
@@ -15,7 +15,7 @@ fits : (c : After-len)
 fits c =
     omega (
       arith,
-      spelled_behind-fits c.args.path.bytes.now (gap_bytes c.loop-part.gap)
+      spelling_behind-fits c.args.path.bytes.now (gap_bytes c.loop-part.gap)
           (value_of c.in-Some.part) (cursor_values c.next.new.self)
           c.loop-part.len c.loop-part.invariant.2
           c.in-Some.ensures.steps.item_is,
@@ -30,10 +30,10 @@ loop-part-init c = (
   tt,
   omega (
     arith,
-    ap length (ap (spelled_behind [])
+    ap length (ap (spelling_behind [])
         (ap cursor_values c.into_iter-part-iterator.ensures.into_iter_gives
         ∙ c.components-part-items.ensures.values)
-        ∙ spelled_behind-values c.args.path.bytes.now),
+        ∙ spelling_behind-values c.args.path.bytes.now),
   ),
 )
 
@@ -49,8 +49,8 @@ loop-part-preserved c =
     let v = value_of c.in-Some.part in
     let gap = gap_bytes c.loop-part.gap in
     let more = cursor_values c.next.new.self in
-    let next = length-both gap (value_bytes v) (spelled_behind (gap_after v) more)
-    (ap (spelled_behind gap) c.in-Some.ensures.steps.item_is) in (
+    let next = length-both gap (value_bytes v) (spelling_behind (gap_after v) more)
+    (ap (spelling_behind gap) c.in-Some.ensures.steps.item_is) in (
       tt,
       tt,
       omega (
@@ -60,12 +60,12 @@ loop-part-preserved c =
         c.mark_len.ensures,
         c.len.ensures,
         ap length c.as_unix_str.ensures,
-        ap (λ g. length (spelled_behind g more)) c.gap_after-gap.ensures,
+        ap (λ g. length (spelling_behind g more)) c.gap_after-gap.ensures,
       ),
     )
 
 pub returns : goal.returns
 returns c =
-    let none = ap (λ vs. length (spelled_behind (gap_bytes c.loop-part.gap) vs))
+    let none = ap (λ vs. length (spelling_behind (gap_bytes c.loop-part.gap) vs))
     c.in-None.ensures.steps.item_is.0 in
     omega (arith, c.loop-part.invariant.2, none)

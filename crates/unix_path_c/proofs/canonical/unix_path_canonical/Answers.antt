@@ -1,5 +1,5 @@
 use Rattle.std.proofs.Common.{length, ap, arith}
-use Rattle.unix_path_c.proofs.SpelledLemmas.{length-spelling_of}
+use Rattle.unix_path_c.proofs.GapLemmas.{length-spelling_of}
 use Rattle.unix_path_c.proofs.canonical.unix_path_canonical.Goals as goal
 use Rattle.unix_path_c.proofs.canonical.unix_path_canonical.Goals.{then-len-out+else-len-out-2}
 use Rattle.unix_path_c.proofs.canonical.unix_path_canonical.Goals.{else-len-out}

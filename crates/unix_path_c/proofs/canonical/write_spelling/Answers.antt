@@ -4,8 +4,8 @@ use Rattle.unix_path.specs.Parts.{value_bytes, values}
 use Rattle.unix_path.specs.Steps.{gap_bytes}
 use Rattle.unix_path.specs.Views.{value_of}
 use Rattle.path_runs.specs.Spelling.{spelling_of}
-use Rattle.unix_path_c.specs.Spelled.{gap_after, spelled_behind}
-use Rattle.unix_path_c.proofs.SpelledLemmas.{spelled_behind-values}
+use Rattle.unix_path_c.specs.Gaps.{gap_after, spelling_behind}
+use Rattle.unix_path_c.proofs.GapLemmas.{spelling_behind-values}
 use Rattle.unix_path_c.proofs.WritingLemmas.{writes_first, writes_next, writes_room}
 use Rattle.unix_path_c.proofs.WritingLemmas.{writes_end, writes_last}
 use Rattle.unix_path_c.proofs.canonical.write_spelling.Goals as goal
@@ -15,10 +15,10 @@ loop-part-init c = (
   tt,
   tt,
   writes_first (spelling_of (values c.args.path.bytes.now)) c.args.out.now
-      (ap (spelled_behind [])
+      (ap (spelling_behind [])
       (ap cursor_values c.into_iter-part-iterator.ensures.into_iter_gives
       ∙ c.components-part-items.ensures.values)
-      ∙ spelled_behind-values c.args.path.bytes.now),
+      ∙ spelling_behind-values c.args.path.bytes.now),
 )
 
 pub place_behind-at-requires : goal.place_behind-at-requires
@@ -28,9 +28,9 @@ place_behind-at-requires c =
     omega (
       arith,
       writes_room gap (value_bytes v)
-          (spelled_behind (gap_after v) (cursor_values c.next.new.self))
+          (spelling_behind (gap_after v) (cursor_values c.next.new.self))
           c.loop-part.invariant.2
-          (ap (spelled_behind gap) c.in-Some.ensures.steps.item_is) c.requires,
+          (ap (spelling_behind gap) c.in-Some.ensures.steps.item_is) c.requires,
       c.loop-part.auto.out,
       ap length (c.as_bytes.ensures ∙ c.as_unix_str.ensures),
     )
@@ -39,21 +39,21 @@ pub loop-part-preserved : goal.loop-part-preserved
 loop-part-preserved c =
     let gap = gap_bytes c.loop-part.gap in
     let more = cursor_values c.next.new.self in
-    let cut = ap (spelled_behind gap) c.in-Some.ensures.steps.item_is
-    ∙ ap₂ (λ bytes next. (gap ++ bytes) ++ spelled_behind next more)
+    let cut = ap (spelling_behind gap) c.in-Some.ensures.steps.item_is
+    ∙ ap₂ (λ bytes next. (gap ++ bytes) ++ spelling_behind next more)
     (sym (c.as_bytes.ensures ∙ c.as_unix_str.ensures)) (sym c.gap_after-gap.ensures) in (
       tt,
       tt,
-      writes_next gap c.as_bytes.result.now (spelled_behind (gap_bytes c.gap_after-gap.result) more)
-          c.loop-part.invariant.2 cut c.place_behind-at.ensures.out c.place_behind-at.ensures.end,
+      writes_next gap c.as_bytes.result.now
+          (spelling_behind (gap_bytes c.gap_after-gap.result) more) c.loop-part.invariant.2 cut c.place_behind-at.ensures.out c.place_behind-at.ensures.end,
     )
 
 pub returns-clause-out : goal.returns-clause-out
 returns-clause-out c =
     writes_last c.loop-part.invariant.2
-    (ap (spelled_behind (gap_bytes c.loop-part.gap)) c.in-None.ensures.steps.item_is.0) c.requires
+    (ap (spelling_behind (gap_bytes c.loop-part.gap)) c.in-None.ensures.steps.item_is.0) c.requires
 
 pub returns-clause-len : goal.returns-clause-len
 returns-clause-len c =
     writes_end c.loop-part.invariant.2
-    (ap (spelled_behind (gap_bytes c.loop-part.gap)) c.in-None.ensures.steps.item_is.0)
+    (ap (spelling_behind (gap_bytes c.loop-part.gap)) c.in-None.ensures.steps.item_is.0)

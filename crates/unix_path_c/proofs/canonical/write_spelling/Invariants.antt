@@ -2,7 +2,7 @@ use Rattle.unix_path.specs.Cursor.{cursor_values}
 use Rattle.unix_path.specs.Parts.{values}
 use Rattle.unix_path.specs.Steps.{gap_bytes}
 use Rattle.path_runs.specs.Spelling.{spelling_of}
-use Rattle.unix_path_c.specs.Spelled.{spelled_behind}
+use Rattle.unix_path_c.specs.Gaps.{spelling_behind}
 use Rattle.unix_path_c.proofs.WritingLemmas.{WritesOn}
 use Rattle.unix_path_c.proofs.canonical.write_spelling.Given as goal
 
@@ -12,4 +12,4 @@ invariant-loop-part l =
     (goal.iterator-loop-part).can_next l.part-iterator
     × (goal.iterator-loop-part).is_finite l.part-iterator
     × WritesOn (spelling_of (values l.fn.path.bytes.now)) l.initial.out l.at l.out
-    (spelled_behind (gap_bytes l.gap) (cursor_values l.part-iterator))
+    (spelling_behind (gap_bytes l.gap) (cursor_values l.part-iterator))

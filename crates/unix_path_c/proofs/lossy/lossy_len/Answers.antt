@@ -2,7 +2,7 @@ use Rattle.std.proofs.Common.{◌≡◌, ◌+◌, length, ap, ◌∙◌, lit<, a
 use Rattle.std.specs.List.{flat_map}
 use Rattle.unix_bytes.specs.Chunks.{chunks_left, chunks_of, shown_chunk}
 use Rattle.unix_bytes.specs.Lossy.{lossy_of}
-use Rattle.unix_bytes.proofs.ChunkLemmas.{shown-chunks_of}
+use Rattle.unix_bytes.proofs.ChunkLemmas.{flat_map-shown_chunk}
 use Rattle.unix_path_c.specs.SaturatedSize.{saturated_size}
 use Rattle.unix_path_c.proofs.lossy.lossy_len.Goals as goal
 
@@ -16,7 +16,7 @@ loop-chunk-init c =
           c.into_iter-chunk-iterator.ensures.into_iter_gives
           ∙ ap (flat_map shown_chunk) (c.chunks-chunk-items.ensures.left
           ∙ ap chunks_of c.from_bytes.ensures)
-          ∙ shown-chunks_of path),
+          ∙ flat_map-shown_chunk path),
     ) in
     (tt, tt, ap saturated_size all, lit< tt)
 

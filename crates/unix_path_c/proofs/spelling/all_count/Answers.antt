@@ -2,7 +2,7 @@ use Rattle.std.proofs.Common.{rules, tests}
 use Rattle.std.proofs.lemmas.Iterator.Search.{all_from_yields_List}
 use Rattle.std.proofs.lemmas.Iterator.Splits.{YieldsList-from_slice_split}
 use Rattle.unix_path.specs.Parts.{counts, is_slash}
-use Rattle.unix_path_c.proofs.spelled.all_count.Goals as goal
+use Rattle.unix_path_c.proofs.spelling.all_count.Goals as goal
 
 pub returns : goal.returns
 returns c =

@@ -2,7 +2,7 @@ use Rattle.std.proofs.Common.{◌≡◌, rules, sym, ap, length, length-drop, ta
 use Rattle.std.proofs.Math.Seq.{take-length}
 use Rattle.std.specs.Prelude.{slice_range}
 use Rattle.path_runs.proofs.OwnSpellingLemmas.{spelling_of-own_rooted, spelling_of-own_rootless}
-use Rattle.unix_path_c.proofs.spelled.is_spelled.Goals as goal
+use Rattle.unix_path_c.proofs.spelling.is_spelled.Goals as goal
 
 pub returns-then-has_root : goal.returns-then-has_root
 returns-then-has_root c h =

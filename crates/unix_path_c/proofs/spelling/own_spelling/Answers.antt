@@ -1,7 +1,7 @@
 use Rattle.std.proofs.Common.{sym, ap, ◌∙◌}
 use Rattle.path_runs.specs.Spelling.{spelling_of}
 use Rattle.unix_path.proofs.ParentLemmas.{values-whole}
-use Rattle.unix_path_c.proofs.spelled.own_spelling.Goals as goal
+use Rattle.unix_path_c.proofs.spelling.own_spelling.Goals as goal
 
 pub returns-then-is_spelled : goal.returns-then-is_spelled
 returns-then-is_spelled c =

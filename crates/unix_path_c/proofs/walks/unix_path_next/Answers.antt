@@ -1,17 +1,17 @@
 use Rattle.std.proofs.Common.{◌≡◌, ◌<◌, true, false, length, sym, ◌∙◌, arith, subst}
 use Rattle.std.proofs.lemmas.Bool.{eqb-false}
 use Rattle.unix_path_c.specs.Steps.{BeginsInPart}
-use Rattle.unix_path_c.specs.Walks.{left}
+use Rattle.unix_path_c.specs.Walks.{bytes_left}
 use Rattle.unix_path_c.proofs.StepLemmas.{takes_first_part, first_fits}
 use Rattle.unix_path_c.proofs.walks.unix_path_next.Goals as goal
 use Rattle.unix_path_c.proofs.walks.unix_path_next.Goals.{In-Some}
 
-some_left : (c : In-Some) → 0 < length (left c.args.path.now c.args.walk.now)
+some_left : (c : In-Some) → 0 < length (bytes_left c.args.path.now c.args.walk.now)
 some_left c = subst (λ s. 0 < length s) c.left_of.ensures
     (omega (arith, eqb-false _ 0 (sym c.is_empty.ensures ∙ c.if-is_empty.false)))
 
 begins_in_part : (c : In-Some)
-    → BeginsInPart (left c.args.path.now c.args.walk.now)
+    → BeginsInPart (bytes_left c.args.path.now c.args.walk.now)
     c.in-Some.length c.in-Some.step c.in-Some.kind
 begins_in_part c =
     subst (λ s. BeginsInPart s c.in-Some.length c.in-Some.step c.in-Some.kind)

@@ -1,17 +1,17 @@
 use Rattle.std.proofs.Common.{◌≡◌, ◌<◌, true, false, length, sym, ap, ◌∙◌, arith, subst}
 use Rattle.std.proofs.lemmas.Bool.{eqb-false}
 use Rattle.unix_path_c.specs.Steps.{EndsInName}
-use Rattle.unix_path_c.specs.Walks.{left}
+use Rattle.unix_path_c.specs.Walks.{bytes_left}
 use Rattle.unix_path_c.proofs.StepLemmas.{takes_last_name, last_fits}
 use Rattle.unix_path_c.proofs.walks.unix_path_next_back.Goals as goal
 use Rattle.unix_path_c.proofs.walks.unix_path_next_back.Goals.{In-Some}
 
-some_left : (c : In-Some) → 0 < length (left c.args.path.now c.args.walk.now)
+some_left : (c : In-Some) → 0 < length (bytes_left c.args.path.now c.args.walk.now)
 some_left c = subst (λ s. 0 < length s) c.left_of.ensures
     (omega (arith, eqb-false _ 0 (sym c.is_empty.ensures ∙ c.if-is_empty.false)))
 
 ends_in_name : (c : In-Some)
-    → EndsInName (left c.args.path.now c.args.walk.now) c.in-Some.before c.in-Some.start
+    → EndsInName (bytes_left c.args.path.now c.args.walk.now) c.in-Some.before c.in-Some.start
 ends_in_name c =
     subst (λ s. EndsInName s c.in-Some.before c.in-Some.start) c.left_of.ensures c.in-Some.ensures
 

@@ -5,7 +5,7 @@ use Rattle.unix_path.specs.Edits.{with_name_of}
 use Rattle.unix_path.specs.Rest.{rest}
 use Rattle.unix_path.proofs.EndLemmas.{last_or-push}
 use Rattle.path_runs.specs.declared.edits.Answer.TheVariants.{Plain, Flag}
-use Rattle.path_runs.proofs.NamedLemmas.{named_cut}
+use Rattle.path_runs.proofs.NameCutLemmas.{name_cut}
 use Rattle.path_runs.proofs.SiblingLemmas.{pop-answer, values-popped_of, parent_of-name}
 use Rattle.path_runs.proofs.SiblingLemmas.{values-with_name_of, rest-with_name_of}
 use Rattle.std.proofs.Common.{Some, None}
@@ -20,7 +20,7 @@ returns-clause-values c = values-popped_of
 pub returns-clause-parent : goal.returns-clause-parent
 returns-clause-parent c = λ s old n name f e.
     let t = with_name_of s n in
-    let cut = named_cut s old f in
+    let cut = name_cut s old f in
     parent_of-name t name (values (rest s 0 1)) (values-with_name_of s old n name f e)
     ∙ ap Some (rest-with_name_of s old n name f e)
     ∙ sym (parent_of-name s old (values cut.prefix) cut.before)

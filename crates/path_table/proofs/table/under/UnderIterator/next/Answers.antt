@@ -4,7 +4,7 @@ use Rattle.unix_path.specs.Parts.{values}
 use Rattle.unix_path.specs.Prefixes.{stripped_of}
 use Rattle.path_runs.specs.TableLaws.{rows_of}
 use Rattle.path_table.specs.Table.{entries_under}
-use Rattle.path_table.proofs.LeftLemmas.{values-stripped_of}
+use Rattle.path_table.proofs.StripLemmas.{values-stripped_of}
 use Rattle.path_table.proofs.NextLemmas.{next_ordered, next_not_before, none_left, one_fewer}
 use Rattle.path_table.proofs.UnderLemmas.{first_under}
 use Rattle.path_table.proofs.table.under.UnderIterator.next.Goals as goal
