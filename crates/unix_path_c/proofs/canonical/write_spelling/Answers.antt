@@ -38,14 +38,15 @@ place_behind-at-requires c =
 pub loop-part-preserved : goal.loop-part-preserved
 loop-part-preserved c =
     let gap = gap_bytes c.loop-part.gap in
+    let next = gap_bytes c.gap_after-gap.result in
     let more = cursor_values c.next.new.self in
     let cut = ap (spelling_behind gap) c.in-Some.ensures.steps.item_is
     ∙ ap₂ (λ bytes next. (gap ++ bytes) ++ spelling_behind next more)
     (sym (c.as_bytes.ensures ∙ c.as_unix_str.ensures)) (sym c.gap_after-gap.ensures) in (
       tt,
       tt,
-      writes_next gap c.as_bytes.result.now
-          (spelling_behind (gap_bytes c.gap_after-gap.result) more) c.loop-part.invariant.2 cut c.place_behind-at.ensures.out c.place_behind-at.ensures.end,
+      writes_next gap c.as_bytes.result.now (spelling_behind next more)
+          c.loop-part.invariant.2 cut c.place_behind-at.ensures.out c.place_behind-at.ensures.end,
     )
 
 pub returns-clause-out : goal.returns-clause-out
