@@ -1,3 +1,4 @@
+//! Tests of calls whose allocations fail, and of calls that need no memory.
 mod all_memory;
 mod buffers;
 mod copies;

@@ -1,4 +1,5 @@
-mod added;
+//! Rows of the commands, and readers and writers that fail.
+mod appends;
 mod faults;
 mod memory;
 mod refusals;
@@ -13,7 +14,7 @@ use std::process::Abort;
 use std::test::Fail;
 
 // What is written for an input.
-fn written(rt: &impl Abort, alloc: Global, input: &[u8]) -> Result<Vec<u8>, Fail> {
+fn output_for(rt: &impl Abort, alloc: Global, input: &[u8]) -> Result<Vec<u8>, Fail> {
     let mut reader = Watched::new(input);
     let mut writer = Watched::new(Vec::<u8>::new(alloc));
     assert_eq!(rt; run(alloc, &mut reader, &mut writer), Ok(()));
@@ -26,7 +27,7 @@ fn answers(rt: &impl Abort, alloc: Global, rows: &[(&str, &str)]) -> Result<(), 
     for (line, answer) in rows {
         let input = format!(in alloc; "{line}\n")?;
         let output = format!(in alloc; "{answer}\n")?;
-        let bytes = written(rt, alloc, input.as_bytes())?;
+        let bytes = output_for(rt, alloc, input.as_bytes())?;
         assert_eq!(rt; bytes.as_slice(), output.as_bytes(), "at {line}");
     }
     Ok(())
@@ -120,7 +121,7 @@ fn whole_inputs(rt: HostRuntime) -> Result<(), Fail> {
         ("parts\ta", "a\n"),
     ];
     for (input, output) in rows {
-        let bytes = written(&rt, rt.alloc(), input.as_bytes())?;
+        let bytes = output_for(&rt, rt.alloc(), input.as_bytes())?;
         assert_eq!(&rt; bytes.as_slice(), output.as_bytes(), "at {input}");
     }
     Ok(())
@@ -128,7 +129,7 @@ fn whole_inputs(rt: HostRuntime) -> Result<(), Fail> {
 
 #[test]
 fn any_bytes_are_a_path(rt: HostRuntime) -> Result<(), Fail> {
-    let bytes = written(&rt, rt.alloc(), b"parts\t\xff/\x00\r/\xc3\n")?;
+    let bytes = output_for(&rt, rt.alloc(), b"parts\t\xff/\x00\r/\xc3\n")?;
     assert_eq!(&rt; bytes.as_slice(), b"\xff\t\x00\r\t\xc3\n".as_slice());
     Ok(())
 }
@@ -207,7 +208,7 @@ fn read_errors_write_nothing(rt: HostRuntime) -> Result<(), Fail> {
 }
 
 // Runs to a writer with a fault, and answers what it has taken.
-fn written_before(
+fn output_before(
     rt: &impl Abort,
     alloc: Global,
     left: u32,
@@ -230,13 +231,13 @@ fn write_errors_end_the_run(rt: HostRuntime) -> Result<(), Fail> {
     let whole = b"a\tb\n.\tc\n".as_slice();
     for left in 0..8u32 {
         for fault in [Fault::Write, Fault::NoByte] {
-            let bytes = written_before(&rt, rt.alloc(), left, fault, Some(RunError::Write))?;
+            let bytes = output_before(&rt, rt.alloc(), left, fault, Some(RunError::Write))?;
             assert_eq!(&rt; bytes.as_slice(), &whole[..left as usize]);
         }
     }
-    let bytes = written_before(&rt, rt.alloc(), 0, Fault::Flush, Some(RunError::Write))?;
+    let bytes = output_before(&rt, rt.alloc(), 0, Fault::Flush, Some(RunError::Write))?;
     assert_eq!(&rt; bytes.as_slice(), whole);
-    let bytes = written_before(&rt, rt.alloc(), 0, Fault::None, None)?;
+    let bytes = output_before(&rt, rt.alloc(), 0, Fault::None, None)?;
     assert_eq!(&rt; bytes.as_slice(), whole);
     Ok(())
 }

@@ -1,5 +1,6 @@
-// One call a test, with ample memory here. tools/check_requests runs them with request number 1, 2,
-// 3 and so on refused: then a test answers `refused` where its call was, and left what it should.
+//! One call a test, with ample memory here. `tools/check_requests` runs the tests with request
+//! number 1, 2, 3 and so on refused: then a test fails with `refused` where its call was refused
+//! and left what it should.
 mod copies;
 mod edits;
 mod kept;
@@ -32,9 +33,9 @@ fn has_bytes(bytes: &UnixString, text: &str) -> bool {
     bytes.as_unix_str() == UnixStr::new(text)
 }
 
-// What a test says of its call: whether it was made, and whether it then gave what it should, or
-// else left what it should.
-fn told(is_made: bool, is_right: bool) -> Result<(), Fail> {
+// The result of a test: `refused` if its call was refused, and `wrong` if the call gave or left
+// anything else than it should.
+fn report(is_made: bool, is_right: bool) -> Result<(), Fail> {
     if !is_right {
         return Err(Fail::new("wrong"));
     }
@@ -44,10 +45,10 @@ fn told(is_made: bool, is_right: bool) -> Result<(), Fail> {
     Ok(())
 }
 
-// Of a call that gives a path.
-fn told_path(given: Result<PathBuf, AllocError>, text: &str) -> Result<(), Fail> {
+// The result of a test whose call gives a path.
+fn report_path(given: Result<PathBuf, AllocError>, text: &str) -> Result<(), Fail> {
     match given {
-        Ok(buffer) => told(true, holds(&buffer, text)),
-        Err(AllocError) => told(false, true),
+        Ok(buffer) => report(true, holds(&buffer, text)),
+        Err(AllocError) => report(false, true),
     }
 }

@@ -1,4 +1,4 @@
-// Calls that promise to succeed without memory, while every request is refused.
+//! Calls that promise to succeed without memory, while every request is refused.
 mod kept;
 mod owned;
 mod tables;
@@ -15,32 +15,32 @@ fn path(text: &str) -> Path<'_> {
     Path::from_text(text)
 }
 
-// Takes what is printed, and keeps its length alone.
+// A writer that keeps only how many bytes were written.
 #[derive(Drop)]
-struct Printed {
+struct Counter {
     len: usize,
 }
 
-impl Write for Printed {
+impl Write for Counter {
     fn write_str(&mut self, text: &str) -> fmt::Result {
         self.len = self.len.saturating_add(text.len());
         Ok(())
     }
 }
 
-// The debug form has so many bytes.
+// Whether the debug form has `len` bytes.
 fn debug_has<T: fmt::Debug>(value: &T, len: usize) -> bool {
-    let mut printed = Printed { len: 0 };
-    write!(printed, "{value:?}").is_ok() && printed.len == len
+    let mut counter = Counter { len: 0 };
+    write!(counter, "{value:?}").is_ok() && counter.len == len
 }
 
-// The printed form has so many bytes.
+// Whether the printed form has `len` bytes.
 fn display_has<T: fmt::Display>(value: &T, len: usize) -> bool {
-    let mut printed = Printed { len: 0 };
-    write!(printed, "{value}").is_ok() && printed.len == len
+    let mut counter = Counter { len: 0 };
+    write!(counter, "{value}").is_ok() && counter.len == len
 }
 
-// The two feed a hasher the same.
+// Whether both values feed a hasher the same.
 fn hash_same<A: Hash, B: Hash>(a: &A, b: &B) -> bool {
     let mut first = DefaultHasher::new();
     let mut second = DefaultHasher::new();

@@ -1,3 +1,4 @@
+//! Readers and writers that fail once, and how often each is called.
 use crate::run::{RunError, run};
 use crate::watched::Watched;
 use std::alloc::Global;
@@ -104,7 +105,7 @@ fn one_failed_read_ends_the_run(rt: HostRuntime) -> Result<(), Fail> {
 }
 
 // Runs to a writer with one fault, which ends the run, and answers what it took.
-fn written_before(
+fn output_before(
     rt: &impl Abort,
     alloc: Global,
     fault: Fault,
@@ -126,11 +127,11 @@ fn one_fault_of_a_writer_ends_the_run(rt: HostRuntime) -> Result<(), Fail> {
     let whole = b"a\tb\n.\tc\n".as_slice();
     for faulty in 0..8u32 {
         for fault in [Fault::Write, Fault::NoByte] {
-            let bytes = written_before(&rt, rt.alloc(), fault, faulty)?;
+            let bytes = output_before(&rt, rt.alloc(), fault, faulty)?;
             assert_eq!(&rt; bytes.as_slice(), &whole[..faulty as usize]);
         }
     }
-    let bytes = written_before(&rt, rt.alloc(), Fault::Flush, 0)?;
+    let bytes = output_before(&rt, rt.alloc(), Fault::Flush, 0)?;
     assert_eq!(&rt; bytes.as_slice(), whole);
     Ok(())
 }

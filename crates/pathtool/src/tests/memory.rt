@@ -1,3 +1,4 @@
+//! Runs over stored lines, whose requests for memory `tools/check_requests` refuses one by one.
 use crate::run::{RunError, run};
 use crate::watched::Watched;
 use std::alloc::Global;
@@ -15,7 +16,7 @@ const UNDER: &[u8] = b"under\t/a\t/a//b/./c\t/d\t/a/b/c\n";
 
 // With ample memory here. tools/check_requests refuses one request after the other: then what was
 // written is a beginning of the output.
-fn answered(alloc: Global, input: &[u8], output: &[u8]) -> Result<(), Fail> {
+fn check_answers(alloc: Global, input: &[u8], output: &[u8]) -> Result<(), Fail> {
     let mut reader = Watched::new(input);
     let mut writer = Watched::new(Vec::<u8>::with_capacity(alloc, 128)?);
     let result = run(alloc, &mut reader, &mut writer);
@@ -33,10 +34,10 @@ fn answered(alloc: Global, input: &[u8], output: &[u8]) -> Result<(), Fail> {
 
 #[test]
 fn stored_lines_answered(rt: HostRuntime) -> Result<(), Fail> {
-    answered(rt.alloc(), INPUT, OUTPUT)
+    check_answers(rt.alloc(), INPUT, OUTPUT)
 }
 
 #[test]
 fn under_answered(rt: HostRuntime) -> Result<(), Fail> {
-    answered(rt.alloc(), UNDER, b"b/c\n")
+    check_answers(rt.alloc(), UNDER, b"b/c\n")
 }

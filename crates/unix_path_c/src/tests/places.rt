@@ -1,4 +1,4 @@
-//! Rows of places. Those that are wanted are where Rust's slices stand in the path.
+//! Rows of places: where the slices that Rust's methods give stand in the path.
 ghost use Rattle.std.specs.Prelude.{◌≡◌, option_map};
 ghost use Rattle.unix_path.specs.Names.{file_name_of};
 ghost use Rattle.unix_path.specs.Parts.{values};
@@ -8,8 +8,8 @@ use crate::places::{
     unix_path_parent, unix_path_strip_prefix,
 };
 
-// What stands there before a call.
-const UNTOUCHED: Place = Place {
+// What the record holds before a call.
+const OLD_PLACE: Place = Place {
     start: 70,
     length: 90,
 };
@@ -18,11 +18,11 @@ const UNTOUCHED: Place = Place {
 fn is_answer(found: bool, place: Place, want: Option<(usize, usize)>) -> bool {
     match want {
         Some((start, length)) => found && place.start == start && place.length == length,
-        None => !found && place.start == UNTOUCHED.start && place.length == UNTOUCHED.length,
+        None => !found && place.start == OLD_PLACE.start && place.length == OLD_PLACE.length,
     }
 }
 
-// A path, and where its parent starts and how long it is.
+// A path, and where its parent starts and how many bytes the parent has.
 static PARENTS: [(&str, Option<(usize, usize)>); 14] = [
     ("", None),
     ("/", None),
@@ -41,7 +41,7 @@ static PARENTS: [(&str, Option<(usize, usize)>); 14] = [
 ];
 
 fn has_parent(row: &(&str, Option<(usize, usize)>)) -> bool {
-    let mut place = UNTOUCHED;
+    let mut place = OLD_PLACE;
     let found = unix_path_parent(row.0.as_bytes(), &mut place);
     is_answer(found, place, row.1)
 }
@@ -53,7 +53,7 @@ fn places_of_parents(rt: HostRuntime) {
     }
 }
 
-// A path, and where its file name starts and how long it is.
+// A path, and where its file name starts and how many bytes the name has.
 static NAMES: [(&str, Option<(usize, usize)>); 14] = [
     ("", None),
     ("/", None),
@@ -72,7 +72,7 @@ static NAMES: [(&str, Option<(usize, usize)>); 14] = [
 ];
 
 fn has_name(row: &(&str, Option<(usize, usize)>)) -> bool {
-    let mut place = UNTOUCHED;
+    let mut place = OLD_PLACE;
     let found = unix_path_file_name(row.0.as_bytes(), &mut place);
     is_answer(found, place, row.1)
 }
@@ -84,7 +84,7 @@ fn places_of_file_names(rt: HostRuntime) {
     }
 }
 
-// A path, and where its stem starts and how long it is.
+// A path, and where its stem starts and how many bytes the stem has.
 static STEMS: [(&str, Option<(usize, usize)>); 12] = [
     ("", None),
     ("/", None),
@@ -101,7 +101,7 @@ static STEMS: [(&str, Option<(usize, usize)>); 12] = [
 ];
 
 fn has_stem(row: &(&str, Option<(usize, usize)>)) -> bool {
-    let mut place = UNTOUCHED;
+    let mut place = OLD_PLACE;
     let found = unix_path_file_stem(row.0.as_bytes(), &mut place);
     is_answer(found, place, row.1)
 }
@@ -113,7 +113,7 @@ fn places_of_stems(rt: HostRuntime) {
     }
 }
 
-// A path, and where its extension starts and how long it is.
+// A path, and where its extension starts and how many bytes the extension has.
 static EXTENSIONS: [(&str, Option<(usize, usize)>); 13] = [
     ("", None),
     ("a.b/..", None),
@@ -131,7 +131,7 @@ static EXTENSIONS: [(&str, Option<(usize, usize)>); 13] = [
 ];
 
 fn has_extension(row: &(&str, Option<(usize, usize)>)) -> bool {
-    let mut place = UNTOUCHED;
+    let mut place = OLD_PLACE;
     let found = unix_path_extension(row.0.as_bytes(), &mut place);
     is_answer(found, place, row.1)
 }
@@ -143,7 +143,7 @@ fn places_of_extensions(rt: HostRuntime) {
     }
 }
 
-// A path, and where its file name's prefix starts and how long it is.
+// A path, and where its file name's prefix starts and how many bytes the prefix has.
 static PREFIXES: [(&str, Option<(usize, usize)>); 12] = [
     ("", None),
     ("/", None),
@@ -160,7 +160,7 @@ static PREFIXES: [(&str, Option<(usize, usize)>); 12] = [
 ];
 
 fn has_prefix(row: &(&str, Option<(usize, usize)>)) -> bool {
-    let mut place = UNTOUCHED;
+    let mut place = OLD_PLACE;
     let found = unix_path_file_prefix(row.0.as_bytes(), &mut place);
     is_answer(found, place, row.1)
 }
@@ -172,9 +172,9 @@ fn places_of_prefixes(rt: HostRuntime) {
     }
 }
 
-// A path, a base, and where what follows it starts and how long it is. In the last two rows Rust's
-// empty slices start at 4 and at 3.
-static STRIPPED: [(&str, &str, Option<(usize, usize)>); 17] = [
+// A path, a base, and where what follows the base starts and how many bytes that has. In the last
+// two rows Rust's empty slices start at 4 and at 3.
+static REMAINDERS: [(&str, &str, Option<(usize, usize)>); 17] = [
     ("foo/bar", "foo/ba", None),
     ("a", "a/b", None),
     ("/a", "a", None),
@@ -194,16 +194,16 @@ static STRIPPED: [(&str, &str, Option<(usize, usize)>); 17] = [
     ("a/.", "a", Some((1, 0))),
 ];
 
-fn is_stripped(row: &(&str, &str, Option<(usize, usize)>)) -> bool {
-    let mut place = UNTOUCHED;
+fn has_remainder(row: &(&str, &str, Option<(usize, usize)>)) -> bool {
+    let mut place = OLD_PLACE;
     let found = unix_path_strip_prefix(row.0.as_bytes(), row.1.as_bytes(), &mut place);
     is_answer(found, place, row.2)
 }
 
 #[test]
 fn places_behind_bases(rt: HostRuntime) {
-    for row in STRIPPED.iter() {
-        assert!(rt; is_stripped(row), "{} by {}", row.0, row.1);
+    for row in REMAINDERS.iter() {
+        assert!(rt; has_remainder(row), "{} by {}", row.0, row.1);
     }
 }
 
@@ -211,7 +211,7 @@ fn places_behind_bases(rt: HostRuntime) {
 fn read_file_name(path: &[u8]) -> Option<&[u8]>
     ensures { option_map (λ name. name.now) result ≡ file_name_of (values path.now) }
 {
-    let mut place = UNTOUCHED;
+    let mut place = OLD_PLACE;
     if !unix_path_file_name(path, &mut place) {
         return None;
     }

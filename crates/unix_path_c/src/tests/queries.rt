@@ -1,12 +1,12 @@
-//! Rows of the questions.
+//! Rows of questions about a path, or about two.
 use crate::queries::{
     unix_path_climbs, unix_path_common_dir, unix_path_compare, unix_path_ends_with,
     unix_path_equal, unix_path_hash, unix_path_is_absolute, unix_path_is_utf8,
     unix_path_starts_with,
 };
 
-// Two paths, whether the first starts and ends with the other, and their order; as Rust's std has
-// them.
+// Two paths, whether the first starts with the second, whether it ends with it, and their order, as
+// in Rust's std.
 static PAIRS: [(&'static str, &'static str, bool, bool, i32); 25] = [
     ("", "", true, true, 0),
     ("", "a", false, false, -1),
@@ -36,7 +36,7 @@ static PAIRS: [(&'static str, &'static str, bool, bool, i32); 25] = [
 ];
 
 // Two paths, and the place just after the last slash of what they both begin with.
-static FRONTS: [(&'static str, &'static str, usize); 8] = [
+static COMMON_DIRS: [(&'static str, &'static str, usize); 8] = [
     ("", "", 0),
     ("a/./b", "a/b", 2),
     ("a/b", "ab", 0),
@@ -63,7 +63,7 @@ static HASHES: [(&'static str, u64); 10] = [
 ];
 
 // A path, whether its bytes are UTF-8, whether it is absolute, and whether it climbs.
-static ALONE: [(&'static [u8], bool, bool, bool); 14] = [
+static SINGLE_PATHS: [(&'static [u8], bool, bool, bool); 14] = [
     (b"", true, false, false),
     (b"/tmp", true, true, true),
     (b"tmp/", true, false, false),
@@ -97,8 +97,8 @@ fn rows_of_pairs(rt: HostRuntime) {
 }
 
 #[test]
-fn rows_of_fronts(rt: HostRuntime) {
-    for (a, b, len) in FRONTS {
+fn rows_of_common_dirs(rt: HostRuntime) {
+    for (a, b, len) in COMMON_DIRS {
         let found = unix_path_common_dir(a.as_bytes(), b.as_bytes());
         assert_eq!(rt; found, len, "{a} {b}");
     }
@@ -113,7 +113,7 @@ fn rows_of_hashes(rt: HostRuntime) {
 
 #[test]
 fn rows_of_one_path(rt: HostRuntime) {
-    for (path, is_utf8, is_absolute, climbs) in ALONE {
+    for (path, is_utf8, is_absolute, climbs) in SINGLE_PATHS {
         assert_eq!(rt; unix_path_is_utf8(path), is_utf8, "{path:?}");
         assert_eq!(rt; unix_path_is_absolute(path), is_absolute, "{path:?}");
         assert_eq!(rt; unix_path_climbs(path), climbs, "{path:?}");

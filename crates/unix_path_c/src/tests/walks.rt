@@ -6,11 +6,11 @@ use crate::walks::{
 use std::alloc::{AllocError, Global};
 use std::test::Fail;
 
-// What a part says: where it starts, its length, and its kind.
-type Told = (usize, usize, u32);
+// The fields of a part: where it starts, its length, and its kind.
+type PartFields = (usize, usize, u32);
 
 // A path, and its parts.
-static WALKS: [(&'static str, &'static [Told]); 8] = [
+static WALKS: [(&'static str, &'static [PartFields]); 8] = [
     ("", &[]),
     ("/", &[(0, 1, 0)]),
     ("/tmp//foo/", &[(0, 1, 0), (1, 3, 3), (6, 3, 3)]),
@@ -29,7 +29,7 @@ static PATH: &'static [u8] = b"/a/./..//b";
 // How many strings of at most 4 of three bytes there are.
 const SHORTER_STRINGS: usize = 121;
 
-// The strings over these letters, shorter ones first, of which so many are the beginning of longer.
+// The strings over these letters, shorter ones first; the first `shorter` of them are made longer.
 fn strings_over(alloc: Global, letters: &[u8], shorter: usize) -> Result<Vec<Vec<u8>>, AllocError> {
     let mut strings = Vec::new(alloc);
     strings.push(Vec::new(alloc))?;
@@ -47,7 +47,7 @@ fn strings_over(alloc: Global, letters: &[u8], shorter: usize) -> Result<Vec<Vec
 }
 
 // A plain reading: the parts of bytes that stand at this place, cut at every slash.
-fn parts_at(alloc: Global, at: usize, bytes: &[u8]) -> Result<Vec<Told>, AllocError> {
+fn parts_at(alloc: Global, at: usize, bytes: &[u8]) -> Result<Vec<PartFields>, AllocError> {
     let mut parts = Vec::new(alloc);
     let mut start = at;
     for piece in bytes.split(|byte| *byte == b'/') {
@@ -67,8 +67,8 @@ fn parts_at(alloc: Global, at: usize, bytes: &[u8]) -> Result<Vec<Told>, AllocEr
     Ok(parts)
 }
 
-// What the part says.
-fn told(part: &Part) -> Told {
+// The fields of the part.
+fn fields_of(part: &Part) -> PartFields {
     (part.start, part.length, part.kind)
 }
 
@@ -82,26 +82,26 @@ fn no_part() -> Part {
 }
 
 // Whether these are the parts that come next in front.
-fn gives_front(path: &[u8], walk: &mut Walk, parts: &[Told]) -> bool {
+fn gives_first(path: &[u8], walk: &mut Walk, parts: &[PartFields]) -> bool {
     let mut part = no_part();
     let mut is_given = true;
     for want in parts {
-        is_given &= unix_path_next(path, walk, &mut part) && told(&part) == *want;
+        is_given &= unix_path_next(path, walk, &mut part) && fields_of(&part) == *want;
     }
     is_given
 }
 
 // Whether these are the parts that come next behind, the last of them first.
-fn gives_behind(path: &[u8], walk: &mut Walk, parts: &[Told]) -> bool {
+fn gives_last(path: &[u8], walk: &mut Walk, parts: &[PartFields]) -> bool {
     let mut part = no_part();
     let mut is_given = true;
     for want in parts.iter().rev() {
-        is_given &= unix_path_next_back(path, walk, &mut part) && told(&part) == *want;
+        is_given &= unix_path_next_back(path, walk, &mut part) && fields_of(&part) == *want;
     }
     is_given
 }
 
-// Whether the walk has ended at both ends, and such calls change nothing.
+// Whether the walk has ended at both ends, and calls of an ended walk change nothing.
 fn has_ended(path: &[u8], walk: &Walk) -> bool {
     let mut copy = *walk;
     let mut part = no_part();
@@ -110,11 +110,11 @@ fn has_ended(path: &[u8], walk: &Walk) -> bool {
     !is_taken
         && copy.front == walk.front
         && copy.back == walk.back
-        && told(&part) == told(&no_part())
+        && fields_of(&part) == fields_of(&no_part())
 }
 
 // Whether what is left reaches from the first of these parts to the last, in the path.
-fn reaches(path: &[u8], walk: &Walk, parts: &[Told]) -> bool {
+fn reaches(path: &[u8], walk: &Walk, parts: &[PartFields]) -> bool {
     let mut place = Place {
         start: 77,
         length: 77,
@@ -127,19 +127,19 @@ fn reaches(path: &[u8], walk: &Walk, parts: &[Told]) -> bool {
     }
 }
 
-// Whether a walk from here gives these parts, so many in front and the others behind.
-fn is_walked(path: &[u8], mut walk: Walk, parts: &[Told], front: usize) -> bool {
+// Whether a walk from here gives these parts, the first `front` in front and the others behind.
+fn is_walked(path: &[u8], mut walk: Walk, parts: &[PartFields], front: usize) -> bool {
     let (Some(before), Some(left)) = (parts.get(..front), parts.get(front..)) else {
         return false;
     };
     let is_whole = reaches(path, &walk, parts);
-    let is_front = gives_front(path, &mut walk, before);
+    let is_front = gives_first(path, &mut walk, before);
     let is_left = reaches(path, &walk, left);
-    let is_behind = gives_behind(path, &mut walk, left);
+    let is_behind = gives_last(path, &mut walk, left);
     is_whole && is_front && is_left && is_behind && has_ended(path, &walk)
 }
 
-// A walk over the whole path, made of one that has nothing to do with it.
+// A walk over the whole path, begun in a record that held other places.
 fn whole(path: &[u8]) -> Walk {
     let mut walk = Walk {
         front: usize::MAX,

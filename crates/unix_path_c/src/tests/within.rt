@@ -3,11 +3,11 @@ use crate::tests::rooms::holds;
 use crate::within::{unix_path_join_within, unix_path_resolved};
 use std::alloc::Global;
 
-// What a request is answered that would leave its root.
+// The answer to a request that would leave its root.
 const ESCAPES: usize = usize::MAX - 1;
 
 // A path, and what it resolves to, as Go's `path.Clean` has it; where that gives `.`, nothing.
-static RESOLVED: [(&'static str, &'static str); 12] = [
+static RESOLUTIONS: [(&'static str, &'static str); 12] = [
     ("", ""),
     (".", ""),
     ("/", "/"),
@@ -23,7 +23,7 @@ static RESOLVED: [(&'static str, &'static str); 12] = [
 ];
 
 // A root, a request, and their join within, unless it is refused.
-static WITHIN: [(&'static str, &'static str, Option<&'static str>); 13] = [
+static JOINS: [(&'static str, &'static str, Option<&'static str>); 13] = [
     ("/srv/www", "a/../b", Some("/srv/www/b")),
     ("/srv/www", "", Some("/srv/www")),
     ("/srv/www", ".", Some("/srv/www")),
@@ -71,14 +71,14 @@ fn is_joined(alloc: Global, root: &str, request: &str, want: Option<&str>) -> bo
 
 #[test]
 fn rows_resolved(rt: HostRuntime) {
-    for (path, want) in RESOLVED {
+    for (path, want) in RESOLUTIONS {
         assert!(rt; is_resolved(rt.alloc(), path, want), "{path}");
     }
 }
 
 #[test]
 fn rows_joined_within(rt: HostRuntime) {
-    for (root, request, want) in WITHIN {
+    for (root, request, want) in JOINS {
         let found = is_joined(rt.alloc(), root, request, want);
         assert!(rt; found, "{root} {request}");
     }

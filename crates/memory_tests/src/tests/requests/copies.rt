@@ -1,4 +1,5 @@
-use super::{path, told, told_path};
+//! Requests for memory of calls that make copies of paths.
+use super::{path, report, report_path};
 use serde_json::Value;
 use std::test::Fail;
 use unix_path::bytes::UnixStr;
@@ -7,12 +8,12 @@ use unix_path::{CowPath, ExtensionError, PathBuf};
 
 #[test]
 fn path_with_capacity(rt: HostRuntime) -> Result<(), Fail> {
-    told_path(PathBuf::with_capacity(rt.alloc(), 10), "")
+    report_path(PathBuf::with_capacity(rt.alloc(), 10), "")
 }
 
 #[test]
 fn path_from_bytes(rt: HostRuntime) -> Result<(), Fail> {
-    told_path(
+    report_path(
         PathBuf::from_unix_str(rt.alloc(), UnixStr::new("tmp/")),
         "tmp/",
     )
@@ -20,47 +21,47 @@ fn path_from_bytes(rt: HostRuntime) -> Result<(), Fail> {
 
 #[test]
 fn path_from_text(rt: HostRuntime) -> Result<(), Fail> {
-    told_path(PathBuf::from_text(rt.alloc(), "/tmp"), "/tmp")
+    report_path(PathBuf::from_text(rt.alloc(), "/tmp"), "/tmp")
 }
 
 #[test]
 fn path_from_view(rt: HostRuntime) -> Result<(), Fail> {
-    told_path(path("foo/").to_path_buf(rt.alloc()), "foo/")
+    report_path(path("foo/").to_path_buf(rt.alloc()), "foo/")
 }
 
 #[test]
 fn path_copied(rt: HostRuntime) -> Result<(), Fail> {
     let buffer = PathBuf::from_text(rt.alloc(), "foo/")?;
-    told_path(buffer.clone(), "foo/")
+    report_path(buffer.clone(), "foo/")
 }
 
 #[test]
 fn path_joined(rt: HostRuntime) -> Result<(), Fail> {
-    told_path(path("/etc").join(rt.alloc(), path("passwd")), "/etc/passwd")
+    report_path(path("/etc").join(rt.alloc(), path("passwd")), "/etc/passwd")
 }
 
 #[test]
 fn path_with_name(rt: HostRuntime) -> Result<(), Fail> {
     let name = UnixStr::new("bar.txt");
-    told_path(
+    report_path(
         path("/tmp/foo.txt").with_file_name(rt.alloc(), name),
         "/tmp/bar.txt",
     )
 }
 
-// Of a copy with another extension.
-fn told_copy(given: Result<PathBuf, ExtensionError>, text: &str) -> Result<(), Fail> {
+// The result of a test whose call gives a copy with another extension.
+fn report_copy(given: Result<PathBuf, ExtensionError>, text: &str) -> Result<(), Fail> {
     match given {
-        Ok(buffer) => told_path(Ok(buffer), text),
-        Err(ExtensionError::Memory(error)) => told_path(Err(error), text),
-        Err(ExtensionError::Separator) => told(true, false),
+        Ok(buffer) => report_path(Ok(buffer), text),
+        Err(ExtensionError::Memory(error)) => report_path(Err(error), text),
+        Err(ExtensionError::Separator) => report(true, false),
     }
 }
 
 #[test]
 fn path_with_extension(rt: HostRuntime) -> Result<(), Fail> {
     let extension = UnixStr::new("txt");
-    told_copy(
+    report_copy(
         path("foo.rs").with_extension(rt.alloc(), extension),
         "foo.txt",
     )
@@ -69,7 +70,7 @@ fn path_with_extension(rt: HostRuntime) -> Result<(), Fail> {
 #[test]
 fn path_with_added_extension(rt: HostRuntime) -> Result<(), Fail> {
     let extension = UnixStr::new("gz");
-    told_copy(
+    report_copy(
         path("foo.tar").with_added_extension(rt.alloc(), extension),
         "foo.tar.gz",
     )
@@ -79,12 +80,12 @@ fn path_with_added_extension(rt: HostRuntime) -> Result<(), Fail> {
 fn path_from_many(rt: HostRuntime) -> Result<(), Fail> {
     let items = [path("/"), path("feel"), path("the.force/to/this.end")];
     let given = PathBuf::from_iter(rt.alloc(), items.iter().copied());
-    told_path(given, "/feel/the.force/to/this.end")
+    report_path(given, "/feel/the.force/to/this.end")
 }
 
 #[test]
 fn path_owned(rt: HostRuntime) -> Result<(), Fail> {
-    told_path(
+    report_path(
         CowPath::Borrowed(path("foo/")).into_owned(rt.alloc()),
         "foo/",
     )
@@ -93,9 +94,9 @@ fn path_owned(rt: HostRuntime) -> Result<(), Fail> {
 #[test]
 fn path_to_json(rt: HostRuntime) -> Result<(), Fail> {
     match to_json(rt.alloc(), path("a//b")) {
-        Ok(Value::String(text)) => told(true, text.as_str() == "a//b"),
-        Err(JsonError::Memory(_)) => told(false, true),
-        _ => told(true, false),
+        Ok(Value::String(text)) => report(true, text.as_str() == "a//b"),
+        Err(JsonError::Memory(_)) => report(false, true),
+        _ => report(true, false),
     }
 }
 
@@ -103,8 +104,8 @@ fn path_to_json(rt: HostRuntime) -> Result<(), Fail> {
 fn path_from_json(rt: HostRuntime) -> Result<(), Fail> {
     let value = Value::String(String::from_str(rt.alloc(), "a//b")?);
     match from_json(rt.alloc(), &value) {
-        Ok(buffer) => told_path(Ok(buffer), "a//b"),
-        Err(JsonError::Memory(error)) => told_path(Err(error), ""),
-        Err(_) => told(true, false),
+        Ok(buffer) => report_path(Ok(buffer), "a//b"),
+        Err(JsonError::Memory(error)) => report_path(Err(error), ""),
+        Err(_) => report(true, false),
     }
 }

@@ -1,47 +1,48 @@
-use super::{holds, path, roomy, told};
+//! Requests for memory of edits of a buffer.
+use super::{holds, path, report, roomy};
 use std::alloc::AllocError;
 use std::test::Fail;
 use unix_path::bytes::UnixStr;
 use unix_path::{ExtensionError, PathBuf};
 
-// Of an edit of the path `before`.
-fn told_edit(
+// The result of a test whose call edits the path `before`.
+fn report_edit(
     edited: Result<(), AllocError>,
     buffer: &PathBuf,
     before: &str,
     after: &str,
 ) -> Result<(), Fail> {
     let is_made = edited.is_ok();
-    told(is_made, holds(buffer, if is_made { after } else { before }))
+    report(is_made, holds(buffer, if is_made { after } else { before }))
 }
 
 #[test]
 fn path_pushed(rt: HostRuntime) -> Result<(), Fail> {
     let mut buffer = PathBuf::from_text(rt.alloc(), "ab")?;
     let edited = buffer.push(path("cd"));
-    told_edit(edited, &buffer, "ab", "ab/cd")
+    report_edit(edited, &buffer, "ab", "ab/cd")
 }
 
 #[test]
 fn rooted_path_pushed(rt: HostRuntime) -> Result<(), Fail> {
     let mut buffer = PathBuf::from_text(rt.alloc(), "ab")?;
     let edited = buffer.push(path("/cd"));
-    told_edit(edited, &buffer, "ab", "/cd")
+    report_edit(edited, &buffer, "ab", "/cd")
 }
 
 #[test]
 fn name_set(rt: HostRuntime) -> Result<(), Fail> {
     let mut buffer = PathBuf::from_text(rt.alloc(), "a/bb")?;
     let edited = buffer.set_file_name(UnixStr::new("ccc"));
-    told_edit(edited, &buffer, "a/bb", "a/ccc")
+    report_edit(edited, &buffer, "a/bb", "a/ccc")
 }
 
-// Of an edit of the extension of `foo/.`.
-fn told_extension(edited: Result<bool, ExtensionError>, buffer: &PathBuf) -> Result<(), Fail> {
+// The result of a test whose call edits the extension of `foo/.`.
+fn report_extension(edited: Result<bool, ExtensionError>, buffer: &PathBuf) -> Result<(), Fail> {
     match edited {
-        Ok(is_made) => told(true, is_made && holds(buffer, "foo.bar")),
-        Err(ExtensionError::Memory(_)) => told(false, holds(buffer, "foo/.")),
-        Err(ExtensionError::Separator) => told(true, false),
+        Ok(is_made) => report(true, is_made && holds(buffer, "foo.bar")),
+        Err(ExtensionError::Memory(_)) => report(false, holds(buffer, "foo/.")),
+        Err(ExtensionError::Separator) => report(true, false),
     }
 }
 
@@ -49,14 +50,14 @@ fn told_extension(edited: Result<bool, ExtensionError>, buffer: &PathBuf) -> Res
 fn extension_set(rt: HostRuntime) -> Result<(), Fail> {
     let mut buffer = PathBuf::from_text(rt.alloc(), "foo/.")?;
     let edited = buffer.set_extension(UnixStr::new("bar"));
-    told_extension(edited, &buffer)
+    report_extension(edited, &buffer)
 }
 
 #[test]
 fn extension_added(rt: HostRuntime) -> Result<(), Fail> {
     let mut buffer = PathBuf::from_text(rt.alloc(), "foo/.")?;
     let edited = buffer.add_extension(UnixStr::new("bar"));
-    told_extension(edited, &buffer)
+    report_extension(edited, &buffer)
 }
 
 #[test]
@@ -64,7 +65,7 @@ fn path_with_room(rt: HostRuntime) -> Result<(), Fail> {
     let mut buffer = PathBuf::from_text(rt.alloc(), "foo")?;
     let is_made = buffer.reserve(6).is_ok();
     let has_room = buffer.capacity() >= 9;
-    told(is_made, has_room == is_made && holds(&buffer, "foo"))
+    report(is_made, has_room == is_made && holds(&buffer, "foo"))
 }
 
 #[test]
@@ -72,7 +73,7 @@ fn path_with_exact_room(rt: HostRuntime) -> Result<(), Fail> {
     let mut buffer = PathBuf::from_text(rt.alloc(), "foo")?;
     let is_made = buffer.reserve_exact(6).is_ok();
     let capacity = if is_made { 9 } else { 3 };
-    told(
+    report(
         is_made,
         buffer.capacity() == capacity && holds(&buffer, "foo"),
     )
@@ -83,7 +84,7 @@ fn path_without_room(rt: HostRuntime) -> Result<(), Fail> {
     let mut buffer = roomy(rt.alloc(), "foo")?;
     let is_made = buffer.shrink_to_fit().is_ok();
     let capacity = if is_made { 3 } else { 100 };
-    told(
+    report(
         is_made,
         buffer.capacity() == capacity && holds(&buffer, "foo"),
     )
@@ -94,14 +95,14 @@ fn path_with_less_room(rt: HostRuntime) -> Result<(), Fail> {
     let mut buffer = roomy(rt.alloc(), "foo")?;
     let is_made = buffer.shrink_to(5).is_ok();
     let capacity = if is_made { 5 } else { 100 };
-    told(
+    report(
         is_made,
         buffer.capacity() == capacity && holds(&buffer, "foo"),
     )
 }
 
-// What `ab` is after no push, and after each of three, all of which grow it.
-const EXTENDED: [&str; 4] = [
+// What `ab` is after no push, and after each of three, which all grow the buffer.
+const EXTENSIONS_OF_AB: [&str; 4] = [
     "ab",
     "ab/c",
     "ab/c/0123456789",
@@ -111,7 +112,7 @@ const EXTENDED: [&str; 4] = [
 // Whether the path holds what the pushes before the refused one left: the next is longer than its
 // capacity.
 fn is_cut_short(buffer: &PathBuf) -> bool {
-    let [none, one, two, three] = EXTENDED;
+    let [none, one, two, three] = EXTENSIONS_OF_AB;
     let next = if holds(buffer, none) {
         one
     } else if holds(buffer, one) {
@@ -133,8 +134,8 @@ fn path_extended(rt: HostRuntime) -> Result<(), Fail> {
         path("0123456789012345678901234567890123456789"),
     ];
     let is_made = buffer.extend(items.iter().copied()).is_ok();
-    let [_, _, _, whole] = EXTENDED;
-    told(
+    let [_, _, _, whole] = EXTENSIONS_OF_AB;
+    report(
         is_made,
         if is_made {
             holds(&buffer, whole)

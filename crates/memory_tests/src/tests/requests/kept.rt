@@ -1,86 +1,87 @@
-use super::{path, roomy, told, told_path};
+//! Requests for memory of calls that make boxed, shared, and borrowed or owned paths.
+use super::{path, report, report_path, roomy};
 use std::alloc::AllocError;
 use std::test::Fail;
 use unix_path::bytes::UnixStr;
 use unix_path::{BoxedPath, CowPath, PathBuf, RcPath};
 
-// Of a call that gives the boxed path `foo/`.
-fn told_boxed(given: Result<BoxedPath, AllocError>) -> Result<(), Fail> {
+// The result of a test whose call gives the boxed path `foo/`.
+fn report_boxed(given: Result<BoxedPath, AllocError>) -> Result<(), Fail> {
     match given {
-        Ok(boxed) => told(true, boxed.as_path().as_unix_str() == UnixStr::new("foo/")),
-        Err(AllocError) => told(false, true),
+        Ok(boxed) => report(true, boxed.as_path().as_unix_str() == UnixStr::new("foo/")),
+        Err(AllocError) => report(false, true),
     }
 }
 
-// Of a call that gives the shared path `foo/`.
-fn told_shared(given: Result<RcPath, AllocError>) -> Result<(), Fail> {
+// The result of a test whose call gives the shared path `foo/`.
+fn report_shared(given: Result<RcPath, AllocError>) -> Result<(), Fail> {
     match given {
-        Ok(shared) => told(true, shared.as_path().as_unix_str() == UnixStr::new("foo/")),
-        Err(AllocError) => told(false, true),
+        Ok(shared) => report(true, shared.as_path().as_unix_str() == UnixStr::new("foo/")),
+        Err(AllocError) => report(false, true),
     }
 }
 
 #[test]
 fn boxed_from_view(rt: HostRuntime) -> Result<(), Fail> {
-    told_boxed(BoxedPath::from_path(rt.alloc(), path("foo/")))
+    report_boxed(BoxedPath::from_path(rt.alloc(), path("foo/")))
 }
 
 #[test]
 fn boxed_from_buffer(rt: HostRuntime) -> Result<(), Fail> {
-    told_boxed(BoxedPath::from_path_buf(roomy(rt.alloc(), "foo/")?))
+    report_boxed(BoxedPath::from_path_buf(roomy(rt.alloc(), "foo/")?))
 }
 
 #[test]
 fn boxed_from_borrowed(rt: HostRuntime) -> Result<(), Fail> {
     let borrowed = CowPath::Borrowed(path("foo/"));
-    told_boxed(BoxedPath::from_cow(rt.alloc(), borrowed))
+    report_boxed(BoxedPath::from_cow(rt.alloc(), borrowed))
 }
 
 #[test]
 fn boxed_from_owned(rt: HostRuntime) -> Result<(), Fail> {
     let owned = CowPath::Owned(roomy(rt.alloc(), "foo/")?);
-    told_boxed(BoxedPath::from_cow(rt.alloc(), owned))
+    report_boxed(BoxedPath::from_cow(rt.alloc(), owned))
 }
 
 #[test]
 fn buffer_boxed(rt: HostRuntime) -> Result<(), Fail> {
-    told_boxed(roomy(rt.alloc(), "foo/")?.into_boxed_path())
+    report_boxed(roomy(rt.alloc(), "foo/")?.into_boxed_path())
 }
 
 #[test]
 fn boxed_copied(rt: HostRuntime) -> Result<(), Fail> {
     let boxed = BoxedPath::from_path(rt.alloc(), path("foo/"))?;
-    told_boxed(boxed.clone())
+    report_boxed(boxed.clone())
 }
 
 #[test]
 fn boxed_unboxed(rt: HostRuntime) -> Result<(), Fail> {
     let boxed = BoxedPath::from_path(rt.alloc(), path("foo/"))?;
-    told_path(boxed.into_path_buf(rt.alloc()), "foo/")
+    report_path(boxed.into_path_buf(rt.alloc()), "foo/")
 }
 
 #[test]
 fn shared_from_view(rt: HostRuntime) -> Result<(), Fail> {
-    told_shared(RcPath::from_path(rt.alloc(), path("foo/")))
+    report_shared(RcPath::from_path(rt.alloc(), path("foo/")))
 }
 
 #[test]
 fn shared_from_buffer(rt: HostRuntime) -> Result<(), Fail> {
     let buffer = PathBuf::from_text(rt.alloc(), "foo/")?;
-    told_shared(RcPath::from_path_buf(rt.alloc(), buffer))
+    report_shared(RcPath::from_path_buf(rt.alloc(), buffer))
 }
 
 #[test]
 fn shared_again(rt: HostRuntime) -> Result<(), Fail> {
     let shared = RcPath::from_path(rt.alloc(), path("foo/"))?;
-    told_shared(shared.clone())
+    report_shared(shared.clone())
 }
 
 #[test]
 fn owned_copied(rt: HostRuntime) -> Result<(), Fail> {
     let owned = CowPath::Owned(PathBuf::from_text(rt.alloc(), "foo/")?);
     match owned.clone() {
-        Ok(copy) => told(true, copy.as_path().as_unix_str() == UnixStr::new("foo/")),
-        Err(AllocError) => told(false, true),
+        Ok(copy) => report(true, copy.as_path().as_unix_str() == UnixStr::new("foo/")),
+        Err(AllocError) => report(false, true),
     }
 }

@@ -1,4 +1,5 @@
-use super::{holds, path, told, told_path};
+//! Requests for memory of calls that make spellings, joins, walks and lists of edits.
+use super::{holds, path, report, report_path};
 use path_runs::canonical::canonical;
 use path_runs::edits::{Edit, apply, rejoin};
 use path_runs::walk::{Turn, walk};
@@ -14,15 +15,15 @@ const SOURCE: &str = ".//01234567/./0123456789//01234567890123456789012345678901
 
 #[test]
 fn path_spelled(rt: HostRuntime) -> Result<(), Fail> {
-    told_path(canonical(rt.alloc(), path(SOURCE)), SPELLING)
+    report_path(canonical(rt.alloc(), path(SOURCE)), SPELLING)
 }
 
 #[test]
 fn path_rejoined(rt: HostRuntime) -> Result<(), Fail> {
     match rejoin(rt.alloc(), path("/a//b/."), path("/a/")) {
-        Ok(Some(joined)) => told_path(Ok(joined), "/a/b"),
-        Ok(None) => told(true, false),
-        Err(AllocError) => told(false, true),
+        Ok(Some(joined)) => report_path(Ok(joined), "/a/b"),
+        Ok(None) => report(true, false),
+        Err(AllocError) => report(false, true),
     }
 }
 
@@ -39,9 +40,9 @@ fn path_walked(rt: HostRuntime) -> Result<(), Fail> {
     match walk(rt.alloc(), path("/a/b/c/d/e/f"), turns.as_slice()) {
         Ok(walked) => {
             let is_right = walked.front.len() == 5 && walked.behind.len() == 1;
-            told(true, is_right && walked.rest == path("e"))
+            report(true, is_right && walked.rest == path("e"))
         }
-        Err(AllocError) => told(false, true),
+        Err(AllocError) => report(false, true),
     }
 }
 
@@ -64,8 +65,8 @@ fn edits_applied(rt: HostRuntime) -> Result<(), Fail> {
     ];
     let mut buffer = PathBuf::from_text(rt.alloc(), "ab")?;
     match apply(rt.alloc(), &mut buffer, edits.as_slice()) {
-        Ok(answers) => told(true, answers.len() == 3 && holds(&buffer, edited_text(3))),
-        Err(error) => told(
+        Ok(answers) => report(true, answers.len() == 3 && holds(&buffer, edited_text(3))),
+        Err(error) => report(
             false,
             error.done < 3 && holds(&buffer, edited_text(error.done)),
         ),

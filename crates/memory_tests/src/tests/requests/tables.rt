@@ -1,4 +1,5 @@
-use super::{holds, path, roomy, told};
+//! Requests for memory of tables of paths.
+use super::{holds, path, report, roomy};
 use path_table::PathTable;
 use std::alloc::{AllocError, Global};
 use std::test::Fail;
@@ -11,7 +12,7 @@ const TEXTS: [&str; 15] = [
 ];
 
 // A table of the first paths, with the place of each among them.
-fn filled(alloc: Global, count: usize) -> Result<PathTable<usize>, AllocError> {
+fn table_of(alloc: Global, count: usize) -> Result<PathTable<usize>, AllocError> {
     let mut table = PathTable::new(alloc);
     for place in 0..count.min(TEXTS.len()) {
         table.insert(PathBuf::from_text(alloc, TEXTS[place])?, place)?;
@@ -57,8 +58,8 @@ fn first_path_inserted(rt: HostRuntime) -> Result<(), Fail> {
     let mut table = PathTable::new(alloc);
     let key = PathBuf::from_text(alloc, "a//b")?;
     match table.insert(PathBuf::from_text(alloc, "a/b")?, 7usize) {
-        Ok(before) => told(true, before.is_none() && table.get(&key) == Some(&7)),
-        Err(AllocError) => told(false, is_empty(alloc, &table, &key)?),
+        Ok(before) => report(true, before.is_none() && table.get(&key) == Some(&7)),
+        Err(AllocError) => report(false, is_empty(alloc, &table, &key)?),
     }
 }
 
@@ -83,11 +84,11 @@ fn is_as_before(
 #[test]
 fn path_inserted(rt: HostRuntime) -> Result<(), Fail> {
     let alloc = rt.alloc();
-    let mut table = filled(alloc, TEXTS.len())?;
+    let mut table = table_of(alloc, TEXTS.len())?;
     let mut key = roomy(alloc, "a/c")?;
     match table.insert(PathBuf::from_text(alloc, "a/c")?, 7) {
-        Ok(before) => told(true, before.is_none() && has_one_more(&table, &mut key)?),
-        Err(AllocError) => told(false, is_as_before(alloc, &table, &mut key)?),
+        Ok(before) => report(true, before.is_none() && has_one_more(&table, &mut key)?),
+        Err(AllocError) => report(false, is_as_before(alloc, &table, &mut key)?),
     }
 }
 
@@ -95,21 +96,21 @@ fn path_inserted(rt: HostRuntime) -> Result<(), Fail> {
 #[test]
 fn equal_path_inserted(rt: HostRuntime) -> Result<(), Fail> {
     let alloc = rt.alloc();
-    let mut table = filled(alloc, 2)?;
+    let mut table = table_of(alloc, 2)?;
     let key = PathBuf::from_text(alloc, "a/b")?;
     match table.insert(PathBuf::from_text(alloc, "a//b/.")?, 7) {
-        Ok(before) => told(true, before == Some(1) && table.get(&key) == Some(&7)),
-        Err(AllocError) => told(false, table.get(&key) == Some(&1)),
+        Ok(before) => report(true, before == Some(1) && table.get(&key) == Some(&7)),
+        Err(AllocError) => report(false, table.get(&key) == Some(&1)),
     }
 }
 
 #[test]
 fn paths_under_a_base(rt: HostRuntime) -> Result<(), Fail> {
     let alloc = rt.alloc();
-    let table = filled(alloc, 7)?;
+    let table = table_of(alloc, 7)?;
     let base = PathBuf::from_text(alloc, "a/b/")?;
     match table.under(alloc, &base) {
-        Ok(found) => told(true, are_under(found.as_slice())),
-        Err(AllocError) => told(false, table.len() == 7 && holds(&base, "a/b/")),
+        Ok(found) => report(true, are_under(found.as_slice())),
+        Err(AllocError) => report(false, table.len() == 7 && holds(&base, "a/b/")),
     }
 }

@@ -1,3 +1,4 @@
+//! Rows of answers that are added behind what an answer already has.
 use crate::edits::push_edit;
 use crate::fields::Others;
 use crate::paths::{push_canon, push_join};
@@ -7,13 +8,13 @@ use std::process::Abort;
 use std::test::Fail;
 use unix_path::Path;
 
-// An answer that already has a byte, so that what is added stands behind it.
-fn begun(alloc: Global) -> Result<Vec<u8>, Fail> {
+// An answer that already has a byte, so that what is added stands behind that byte.
+fn new_answer(alloc: Global) -> Result<Vec<u8>, Fail> {
     Ok(Vec::from_slice(alloc, b">")?)
 }
 
-// What was added behind that byte.
-fn added(rt: &impl Abort, answer: &[u8], text: &[u8]) {
+// Asserts that this text, and nothing else, was added to a new answer.
+fn assert_appended(rt: &impl Abort, answer: &[u8], text: &[u8]) {
     assert_eq!(rt; answer.first().copied(), Some(b'>'));
     assert_eq!(rt; &answer[1..], text);
 }
@@ -29,9 +30,9 @@ fn paths_are_shown(rt: HostRuntime) -> Result<(), Fail> {
         (b"\xff", "\u{FFFD}"),
     ];
     for (path, text) in rows {
-        let mut answer = begun(rt.alloc())?;
+        let mut answer = new_answer(rt.alloc())?;
         push_show(Path { bytes: path }, &mut answer)?;
-        added(&rt, answer.as_slice(), text.as_bytes());
+        assert_appended(&rt, answer.as_slice(), text.as_bytes());
     }
     Ok(())
 }
@@ -54,9 +55,9 @@ fn paths_are_json(rt: HostRuntime) -> Result<(), Fail> {
         (b"f\xff", "path contains invalid UTF-8 characters"),
     ];
     for (path, text) in rows {
-        let mut answer = begun(rt.alloc())?;
+        let mut answer = new_answer(rt.alloc())?;
         push_json(Path { bytes: path }, &mut answer)?;
-        added(&rt, answer.as_slice(), text.as_bytes());
+        assert_appended(&rt, answer.as_slice(), text.as_bytes());
     }
     Ok(())
 }
@@ -71,9 +72,9 @@ fn paths_are_joined(rt: HostRuntime) -> Result<(), Fail> {
         (b"foo", b"/", b"/"),
     ];
     for (base, path, joined) in rows {
-        let mut answer = begun(rt.alloc())?;
+        let mut answer = new_answer(rt.alloc())?;
         push_join(Path { bytes: base }, Path { bytes: path }, &mut answer)?;
-        added(&rt, answer.as_slice(), joined);
+        assert_appended(&rt, answer.as_slice(), joined);
     }
     Ok(())
 }
@@ -89,9 +90,9 @@ fn canonical_paths(rt: HostRuntime) -> Result<(), Fail> {
         (b"././a", b"./a"),
     ];
     for (path, spelling) in rows {
-        let mut answer = begun(rt.alloc())?;
+        let mut answer = new_answer(rt.alloc())?;
         push_canon(Path { bytes: path }, &mut answer)?;
-        added(&rt, answer.as_slice(), spelling);
+        assert_appended(&rt, answer.as_slice(), spelling);
     }
     Ok(())
 }
@@ -125,9 +126,9 @@ fn paths_are_edited(rt: HostRuntime) -> Result<(), Fail> {
         (b"a", Others::Several(b"pop\tadd:x"), b"\ttrue\tfalse"),
     ];
     for (path, fields, edited) in rows {
-        let mut answer = begun(rt.alloc())?;
+        let mut answer = new_answer(rt.alloc())?;
         push_edit(Path { bytes: path }, fields, &mut answer)?;
-        added(&rt, answer.as_slice(), edited);
+        assert_appended(&rt, answer.as_slice(), edited);
     }
     Ok(())
 }
