@@ -101,7 +101,8 @@ fn comes_before(alloc: Global, less: &str, more: &str) -> Result<bool, AllocErro
     Ok(PathBuf::from_text(alloc, less)? < PathBuf::from_text(alloc, more)?)
 }
 
-static COMPARED: [(&str, &str, bool); 7] = [
+// Two paths, and whether they are equal.
+static COMPARISONS: [(&str, &str, bool); 7] = [
     ("a/b", "a/./b", true),
     ("a/b", "a/b/", true),
     ("a/b", "a/b/.", true),
@@ -114,7 +115,7 @@ static COMPARED: [(&str, &str, bool); 7] = [
 #[test]
 fn owned_paths_compare_by_their_parts(rt: HostRuntime) -> Result<(), Fail> {
     let alloc = rt.alloc();
-    for row in COMPARED.iter() {
+    for row in COMPARISONS.iter() {
         assert!(rt; are_equal(alloc, row.0, row.1)? == row.2, "{}", row.1);
     }
     assert!(rt; comes_before(alloc, "a/b", "a.b")?);

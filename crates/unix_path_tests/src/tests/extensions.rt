@@ -7,7 +7,8 @@ use std::test::Fail;
 use unix_bytes::bytes::UnixStr;
 use unix_path::{ExtensionError, PathBuf};
 
-static EXTENSIONS: [(&str, &str, &str, bool); 18] = [
+// A path, an extension, what the path becomes, and whether there is a file name.
+static EXTENSIONS_SET: [(&str, &str, &str, bool); 18] = [
     ("foo", "txt", "foo.txt", true),
     ("foo.bar", "txt", "foo.txt", true),
     ("foo.bar.baz", "txt", "foo.bar.txt", true),
@@ -44,7 +45,7 @@ fn takes_extension(
 
 #[test]
 fn an_extension_is_put_behind_the_stem(rt: HostRuntime) -> Result<(), Fail> {
-    for row in EXTENSIONS.iter() {
+    for row in EXTENSIONS_SET.iter() {
         let is_taken = takes_extension(rt.alloc(), row.0, row.1, row.2, row.3)?;
         assert!(rt; is_taken, "{} {}", row.0, row.1);
     }
@@ -69,7 +70,7 @@ fn a_name_can_vanish(rt: HostRuntime) -> Result<(), Fail> {
 }
 
 // A path, an extension, what the path becomes, and whether there is a file name.
-static ADDED: [(&str, &str, &str, bool); 13] = [
+static EXTENSIONS_ADDED: [(&str, &str, &str, bool); 13] = [
     ("foo.tar", "gz", "foo.tar.gz", true),
     ("foo.tar/.", "gz", "foo.tar.gz", true),
     ("a/b//", "c", "a/b.c", true),
@@ -101,7 +102,7 @@ fn adds_extension(
 
 #[test]
 fn an_extension_is_added_behind_the_name(rt: HostRuntime) -> Result<(), Fail> {
-    for row in ADDED.iter() {
+    for row in EXTENSIONS_ADDED.iter() {
         let is_added = adds_extension(rt.alloc(), row.0, row.1, row.2, row.3)?;
         assert!(rt; is_added, "{} {}", row.0, row.1);
     }

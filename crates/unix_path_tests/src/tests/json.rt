@@ -10,8 +10,8 @@ use unix_bytes::bytes::UnixStr;
 use unix_path::json::{JsonError, from_json, to_json};
 use unix_path::{Path, PathBuf};
 
-// What was written is read as the same bytes.
-fn reread(alloc: Global, path: Path<'_>) -> Result<PathBuf, JsonError>
+// The path that is read from the JSON value of `path`: it has the same bytes.
+fn write_then_read(alloc: Global, path: Path<'_>) -> Result<PathBuf, JsonError>
     ensures { IfOk result (λ p. path_bytes p ≡ path.entry.bytes.now) }
 {
     let value = to_json(alloc, path)?;
@@ -25,7 +25,7 @@ fn a_written_path_reads_back(rt: HostRuntime) -> Result<(), Fail> {
         let path = Path::new(UnixStr::new(text));
         assert_eq!(rt; to_json(alloc, path)?.as_str(), Some(text));
         assert_eq!(rt;
-            reread(alloc, path)?.as_path().as_unix_str(),
+            write_then_read(alloc, path)?.as_path().as_unix_str(),
             path.as_unix_str()
         );
     }

@@ -22,6 +22,7 @@ fn same_boxed(a: &BoxedPath, b: &BoxedPath) -> bool
     *a == *b
 }
 
+// What the value feeds a hasher.
 fn hash_input<T: Hash>(value: &T) -> RecordingHasher {
     let mut state = RecordingHasher::new();
     value.hash(&mut state);
@@ -84,7 +85,7 @@ fn all_types_compare_alike(rt: HostRuntime) -> Result<(), Fail> {
     Ok(())
 }
 
-// Whether each type of path with this text feeds a hasher that.
+// Whether each type of path with this text feeds a hasher this input.
 fn feed_alike(alloc: Global, text: &str, input: RecordingHasher) -> Result<bool, AllocError> {
     let (buffer, boxed, shared) = owners_of(alloc, text)?;
     let owners_do = hash_input(&buffer) == input && hash_input(&boxed) == input;

@@ -84,13 +84,15 @@ fn feed_path<H: Hasher>(a: Path<'_>, state: &mut H)
     a.hash(state);
 }
 
-fn fed(text: &str) -> RecordingHasher {
+// What the path feeds a hasher.
+fn hash_input(text: &str) -> RecordingHasher {
     let mut state = RecordingHasher::new();
     feed_path(path(text), &mut state);
     state
 }
 
-static ORDERED: [(&str, &str, Ordering); 18] = [
+// Two paths, and how the first compares with the second.
+static ORDERS: [(&str, &str, Ordering); 18] = [
     ("a/./b", "a/b", Ordering::Equal),
     ("foo", "foo", Ordering::Equal),
     ("a/b", "a.b", Ordering::Less),
@@ -111,6 +113,7 @@ static ORDERED: [(&str, &str, Ordering); 18] = [
     (".", "..", Ordering::Less),
 ];
 
+// Whether two paths, and walks over both, compare so; equal paths feed a hasher alike.
 fn is_ordered(a: &str, b: &str, order: Ordering) -> bool {
     let (p, q) = (path(a), path(b));
     let (walk, other) = (p.components(), q.components());
@@ -121,12 +124,12 @@ fn is_ordered(a: &str, b: &str, order: Ordering) -> bool {
         && order_walks(walk, other) == order
         && PartialOrd::partial_cmp(&walk, &other) == Some(order)
         && same_walks(walk, other) == order.is_eq()
-        && (!order.is_eq() || fed(a) == fed(b))
+        && (!order.is_eq() || hash_input(a) == hash_input(b))
 }
 
 #[test]
 fn rows_of_the_order(rt: HostRuntime) {
-    for row in ORDERED.iter() {
+    for row in ORDERS.iter() {
         assert!(rt; is_ordered(row.0, row.1, row.2), "{} {}", row.0, row.1);
     }
 }
@@ -175,7 +178,8 @@ fn walks_are_equal_by_what_is_left(rt: HostRuntime) {
     assert!(rt; same_walks(walk, path("a//b").components()));
 }
 
-fn components_go_by(kinds: &[Component<'_>]) -> bool {
+// Whether the components ascend, and no two are equal.
+fn are_ascending(kinds: &[Component<'_>]) -> bool {
     for (i, x) in kinds.iter().enumerate() {
         for (j, y) in kinds.iter().enumerate() {
             let same = same_components(*x, *y) == (i == j);
@@ -200,13 +204,13 @@ fn components_and_names(rt: HostRuntime) {
         names.0,
         names.1,
     ];
-    assert!(rt; components_go_by(&kinds));
+    assert!(rt; are_ascending(&kinds));
     assert!(rt; order_names(a, b) == Ordering::Less && order_names(b, a) == Ordering::Greater);
     assert!(rt; same_names(a, a) && !same_names(a, b));
 }
 
 // What paths feed a hasher, counted out by hand: each part, a slash, and zeros up to eight bytes.
-static FED: [(&str, &str); 14] = [
+static HASH_INPUTS: [(&str, &str); 14] = [
     ("", ""),
     ("/", "//\0\0\0\0\0\0"),
     ("./.", "./\0\0\0\0\0\0"),
@@ -226,23 +230,25 @@ static FED: [(&str, &str); 14] = [
     ),
 ];
 
+// Whether the path feeds a hasher the bytes of `input`.
 fn feeds(text: &str, input: &str) -> bool {
     let mut state = RecordingHasher::new();
     state.write(input.as_bytes());
-    fed(text) == state
+    hash_input(text) == state
 }
 
 #[test]
 fn rows_of_what_is_fed(rt: HostRuntime) {
-    for row in FED.iter() {
+    for row in HASH_INPUTS.iter() {
         assert!(rt; feeds(row.0, row.1), "{}", row.0);
     }
 }
 
+// Whether no two of the paths feed a hasher alike.
 fn feed_differently(texts: &[&str]) -> bool {
     for (i, a) in texts.iter().enumerate() {
         for (j, b) in texts.iter().enumerate() {
-            if (fed(a) == fed(b)) != (i == j) {
+            if (hash_input(a) == hash_input(b)) != (i == j) {
                 return false;
             }
         }
@@ -250,7 +256,8 @@ fn feed_differently(texts: &[&str]) -> bool {
     true
 }
 
-fn fed_component(part: Component<'_>) -> RecordingHasher {
+// What the component feeds a hasher.
+fn component_hash_input(part: Component<'_>) -> RecordingHasher {
     let mut state = RecordingHasher::new();
     feed_component(part, &mut state);
     state
@@ -259,12 +266,12 @@ fn fed_component(part: Component<'_>) -> RecordingHasher {
 #[test]
 fn paths_feed_their_components(rt: HostRuntime) {
     assert!(rt; feed_differently(&["a", "b", "/a", "./a", "..", "ab", "a/b", "b/a", "a\0", ""]));
-    let mut parts = fed_component(Component::Normal(UnixStr::new("a")));
+    let mut parts = component_hash_input(Component::Normal(UnixStr::new("a")));
     feed_component(Component::Normal(UnixStr::new("b")), &mut parts);
-    assert!(rt; fed("a//b") == parts && parts.len > 0);
+    assert!(rt; hash_input("a//b") == parts && parts.len > 0);
     let mut name = RecordingHasher::new();
     feed_name(UnixStr::new("a"), &mut name);
-    assert!(rt; name.len > 0 && name != fed("a"));
+    assert!(rt; name.len > 0 && name != hash_input("a"));
 }
 
 // A name `.` or `..` stands in no path; as a component it differs from what feeds the same.
@@ -273,8 +280,8 @@ fn components_may_feed_alike(rt: HostRuntime) {
     let dot = Component::Normal(UnixStr::new("."));
     let dots = Component::Normal(UnixStr::new(".."));
     assert!(rt; dot != Component::CurDir && dots != Component::ParentDir);
-    assert!(rt; fed_component(dot) == fed_component(Component::CurDir));
-    assert!(rt; fed_component(dots) == fed_component(Component::ParentDir));
+    assert!(rt; component_hash_input(dot) == component_hash_input(Component::CurDir));
+    assert!(rt; component_hash_input(dots) == component_hash_input(Component::ParentDir));
 }
 
 #[test]

@@ -8,6 +8,7 @@ use std::test::Fail;
 use unix_bytes::bytes::UnixStr;
 use unix_path::{Ancestors, Path};
 
+// A path and its parent.
 static PARENTS: [(&str, Option<&str>); 5] = [
     ("./foo/bar.txt", Some("./foo")),
     ("/tmp/foo/bar.txt", Some("/tmp/foo")),
@@ -23,6 +24,7 @@ fn parents(rt: HostRuntime) {
     }
 }
 
+// A path and its ancestors.
 static ANCESTORS: [(&str, &[&str]); 4] = [
     ("../a", &["../a", "..", ""]),
     ("/foo/bar", &["/foo/bar", "/foo", "/"]),
@@ -48,7 +50,7 @@ fn ancestors(rt: HostRuntime) {
 }
 
 // What a caller proves of a walk over the ancestors.
-fn listed(alloc: Global, walk: Ancestors<'_>) -> Result<Vec<Path<'_>>, AllocError>
+fn list_ancestors(alloc: Global, walk: Ancestors<'_>) -> Result<Vec<Path<'_>>, AllocError>
     ensures { IfOk result (λ list.
         map (λ path. path.bytes.now) list.items ≡ ancestors_left walk.entry) }
 {
@@ -57,7 +59,7 @@ fn listed(alloc: Global, walk: Ancestors<'_>) -> Result<Vec<Path<'_>>, AllocErro
 
 #[test]
 fn ancestors_are_collected(rt: HostRuntime) -> Result<(), Fail> {
-    let list = listed(rt.alloc(), path("/foo/bar").ancestors())?;
+    let list = list_ancestors(rt.alloc(), path("/foo/bar").ancestors())?;
     assert_eq!(rt; list.len(), 3);
     assert!(rt; list[1].as_unix_str() == UnixStr::new("/foo"));
     Ok(())

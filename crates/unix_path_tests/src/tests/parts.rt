@@ -11,7 +11,7 @@ type Parts = (
     Option<&'static str>,
 );
 
-static DECOMPOSED: [Parts; 28] = [
+static DECOMPOSITIONS: [Parts; 28] = [
     ("", &[], None, None),
     ("foo", &["foo"], Some(""), Some("foo")),
     ("/", &["/"], None, None),
@@ -109,13 +109,13 @@ fn views_keep_all_bytes(rt: HostRuntime) {
 
 #[test]
 fn decompositions(rt: HostRuntime) {
-    for row in DECOMPOSED.iter() {
+    for row in DECOMPOSITIONS.iter() {
         assert!(rt; decomposes(row), "{}", row.0);
     }
 }
 
 // A path, and the bytes of its parts.
-static LISTED: [(&str, &[&str]); 3] = [
+static LISTS_OF_PARTS: [(&str, &[&str]); 3] = [
     ("/tmp/foo/bar.txt", &["/", "tmp", "foo", "bar.txt"]),
     ("./tmp/foo/bar.txt", &[".", "tmp", "foo", "bar.txt"]),
     ("/tmp/foo.txt", &["/", "tmp", "foo.txt"]),
@@ -146,7 +146,7 @@ fn has_components(text: &str, parts: &[&str]) -> bool {
 
 #[test]
 fn lists_of_parts(rt: HostRuntime) {
-    for row in LISTED.iter() {
+    for row in LISTS_OF_PARTS.iter() {
         assert!(rt; has_components(row.0, row.1), "{}", row.0);
         assert!(rt;
             gives(row.0, row.1) && gives_back(row.0, row.1),

@@ -26,6 +26,7 @@ fn left_behind<'a>(path: Path<'a>, base: Path<'_>) -> Option<Path<'a>>
     }
 }
 
+// Whether the answer is a path of these bytes.
 fn is_written(answer: Option<Path<'_>>, text: &str) -> bool {
     match answer {
         Some(path) => path.as_unix_str() == UnixStr::new(text),
@@ -43,7 +44,8 @@ fn answers_lie_in_the_path(rt: HostRuntime) {
     assert!(rt; left_behind(path("a"), path("b")).is_none());
 }
 
-// Each answer outlives the view that gave it, and the view that it was asked with.
+// What a path answers: each answer outlives the view that gave it, and `left` outlives the base
+// that it was asked with.
 #[derive(Drop)]
 struct Answers<'a> {
     parent: Option<Path<'a>>,
@@ -56,6 +58,7 @@ struct Answers<'a> {
     rest: Path<'a>,
 }
 
+// The answers of a view that ends with this call.
 fn ask<'a>(text: &'a str) -> Answers<'a> {
     let p = path(text);
     let mut walk = p.components();

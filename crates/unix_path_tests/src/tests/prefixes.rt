@@ -4,7 +4,7 @@ use unix_bytes::bytes::UnixStr;
 
 // A path, another, whether they are equal, whether the first starts and ends with the other, and
 // what stripping leaves.
-type Compared = (
+type Comparison = (
     &'static str,
     &'static str,
     bool,
@@ -13,7 +13,7 @@ type Compared = (
     Option<&'static str>,
 );
 
-static COMPARED: [Compared; 26] = [
+static COMPARISONS: [Comparison; 26] = [
     ("", "", true, true, true, Some("")),
     ("foo", "", false, true, true, Some("foo")),
     ("", "foo", false, false, false, None),
@@ -77,25 +77,26 @@ static COMPARED: [Compared; 26] = [
     ("foo/bar", "foo/ba", false, false, false, None),
 ];
 
-fn stripped<'a>(text: &'a str, base: &str) -> Option<UnixStr<'a>> {
+// What stripping the base leaves, if the path starts with the base.
+fn strip<'a>(text: &'a str, base: &str) -> Option<UnixStr<'a>> {
     match path(text).strip_prefix(path(base)) {
         Ok(left) => Some(left.as_unix_str()),
         Err(_) => None,
     }
 }
 
-fn compares(row: &Compared) -> bool {
+fn compares(row: &Comparison) -> bool {
     let (text, other, equal, starts, ends, left) = *row;
     let (p, q) = (path(text), path(other));
     (p == q) == equal
         && p.starts_with(q) == starts
         && p.ends_with(q) == ends
-        && stripped(text, other) == view(left)
+        && strip(text, other) == view(left)
 }
 
 #[test]
 fn comparisons(rt: HostRuntime) {
-    for row in COMPARED.iter() {
+    for row in COMPARISONS.iter() {
         assert!(rt; compares(row), "{} {}", row.0, row.1);
     }
 }

@@ -27,6 +27,7 @@ static RESTS: [(&str, usize, usize, &str); 20] = [
     ("", 0, 0, ""),
 ];
 
+// Whether both walks leave these bytes after so many parts in front and behind.
 fn leaves(text: &str, front: usize, behind: usize, rest: &str) -> bool {
     let mut parts = path(text).components();
     let mut texts = path(text).iter();
@@ -66,6 +67,7 @@ fn a_root_is_given_from_behind(rt: HostRuntime) {
     assert!(rt; p.as_unix_str() == UnixStr::new("//"));
 }
 
+// Whether the component has these bytes, also as a path.
 fn is_written(part: Component<'_>, text: &str) -> bool {
     let want = UnixStr::new(text);
     part.as_unix_str() == want && part.as_path().as_unix_str() == want

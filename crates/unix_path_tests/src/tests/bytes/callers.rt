@@ -14,7 +14,7 @@ fn count(bytes: &[u8]) -> usize
     Utf8Lossy::from_bytes(bytes).chunks().count()
 }
 
-fn numbered<'a>(bytes: &'a [u8], n: usize) -> Option<(usize, Utf8LossyChunk<'a>)>
+fn nth_with_number<'a>(bytes: &'a [u8], n: usize) -> Option<(usize, Utf8LossyChunk<'a>)>
     ensures number { IfSome result (λ x. x.0 ≡ n) }
     ensures chunk { option_map (λ x. chunk_of x.1) result ≡ slice_get (chunks_of bytes.now) n }
 {
@@ -28,7 +28,7 @@ fn last<'a>(bytes: &'a [u8]) -> Option<Utf8LossyChunk<'a>>
     Utf8Lossy::from_bytes(bytes).chunks().last()
 }
 
-fn later<'a>(alloc: Global, bytes: &'a [u8]) -> Result<Vec<Utf8LossyChunk<'a>>, AllocError>
+fn all_but_first<'a>(alloc: Global, bytes: &'a [u8]) -> Result<Vec<Utf8LossyChunk<'a>>, AllocError>
     ensures { IfOk result (λ list. map chunk_of list.items ≡ drop 1 (chunks_of bytes.now)) }
 {
     Utf8Lossy::from_bytes(bytes).chunks().skip(1).collect(alloc)
@@ -52,9 +52,9 @@ fn chains_over_chunks(rt: HostRuntime) -> Result<(), Fail> {
     };
     assert_eq!(rt; count(bytes), 3);
     assert_eq!(rt; count(b""), 0);
-    assert_eq!(rt; numbered(bytes, 2), Some((2, end)));
+    assert_eq!(rt; nth_with_number(bytes, 2), Some((2, end)));
     assert_eq!(rt; last(bytes), Some(end));
-    assert_eq!(rt; later(alloc, bytes)?.len(), 2);
+    assert_eq!(rt; all_but_first(alloc, bytes)?.len(), 2);
     assert!(rt; is_unbroken(b"ab"));
     assert!(rt; !is_unbroken(bytes));
     Ok(())

@@ -27,14 +27,14 @@ fn widths_by_first_byte(rt: HostRuntime) {
 }
 
 // What a caller can prove of the chunks of some bytes that it collects.
-fn collected<'a>(alloc: Global, bytes: &'a [u8]) -> Result<Vec<Utf8LossyChunk<'a>>, AllocError>
+fn collect_chunks<'a>(alloc: Global, bytes: &'a [u8]) -> Result<Vec<Utf8LossyChunk<'a>>, AllocError>
     ensures { IfOk result (λ v. map chunk_of v.items ≡ chunks_of bytes.now) }
 {
     Utf8Lossy::from_bytes(bytes).chunks().collect(alloc)
 }
 
 // What a caller can prove of the text that it prints.
-fn displayed(alloc: Global, bytes: &[u8]) -> Result<String, AllocError>
+fn lossy_text(alloc: Global, bytes: &[u8]) -> Result<String, AllocError>
     ensures { IfOk result (λ text. string_bytes text ≡ lossy_of bytes.now) }
 {
     format!(in alloc; "{}", Utf8Lossy::from_bytes(bytes))
@@ -86,7 +86,7 @@ fn chunks_of_sources(rt: HostRuntime) -> Result<(), Fail> {
         (b"\xEF\xBF\xBD", &[("\u{FFFD}", b"")], "\u{FFFD}"),
     ];
     for (source, chunks, text) in rows {
-        let got = collected(alloc, source)?;
+        let got = collect_chunks(alloc, source)?;
         assert_eq!(rt; got.len(), chunks.len(), "{source:?}");
         for (chunk, (valid, broken)) in got.iter().zip(chunks) {
             assert!(rt;
@@ -94,7 +94,7 @@ fn chunks_of_sources(rt: HostRuntime) -> Result<(), Fail> {
                 "{source:?}"
             );
         }
-        assert_eq!(rt; displayed(alloc, source)?.as_str(), text);
+        assert_eq!(rt; lossy_text(alloc, source)?.as_str(), text);
         assert_eq!(rt;
             UnixStr::from_bytes(source).to_string_lossy(alloc)?.as_str(),
             text

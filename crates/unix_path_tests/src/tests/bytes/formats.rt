@@ -60,31 +60,31 @@ fn debug_texts(rt: HostRuntime) -> Result<(), Fail> {
 
 // A writer that takes `most` writes, and refuses all others.
 #[derive(Drop)]
-struct Refusing {
+struct RefusingWriter {
     text: String,
-    taken: usize,
+    accepted_writes: usize,
     most: usize,
-    refused: usize,
+    refused_writes: usize,
 }
 
-impl Refusing {
-    fn after(alloc: Global, most: usize) -> Refusing {
-        Refusing {
+impl RefusingWriter {
+    fn after(alloc: Global, most: usize) -> RefusingWriter {
+        RefusingWriter {
             text: String::new(alloc),
-            taken: 0,
+            accepted_writes: 0,
             most,
-            refused: 0,
+            refused_writes: 0,
         }
     }
 }
 
-impl fmt::Write for Refusing {
+impl fmt::Write for RefusingWriter {
     fn write_str(&mut self, text: &str) -> fmt::Result {
-        if self.most <= self.taken {
-            self.refused = self.refused.saturating_add(1);
+        if self.most <= self.accepted_writes {
+            self.refused_writes = self.refused_writes.saturating_add(1);
             return Err(fmt::Error);
         }
-        self.taken = self.taken.saturating_add(1);
+        self.accepted_writes = self.accepted_writes.saturating_add(1);
         self.text.push_str(text).map_err(|_| fmt::Error)
     }
 }
@@ -103,7 +103,7 @@ fn failing_writers(rt: HostRuntime) -> Result<(), Fail> {
         let mut has_failed = false;
         let mut has_ended = false;
         for most in 0..12 {
-            let mut writer = Refusing::after(alloc, most);
+            let mut writer = RefusingWriter::after(alloc, most);
             let answer = write!(writer, "{}", Utf8Lossy::from_bytes(bytes));
             assert!(rt; keeps_to(&writer, answer, whole), "{bytes:?} {most}");
             has_failed |= answer.is_err();
@@ -121,7 +121,7 @@ fn failing_writers_of_debug(rt: HostRuntime) -> Result<(), Fail> {
     let mut has_failed = false;
     let mut has_ended = false;
     for most in 0..12 {
-        let mut writer = Refusing::after(alloc, most);
+        let mut writer = RefusingWriter::after(alloc, most);
         let answer = write!(writer, "{:?}", UnixStr::from_bytes(b"a\xFF'"));
         assert!(rt; keeps_to(&writer, answer, "\"a\u{FFFD}'\""), "{most}");
         has_failed |= answer.is_err();
@@ -132,10 +132,10 @@ fn failing_writers_of_debug(rt: HostRuntime) -> Result<(), Fail> {
 }
 
 // Whether an error came from the one write that failed, or else the whole text was written.
-fn keeps_to(writer: &Refusing, answer: fmt::Result, whole: &str) -> bool {
+fn keeps_to(writer: &RefusingWriter, answer: fmt::Result, whole: &str) -> bool {
     let text = writer.text.as_str();
     match answer {
-        Ok(()) => writer.refused == 0 && text == whole,
-        Err(_) => writer.refused == 1 && whole.starts_with(text),
+        Ok(()) => writer.refused_writes == 0 && text == whole,
+        Err(_) => writer.refused_writes == 1 && whole.starts_with(text),
     }
 }

@@ -1,4 +1,4 @@
-//! The debug and display texts.
+//! Rows of debug texts of views and walks, and the text of the error of stripping.
 use std::alloc::{AllocError, Global};
 use std::fmt;
 use std::test::Fail;
