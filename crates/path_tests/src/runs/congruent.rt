@@ -10,7 +10,7 @@ fn text(s: &str) -> UnixStr<'_> {
     UnixStr::new(s)
 }
 
-fn is(path: &PathBuf, want: &str) -> bool {
+fn has_bytes(path: &PathBuf, want: &str) -> bool {
     path.as_path().as_unix_str() == text(want)
 }
 
@@ -73,8 +73,8 @@ fn equal_paths_stay_equal(rt: HostRuntime) -> Result<(), Fail> {
     for (edit, long, short, answer) in rows {
         let alike = is_alike(alloc, &mut longer, &mut shorter, edit, answer);
         assert!(rt; matches!(alike, Ok(true)), "{long}");
-        assert!(rt; is(&longer, long), "{long}");
-        assert!(rt; is(&shorter, short), "{short}");
+        assert!(rt; has_bytes(&longer, long), "{long}");
+        assert!(rt; has_bytes(&shorter, short), "{short}");
     }
     Ok(())
 }

@@ -21,7 +21,7 @@ fn extension(text: &str) -> Edit<'_> {
     Edit::SetExtension(UnixStr::new(text))
 }
 
-fn added(text: &str) -> Edit<'_> {
+fn added_extension(text: &str) -> Edit<'_> {
     Edit::AddExtension(UnixStr::new(text))
 }
 
@@ -70,10 +70,15 @@ fn rows_of_single_edits(rt: HostRuntime) -> Result<(), Fail> {
         ("a", push("b:c"), "a/b:c", Answer::Plain),
         ("a", extension("x/y"), "a", Answer::Separator),
         ("..", extension("x/y"), "..", Answer::Separator),
-        ("..", added("x/y"), "..", Answer::Separator),
-        ("..", added("x"), "..", Answer::Flag(false)),
-        ("a/.", added(""), "a/.", Answer::Flag(true)),
-        ("foo.tar/.", added("gz"), "foo.tar.gz", Answer::Flag(true)),
+        ("..", added_extension("x/y"), "..", Answer::Separator),
+        ("..", added_extension("x"), "..", Answer::Flag(false)),
+        ("a/.", added_extension(""), "a/.", Answer::Flag(true)),
+        (
+            "foo.tar/.",
+            added_extension("gz"),
+            "foo.tar.gz",
+            Answer::Flag(true),
+        ),
         ("foo/.", extension("bar"), "foo.bar", Answer::Flag(true)),
         ("foo/..", extension("bar"), "foo/..", Answer::Flag(false)),
         ("...", extension(""), "..", Answer::Flag(true)),

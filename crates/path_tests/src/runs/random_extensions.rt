@@ -33,7 +33,7 @@ fn ends_of(alloc: Global, path: &[u8]) -> Result<Option<(usize, usize)>, AllocEr
 }
 
 // The path up to this place, and then a dot and the extension, unless that is empty.
-fn extended(
+fn path_with_extension(
     alloc: Global,
     path: &[u8],
     end: usize,
@@ -79,8 +79,8 @@ fn is_extended(alloc: Global, bytes: &[u8], extension: &[u8]) -> Result<bool, Al
                 name
             };
             (
-                extended(alloc, bytes, stem, extension)?,
-                extended(alloc, bytes, added_end, extension)?,
+                path_with_extension(alloc, bytes, stem, extension)?,
+                path_with_extension(alloc, bytes, added_end, extension)?,
             )
         }
         _ => (

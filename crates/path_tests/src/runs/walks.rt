@@ -42,7 +42,7 @@ fn turns_of(alloc: Global, letters: &str) -> Result<Vec<Turn>, AllocError> {
     Ok(turns)
 }
 
-fn are(parts: &[Component<'_>], want: &[&str]) -> bool {
+fn have_bytes(parts: &[Component<'_>], want: &[&str]) -> bool {
     parts.len() == want.len()
         && parts
             .iter()
@@ -56,9 +56,9 @@ fn is_walked(alloc: Global, row: &Row) -> Result<bool, AllocError> {
     let turns = turns_of(alloc, letters)?;
     let walked = walk(alloc, Path::from_text(path), &turns)?;
     Ok(
-        are(&walked.front, front)
+        have_bytes(&walked.front, front)
             && walked.rest.as_unix_str() == UnixStr::new(rest)
-            && are(&walked.behind, behind),
+            && have_bytes(&walked.behind, behind),
     )
 }
 

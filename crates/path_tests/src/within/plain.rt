@@ -37,7 +37,7 @@ pub(super) fn pieces_left<'a>(alloc: Global, path: &'a [u8]) -> Result<Vec<&'a [
 }
 
 // The root, if there is one, and then the pieces with a slash between neighbours.
-pub(super) fn spelled(
+pub(super) fn spelling(
     alloc: Global,
     rooted: bool,
     pieces: &[&[u8]],
@@ -58,7 +58,7 @@ pub(super) fn spelled(
 // What a plain reading resolves the path to.
 pub(super) fn resolved_of(alloc: Global, path: &[u8]) -> Result<Vec<u8>, AllocError> {
     let pieces = pieces_left(alloc, path)?;
-    spelled(alloc, is_rooted(path), pieces.as_slice())
+    spelling(alloc, is_rooted(path), pieces.as_slice())
 }
 
 // Whether the path has a root, or some first pieces have more `..` than names.

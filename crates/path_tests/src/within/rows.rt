@@ -8,7 +8,7 @@ use std::test::Fail;
 use unix_path::Path;
 
 // A path, and what it resolves to.
-static RESOLVED: [(&'static str, &'static str); 16] = [
+static RESOLVED_PATHS: [(&'static str, &'static str); 16] = [
     ("", ""),
     (".", ""),
     ("/", "/"),
@@ -44,7 +44,7 @@ static CLIMBS: [(&'static str, bool); 12] = [
 ];
 
 // A root, a request, and their join within, unless it is refused.
-static WITHIN: [(&'static str, &'static str, Option<&'static str>); 14] = [
+static JOINS_WITHIN: [(&'static str, &'static str, Option<&'static str>); 14] = [
     ("/srv/www", "a/../b", Some("/srv/www/b")),
     ("/srv/www", "", Some("/srv/www")),
     ("/srv/www", ".", Some("/srv/www")),
@@ -62,7 +62,7 @@ static WITHIN: [(&'static str, &'static str, Option<&'static str>); 14] = [
 ];
 
 // A root, a request, and their plain join, unless it is refused.
-static PLAIN: [(&'static str, &'static str, Option<&'static str>); 9] = [
+static PLAIN_JOINS: [(&'static str, &'static str, Option<&'static str>); 9] = [
     ("/srv/../www", "./a", Some("/srv/../www/./a")),
     ("/srv/../www", "a//b/", Some("/srv/../www/a//b/")),
     ("/srv", "", Some("/srv/")),
@@ -111,7 +111,7 @@ fn is_way(alloc: Global, from: &str, to: &str, want: Option<&str>) -> Result<boo
 
 #[test]
 fn rows_resolved(rt: HostRuntime) -> Result<(), Fail> {
-    for (path, want) in RESOLVED {
+    for (path, want) in RESOLVED_PATHS {
         assert!(rt; is_resolved(rt.alloc(), path, want)?, "{path}");
     }
     Ok(())
@@ -127,14 +127,14 @@ fn rows_that_climb(rt: HostRuntime) {
 #[test]
 fn rows_joined(rt: HostRuntime) {
     let alloc = rt.alloc();
-    for (root, request, want) in WITHIN {
+    for (root, request, want) in JOINS_WITHIN {
         let joined = join_within(alloc, Path::from_text(root), Path::from_text(request));
         assert!(rt;
             is_joined(joined, want.map(|text| text.as_bytes())),
             "{request}"
         );
     }
-    for (root, request, want) in PLAIN {
+    for (root, request, want) in PLAIN_JOINS {
         let joined = join_plain(alloc, Path::from_text(root), Path::from_text(request));
         assert!(rt;
             is_joined(joined, want.map(|text| text.as_bytes())),
