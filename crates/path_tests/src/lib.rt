@@ -5,6 +5,8 @@
 #[cfg(test)]
 mod runs;
 #[cfg(test)]
+mod strings;
+#[cfg(test)]
 mod table;
 #[cfg(test)]
 mod within;

@@ -1,5 +1,6 @@
 //! All short paths, each walked by all short lists of turns.
 use super::plain::{Part, is_part, left_between, parts_of};
+use crate::strings::strings_over;
 use path_runs::walk::{Turn, walk};
 use std::alloc::{AllocError, Global};
 use std::test::Fail;
@@ -16,23 +17,7 @@ const LISTS: usize = 511;
 
 const SHORTER_LISTS: usize = 255;
 
-// The strings over these letters, shorter ones first; the first `shorter` of them are made longer.
-fn strings_over(alloc: Global, letters: &[u8], shorter: usize) -> Result<Vec<Vec<u8>>, AllocError> {
-    let mut strings = Vec::new(alloc);
-    strings.push(Vec::new(alloc))?;
-    for at in 0..shorter {
-        for letter in letters {
-            let mut longer = Vec::new(alloc);
-            if let Some(string) = strings.get(at) {
-                longer.extend_from_slice(string.as_slice())?;
-            }
-            longer.push(*letter)?;
-            strings.push(longer)?;
-        }
-    }
-    Ok(strings)
-}
-
+// The turns that the letters are: `f` is one in front, any other letter one behind.
 fn turns_of(alloc: Global, letters: &[u8]) -> Result<Vec<Turn>, AllocError> {
     let mut turns = Vec::new(alloc);
     for letter in letters {
@@ -54,7 +39,7 @@ fn lists_of_turns(alloc: Global) -> Result<Vec<Vec<Turn>>, AllocError> {
 }
 
 // How many of so many parts the turns take in front and behind.
-fn taken(turns: &[Turn], count: usize) -> (usize, usize) {
+fn parts_taken(turns: &[Turn], count: usize) -> (usize, usize) {
     let mut front = 0_usize;
     let mut behind = 0_usize;
     for turn in turns {
@@ -75,7 +60,7 @@ fn is_walked<'a>(
     parts: &[Part<'a>],
     turns: &[Turn],
 ) -> Result<bool, AllocError> {
-    let (front, behind) = taken(turns, parts.len());
+    let (front, behind) = parts_taken(turns, parts.len());
     let walked = walk(alloc, Path::from_bytes(path), turns)?;
     let Some(left) = parts.get(front..parts.len().saturating_sub(behind)) else {
         return Ok(false);
@@ -92,7 +77,7 @@ fn is_walked<'a>(
 }
 
 // How many of the lists of turns walk the path so.
-fn walked(alloc: Global, path: &[u8], lists: &[Vec<Turn>]) -> Result<usize, AllocError> {
+fn count_walks(alloc: Global, path: &[u8], lists: &[Vec<Turn>]) -> Result<usize, AllocError> {
     let parts = parts_of(alloc, path)?;
     let mut count = 0_usize;
     for turns in lists {
@@ -111,7 +96,11 @@ fn all_turns_over_all_short_paths(rt: HostRuntime) -> Result<(), Fail> {
     assert_eq!(rt; paths.len(), STRINGS);
     assert_eq!(rt; lists.len(), LISTS);
     for path in paths.iter() {
-        assert_eq!(rt; walked(alloc, path.as_slice(), &lists)?, LISTS, "{path:?}");
+        assert_eq!(rt;
+            count_walks(alloc, path.as_slice(), &lists)?,
+            LISTS,
+            "{path:?}"
+        );
     }
     Ok(())
 }

@@ -1,5 +1,6 @@
 //! All pairs of short paths: joins within, and ways.
-use super::{is_joined, plain, strings_over};
+use super::{is_joined, plain};
+use crate::strings::strings_over;
 use path_within::resolved::resolved;
 use path_within::way::way;
 use path_within::within::{join_plain, join_within};
@@ -26,7 +27,7 @@ struct Short<'a> {
 }
 
 // The path of these bytes, and what is asked of it.
-fn read(alloc: Global, bytes: &[u8]) -> Result<Short<'_>, AllocError> {
+fn read_path(alloc: Global, bytes: &[u8]) -> Result<Short<'_>, AllocError> {
     let path = Path::from_bytes(bytes);
     Ok(Short {
         path,
@@ -126,7 +127,7 @@ fn all_short_pairs(rt: HostRuntime) -> Result<(), Fail> {
     assert_eq!(rt; strings.len(), STRINGS);
     let mut paths = Vec::new(alloc);
     for string in strings.iter() {
-        paths.push(read(alloc, string.as_slice())?)?;
+        paths.push(read_path(alloc, string.as_slice())?)?;
     }
     for first in paths.iter() {
         for second in paths.iter() {

@@ -1,5 +1,6 @@
 //! All short paths, resolved.
-use super::{plain, strings_over};
+use super::plain;
+use crate::strings::strings_over;
 use path_runs::canonical::canonical;
 use path_within::resolved::resolved;
 use path_within::within::climbs;
