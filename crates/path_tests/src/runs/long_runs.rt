@@ -3,79 +3,141 @@ use path_runs::canonical::canonical;
 use std::alloc::{AllocError, Global};
 use std::test::Fail;
 use unix_bytes::lossy::{Utf8Lossy, Utf8LossyChunk};
-use unix_path::Path;
 use unix_path::bytes::UnixStr;
+use unix_path::{Path, PathBuf};
 
 // The piece, `count` times.
-fn repeated(alloc: Global, piece: &str, count: usize) -> Result<Vec<u8>, AllocError> {
+fn repeat(alloc: Global, piece: &[u8], count: usize) -> Result<Vec<u8>, AllocError> {
     let mut bytes = Vec::new(alloc);
     for _ in 0..count {
-        bytes.extend_from_slice(piece.as_bytes())?;
+        bytes.extend_from_slice(piece)?;
     }
     Ok(bytes)
 }
 
-// Whether the path has this part alone, from both ends, and is spelled so.
-fn is_one_part(alloc: Global, path: Path<'_>, part: UnixStr<'_>) -> Result<bool, AllocError> {
+// Whether these bytes were given.
+fn gives(answer: Option<UnixStr<'_>>, bytes: &[u8]) -> bool {
+    match answer {
+        Some(found) => found.as_bytes() == bytes,
+        None => false,
+    }
+}
+
+// Whether the path has this part alone, from both ends.
+fn has_one_part(path: Path<'_>, part: &[u8]) -> bool {
     let (mut walk, mut back) = (path.iter(), path.iter());
-    let is_part = walk.next() == Some(part) && back.next_back() == Some(part);
-    let is_alone = walk.next().is_none() && back.next_back().is_none();
-    let spelled = canonical(alloc, path)?;
-    Ok(is_part && is_alone && spelled.as_path().as_unix_str() == part)
+    gives(walk.next(), part)
+        && gives(back.next_back(), part)
+        && walk.next().is_none()
+        && back.next_back().is_none()
+}
+
+// Whether the path is spelled so, and equals its spelling.
+fn is_spelled(alloc: Global, path: Path<'_>, bytes: &[u8]) -> bool {
+    match canonical(alloc, path) {
+        Ok(spelled) => {
+            spelled.as_path().as_unix_str().as_bytes() == bytes && spelled.as_path() == path
+        }
+        Err(AllocError) => false,
+    }
+}
+
+// A piece, how many times it is repeated, and the one part that the path has then.
+static ROWS: [(&str, usize, &str); 4] = [
+    ("/", 100_000, "/"),
+    ("/.", 50_000, "/"),
+    ("./", 50_000, "."),
+    ("/./", 50_000, "/"),
+];
+
+// Whether the path has this part alone, is spelled so, and has no file name.
+fn is_one_part(alloc: Global, path: Path<'_>, part: &str) -> bool {
+    has_one_part(path, part.as_bytes())
+        && is_spelled(alloc, path, part.as_bytes())
+        && path.file_name().is_none()
+}
+
+// Whether the piece, `count` times, is so many bytes, and a path of this part alone.
+fn repeats_as(alloc: Global, piece: &str, count: usize, part: &str) -> bool {
+    match repeat(alloc, piece.as_bytes(), count) {
+        Ok(bytes) => {
+            piece.len().checked_mul(count) == Some(bytes.len())
+                && is_one_part(alloc, Path::from_bytes(&bytes), part)
+        }
+        Err(AllocError) => false,
+    }
 }
 
 #[test]
-fn runs_of_one_part(rt: HostRuntime) -> Result<(), Fail> {
-    let rows = [
-        ("/", 100_000, "/"),
-        ("/.", 50_000, "/"),
-        ("./", 50_000, "."),
-        ("/./", 50_000, "/"),
-    ];
-    for (piece, count, part) in rows {
-        let bytes = repeated(rt.alloc(), piece, count)?;
-        let path = Path::from_bytes(&bytes);
-        assert_eq!(rt; path.as_unix_str().len(), piece.len() * count);
-        assert!(rt;
-            is_one_part(rt.alloc(), path, UnixStr::new(part))?,
-            "{piece}"
-        );
-        assert!(rt; path.file_name().is_none(), "{piece}");
+fn runs_of_one_part(rt: HostRuntime) {
+    for row in ROWS.iter() {
+        assert!(rt; repeats_as(rt.alloc(), row.0, row.1, row.2), "{}", row.0);
     }
-    Ok(())
+}
+
+// Whether the path is one name of 100,000 dots, which is cut at the last dot, and at the second.
+fn is_name_of_dots(path: Path<'_>) -> bool {
+    let name = path.as_unix_str().as_bytes();
+    let Some((_, stem)) = name.split_last() else {
+        return false;
+    };
+    stem.len() == 99_999
+        && has_one_part(path, name)
+        && gives(path.file_name(), name)
+        && gives(path.file_stem(), stem)
+        && gives(path.extension(), b"")
+        && gives(path.file_prefix(), b".")
+}
+
+// Whether the buffer, a name of 100,000 dots, takes an added `x` and is two bytes longer then.
+fn takes_extension(buffer: &mut PathBuf) -> bool {
+    matches!(buffer.add_extension(UnixStr::new("x")), Ok(true))
+        && buffer.as_path().as_unix_str().len() == 100_002
+}
+
+// Whether the name of 100,000 dots is its own spelling, and a copy takes an added extension.
+fn keeps_its_dots(alloc: Global, path: Path<'_>) -> bool {
+    if !is_spelled(alloc, path, path.as_unix_str().as_bytes()) {
+        return false;
+    }
+    match path.to_path_buf(alloc) {
+        Ok(mut buffer) => takes_extension(&mut buffer),
+        Err(AllocError) => false,
+    }
 }
 
 #[test]
 fn a_name_of_dots(rt: HostRuntime) -> Result<(), Fail> {
-    let dots = repeated(rt.alloc(), ".", 100_000)?;
-    let stem = repeated(rt.alloc(), ".", 99_999)?;
-    let name = UnixStr::from_bytes(&dots);
-    let path = Path::new(name);
-    assert!(rt; is_one_part(rt.alloc(), path, name)?);
-    assert!(rt; path.file_name() == Some(name));
-    assert!(rt; path.file_stem() == Some(UnixStr::from_bytes(&stem)));
-    assert!(rt; path.extension() == Some(UnixStr::new("")));
-    assert!(rt; path.file_prefix() == Some(UnixStr::new(".")));
-    let mut added = path.to_path_buf(rt.alloc())?;
-    assert!(rt; added.add_extension(UnixStr::new("x"))?);
-    assert_eq!(rt; added.as_path().as_unix_str().len(), 100_002);
+    let dots = repeat(rt.alloc(), b".", 100_000)?;
+    let path = Path::from_bytes(&dots);
+    assert!(rt; is_name_of_dots(path) && keeps_its_dots(rt.alloc(), path));
     Ok(())
+}
+
+// Whether the path has 50,000 parts from either end, and one ancestor more.
+fn has_many_parts(path: Path<'_>) -> bool {
+    path.components().count() == 50_000
+        && path.components().rev().count() == 50_000
+        && path.ancestors().count() == 50_001
+}
+
+// Whether the path is spelled as 50,000 names with one slash between two, and equals its spelling.
+fn is_spelled_by_names(alloc: Global, path: Path<'_>) -> bool {
+    match repeat(alloc, b"a/", 50_000) {
+        Ok(names) => match names.split_last() {
+            Some((_, spelling)) => is_spelled(alloc, path, spelling),
+            None => false,
+        },
+        Err(AllocError) => false,
+    }
 }
 
 // 50,000 names, each with a dot piece and a slash too many behind it.
 #[test]
 fn many_names(rt: HostRuntime) -> Result<(), Fail> {
-    let alloc = rt.alloc();
-    let bytes = repeated(alloc, "a/.//", 50_000)?;
+    let bytes = repeat(rt.alloc(), b"a/.//", 50_000)?;
     let path = Path::from_bytes(&bytes);
-    assert_eq!(rt; path.components().count(), 50_000);
-    assert_eq!(rt; path.components().rev().count(), 50_000);
-    assert_eq!(rt; path.ancestors().count(), 50_001);
-    let spelled = canonical(alloc, path)?;
-    let mut plain = repeated(alloc, "a/", 49_999)?;
-    plain.push(b'a')?;
-    assert!(rt; spelled.as_path().as_unix_str() == UnixStr::from_bytes(&plain));
-    assert!(rt; spelled.as_path() == path);
+    assert!(rt; has_many_parts(path) && is_spelled_by_names(rt.alloc(), path));
     Ok(())
 }
 
@@ -91,22 +153,42 @@ fn replacements(text: &str) -> Option<u32> {
     Some(count)
 }
 
+// Whether each of 100,000 chunks is one broken byte, with no text in front.
+fn has_broken_chunks(bytes: &[u8]) -> bool {
+    let is_alone = |chunk: Utf8LossyChunk<'_>| chunk.valid.is_empty() && chunk.broken.len() == 1;
+    Utf8Lossy::from_bytes(bytes).chunks().count() == 100_000
+        && Utf8Lossy::from_bytes(bytes).chunks().all(is_alone)
+}
+
+// Whether the text is 100,000 replacement characters of three bytes each.
+fn is_replaced(text: &str) -> bool {
+    text.len() == 300_000 && replacements(text) == Some(100_000)
+}
+
+// Whether the path is displayed so.
+fn is_shown(alloc: Global, path: Path<'_>, text: &str) -> bool {
+    match format!(in alloc; "{}", path.display()) {
+        Ok(shown) => shown.as_str() == text,
+        Err(AllocError) => false,
+    }
+}
+
+// Whether the path is no text, and its lossy text is replacement characters, and is displayed.
+fn is_shown_replaced(alloc: Global, path: Path<'_>) -> bool {
+    match path.to_string_lossy(alloc) {
+        Ok(lossy) => {
+            path.to_str().is_none()
+                && is_replaced(lossy.as_str())
+                && is_shown(alloc, path, lossy.as_str())
+        }
+        Err(AllocError) => false,
+    }
+}
+
 #[test]
 fn many_broken_bytes(rt: HostRuntime) -> Result<(), Fail> {
-    let alloc = rt.alloc();
-    let mut bytes = Vec::new(alloc);
-    for _ in 0..100_000u32 {
-        bytes.push(0xFF)?;
-    }
+    let bytes = repeat(rt.alloc(), b"\xFF", 100_000)?;
     let path = Path::from_bytes(&bytes);
-    let chunks = Utf8Lossy::from_bytes(&bytes).chunks();
-    assert_eq!(rt; chunks.count(), 100_000);
-    let is_alone = |chunk: Utf8LossyChunk<'_>| chunk.valid.is_empty() && chunk.broken.len() == 1;
-    assert!(rt; Utf8Lossy::from_bytes(&bytes).chunks().all(is_alone));
-    let shown = format!(in alloc; "{}", path.display())?;
-    assert_eq!(rt; shown.len(), 300_000);
-    assert_eq!(rt; replacements(shown.as_str()), Some(100_000));
-    assert!(rt; path.to_str().is_none());
-    assert!(rt; path.to_string_lossy(alloc)?.as_str() == shown.as_str());
+    assert!(rt; has_broken_chunks(&bytes) && is_shown_replaced(rt.alloc(), path));
     Ok(())
 }
