@@ -1,8 +1,7 @@
 //! Long runs of slashes, dots and broken bytes.
 use path_runs::canonical::canonical;
 use std::alloc::{AllocError, Global};
-use std::test::Fail;
-use unix_bytes::lossy::{Utf8Lossy, Utf8LossyChunk};
+use unix_bytes::lossy::Utf8Lossy;
 use unix_path::bytes::UnixStr;
 use unix_path::{Path, PathBuf};
 
@@ -106,12 +105,20 @@ fn keeps_its_dots(alloc: Global, path: Path<'_>) -> bool {
     }
 }
 
+// Whether 100,000 dots are one name, their own spelling, and take an extension.
+fn dots_are_a_name(alloc: Global) -> bool {
+    match repeat(alloc, b".", 100_000) {
+        Ok(dots) => {
+            let path = Path::from_bytes(&dots);
+            is_name_of_dots(path) && keeps_its_dots(alloc, path)
+        }
+        Err(AllocError) => false,
+    }
+}
+
 #[test]
-fn a_name_of_dots(rt: HostRuntime) -> Result<(), Fail> {
-    let dots = repeat(rt.alloc(), b".", 100_000)?;
-    let path = Path::from_bytes(&dots);
-    assert!(rt; is_name_of_dots(path) && keeps_its_dots(rt.alloc(), path));
-    Ok(())
+fn a_name_of_dots(rt: HostRuntime) {
+    assert!(rt; dots_are_a_name(rt.alloc()));
 }
 
 // Whether the path has 50,000 parts from either end, and one ancestor more.
@@ -132,13 +139,21 @@ fn is_spelled_by_names(alloc: Global, path: Path<'_>) -> bool {
     }
 }
 
-// 50,000 names, each with a dot piece and a slash too many behind it.
+// Whether 50,000 names, each with a dot piece and a slash too many behind it, are parts, and are
+// spelled without those.
+fn names_are_parts(alloc: Global) -> bool {
+    match repeat(alloc, b"a/.//", 50_000) {
+        Ok(bytes) => {
+            let path = Path::from_bytes(&bytes);
+            has_many_parts(path) && is_spelled_by_names(alloc, path)
+        }
+        Err(AllocError) => false,
+    }
+}
+
 #[test]
-fn many_names(rt: HostRuntime) -> Result<(), Fail> {
-    let bytes = repeat(rt.alloc(), b"a/.//", 50_000)?;
-    let path = Path::from_bytes(&bytes);
-    assert!(rt; has_many_parts(path) && is_spelled_by_names(rt.alloc(), path));
-    Ok(())
+fn many_names(rt: HostRuntime) {
+    assert!(rt; names_are_parts(rt.alloc()));
 }
 
 // How many replacement characters the text has, if it has nothing else.
@@ -153,11 +168,14 @@ fn replacements(text: &str) -> Option<u32> {
     Some(count)
 }
 
-// Whether each of 100,000 chunks is one broken byte, with no text in front.
+// Whether there are 100,000 chunks, and each is one broken byte with no text in front.
 fn has_broken_chunks(bytes: &[u8]) -> bool {
-    let is_alone = |chunk: Utf8LossyChunk<'_>| chunk.valid.is_empty() && chunk.broken.len() == 1;
+    for chunk in Utf8Lossy::from_bytes(bytes).chunks() {
+        if !chunk.valid.is_empty() || chunk.broken.len() != 1 {
+            return false;
+        }
+    }
     Utf8Lossy::from_bytes(bytes).chunks().count() == 100_000
-        && Utf8Lossy::from_bytes(bytes).chunks().all(is_alone)
 }
 
 // Whether the text is 100,000 replacement characters of three bytes each.
@@ -185,10 +203,17 @@ fn is_shown_replaced(alloc: Global, path: Path<'_>) -> bool {
     }
 }
 
+// Whether 100,000 broken bytes are a chunk each, and are shown replaced.
+fn broken_bytes_are_replaced(alloc: Global) -> bool {
+    match repeat(alloc, b"\xFF", 100_000) {
+        Ok(bytes) => {
+            has_broken_chunks(&bytes) && is_shown_replaced(alloc, Path::from_bytes(&bytes))
+        }
+        Err(AllocError) => false,
+    }
+}
+
 #[test]
-fn many_broken_bytes(rt: HostRuntime) -> Result<(), Fail> {
-    let bytes = repeat(rt.alloc(), b"\xFF", 100_000)?;
-    let path = Path::from_bytes(&bytes);
-    assert!(rt; has_broken_chunks(&bytes) && is_shown_replaced(rt.alloc(), path));
-    Ok(())
+fn many_broken_bytes(rt: HostRuntime) {
+    assert!(rt; broken_bytes_are_replaced(rt.alloc()));
 }
