@@ -121,7 +121,8 @@ impl PathBuf {
         }
         // The room for both comes first, so that a refusal leaves the bytes as they were.
         self.inner.reserve(1 + path.bytes.len())?;
-        push_end(&mut self.inner, Some(b'/'), path.bytes)
+        self.inner.push(UnixStr::from_bytes(b"/"))?;
+        self.inner.push(path.as_unix_str())
     }
 
     // Replaces all bytes. It isn't inlined, so that `push`, which always is, stays small.
