@@ -1,6 +1,7 @@
 //! Rows of the calls' answers, and what no clause says.
 mod buffers;
 mod bytes;
+mod debug_texts;
 mod display;
 mod edits;
 mod extensions;
@@ -16,5 +17,4 @@ mod prefixes;
 mod readme;
 mod recording_hasher;
 mod rests;
-mod texts;
 mod views;
