@@ -13,8 +13,8 @@ use Rattle.unix_path.proofs.PartLemmas.{root_first, root_first-values, values-ni
 use Rattle.unix_path.proofs.PieceLemmas.{first_piece, slice_split-first}
 use Rattle.path_runs.specs.JoinLaws.{drop_dot, drop_lead, values_added}
 use Rattle.path_runs.proofs.AssociativeLemmas.{join_of-nil}
-use Rattle.unix_path.specs.Fronts.{inner_values}
-use Rattle.unix_path.proofs.FrontLemmas.{inner_values-nil, values-leading}
+use Rattle.unix_path.specs.CommonDir.{inner_values}
+use Rattle.unix_path.proofs.CommonPrefixLemmas.{inner_values-nil, values-leading}
 use Rattle.path_runs.proofs.ValueLemmas.{append_values}
 use Rattle.path_runs.proofs.ValueLemmas.{values-join_of, values-join_of_rootless}
 

@@ -9,7 +9,7 @@ use Rattle.unix_path.specs.Parts.{parts_of_pieces}
 use Rattle.unix_path.specs.Parts.{counts, value_of_piece, inner_parts, is_rooted, values}
 use Rattle.unix_path.proofs.CaseLemmas.{by_test}
 use Rattle.path_runs.proofs.LeadLemmas.{dot_first, lead_by, values-lead}
-use Rattle.unix_path.specs.Fronts.{inner_values}
+use Rattle.unix_path.specs.CommonDir.{inner_values}
 
 -- the values of the pieces that count
 abbrev pub names_of : List (List ℕ) → List Value

@@ -18,7 +18,7 @@ use Rattle.path_runs.specs.EditLaws.{IsOneName}
 use Rattle.path_runs.proofs.AssociativeLemmas.{separator, is_open-separator, join_of-separator}
 use Rattle.path_runs.proofs.BehindLemmas.{rest-behind, rest-separator, values-separator}
 use Rattle.path_runs.proofs.LeadLemmas.{drop_lead-values}
-use Rattle.unix_path.specs.Fronts.{inner_values}
+use Rattle.unix_path.specs.CommonDir.{inner_values}
 use Rattle.path_runs.proofs.ValueLemmas.{append_values, values-join_of_rootless}
 
 -- a path whose last value is a name has a parent

@@ -13,7 +13,7 @@ use Rattle.path_runs.specs.JoinLaws.{drop_lead}
 use Rattle.path_runs.proofs.AssociativeLemmas.{join_of-nil}
 use Rattle.path_runs.proofs.LeadLemmas.{IsInner, inner-no_lead, inner-behind}
 use Rattle.path_runs.proofs.LeadLemmas.{drop_lead-values}
-use Rattle.unix_path.specs.Fronts.{inner_values}
+use Rattle.unix_path.specs.CommonDir.{inner_values}
 use Rattle.path_runs.proofs.ValueLemmas.{some_values, append_values, values-join_of_rootless}
 
 -- behind the values of vs stand those of ws

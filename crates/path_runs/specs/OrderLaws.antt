@@ -1,7 +1,7 @@
 -- Laws of the order of value lists (Rust's order of `Path`).
 use Rattle.std.specs.Prelude.{◌≡◌, ◌<◌, ℕ, true, List, ◌∷◌, ◌++◌, drop}
 use Rattle.std.specs.Ordering.{is_le}
-use Rattle.unix_path.specs.Fronts.{common_dir_of, inner_values}
+use Rattle.unix_path.specs.CommonDir.{common_dir_of, inner_values}
 use Rattle.unix_path.specs.Order.{values_cmp}
 use Rattle.unix_path.specs.Parts.{slash, Value, values}
 use Rattle.unix_path.specs.Prefixes.{Begins}
@@ -22,11 +22,11 @@ BaseBeforeUnder = (base v : List Value) → Begins base v → is_le (values_cmp 
 
 -- two paths that begin with the same bytes and then a slash are in the order of what follows it
 abbrev pub OrderBehindSlash : Type 0
-OrderBehindSlash = (front s t : List ℕ)
-    → values_cmp (values (front ++ slash ∷ s)) (values (front ++ slash ∷ t))
+OrderBehindSlash = (prefix s t : List ℕ)
+    → values_cmp (values (prefix ++ slash ∷ s)) (values (prefix ++ slash ∷ t))
     ≡ values_cmp (inner_values s) (inner_values t)
 
--- two paths whose common front has a slash are in the order of what follows its last slash
+-- two paths whose common prefix has a slash are in the order of what follows its last slash
 abbrev pub OrderBehindCommonDir : Type 0
 OrderBehindCommonDir = (s t : List ℕ) → let n = common_dir_of s t in 0 < n
     → values_cmp (values s) (values t)

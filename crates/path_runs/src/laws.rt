@@ -14,7 +14,7 @@ pub use edits::{edits_congruent, extension_set, push_then_pop};
 pub use hashes::hash_inputs_tell;
 pub use joins::{join_associative, join_starts_with, join_values, strip_then_join};
 pub use order::{
-    base_before_under, order_behind_front, order_total, prefix_both_ways, under_is_interval,
+    base_before_under, order_behind_prefix, order_total, prefix_both_ways, under_is_interval,
 };
 pub use parts::{no_part_no_byte, parts_fit, rest_reads_again};
 pub use queries::{ancestors_step, name_rejoined, parent_before, queries_congruent};

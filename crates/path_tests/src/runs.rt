@@ -6,7 +6,7 @@ mod congruent;
 mod edits;
 mod facts;
 mod fits;
-mod long_runs;
+mod long_stretches;
 mod loops;
 mod maps;
 mod pairs;

@@ -6,7 +6,7 @@ use Rattle.std.proofs.lemmas.Grind.{reverse_onto}
 use Rattle.std.proofs.lemmas.List.{map-append}
 use Rattle.std.proofs.lemmas.List.Elements.{All-from_recursion}
 use Rattle.std.proofs.lemmas.List.Splits.{slice_split_none}
-use Rattle.unix_path.specs.Fronts.{inner_values}
+use Rattle.unix_path.specs.CommonDir.{inner_values}
 use Rattle.unix_path.specs.Joins.{join_of, join_all_of}
 use Rattle.unix_path.specs.Parts.{is_slash, dot, is_rooted, value_of_piece}
 use Rattle.unix_path.specs.Parts.{Value, RootDir, CurDir, ParentDir, Normal, value_bytes, values}

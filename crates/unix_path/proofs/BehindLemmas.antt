@@ -4,12 +4,13 @@ use Rattle.std.proofs.Common.{get_or}
 use Rattle.std.proofs.Common.{take, drop, map, sym, ap, subst, ◌∙◌, arith, take_all, drop-drop}
 use Rattle.std.proofs.Common.{length-append, length-take-le, take-append-drop, drop_at}
 use Rattle.std.proofs.lemmas.List.{length-map}
-use Rattle.unix_path.proofs.FrontLemmas.{parts-past_slash, take-past_slash, values-past_slash}
+use Rattle.unix_path.proofs.CommonPrefixLemmas.{parts-past_slash, take-past_slash}
+use Rattle.unix_path.proofs.CommonPrefixLemmas.{values-past_slash}
 use Rattle.unix_path.proofs.IdleLemmas.{parts-busy}
 use Rattle.unix_path.proofs.MiddleLemmas.{Middle, middle, middle_of, rest-middle}
 use Rattle.unix_path.proofs.PlaceLemmas.{inner_parts-add, part_at, part_at-part_at}
 use Rattle.unix_path.proofs.PrefixLemmas.{begins_tail, begins_more}
-use Rattle.unix_path.specs.Fronts.{inner_values}
+use Rattle.unix_path.specs.CommonDir.{inner_values}
 use Rattle.unix_path.specs.Parts.{slash, Value, inner_parts, parts, values}
 use Rattle.unix_path.specs.Prefixes.{Begins}
 use Rattle.unix_path.specs.Rest.{rest}
@@ -26,9 +27,9 @@ parts-behind : (s : List ℕ) (n : ℕ) → 0 < n → n ≤ length s → get_or 
     → parts s ≡ parts (take n s) ++ inner_parts n (drop n s)
 parts-behind s n some l is =
     let f = take (n - 1) s in
-    let front = take-past_slash s n some l is in
+    let common = take-past_slash s n some l is in
     ap parts (sym (cut_behind s n some l is)) ∙ parts-past_slash f (drop n s)
-    ∙ ap (λ t. parts t ++ inner_parts (length t) (drop n s)) (sym front)
+    ∙ ap (λ t. parts t ++ inner_parts (length t) (drop n s)) (sym common)
     ∙ ap (λ k. parts (take n s) ++ inner_parts k (drop n s)) (length-take-le n s l)
 
 -- the values of a string cut just after one of its slashes are those of both sides

@@ -1,4 +1,4 @@
--- The common front of two strings, and the place just after its last slash.
+-- The common prefix of two strings, and the place just after its last slash.
 use Rattle.std.proofs.Common.{Bool, true, length-take-le, zero, suc, eqb, eqb-true, take_all, false}
 use Rattle.std.proofs.Common.{not, take, drop, refl, sym, ap, ap₂, ◌∙◌}
 use Rattle.std.proofs.Common.{arith, ◌≡◌, ℕ, ◌+◌, ◌-◌, ◌<◌, ◌≤◌, List, [], ◌∷◌, length, get_or}
@@ -6,15 +6,15 @@ use Rattle.std.specs.List.{common_prefix_len, position_or_len, suffix_len}
 use Rattle.std.specs.Prelude.{reverse}
 use Rattle.std.proofs.lemmas.List.{get_or-reverse, length-reverse, get_or-take}
 use Rattle.std.proofs.lemmas.List.Sums.{common_prefix_len-le, prefix_len_stops}
-use Rattle.unix_path.specs.Fronts.{inner_values, common_dir_of}
+use Rattle.unix_path.specs.CommonDir.{inner_values, common_dir_of}
 use Rattle.unix_path.specs.Names.{past_last}
 use Rattle.unix_path.specs.Order.{values_cmp}
 use Rattle.unix_path.specs.Parts.{is_slash, slash, values}
 use Rattle.unix_path.proofs.CaseLemmas.{by_test}
-use Rattle.unix_path.proofs.FrontLemmas.{values_cmp-behind}
+use Rattle.unix_path.proofs.CommonPrefixLemmas.{values_cmp-behind}
 use Rattle.unix_path.proofs.NameLemmas.{past_last-byte}
 
--- two strings have the same first bytes as far as their common front goes
+-- two strings have the same first bytes as far as their common prefix goes
 pub take-common : (a b : List ℕ) (n : ℕ) → n ≤ common_prefix_len eqb a b → take n a ≡ take n b
 take-common [] [] n l = refl
 take-common [] (y ∷ b) zero l = refl
@@ -27,21 +27,21 @@ take-common (x ∷ a) (y ∷ b) (suc n) l = by_test (eqb x y)
     ap₂ (λ z zs. z ∷ zs) (eqb-true x y e) (take-common a b n (omega arith)))
     (λ e. let m : suc n ≤ 0 = rw e at l in absurd (omega arith))
 
--- strings of which the common front is all are the same
+-- strings of which the common prefix is all are the same
 pub common_prefix_len-whole : (a b : List ℕ) → common_prefix_len eqb a b ≡ length a
     → common_prefix_len eqb a b ≡ length b → a ≡ b
 common_prefix_len-whole a b e f =
     sym (take_all (length a) a (omega arith)) ∙ take-common a b (length a) (omega (arith, e))
     ∙ take_all (length a) b (omega (arith, e, f))
 
--- a place in the common front with a slash just before it, and none behind it, is the common dir
-pub common_dir_of-is : (a b : List ℕ) (front n : ℕ) → front ≡ common_prefix_len eqb a b
-    → n ≤ length (take front a) → (0 < n → get_or (take front a) (n - 1) 0 ≡ slash)
-    → position_or_len is_slash (drop n (take front a)) ≡ length (drop n (take front a))
+-- a place in the common prefix with a slash just before it, and none behind it, is the common dir
+pub common_dir_of-is : (a b : List ℕ) (common n : ℕ) → common ≡ common_prefix_len eqb a b
+    → n ≤ length (take common a) → (0 < n → get_or (take common a) (n - 1) 0 ≡ slash)
+    → position_or_len is_slash (drop n (take common a)) ≡ length (drop n (take common a))
     → n ≡ common_dir_of a b
 unfolding common_dir_of
-common_dir_of-is a b front n is l after none =
-    past_last-byte slash (take front a) n l after none
+common_dir_of-is a b common n is l after none =
+    past_last-byte slash (take common a) n l after none
     ∙ ap (λ m. past_last is_slash (take m a)) is
 
 past_last-le : (p : ℕ → Bool) (s : List ℕ) → past_last p s ≤ length s
@@ -74,7 +74,7 @@ pub record CutsAlike (a b : List ℕ) (n : ℕ) : Type 0 where
   pub first_slash : get_or a (n - 1) 0 ≡ slash
   pub second_slash : get_or b (n - 1) 0 ≡ slash
 
--- where the common front has a slash, both strings can be cut just after it
+-- where the common prefix has a slash, both strings can be cut just after it
 pub common_dir_of-cuts : (a b : List ℕ) → 0 < common_dir_of a b → CutsAlike a b (common_dir_of a b)
 unfolding common_dir_of
 common_dir_of-cuts a b some =

@@ -11,7 +11,7 @@ use Rattle.std.specs.Str.{bytes_eq}
 use Rattle.std.proofs.lemmas.Cmp.{tied_itself, nat_cmp_total}
 use Rattle.std.proofs.lemmas.List.{get_or-take}
 use Rattle.std.proofs.lemmas.List.Sums.{fails_before_first}
-use Rattle.unix_path.specs.Fronts.{inner_values}
+use Rattle.unix_path.specs.CommonDir.{inner_values}
 use Rattle.unix_path.specs.Steps.{piece_rank}
 use Rattle.unix_path.specs.Order.{values_cmp}
 use Rattle.unix_path.specs.Parts.{Part, Value, Normal, parent_dir, value_of_piece, inner_parts}
@@ -172,8 +172,8 @@ values_cmp-differ a b d n l in_a in_b same none first second differs =
     let ranks = ap₂ nat_cmp (piece_rank-drop a d n l) (piece_rank-drop b d n l) in
     let apart : piece_rank s i ≡ piece_rank t i → ⊥ =
     λ e. differs (sym (piece_rank-drop a d n l) ∙ e ∙ piece_rank-drop b d n l) in
-    let front = drop d (take n a) in
-    let size : length front ≡ i =
+    let common = drop d (take n a) in
+    let size : length common ≡ i =
     omega (arith, length-drop d (take n a), length-take-le n a in_a) in
     let byte = λ (k : ℕ) (h : k < i). get_or-drop d (take n a) k 0
     ∙ get_or-take n a (d + k) 0 (omega arith) ∙ sym (get_or-drop d a k 0) in
@@ -184,4 +184,4 @@ values_cmp-differ a b d n l in_a in_b same none first second differs =
     (pieces_differ s t i (omega (arith, length-drop d a)) (omega (arith, length-drop d b))
     (λ k h. sym (byte k h) ∙ ap (λ u. get_or (drop d u) k 0) same ∙ other k h)
     (λ k h. ap (λ z. eqb z 47) (sym (byte k h))
-    ∙ fails_before_first is_slash front k 0 (omega arith)) apart)
+    ∙ fails_before_first is_slash common k 0 (omega arith)) apart)

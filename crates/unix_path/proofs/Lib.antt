@@ -35,7 +35,7 @@ pub mod SuffixLemmas
 pub mod GapLemmas
 pub mod EditLemmas
 pub mod NameEndLemmas
-pub mod FrontLemmas
+pub mod CommonPrefixLemmas
 pub mod CommonDirLemmas
 pub mod BehindLemmas
 pub mod DifferLemmas

@@ -17,4 +17,4 @@ pub mod Ancestors
 pub mod Hashed
 pub mod OrderLaws
 pub mod Places
-pub mod Fronts
+pub mod CommonDir

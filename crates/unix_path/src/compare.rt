@@ -4,7 +4,7 @@ ghost use Rattle.std.specs.Prelude.{slice_index, IsTrue, ◌↔◌};
 ghost use Rattle.std.specs.Ordering.{is_eq};
 ghost use Rattle.std.specs.List.{position_or_len};
 ghost use Rattle.unix_path.specs.Parts.{slash, dot, is_slash, values};
-ghost use Rattle.unix_path.specs.Fronts.{inner_values};
+ghost use Rattle.unix_path.specs.CommonDir.{inner_values};
 ghost use Rattle.unix_path.specs.Order.{values_cmp};
 ghost use Rattle.unix_path.specs.Steps.{is_idle, piece_rank};
 ghost use Rattle.unix_path.specs.Views.{value_of};
@@ -78,21 +78,21 @@ fn compare_inner(a: &[u8], b: &[u8]) -> Ordering
     compare_parts(past_idle(a), false, past_idle(b), false)
 }
 
-// The order of two paths by their parts behind `dir`, where their first `front` bytes are the same
+// The order of two paths by their parts behind `dir`, where their first `common` bytes are the same
 // and hold no slash from `dir` on.
-fn compare_behind(a: &[u8], b: &[u8], dir: usize, front: usize) -> Ordering
-    requires in_order { dir ≤ front }
-    requires in_first { front ≤ length a.now }
-    requires in_second { front ≤ length b.now }
-    requires same { take front a.now ≡ take front b.now }
-    requires no_slash { position_or_len is_slash (drop dir (take front a.now))
-        ≡ length (drop dir (take front a.now)) }
+fn compare_behind(a: &[u8], b: &[u8], dir: usize, common: usize) -> Ordering
+    requires in_order { dir ≤ common }
+    requires in_first { common ≤ length a.now }
+    requires in_second { common ≤ length b.now }
+    requires same { take common a.now ≡ take common b.now }
+    requires no_slash { position_or_len is_slash (drop dir (take common a.now))
+        ≡ length (drop dir (take common a.now)) }
     ensures { result
         ≡ values_cmp (inner_values (drop dir a.now)) (inner_values (drop dir b.now)) }
 {
     if begins_name(a, dir) && begins_name(b, dir) {
-        let first = piece_rank(a, front);
-        let second = piece_rank(b, front);
+        let first = piece_rank(a, common);
+        let second = piece_rank(b, common);
         if first != second {
             return first.cmp(&second);
         }
@@ -104,15 +104,15 @@ fn compare_behind(a: &[u8], b: &[u8], dir: usize, front: usize) -> Ordering
 pub(crate) fn compare(a: &[u8], b: &[u8]) -> Ordering
     ensures { result ≡ values_cmp (values a.now) (values b.now) }
 {
-    let front = common_len(a, b);
-    if front == a.len() && front == b.len() {
+    let common = common_len(a, b);
+    if common == a.len() && common == b.len() {
         return Ordering::Equal;
     }
-    let dir = past_last(&a[..front], b'/');
+    let dir = past_last(&a[..common], b'/');
     if dir == 0 {
         compare_parts(a, has_lead(a), b, has_lead(b))
     } else {
-        compare_behind(a, b, dir, front)
+        compare_behind(a, b, dir, common)
     }
 }
 

@@ -2,7 +2,7 @@
 ghost use Rattle.std.specs.Prelude.{◌≡◌, ◌↔◌, ◌≤◌, ℕ, IsTrue, List, [], ◌∷◌, length, pos, negsuc};
 ghost use Rattle.std.specs.Ordering.{is_eq};
 ghost use Rattle.unix_bytes.specs.Utf8.{IsText};
-ghost use Rattle.unix_path.specs.Fronts.{common_dir_of};
+ghost use Rattle.unix_path.specs.CommonDir.{common_dir_of};
 ghost use Rattle.unix_path.specs.Order.{values_cmp, IsBefore};
 ghost use Rattle.unix_path.specs.Parts.{RootDir, SameValues, is_rooted, values};
 ghost use Rattle.unix_path.specs.Prefixes.{Begins, Ends};

@@ -55,7 +55,7 @@ pub fn base_before_under()
 /// nothing. Not in Rust's std.
 ///
 /// `x/./b` and `x//a` are in the order of `b` and `a`.
-pub fn order_behind_front()
+pub fn order_behind_prefix()
     ensures slash { OrderBehindSlash }
     ensures common_dir { OrderBehindCommonDir }
 {}

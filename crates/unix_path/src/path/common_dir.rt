@@ -1,7 +1,7 @@
 //! How far two paths are written alike.
 ghost use Rattle.std.specs.Prelude.{◌≡◌, ◌-◌, ◌<◌, ◌≤◌, length, take, drop, slice_index};
 ghost use Rattle.unix_path.specs.Cursor.{cursor_rest, cursor_source, cursor_values};
-ghost use Rattle.unix_path.specs.Fronts.{common_dir_of, inner_values};
+ghost use Rattle.unix_path.specs.CommonDir.{common_dir_of, inner_values};
 ghost use Rattle.unix_path.specs.Parts.{slash, values};
 ghost use Rattle.unix_path.specs.Places.{LiesIn};
 ghost use Rattle.unix_path.specs.Rest.{rest};
@@ -26,8 +26,8 @@ impl<'a> Path<'a> {
         ensures in_first { result ≤ length self.entry.bytes.now }
         ensures in_second { result ≤ length other.entry.bytes.now }
     {
-        let front = common_len(self.bytes, other.bytes);
-        past_last(&self.bytes[..front], b'/')
+        let common = common_len(self.bytes, other.bytes);
+        past_last(&self.bytes[..common], b'/')
     }
 }
 

@@ -20,6 +20,6 @@ returns-then-first-second c =
       no_dot = c.begins_name-then-begins_name.ensures.no_dot c.if-begins_name-2.true;
     } in
     c.cmp.ensures ∙ ap₂ nat_cmp first.ensures second.ensures
-    ∙ values_cmp-differ a b c.args.dir c.args.front c.requires.in_order c.requires.in_first
+    ∙ values_cmp-differ a b c.args.dir c.args.common c.requires.in_order c.requires.in_first
     c.requires.in_second c.requires.same c.requires.no_slash in_a in_b
     (λ e. c.if-first-second.true (first.ensures ∙ e ∙ sym second.ensures))

@@ -4,7 +4,7 @@ use Rattle.unix_path.specs.Order.{values_cmp}
 use Rattle.unix_path.specs.OrderLaws.{is_eq-values_cmp}
 use Rattle.unix_path.specs.Parts.{values}
 use Rattle.unix_path.proofs.CaseLemmas.{by_test}
-use Rattle.unix_path.proofs.FrontLemmas.{values_cmp-equal_strings}
+use Rattle.unix_path.proofs.CommonPrefixLemmas.{values_cmp-equal_strings}
 use Rattle.unix_path.proofs.compare.is_same.Goals as goal
 
 pub returns-then-has_same_bytes : goal.returns-then-has_same_bytes

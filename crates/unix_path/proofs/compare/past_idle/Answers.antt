@@ -1,7 +1,7 @@
 use Rattle.std.proofs.Common.{List, ℕ, arith, ap, ◌∙◌, length-drop}
 use Rattle.std.proofs.lemmas.List.{take_rest}
 use Rattle.unix_path.specs.Parts.{values}
-use Rattle.unix_path.proofs.FrontLemmas.{values-idle}
+use Rattle.unix_path.proofs.CommonPrefixLemmas.{values-idle}
 use Rattle.unix_path.proofs.IdleLemmas.{is_idle-drop}
 use Rattle.unix_path.proofs.compare.past_idle.Goals as goal
 

@@ -114,9 +114,10 @@ fn ended_iterators_stay_ended(rt: HostRuntime) {
     assert!(rt; has_broken(b"a\xFF") && !has_broken(b"a"));
 }
 
-// Runs of ASCII that are longer than what is read at once, with FF, and with U+00E9, at each place.
+// Stretches of ASCII that are longer than what is read at once, with FF, and with U+00E9, at each
+// place.
 #[test]
-fn long_runs(rt: HostRuntime) {
+fn long_stretches(rt: HostRuntime) {
     for place in 0..40 {
         let mut broken = [b'a'; 40];
         broken[place] = 0xFF;

@@ -57,7 +57,7 @@ fn is_common(a: &[u8], b: &[u8], len: usize) -> bool {
 }
 
 #[test]
-fn common_fronts(rt: HostRuntime) {
+fn common_prefixes(rt: HostRuntime) {
     for row in COMMON.iter() {
         assert!(rt; is_common(row.0, row.1, row.2), "{}", row.2);
     }

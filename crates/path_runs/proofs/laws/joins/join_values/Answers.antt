@@ -1,7 +1,7 @@
 use Rattle.std.proofs.Common.{◌≢◌, List, ℕ, [], ◌∷◌, length, ◌<◌, ◌++◌, sym, ap, refl, ◌∙◌}
 use Rattle.std.proofs.Common.{arith, append_assoc}
 use Rattle.unix_path.specs.Parts.{slash, values}
-use Rattle.unix_path.proofs.FrontLemmas.{values-past_slash}
+use Rattle.unix_path.proofs.CommonPrefixLemmas.{values-past_slash}
 use Rattle.path_runs.proofs.ValueLemmas.{values-join_of}
 use Rattle.path_runs.proofs.LeadLemmas.{drop_dot-values, drop_lead-values}
 use Rattle.path_runs.proofs.laws.joins.join_values.Goals as goal

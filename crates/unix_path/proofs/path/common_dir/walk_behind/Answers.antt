@@ -1,10 +1,10 @@
 use Rattle.std.proofs.Common.{ℕ, ◌-◌, List, length, take, drop, arith, ap, ◌∙◌, length-drop}
 use Rattle.std.proofs.lemmas.List.{take_rest}
-use Rattle.unix_path.specs.Fronts.{inner_values}
+use Rattle.unix_path.specs.CommonDir.{inner_values}
 use Rattle.unix_path.specs.Parts.{values}
 use Rattle.unix_path.specs.Rest.{rest}
 use Rattle.unix_path.proofs.BehindLemmas.{rest-behind}
-use Rattle.unix_path.proofs.FrontLemmas.{values-idle}
+use Rattle.unix_path.proofs.CommonPrefixLemmas.{values-idle}
 use Rattle.unix_path.proofs.IdleLemmas.{is_idle-drop}
 use Rattle.unix_path.proofs.path.common_dir.walk_behind.Goals as goal
 

@@ -1,5 +1,5 @@
 use Rattle.std.proofs.Common.{◌≡◌, ap₂, ◌<◌, ◌++◌, take, drop, ap, arith, subst, sym, ◌∙◌}
-use Rattle.unix_path.specs.Fronts.{common_dir_of, inner_values}
+use Rattle.unix_path.specs.CommonDir.{common_dir_of, inner_values}
 use Rattle.unix_path.specs.Parts.{values}
 use Rattle.unix_path.proofs.BehindLemmas.{strips_behind, values-behind}
 use Rattle.unix_path.proofs.CommonDirLemmas.{CutsAlike, common_dir_of-cuts}

@@ -1,4 +1,4 @@
-//! Long runs of slashes, dots and broken bytes.
+//! Long stretches of slashes, dots and broken bytes.
 use path_runs::canonical::canonical;
 use std::alloc::{AllocError, Global};
 use unix_bytes::lossy::Utf8Lossy;
@@ -68,7 +68,7 @@ fn repeats_as(alloc: Global, piece: &str, count: usize, part: &str) -> bool {
 }
 
 #[test]
-fn runs_of_one_part(rt: HostRuntime) {
+fn stretches_of_one_part(rt: HostRuntime) {
     for row in ROWS.iter() {
         assert!(rt; repeats_as(rt.alloc(), row.0, row.1, row.2), "{}", row.0);
     }

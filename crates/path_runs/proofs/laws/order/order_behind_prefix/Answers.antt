@@ -1,6 +1,6 @@
 use Rattle.unix_path.proofs.CommonDirLemmas.{values_cmp-common_dir}
-use Rattle.unix_path.proofs.FrontLemmas.{values_cmp-slash}
-use Rattle.path_runs.proofs.laws.order.order_behind_front.Goals as goal
+use Rattle.unix_path.proofs.CommonPrefixLemmas.{values_cmp-slash}
+use Rattle.path_runs.proofs.laws.order.order_behind_prefix.Goals as goal
 
 pub returns-clause-slash : goal.returns-clause-slash
 returns-clause-slash c = values_cmp-slash

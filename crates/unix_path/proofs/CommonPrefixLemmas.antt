@@ -1,4 +1,4 @@
--- The values behind a common front, and their order.
+-- The values behind a common prefix, and their order.
 use Rattle.std.proofs.Common.{Equal, take-append-drop, false, take, drop, map, refl}
 use Rattle.std.proofs.Common.{sym, ap, ap₂, ◌∙◌, arith, append_assoc, ◌≡◌, ℕ, ◌+◌, ◌-◌, ◌<◌, ◌≤◌}
 use Rattle.std.proofs.Common.{List, [], ◌∷◌, ◌++◌, length, get_or}
@@ -6,7 +6,7 @@ use Rattle.std.proofs.Common.{length-append}
 use Rattle.std.specs.Ordering.{ordering_then}
 use Rattle.std.proofs.lemmas.Cmp.{tied_itself}
 use Rattle.std.proofs.lemmas.List.{map-append, take_more}
-use Rattle.unix_path.specs.Fronts.{inner_values}
+use Rattle.unix_path.specs.CommonDir.{inner_values}
 use Rattle.unix_path.specs.Order.{values_cmp}
 use Rattle.unix_path.specs.OrderLaws.{value_cmp-total, values_cmp-total}
 use Rattle.unix_path.specs.Parts.{slash, Part, Value, inner_parts, leading_part, parts}
@@ -58,11 +58,11 @@ values-past_slash f b =
     ∙ ap (λ vs. map (λ (p : Part). p.value) (parts g) ++ vs) (values-inner_parts (length g) b)
 
 -- what two lists both begin with doesn't count in their order
-values_cmp-front : (v w x : List Value) → values_cmp (v ++ w) (v ++ x) ≡ values_cmp w x
-values_cmp-front [] w x = refl
-values_cmp-front (y ∷ v) w x =
+values_cmp-common : (v w x : List Value) → values_cmp (v ++ w) (v ++ x) ≡ values_cmp w x
+values_cmp-common [] w x = refl
+values_cmp-common (y ∷ v) w x =
     ap (λ o. ordering_then o (values_cmp (v ++ w) (v ++ x))) (tied_itself value_cmp-total y)
-    ∙ values_cmp-front v w x
+    ∙ values_cmp-common v w x
 
 -- two strings behind the same beginning, which ends in a slash, are in the order of their inner
 -- values
@@ -71,7 +71,7 @@ pub values_cmp-past_slash : (f a b : List ℕ)
     ≡ values_cmp (inner_values a) (inner_values b)
 values_cmp-past_slash f a b =
     ap₂ values_cmp (values-past_slash f a) (values-past_slash f b)
-    ∙ values_cmp-front (values (f ++ slash ∷ [])) (inner_values a) (inner_values b)
+    ∙ values_cmp-common (values (f ++ slash ∷ [])) (inner_values a) (inner_values b)
 
 -- two strings with the same bytes up to a slash are in the order of the inner values behind it
 pub values_cmp-slash : (f a b : List ℕ)
@@ -98,11 +98,11 @@ pub values_cmp-behind : (a b : List ℕ) (n : ℕ) → 0 < n → n ≤ length a 
     ≡ values_cmp (values a) (values b)
 values_cmp-behind a b n some l same is =
     let f = take (n - 1) a in
-    let front = take-past_slash a n some l is in
+    let common = take-past_slash a n some l is in
     let first : a ≡ (f ++ slash ∷ []) ++ drop n a =
-    sym (take-append-drop n a) ∙ ap (λ t. t ++ drop n a) front in
+    sym (take-append-drop n a) ∙ ap (λ t. t ++ drop n a) common in
     let second : b ≡ (f ++ slash ∷ []) ++ drop n b =
-    sym (take-append-drop n b) ∙ ap (λ t. t ++ drop n b) (sym same ∙ front) in
+    sym (take-append-drop n b) ∙ ap (λ t. t ++ drop n b) (sym same ∙ common) in
     sym (ap₂ (λ x y. values_cmp (values x) (values y)) first second
     ∙ values_cmp-past_slash f (drop n a) (drop n b))
 
