@@ -21,7 +21,7 @@ class Change:
 
 @dataclasses.dataclass(frozen=True)
 class WrongBody:
-    """The changes of an edit, and the function in whose body they are."""
+    """The changes of an edit, and the one function that they change, if it is one."""
     crate: str
     name: str
     changes: tuple
@@ -79,8 +79,8 @@ def place_of(crate, file, lines, head):
 
 
 @functools.lru_cache(maxsize=None)
-def bodies(crate, file):
-    """Where the body of each function of a file begins and ends, in order, and the function."""
+def functions(crate, file):
+    """Where each function of a file begins and where its body ends, in order, and the function."""
     lines = read_text(crate, file).split("\n")
     starts = [0]
     for line in lines:
@@ -91,23 +91,33 @@ def bodies(crate, file):
         body = head and body_lines(lines, number, head[1])
         if body:
             function = place_of(crate, file, lines, number), head[2]
-            found.append((starts[body[0]], starts[body[1]], function))
+            found.append((starts[number], starts[body[1]], function))
     return found
 
 
+def around(crate, change):
+    """The function that the change is in, as its place and its name, or None."""
+    text = read_text(crate, change.file)
+    if text.count(change.old) != 1:
+        return None
+    start = text.index(change.old)
+    end = start + len(change.old)
+    found = [function for begin, last, function in functions(crate, change.file)
+             if begin <= start and end <= last]
+    return found[-1] if found else None
+
+
 def function_of(crate, changes):
-    """The one function in whose body all changes are, as its place and its name, or None."""
-    found = set()
-    for change in changes:
-        text = read_text(crate, change.file)
-        if not change.file.startswith("src/") or text.count(change.old) != 1:
-            return None
-        start = text.index(change.old)
-        end = start + len(change.old)
-        around = [function for begin, last, function in bodies(crate, change.file)
-                  if begin <= start and end <= last]
-        found.add(around[-1] if around else None)
-    return found.pop() if len(found) == 1 else None
+    """The one function that all changes of the code are in, or None. The only other changes are in
+    the answers of its own proof, which no other proof reads."""
+    code = [it for it in changes if it.file.startswith("src/")]
+    found = {around(crate, it) for it in code}
+    if len(found) != 1 or None in found:
+        return None
+    function = found.pop()
+    others = [it.file for it in changes if it not in code]
+    own = all(it.endswith(f"/{function[1]}/Answers.antt") for it in others)
+    return function if own else None
 
 
 def read_wrong_bodies(crate):
