@@ -9,11 +9,29 @@ mod strings;
 mod without_memory;
 
 use memory_drought::Drought;
-use std::alloc::Global;
+use std::alloc::{AllocError, Global};
 use std::test::Fail;
+use unix_bytes::bytes::LossyText;
 
 fn is_refused(alloc: Global, len: usize) -> bool {
     Vec::<u8>::with_capacity(alloc, len).is_err()
+}
+
+// Whether the call failed. It takes what the call gave, so that the caller has nothing to drop.
+fn fails<T: Drop, E: Drop>(given: Result<T, E>) -> bool {
+    given.is_err()
+}
+
+fn succeeds<T: Drop, E: Drop>(given: Result<T, E>) -> bool {
+    given.is_ok()
+}
+
+// Whether the call borrowed this text.
+fn is_borrowed(given: Result<LossyText<'_>, AllocError>, text: &str) -> bool {
+    match given {
+        Ok(LossyText::Borrowed(shown)) => shown == text,
+        _ => false,
+    }
 }
 
 // All memory, taken. An error where a request is still granted, so that no test passes without a

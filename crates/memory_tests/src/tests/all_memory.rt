@@ -1,4 +1,5 @@
 //! What a `Drought` promises: no request is granted while it is held.
+use super::is_refused;
 use memory_drought::Drought;
 use std::test::Fail;
 
@@ -9,12 +10,10 @@ fn all_memory_is_taken_and_given_back(rt: HostRuntime) -> Result<(), Fail> {
     let alloc = rt.alloc();
     let mut drought = Drought::begin(alloc)?.ok_or("more memory than can be held")?;
     for len in [1, 40, 1000, 2048, 4096] {
-        assert!(rt; Vec::<u8>::with_capacity(alloc, len).is_err(), "{len}");
+        assert!(rt; is_refused(alloc, len), "{len}");
     }
-    assert!(rt; drought.ease());
-    assert!(rt; Vec::<u8>::with_capacity(alloc, 2048).is_ok());
-    assert!(rt; Vec::<u8>::with_capacity(alloc, 4096).is_err());
+    assert!(rt; drought.ease() && !is_refused(alloc, 2048) && is_refused(alloc, 4096));
     drop(drought);
-    assert!(rt; Vec::<u8>::with_capacity(alloc, 4096).is_ok());
+    assert!(rt; !is_refused(alloc, 4096));
     Ok(())
 }

@@ -1,5 +1,5 @@
 //! Buffers of paths while allocations fail.
-use super::drought;
+use super::{drought, fails};
 use std::alloc::Global;
 use std::test::Fail;
 use unix_path::bytes::{UnixStr, UnixString};
@@ -23,14 +23,18 @@ fn pushes_all(buffer: &mut PathBuf, paths: &[Path<'_>]) -> bool {
     true
 }
 
+fn extends(buffer: &mut PathBuf, paths: &[Path<'_>]) -> bool {
+    buffer.extend(paths.iter().copied()).is_ok()
+}
+
 #[test]
 fn after_reserve_pushes_do_not_allocate(rt: HostRuntime) -> Result<(), Fail> {
     let alloc = rt.alloc();
     let mut buffer = PathBuf::from_text(alloc, "foo")?;
-    buffer.reserve(6)?;
+    let has_room = buffer.reserve(6).is_ok();
+    let parts = [path("a"), path("bc"), path("")];
     let _dry = drought(alloc)?;
-    assert!(rt; pushes_all(&mut buffer, &[path("a"), path("bc"), path("")]));
-    assert!(rt; holds(&buffer, "foo/a/bc/"));
+    assert!(rt; has_room && pushes_all(&mut buffer, &parts) && holds(&buffer, "foo/a/bc/"));
     Ok(())
 }
 
@@ -38,22 +42,27 @@ fn after_reserve_pushes_do_not_allocate(rt: HostRuntime) -> Result<(), Fail> {
 fn after_reserve_an_extend_does_not_allocate(rt: HostRuntime) -> Result<(), Fail> {
     let alloc = rt.alloc();
     let mut buffer = PathBuf::from_text(alloc, "foo")?;
-    buffer.reserve(6)?;
+    let has_room = buffer.reserve(6).is_ok();
     let parts = [path("a"), path("bc"), path("")];
     let _dry = drought(alloc)?;
-    assert!(rt; buffer.extend(parts.iter().copied()).is_ok());
-    assert!(rt; holds(&buffer, "foo/a/bc/"));
+    assert!(rt; has_room && extends(&mut buffer, &parts) && holds(&buffer, "foo/a/bc/"));
     Ok(())
+}
+
+// Whether a request for more bytes than there can be is refused, and leaves `foo`.
+fn refuses_all_memory(buffer: &mut PathBuf) -> bool {
+    buffer.reserve(usize::MAX).is_err()
+        && buffer.reserve_exact(usize::MAX).is_err()
+        && holds(buffer, "foo")
 }
 
 #[test]
 fn a_path_longer_than_memory_is_an_error(rt: HostRuntime) -> Result<(), Fail> {
     let alloc = rt.alloc();
     let mut buffer = PathBuf::from_text(alloc, "foo")?;
-    assert!(rt; buffer.reserve(usize::MAX).is_err());
-    assert!(rt; buffer.reserve_exact(usize::MAX).is_err());
-    assert_eq!(rt; buffer.as_path().as_unix_str(), UnixStr::new("foo"));
-    assert!(rt; PathBuf::with_capacity(alloc, usize::MAX).is_err());
+    assert!(rt;
+        refuses_all_memory(&mut buffer) && fails(PathBuf::with_capacity(alloc, usize::MAX))
+    );
     Ok(())
 }
 
@@ -84,9 +93,8 @@ fn within_the_capacity_edits_do_not_allocate(rt: HostRuntime) -> Result<(), Fail
     let alloc = rt.alloc();
     let mut buffer = PathBuf::with_capacity(alloc, 10)?;
     let _dry = drought(alloc)?;
-    assert!(rt; keeps_its_capacity(&mut buffer));
-    assert!(rt; fits_edits(&mut buffer));
-    assert!(rt; keeps_its_capacity(&mut buffer));
+    let is_kept = keeps_its_capacity(&mut buffer);
+    assert!(rt; is_kept && fits_edits(&mut buffer) && keeps_its_capacity(&mut buffer));
     Ok(())
 }
 
@@ -112,9 +120,13 @@ fn a_failed_push_keeps_the_bytes(rt: HostRuntime) -> Result<(), Fail> {
     let dry = drought(alloc)?;
     assert!(rt; refuses_pushes(&mut buffer, long, rooted));
     drop(dry);
-    buffer.push(rooted)?;
-    assert_eq!(rt; buffer.as_path().as_unix_str(), rooted.as_unix_str());
+    let is_made = buffer.push(rooted).is_ok();
+    assert!(rt; is_made && buffer.as_path().as_unix_str() == rooted.as_unix_str());
     Ok(())
+}
+
+fn has_len(buffer: &PathBuf, len: usize) -> bool {
+    buffer.as_path().as_unix_str().len() == len
 }
 
 #[test]
@@ -124,12 +136,15 @@ fn a_failed_name_keeps_the_bytes(rt: HostRuntime) -> Result<(), Fail> {
     let name = UnixStr::from_bytes(long.as_slice());
     let mut buffer = PathBuf::from_text(alloc, "a/bb")?;
     let dry = drought(alloc)?;
-    assert!(rt; buffer.set_file_name(name).is_err());
-    assert!(rt; holds(&buffer, "a/bb"));
+    assert!(rt; buffer.set_file_name(name).is_err() && holds(&buffer, "a/bb"));
     drop(dry);
-    buffer.set_file_name(name)?;
-    assert_eq!(rt; buffer.as_path().as_unix_str().len(), 4098);
+    assert!(rt; buffer.set_file_name(name).is_ok() && has_len(&buffer, 4098));
     Ok(())
+}
+
+// Whether each call that makes the extension of `foo/.` longer is refused, and leaves it.
+fn refuses_extensions(buffer: &mut PathBuf, long: UnixStr<'_>) -> bool {
+    fails(buffer.set_extension(long)) && fails(buffer.add_extension(long)) && holds(buffer, "foo/.")
 }
 
 #[test]
@@ -139,12 +154,10 @@ fn a_failed_extension_keeps_the_bytes(rt: HostRuntime) -> Result<(), Fail> {
     let name = UnixStr::from_bytes(long.as_slice());
     let mut buffer = PathBuf::from_text(alloc, "foo/.")?;
     let dry = drought(alloc)?;
-    assert!(rt; buffer.set_extension(name).is_err());
-    assert!(rt; buffer.add_extension(name).is_err());
-    assert!(rt; holds(&buffer, "foo/."));
+    assert!(rt; refuses_extensions(&mut buffer, name));
     drop(dry);
-    assert!(rt; buffer.set_extension(name)?);
-    assert_eq!(rt; buffer.as_path().as_unix_str().len(), 4100);
+    let is_made = matches!(buffer.set_extension(name), Ok(true));
+    assert!(rt; is_made && has_len(&buffer, 4100));
     Ok(())
 }
 
@@ -170,6 +183,11 @@ fn is_shortened(buffer: &mut PathBuf) -> bool {
         && holds(buffer, "/")
 }
 
+fn becomes(buffer: PathBuf, text: &str) -> bool {
+    let bytes: UnixString = buffer.into_unix_string();
+    bytes.as_unix_str() == UnixStr::new(text)
+}
+
 #[test]
 fn promised_edits_do_not_allocate(rt: HostRuntime) -> Result<(), Fail> {
     let alloc = rt.alloc();
@@ -177,12 +195,10 @@ fn promised_edits_do_not_allocate(rt: HostRuntime) -> Result<(), Fail> {
     let none: [Path<'_>; 0] = [];
     let _dry = drought(alloc)?;
     let mut buffer = PathBuf::from(text);
-    assert!(rt; buffer.extend(none.iter().copied()).is_ok());
-    assert!(rt; gives_its_parts(&buffer));
-    assert!(rt; is_shortened(&mut buffer));
-    assert!(rt; takes_no_extension(&mut buffer));
+    assert!(rt; extends(&mut buffer, &none) && gives_its_parts(&buffer));
+    assert!(rt; is_shortened(&mut buffer) && takes_no_extension(&mut buffer));
     buffer.clear();
-    assert_eq!(rt; buffer.into_unix_string().as_unix_str(), UnixStr::new(""));
+    assert!(rt; becomes(buffer, ""));
     Ok(())
 }
 
@@ -192,27 +208,24 @@ fn a_path_of_a_string_does_not_allocate(rt: HostRuntime) -> Result<(), Fail> {
     let word = String::from_str(alloc, "..")?;
     let _dry = drought(alloc)?;
     let mut up = PathBuf::from(word);
-    assert!(rt; takes_no_extension(&mut up));
+    let is_refused = takes_no_extension(&mut up);
     let back: UnixString = up.into();
-    assert_eq!(rt; back.as_unix_str(), UnixStr::new(".."));
+    assert!(rt; is_refused && back.as_unix_str() == UnixStr::new(".."));
     Ok(())
 }
 
-// Whether the extension is refused for its separator, in place and in copies.
-fn is_separator(alloc: Global, buffer: &mut PathBuf, extension: &str) -> bool {
-    let extension = UnixStr::new(extension);
-    let copied = buffer.as_path().with_extension(alloc, extension);
-    let copied_more = buffer.as_path().with_added_extension(alloc, extension);
-    matches!(copied, Err(ExtensionError::Separator))
-        && matches!(copied_more, Err(ExtensionError::Separator))
-        && matches!(
-            buffer.set_extension(extension),
-            Err(ExtensionError::Separator)
-        )
-        && matches!(
-            buffer.add_extension(extension),
-            Err(ExtensionError::Separator)
-        )
+fn is_separator<T: Drop>(given: Result<T, ExtensionError>) -> bool {
+    matches!(given, Err(ExtensionError::Separator))
+}
+
+// Whether an extension is refused for its separator, in place and in copies, and the path is left.
+fn refuses_separator(alloc: Global, buffer: &mut PathBuf, text: &str) -> bool {
+    let extension = UnixStr::new("x/y");
+    is_separator(buffer.as_path().with_extension(alloc, extension))
+        && is_separator(buffer.as_path().with_added_extension(alloc, extension))
+        && is_separator(buffer.set_extension(extension))
+        && is_separator(buffer.add_extension(extension))
+        && holds(buffer, text)
 }
 
 #[test]
@@ -221,11 +234,27 @@ fn separators_are_refused_without_memory(rt: HostRuntime) -> Result<(), Fail> {
     let mut named = PathBuf::from_text(alloc, "foo.rs/.")?;
     let mut nameless = PathBuf::from_text(alloc, "..")?;
     let _dry = drought(alloc)?;
-    assert!(rt; is_separator(alloc, &mut named, "x/y"));
-    assert!(rt; is_separator(alloc, &mut nameless, "x/y"));
-    assert_eq!(rt; named.as_path().as_unix_str(), UnixStr::new("foo.rs/."));
-    assert_eq!(rt; nameless.as_path().as_unix_str(), UnixStr::new(".."));
+    assert!(rt;
+        refuses_separator(alloc, &mut named, "foo.rs/.")
+            && refuses_separator(alloc, &mut nameless, "..")
+    );
     Ok(())
+}
+
+// Marks how many of the paths an empty path takes before a push is refused. Whether it holds those,
+// and `extend` gives Ok for all three.
+fn extends_so_far(alloc: Global, paths: &[Path<'_>], seen: &mut [bool; 4]) -> bool {
+    let mut buffer = PathBuf::new(alloc);
+    let is_made = extends(&mut buffer, paths);
+    let pushed = match buffer.as_path().as_unix_str().len() {
+        0 => 0usize,
+        1 => 1,
+        4098 => 2,
+        8195 => 3,
+        _ => return false,
+    };
+    seen[pushed] = true;
+    is_made == (pushed == 3)
 }
 
 // Each allocation of `extend` fails in some round, and what was pushed before that one stays.
@@ -238,24 +267,14 @@ fn a_failed_extend_keeps_the_pushes_before(rt: HostRuntime) -> Result<(), Fail> 
     let items = [path("c"), long, long];
     let mut seen = [false; 4];
     for _ in 0..200 {
-        let mut buffer = PathBuf::new(alloc);
-        let result = buffer.extend(items.iter().copied());
-        let pushed = match buffer.as_path().as_unix_str().len() {
-            0 => 0usize,
-            1 => 1,
-            4098 => 2,
-            8195 => 3,
-            _ => panic!(rt; "other bytes"),
-        };
-        assert_eq!(rt; result.is_ok(), pushed == 3);
-        seen[pushed] = true;
-        if result.is_ok() {
+        assert!(rt; extends_so_far(alloc, &items, &mut seen));
+        if seen[3] {
             break;
         }
         assert!(rt; dry.ease());
     }
     drop(dry);
-    assert_eq!(rt; seen.as_slice(), [true; 4].as_slice());
+    assert!(rt; seen == [true; 4]);
     Ok(())
 }
 
@@ -267,12 +286,10 @@ fn extend_stops_at_the_failed_push(rt: HostRuntime) -> Result<(), Fail> {
     let long = Path::new(UnixStr::from_bytes(long.as_slice()));
     let items = [path("c"), long, path("d")];
     let mut buffer = PathBuf::from_text(alloc, "ab")?;
-    buffer.reserve(4)?;
+    let has_room = buffer.reserve(4).is_ok();
     let dry = drought(alloc)?;
-    assert!(rt; buffer.extend(items.iter().copied()).is_err());
-    assert_eq!(rt; buffer.as_path().as_unix_str(), UnixStr::new("ab/c"));
+    assert!(rt; has_room && !extends(&mut buffer, &items) && holds(&buffer, "ab/c"));
     drop(dry);
-    buffer.extend(items.iter().copied())?;
-    assert_eq!(rt; buffer.as_path().as_unix_str().len(), 4105);
+    assert!(rt; extends(&mut buffer, &items) && has_len(&buffer, 4105));
     Ok(())
 }

@@ -1,32 +1,41 @@
 //! Copies of paths while allocations fail.
-use super::drought;
-use std::alloc::Global;
+use super::{drought, fails, is_borrowed, succeeds};
+use std::alloc::{AllocError, Global};
 use std::test::Fail;
-use unix_path::bytes::{LossyText, UnixStr};
+use unix_path::bytes::UnixStr;
 use unix_path::{BoxedPath, CowPath, Path, PathBuf, RcPath};
 
 fn path(text: &str) -> Path<'_> {
     Path::from_text(text)
 }
 
+// Whether each call that copies the path, or makes another, is refused.
+fn refuses_copies(alloc: Global, buffer: &PathBuf) -> bool {
+    let view = buffer.as_path();
+    let name = UnixStr::new("bar");
+    fails(buffer.clone())
+        && fails(view.to_path_buf(alloc))
+        && fails(view.join(alloc, path("bar")))
+        && fails(view.with_file_name(alloc, name))
+        && fails(view.with_extension(alloc, name))
+        && fails(view.with_added_extension(alloc, name))
+        && fails(PathBuf::with_capacity(alloc, 3))
+        && fails(PathBuf::from_unix_str(alloc, name))
+        && fails(PathBuf::from_text(alloc, "bar"))
+        && fails(PathBuf::from_iter(alloc, [view].iter().copied()))
+}
+
 #[test]
 fn a_failed_copy_gives_no_path(rt: HostRuntime) -> Result<(), Fail> {
     let alloc = rt.alloc();
     let buffer = PathBuf::from_text(alloc, "foo")?;
-    let view = buffer.as_path();
-    let name = UnixStr::new("bar");
     let _dry = drought(alloc)?;
-    assert!(rt; buffer.clone().is_err());
-    assert!(rt; view.to_path_buf(alloc).is_err());
-    assert!(rt; view.join(alloc, path("bar")).is_err());
-    assert!(rt; view.with_file_name(alloc, name).is_err());
-    assert!(rt; view.with_extension(alloc, name).is_err());
-    assert!(rt; view.with_added_extension(alloc, name).is_err());
-    assert!(rt; PathBuf::with_capacity(alloc, 3).is_err());
-    assert!(rt; PathBuf::from_unix_str(alloc, name).is_err());
-    assert!(rt; PathBuf::from_text(alloc, "bar").is_err());
-    assert!(rt; PathBuf::from_iter(alloc, [view].iter().copied()).is_err());
+    assert!(rt; refuses_copies(alloc, &buffer));
     Ok(())
+}
+
+fn is_empty(buffer: &PathBuf) -> bool {
+    buffer.as_path() == path("")
 }
 
 #[test]
@@ -34,8 +43,8 @@ fn a_new_path_does_not_allocate(rt: HostRuntime) -> Result<(), Fail> {
     let alloc = rt.alloc();
     let none: [Path<'_>; 0] = [];
     let _dry = drought(alloc)?;
-    assert!(rt; PathBuf::from_iter(alloc, none.iter().copied()).is_ok());
-    assert_eq!(rt; PathBuf::new(alloc).as_path(), path(""));
+    assert!(rt; succeeds(PathBuf::from_iter(alloc, none.iter().copied())));
+    assert!(rt; is_empty(&PathBuf::new(alloc)));
     Ok(())
 }
 
@@ -44,14 +53,23 @@ fn copies_no_bytes(alloc: Global) -> bool {
     let empty = path("");
     let none = UnixStr::new("");
     let name = UnixStr::new("b");
-    PathBuf::from_text(alloc, "").is_ok()
-        && PathBuf::from_unix_str(alloc, none).is_ok()
-        && empty.to_path_buf(alloc).is_ok()
-        && empty.join(alloc, empty).is_ok()
-        && path("a").with_file_name(alloc, none).is_ok()
-        && empty.with_extension(alloc, name).is_ok()
-        && empty.with_added_extension(alloc, name).is_ok()
-        && CowPath::from(empty).into_owned(alloc).is_ok()
+    succeeds(PathBuf::from_text(alloc, ""))
+        && succeeds(PathBuf::from_unix_str(alloc, none))
+        && succeeds(empty.to_path_buf(alloc))
+        && succeeds(empty.join(alloc, empty))
+        && succeeds(path("a").with_file_name(alloc, none))
+        && succeeds(empty.with_extension(alloc, name))
+        && succeeds(empty.with_added_extension(alloc, name))
+        && succeeds(CowPath::from(empty).into_owned(alloc))
+}
+
+fn is_copied(buffer: &PathBuf) -> bool {
+    succeeds(buffer.clone())
+}
+
+fn is_boxed_and_copied(alloc: Global) -> Result<bool, AllocError> {
+    let boxed = BoxedPath::from_path(alloc, path(""))?;
+    Ok(succeeds(boxed.clone()))
 }
 
 // A copy of no bytes allocates nothing, but for the count of a shared path's owners.
@@ -59,11 +77,8 @@ fn copies_no_bytes(alloc: Global) -> bool {
 fn copies_of_no_bytes_do_not_allocate(rt: HostRuntime) -> Result<(), Fail> {
     let alloc = rt.alloc();
     let _dry = drought(alloc)?;
-    assert!(rt; copies_no_bytes(alloc));
-    assert!(rt; PathBuf::new(alloc).clone().is_ok());
-    let boxed = BoxedPath::from_path(alloc, path(""))?;
-    assert!(rt; boxed.clone().is_ok());
-    assert!(rt; RcPath::from_path(alloc, path("")).is_err());
+    assert!(rt; copies_no_bytes(alloc) && is_copied(&PathBuf::new(alloc)));
+    assert!(rt; is_boxed_and_copied(alloc)? && fails(RcPath::from_path(alloc, path(""))));
     Ok(())
 }
 
@@ -72,8 +87,9 @@ fn owned_paths_of_no_bytes_do_not_allocate(rt: HostRuntime) -> Result<(), Fail> 
     let alloc = rt.alloc();
     let _dry = drought(alloc)?;
     let owned = CowPath::from(PathBuf::new(alloc));
-    assert!(rt; owned.clone().is_ok());
-    assert!(rt; BoxedPath::from_cow(alloc, owned).is_ok());
+    let is_copied = succeeds(owned.clone());
+    let is_boxed = succeeds(BoxedPath::from_cow(alloc, owned));
+    assert!(rt; is_copied && is_boxed);
     Ok(())
 }
 
@@ -81,9 +97,6 @@ fn owned_paths_of_no_bytes_do_not_allocate(rt: HostRuntime) -> Result<(), Fail> 
 fn a_text_is_borrowed_without_memory(rt: HostRuntime) -> Result<(), Fail> {
     let alloc = rt.alloc();
     let _dry = drought(alloc)?;
-    let Ok(LossyText::Borrowed(shown)) = path("ab").to_string_lossy(alloc) else {
-        panic!(rt; "the text isn't borrowed");
-    };
-    assert_eq!(rt; shown, "ab");
+    assert!(rt; is_borrowed(path("ab").to_string_lossy(alloc), "ab"));
     Ok(())
 }

@@ -1,14 +1,27 @@
 //! Edits, walks and spellings while allocations fail.
-use super::drought;
+use super::{drought, fails};
 use path_runs::canonical::canonical;
 use path_runs::edits::{Edit, apply, rejoin};
 use path_runs::walk::{Turn, walk};
+use std::alloc::Global;
 use std::test::Fail;
 use unix_path::bytes::UnixStr;
 use unix_path::{Path, PathBuf};
 
 fn path(text: &str) -> Path<'_> {
     Path::from_text(text)
+}
+
+// How many edits were made before one failed, if one did.
+fn edits_before_failure(alloc: Global, buffer: &mut PathBuf, edits: &[Edit<'_>]) -> Option<usize> {
+    match apply(alloc, buffer, edits) {
+        Ok(_) => None,
+        Err(error) => Some(error.done),
+    }
+}
+
+fn holds(buffer: &PathBuf, text: &str) -> bool {
+    buffer.as_path().as_unix_str() == UnixStr::new(text)
 }
 
 #[test]
@@ -27,11 +40,8 @@ fn a_failed_edit_leaves_those_before_it(rt: HostRuntime) -> Result<(), Fail> {
     let mut buffer = PathBuf::from_text(alloc, "ab")?;
     let mut dry = drought(alloc)?;
     dry.ease();
-    let error = apply(alloc, &mut buffer, edits.as_slice())
-        .err()
-        .ok_or("applied")?;
-    assert_eq!(rt; error.done, 3);
-    assert_eq!(rt; buffer.as_path().as_unix_str(), UnixStr::new("ab/c"));
+    let made = edits_before_failure(alloc, &mut buffer, edits.as_slice());
+    assert!(rt; made == Some(3) && holds(&buffer, "ab/c"));
     Ok(())
 }
 
@@ -40,22 +50,24 @@ fn answers_that_fail_leave_the_path(rt: HostRuntime) -> Result<(), Fail> {
     let alloc = rt.alloc();
     let mut buffer = PathBuf::from_text(alloc, "a/b")?;
     let _dry = drought(alloc)?;
-    let error = apply(alloc, &mut buffer, [Edit::Pop].as_slice())
-        .err()
-        .ok_or("applied")?;
-    assert_eq!(rt; error.done, 0);
-    assert_eq!(rt; buffer.as_path().as_unix_str(), UnixStr::new("a/b"));
-    assert!(rt; apply(alloc, &mut buffer, [].as_slice()).is_ok());
+    let made = edits_before_failure(alloc, &mut buffer, [Edit::Pop].as_slice());
+    assert!(rt; made == Some(0) && holds(&buffer, "a/b"));
+    assert!(rt; edits_before_failure(alloc, &mut buffer, [].as_slice()).is_none());
     Ok(())
+}
+
+// Whether each walk and spelling is refused that has parts, and a join of none is not.
+fn refuses_runs(alloc: Global) -> bool {
+    fails(walk(alloc, path("/a"), [Turn::Back].as_slice()))
+        && fails(canonical(alloc, path("/a")))
+        && fails(rejoin(alloc, path("/a"), path("/")))
+        && matches!(rejoin(alloc, path("/a"), path("a")), Ok(None))
 }
 
 #[test]
 fn walks_and_spellings_fail_without_memory(rt: HostRuntime) -> Result<(), Fail> {
     let alloc = rt.alloc();
     let _dry = drought(alloc)?;
-    assert!(rt; walk(alloc, path("/a"), [Turn::Back].as_slice()).is_err());
-    assert!(rt; canonical(alloc, path("/a")).is_err());
-    assert!(rt; rejoin(alloc, path("/a"), path("/")).is_err());
-    assert!(rt; matches!(rejoin(alloc, path("/a"), path("a")), Ok(None)));
+    assert!(rt; refuses_runs(alloc));
     Ok(())
 }

@@ -1,24 +1,48 @@
 //! Byte strings while allocations fail.
-use super::drought;
+use super::{drought, fails, is_borrowed, succeeds};
+use std::alloc::{AllocError, Global};
 use std::test::Fail;
-use unix_bytes::bytes::{LossyText, UnixStr, UnixString};
+use unix_bytes::bytes::{UnixStr, UnixString};
+
+// Whether pushes to `foo`, and calls that ask for no more room, are made within its room.
+fn fits_pushes(text: &mut UnixString) -> bool {
+    let capacity = text.capacity();
+    text.push(UnixStr::new("/a")).is_ok()
+        && text.push(UnixStr::new("/bc")).is_ok()
+        && text.push(UnixStr::new("/")).is_ok()
+        && text.as_unix_str() == UnixStr::new("foo/a/bc/")
+        && text.capacity() == capacity
+        && text.shrink_to(capacity).is_ok()
+        && text.reserve(0).is_ok()
+        && text.reserve_exact(0).is_ok()
+}
 
 #[test]
 fn within_the_room_a_push_does_not_allocate(rt: HostRuntime) -> Result<(), Fail> {
     let alloc = rt.alloc();
     let mut text = UnixStr::new("foo").to_unix_string(alloc)?;
-    text.reserve(6)?;
-    let capacity = text.capacity();
+    let has_room = text.reserve(6).is_ok();
     let _dry = drought(alloc)?;
-    for more in ["/a", "/bc", "/"] {
-        assert!(rt; text.push(UnixStr::new(more)).is_ok());
-    }
-    assert_eq!(rt; text.as_unix_str(), UnixStr::new("foo/a/bc/"));
-    assert_eq!(rt; text.capacity(), capacity);
-    assert!(rt; text.shrink_to(capacity).is_ok());
-    assert!(rt; text.reserve(0).is_ok());
-    assert!(rt; text.reserve_exact(0).is_ok());
+    assert!(rt; has_room && fits_pushes(&mut text));
     Ok(())
+}
+
+// Whether each call that makes `foo` longer is refused, and leaves it.
+fn refuses_growth(text: &mut UnixString, long: UnixStr<'_>) -> bool {
+    let foo = UnixStr::new("foo");
+    text.push(long).is_err()
+        && text.as_unix_str() == foo
+        && text.reserve(4096).is_err()
+        && text.as_unix_str() == foo
+        && text.reserve_exact(4096).is_err()
+        && text.as_unix_str() == foo
+}
+
+fn refuses_copies(alloc: Global, text: &UnixString, long: UnixStr<'_>) -> bool {
+    fails(text.clone())
+        && fails(long.to_unix_string(alloc))
+        && fails(UnixString::with_capacity(alloc, 4096))
+        && fails(UnixStr::from_bytes(b"a\xff").to_string_lossy(alloc))
 }
 
 #[test]
@@ -27,37 +51,54 @@ fn a_failed_push_keeps_the_bytes(rt: HostRuntime) -> Result<(), Fail> {
     let long = [b'x'; 4096];
     let long = UnixStr::from_bytes(long.as_slice());
     let mut text = UnixStr::new("foo").to_unix_string(alloc)?;
-    let foo = UnixStr::new("foo");
     let dry = drought(alloc)?;
-    assert!(rt; text.push(long).is_err());
-    assert_eq!(rt; text.as_unix_str(), foo);
-    assert!(rt; text.reserve(4096).is_err());
-    assert_eq!(rt; text.as_unix_str(), foo);
-    assert!(rt; text.reserve_exact(4096).is_err());
-    assert_eq!(rt; text.as_unix_str(), foo);
-    assert!(rt; text.clone().is_err());
-    assert!(rt; long.to_unix_string(alloc).is_err());
-    assert!(rt; UnixString::with_capacity(alloc, 4096).is_err());
-    assert!(rt;
-        UnixStr::from_bytes(b"a\xff")
-            .to_string_lossy(alloc)
-            .is_err()
-    );
+    assert!(rt; refuses_growth(&mut text, long) && refuses_copies(alloc, &text, long));
     drop(dry);
-    text.push(long)?;
-    assert_eq!(rt; text.as_unix_str().len(), 4099);
+    assert!(rt; text.push(long).is_ok() && text.as_unix_str().len() == 4099);
     Ok(())
+}
+
+// Whether a request for more bytes than there can be is refused, and leaves `foo`.
+fn refuses_all_memory(text: &mut UnixString) -> bool {
+    text.reserve(usize::MAX).is_err()
+        && text.reserve_exact(usize::MAX).is_err()
+        && text.as_unix_str() == UnixStr::new("foo")
 }
 
 #[test]
 fn a_string_longer_than_memory_is_an_error(rt: HostRuntime) -> Result<(), Fail> {
     let alloc = rt.alloc();
     let mut text = UnixStr::new("foo").to_unix_string(alloc)?;
-    assert!(rt; text.reserve(usize::MAX).is_err());
-    assert!(rt; text.reserve_exact(usize::MAX).is_err());
-    assert_eq!(rt; text.as_unix_str(), UnixStr::new("foo"));
-    assert!(rt; UnixString::with_capacity(alloc, usize::MAX).is_err());
+    assert!(rt;
+        refuses_all_memory(&mut text) && fails(UnixString::with_capacity(alloc, usize::MAX))
+    );
     Ok(())
+}
+
+fn makes_empty_strings(alloc: Global) -> bool {
+    let is_empty = UnixString::new(alloc).as_unix_str().is_empty();
+    is_empty && succeeds(UnixString::with_capacity(alloc, 0))
+}
+
+// Whether a string of the bytes 1 and 2 has them and gives them back.
+fn gives_back(bytes: Vec<u8>) -> bool {
+    let text = UnixString::from(bytes);
+    let has_bytes = text.as_unix_str().as_bytes() == [1u8, 2].as_slice();
+    let bytes = text.into_bytes();
+    has_bytes && bytes.as_slice() == [1u8, 2].as_slice()
+}
+
+fn becomes(word: String, text: &UnixString) -> bool {
+    let made = UnixString::from(word);
+    made == *text
+}
+
+// Whether `foo` is cut to its first byte, and then to none.
+fn is_cut(text: &mut UnixString) -> bool {
+    text.truncate(1);
+    let is_first = text.as_unix_str() == UnixStr::new("f");
+    text.clear();
+    is_first && text.as_unix_str().is_empty()
 }
 
 #[test]
@@ -68,44 +109,44 @@ fn promised_calls_of_strings_do_not_allocate(rt: HostRuntime) -> Result<(), Fail
     let word = String::from_str(alloc, "foo")?;
     let mut text = foo.to_unix_string(alloc)?;
     let _dry = drought(alloc)?;
-    assert!(rt; UnixString::new(alloc).as_unix_str().is_empty());
-    assert!(rt; UnixString::with_capacity(alloc, 0).is_ok());
-    let from_bytes = UnixString::from(bytes);
-    assert_eq!(rt; from_bytes.as_unix_str().as_bytes(), [1u8, 2].as_slice());
-    assert_eq!(rt; from_bytes.into_bytes().as_slice(), [1u8, 2].as_slice());
-    assert_eq!(rt; UnixString::from(word), text);
-    let Ok(LossyText::Borrowed(shown)) = foo.to_string_lossy(alloc) else {
-        panic!(rt; "the text isn't borrowed");
-    };
-    assert_eq!(rt; shown, "foo");
-    text.truncate(1);
-    assert_eq!(rt; text.as_unix_str(), UnixStr::new("f"));
-    text.clear();
-    assert!(rt; text.as_unix_str().is_empty());
+    let is_given_back = gives_back(bytes);
+    let is_word = becomes(word, &text);
+    assert!(rt; is_given_back && is_word && is_cut(&mut text));
+    assert!(rt; makes_empty_strings(alloc) && is_borrowed(foo.to_string_lossy(alloc), "foo"));
     Ok(())
+}
+
+// Whether an empty string with a capacity of 10 grows and shrinks as it is told, to `foobar`.
+fn grows_and_shrinks(text: &mut UnixString) -> bool {
+    text.capacity() >= 10
+        && text.push(UnixStr::new("foo")).is_ok()
+        && text.reserve(100).is_ok()
+        && text.capacity() >= 103
+        && text.shrink_to(5).is_ok()
+        && (5..103).contains(&text.capacity())
+        && text.reserve_exact(50).is_ok()
+        && text.capacity() >= 53
+        && text.shrink_to_fit().is_ok()
+        && text.capacity() < 53
+        && text.push(UnixStr::new("bar")).is_ok()
+        && text.as_unix_str() == UnixStr::new("foobar")
+}
+
+// Whether a copy of `foobar` is equal to it, and less once that is longer.
+fn is_copied(alloc: Global, text: &mut UnixString) -> Result<bool, AllocError> {
+    let copy = text.clone()?;
+    let is_equal = copy == *text;
+    text.push(UnixStr::new("!"))?;
+    let is_less = copy < *text;
+    let shown = format!(in alloc; "{copy:?}")?;
+    Ok(is_equal && is_less && shown.as_str() == "\"foobar\"")
 }
 
 #[test]
 fn with_ample_memory_strings_grow_and_shrink(rt: HostRuntime) -> Result<(), Fail> {
     let alloc = rt.alloc();
     let mut text = UnixString::with_capacity(alloc, 10)?;
-    assert!(rt; text.capacity() >= 10);
-    text.push(UnixStr::new("foo"))?;
-    text.reserve(100)?;
-    assert!(rt; text.capacity() >= 103);
-    text.shrink_to(5)?;
-    assert!(rt; text.capacity() >= 5);
-    assert!(rt; text.capacity() < 103);
-    text.reserve_exact(50)?;
-    assert!(rt; text.capacity() >= 53);
-    text.shrink_to_fit()?;
-    assert!(rt; text.capacity() < 53);
-    text.push(UnixStr::new("bar"))?;
-    assert_eq!(rt; text.as_unix_str(), UnixStr::new("foobar"));
-    let copy = text.clone()?;
-    assert_eq!(rt; copy, text);
-    text.push(UnixStr::new("!"))?;
-    assert!(rt; copy < text);
-    assert_eq!(rt; format!(in alloc; "{copy:?}")?.as_str(), "\"foobar\"");
+    assert!(rt; grows_and_shrinks(&mut text));
+    assert!(rt; is_copied(alloc, &mut text)?);
     Ok(())
 }

@@ -1,6 +1,7 @@
 //! Tables need no memory for what promises so.
-use super::super::drought;
+use super::super::{drought, fails};
 use path_table::PathTable;
+use std::alloc::{AllocError, Global};
 use std::test::Fail;
 use unix_path::PathBuf;
 
@@ -12,6 +13,32 @@ fn is_taken(table: &mut PathTable<u8>, path: &PathBuf, value: u8) -> bool {
         && table.remove(path).is_none()
 }
 
+// Whether an equal path's value is replaced, and the table then emptied.
+fn is_emptied(alloc: Global, table: &mut PathTable<u8>, path: &PathBuf, same: PathBuf) -> bool {
+    let before = table.insert(same, 2).ok();
+    before == Some(Some(1))
+        && fails(table.under(alloc, path))
+        && is_taken(table, path, 2)
+        && table.len() == 0
+}
+
+fn has_none_under(alloc: Global, table: &PathTable<u8>, path: &PathBuf) -> bool {
+    match table.under(alloc, path) {
+        Ok(found) => found.len() == 0,
+        Err(_) => false,
+    }
+}
+
+// Whether an empty table takes no path, and stays empty.
+fn stays_empty(alloc: Global, path: &PathBuf, other: PathBuf) -> bool {
+    let mut empty = PathTable::new(alloc);
+    let is_refused = fails(empty.insert(other, 3));
+    is_refused
+        && empty.len() == 0
+        && has_none_under(alloc, &empty, path)
+        && empty.remove(path).is_none()
+}
+
 // An equal path's value is replaced, and for another path there is no memory.
 #[test]
 fn tables_are_read_and_emptied_without_memory(rt: HostRuntime) -> Result<(), Fail> {
@@ -20,18 +47,38 @@ fn tables_are_read_and_emptied_without_memory(rt: HostRuntime) -> Result<(), Fai
     table.insert(PathBuf::from_text(alloc, "a/b")?, 1u8)?;
     let path = PathBuf::from_text(alloc, "a//b/.")?;
     let same = PathBuf::from_text(alloc, "a/./b")?;
-    let mut empty = PathTable::new(alloc);
     let other = PathBuf::from_text(alloc, "c")?;
     let _dry = drought(alloc)?;
-    assert_eq!(rt; table.insert(same, 2).ok(), Some(Some(1)));
-    assert!(rt; table.under(alloc, &path).is_err());
-    assert!(rt; is_taken(&mut table, &path, 2));
-    assert_eq!(rt; table.len(), 0);
-    assert!(rt; empty.insert(other, 3).is_err());
-    assert_eq!(rt; empty.len(), 0);
-    assert_eq!(rt; empty.under(alloc, &path)?.len(), 0);
-    assert!(rt; empty.remove(&path).is_none());
+    let is_emptied = is_emptied(alloc, &mut table, &path, same);
+    let stays_empty = stays_empty(alloc, &path, other);
+    assert!(rt; is_emptied && stays_empty);
     Ok(())
+}
+
+// Inserts a path for each value up to 99, and keeps the same paths in order.
+fn fill(
+    alloc: Global,
+    table: &mut PathTable<u8>,
+    paths: &mut Vec<PathBuf>,
+) -> Result<(), AllocError> {
+    for value in 0..100u8 {
+        let path = PathBuf::from(format!(in alloc; "{value}/{value}")?);
+        table.insert(path.clone()?, value)?;
+        paths.push(path)?;
+    }
+    Ok(())
+}
+
+// Whether each path has the value of its place, and is taken.
+fn are_taken(table: &mut PathTable<u8>, paths: &[PathBuf]) -> bool {
+    let mut value = 0u8;
+    for path in paths {
+        if !is_taken(table, path, value) {
+            return false;
+        }
+        value = value.saturating_add(1);
+    }
+    value == 100 && table.len() == 0
 }
 
 #[test]
@@ -39,15 +86,8 @@ fn a_large_table_is_emptied_without_memory(rt: HostRuntime) -> Result<(), Fail> 
     let alloc = rt.alloc();
     let mut table = PathTable::new(alloc);
     let mut paths = Vec::new(alloc);
-    for value in 0..100u8 {
-        let text = format!(in alloc; "{value}/{value}")?;
-        table.insert(PathBuf::from_text(alloc, text.as_str())?, value)?;
-        paths.push((PathBuf::from(text), value))?;
-    }
+    fill(alloc, &mut table, &mut paths)?;
     let _dry = drought(alloc)?;
-    for (path, value) in &paths {
-        assert!(rt; is_taken(&mut table, path, *value));
-    }
-    assert_eq!(rt; table.len(), 0);
+    assert!(rt; are_taken(&mut table, paths.as_slice()));
     Ok(())
 }
