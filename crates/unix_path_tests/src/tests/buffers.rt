@@ -1,22 +1,33 @@
 //! Rows of what a buffer is made of, of its room, and of how it compares.
 use super::edits::assert_bytes;
+use super::texts::assert_debug_text;
 use super::views::path;
 use std::alloc::{AllocError, Global};
 use std::test::Fail;
 use unix_bytes::bytes::{UnixStr, UnixString};
 use unix_path::PathBuf;
 
+// A copy of a clone of the path, as bytes, made a path again, and as bytes once more.
+fn copy_of_clone(alloc: Global, first: PathBuf) -> Result<UnixString, AllocError> {
+    let text: UnixString = first.clone()?.as_path().to_path_buf(alloc)?.into();
+    Ok(PathBuf::from(text).into_unix_string())
+}
+
+// Whether a text was given, and has these bytes.
+fn is_text(given: Result<UnixString, AllocError>, bytes: UnixStr<'_>) -> bool {
+    match given {
+        Ok(text) => text.as_unix_str() == bytes,
+        Err(AllocError) => false,
+    }
+}
+
 #[test]
 fn conversions_keep_the_bytes(rt: HostRuntime) -> Result<(), Fail> {
     let alloc = rt.alloc();
     let bytes = UnixStr::from_bytes(b"a//\xff/");
     let first = PathBuf::from_unix_str(alloc, bytes)?;
-    assert_eq!(rt; first.as_path().as_unix_str(), bytes);
-    let second = first.clone()?;
-    let third = second.as_path().to_path_buf(alloc)?;
-    let text: UnixString = third.into();
-    let fourth = PathBuf::from(text);
-    assert_eq!(rt; fourth.into_unix_string().as_unix_str(), bytes);
+    assert!(rt; first.as_path().as_unix_str() == bytes);
+    assert!(rt; is_text(copy_of_clone(alloc, first), bytes));
     Ok(())
 }
 
@@ -24,22 +35,24 @@ fn conversions_keep_the_bytes(rt: HostRuntime) -> Result<(), Fail> {
 fn texts_keep_their_bytes(rt: HostRuntime) -> Result<(), Fail> {
     let alloc = rt.alloc();
     let head = PathBuf::from_text(alloc, "/the/head")?;
-    assert_eq!(rt;
-        head.into_unix_string().as_unix_str(),
-        UnixStr::new("/the/head")
-    );
+    assert!(rt; is_text(Ok(head.into_unix_string()), UnixStr::new("/the/head")));
     let owned = PathBuf::from(String::from_str(alloc, "/tmp/")?);
     assert_bytes(&rt, &owned, "/tmp/");
     Ok(())
 }
 
+// Whether the parts are the root and this name.
+fn gives_root_and_name(buffer: &PathBuf, name: &str) -> bool {
+    let mut parts = buffer.into_iter();
+    parts.next() == Some(UnixStr::new("/"))
+        && parts.next() == Some(UnixStr::new(name))
+        && parts.next().is_none()
+}
+
 #[test]
 fn a_buffer_gives_its_parts(rt: HostRuntime) -> Result<(), Fail> {
     let owned = PathBuf::from_text(rt.alloc(), "/tmp/")?;
-    let mut parts = (&owned).into_iter();
-    assert_eq!(rt; parts.next(), Some(UnixStr::new("/")));
-    assert_eq!(rt; parts.next(), Some(UnixStr::new("tmp")));
-    assert!(rt; parts.next().is_none());
+    assert!(rt; gives_root_and_name(&owned, "tmp"));
     Ok(())
 }
 
@@ -47,7 +60,7 @@ fn a_buffer_gives_its_parts(rt: HostRuntime) -> Result<(), Fail> {
 fn a_debug_text_is_quoted(rt: HostRuntime) -> Result<(), Fail> {
     let alloc = rt.alloc();
     let owned = PathBuf::from_text(alloc, "/tmp/")?;
-    assert_eq!(rt; format!(in alloc; "{owned:?}")?.as_str(), "\"/tmp/\"");
+    assert_debug_text(&rt, alloc, &owned, "\"/tmp/\"");
     Ok(())
 }
 
@@ -71,11 +84,10 @@ fn lends_exact_room(buffer: &mut PathBuf) -> Result<bool, AllocError> {
 fn room_is_made_and_given_back(rt: HostRuntime) -> Result<(), Fail> {
     let mut buffer = PathBuf::with_capacity(rt.alloc(), 10)?;
     let before = buffer.capacity();
-    assert!(rt; before >= 10);
     buffer.push(path("foo"))?;
-    assert_eq!(rt; buffer.capacity(), before);
-    assert!(rt; lends_room(&mut buffer)?);
-    assert!(rt; lends_exact_room(&mut buffer)?);
+    assert!(rt; before >= 10 && buffer.capacity() == before);
+    assert!(rt; matches!(lends_room(&mut buffer), Ok(true)));
+    assert!(rt; matches!(lends_exact_room(&mut buffer), Ok(true)));
     assert_bytes(&rt, &buffer, "foo");
     Ok(())
 }
@@ -86,7 +98,7 @@ fn a_shrink_to_more_leaves_the_capacity(rt: HostRuntime) -> Result<(), Fail> {
     buffer.push(path("foo"))?;
     let before = buffer.capacity();
     buffer.shrink_to(1000)?;
-    assert_eq!(rt; buffer.capacity(), before);
+    assert!(rt; buffer.capacity() == before);
     assert_bytes(&rt, &buffer, "foo");
     Ok(())
 }
@@ -113,12 +125,12 @@ static COMPARISONS: [(&str, &str, bool); 7] = [
 ];
 
 #[test]
-fn owned_paths_compare_by_their_parts(rt: HostRuntime) -> Result<(), Fail> {
+fn owned_paths_compare_by_their_parts(rt: HostRuntime) {
     let alloc = rt.alloc();
     for row in COMPARISONS.iter() {
-        assert!(rt; are_equal(alloc, row.0, row.1)? == row.2, "{}", row.1);
+        let answer = are_equal(alloc, row.0, row.1);
+        assert!(rt; matches!(answer, Ok(equal) if equal == row.2), "{}", row.1);
     }
-    assert!(rt; comes_before(alloc, "a/b", "a.b")?);
-    assert!(rt; comes_before(alloc, "./a", "a")?);
-    Ok(())
+    assert!(rt; matches!(comes_before(alloc, "a/b", "a.b"), Ok(true)));
+    assert!(rt; matches!(comes_before(alloc, "./a", "a"), Ok(true)));
 }

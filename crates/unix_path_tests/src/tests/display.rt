@@ -1,4 +1,5 @@
 //! Rows of paths as text.
+use super::texts::{assert_debug_text, assert_text, is_text};
 use std::alloc::{AllocError, Global};
 use std::test::Fail;
 use unix_bytes::bytes::{LossyText, UnixStr};
@@ -15,39 +16,44 @@ static LOSSY_TEXTS: [(&[u8], &str); 7] = [
     (b"\xef\xbf\xbd", "\u{FFFD}"),
 ];
 
-fn is_shown(alloc: Global, bytes: &[u8], want: &str) -> Result<bool, AllocError> {
-    let path = Path::new(UnixStr::from_bytes(bytes));
-    let shown = format!(in alloc; "{}", path.display())?;
-    let lossy = path.to_string_lossy(alloc)?;
-    Ok(shown.as_str() == want && lossy.as_str() == want)
-}
-
-#[test]
-fn paths_are_shown(rt: HostRuntime) -> Result<(), Fail> {
-    for (bytes, want) in LOSSY_TEXTS {
-        assert!(rt; is_shown(rt.alloc(), bytes, want)?, "{want}");
+// Whether a lossy text was given, and is this one.
+fn is_lossy_text(given: Result<LossyText<'_>, AllocError>, want: &str) -> bool {
+    match given {
+        Ok(lossy) => lossy.as_str() == want,
+        Err(AllocError) => false,
     }
-    Ok(())
+}
+
+fn is_shown(alloc: Global, bytes: &[u8], want: &str) -> bool {
+    let path = Path::new(UnixStr::from_bytes(bytes));
+    let is_displayed = is_text(format!(in alloc; "{}", path.display()), want);
+    is_displayed && is_lossy_text(path.to_string_lossy(alloc), want)
 }
 
 #[test]
-fn text_is_padded(rt: HostRuntime) -> Result<(), Fail> {
+fn paths_are_shown(rt: HostRuntime) {
+    for row in LOSSY_TEXTS.iter() {
+        assert!(rt; is_shown(rt.alloc(), row.0, row.1), "{}", row.1);
+    }
+}
+
+#[test]
+fn text_is_padded(rt: HostRuntime) {
     let alloc = rt.alloc();
     let ab = Path::new(UnixStr::new("ab")).display();
-    assert_eq!(rt; format!(in alloc; "{ab:>5}")?.as_str(), "   ab");
+    assert_text(&rt, format!(in alloc; "{ab:>5}"), "   ab");
     let empty = Path::new(UnixStr::new("")).display();
-    assert_eq!(rt; format!(in alloc; "{empty:*<4}")?.as_str(), "****");
+    assert_text(&rt, format!(in alloc; "{empty:*<4}"), "****");
     let broken = Display::from_bytes(b"a\xff");
-    assert_eq!(rt; format!(in alloc; "{broken:>5}")?.as_str(), "a\u{FFFD}");
-    assert_eq!(rt; format!(in alloc; "{broken:?}")?.as_str(), "\"a\u{FFFD}\"");
-    Ok(())
+    assert_text(&rt, format!(in alloc; "{broken:>5}"), "a\u{FFFD}");
+    assert_debug_text(&rt, alloc, &broken, "\"a\u{FFFD}\"");
 }
 
 #[test]
 fn text_is_borrowed(rt: HostRuntime) -> Result<(), Fail> {
     let alloc = rt.alloc();
     let path = Path::new(UnixStr::new("ab"));
-    assert_eq!(rt; path.to_str(), Some("ab"));
+    assert!(rt; path.to_str() == Some("ab"));
     assert!(rt; matches!(path.to_string_lossy(alloc)?, LossyText::Borrowed(_)));
     let broken = Path::new(UnixStr::from_bytes(b"a\xff"));
     assert!(rt; broken.to_str().is_none());

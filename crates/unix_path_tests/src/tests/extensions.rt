@@ -1,5 +1,6 @@
 //! Rows of extensions that are set, added and refused.
 use super::edits::has_bytes;
+use super::texts::assert_text;
 use super::views::path;
 use std::alloc::{AllocError, Global};
 use std::error::Error;
@@ -44,28 +45,26 @@ fn takes_extension(
 }
 
 #[test]
-fn an_extension_is_put_behind_the_stem(rt: HostRuntime) -> Result<(), Fail> {
+fn an_extension_is_put_behind_the_stem(rt: HostRuntime) {
     for row in EXTENSIONS_SET.iter() {
-        let is_taken = takes_extension(rt.alloc(), row.0, row.1, row.2, row.3)?;
-        assert!(rt; is_taken, "{} {}", row.0, row.1);
+        let answer = takes_extension(rt.alloc(), row.0, row.1, row.2, row.3);
+        assert!(rt; matches!(answer, Ok(true)), "{} {}", row.0, row.1);
     }
-    Ok(())
 }
 
 #[test]
 fn a_name_can_become_two_dots(rt: HostRuntime) -> Result<(), Fail> {
     let mut dots = PathBuf::from_text(rt.alloc(), "...")?;
-    assert!(rt; dots.set_extension(UnixStr::new(""))?);
-    assert!(rt; dots.as_path().file_name().is_none());
+    let answer = dots.set_extension(UnixStr::new(""));
+    assert!(rt; matches!(answer, Ok(true)) && dots.as_path().file_name().is_none());
     Ok(())
 }
 
 #[test]
 fn a_name_can_vanish(rt: HostRuntime) -> Result<(), Fail> {
-    let alloc = rt.alloc();
-    let mut hidden = PathBuf::from_text(alloc, "a/..foo")?;
-    assert!(rt; hidden.set_extension(UnixStr::new(""))?);
-    assert_eq!(rt; hidden, PathBuf::from_text(alloc, "a")?);
+    let mut hidden = PathBuf::from_text(rt.alloc(), "a/..foo")?;
+    let answer = hidden.set_extension(UnixStr::new(""));
+    assert!(rt; matches!(answer, Ok(true)) && hidden.as_path() == path("a"));
     Ok(())
 }
 
@@ -101,13 +100,23 @@ fn adds_extension(
 }
 
 #[test]
-fn an_extension_is_added_behind_the_name(rt: HostRuntime) -> Result<(), Fail> {
+fn an_extension_is_added_behind_the_name(rt: HostRuntime) {
     for row in EXTENSIONS_ADDED.iter() {
-        let is_added = adds_extension(rt.alloc(), row.0, row.1, row.2, row.3)?;
-        assert!(rt; is_added, "{} {}", row.0, row.1);
+        let answer = adds_extension(rt.alloc(), row.0, row.1, row.2, row.3);
+        assert!(rt; matches!(answer, Ok(true)), "{} {}", row.0, row.1);
     }
-    Ok(())
 }
+
+// A path, and an extension that it refuses.
+static EXTENSIONS_REFUSED: [(&str, &str); 7] = [
+    ("a", "x/y"),
+    ("foo.rs/.", "/"),
+    ("foo.rs", "a/"),
+    ("foo.rs", "/a"),
+    ("..", "x/y"),
+    ("/", "x/y"),
+    ("", "/"),
+];
 
 // Whether the extension is refused for its separator.
 fn is_separator<T>(answer: &Result<T, ExtensionError>) -> bool {
@@ -128,24 +137,11 @@ fn is_refused(alloc: Global, old: &str, extension: &str) -> Result<bool, AllocEr
 }
 
 #[test]
-fn an_extension_with_a_separator_is_refused(rt: HostRuntime) -> Result<(), Fail> {
-    for row in [
-        ("a", "x/y"),
-        ("foo.rs/.", "/"),
-        ("foo.rs", "a/"),
-        ("foo.rs", "/a"),
-        ("..", "x/y"),
-        ("/", "x/y"),
-        ("", "/"),
-    ] {
-        assert!(rt;
-            is_refused(rt.alloc(), row.0, row.1)?,
-            "{} {}",
-            row.0,
-            row.1
-        );
+fn an_extension_with_a_separator_is_refused(rt: HostRuntime) {
+    for row in EXTENSIONS_REFUSED.iter() {
+        let answer = is_refused(rt.alloc(), row.0, row.1);
+        assert!(rt; matches!(answer, Ok(true)), "{} {}", row.0, row.1);
     }
-    Ok(())
 }
 
 fn text_of<E: Error>(alloc: Global, error: &E) -> Result<String, AllocError> {
@@ -153,19 +149,10 @@ fn text_of<E: Error>(alloc: Global, error: &E) -> Result<String, AllocError> {
 }
 
 #[test]
-fn texts_of_refused_extensions(rt: HostRuntime) -> Result<(), Fail> {
+fn texts_of_refused_extensions(rt: HostRuntime) {
     let alloc = rt.alloc();
-    for (error, text) in [
-        (
-            ExtensionError::Separator,
-            "extension contains a separator|  extension contains a separator",
-        ),
-        (
-            ExtensionError::from(AllocError),
-            "out of memory|                   out of memory",
-        ),
-    ] {
-        assert_eq!(rt; text_of(alloc, &error)?.as_str(), text);
-    }
-    Ok(())
+    let text = "extension contains a separator|  extension contains a separator";
+    assert_text(&rt, text_of(alloc, &ExtensionError::Separator), text);
+    let text = "out of memory|                   out of memory";
+    assert_text(&rt, text_of(alloc, &ExtensionError::from(AllocError)), text);
 }

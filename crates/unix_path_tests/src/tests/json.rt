@@ -2,6 +2,7 @@
 ghost use Rattle.std.specs.Prelude.{◌≡◌, IfOk};
 ghost use Rattle.unix_path.specs.Buffers.{path_bytes};
 
+use super::texts::assert_text;
 use serde_json::Value;
 use std::alloc::{AllocError, Global};
 use std::error::Error;
@@ -18,18 +19,30 @@ fn write_then_read(alloc: Global, path: Path<'_>) -> Result<PathBuf, JsonError>
     from_json(alloc, &value)
 }
 
+// Whether a value was given, and is a string of this text.
+fn is_string(given: Result<Value, JsonError>, text: &str) -> bool {
+    match given {
+        Ok(value) => value.as_str() == Some(text),
+        Err(_) => false,
+    }
+}
+
+// Whether a path was given, and has this text.
+fn is_path(given: Result<PathBuf, JsonError>, text: &str) -> bool {
+    match given {
+        Ok(path) => path.as_path().as_unix_str() == UnixStr::new(text),
+        Err(_) => false,
+    }
+}
+
 #[test]
-fn a_written_path_reads_back(rt: HostRuntime) -> Result<(), Fail> {
+fn a_written_path_reads_back(rt: HostRuntime) {
     let alloc = rt.alloc();
     for text in ["a\"b", "", "a\\b", "\u{1}", "\u{E9}", "a//b/."] {
         let path = Path::new(UnixStr::new(text));
-        assert_eq!(rt; to_json(alloc, path)?.as_str(), Some(text));
-        assert_eq!(rt;
-            write_then_read(alloc, path)?.as_path().as_unix_str(),
-            path.as_unix_str()
-        );
+        assert!(rt; is_string(to_json(alloc, path), text), "{text}");
+        assert!(rt; is_path(write_then_read(alloc, path), text), "{text}");
     }
-    Ok(())
 }
 
 #[test]
@@ -40,17 +53,22 @@ fn bytes_that_are_not_text_are_refused(rt: HostRuntime) {
     }
 }
 
+// Whether the text is JSON of a value that is no string.
+fn is_no_string(alloc: Global, text: &str) -> bool {
+    match Value::from_str(alloc, text) {
+        Ok(value) => matches!(from_json(alloc, &value), Err(JsonError::NotString)),
+        Err(_) => false,
+    }
+}
+
 #[test]
 fn values_that_are_not_strings_are_refused(rt: HostRuntime) -> Result<(), Fail> {
     let alloc = rt.alloc();
     for text in ["7", "-7", "7.5", "null", "true", "[\"a\"]", "{\"a\":\"b\"}"] {
-        let value = Value::from_str(alloc, text)?;
-        let answer = from_json(alloc, &value);
-        assert!(rt; matches!(answer, Err(JsonError::NotString)), "{text}");
+        assert!(rt; is_no_string(alloc, text), "{text}");
     }
     let value = Value::from_str(alloc, "\"7\"")?;
-    let path = from_json(alloc, &value)?;
-    assert_eq!(rt; path.as_path().as_unix_str(), UnixStr::new("7"));
+    assert!(rt; is_path(from_json(alloc, &value), "7"));
     Ok(())
 }
 
@@ -59,23 +77,12 @@ fn text_of<E: Error>(alloc: Global, error: &E) -> Result<String, AllocError> {
 }
 
 #[test]
-fn texts_of_errors(rt: HostRuntime) -> Result<(), Fail> {
+fn texts_of_errors(rt: HostRuntime) {
     let alloc = rt.alloc();
-    for (error, text) in [
-        (
-            JsonError::NotUtf8,
-            "path contains invalid UTF-8 characters|path contains invalid UTF-8 characters",
-        ),
-        (
-            JsonError::NotString,
-            "expected path string|expected path string",
-        ),
-        (
-            JsonError::Memory(AllocError),
-            "out of memory|  out of memory",
-        ),
-    ] {
-        assert_eq!(rt; text_of(alloc, &error)?.as_str(), text);
-    }
-    Ok(())
+    let text = "path contains invalid UTF-8 characters|path contains invalid UTF-8 characters";
+    assert_text(&rt, text_of(alloc, &JsonError::NotUtf8), text);
+    let text = "expected path string|expected path string";
+    assert_text(&rt, text_of(alloc, &JsonError::NotString), text);
+    let text = "out of memory|  out of memory";
+    assert_text(&rt, text_of(alloc, &JsonError::Memory(AllocError)), text);
 }

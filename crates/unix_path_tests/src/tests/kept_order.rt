@@ -11,10 +11,9 @@ use std::alloc::{AllocError, Global};
 use std::cmp::Ordering;
 use std::collections::{BTreeMap, HashMap};
 use std::hash::Hash;
-use std::process::Abort;
 use std::test::Fail;
 use unix_bytes::bytes::UnixStr;
-use unix_path::{BoxedPath, CowPath, Path, PathBuf};
+use unix_path::{BoxedPath, CowPath, Path, PathBuf, RcPath};
 
 fn same_boxed(a: &BoxedPath, b: &BoxedPath) -> bool
     ensures { IsTrue result ↔ SameValues (boxed_bytes a.now) (boxed_bytes b.now) }
@@ -87,38 +86,55 @@ fn all_types_compare_alike(rt: HostRuntime) -> Result<(), Fail> {
 
 // Whether each type of path with this text feeds a hasher this input.
 fn feed_alike(alloc: Global, text: &str, input: RecordingHasher) -> Result<bool, AllocError> {
-    let (buffer, boxed, shared) = owners_of(alloc, text)?;
-    let owners_do = hash_input(&buffer) == input && hash_input(&boxed) == input;
-    let is_borrowed_alike = hash_input(&CowPath::from(&buffer)) == input;
-    let is_owned_alike = hash_input(&CowPath::from(buffer)) == input;
-    Ok(owners_do && hash_input(&shared) == input && is_borrowed_alike && is_owned_alike)
+    let owners = owners_of(alloc, text)?;
+    let owned = CowPath::from(owners.0.clone()?);
+    let inputs = [
+        hash_input(&owners.0),
+        hash_input(&owners.1),
+        hash_input(&owners.2),
+        hash_input(&CowPath::from(&owners.0)),
+        hash_input(&owned),
+    ];
+    Ok(inputs.iter().all(|found| *found == input))
 }
 
 #[test]
-fn all_types_hash_alike(rt: HostRuntime) -> Result<(), Fail> {
+fn all_types_hash_alike(rt: HostRuntime) {
     let input = hash_input(&path("a/b"));
     assert!(rt; input.len > 0);
-    assert!(rt; feed_alike(rt.alloc(), "a/b", input)?);
-    assert!(rt; feed_alike(rt.alloc(), "a//b", input)?);
-    Ok(())
+    assert!(rt; matches!(feed_alike(rt.alloc(), "a/b", input), Ok(true)));
+    assert!(rt; matches!(feed_alike(rt.alloc(), "a//b", input), Ok(true)));
 }
 
-// `less` comes before the two others, which are equal.
-fn are_ordered<T: Ord>(rt: &impl Abort, less: &T, a: &T, b: &T) {
-    assert!(rt; a == b && less != a);
-    assert!(rt; a.cmp(b) == Ordering::Equal && less.cmp(a) == Ordering::Less);
-    assert!(rt; a.partial_cmp(less) == Some(Ordering::Greater));
+// Whether `less` comes before the two others, which are equal.
+fn are_ordered<T: Ord>(less: &T, a: &T, b: &T) -> bool {
+    a == b
+        && less != a
+        && a.cmp(b) == Ordering::Equal
+        && less.cmp(a) == Ordering::Less
+        && a.partial_cmp(less) == Some(Ordering::Greater)
+}
+
+// Whether boxed paths are in order.
+fn boxed_are_ordered(alloc: Global) -> Result<bool, AllocError> {
+    let less = BoxedPath::from_path(alloc, path("a/b"))?;
+    let a = BoxedPath::from_path(alloc, path("a.b//"))?;
+    let b = BoxedPath::from_path(alloc, path("a.b/."))?;
+    Ok(are_ordered(&less, &a, &b) && same_boxed(&a, &b) && !same_boxed(&less, &a))
+}
+
+// Whether shared paths are in order.
+fn shared_are_ordered(alloc: Global) -> Result<bool, AllocError> {
+    let less = RcPath::from_path(alloc, path("a/b"))?;
+    let a = RcPath::from_path(alloc, path("a.b//"))?;
+    let b = RcPath::from_path(alloc, path("a.b/."))?;
+    Ok(are_ordered(&less, &a, &b))
 }
 
 #[test]
-fn boxed_and_shared_paths_are_ordered(rt: HostRuntime) -> Result<(), Fail> {
-    let alloc = rt.alloc();
-    let less = owners_of(alloc, "a/b")?;
-    let (a, b) = (owners_of(alloc, "a.b//")?, owners_of(alloc, "a.b/.")?);
-    are_ordered(&rt, &less.1, &a.1, &b.1);
-    are_ordered(&rt, &less.2, &a.2, &b.2);
-    assert!(rt; same_boxed(&a.1, &b.1) && !same_boxed(&less.1, &a.1));
-    Ok(())
+fn boxed_and_shared_paths_are_ordered(rt: HostRuntime) {
+    assert!(rt; matches!(boxed_are_ordered(rt.alloc()), Ok(true)));
+    assert!(rt; matches!(shared_are_ordered(rt.alloc()), Ok(true)));
 }
 
 #[test]
@@ -126,26 +142,36 @@ fn borrowed_and_owned_paths_are_ordered(rt: HostRuntime) -> Result<(), Fail> {
     let alloc = rt.alloc();
     let less = CowPath::from(PathBuf::from_text(alloc, "a/b")?);
     let buffer = PathBuf::from_text(alloc, "a.b//")?;
-    are_ordered(
-        &rt,
-        &less,
-        &CowPath::from(&buffer),
-        &CowPath::from(path("a.b/.")),
+    assert!(rt;
+        are_ordered(
+            &less,
+            &CowPath::from(&buffer),
+            &CowPath::from(path("a.b/."))
+        )
     );
     Ok(())
+}
+
+// Whether an ordered map finds a boxed path by an equal one.
+fn ordered_map_finds(alloc: Global, boxed: BoxedPath) -> Result<bool, AllocError> {
+    let mut map = BTreeMap::new(alloc);
+    map.insert(boxed, 1)?;
+    Ok(map.get(&BoxedPath::from_path(alloc, path("a/b/."))?) == Some(&1))
+}
+
+// Whether a hashed map finds a shared path by an equal one.
+fn hashed_map_finds(alloc: Global, shared: RcPath) -> Result<bool, AllocError> {
+    let mut map = HashMap::new(alloc);
+    map.insert(shared, 1)?;
+    Ok(map.get(&RcPath::from_path(alloc, path("a/b/."))?) == Some(&1))
 }
 
 #[test]
 fn maps_find_equal_paths(rt: HostRuntime) -> Result<(), Fail> {
     let alloc = rt.alloc();
-    let (_, boxed, shared) = owners_of(alloc, "a//b")?;
-    let (_, equal_boxed, equal_shared) = owners_of(alloc, "a/b/.")?;
-    let mut ordered = BTreeMap::new(alloc);
-    ordered.insert(boxed, 1)?;
-    assert!(rt; ordered.get(&equal_boxed) == Some(&1));
-    let mut hashed = HashMap::new(alloc);
-    hashed.insert(shared, 1)?;
-    assert!(rt; hashed.get(&equal_shared) == Some(&1));
+    let owners = owners_of(alloc, "a//b")?;
+    assert!(rt; matches!(ordered_map_finds(alloc, owners.1), Ok(true)));
+    assert!(rt; matches!(hashed_map_finds(alloc, owners.2), Ok(true)));
     Ok(())
 }
 

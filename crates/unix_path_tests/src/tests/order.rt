@@ -12,9 +12,7 @@ ghost use Rattle.unix_path.specs.Views.{value_of};
 use super::recording_hasher::RecordingHasher;
 use super::views::path;
 use std::cmp::Ordering;
-use std::collections::{BTreeMap, HashMap};
 use std::hash::{Hash, Hasher};
-use std::test::Fail;
 use unix_bytes::bytes::UnixStr;
 use unix_path::{Component, Components, Path};
 
@@ -282,17 +280,4 @@ fn components_may_feed_alike(rt: HostRuntime) {
     assert!(rt; dot != Component::CurDir && dots != Component::ParentDir);
     assert!(rt; component_hash_input(dot) == component_hash_input(Component::CurDir));
     assert!(rt; component_hash_input(dots) == component_hash_input(Component::ParentDir));
-}
-
-#[test]
-fn maps_find_equal_paths(rt: HostRuntime) -> Result<(), Fail> {
-    let mut hashed = HashMap::new(rt.alloc());
-    hashed.insert(path("a//b"), 1)?;
-    assert!(rt; hashed.get(&path("a/b/.")) == Some(&1));
-    assert!(rt; hashed.get(&path("./a/b")).is_none());
-    let mut ordered = BTreeMap::new(rt.alloc());
-    ordered.insert(path("a//b"), 1)?;
-    assert!(rt; ordered.get(&path("a/b/.")) == Some(&1));
-    assert!(rt; ordered.get(&path("./a/b")).is_none());
-    Ok(())
 }

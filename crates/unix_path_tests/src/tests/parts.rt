@@ -95,16 +95,10 @@ fn decomposes(row: &Parts) -> bool {
 #[test]
 fn views_keep_all_bytes(rt: HostRuntime) {
     let broken = b"./a//\xff/".as_slice();
-    assert_eq!(rt;
-        Path::from_bytes(broken).as_unix_str(),
-        UnixStr::from_bytes(broken)
-    );
-    assert_eq!(rt; Path::from_bytes(b"").as_unix_str(), UnixStr::new(""));
-    assert_eq!(rt;
-        Path::from_text("./a//b/").as_unix_str(),
-        UnixStr::new("./a//b/")
-    );
-    assert_eq!(rt; Path::from_text("").as_unix_str(), UnixStr::new(""));
+    assert!(rt; Path::from_bytes(broken).as_unix_str() == UnixStr::from_bytes(broken));
+    assert!(rt; Path::from_bytes(b"").as_unix_str() == UnixStr::new(""));
+    assert!(rt; Path::from_text("./a//b/").as_unix_str() == UnixStr::new("./a//b/"));
+    assert!(rt; Path::from_text("").as_unix_str() == UnixStr::new(""));
 }
 
 #[test]
@@ -147,12 +141,8 @@ fn has_components(text: &str, parts: &[&str]) -> bool {
 #[test]
 fn lists_of_parts(rt: HostRuntime) {
     for row in LISTS_OF_PARTS.iter() {
-        assert!(rt; has_components(row.0, row.1), "{}", row.0);
-        assert!(rt;
-            gives(row.0, row.1) && gives_back(row.0, row.1),
-            "{}",
-            row.0
-        );
+        let is_given = gives(row.0, row.1) && gives_back(row.0, row.1);
+        assert!(rt; is_given && has_components(row.0, row.1), "{}", row.0);
     }
 }
 

@@ -27,34 +27,38 @@ static RESTS: [(&str, usize, usize, &str); 20] = [
     ("", 0, 0, ""),
 ];
 
-// Whether both walks leave these bytes after so many parts in front and behind.
+// Whether a walk over components leaves these bytes after so many parts in front and behind.
 fn leaves(text: &str, front: usize, behind: usize, rest: &str) -> bool {
     let mut parts = path(text).components();
-    let mut texts = path(text).iter();
+    let mut is_given = true;
     for _ in 0..front {
-        if parts.next().is_none() || texts.next().is_none() {
-            return false;
-        }
+        is_given &= parts.next().is_some();
     }
     for _ in 0..behind {
-        if parts.next_back().is_none() || texts.next_back().is_none() {
-            return false;
-        }
+        is_given &= parts.next_back().is_some();
     }
-    let want = UnixStr::new(rest);
-    parts.as_path().as_unix_str() == want && texts.as_path().as_unix_str() == want
+    is_given && parts.as_path().as_unix_str() == UnixStr::new(rest)
+}
+
+// Whether a walk over texts leaves these bytes after so many parts in front and behind.
+fn texts_leave(text: &str, front: usize, behind: usize, rest: &str) -> bool {
+    let mut texts = path(text).iter();
+    let mut is_given = true;
+    for _ in 0..front {
+        is_given &= texts.next().is_some();
+    }
+    for _ in 0..behind {
+        is_given &= texts.next_back().is_some();
+    }
+    is_given && texts.as_path().as_unix_str() == UnixStr::new(rest)
 }
 
 #[test]
 fn rests(rt: HostRuntime) {
     for row in RESTS.iter() {
-        assert!(rt;
-            leaves(row.0, row.1, row.2, row.3),
-            "{} {} {}",
-            row.0,
-            row.1,
-            row.2
-        );
+        let is_left = leaves(row.0, row.1, row.2, row.3);
+        let are_left = is_left && texts_leave(row.0, row.1, row.2, row.3);
+        assert!(rt; are_left, "{} {} {}", row.0, row.1, row.2);
     }
 }
 

@@ -5,7 +5,6 @@ ghost use Rattle.std.specs.List.{All};
 ghost use Rattle.unix_bytes.specs.Chunks.{chunk_of, chunks_of};
 
 use std::alloc::{AllocError, Global};
-use std::test::Fail;
 use unix_bytes::lossy::{Utf8Lossy, Utf8LossyChunk};
 
 fn count(bytes: &[u8]) -> usize
@@ -42,20 +41,24 @@ fn is_unbroken(bytes: &[u8]) -> bool
         .all(|chunk| chunk.broken.is_empty())
 }
 
+// Whether a list of this length was given.
+fn has_len(given: Result<Vec<Utf8LossyChunk<'_>>, AllocError>, len: usize) -> bool {
+    match given {
+        Ok(list) => list.len() == len,
+        Err(AllocError) => false,
+    }
+}
+
 #[test]
-fn chains_over_chunks(rt: HostRuntime) -> Result<(), Fail> {
-    let alloc = rt.alloc();
+fn chains_over_chunks(rt: HostRuntime) {
     let bytes: &[u8] = b"a\xFFb\xE2\x82c";
     let end = Utf8LossyChunk {
         valid: "c",
         broken: b"",
     };
-    assert_eq!(rt; count(bytes), 3);
-    assert_eq!(rt; count(b""), 0);
-    assert_eq!(rt; nth_with_number(bytes, 2), Some((2, end)));
-    assert_eq!(rt; last(bytes), Some(end));
-    assert_eq!(rt; all_but_first(alloc, bytes)?.len(), 2);
-    assert!(rt; is_unbroken(b"ab"));
-    assert!(rt; !is_unbroken(bytes));
-    Ok(())
+    assert!(rt; count(bytes) == 3 && count(b"") == 0);
+    assert!(rt; nth_with_number(bytes, 2) == Some((2, end)));
+    assert!(rt; last(bytes) == Some(end));
+    assert!(rt; has_len(all_but_first(rt.alloc(), bytes), 2));
+    assert!(rt; is_unbroken(b"ab") && !is_unbroken(bytes));
 }

@@ -4,9 +4,9 @@ ghost use Rattle.std.specs.String.{string_bytes};
 ghost use Rattle.unix_bytes.specs.Lossy.{lossy_of};
 ghost use Rattle.unix_bytes.specs.Chunks.{chunk_of, chunks_of};
 
+use super::super::texts::assert_text;
 use std::alloc::{AllocError, Global};
-use std::test::Fail;
-use unix_bytes::bytes::UnixStr;
+use unix_bytes::bytes::{LossyText, UnixStr};
 use unix_bytes::lossy::{Utf8Lossy, Utf8LossyChunk, utf8_char_width};
 
 #[test]
@@ -21,7 +21,7 @@ fn widths_by_first_byte(rt: HostRuntime) {
     ];
     for (least, greatest, width) in ranges {
         for first in least..=greatest {
-            assert_eq!(rt; utf8_char_width(first), width, "{first}");
+            assert!(rt; utf8_char_width(first) == width, "{first}");
         }
     }
 }
@@ -50,57 +50,74 @@ fn has_broken(bytes: &[u8]) -> bool {
 }
 
 // Each source with its chunks, and what is displayed.
-#[test]
-fn chunks_of_sources(rt: HostRuntime) -> Result<(), Fail> {
-    let alloc = rt.alloc();
-    let rows: [(&[u8], &[(&str, &[u8])], &str); 10] = [
-        (b"", &[], ""),
-        (b"a", &[("a", b"")], "a"),
-        (b"\xFF", &[("", b"\xFF")], "\u{FFFD}"),
-        (
-            b"a\xFFb\xE2\x82",
-            &[("a", b"\xFF"), ("b", b"\xE2\x82")],
-            "a\u{FFFD}b\u{FFFD}",
-        ),
-        (b"\xC3(", &[("", b"\xC3"), ("(", b"")], "\u{FFFD}("),
-        (
-            b"\xF0\x9F\x98A",
-            &[("", b"\xF0\x9F\x98"), ("A", b"")],
-            "\u{FFFD}A",
-        ),
-        (
-            b"\xE0\x80\x80",
-            &[("", b"\xE0"), ("", b"\x80"), ("", b"\x80")],
-            "\u{FFFD}\u{FFFD}\u{FFFD}",
-        ),
-        (
-            b"\xED\xA0\x80",
-            &[("", b"\xED"), ("", b"\xA0"), ("", b"\x80")],
-            "\u{FFFD}\u{FFFD}\u{FFFD}",
-        ),
-        (
-            b"\xF4\x90\x80\x80",
-            &[("", b"\xF4"), ("", b"\x90"), ("", b"\x80"), ("", b"\x80")],
-            "\u{FFFD}\u{FFFD}\u{FFFD}\u{FFFD}",
-        ),
-        (b"\xEF\xBF\xBD", &[("\u{FFFD}", b"")], "\u{FFFD}"),
-    ];
-    for (source, chunks, text) in rows {
-        let got = collect_chunks(alloc, source)?;
-        assert_eq!(rt; got.len(), chunks.len(), "{source:?}");
-        for (chunk, (valid, broken)) in got.iter().zip(chunks) {
-            assert!(rt;
-                chunk.valid == *valid && chunk.broken == *broken,
-                "{source:?}"
-            );
+static SOURCES: [(&[u8], &[(&str, &[u8])], &str); 10] = [
+    (b"", &[], ""),
+    (b"a", &[("a", b"")], "a"),
+    (b"\xFF", &[("", b"\xFF")], "\u{FFFD}"),
+    (
+        b"a\xFFb\xE2\x82",
+        &[("a", b"\xFF"), ("b", b"\xE2\x82")],
+        "a\u{FFFD}b\u{FFFD}",
+    ),
+    (b"\xC3(", &[("", b"\xC3"), ("(", b"")], "\u{FFFD}("),
+    (
+        b"\xF0\x9F\x98A",
+        &[("", b"\xF0\x9F\x98"), ("A", b"")],
+        "\u{FFFD}A",
+    ),
+    (
+        b"\xE0\x80\x80",
+        &[("", b"\xE0"), ("", b"\x80"), ("", b"\x80")],
+        "\u{FFFD}\u{FFFD}\u{FFFD}",
+    ),
+    (
+        b"\xED\xA0\x80",
+        &[("", b"\xED"), ("", b"\xA0"), ("", b"\x80")],
+        "\u{FFFD}\u{FFFD}\u{FFFD}",
+    ),
+    (
+        b"\xF4\x90\x80\x80",
+        &[("", b"\xF4"), ("", b"\x90"), ("", b"\x80"), ("", b"\x80")],
+        "\u{FFFD}\u{FFFD}\u{FFFD}\u{FFFD}",
+    ),
+    (b"\xEF\xBF\xBD", &[("\u{FFFD}", b"")], "\u{FFFD}"),
+];
+
+// Whether these are the chunks.
+fn are_chunks(found: &[Utf8LossyChunk<'_>], wanted: &[(&str, &[u8])]) -> bool {
+    for (chunk, (valid, broken)) in found.iter().zip(wanted) {
+        if chunk.valid != *valid || chunk.broken != *broken {
+            return false;
         }
-        assert_eq!(rt; lossy_text(alloc, source)?.as_str(), text);
-        assert_eq!(rt;
-            UnixStr::from_bytes(source).to_string_lossy(alloc)?.as_str(),
-            text
-        );
     }
-    Ok(())
+    found.len() == wanted.len()
+}
+
+// Whether the source has these chunks.
+fn has_chunks(alloc: Global, source: &[u8], wanted: &[(&str, &[u8])]) -> bool {
+    match collect_chunks(alloc, source) {
+        Ok(found) => are_chunks(&found, wanted),
+        Err(AllocError) => false,
+    }
+}
+
+// Whether a lossy text was given, and is this one.
+fn is_lossy_text(given: Result<LossyText<'_>, AllocError>, wanted: &str) -> bool {
+    match given {
+        Ok(text) => text.as_str() == wanted,
+        Err(AllocError) => false,
+    }
+}
+
+#[test]
+fn chunks_of_sources(rt: HostRuntime) {
+    let alloc = rt.alloc();
+    for row in SOURCES.iter() {
+        assert!(rt; has_chunks(alloc, row.0, row.1), "{:?}", row.0);
+        assert_text(&rt, lossy_text(alloc, row.0), row.2);
+        let lossy = UnixStr::from_bytes(row.0).to_string_lossy(alloc);
+        assert!(rt; is_lossy_text(lossy, row.2), "{}", row.2);
+    }
 }
 
 #[test]
@@ -108,10 +125,17 @@ fn ended_iterators_stay_ended(rt: HostRuntime) {
     let mut chunks = Utf8Lossy::from_bytes(b"a\xFF").chunks();
     let copy = chunks;
     assert!(rt; chunks.next().is_some());
-    assert!(rt; chunks.next().is_none());
-    assert!(rt; chunks.next().is_none());
-    assert_eq!(rt; copy.count(), 1);
+    assert!(rt; chunks.next().is_none() && chunks.next().is_none());
+    assert!(rt; copy.count() == 1);
     assert!(rt; has_broken(b"a\xFF") && !has_broken(b"a"));
+}
+
+// Whether the first chunk is this text, and these broken bytes behind.
+fn begins_with(bytes: &[u8], text: &[u8], broken: &[u8]) -> bool {
+    match Utf8Lossy::from_bytes(bytes).chunks().next() {
+        Some(chunk) => chunk.valid.as_bytes() == text && chunk.broken == broken,
+        None => false,
+    }
 }
 
 // Stretches of ASCII that are longer than what is read at once, with FF, and with U+00E9, at each
@@ -122,13 +146,7 @@ fn long_stretches(rt: HostRuntime) {
         let mut broken = [b'a'; 40];
         broken[place] = 0xFF;
         assert!(rt; UnixStr::from_bytes(&broken).to_str().is_none(), "{place}");
-        match Utf8Lossy::from_bytes(&broken).chunks().next() {
-            Some(chunk) => {
-                assert_eq!(rt; chunk.valid.as_bytes(), &broken[..place]);
-                assert_eq!(rt; chunk.broken, b"\xFF".as_slice());
-            }
-            None => assert!(rt; false, "{place}"),
-        }
+        assert!(rt; begins_with(&broken, &broken[..place], b"\xFF"), "{place}");
         let mut text = [b'a'; 41];
         text[place] = 0xC3;
         text[place + 1] = 0xA9;

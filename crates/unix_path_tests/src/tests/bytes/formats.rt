@@ -1,61 +1,61 @@
 //! Rows of printed byte strings, and writers that fail.
-use std::alloc::Global;
+use super::super::texts::{assert_debug_text, assert_text};
+use std::alloc::{AllocError, Global};
 use std::fmt;
 use std::fmt::Write;
+use std::process::Abort;
 use std::test::Fail;
 use unix_bytes::bytes::UnixStr;
 use unix_bytes::lossy::Utf8Lossy;
 
 // Text is padded as text is; anything else ignores width, precision and fill.
 #[test]
-fn padding(rt: HostRuntime) -> Result<(), Fail> {
+fn padding(rt: HostRuntime) {
     let alloc = rt.alloc();
     let text = Utf8Lossy::from_bytes(b"ab");
     let nothing = Utf8Lossy::from_bytes(b"");
     let broken = Utf8Lossy::from_bytes(b"a\xFF");
-    assert_eq!(rt; format!(in alloc; "{text:>5}")?.as_str(), "   ab");
-    assert_eq!(rt; format!(in alloc; "{text:.1}")?.as_str(), "a");
-    assert_eq!(rt; format!(in alloc; "{nothing:*<4}")?.as_str(), "****");
-    assert_eq!(rt; format!(in alloc; "{broken:>5}")?.as_str(), "a\u{FFFD}");
-    assert_eq!(rt; format!(in alloc; "{broken:*<4.1}")?.as_str(), "a\u{FFFD}");
-    Ok(())
+    assert_text(&rt, format!(in alloc; "{text:>5}"), "   ab");
+    assert_text(&rt, format!(in alloc; "{text:.1}"), "a");
+    assert_text(&rt, format!(in alloc; "{nothing:*<4}"), "****");
+    assert_text(&rt, format!(in alloc; "{broken:>5}"), "a\u{FFFD}");
+    assert_text(&rt, format!(in alloc; "{broken:*<4.1}"), "a\u{FFFD}");
 }
 
+// Bytes, and their lossy text.
+static LOSSY_TEXTS: [(&[u8], &str); 5] = [
+    (b"/tmp", "/tmp"),
+    (b"a\xFF", "a\u{FFFD}"),
+    (b"'\"\\\n\x00\x7F", "'\"\\\n\0\u{7F}"),
+    (
+        b"\xCC\x81\xE2\x80\x8B\xC3\xA9\xE2\x82",
+        "\u{301}\u{200B}\u{E9}\u{FFFD}",
+    ),
+    (b"", ""),
+];
+
 // The debug form is that of the lossy text.
+fn assert_debug_texts(rt: &impl Abort, alloc: Global, bytes: &[u8], text: &str) {
+    match format!(in alloc; "{text:?}") {
+        Ok(wanted) => {
+            assert_debug_text(rt, alloc, &UnixStr::from_bytes(bytes), wanted.as_str());
+            assert_debug_text(rt, alloc, &Utf8Lossy::from_bytes(bytes), wanted.as_str());
+        }
+        Err(AllocError) => assert!(rt; false),
+    }
+}
+
 #[test]
-fn debug_texts(rt: HostRuntime) -> Result<(), Fail> {
+fn debug_texts(rt: HostRuntime) {
     let alloc = rt.alloc();
-    let rows: [(&[u8], &str); 5] = [
-        (b"/tmp", "/tmp"),
-        (b"a\xFF", "a\u{FFFD}"),
-        (b"'\"\\\n\x00\x7F", "'\"\\\n\0\u{7F}"),
-        (
-            b"\xCC\x81\xE2\x80\x8B\xC3\xA9\xE2\x82",
-            "\u{301}\u{200B}\u{E9}\u{FFFD}",
-        ),
-        (b"", ""),
-    ];
-    for (bytes, text) in rows {
-        let wanted = format!(in alloc; "{text:?}")?;
-        assert_eq!(rt;
-            format!(in alloc; "{:?}", UnixStr::from_bytes(bytes))?,
-            wanted
-        );
-        assert_eq!(rt;
-            format!(in alloc; "{:?}", Utf8Lossy::from_bytes(bytes))?,
-            wanted
-        );
+    for row in LOSSY_TEXTS.iter() {
+        assert_debug_texts(&rt, alloc, row.0, row.1);
     }
-    let name = UnixStr::new("/tmp");
-    assert_eq!(rt; format!(in alloc; "{name:?}")?.as_str(), "\"/tmp\"");
+    assert_debug_text(&rt, alloc, &UnixStr::new("/tmp"), "\"/tmp\"");
+    let wanted = "Utf8LossyChunk { valid: \"a\", broken: [255] }";
     for chunk in Utf8Lossy::from_bytes(b"a\xFF").chunks() {
-        let debug = format!(in alloc; "{chunk:?}")?;
-        assert_eq!(rt;
-            debug.as_str(),
-            "Utf8LossyChunk { valid: \"a\", broken: [255] }"
-        );
+        assert_debug_text(&rt, alloc, &chunk, wanted);
     }
-    Ok(())
 }
 
 // A writer that takes `most` writes, and refuses all others.

@@ -1,9 +1,29 @@
 //! Rows of lossy texts, borrowed and owned.
+use super::super::texts::{assert_debug_text, assert_text};
 use std::alloc::{AllocError, Global};
 use std::cmp::Ordering;
 use std::hash::{DefaultHasher, Hash, Hasher};
+use std::process::Abort;
 use std::test::Fail;
 use unix_bytes::bytes::{LossyText, UnixStr};
+
+// Whether a borrowed and an owned text are equal, and feed a hasher alike.
+fn are_alike<'a>(borrowed: &LossyText<'a>, owned: &LossyText<'a>) -> bool {
+    *borrowed == *owned
+        && borrowed.cmp(&*owned) == Ordering::Equal
+        && borrowed.partial_cmp(&*owned) == Some(Ordering::Equal)
+        && hash_of(&*borrowed) == hash_of(&*owned)
+        && matches!(*borrowed, LossyText::Borrowed(_))
+        && matches!(*owned, LossyText::Owned(_))
+}
+
+// Asserts that the text of 61 FF is printed right: plain, padded, cut and in its debug form.
+fn assert_printed(rt: &impl Abort, alloc: Global, text: &LossyText<'_>) {
+    assert_text(rt, format!(in alloc; "{text}"), "a\u{FFFD}");
+    assert_text(rt, format!(in alloc; "{text:>4}"), "  a\u{FFFD}");
+    assert_text(rt, format!(in alloc; "{text:*<4.1}"), "a***");
+    assert_debug_text(rt, alloc, text, "\"a\u{FFFD}\"");
+}
 
 // A borrowed and an owned text of the same bytes are equal, feed a hasher alike and print alike.
 #[test]
@@ -11,52 +31,49 @@ fn borrowed_and_owned_are_alike(rt: HostRuntime) -> Result<(), Fail> {
     let alloc = rt.alloc();
     let borrowed = UnixStr::new("a\u{FFFD}").to_string_lossy(alloc)?;
     let owned = UnixStr::from_bytes(b"a\xFF").to_string_lossy(alloc)?;
-    assert!(rt; matches!(borrowed, LossyText::Borrowed(_)));
-    assert!(rt; matches!(owned, LossyText::Owned(_)));
-    assert!(rt; borrowed == owned);
-    assert_eq!(rt; borrowed.cmp(&owned), Ordering::Equal);
-    assert_eq!(rt; borrowed.partial_cmp(&owned), Some(Ordering::Equal));
-    assert_eq!(rt; hash_of(&borrowed), hash_of(&owned));
-    assert!(rt; is_printed(alloc, &borrowed)? && is_printed(alloc, &owned)?);
+    assert!(rt; are_alike(&borrowed, &owned));
+    assert_printed(&rt, alloc, &borrowed);
+    assert_printed(&rt, alloc, &owned);
     Ok(())
-}
-
-// Whether the text of 61 FF is printed right: plain, padded, cut and in its debug form.
-fn is_printed(alloc: Global, text: &LossyText<'_>) -> Result<bool, AllocError> {
-    Ok(
-        format!(in alloc; "{text}")?.as_str() == "a\u{FFFD}"
-            && format!(in alloc; "{text:>4}")?.as_str() == "  a\u{FFFD}"
-            && format!(in alloc; "{text:*<4.1}")?.as_str() == "a***"
-            && format!(in alloc; "{text:?}")?.as_str() == "\"a\u{FFFD}\"",
-    )
 }
 
 // Lossy texts are ordered by their bytes, and a proper beginning is less.
 #[test]
-fn texts_in_order(rt: HostRuntime) -> Result<(), Fail> {
-    let alloc = rt.alloc();
+fn texts_in_order(rt: HostRuntime) {
     let rows: [&[u8]; 5] = [b"", b"a", b"a\0", b"b", b"\xFF"];
     for (i, first) in rows.iter().enumerate() {
         for (j, second) in rows.iter().enumerate() {
-            let x = UnixStr::from_bytes(first).to_string_lossy(alloc)?;
-            let y = UnixStr::from_bytes(second).to_string_lossy(alloc)?;
-            assert_eq!(rt; x.cmp(&y), i.cmp(&j), "{x:?} {y:?}");
-            assert_eq!(rt; x == y, i == j, "{x:?} {y:?}");
-            assert_eq!(rt; x < y, i < j, "{x:?} {y:?}");
+            let answer = are_ordered(rt.alloc(), first, second, i.cmp(&j));
+            assert!(rt; matches!(answer, Ok(true)), "{i} {j}");
         }
     }
-    Ok(())
+}
+
+// Whether the lossy texts of these bytes compare so.
+fn are_ordered(
+    alloc: Global,
+    first: &[u8],
+    second: &[u8],
+    order: Ordering,
+) -> Result<bool, AllocError> {
+    let x = UnixStr::from_bytes(first).to_string_lossy(alloc)?;
+    let y = UnixStr::from_bytes(second).to_string_lossy(alloc)?;
+    Ok(x.cmp(&y) == order && (x == y) == order.is_eq() && (x < y) == order.is_lt())
+}
+
+// The lossy text of the bytes, owned.
+fn owned_text(alloc: Global, bytes: &[u8]) -> Result<String, AllocError> {
+    UnixStr::from_bytes(bytes)
+        .to_string_lossy(alloc)?
+        .into_owned(alloc)
 }
 
 #[test]
-fn texts_into_owned(rt: HostRuntime) -> Result<(), Fail> {
+fn texts_into_owned(rt: HostRuntime) {
     let alloc = rt.alloc();
-    let rows: [(&[u8], &str); 3] = [(b"ab", "ab"), (b"a\xFF", "a\u{FFFD}"), (b"", "")];
-    for (source, text) in rows {
-        let lossy = UnixStr::from_bytes(source).to_string_lossy(alloc)?;
-        assert_eq!(rt; lossy.into_owned(alloc)?.as_str(), text);
-    }
-    Ok(())
+    assert_text(&rt, owned_text(alloc, b"ab"), "ab");
+    assert_text(&rt, owned_text(alloc, b"a\xFF"), "a\u{FFFD}");
+    assert_text(&rt, owned_text(alloc, b""), "");
 }
 
 fn hash_of(text: &LossyText<'_>) -> u64 {
