@@ -16,3 +16,11 @@ fn is_joined(joined: Result<PathBuf, WithinError>, want: Option<&[u8]>) -> bool 
         Err(WithinError::Memory(_)) => false,
     }
 }
+
+// The bytes of the text, if there is one.
+fn bytes_of<'a>(text: Option<&'a str>) -> Option<&'a [u8]> {
+    match text {
+        Some(text) => Some(text.as_bytes()),
+        None => None,
+    }
+}

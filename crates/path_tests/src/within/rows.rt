@@ -1,10 +1,9 @@
 //! Rows of resolved paths, joins under a root, and ways.
-use super::is_joined;
+use super::{bytes_of, is_joined};
 use path_within::resolved::resolved;
 use path_within::way::way;
 use path_within::within::{climbs, join_plain, join_within};
 use std::alloc::{AllocError, Global};
-use std::test::Fail;
 use unix_path::Path;
 
 // A path, and what it resolves to.
@@ -43,8 +42,11 @@ static CLIMBS: [(&'static str, bool); 12] = [
     ("/a", true),
 ];
 
+// Two paths, and the path that is made of both, if there is one.
+type Row = (&'static str, &'static str, Option<&'static str>);
+
 // A root, a request, and their join within, unless it is refused.
-static JOINS_WITHIN: [(&'static str, &'static str, Option<&'static str>); 14] = [
+static JOINS_WITHIN: [Row; 14] = [
     ("/srv/www", "a/../b", Some("/srv/www/b")),
     ("/srv/www", "", Some("/srv/www")),
     ("/srv/www", ".", Some("/srv/www")),
@@ -62,7 +64,7 @@ static JOINS_WITHIN: [(&'static str, &'static str, Option<&'static str>); 14] = 
 ];
 
 // A root, a request, and their plain join, unless it is refused.
-static PLAIN_JOINS: [(&'static str, &'static str, Option<&'static str>); 9] = [
+static PLAIN_JOINS: [Row; 9] = [
     ("/srv/../www", "./a", Some("/srv/../www/./a")),
     ("/srv/../www", "a//b/", Some("/srv/../www/a//b/")),
     ("/srv", "", Some("/srv/")),
@@ -75,7 +77,7 @@ static PLAIN_JOINS: [(&'static str, &'static str, Option<&'static str>); 9] = [
 ];
 
 // Two paths, and the way from the first to the other, if there is one.
-static WAYS: [(&'static str, &'static str, Option<&'static str>); 14] = [
+static WAYS: [Row; 14] = [
     ("/a/b/c", "/a/d", Some("../../d")),
     ("a", "a", Some("")),
     ("", "", Some("")),
@@ -93,60 +95,61 @@ static WAYS: [(&'static str, &'static str, Option<&'static str>); 14] = [
 ];
 
 // Whether the path resolves to these bytes.
-fn is_resolved(alloc: Global, path: &str, want: &str) -> Result<bool, AllocError> {
-    let found = resolved(alloc, Path::from_text(path))?;
-    Ok(found.as_path().as_unix_str().as_bytes() == want.as_bytes())
+fn is_resolved(alloc: Global, path: &str, want: &str) -> bool {
+    match resolved(alloc, Path::from_text(path)) {
+        Ok(found) => found.as_path().as_unix_str().as_bytes() == want.as_bytes(),
+        Err(AllocError) => false,
+    }
 }
 
-// Whether the way is this one.
-fn is_way(alloc: Global, from: &str, to: &str, want: Option<&str>) -> Result<bool, AllocError> {
-    match way(alloc, Path::from_text(from), Path::from_text(to))? {
-        Some(found) => {
-            let bytes = found.as_path().as_unix_str().as_bytes();
-            Ok(want.map(|text| text.as_bytes()) == Some(bytes))
-        }
-        None => Ok(want.is_none()),
+// Whether the join within is that of the row.
+fn is_joined_within(alloc: Global, row: &Row) -> bool {
+    let joined = join_within(alloc, Path::from_text(row.0), Path::from_text(row.1));
+    is_joined(joined, bytes_of(row.2))
+}
+
+// Whether the plain join is that of the row.
+fn is_joined_plain(alloc: Global, row: &Row) -> bool {
+    let joined = join_plain(alloc, Path::from_text(row.0), Path::from_text(row.1));
+    is_joined(joined, bytes_of(row.2))
+}
+
+// Whether the way is that of the row.
+fn is_way(alloc: Global, row: &Row) -> bool {
+    match way(alloc, Path::from_text(row.0), Path::from_text(row.1)) {
+        Ok(Some(found)) => bytes_of(row.2) == Some(found.as_path().as_unix_str().as_bytes()),
+        Ok(None) => row.2.is_none(),
+        Err(AllocError) => false,
     }
 }
 
 #[test]
-fn rows_resolved(rt: HostRuntime) -> Result<(), Fail> {
-    for (path, want) in RESOLVED_PATHS {
-        assert!(rt; is_resolved(rt.alloc(), path, want)?, "{path}");
+fn rows_resolved(rt: HostRuntime) {
+    for row in RESOLVED_PATHS.iter() {
+        assert!(rt; is_resolved(rt.alloc(), row.0, row.1), "{}", row.0);
     }
-    Ok(())
 }
 
 #[test]
 fn rows_that_climb(rt: HostRuntime) {
-    for (path, want) in CLIMBS {
-        assert_eq!(rt; climbs(Path::from_text(path)), want, "{path}");
+    for row in CLIMBS.iter() {
+        assert!(rt; climbs(Path::from_text(row.0)) == row.1, "{}", row.0);
     }
 }
 
 #[test]
 fn rows_joined(rt: HostRuntime) {
-    let alloc = rt.alloc();
-    for (root, request, want) in JOINS_WITHIN {
-        let joined = join_within(alloc, Path::from_text(root), Path::from_text(request));
-        assert!(rt;
-            is_joined(joined, want.map(|text| text.as_bytes())),
-            "{request}"
-        );
+    for row in JOINS_WITHIN.iter() {
+        assert!(rt; is_joined_within(rt.alloc(), row), "{}", row.1);
     }
-    for (root, request, want) in PLAIN_JOINS {
-        let joined = join_plain(alloc, Path::from_text(root), Path::from_text(request));
-        assert!(rt;
-            is_joined(joined, want.map(|text| text.as_bytes())),
-            "{request}"
-        );
+    for row in PLAIN_JOINS.iter() {
+        assert!(rt; is_joined_plain(rt.alloc(), row), "{}", row.1);
     }
 }
 
 #[test]
-fn rows_of_ways(rt: HostRuntime) -> Result<(), Fail> {
-    for (from, to, want) in WAYS {
-        assert!(rt; is_way(rt.alloc(), from, to, want)?, "{from} {to}");
+fn rows_of_ways(rt: HostRuntime) {
+    for row in WAYS.iter() {
+        assert!(rt; is_way(rt.alloc(), row), "{} {}", row.0, row.1);
     }
-    Ok(())
 }

@@ -120,20 +120,39 @@ fn are_joined(alloc: Global, a: &Short<'_>, b: &Short<'_>) -> Result<bool, Alloc
     )
 }
 
-#[test]
-fn all_short_pairs(rt: HostRuntime) -> Result<(), Fail> {
-    let alloc = rt.alloc();
-    let strings = strings_over(alloc, b"/.a", SHORTER_STRINGS)?;
-    assert_eq!(rt; strings.len(), STRINGS);
+// What is asked of each of these paths.
+fn read_paths(alloc: Global, strings: &[Vec<u8>]) -> Result<Vec<Short<'_>>, AllocError> {
     let mut paths = Vec::new(alloc);
-    for string in strings.iter() {
+    for string in strings {
         paths.push(read_path(alloc, string.as_slice())?)?;
     }
-    for first in paths.iter() {
-        for second in paths.iter() {
-            let (a, b) = (first.path.bytes, second.path.bytes);
-            assert!(rt; are_joined(alloc, first, second)?, "{a:?} {b:?}");
+    Ok(paths)
+}
+
+// How many paths are joined to the first, and reached from it, before one is not.
+fn paths_joined(alloc: Global, a: &Short<'_>, paths: &[Short<'_>]) -> Result<usize, AllocError> {
+    let mut count = 0_usize;
+    for b in paths {
+        if !are_joined(alloc, a, b)? {
+            return Ok(count);
         }
+        count = count.saturating_add(1);
+    }
+    Ok(count)
+}
+
+#[test]
+fn all_short_pairs(rt: HostRuntime) -> Result<(), Fail> {
+    let strings = strings_over(rt.alloc(), b"/.a", SHORTER_STRINGS)?;
+    let paths = read_paths(rt.alloc(), &strings)?;
+    assert!(rt; paths.len() == STRINGS);
+    for first in paths.iter() {
+        let joined = paths_joined(rt.alloc(), first, &paths)?;
+        assert!(rt;
+            joined == STRINGS,
+            "{:?}, string {joined}",
+            first.path.bytes
+        );
     }
     Ok(())
 }

@@ -30,22 +30,39 @@ fn is_normal(path: Path<'_>) -> bool {
     is_normal
 }
 
-// Whether the path resolves as it is read plainly, is normal then, and stays so.
+// Whether the path resolves to these bytes.
+fn resolves_to(alloc: Global, path: Path<'_>, want: &[u8]) -> Result<bool, AllocError> {
+    let found = resolved(alloc, path)?;
+    Ok(found.as_path().as_unix_str().as_bytes() == want)
+}
+
+// Whether these bytes are a path that is normal, resolves to itself and is its own spelling.
+fn stays(alloc: Global, bytes: &[u8]) -> Result<bool, AllocError> {
+    let path = Path::from_bytes(bytes);
+    let spelled = canonical(alloc, path)?;
+    Ok(is_normal(path) && spelled.as_path().as_unix_str().as_bytes() == bytes)
+}
+
+// Whether the path resolves to these bytes, and they to themselves, and so does its spelling.
+fn all_resolve_to(alloc: Global, path: Path<'_>, want: &[u8]) -> Result<bool, AllocError> {
+    let spelled = canonical(alloc, path)?;
+    Ok(
+        resolves_to(alloc, path, want)?
+            && resolves_to(alloc, Path::from_bytes(want), want)?
+            && resolves_to(alloc, spelled.as_path(), want)?,
+    )
+}
+
+// Whether the path resolves as it is read plainly, is normal then, and stays so; and whether it
+// climbs where it is read so.
 fn is_resolved(alloc: Global, bytes: &[u8]) -> Result<bool, AllocError> {
     let path = Path::from_bytes(bytes);
     let want = plain::resolved_of(alloc, bytes)?;
-    let found = resolved(alloc, path)?;
-    let again = resolved(alloc, found.as_path())?;
-    let spelled = canonical(alloc, found.as_path())?;
-    let alike = resolved(alloc, canonical(alloc, path)?.as_path())?;
-    let found = found.as_path().as_unix_str().as_bytes();
     Ok(
-        found == want.as_slice()
-            && is_normal(Path::from_bytes(found))
-            && again.as_path().as_unix_str().as_bytes() == found
-            && spelled.as_path().as_unix_str().as_bytes() == found
-            && alike.as_path().as_unix_str().as_bytes() == found
-            && found.len() <= bytes.len(),
+        want.len() <= bytes.len()
+            && climbs(path) == plain::climbs(bytes)
+            && all_resolve_to(alloc, path, &want)?
+            && stays(alloc, &want)?,
     )
 }
 
@@ -53,15 +70,9 @@ fn is_resolved(alloc: Global, bytes: &[u8]) -> Result<bool, AllocError> {
 fn all_short_paths(rt: HostRuntime) -> Result<(), Fail> {
     let alloc = rt.alloc();
     let strings = strings_over(alloc, b"/.a", SHORTER_STRINGS)?;
-    assert_eq!(rt; strings.len(), STRINGS);
+    assert!(rt; strings.len() == STRINGS);
     for string in strings.iter() {
-        let bytes = string.as_slice();
-        assert!(rt; is_resolved(alloc, bytes)?, "{bytes:?}");
-        assert_eq!(rt;
-            climbs(Path::from_bytes(bytes)),
-            plain::climbs(bytes),
-            "{bytes:?}"
-        );
+        assert!(rt; is_resolved(alloc, string.as_slice())?, "{string:?}");
     }
     Ok(())
 }

@@ -3,6 +3,7 @@
 use super::is_joined;
 use path_within::WithinError;
 use path_within::within::{join_plain, join_within};
+use std::alloc::{AllocError, Global};
 use std::test::Fail;
 use unix_path::Path;
 
@@ -34,43 +35,64 @@ static REQUESTS: [(&'static [u8], Option<&'static [u8]>); 24] = [
     (b"\xC0\xAE\xC0\xAE/etc", Some(b"/www/\xC0\xAE\xC0\xAE/etc")),
 ];
 
+// What the plain join gives, where the join within gives this: it differs in the request alone that
+// has a `..` behind a name, and keeps all slashes.
+fn plain_want(request: &'static [u8], within: Option<&'static [u8]>) -> Option<&'static [u8]> {
+    if request == b"a\0/../etc".as_slice() {
+        None
+    } else if request == b"....//....//etc".as_slice() {
+        Some(b"/www/....//....//etc")
+    } else {
+        within
+    }
+}
+
+// Whether the join of the request with `/www` is this, or refused.
+fn is_joined_within(alloc: Global, request: &[u8], want: Option<&[u8]>) -> bool {
+    is_joined(
+        join_within(alloc, Path::from_bytes(b"/www"), Path::from_bytes(request)),
+        want,
+    )
+}
+
+// Whether the plain join of the request with `/www` is this, or refused.
+fn is_joined_plain(alloc: Global, request: &[u8], want: Option<&[u8]>) -> bool {
+    is_joined(
+        join_plain(alloc, Path::from_bytes(b"/www"), Path::from_bytes(request)),
+        want,
+    )
+}
+
 #[test]
 fn bad_requests(rt: HostRuntime) {
-    let root = Path::from_bytes(b"/www");
-    for (request, want) in REQUESTS {
-        let joined = join_within(rt.alloc(), root, Path::from_bytes(request));
-        assert!(rt; is_joined(joined, want), "{request:?}");
+    for row in REQUESTS.iter() {
+        assert!(rt; is_joined_within(rt.alloc(), row.0, row.1), "{:?}", row.0);
     }
 }
 
 #[test]
 fn bad_plain_requests(rt: HostRuntime) {
-    let root = Path::from_bytes(b"/www");
-    for (request, within) in REQUESTS {
-        // The plain join differs in the request alone that has a `..` behind a name.
-        let want = if request == b"a\0/../etc".as_slice() {
-            None
-        } else if request == b"....//....//etc".as_slice() {
-            Some(b"/www/....//....//etc".as_slice())
-        } else {
-            within
-        };
-        let joined = join_plain(rt.alloc(), root, Path::from_bytes(request));
-        assert!(rt; is_joined(joined, want), "{request:?}");
+    for row in REQUESTS.iter() {
+        let want = plain_want(row.0, row.1);
+        assert!(rt; is_joined_plain(rt.alloc(), row.0, want), "{:?}", row.0);
     }
+}
+
+// Whether the error's text is this, and behind two spaces in a field of 22.
+fn is_shown(
+    alloc: Global,
+    error: &WithinError,
+    text: &str,
+    wide: &str,
+) -> Result<bool, AllocError> {
+    let shown = format!(in alloc; "{error}")?;
+    let filled = format!(in alloc; "{error:>22}")?;
+    Ok(shown.as_str() == text && filled.as_str() == wide)
 }
 
 #[test]
 fn texts_of_errors(rt: HostRuntime) -> Result<(), Fail> {
-    let alloc = rt.alloc();
-    let escapes = WithinError::Escapes;
-    assert_eq!(rt;
-        format!(in alloc; "{escapes}")?.as_str(),
-        "path leaves its root"
-    );
-    assert_eq!(rt;
-        format!(in alloc; "{escapes:>22}")?.as_str(),
-        "  path leaves its root"
-    );
+    let (text, wide) = ("path leaves its root", "  path leaves its root");
+    assert!(rt; is_shown(rt.alloc(), &WithinError::Escapes, text, wide)?);
     Ok(())
 }
