@@ -53,16 +53,21 @@ fn count_under<V>(table: &PathTable<V>, base: &PathBuf) -> usize
     table.walk_under(base).count()
 }
 
+// Whether the path `a/b` names what is inserted in its place, until it is removed.
+fn is_found(alloc: Global, table: &mut PathTable<u8>, path: &PathBuf) -> Result<bool, AllocError> {
+    let found = insert_then_get(table, PathBuf::from_text(alloc, "a//b/")?, path, 7)?;
+    write(table, path, 8);
+    let written = table.get(path).copied();
+    let count = count_under(table, &PathBuf::from_text(alloc, "a")?);
+    let left = remove_then_get(table, path);
+    Ok(found == Some(7) && written == Some(8) && count == 1 && left == None)
+}
+
 #[test]
 fn what_was_inserted_is_found(rt: HostRuntime) -> Result<(), Fail> {
     let alloc = rt.alloc();
     let mut table = PathTable::new(alloc);
-    let other = PathBuf::from_text(alloc, "a/b")?;
-    let found = insert_then_get(&mut table, PathBuf::from_text(alloc, "a//b/")?, &other, 7)?;
-    assert_eq!(rt; found, Some(7));
-    write(&mut table, &other, 8);
-    assert_eq!(rt; table.get(&other).copied(), Some(8));
-    assert_eq!(rt; count_under(&table, &PathBuf::from_text(alloc, "a")?), 1);
-    assert_eq!(rt; remove_then_get(&mut table, &other), None);
+    let path = PathBuf::from_text(alloc, "a/b")?;
+    assert!(rt; is_found(alloc, &mut table, &path)?);
     Ok(())
 }
