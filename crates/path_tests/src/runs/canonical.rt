@@ -19,18 +19,18 @@ static ROWS: [(&'static str, &'static str); 9] = [
 ];
 
 // Whether the canonical spelling of the path is this one.
-fn is_spelled(alloc: Global, path: &str, want: &str) -> Result<bool, AllocError> {
-    let spelled = canonical(alloc, Path::from_text(path))?;
-    Ok(spelled.as_path().as_unix_str() == UnixStr::new(want))
+fn is_spelled(alloc: Global, path: &str, want: &str) -> bool {
+    match canonical(alloc, Path::from_text(path)) {
+        Ok(spelled) => spelled.as_path().as_unix_str() == UnixStr::new(want),
+        Err(AllocError) => false,
+    }
 }
 
 #[test]
-fn rows_of_spellings(rt: HostRuntime) -> Result<(), Fail> {
-    let alloc = rt.alloc();
-    for (path, want) in ROWS {
-        assert!(rt; is_spelled(alloc, path, want)?, "{path}");
+fn rows_of_spellings(rt: HostRuntime) {
+    for row in ROWS.iter() {
+        assert!(rt; is_spelled(rt.alloc(), row.0, row.1), "{}", row.0);
     }
-    Ok(())
 }
 
 #[test]
@@ -38,9 +38,6 @@ fn names_collected(rt: HostRuntime) -> Result<(), Fail> {
     let names = ["/", "feel", "the.force"];
     let paths = names.iter().map(|name| Path::new(UnixStr::new(name)));
     let path = PathBuf::from_iter(rt.alloc(), paths)?;
-    assert_eq!(rt;
-        path.as_path().as_unix_str(),
-        UnixStr::new("/feel/the.force")
-    );
+    assert!(rt; path.as_path().as_unix_str() == UnixStr::new("/feel/the.force"));
     Ok(())
 }

@@ -217,19 +217,16 @@ fn name(text: &str) -> Component<'_> {
 #[test]
 fn numbers_of_parts(rt: HostRuntime) {
     let long = path("/a/../b//c/.");
-    assert_eq!(rt; count(long), 5);
-    assert_eq!(rt; count(path("")), 0);
-    assert_eq!(rt; shared_len(long, path("/a/./../c")), 3);
-    assert_eq!(rt; count_names(long), 3);
-    assert_eq!(rt; count_bytes(long), 5);
-    assert_eq!(rt; count_ancestors(path("../a")), 3);
+    assert!(rt; count(long) == 5 && count(path("")) == 0);
+    assert!(rt; shared_len(long, path("/a/./../c")) == 3);
+    assert!(rt; count_names(long) == 3 && count_bytes(long) == 5);
+    assert!(rt; count_ancestors(path("../a")) == 3);
 }
 
 #[test]
 fn parts_by_number(rt: HostRuntime) {
     let long = path("/a/../b//c/.");
-    assert!(rt; nth(long, 3) == Some(name("b")));
-    assert!(rt; nth(long, 5) == None);
+    assert!(rt; nth(long, 3) == Some(name("b")) && nth(long, 5) == None);
     assert!(rt; last(long) == Some(name("c")));
     assert!(rt; nth_with_number(long, 2) == Some((2, Component::ParentDir)));
     assert!(rt; nth_bytes(long, 0) == Some(UnixStr::new("/")));
@@ -239,12 +236,9 @@ fn parts_by_number(rt: HostRuntime) {
 fn parts_that_are_sought(rt: HostRuntime) {
     let long = path("/a/../b//c/.");
     assert!(rt; first_up(long) == Some(Component::ParentDir));
-    assert_eq!(rt; place_up(long), Some(2));
-    assert_eq!(rt; place_up(path("a/b")), None);
-    assert!(rt; goes_up(long));
-    assert!(rt; !goes_up(path("a/..b")));
-    assert!(rt; all_names(path("a/b")));
-    assert!(rt; !all_names(path("./a")));
+    assert!(rt; place_up(long) == Some(2) && place_up(path("a/b")) == None);
+    assert!(rt; goes_up(long) && !goes_up(path("a/..b")));
+    assert!(rt; all_names(path("a/b")) && !all_names(path("./a")));
 }
 
 #[test]
@@ -281,7 +275,7 @@ fn lists_of_bytes_from_the_end(rt: HostRuntime) {
 fn buffers_and_parents(rt: HostRuntime) -> Result<(), Fail> {
     let alloc = rt.alloc();
     let buffer = PathBuf::from_text(alloc, "/a/b/")?;
-    assert_eq!(rt; last_of_buffer(&buffer), Some(UnixStr::new("b")));
+    assert!(rt; last_of_buffer(&buffer) == Some(UnixStr::new("b")));
     let above = [path("/a"), path("/")];
     assert!(rt; is_list(parents(alloc, buffer.as_path()), above.as_slice()));
     assert!(rt; nth_ancestor(buffer.as_path(), 2) == Some((2, path("/"))));

@@ -1,32 +1,60 @@
 //! Rows of equal paths that are edited alike.
+use super::edits::{Verb, edit_of};
 use path_runs::edits::apply;
-use path_runs::{Answer, ApplyError, Edit};
+use path_runs::{Answer, ApplyError};
 use std::alloc::Global;
 use std::test::Fail;
+use unix_path::PathBuf;
 use unix_path::bytes::UnixStr;
-use unix_path::{Path, PathBuf};
 
-fn text(s: &str) -> UnixStr<'_> {
-    UnixStr::new(s)
+// An edit of two equal paths, what each is then, and the answer.
+type Row = (Verb, &'static str, &'static str, &'static str, Answer);
+
+static ROWS: [Row; 6] = [
+    (
+        Verb::Added,
+        "x/y",
+        "a/./..foo",
+        "a/..foo",
+        Answer::Separator,
+    ),
+    (
+        Verb::Added,
+        "x",
+        "a/./..foo.x",
+        "a/..foo.x",
+        Answer::Flag(true),
+    ),
+    (
+        Verb::Extension,
+        "",
+        "a/./..foo",
+        "a/..foo",
+        Answer::Flag(true),
+    ),
+    (Verb::Extension, "", "a/./.", "a/.", Answer::Flag(true)),
+    (Verb::Push, "b", "a/././b", "a/./b", Answer::Plain),
+    (Verb::Pop, "", "a", "a", Answer::Flag(true)),
+];
+
+// Whether the edit of the row answers as it says, and leaves these bytes.
+fn is_edited(alloc: Global, path: &mut PathBuf, row: &Row, want: &str) -> Result<bool, ApplyError> {
+    let edits = [edit_of(row.0, row.1)];
+    let answers = [row.4];
+    let given = apply(alloc, path, edits.as_slice())?;
+    Ok(given.as_slice() == answers.as_slice() && path.as_path().as_unix_str() == UnixStr::new(want))
 }
 
-fn has_bytes(path: &PathBuf, want: &str) -> bool {
-    path.as_path().as_unix_str() == text(want)
-}
-
-// Whether the edit answers this on both paths, and leaves them equal.
+// Whether the edit of the row answers alike on both paths, and leaves them equal.
 fn is_alike(
     alloc: Global,
     longer: &mut PathBuf,
     shorter: &mut PathBuf,
-    edit: Edit<'_>,
-    want: Answer,
+    row: &Row,
 ) -> Result<bool, ApplyError> {
-    let first = apply(alloc, longer, [edit].as_slice())?;
-    let second = apply(alloc, shorter, [edit].as_slice())?;
     Ok(
-        first.as_slice() == [want].as_slice()
-            && second.as_slice() == [want].as_slice()
+        is_edited(alloc, longer, row, row.2)?
+            && is_edited(alloc, shorter, row, row.3)?
             && longer.as_path() == shorter.as_path(),
     )
 }
@@ -36,45 +64,10 @@ fn equal_paths_stay_equal(rt: HostRuntime) -> Result<(), Fail> {
     let alloc = rt.alloc();
     let mut longer = PathBuf::from_text(alloc, "a/./..foo")?;
     let mut shorter = PathBuf::from_text(alloc, "a/..foo")?;
-    assert_eq!(rt; longer.as_path(), shorter.as_path());
-    let rows = [
-        (
-            Edit::AddExtension(text("x/y")),
-            "a/./..foo",
-            "a/..foo",
-            Answer::Separator,
-        ),
-        (
-            Edit::AddExtension(text("x")),
-            "a/./..foo.x",
-            "a/..foo.x",
-            Answer::Flag(true),
-        ),
-        (
-            Edit::SetExtension(text("")),
-            "a/./..foo",
-            "a/..foo",
-            Answer::Flag(true),
-        ),
-        (
-            Edit::SetExtension(text("")),
-            "a/./.",
-            "a/.",
-            Answer::Flag(true),
-        ),
-        (
-            Edit::Push(Path::new(text("b"))),
-            "a/././b",
-            "a/./b",
-            Answer::Plain,
-        ),
-        (Edit::Pop, "a", "a", Answer::Flag(true)),
-    ];
-    for (edit, long, short, answer) in rows {
-        let alike = is_alike(alloc, &mut longer, &mut shorter, edit, answer);
-        assert!(rt; matches!(alike, Ok(true)), "{long}");
-        assert!(rt; has_bytes(&longer, long), "{long}");
-        assert!(rt; has_bytes(&shorter, short), "{short}");
+    assert!(rt; longer.as_path() == shorter.as_path());
+    for row in ROWS.iter() {
+        let alike = is_alike(alloc, &mut longer, &mut shorter, row);
+        assert!(rt; matches!(alike, Ok(true)), "{}", row.2);
     }
     Ok(())
 }

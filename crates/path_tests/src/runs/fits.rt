@@ -29,6 +29,6 @@ fn what_fits_is_joined(rt: HostRuntime) -> Result<(), Fail> {
         Path::new(UnixStr::new("")),
     ];
     extend_all(&mut buffer, paths.as_slice())?;
-    assert_eq!(rt; buffer.as_path().as_unix_str(), UnixStr::new("foo/a/bc/"));
+    assert!(rt; buffer.as_path().as_unix_str() == UnixStr::new("foo/a/bc/"));
     Ok(())
 }

@@ -73,7 +73,7 @@ fn loops_over_parts(rt: HostRuntime) {
     let b = UnixStr::new("b");
     let dot = UnixStr::new(".");
     let up = UnixStr::new("..");
-    assert_eq!(rt; first_name(path), 2);
+    assert!(rt; first_name(path) == 2);
     let names = [Component::Normal(a), Component::Normal(b)];
     assert!(rt; is_list(push_reversed(alloc, path), [b, a, up, dot].as_slice()));
     assert!(rt; is_list(push_names(alloc, path), names.as_slice()));

@@ -64,18 +64,33 @@ fn take_out<V>(files: &mut BTreeMap<PathBuf, V>, path: &PathBuf) -> Option<V>
     files.remove(path)
 }
 
+// Whether the map, with 2 at the key, gives it once and has nothing there then.
+fn is_taken_out(files: &mut BTreeMap<PathBuf, u8>, key: &PathBuf) -> bool {
+    find_owned(files, key).copied() == Some(2)
+        && take_out(files, key) == Some(2)
+        && find_owned(files, key).copied() == None
+}
+
+// Whether the second path replaces the value of the first in the map, and is found and taken out.
+fn are_one_key(
+    alloc: Global,
+    files: &mut BTreeMap<PathBuf, u8>,
+    path: Path<'_>,
+    other: Path<'_>,
+) -> Result<bool, AllocError> {
+    let first = insert(files, alloc, path, 1)?;
+    let second = insert(files, alloc, other, 2)?;
+    let key = other.to_path_buf(alloc)?;
+    Ok(first == None && second == Some(1) && is_taken_out(files, &key))
+}
+
 #[test]
 fn equal_paths_are_one_key(rt: HostRuntime) -> Result<(), Fail> {
     let alloc = rt.alloc();
     let mut files = BTreeMap::new(alloc);
     let path = Path::new(UnixStr::new("a/b"));
     let other = Path::new(UnixStr::new("a//b/"));
-    assert_eq!(rt; insert(&mut files, alloc, path, 1u8)?, None);
-    assert_eq!(rt; insert(&mut files, alloc, other, 2u8)?, Some(1));
-    let key = other.to_path_buf(alloc)?;
-    assert_eq!(rt; find_owned(&files, &key).copied(), Some(2));
-    assert_eq!(rt; take_out(&mut files, &key), Some(2));
-    assert_eq!(rt; find_owned(&files, &key).copied(), None);
+    assert!(rt; are_one_key(alloc, &mut files, path, other)?);
     Ok(())
 }
 
@@ -87,6 +102,6 @@ fn equal_views_are_one_key(rt: HostRuntime) -> Result<(), Fail> {
     files.insert(path, 1u8)?;
     let found = find_view(&files, other).copied();
     drop(files);
-    assert_eq!(rt; found, Some(1));
+    assert!(rt; found == Some(1));
     Ok(())
 }

@@ -32,13 +32,17 @@ fn ends_of(alloc: Global, path: &[u8]) -> Result<Option<(usize, usize)>, AllocEr
     })
 }
 
-// The path up to this place, and then a dot and the extension, unless that is empty.
+// The path up to this place, and then a dot and the extension, unless that is empty; with no place,
+// the path.
 fn path_with_extension(
     alloc: Global,
     path: &[u8],
-    end: usize,
+    end: Option<usize>,
     extension: &[u8],
 ) -> Result<Vec<u8>, AllocError> {
+    let Some(end) = end else {
+        return Vec::from_slice(alloc, path);
+    };
     let (front, _) = path.split_at(end.min(path.len()));
     let mut bytes = Vec::from_slice(alloc, front)?;
     if !extension.is_empty() {
@@ -66,38 +70,54 @@ fn is_copied(copied: Result<PathBuf, ExtensionError>, has_slash: bool, bytes: &[
     }
 }
 
+// Whether the path with this extension set is these bytes, both edited and copied.
+fn is_set(
+    alloc: Global,
+    path: Path<'_>,
+    extension: UnixStr<'_>,
+    want: &[u8],
+    answer: bool,
+) -> Result<bool, AllocError> {
+    let has_slash = extension.as_bytes().contains(&b'/');
+    let mut buffer = path.to_path_buf(alloc)?;
+    Ok(
+        is_answered(buffer.set_extension(extension), has_slash, answer)
+            && buffer.as_path().as_unix_str().as_bytes() == want
+            && is_copied(path.with_extension(alloc, extension), has_slash, want),
+    )
+}
+
+// Whether the path with this extension added is these bytes, both edited and copied.
+fn is_added(
+    alloc: Global,
+    path: Path<'_>,
+    extension: UnixStr<'_>,
+    want: &[u8],
+    answer: bool,
+) -> Result<bool, AllocError> {
+    let has_slash = extension.as_bytes().contains(&b'/');
+    let mut buffer = path.to_path_buf(alloc)?;
+    Ok(
+        is_answered(buffer.add_extension(extension), has_slash, answer)
+            && buffer.as_path().as_unix_str().as_bytes() == want
+            && is_copied(path.with_added_extension(alloc, extension), has_slash, want),
+    )
+}
+
 // Whether the extension is set and added as the plain reading has it.
 fn is_extended(alloc: Global, bytes: &[u8], extension: &[u8]) -> Result<bool, AllocError> {
-    let path = Path::from_bytes(bytes);
+    let (path, text) = (Path::from_bytes(bytes), UnixStr::from_bytes(extension));
     let ends = ends_of(alloc, bytes)?;
-    let has_slash = extension.contains(&b'/');
-    let (set, added) = match ends {
-        Some((stem, name)) if !has_slash => {
-            let added_end = if extension.is_empty() {
-                bytes.len()
-            } else {
-                name
-            };
-            (
-                path_with_extension(alloc, bytes, stem, extension)?,
-                path_with_extension(alloc, bytes, added_end, extension)?,
-            )
-        }
-        _ => (
-            Vec::from_slice(alloc, bytes)?,
-            Vec::from_slice(alloc, bytes)?,
-        ),
+    let (set_end, added_end) = match ends {
+        Some((stem, _)) if extension.is_empty() => (Some(stem), Some(bytes.len())),
+        Some((stem, name)) if !extension.contains(&b'/') => (Some(stem), Some(name)),
+        _ => (None, None),
     };
-    let text = UnixStr::from_bytes(extension);
-    let mut first = path.to_path_buf(alloc)?;
-    let mut second = path.to_path_buf(alloc)?;
+    let set = path_with_extension(alloc, bytes, set_end, extension)?;
+    let added = path_with_extension(alloc, bytes, added_end, extension)?;
     Ok(
-        is_answered(first.set_extension(text), has_slash, ends.is_some())
-            && is_answered(second.add_extension(text), has_slash, ends.is_some())
-            && first.as_path().as_unix_str() == UnixStr::from_bytes(&set)
-            && second.as_path().as_unix_str() == UnixStr::from_bytes(&added)
-            && is_copied(path.with_extension(alloc, text), has_slash, &set)
-            && is_copied(path.with_added_extension(alloc, text), has_slash, &added),
+        is_set(alloc, path, text, &set, ends.is_some())?
+            && is_added(alloc, path, text, &added, ends.is_some())?,
     )
 }
 

@@ -17,12 +17,9 @@ fn bytes_of<'a>(text: Option<UnixStr<'a>>) -> Option<&'a [u8]> {
     }
 }
 
-// Whether the parts are these, from both ends, and the root and the parents go by them.
-fn has_parts<'a>(alloc: Global, path: Path<'a>, parts: &[Part<'a>]) -> Result<bool, AllocError> {
+// Whether the root and the parents go by the parts.
+fn has_parents<'a>(path: Path<'a>, parts: &[Part<'a>]) -> bool {
     let bytes = path.as_unix_str().as_bytes();
-    let listed: Vec<Component<'_>> = path.components().collect(alloc)?;
-    let mut back: Vec<Component<'_>> = path.components().rev().collect(alloc)?;
-    back.reverse();
     let is_rooted = bytes.starts_with(b"/");
     let (parent, depth) = match parts.split_last() {
         Some((last, before)) if last.bytes != b"/".as_slice() => {
@@ -33,15 +30,19 @@ fn has_parts<'a>(alloc: Global, path: Path<'a>, parts: &[Part<'a>]) -> Result<bo
         }
         _ => (None, 0),
     };
-    Ok(
-        are_parts(&listed, parts)
-            && are_parts(&back, parts)
-            && path.has_root() == is_rooted
-            && path.is_absolute() == is_rooted
-            && path.is_relative() != is_rooted
-            && bytes_of(path.parent().map(|path| path.as_unix_str())) == parent
-            && path.ancestors().count() == depth.saturating_add(1),
-    )
+    path.has_root() == is_rooted
+        && path.is_absolute() == is_rooted
+        && path.is_relative() != is_rooted
+        && bytes_of(path.parent().map(|path| path.as_unix_str())) == parent
+        && path.ancestors().count() == depth.saturating_add(1)
+}
+
+// Whether the parts are these, from both ends.
+fn has_parts<'a>(alloc: Global, path: Path<'a>, parts: &[Part<'a>]) -> Result<bool, AllocError> {
+    let listed: Vec<Component<'_>> = path.components().collect(alloc)?;
+    let mut back: Vec<Component<'_>> = path.components().rev().collect(alloc)?;
+    back.reverse();
+    Ok(are_parts(&listed, parts) && are_parts(&back, parts))
 }
 
 // Whether the file name is the last part, if that is a name, and is cut at its dots.
@@ -69,8 +70,8 @@ fn has_name<'a>(path: Path<'a>, parts: &[Part<'a>]) -> bool {
         && bytes_of(path.file_prefix()) == prefix
 }
 
-// Whether the canonical form is the parts with one slash between, and is its own.
-fn is_spelled(alloc: Global, path: Path<'_>, parts: &[Part<'_>]) -> Result<bool, AllocError> {
+// The parts with one slash between.
+fn spelling(alloc: Global, parts: &[Part<'_>]) -> Result<Vec<u8>, AllocError> {
     let mut bytes = Vec::new(alloc);
     for part in parts {
         if !bytes.is_empty() && bytes.as_slice() != b"/".as_slice() {
@@ -78,26 +79,57 @@ fn is_spelled(alloc: Global, path: Path<'_>, parts: &[Part<'_>]) -> Result<bool,
         }
         bytes.extend_from_slice(part.bytes)?;
     }
+    Ok(bytes)
+}
+
+// Whether the canonical form is the parts with one slash between, and is its own.
+fn is_spelled(alloc: Global, path: Path<'_>, parts: &[Part<'_>]) -> Result<bool, AllocError> {
+    let bytes = spelling(alloc, parts)?;
     let spelled = canonical(alloc, path)?;
     let again = canonical(alloc, spelled.as_path())?;
     let want = UnixStr::from_bytes(&bytes);
     Ok(spelled.as_path().as_unix_str() == want && again.as_path().as_unix_str() == want)
 }
 
-// Whether text is shown as it is, and only text has a JSON value.
+// Whether a path that is text is its own JSON value, and another path has none.
+fn has_json(alloc: Global, path: Path<'_>) -> bool {
+    match to_json(alloc, path) {
+        Ok(value) => match path.to_str() {
+            Some(text) => value.as_str() == Some(text),
+            None => false,
+        },
+        Err(JsonError::NotUtf8) => path.to_str().is_none(),
+        Err(_) => false,
+    }
+}
+
+// Whether this text is the path, or has replacement characters if the path is no text.
+fn is_lossy(path: Path<'_>, shown: &str) -> bool {
+    match path.to_str() {
+        Some(text) => text.as_bytes() == path.as_unix_str().as_bytes() && text == shown,
+        None => shown.contains('\u{FFFD}'),
+    }
+}
+
+// Whether text is shown as it is.
 fn is_shown(alloc: Global, path: Path<'_>) -> Result<bool, AllocError> {
     let shown = format!(in alloc; "{}", path.display())?;
     let lossy = path.to_string_lossy(alloc)?;
-    let json = to_json(alloc, path);
-    let is_kept = match path.to_str() {
-        Some(text) => {
-            text.as_bytes() == path.as_unix_str().as_bytes()
-                && text == shown.as_str()
-                && matches!(&json, Ok(value) if value.as_str() == Some(text))
-        }
-        None => shown.as_str().contains('\u{FFFD}') && matches!(json, Err(JsonError::NotUtf8)),
-    };
-    Ok(is_kept && lossy.as_str() == shown.as_str())
+    Ok(is_lossy(path, shown.as_str()) && lossy.as_str() == shown.as_str())
+}
+
+// Whether the path of these bytes answers as the plain reading has it.
+fn is_read(alloc: Global, bytes: &[u8]) -> Result<bool, AllocError> {
+    let path = Path::from_bytes(bytes);
+    let parts = parts_of(alloc, bytes)?;
+    Ok(
+        has_parents(path, &parts)
+            && has_name(path, &parts)
+            && has_json(alloc, path)
+            && has_parts(alloc, path, &parts)?
+            && is_spelled(alloc, path, &parts)?
+            && is_shown(alloc, path)?,
+    )
 }
 
 #[test]
@@ -106,12 +138,7 @@ fn random_strings_are_paths(rt: HostRuntime) -> Result<(), Fail> {
     let mut random = Random::new(20);
     for _ in 0..STRINGS {
         let bytes = random.string(alloc)?;
-        let path = Path::from_bytes(&bytes);
-        let parts = parts_of(alloc, &bytes)?;
-        assert!(rt; has_parts(alloc, path, &parts)?, "{bytes:?}");
-        assert!(rt; has_name(path, &parts), "{bytes:?}");
-        assert!(rt; is_spelled(alloc, path, &parts)?, "{bytes:?}");
-        assert!(rt; is_shown(alloc, path)?, "{bytes:?}");
+        assert!(rt; is_read(alloc, &bytes)?, "{bytes:?}");
     }
     Ok(())
 }
