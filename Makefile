@@ -17,7 +17,7 @@ help:
 	@echo '                   options, as in  make bench only=parts,eq corpus=deep reps=15'
 	@echo 'make differential  asks pathtool and Rust the same random lines, a quarter of a minute'
 	@echo '                   for a million. Proves and builds first; needs rustc. Prints its'
-	@echo '                   seed, as in  make differential LINES=1000000 SEED=20'
+	@echo '                   seed, as in  make differential lines=1000000 seed=20'
 	@echo 'make ends          runs pathtool with ends that fail, little memory and large inputs.'
 	@echo '                   Proves and builds it first'
 	@echo 'make lib           builds the library for C and prints where it stands. Proves it first'
@@ -53,11 +53,11 @@ BENCH = $(foreach name,part only corpus reps folder,$(if $($(name)),'$(name)=$($
 bench_tools:
 	@tools/bench/run --tools
 
-bench: bench_tools $(if $(filter face,$(part)),lib,$(PROGRAM))
+bench: bench_tools $(if $(filter face,$(part)),$(if $(UNIX_PATH_LIB),,lib),$(PROGRAM))
 	@tools/bench/run $(BENCH)
 
 differential: $(PROGRAM)
-	@tools/differential $(if $(LINES),'lines=$(LINES)') $(if $(SEED),'seed=$(SEED)')
+	@tools/differential $(if $(lines),'lines=$(lines)') $(if $(seed),'seed=$(seed)')
 
 ends: $(PROGRAM)
 	@tools/ends

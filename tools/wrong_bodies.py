@@ -109,14 +109,16 @@ def around(crate, change):
 
 def function_of(crate, changes):
     """The one function that all changes of the code are in, or None. The only other changes are in
-    the answers of its own proof, which no other proof reads."""
+    the answers of its own proof, which no other proof reads. They stand at the path of the function
+    below proofs/."""
     code = [it for it in changes if it.file.startswith("src/")]
     found = {around(crate, it) for it in code}
     if len(found) != 1 or None in found:
         return None
     function = found.pop()
-    others = [it.file for it in changes if it not in code]
-    own = all(it.endswith(f"/{function[1]}/Answers.antt") for it in others)
+    module = code[0].file[len("src/"):-len(".rt")]
+    answers = re.compile(rf"proofs/{module}/(?:\w+/)?{function[1]}/Answers\.antt")
+    own = all(answers.fullmatch(it.file) for it in changes if it not in code)
     return function if own else None
 
 

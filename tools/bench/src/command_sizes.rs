@@ -3,7 +3,7 @@ use crate::clock;
 use crate::lines::push_line;
 use crate::options::Options;
 use crate::programs::run;
-use crate::sizes::{memory, shown, times, SHAPES, SIZES};
+use crate::sizes::{cells, memory, times, SHAPES, SIZES};
 use crate::timing::Timer;
 use std::fs::write;
 use std::process::Stdio;
@@ -54,7 +54,7 @@ pub fn print(options: &Options) {
             }
             let times = times(&|at| time(command, piece, at), &memory);
             grown += usize::from(times.iter().any(|time| time.is_grown));
-            println!("{command:22}{shape:6}{}", shown(&times));
+            println!("{command:22}{shape:6}{}", cells(&times));
         }
     }
     println!("\n{grown} lines have a time a byte that grows\n");

@@ -39,7 +39,7 @@ impl Corpus {
                 others.rotate_left(1);
                 others
             }
-            Other::Respelled => paths.map(|path| respelled(path, &mut random)).collect(),
+            Other::Respelled => paths.map(|path| other_spelling(path, &mut random)).collect(),
             Other::Front => paths.map(|path| at_middle(path).0.to_vec()).collect(),
             Other::Behind => paths.map(|path| at_middle(path).1.to_vec()).collect(),
             Other::Name => paths.map(|_| b"docs/notes.txt".to_vec()).collect(),
@@ -87,7 +87,7 @@ fn at_middle(path: &[u8]) -> (&[u8], &[u8]) {
 }
 
 /// The same parts, with more slashes and dots between them.
-fn respelled(path: &[u8], random: &mut Random) -> Vec<u8> {
+fn other_spelling(path: &[u8], random: &mut Random) -> Vec<u8> {
     let mut bytes = Vec::with_capacity(path.len() * 2);
     for byte in path {
         bytes.push(*byte);
@@ -153,11 +153,11 @@ const PIECES: [&str; 16] = [
     "a.", "/././/",
 ];
 
-/// What stands before and behind a run.
+/// What stands before and behind a stretch.
 #[rustfmt::skip]
 const ENDS: [(&str, &str); 5] = [("", ""), ("/", "/."), ("a", "/b"), ("../", "//"), ("./", "n.x")];
 
-/// Runs of each of the pieces, of 1 to 100,000 bytes; the longest with nothing at their ends.
+/// Stretches of each of the pieces, of 1 to 100,000 bytes; the longest with nothing at their ends.
 fn adversarial() -> Vec<Vec<u8>> {
     let mut paths = vec![];
     for piece in PIECES {

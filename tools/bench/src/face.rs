@@ -6,6 +6,7 @@ mod called;
 mod calls;
 mod clock;
 mod corpora;
+mod digest;
 mod face_rows;
 mod options;
 mod ours;
@@ -87,12 +88,9 @@ fn print(options: &Options) -> bool {
 }
 
 fn main() -> ExitCode {
-    let options = match Options::read(std::env::args().skip(1)) {
+    let options = match Options::from_arguments() {
         Ok(options) => options,
-        Err(word) => {
-            eprintln!("no such option: {word}");
-            return ExitCode::from(2);
-        }
+        Err(status) => return status,
     };
     let is_same = print(&options);
     println!("Each number is our time over that of std::path.");

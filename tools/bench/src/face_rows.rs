@@ -2,6 +2,7 @@
 use crate::called::*;
 use crate::calls::{OfOne, OfTwo};
 use crate::corpora::Other;
+use crate::digest::digest;
 use crate::ours::*;
 use crate::static_calls;
 use std::cell::RefCell;
@@ -42,15 +43,6 @@ fn part_bytes<'a>(part: std::path::Component<'a>) -> &'a [u8] {
     part.as_os_str().as_bytes()
 }
 
-/// A number for some bytes: of their length, the first and the last.
-fn digest(bytes: &[u8]) -> u64 {
-    let (Some(first), Some(last)) = (bytes.first(), bytes.last()) else {
-        return 0;
-    };
-    let ends = u64::from(*first) * 256 + u64::from(*last);
-    (bytes.len() as u64).wrapping_mul(65_599).wrapping_add(ends)
-}
-
 /// The number of several answers.
 fn all<'a>(items: impl Iterator<Item = &'a [u8]>) -> u64 {
     items.fold(0, |sum: u64, item| {
@@ -63,9 +55,9 @@ fn some(found: Option<&[u8]>) -> u64 {
     found.map_or(u64::MAX, digest)
 }
 
-/// The number of a path that was made.
-fn made(made: Result<impl AsRef<[u8]>, paths::Error>) -> u64 {
-    made.map_or(u64::MAX, |made| digest(made.as_ref()))
+/// The number of a new path, or that there is none.
+fn digest_of_path(path: Result<impl AsRef<[u8]>, paths::Error>) -> u64 {
+    path.map_or(u64::MAX, |path| digest(path.as_ref()))
 }
 
 /// What a C function answers to a path.
@@ -76,7 +68,7 @@ fn one(call: OfOne, path: &[u8]) -> u64 {
 
 /// What a C function answers to a path and something else.
 fn two(call: OfTwo, path: &[u8], other: &[u8]) -> u64 {
-    // SAFETY: as above, for both.
+    // SAFETY: both byte strings stand until the function returns, and it only reads them.
     unsafe { call(path.as_ptr(), path.len(), other.as_ptr(), other.len()) }
 }
 
@@ -94,7 +86,7 @@ thread_local! {
 
 /// The number of what a call writes into the buffer.
 fn in_buffer(make: impl Fn(&mut [u8]) -> Result<&[u8], paths::Error>) -> u64 {
-    BUFFER.with_borrow_mut(|out| made(make(out)))
+    BUFFER.with_borrow_mut(|out| digest_of_path(make(out)))
 }
 
 /// The number of what a call makes in the capacity of a buffer.
@@ -188,7 +180,7 @@ pub const ROWS: &[Row] = &[
     Row {
         name: "canonical",
         other: Other::Nothing,
-        ours: |path, _| made(owned::canonical(path)),
+        ours: |path, _| digest_of_path(owned::canonical(path)),
         std: |path, _| digest(bytes(&std_path(path).components().collect::<PathBuf>())),
         own: Some(|path, _| one(ours_canonical, path)),
         called: None,
@@ -211,7 +203,7 @@ pub const ROWS: &[Row] = &[
     Row {
         name: "join",
         other: Other::Name,
-        ours: |path, other| made(owned::join(path, other)),
+        ours: |path, other| digest_of_path(owned::join(path, other)),
         std: |path, other| digest(bytes(&std_path(path).join(std_path(other)))),
         own: Some(|path, other| two(ours_join, path, other)),
         called: None,

@@ -1,9 +1,10 @@
-//! Times each public call beside std's on the same bytes, and `pathtool` beside a program over
-//! `std::path`; prints our time over std's, and what is above its target.
+//! Times the calls of `rows.rs` beside std's on the same bytes, and `pathtool` beside a program
+//! over `std::path`; prints our time over std's, and what is above its target.
 mod calls;
 mod clock;
 mod command_sizes;
 mod corpora;
+mod digest;
 mod lines;
 mod options;
 mod ours;
@@ -26,12 +27,9 @@ use std::process::ExitCode;
 use timing::Score;
 
 fn main() -> ExitCode {
-    let options = match Options::read(std::env::args().skip(1)) {
+    let options = match Options::from_arguments() {
         Ok(options) => options,
-        Err(word) => {
-            eprintln!("no such option: {word}");
-            return ExitCode::from(2);
-        }
+        Err(status) => return status,
     };
     let mut score = Score::default();
     if options.has_part("calls") {

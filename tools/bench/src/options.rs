@@ -1,6 +1,7 @@
 //! What the words of the command line ask for.
 use crate::clock;
 use crate::timing::Timer;
+use std::process::ExitCode;
 
 /// What can be timed, and over what.
 const PARTS: [&str; 6] = ["calls", "texts", "tables", "programs", "sizes", "face"];
@@ -32,8 +33,17 @@ fn list(value: &str) -> Vec<String> {
 }
 
 impl Options {
+    /// The options of the command line. Where a word of it sets none, that is said, and the status
+    /// to exit with is given.
+    pub fn from_arguments() -> Result<Options, ExitCode> {
+        Options::read(std::env::args().skip(1)).map_err(|word| {
+            eprintln!("no such option: {word}");
+            ExitCode::from(2)
+        })
+    }
+
     /// The options that these words set, or the first word that sets none.
-    pub fn read(words: impl Iterator<Item = String>) -> Result<Options, String> {
+    fn read(words: impl Iterator<Item = String>) -> Result<Options, String> {
         let mut options = Options {
             parts: list("calls,texts,tables,programs"),
             only: vec![],

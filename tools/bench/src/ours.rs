@@ -1,4 +1,4 @@
-//! The C functions of `lib.rt.in`, one for each public call.
+//! The C functions of `lib.rt.in` and of the files beside it.
 use crate::calls::Start;
 
 extern "C" {

@@ -35,7 +35,7 @@ pub fn print(options: &Options) {
         for (shape, piece) in SHAPES {
             let times = times(&|at| time(row, piece, at, &timer), &memory);
             grown += usize::from(times.iter().any(|time| time.is_grown));
-            println!("{:22}{shape:6}{}", row.name, shown(&times));
+            println!("{:22}{shape:6}{}", row.name, cells(&times));
         }
     }
     println!("\n{grown} lines have a time a byte that grows\n");
@@ -48,7 +48,7 @@ pub struct Time {
 }
 
 /// A cell for each size.
-pub fn shown(times: &[Time]) -> String {
+pub fn cells(times: &[Time]) -> String {
     let cell = |at: usize| match times.get(at) {
         Some(time) if time.is_grown => format!("{:9.3} *", time.nanoseconds),
         Some(time) => format!("{:9.3}  ", time.nanoseconds),

@@ -46,7 +46,8 @@ impl Place {
     }
 }
 
-fn found(
+// The bytes at the place that the call answers.
+fn find(
     call: unsafe extern "C" fn(Start, usize, *mut Place) -> bool,
     path: &[u8],
 ) -> Option<&[u8]> {
@@ -56,14 +57,15 @@ fn found(
 }
 
 pub fn parent(path: &[u8]) -> Option<&[u8]> {
-    found(unix_path_parent, path)
+    find(unix_path_parent, path)
 }
 
 pub fn file_name(path: &[u8]) -> Option<&[u8]> {
-    found(unix_path_file_name, path)
+    find(unix_path_file_name, path)
 }
 
-fn taken(step: Step, path: &[u8]) -> impl Iterator<Item = &[u8]> {
+// The bytes of each part, as the step takes them.
+fn take_parts(step: Step, path: &[u8]) -> impl Iterator<Item = &[u8]> {
     let mut walk = Walk {
         front: 0,
         back: path.len(),
@@ -77,11 +79,11 @@ fn taken(step: Step, path: &[u8]) -> impl Iterator<Item = &[u8]> {
 }
 
 pub fn parts(path: &[u8]) -> impl Iterator<Item = &[u8]> {
-    taken(unix_path_next, path)
+    take_parts(unix_path_next, path)
 }
 
 pub fn parts_behind(path: &[u8]) -> impl Iterator<Item = &[u8]> {
-    taken(unix_path_next_back, path)
+    take_parts(unix_path_next_back, path)
 }
 
 pub fn starts_with(path: &[u8], base: &[u8]) -> bool {
@@ -113,7 +115,7 @@ pub fn canonical<'o>(path: &[u8], out: &'o mut Vec<u8>) -> &'o [u8] {
 /// Writes the join into the capacity of a buffer, which is enough.
 pub fn join<'o>(base: &[u8], path: &[u8], out: &'o mut Vec<u8>) -> &'o [u8] {
     let (begin, room) = (out.as_mut_ptr(), out.capacity());
-    // SAFETY: as above, for both.
+    // SAFETY: both paths are read, and the capacity is written, as far as the call answers.
     unsafe {
         let (start, length) = (path.as_ptr(), path.len());
         let length = unix_path_join(base.as_ptr(), base.len(), start, length, begin, room);

@@ -1,6 +1,7 @@
 //! Rust's side: the functions of `lib.rt.in` over `std::path`, as C functions too, so that both
 //! sides pay for the same call.
 use crate::calls::Start;
+use crate::digest::digest;
 use std::cmp::Ordering;
 use std::ffi::OsStr;
 use std::fmt::Write;
@@ -27,17 +28,8 @@ pub unsafe fn path_of<'a>(start: Start, len: usize) -> &'a Path {
     Path::new(text_of(start, len))
 }
 
-/// A number for some bytes: of their length, the first and the last.
-fn digest(bytes: &[u8]) -> u64 {
-    let (Some(first), Some(last)) = (bytes.first(), bytes.last()) else {
-        return 0;
-    };
-    let ends = u64::from(*first) * 256 + u64::from(*last);
-    (bytes.len() as u64).wrapping_mul(65_599).wrapping_add(ends)
-}
-
 /// The number of several answers, with one more behind them.
-pub fn added(sum: u64, bytes: &[u8]) -> u64 {
+pub fn add(sum: u64, bytes: &[u8]) -> u64 {
     sum.wrapping_mul(31).wrapping_add(digest(bytes))
 }
 
@@ -47,7 +39,7 @@ fn some(text: Option<&OsStr>) -> u64 {
 }
 
 /// The number of a path.
-pub fn made(path: &Path) -> u64 {
+pub fn digest_of_path(path: &Path) -> u64 {
     digest(path.as_os_str().as_bytes())
 }
 
@@ -55,7 +47,7 @@ pub fn made(path: &Path) -> u64 {
 pub unsafe extern "C" fn parts(path: Start, len: usize) -> u64 {
     let mut sum = 0;
     for part in path_of(path, len).components() {
-        sum = added(sum, part.as_os_str().as_bytes());
+        sum = add(sum, part.as_os_str().as_bytes());
     }
     sum
 }
@@ -64,7 +56,7 @@ pub unsafe extern "C" fn parts(path: Start, len: usize) -> u64 {
 pub unsafe extern "C" fn parts_behind(path: Start, len: usize) -> u64 {
     let mut sum = 0;
     for part in path_of(path, len).components().rev() {
-        sum = added(sum, part.as_os_str().as_bytes());
+        sum = add(sum, part.as_os_str().as_bytes());
     }
     sum
 }
@@ -74,9 +66,9 @@ pub unsafe extern "C" fn parts_both(path: Start, len: usize) -> u64 {
     let mut sum = 0;
     let mut left = path_of(path, len).components();
     while let Some(first) = left.next() {
-        sum = added(sum, first.as_os_str().as_bytes());
+        sum = add(sum, first.as_os_str().as_bytes());
         if let Some(last) = left.next_back() {
-            sum = added(sum, last.as_os_str().as_bytes());
+            sum = add(sum, last.as_os_str().as_bytes());
         }
     }
     sum
@@ -86,7 +78,7 @@ pub unsafe extern "C" fn parts_both(path: Start, len: usize) -> u64 {
 pub unsafe extern "C" fn as_path(path: Start, len: usize) -> u64 {
     let mut left = path_of(path, len).components();
     left.next();
-    made(left.as_path())
+    digest_of_path(left.as_path())
 }
 
 /// The parent.
@@ -98,7 +90,7 @@ pub unsafe extern "C" fn parent(path: Start, len: usize) -> u64 {
 pub unsafe extern "C" fn ancestors(path: Start, len: usize) -> u64 {
     let mut sum = 0;
     for path in path_of(path, len).ancestors() {
-        sum = added(sum, path.as_os_str().as_bytes());
+        sum = add(sum, path.as_os_str().as_bytes());
     }
     sum
 }
@@ -145,7 +137,7 @@ pub unsafe extern "C" fn strip_prefix(
     base_len: usize,
 ) -> u64 {
     match path_of(path, len).strip_prefix(path_of(base, base_len)) {
-        Ok(rest) => made(rest),
+        Ok(rest) => digest_of_path(rest),
         Err(_) => NONE,
     }
 }
@@ -193,7 +185,7 @@ pub unsafe extern "C" fn hash_sip(path: Start, len: usize) -> u64 {
 
 /// The join of the two.
 pub unsafe extern "C" fn join(path: Start, len: usize, other: Start, other_len: usize) -> u64 {
-    made(&path_of(path, len).join(path_of(other, other_len)))
+    digest_of_path(&path_of(path, len).join(path_of(other, other_len)))
 }
 
 /// A copy with that file name.
@@ -203,7 +195,7 @@ pub unsafe extern "C" fn with_file_name(
     name: Start,
     name_len: usize,
 ) -> u64 {
-    made(&path_of(path, len).with_file_name(text_of(name, name_len)))
+    digest_of_path(&path_of(path, len).with_file_name(text_of(name, name_len)))
 }
 
 /// A copy with that extension.
@@ -213,7 +205,7 @@ pub unsafe extern "C" fn with_extension(
     end: Start,
     end_len: usize,
 ) -> u64 {
-    made(&path_of(path, len).with_extension(text_of(end, end_len)))
+    digest_of_path(&path_of(path, len).with_extension(text_of(end, end_len)))
 }
 
 /// A copy with that extension added.
@@ -223,7 +215,7 @@ pub unsafe extern "C" fn with_added_extension(
     end: Start,
     end_len: usize,
 ) -> u64 {
-    made(&path_of(path, len).with_added_extension(text_of(end, end_len)))
+    digest_of_path(&path_of(path, len).with_added_extension(text_of(end, end_len)))
 }
 
 /// Pushes and pops, four times.
@@ -232,9 +224,9 @@ pub unsafe extern "C" fn push_pop(path: Start, len: usize, other: Start, other_l
     let mut sum = 0;
     for _ in 0..4 {
         edited.push(path_of(other, other_len));
-        sum = added(sum, edited.as_os_str().as_bytes());
+        sum = add(sum, edited.as_os_str().as_bytes());
         sum = sum.wrapping_add(edited.pop().into());
-        sum = added(sum, edited.as_os_str().as_bytes());
+        sum = add(sum, edited.as_os_str().as_bytes());
     }
     sum
 }
@@ -243,19 +235,19 @@ pub unsafe extern "C" fn push_pop(path: Start, len: usize, other: Start, other_l
 pub unsafe extern "C" fn set_extension(path: Start, len: usize, end: Start, end_len: usize) -> u64 {
     let mut edited = path_of(path, len).to_path_buf();
     edited.set_extension(text_of(end, end_len));
-    made(&edited)
+    digest_of_path(&edited)
 }
 
 /// A copy onto which the extension is added.
 pub unsafe extern "C" fn add_extension(path: Start, len: usize, end: Start, end_len: usize) -> u64 {
     let mut edited = path_of(path, len).to_path_buf();
     edited.add_extension(text_of(end, end_len));
-    made(&edited)
+    digest_of_path(&edited)
 }
 
 /// The shortest path with the same parts.
 pub unsafe extern "C" fn canonical(path: Start, len: usize) -> u64 {
-    made(&path_of(path, len).components().collect::<PathBuf>())
+    digest_of_path(&path_of(path, len).components().collect::<PathBuf>())
 }
 
 /// The length of the text, if it is text.

@@ -1,6 +1,6 @@
 //! Rust's side of the table: a `BTreeMap` from paths, asked as `tables.rt.in` asks ours.
 use crate::calls::Start;
-use crate::std_calls::{added, bytes_of, path_of, NONE};
+use crate::std_calls::{add, bytes_of, path_of, NONE};
 use std::collections::BTreeMap;
 use std::ops::Bound::{Included, Unbounded};
 use std::path::{Path, PathBuf};
@@ -75,7 +75,7 @@ pub unsafe extern "C" fn get_under(
     for _ in 0..rounds {
         for base in &bases {
             for (rest, number) in under(&table, base) {
-                sum = added(sum, rest.as_os_str().as_encoded_bytes()).wrapping_add(*number);
+                sum = add(sum, rest.as_os_str().as_encoded_bytes()).wrapping_add(*number);
             }
         }
     }

@@ -1,11 +1,11 @@
 //! Rust's side of paths from outside: what a user of `std::path` writes, since it resolves nothing.
 use crate::calls::Start;
-use crate::std_calls::{made, path_of};
+use crate::std_calls::{digest_of_path, path_of};
 use std::path::{Component, Path, PathBuf};
 
 /// The path with each `..` taken against the name before it.
 pub unsafe extern "C" fn resolved(path: Start, len: usize) -> u64 {
-    made(&resolved_path(path_of(path, len)))
+    digest_of_path(&resolved_path(path_of(path, len)))
 }
 
 /// A fold over the parts: a name is pushed, and `..` pops one, or stays where there is none to pop.

@@ -80,14 +80,14 @@ fn lines() -> [Lines; 2] {
     let folders: Vec<Vec<u8>> = (0..DIRECTORIES)
         .map(|_| folder(&random.one_of(&paths)).to_vec())
         .collect();
-    let in_order = joined(&paths);
+    let in_order = lines_of(&paths);
     random.shuffle(&mut paths);
-    let shuffled = joined(&paths);
+    let shuffled = lines_of(&paths);
     [("in order", in_order), ("shuffled", shuffled.clone())].map(|(order, paths)| Lines {
         order,
         paths,
         asked: shuffled.clone(),
-        bases: joined(&folders),
+        bases: lines_of(&folders),
     })
 }
 
@@ -98,7 +98,7 @@ fn folder(path: &[u8]) -> &[u8] {
 }
 
 /// The paths, with a newline between two of them.
-fn joined(paths: &[Vec<u8>]) -> Vec<u8> {
+fn lines_of(paths: &[Vec<u8>]) -> Vec<u8> {
     paths.join(&b'\n')
 }
 

@@ -76,7 +76,7 @@ fn well_formed() -> Vec<Sources> {
     let mut all = vec![];
     for (script, text) in SCRIPTS.into_iter().chain([("all widths", widths.as_str())]) {
         for len in [8, 16, 25, 50, LEN] {
-            let strings = (0..LEN / len).map(|at| taken(text, at, len)).collect();
+            let strings = (0..LEN / len).map(|at| beginning_of(text, at, len)).collect();
             let name = format!("{script}, {len} bytes");
             all.push(Sources {
                 name,
@@ -89,15 +89,15 @@ fn well_formed() -> Vec<Sources> {
 }
 
 /// Whole characters of a text that goes on and on, from one of them on, up to so many bytes.
-fn taken(text: &str, from: usize, len: usize) -> Vec<u8> {
-    let mut taken = String::new();
+fn beginning_of(text: &str, from: usize, len: usize) -> Vec<u8> {
+    let mut beginning = String::new();
     for next in text.chars().cycle().skip(from) {
-        if taken.len() + next.len_utf8() > len {
+        if beginning.len() + next.len_utf8() > len {
             break;
         }
-        taken.push(next);
+        beginning.push(next);
     }
-    taken.into_bytes()
+    beginning.into_bytes()
 }
 
 /// Bytes that are no UTF-8.

@@ -1,0 +1,10 @@
+//! A number for the bytes of an answer, by which two sides are compared.
+
+/// A number for some bytes: of their length, the first and the last.
+pub fn digest(bytes: &[u8]) -> u64 {
+    let (Some(first), Some(last)) = (bytes.first(), bytes.last()) else {
+        return 0;
+    };
+    let ends = u64::from(*first) * 256 + u64::from(*last);
+    (bytes.len() as u64).wrapping_mul(65_599).wrapping_add(ends)
+}
