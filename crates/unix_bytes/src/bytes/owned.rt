@@ -122,7 +122,7 @@ impl UnixString {
         self.bytes.truncate(len);
     }
 
-    /// Makes room for at least `count` more bytes, and for some more where it grows.
+    /// Makes room for at least `count` more bytes, and maybe for more where it grows.
     ///
     /// Allocates only where the room is less. If the allocation fails, the bytes stay as they were.
     /// As Rust's `OsString::reserve`.
@@ -132,7 +132,7 @@ impl UnixString {
         ensures bytes { owned_bytes self.new ≡ owned_bytes self.old }
         ensures ok { OnOk result (count ≤ owned_room self.new) }
         ensures succeeds { count ≤ owned_room self.old → IsOk result }
-        ensures room { owned_room self.old ≤ owned_room self.new }
+        ensures capacity { owned_capacity self.old ≤ owned_capacity self.new }
     {
         self.bytes.reserve(count)
     }
@@ -147,7 +147,7 @@ impl UnixString {
         ensures bytes { owned_bytes self.new ≡ owned_bytes self.old }
         ensures ok { OnOk result (owned_room self.new ≡ max count (owned_room self.old)) }
         ensures succeeds { count ≤ owned_room self.old → IsOk result }
-        ensures room { owned_room self.old ≤ owned_room self.new }
+        ensures capacity { owned_capacity self.old ≤ owned_capacity self.new }
     {
         self.bytes.reserve_exact(count)
     }
@@ -155,7 +155,8 @@ impl UnixString {
     /// Gives back the room, so that the capacity is the length.
     ///
     /// Does not allocate where there is no room. Otherwise moving the bytes can fail, and then the
-    /// bytes and the room stay as they were. As Rust's `OsString::shrink_to_fit`.
+    /// bytes stay as they were, and the capacity is no greater than before. As Rust's
+    /// `OsString::shrink_to_fit`.
     ///
     /// For `foo` with the capacity 10, the capacity is then 3.
     pub fn shrink_to_fit(&mut self) -> Result<(), AllocError>
@@ -170,8 +171,8 @@ impl UnixString {
     /// Lowers the capacity to `least` bytes, or to the length where that is more.
     ///
     /// Where the capacity is no more than that already, does not allocate and changes nothing.
-    /// Otherwise moving the bytes can fail, and then the bytes and the room stay as they were. As
-    /// Rust's `OsString::shrink_to`.
+    /// Otherwise moving the bytes can fail, and then the bytes stay as they were, and the capacity
+    /// is no greater than before. As Rust's `OsString::shrink_to`.
     ///
     /// For `foo` with the capacity 10, `shrink_to(5)` makes it 5, and `shrink_to(0)` makes it 3.
     pub fn shrink_to(&mut self, least: usize) -> Result<(), AllocError>
