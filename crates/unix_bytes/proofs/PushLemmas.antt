@@ -10,14 +10,14 @@ use Rattle.std.proofs.lemmas.Str.{IsUtf8-append, IsUtf8-nil}
 use Rattle.unix_bytes.specs.Utf8.{IsText}
 use Rattle.unix_bytes.specs.Lossy.{is_text, lossy_of, replacement}
 use Rattle.unix_bytes.specs.Chunks.{Chunk, chunks_of, shown_chunk, replacement_for}
-use Rattle.unix_bytes.specs.Steps.{longest_len, broken_len, chunk_len}
+use Rattle.unix_bytes.specs.Steps.{longest_len, broken_len, chunk_len, Splits}
 use Rattle.unix_bytes.proofs.TextLemmas.{IsUtf8-sequence, IsUtf8-from_IsText}
 use Rattle.unix_bytes.proofs.TextLemmas.{IsText-nil}
 use Rattle.unix_bytes.proofs.BrokenLemmas.{broken_len_within}
 use Rattle.unix_bytes.proofs.StretchLemmas.{text_within}
 use Rattle.unix_bytes.proofs.LossyLemmas.{is_text-from_IsText, is_text-not}
 use Rattle.unix_bytes.proofs.ChunkLemmas.{chunk_some, flat_map-shown_chunk}
-use Rattle.unix_bytes.proofs.SplitLemmas.{Splits, splits_first_chunk}
+use Rattle.unix_bytes.proofs.SplitLemmas.{splits_first_chunk}
 use Rattle.unix_bytes.proofs.LawLemmas.{replacement_is_sequence, lossy_is_text}
 use Rattle.unix_bytes.proofs.OnlyLemmas.{first_chunk_is, only_chunk, only_text}
 use Rattle.unix_bytes.proofs.OnlyLemmas.{lossy_of-first_chunk, text_has_none_broken}
@@ -73,6 +73,12 @@ none_is_broken {s = x ∷ xs} {valid} {broken} {rest} p t =
     ap length
     (text_has_none_broken s c (chunks_of rest) (splits_first_chunk (omega arith) p) t)
 
+-- bytes of which some are broken are no text
+pub not_text : {s valid broken rest : List ℕ} → Splits s valid broken rest
+    → eqb (length broken) 0 ≡ false → IsText s → ⊥
+not_text {broken = broken} p some t =
+    true≢false (sym (eq-eqb (length broken) 0 (none_is_broken p t)) ∙ some)
+
 -- the first chunk as it is shown, and the lossy text of what follows, are the lossy text
 pub lossy_of-split : {s valid broken rest : List ℕ} → Splits s valid broken rest
     → (valid ++ replacement_for broken) ++ lossy_of rest ≡ lossy_of s
@@ -103,9 +109,7 @@ pub shows_lossy_text : (pad : List ℕ → List ℕ) {s valid broken rest : List
     → Splits s valid broken rest → eqb (length broken) 0 ≡ false
     → lossy_of s ≡ (if is_text s then pad s else lossy_of s)
 shows_lossy_text pad {s} {valid} {broken} p some =
-    let no_text = is_text-not s
-    (λ t. true≢false (sym (eq-eqb (length broken) 0 (none_is_broken p t)) ∙ some)) in
-    sym (cond-false _ _ _ no_text)
+    sym (cond-false _ _ _ (is_text-not s (not_text p some)))
 
 -- behind other bytes, the first chunk as it is shown and the lossy text of the rest are all of it
 pub pushes_split : (items : List ℕ) {s valid broken rest : List ℕ} → Splits s valid broken rest

@@ -1,11 +1,11 @@
 -- The first chunk as the code splits it off.
-use Rattle.std.proofs.Common.{◌≡◌, ℕ, ◌+◌, ◌<◌, List, [], ◌∷◌, ◌++◌, length, take, drop}
+use Rattle.std.proofs.Common.{◌≡◌, ℕ, ◌+◌, ◌<◌, List, [], ◌∷◌, ◌++◌, length, drop}
 use Rattle.std.proofs.Common.{refl, sym, ap, ap₂, ◌∙◌, arith, take-append-drop}
 use Rattle.std.proofs.lemmas.List.{drop-drop, drop_at}
 use Rattle.unix_bytes.specs.Lossy.{is_text}
 use Rattle.unix_bytes.specs.Chunks.{Chunk, chunks_of}
 use Rattle.unix_bytes.specs.Steps.{longest_len, longest_front_of, broken_len, first_chunk_of}
-use Rattle.unix_bytes.specs.Steps.{chunk_len}
+use Rattle.unix_bytes.specs.Steps.{chunk_len, behind_text, Splits}
 use Rattle.unix_bytes.proofs.BrokenLemmas.{longest_front_of-none}
 use Rattle.unix_bytes.proofs.ChunkLemmas.{none_after_text, chunks_of-some}
 
@@ -23,22 +23,6 @@ chunks_of-parts (b ∷ bs) valid broken rest some e f =
     ∙ sym (drop-drop (length broken) (length valid) (valid ++ (broken ++ rest)))
     ∙ ap (drop (length broken)) (drop_at valid (broken ++ rest) (length valid) refl)
     ∙ drop_at broken rest (length broken) refl)
-
--- the bytes behind the longest prefix that is text
-abbrev pub behind_text : List ℕ → List ℕ
-behind_text s = drop (longest_len is_text s) s
-
--- s is split into its longest prefix that is text, the broken front behind that, and the rest
-pub record Splits (s valid broken rest : List ℕ) : Type 0 where
-  pub text : valid ≡ take (longest_len is_text s) s
-  pub front : broken ≡ take (broken_len (behind_text s)) (behind_text s)
-  pub behind : rest ≡ drop (broken_len (behind_text s)) (behind_text s)
-
--- the three clauses of the call that splits bytes, as one fact
-pub splits : {s valid broken rest : List ℕ} → valid ≡ take (longest_len is_text s) s
-    → broken ≡ take (broken_len (behind_text s)) (behind_text s)
-    → rest ≡ drop (broken_len (behind_text s)) (behind_text s) → Splits s valid broken rest
-splits v b r = record { text = v; front = b; behind = r }
 
 -- the chunk that is split off is the first
 pub splits_first_chunk : {s valid broken rest : List ℕ} → 0 < length s → Splits s valid broken rest

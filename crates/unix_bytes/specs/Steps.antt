@@ -35,3 +35,13 @@ first_chunk_of s =
 -- how many bytes a chunk has
 abbrev pub chunk_len : Chunk → ℕ
 chunk_len c = length c.valid + length c.broken
+
+-- the bytes behind the longest prefix that is text
+abbrev pub behind_text : List ℕ → List ℕ
+behind_text s = drop (longest_len is_text s) s
+
+-- s is split into its longest prefix that is text, the broken front behind that, and the rest
+pub record Splits (s valid broken rest : List ℕ) : Type 0 where
+  pub text : valid ≡ take (longest_len is_text s) s
+  pub front : broken ≡ take (broken_len (behind_text s)) (behind_text s)
+  pub behind : rest ≡ drop (broken_len (behind_text s)) (behind_text s)

@@ -1,8 +1,7 @@
 //! UTF-8 read from bytes: the text that they begin with, and what is broken behind it.
-ghost use Rattle.std.specs.Prelude.{◌≡◌, ◌↔◌, IsSome, IfSome, drop, take};
+ghost use Rattle.std.specs.Prelude.{◌≡◌, ◌↔◌, IsSome, IfSome};
 ghost use Rattle.unix_bytes.specs.Utf8.{IsText};
-ghost use Rattle.unix_bytes.specs.Lossy.{is_text};
-ghost use Rattle.unix_bytes.specs.Steps.{longest_len, broken_len};
+ghost use Rattle.unix_bytes.specs.Steps.{Splits};
 
 use crate::utf8::scans::{scan, scan_text};
 use std::str;
@@ -30,11 +29,7 @@ pub(crate) fn to_text(bytes: &[u8]) -> Option<&str>
 #[inline(always)]
 #[tactic(auto, using(crate::proofs::StretchLemmas::prefix_bounds))]
 pub(crate) fn split_text(source: &[u8]) -> (&str, &[u8], &[u8])
-    ensures valid { result.0.now ≡ take (longest_len is_text source.now) source.now }
-    ensures broken { let behind = drop (longest_len is_text source.now) source.now in
-        result.1.now ≡ take (broken_len behind) behind }
-    ensures rest { let behind = drop (longest_len is_text source.now) source.now in
-        result.2.now ≡ drop (broken_len behind) behind }
+    ensures { Splits source.now result.0.now result.1.now result.2.now }
 {
     let (text, size) = scan_text(source);
     let (prefix, behind) = source.split_at(text);

@@ -2,26 +2,21 @@ use Rattle.std.proofs.Common.{length, sym, ap, ◌∙◌, arith, length-drop}
 use Rattle.std.proofs.lemmas.Bool.{eqb-true}
 use Rattle.std.proofs.lemmas.List.{take_rest}
 use Rattle.unix_bytes.proofs.PrinterLemmas.{pushes_piece, writes_whole}
-use Rattle.unix_bytes.proofs.SplitLemmas.{splits}
 use Rattle.unix_bytes.proofs.PushLemmas.{pushes_split, rest_is_shorter}
 use Rattle.unix_bytes.proofs.bytes.push_lossy.Goals as goal
 
 pub loop-left-smaller : goal.loop-left-smaller
 loop-left-smaller c =
-    let clauses = c.split_text.ensures in
-    let split = splits clauses.valid clauses.broken clauses.rest in
     let some = sym c.is_empty.ensures ∙ c.loop-left-test.true in
     let rest = c.split_text.result.2.now in
     let read = c.show_first-read.result.0 in
-    let less = rest_is_shorter some split in
+    let less = rest_is_shorter some c.split_text.ensures in
     omega (arith, less, ap length (take_rest rest read), length-drop read rest)
 
 pub loop-left-preserved : goal.loop-left-preserved
 loop-left-preserved c =
-    let clauses = c.split_text.ensures in
-    let split = splits clauses.valid clauses.broken clauses.rest in
     let rest = c.split_text.result.2.now in
-    let more = pushes_split c.loop-left.bytes.items split in
+    let more = pushes_split c.loop-left.bytes.items c.split_text.ensures in
     let piece = pushes_piece _ _ rest _ _ (take_rest rest c.show_first-read.result.0)
     c.show_first-read.ensures.lossy in
     rw (

@@ -4,7 +4,6 @@ use Rattle.std.proofs.lemmas.Bool.{eqb-true}
 use Rattle.std.proofs.lemmas.List.{take_rest}
 use Rattle.unix_bytes.specs.Lossy.{lossy_of}
 use Rattle.unix_bytes.specs.Chunks.{replacement_for}
-use Rattle.unix_bytes.proofs.SplitLemmas.{splits}
 use Rattle.unix_bytes.proofs.PushLemmas.{rest_is_shorter, lossy_of-split}
 use Rattle.unix_bytes.proofs.PrinterLemmas.{pushes_piece, piece_is_utf8}
 use Rattle.unix_bytes.proofs.PrinterLemmas.{writes_last, writes_whole}
@@ -17,27 +16,23 @@ write_text-requires g c = piece_is_utf8 _ _ _ c.show_first-read.ensures.lossy
 
 pub loop-left-smaller : goal.loop-left-smaller
 loop-left-smaller g c =
-    let clauses = c.split_text.ensures in
-    let split = splits clauses.valid clauses.broken clauses.rest in
     let left = c.loop-left.left.now in
     let read = c.show_first-read.result.0 in
     let some = sym c.is_empty-in-loop-left.ensures ∙ c.if-is_empty.false in
-    let less = rest_is_shorter some split in
+    let less = rest_is_shorter some c.split_text.ensures in
     omega (arith, less, ap length (take_rest left read), length-drop read left)
 
 pub loop-left-preserved : goal.loop-left-preserved
 loop-left-preserved g c =
     let took = g.W.Write.write_str_gives in
     let left = c.loop-left.left.now in
-    let clauses = c.split_text.ensures in
-    let split = splits clauses.valid clauses.broken clauses.rest in
     let rest = c.split_text.result.2.now in
     let chunk = c.split_text.result.0.now ++ replacement_for c.split_text.result.1.now in
     let piece = take c.show_first-read.result.1 c.show_first-read.new.out in
     let whole : (bs : List ℕ) → bs ++ lossy_of left ≡ lossy_of c.args.source.now
     → ((bs ++ piece) ++ chunk) ++ lossy_of rest ≡ lossy_of c.args.source.now = λ bs e.
     append_assoc (bs ++ piece) chunk (lossy_of rest)
-    ∙ ap (λ t. (bs ++ piece) ++ t) (lossy_of-split split)
+    ∙ ap (λ t. (bs ++ piece) ++ t) (lossy_of-split c.split_text.ensures)
     ∙ pushes_piece bs piece left _ _ (take_rest left c.show_first-read.result.0)
     c.show_first-read.ensures.lossy ∙ e in
     record {

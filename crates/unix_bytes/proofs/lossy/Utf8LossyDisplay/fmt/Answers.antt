@@ -2,7 +2,6 @@ use Rattle.std.proofs.Common.{true, refl, sym, ◌∙◌}
 use Rattle.std.specs.Fmt.{padded}
 use Rattle.std.proofs.lemmas.Bool.{eqb-true}
 use Rattle.unix_bytes.proofs.LossyLemmas.{lossy_of-text}
-use Rattle.unix_bytes.proofs.SplitLemmas.{splits}
 use Rattle.unix_bytes.proofs.PushLemmas.{all_is_text, pads_text, shows_lossy_text, lossy_of-split}
 use Rattle.std.proofs.Output.{has_written_append, has_written_of_eq}
 use Rattle.std.proofs.Output.{has_written_styled_append, has_written_styled_of_eq}
@@ -11,47 +10,37 @@ use Rattle.unix_bytes.proofs.lossy.Utf8LossyDisplay.fmt.Goals as goal
 pub returns-then-is_empty-clause-writes : goal.returns-then-is_empty-clause-writes
 returns-then-is_empty-clause-writes g c = λ p q.
     let s = c.args.self.now.bytes.now in
-    let clauses = c.split_text.ensures in
-    let split = splits clauses.valid clauses.broken clauses.rest in
     let none = eqb-true _ 0 (sym c.is_empty.ensures ∙ c.if-is_empty.true) in
-    let only = all_is_text split none in
+    let only = all_is_text c.split_text.ensures none in
     has_written_of_eq g.W.Write.write_str_gives _ _ _ _ (only.0 ∙ sym (lossy_of-text s only.1))
     (c.pad.ensures.writes p q)
 
 pub returns-then-is_empty-clause-styled : goal.returns-then-is_empty-clause-styled
 returns-then-is_empty-clause-styled g c = λ p q.
-    let clauses = c.split_text.ensures in
-    let split = splits clauses.valid clauses.broken clauses.rest in
     let none = eqb-true _ 0 (sym c.is_empty.ensures ∙ c.if-is_empty.true) in
     has_written_styled_of_eq g.W.Write.write_str_gives _ _ _ _
-    (pads_text (padded _) split none)
+    (pads_text (padded _) c.split_text.ensures none)
     (c.pad.ensures.styled p q)
 
 pub returns-then-valid-clause-styled : goal.returns-then-valid-clause-styled
 returns-then-valid-clause-styled g c = λ p q.
-    let clauses = c.split_text.ensures in
-    let split = splits clauses.valid clauses.broken clauses.rest in
     let some = sym c.is_empty.ensures ∙ c.if-is_empty.false in
     has_written_styled_of_eq g.W.Write.write_str_gives _ _ _ _
-    (shows_lossy_text (padded _) split some)
+    (shows_lossy_text (padded _) c.split_text.ensures some)
     (c.write_lossy.ensures.styled p q)
 
 pub returns-clause-writes : goal.returns-clause-writes
 returns-clause-writes g c = λ p q.
     let took = g.W.Write.write_str_gives in
-    let clauses = c.split_text.ensures in
-    let split = splits clauses.valid clauses.broken clauses.rest in
     let first = c.in_ok-write_chunk.ensures.writes p (refl {a = true}) in
-    has_written_of_eq took _ _ _ _ (lossy_of-split split)
+    has_written_of_eq took _ _ _ _ (lossy_of-split c.split_text.ensures)
     (has_written_append took _ _ _ _ _ first (c.write_lossy-2.ensures.writes first.plain q))
 
 pub returns-clause-styled : goal.returns-clause-styled
 returns-clause-styled g c = λ p q.
     let took = g.W.Write.write_str_gives in
-    let clauses = c.split_text.ensures in
-    let split = splits clauses.valid clauses.broken clauses.rest in
     let first = c.in_ok-write_chunk.ensures.styled p (refl {a = true}) in
     let some = sym c.is_empty.ensures ∙ c.if-is_empty.false in
     has_written_styled_of_eq took _ _ _ _
-    (lossy_of-split split ∙ shows_lossy_text (padded _) split some)
+    (lossy_of-split c.split_text.ensures ∙ shows_lossy_text (padded _) c.split_text.ensures some)
     (has_written_styled_append took _ _ _ _ _ first (c.write_lossy-2.ensures.styled first.flush q))
