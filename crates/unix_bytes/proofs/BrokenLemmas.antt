@@ -1,12 +1,11 @@
 -- How many bytes are broken at the beginning.
 use Rattle.std.proofs.Common.{◌≡◌, ℕ, ◌<◌, ◌≤◌, List, [], ◌∷◌, length, take, drop, slice_index}
 use Rattle.std.proofs.Common.{⊎_elim, sym, ap, ◌∙◌, arith, take-append-drop, length-drop}
-use Rattle.std.proofs.Common.{get_or-drop, add-zero}
 use Rattle.std.proofs.lemmas.Bool.{cases_Bool, cond-true, cond-false}
 use Rattle.unix_bytes.specs.Utf8.{is_sequence}
 use Rattle.unix_bytes.specs.Steps.{longest_len, longest_front_of, broken_len, HasBegun}
 use Rattle.unix_bytes.proofs.SequenceLemmas.{is_sequence-nil}
-use Rattle.unix_bytes.proofs.HasBegunLemmas.{pair_bounds}
+use Rattle.unix_bytes.proofs.HasBegunLemmas.{first_of_drop, pair_bounds}
 use Rattle.unix_bytes.proofs.LongestLemmas.{longest_len-longest}
 use Rattle.unix_bytes.proofs.FrontLemmas.{longest_front_of-nil, longest_front_of-take}
 use Rattle.unix_bytes.proofs.FrontLemmas.{longest_front_of-sequence, front_within}
@@ -75,7 +74,7 @@ pub one_broken_at : (s r : List ℕ) (i : ℕ) → r ≡ drop i s → i < length
     → (HasBegun r 2 → ⊥) → 1 ≡ broken_len r
 one_broken_at s r i rest some wide end =
     let first : slice_index r 0 ≡ slice_index s i =
-    ap (λ t. slice_index t 0) rest ∙ get_or-drop i s 0 0 ∙ ap (slice_index s) (add-zero i) in
+    ap (λ t. slice_index t 0) rest ∙ first_of_drop i s in
     sym (one_byte_broken r (omega (arith, ap length rest, length-drop i s)) end (omega arith))
 
 -- three bytes are broken where they begin a sequence and the first four do not

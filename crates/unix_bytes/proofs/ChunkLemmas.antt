@@ -11,7 +11,7 @@ use Rattle.std.proofs.lemmas.Str.{IsUtf8-append}
 use Rattle.std.proofs.Math.Seq.{take-add}
 use Rattle.unix_bytes.specs.Utf8.{is_sequence, IsSequence, IsText}
 use Rattle.unix_bytes.specs.Lossy.{fronts_of, is_text, replacement, lossy_of}
-use Rattle.unix_bytes.specs.Chunks.{chunks_from, chunks_of, shown_chunk}
+use Rattle.unix_bytes.specs.Chunks.{chunks_from, chunks_of, shown_chunk, replacement_for}
 use Rattle.unix_bytes.specs.Steps.{longest_len, longest_front_of, first_chunk_of, chunk_len}
 use Rattle.unix_bytes.proofs.TextLemmas.{IsUtf8-sequence, IsUtf8-from_IsText, IsText-from_IsUtf8}
 use Rattle.unix_bytes.proofs.TextLemmas.{IsText-nil}
@@ -145,7 +145,7 @@ chunks_of-some b bs =
 
 -- where no sequence stands at the beginning, U+FFFD is shown for the front, if there is one
 lossy_of-rest : (t : List ℕ) → longest_len is_sequence t ≡ 0
-    → lossy_of t ≡ (if eqb (length (longest_front_of t)) 0 then [] else replacement)
+    → lossy_of t ≡ replacement_for (longest_front_of t)
     ++ lossy_of (drop (length (longest_front_of t)) t)
 lossy_of-rest [] z = rw (ap length longest_front_of-nil) refl
 lossy_of-rest (b ∷ bs) z =
@@ -165,7 +165,7 @@ lossy_of-chunk s =
     let v = take n s in
     let t = drop n s in
     let b = longest_front_of t in
-    let mark : List ℕ = if eqb (length b) 0 then [] else replacement in
+    let mark = replacement_for b in
     let e : length v ≡ n = length-take-le n s (longest_len-longest is_text s).within in
     ap lossy_of (sym (take-append-drop n s)) ∙ lossy_of-append v t (text_prefix s)
     ∙ ap (λ x. v ++ x) (lossy_of-rest t (none_after_text s))

@@ -10,6 +10,7 @@ use Rattle.std.proofs.lemmas.List.{length-map}
 use Rattle.std.proofs.lemmas.List.Sums.{common_prefix_len-le}
 use Rattle.std.proofs.lemmas.Simd.{tops_compared, mask_l-mod, first_set_mask_l}
 use Rattle.std.proofs.lemmas.Simd.{length-chunk, get_or-chunk}
+use Rattle.unix_bytes.proofs.HitLemmas.{in_window}
 
 -- the bytes are the same up to n, where a string ends or they differ
 pub common_prefix_len-is : (a b : List ℕ) (n : ℕ) → n ≤ length a → n ≤ length b
@@ -132,12 +133,9 @@ in_lanes a b n at len l m is =
     record {
       in_range = few;
       same = λ k from to.
-          let back : at + (k - at) ≡ k = omega arith in
-          ap (λ i. get_or a i 0) (sym back)
-          ∙ sym (get_or-chunk at n a (k - at) 0 (omega arith))
+          sym (in_window at n a k from (omega arith))
           ∙ common_prefix_len-same (chunk at n a) (chunk at n b) (k - at) (omega arith)
-          ∙ get_or-chunk at n b (k - at) 0 (omega arith)
-          ∙ ap (λ i. get_or b i 0) back;
+          ∙ in_window at n b k from (omega arith);
       differs = λ short.
           sym (ap₂ eqb (get_or-chunk at n a len 0 short) (get_or-chunk at n b len 0 short))
           ∙ common_prefix_len-differs (chunk at n a) (chunk at n b) len is

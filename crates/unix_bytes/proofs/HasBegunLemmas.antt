@@ -1,6 +1,6 @@
 -- How far a sequence has begun, byte by byte.
 use Rattle.std.proofs.Common.{◌≡◌, ℕ, ◌<◌, ◌≤◌, List, [], ◌∷◌, length, take, true, ⊎_elim, arith}
-use Rattle.std.proofs.Common.{refl, slice_index}
+use Rattle.std.proofs.Common.{refl, ap, ◌∙◌, drop, slice_index, get_or-drop, add-zero}
 use Rattle.std.proofs.lemmas.Bool.{cases_lt}
 use Rattle.unix_bytes.specs.Utf8.{IsSequence, begins_sequence}
 use Rattle.unix_bytes.specs.Steps.{HasBegun}
@@ -62,6 +62,10 @@ pub take-two : (s : List ℕ) → 1 < length s
 take-two [] l = absurd (omega arith)
 take-two (x ∷ []) l = absurd (omega arith)
 take-two (x ∷ y ∷ s) l = refl
+
+-- the first byte behind i bytes is the one at place i
+pub first_of_drop : (i : ℕ) (s : List ℕ) → slice_index (drop i s) 0 ≡ slice_index s i
+first_of_drop i s = get_or-drop i s 0 0 ∙ ap (slice_index s) (add-zero i)
 
 -- the ranges of the first two bytes, where these begin a sequence
 pub pair_bounds : (s : List ℕ) → HasBegun s 2 → (0xC2 ≤ slice_index s 0)

@@ -112,9 +112,9 @@ none_from byte s from l none =
     ∙ none (from + k) (omega arith) (omega arith))
     (λ few. absurd (omega arith))
 
--- a byte of a window of 16 is the byte of the whole at its place
-pub in_window : (at : ℕ) (s : List ℕ) (k : ℕ) → at ≤ k → k < at + 16
-    → get_or (take 16 (drop at s)) (k - at) 0 ≡ get_or s k 0
-in_window at s k l h =
-    get_or-take 16 (drop at s) (k - at) 0 (omega arith) ∙ get_or-drop at s (k - at) 0
+-- a byte of a window of n bytes is the byte of the whole at its place
+pub in_window : (at n : ℕ) (s : List ℕ) (k : ℕ) → at ≤ k → k < at + n
+    → get_or (take n (drop at s)) (k - at) 0 ≡ get_or s k 0
+in_window at n s k l h =
+    get_or-take n (drop at s) (k - at) 0 (omega arith) ∙ get_or-drop at s (k - at) 0
     ∙ ap (λ i. get_or s i 0) {x = at + (k - at)} {y = k} (omega arith)

@@ -1,4 +1,4 @@
--- Three bit masks, of which two add up to the third: each byte continues a sequence or begins one.
+-- Three bit masks, of which two add up to the third: each byte goes on behind the three before it.
 use Rattle.std.proofs.Common.{◌≡◌, ℕ, ◌+◌, ◌*◌, ◌<◌, ◌≤◌, List, [], ◌∷◌, length, Bool}
 use Rattle.std.proofs.Common.{true, false, cond, map, nat_le, refl, sym, ap, ◌∙◌, arith}
 use Rattle.std.proofs.Common.{leb-true, leb-false, le-leb, ◌⊎◌, inl, inr, ⊎_elim}
@@ -6,6 +6,7 @@ use Rattle.std.proofs.lemmas.Bool.{cases_lt, lt-leb}
 use Rattle.std.specs.Prelude.{replicate}
 use Rattle.std.specs.Simd.Lanes.{zip2, mask_l}
 use Rattle.unix_bytes.specs.Windows.{GoesOn, GoOn, IsUnfinished, IsFinished}
+use Rattle.unix_bytes.proofs.MaskLemmas.{bit}
 
 -- 255 where a sequence is not finished, and 0 elsewhere
 abbrev unfinished_mark : ℕ → ℕ → ℕ → ℕ
@@ -33,12 +34,12 @@ unfinished_mark-clear a b c h =
 
 -- bits that add up with no carry
 record Adds (o p q : Bool) (n m k : ℕ) : Type 0 where
-  bits : cond o 1 0 + cond p 1 0 ≡ cond q 1 0
+  bits : bit o + bit p ≡ bit q
   rest : n + m ≡ k
 
 -- where two numbers add up with no carry from the lowest bit, so do the lowest bits and the others
 adds : (o p q : Bool) (n m k : ℕ) → (p ≡ true → q ≡ true)
-    → (cond o 1 0 + 2 * n) + (cond p 1 0 + 2 * m) ≡ cond q 1 0 + 2 * k → Adds o p q n m k
+    → (bit o + 2 * n) + (bit p + 2 * m) ≡ bit q + 2 * k → Adds o p q n m k
 adds true true true n m k h e = absurd (omega arith)
 adds true true false n m k h e = let z = h refl in cc
 adds true false true n m k h e = record { bits = refl; rest = omega arith }
@@ -49,24 +50,24 @@ adds false false true n m k h e = absurd (omega arith)
 adds false false false n m k h e = record { bits = refl; rest = omega arith }
 
 -- equal numbers have the same lowest bit and the same others
-same_bit : (p q : Bool) (n m : ℕ) → cond p 1 0 + 2 * n ≡ cond q 1 0 + 2 * m → (p ≡ q) × (n ≡ m)
+same_bit : (p q : Bool) (n m : ℕ) → bit p + 2 * n ≡ bit q + 2 * m → (p ≡ q) × (n ≡ m)
 same_bit true true n m e = (refl, omega arith)
 same_bit true false n m e = absurd (omega arith)
 same_bit false true n m e = absurd (omega arith)
 same_bit false false n m e = (refl, omega arith)
 
 -- the bit of a true test is 1
-bit_on : (t : Bool) → t ≡ true → ◌≡◌ {A = ℕ} (cond t 1 0) 1
-bit_on t h = ap (λ b. cond b 1 0) h
+bit_on : (t : Bool) → t ≡ true → bit t ≡ 1
+bit_on t h = ap bit h
 
 -- the bit of a false test is 0
-bit_off : (t : Bool) → t ≡ false → ◌≡◌ {A = ℕ} (cond t 1 0) 0
-bit_off t h = ap (λ b. cond b 1 0) h
+bit_off : (t : Bool) → t ≡ false → bit t ≡ 0
+bit_off t h = ap bit h
 
--- a byte goes on where the bit for a sequence that is not finished and that for a lead add up
+-- a byte goes on if it is neither C0 nor C1, and the bit for a sequence that is not finished and
+-- that for C0 or more add up to that for 80 or more
 goes_on : (a b c d : ℕ)
-    → cond (nat_le 0x80 (unfinished_mark a b c)) 1 0 + cond (nat_le 0xC0 d) 1 0
-    ≡ cond (nat_le 0x80 d) 1 0
+    → bit (nat_le 0x80 (unfinished_mark a b c)) + bit (nat_le 0xC0 d) ≡ bit (nat_le 0x80 d)
     → nat_le 0xC0 d ≡ nat_le 0xC2 d → GoesOn a b c d
 goes_on a b c d e f = record {
   within = λ h. may_continue (unfinished_mark-set a b c h);
@@ -102,7 +103,7 @@ goes_on a b c d e f = record {
         (λ (k : 0xC0 ≤ d). inr (leb-true 0xC2 d (sym f ∙ le-leb 0xC0 d k))) (cases_lt d 0xC0))
         (cases_lt d 0x80)
 
--- the vectors that the code adds up
+-- the marks as the code computes them: 255 where a sequence is not finished, and 0 elsewhere
 abbrev pub unfinished_lanes : List ℕ → List ℕ → List ℕ → List ℕ
 unfinished_lanes s t u =
     zip2 (λ b o. cond (nat_le 0xF0 b) 255 o) s

@@ -1,6 +1,6 @@
 -- Text at the beginning, a stretch at a time.
 use Rattle.std.proofs.Common.{◌≡◌, ℕ, ◌+◌, ◌-◌, ◌<◌, ◌≤◌, List, ◌++◌, length, take, drop}
-use Rattle.std.proofs.Common.{slice_index, get_or-drop, add-zero, ⊎_elim, inr, sym, ap, ◌∙◌, subst}
+use Rattle.std.proofs.Common.{slice_index, get_or-drop, ⊎_elim, inr, sym, ap, ◌∙◌, subst}
 use Rattle.std.proofs.Common.{eqb, true, le_refl, arith, length-drop}
 use Rattle.std.proofs.lemmas.Bool.{eqb-true, false_from_ne_true}
 use Rattle.std.specs.Str.{IsAscii, IsUtf8}
@@ -13,13 +13,14 @@ use Rattle.unix_bytes.specs.Steps.{longest_len, broken_len}
 use Rattle.unix_bytes.proofs.TextLemmas.{IsUtf8-from_IsText, IsText-from_IsUtf8, IsText-nil}
 use Rattle.unix_bytes.proofs.TextLemmas.{IsText-append, IsText-sequence}
 use Rattle.unix_bytes.proofs.SequenceLemmas.{IsSequence-two}
-use Rattle.unix_bytes.proofs.HasBegunLemmas.{take-two}
+use Rattle.unix_bytes.proofs.HasBegunLemmas.{take-two, first_of_drop}
 use Rattle.unix_bytes.proofs.LongestLemmas.{longest_len-is, longest_len-longest}
 use Rattle.unix_bytes.proofs.LossyLemmas.{is_text-from_IsText, IsText-from_is_text, text_rest}
 use Rattle.unix_bytes.proofs.LossyLemmas.{no_text}
 use Rattle.unix_bytes.proofs.BrokenLemmas.{broken_len_within, broken_len-empty, none_in_front}
 use Rattle.unix_bytes.proofs.ChunkLemmas.{whole_text, text_prefix}
 
+-- ASCII is text
 pub ascii_is_text : (s : List ℕ) → IsAscii s → IsText s
 ascii_is_text s h = IsText-from_IsUtf8 s (IsUtf8-from_ascii s h)
 
@@ -35,6 +36,7 @@ sequence_is_text s n some e =
     (IsText-sequence _ (⊎_elim (λ z. absurd (omega arith)) (λ t. t)
     (longest_len-longest is_sequence s).passes))
 
+-- a sequence at the beginning is within the bytes
 pub sequence_within : (s : List ℕ) → longest_len is_sequence s ≤ length s
 sequence_within s = (longest_len-longest is_sequence s).within
 
@@ -51,8 +53,7 @@ pub pair_at : (s : List ℕ) (i : ℕ) → i + 2 ≤ length s
     → IsText (take i s) → IsText (take (i + 2) s)
 pair_at s i l lead tail before =
     let r = drop i s in
-    let first : slice_index r 0 ≡ slice_index s i =
-    get_or-drop i s 0 0 ∙ ap (slice_index s) (add-zero i) in
+    let first : slice_index r 0 ≡ slice_index s i = first_of_drop i s in
     let second : slice_index r 1 ≡ slice_index s (i + 1) = get_or-drop i s 1 0 in
     let pair = IsSequence-two (slice_index r 0) (slice_index r 1)
     (rw (first, second) (lead.0, lead.1, tail.0, tail.1)) in
@@ -191,6 +192,7 @@ whole_is_utf8 s n e le = subst IsUtf8 (take_all n s le) (prefix_is_utf8 s n e)
 pub whole_is_text : (s : List ℕ) (n : ℕ) → n ≡ longest_len is_text s → length s ≤ n → IsText s
 whole_is_text s n e le = IsText-from_IsUtf8 s (whole_is_utf8 s n e le)
 
+-- the longest prefix that is text is within the bytes
 pub text_within : (s : List ℕ) → longest_len is_text s ≤ length s
 text_within s = (longest_len-longest is_text s).within
 

@@ -18,10 +18,10 @@ returns c =
       in_range = hit.in_range;
       after = λ some.
           ap (λ k. get_or s k 0) {x = at + past - 1} {y = at + (past - 1)} (omega arith)
-          ∙ sym (in_window at s (at + (past - 1)) (omega arith) (omega (arith, hit.in_range)))
+          ∙ sym (in_window at 16 s (at + (past - 1)) (omega arith) (omega (arith, hit.in_range)))
           ∙ ap (λ k. get_or window k 0) {x = at + (past - 1) - at} {y = past - 1} (omega arith)
           ∙ eqb-true _ byte (hit.after some);
       none_behind = λ k h few.
-          ap (λ b. b == byte) (sym (in_window at s k (omega (arith, h)) few))
+          ap (λ b. b == byte) (sym (in_window at 16 s k (omega (arith, h)) few))
           ∙ hit.none_behind (k - at) (omega (arith, h)) (omega (arith, few));
     }
