@@ -31,7 +31,7 @@ fronts_of-sequence (b ∷ u) s h =
     ∙ ap (λ f. f ∷ fronts_of (drop (length f) (b ∷ u ++ s))) e
     ∙ ap (λ t. (b ∷ u) ∷ fronts_of t) (drop_at (b ∷ u) s (length (b ∷ u)) refl)
 
--- the fronts of sequences, one after the other, and of what follows are these sequences first
+-- sequences, one after the other, and then s are cut into these sequences and the fronts of s
 fronts_of-concat : (us : List (List ℕ)) (s : List ℕ) → list_all is_sequence us ≡ true
     → fronts_of (concat us ++ s) ≡ us ++ fronts_of s
 fronts_of-concat [] s h = refl
@@ -40,7 +40,7 @@ fronts_of-concat (u ∷ us) s h =
     ap fronts_of (append_assoc u (concat us) s) ∙ fronts_of-sequence u (concat us ++ s) k.0
     ∙ ap (λ fs. u ∷ fs) (fronts_of-concat us s k.1)
 
--- of one byte more than n, at most n are left behind one or more
+-- of at most n + 1 bytes, of which one or more are dropped, at most n are left
 pub length-drop-some : (n k b : ℕ) (bs : List ℕ) → 1 ≤ k → length (b ∷ bs) ≤ suc n
     → length (drop k (b ∷ bs)) ≤ n
 length-drop-some n k b bs some le = omega (arith, length-drop k (b ∷ bs))

@@ -12,7 +12,7 @@ use Rattle.unix_bytes.proofs.BeginLemmas.{BeginsSequence-take}
 use Rattle.unix_bytes.proofs.LongestLemmas.{longest_len-longest}
 use Rattle.unix_bytes.proofs.FrontLemmas.{longest_len-sequence, BeginsSequence-sequence}
 
--- of n bytes that begin a sequence, and are as long as any with their first byte, none is missing
+-- n bytes that begin a sequence, where no sequence that begins so is longer, are a sequence
 none_missing : (n : ℕ) (t : List ℕ) → length t ≡ n
     → ((u : List ℕ) → IsSequence (t ++ u) → length (t ++ u) ≤ n) → BeginsSequence t → IsSequence t
 none_missing n t e few ([], h) = subst IsSequence (append-nil t) h
@@ -29,7 +29,7 @@ longest_len-HasBegun s n h few =
     ap (longest_len is_sequence) (sym (take-append-drop n s))
     ∙ longest_len-sequence (take n s) (drop n s) is ∙ e
 
--- n bytes that begin none stand before no sequence of n bytes or more
+-- no sequence stands where n bytes begin none, and one there would have n bytes or more
 longest_len-not_HasBegun : (s : List ℕ) (n : ℕ) → (HasBegun s n → ⊥)
     → ((k : ℕ) → k ≤ length s → IsSequence (take k s) → n ≤ k) → longest_len is_sequence s ≡ 0
 longest_len-not_HasBegun s n never many =

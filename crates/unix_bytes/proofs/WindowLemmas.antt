@@ -82,7 +82,7 @@ HasPrefixUpTo n =
     → TextPrefix a b c s
 
 module _ (n : ℕ) (fewer : HasPrefixUpTo n) (a b c d : ℕ) (k : IsFinished a b c) where
-  -- one byte more than n begin with text, where the first leads two
+  -- at most n + 1 bytes that may follow begin with text, where the first leads two
   two_byte_prefix : (s : List ℕ) → length s ≤ n → 0xC2 ≤ d → d ≤ 0xDF → FitAfter b c d s
       → TextPrefix a b c (d ∷ s)
   two_byte_prefix [] le g l hs = no_prefix _ _ _ _ (unfinished_len-one b c d (omega arith))
@@ -91,7 +91,7 @@ module _ (n : ℕ) (fewer : HasPrefixUpTo n) (a b c d : ℕ) (k : IsFinished a b
       more_prefix (d ∷ e ∷ []) s a b c c d e 2 (IsSequence-two d e (g, l, lo, hi)) refl
       (fewer c d e s (omega arith) (omega arith, omega arith, omega arith) hs) refl
 
-  -- one byte more than n begin with text, where the first leads three
+  -- at most n + 1 bytes that may follow begin with text, where the first leads three
   three_byte_prefix : (s : List ℕ) → length s ≤ n → 0xE0 ≤ d → d ≤ 0xEF → FitAfter b c d s
       → TextPrefix a b c (d ∷ s)
   three_byte_prefix [] le g l hs = no_prefix _ _ _ _ (unfinished_len-one b c d (omega arith))
@@ -106,7 +106,7 @@ module _ (n : ℕ) (fewer : HasPrefixUpTo n) (a b c d : ℕ) (k : IsFinished a b
       (IsSequence-three d e f (g, l, lo, hi, lo2, hi2, second.0, second.1)) refl
       (fewer d e f s (omega arith) (omega arith, omega arith, omega arith) hs) refl
 
-  -- one byte more than n begin with text, where the first leads four
+  -- at most n + 1 bytes that may follow begin with text, where the first leads four
   four_byte_prefix : (s : List ℕ) → length s ≤ n → 0xF0 ≤ d → d ≤ 0xF4 → FitAfter b c d s
       → TextPrefix a b c (d ∷ s)
   four_byte_prefix [] le g l hs = no_prefix _ _ _ _ (unfinished_len-one b c d (omega arith))
@@ -126,7 +126,7 @@ module _ (n : ℕ) (fewer : HasPrefixUpTo n) (a b c d : ℕ) (k : IsFinished a b
       (IsSequence-four d e f x (g, l, lo, hi, lo2, hi2, lo3, hi3, second.2, second.3)) refl
       (fewer e f x s (omega arith) (omega arith, omega arith, omega arith) hs) refl
 
-  -- one byte more than n begin with text, whatever the first is
+  -- at most n + 1 bytes that may follow begin with text, whatever the first is
   any_prefix : (s : List ℕ) → length s ≤ n → Fits a b c d → FitAfter b c d s
       → TextPrefix a b c (d ∷ s)
   any_prefix s le h hs =

@@ -2,11 +2,11 @@
 use Rattle.std.specs.Prelude.{◌≤◌, ◌<◌, ◌⊎◌, ◌==◌, ℕ, List, [], ◌∷◌, take, if◌then◌else◌, ⊤}
 use Rattle.std.specs.Prelude.{nat_le}
 
--- the least byte that may follow c, or 0 where c sets no bound
+-- a lower bound of the byte behind c in text: A0 behind E0, 90 behind F0, and else 0
 abbrev pub least_second : ℕ → ℕ
 least_second c = if c == 0xE0 then 0xA0 else if c == 0xF0 then 0x90 else 0
 
--- the greatest byte that may follow c
+-- an upper bound of the byte behind c in text: 9F behind ED, 8F behind F4, and else F4
 abbrev pub most_second : ℕ → ℕ
 most_second c = if c == 0xED then 0x9F else if c == 0xF4 then 0x8F else 0xF4
 
@@ -18,7 +18,7 @@ IsUnfinished a b c = (0xF0 ≤ a) ⊎ ((0xE0 ≤ b) ⊎ (0xC0 ≤ c))
 abbrev pub IsFinished : ℕ → ℕ → ℕ → Type 0
 IsFinished a b c = (a < 0xF0) × (b < 0xE0) × (c < 0xC0)
 
--- d, behind a, b and c, continues a sequence that is not finished, or else begins one
+-- d, behind a, b and c, continues a sequence that is not finished, or else is ASCII or C2 or more
 pub record GoesOn (a b c d : ℕ) : Type 0 where
   pub within : IsUnfinished a b c → (0x80 ≤ d) × (d ≤ 0xBF)
   pub begins : IsFinished a b c → (d < 0x80) ⊎ (0xC2 ≤ d)

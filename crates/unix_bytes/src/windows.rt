@@ -28,7 +28,7 @@ fn bound_lanes(bytes: u8x16, value: u8, bound: u8, other: u8x16) -> u8x16
         .select(u8x16::splat(bound), other)
 }
 
-// The least byte that may follow each byte.
+// For each byte a lower bound of the one behind it in text: A0 for E0, 90 for F0, and else 0.
 #[inline(always)]
 fn least_after(bytes: u8x16) -> u8x16
     ensures { result ≡ map least_second bytes }
@@ -37,7 +37,7 @@ fn least_after(bytes: u8x16) -> u8x16
     bound_lanes(bytes, 0xE0, 0xA0, four)
 }
 
-// The greatest byte that may follow each byte.
+// For each byte an upper bound of the one behind it in text: 9F for ED, 8F for F4, and else F4.
 #[inline(always)]
 fn most_after(bytes: u8x16) -> u8x16
     ensures { result ≡ map most_second bytes }
@@ -63,8 +63,9 @@ fn are_above(bytes: u8x16, bounds: u8x16) -> bool
     bytes.simd_lt(bounds).to_bitmask() == 0
 }
 
-// Whether each byte continues the sequence before it where that is not finished, and begins one
-// elsewhere. The three bytes before it stand in the same lane of `first`, `second` and `third`.
+// Whether each byte continues the sequence before it where that is not finished, and elsewhere is
+// ASCII or C2 or more. The three bytes before it stand in the same lane of `first`, `second` and
+// `third`.
 #[inline(always)]
 fn go_on(first: u8x16, second: u8x16, third: u8x16, bytes: u8x16) -> bool
     ensures { IsTrue result → GoOn first second third bytes }
