@@ -33,8 +33,8 @@ longest_front_of-none s z =
     longest_front_of-take s ∙ ap (λ k. take k s) (sym (broken_len-none s z))
 
 -- where bytes are broken at the beginning, no sequence stands there
-pub none_in_front : (s : List ℕ) → 0 < broken_len s → longest_len is_sequence s ≡ 0
-none_in_front s some =
+pub no_sequence_first : (s : List ℕ) → 0 < broken_len s → longest_len is_sequence s ≡ 0
+no_sequence_first s some =
     let k = longest_len is_sequence s in
     ⊎_elim (λ z. z)
     (λ h.

@@ -15,7 +15,7 @@ use Rattle.unix_bytes.specs.Utf8.{is_sequence, IsSequence, BeginsSequence, begin
 use Rattle.unix_bytes.specs.Lossy.{fronts_of, replacement, lossy_of}
 use Rattle.unix_bytes.specs.Steps.{longest_len, longest_front_of}
 use Rattle.unix_bytes.specs.Begins.{IsLongest}
-use Rattle.unix_bytes.specs.Laws.{FrontsBegin, FrontsOneByOne, FrontIsLongest, NoneInFront}
+use Rattle.unix_bytes.specs.Laws.{FrontsBegin, FrontsOneByOne, FrontIsLongest, BeginsWithNoSequence}
 use Rattle.unix_bytes.specs.Laws.{BrokenIsShort, LossyOfBroken, LossyIsText}
 use Rattle.unix_bytes.proofs.BeginLemmas.{begins_sequence-from, BeginsSequence-from}
 use Rattle.unix_bytes.proofs.SequenceLemmas.{sequence_len}
@@ -86,8 +86,9 @@ front_is_longest s =
     (longest_front_is_longest s)
 
 -- where the bytes begin with no sequence, the longest sequence at the beginning has length 0
-longest_len-NoneInFront : (s : List ℕ) → NoneInFront s → longest_len is_sequence s ≡ 0
-longest_len-NoneInFront s none =
+longest_len-BeginsWithNoSequence : (s : List ℕ) → BeginsWithNoSequence s
+    → longest_len is_sequence s ≡ 0
+longest_len-BeginsWithNoSequence s none =
     let n = longest_len is_sequence s in
     ⊎_elim (λ z. z) (λ t. absurd (none (take n s) t (drop n s, take-append-drop n s)))
     (longest_len-longest is_sequence s).passes
@@ -95,7 +96,7 @@ longest_len-NoneInFront s none =
 pub lossy_of_broken : LossyOfBroken
 lossy_of_broken [] some none = absurd (omega arith)
 lossy_of_broken (b ∷ bs) some none =
-    lossy_of-none b bs (longest_len-NoneInFront (b ∷ bs) none)
+    lossy_of-none b bs (longest_len-BeginsWithNoSequence (b ∷ bs) none)
     ∙ ap (λ u. replacement ++ lossy_of (drop (length u) (b ∷ bs)))
     (sym (front_of-longest (b ∷ bs)))
 
@@ -145,7 +146,7 @@ longest_front_is_short s z =
 pub broken_is_short : BrokenIsShort
 broken_is_short s none =
     subst (λ u. length u ≤ 3) (sym (front_of-longest s))
-    (longest_front_is_short s (longest_len-NoneInFront s none))
+    (longest_front_is_short s (longest_len-BeginsWithNoSequence s none))
 
 -- what is shown for fronts are sequences
 shown_fronts_are_sequences : (us : List (List ℕ))

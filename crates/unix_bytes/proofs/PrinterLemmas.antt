@@ -1,4 +1,4 @@
--- Lossy text that is written piece by piece.
+-- Lossy text that is written a buffer at a time.
 use Rattle.std.proofs.Common.{◌≡◌, ℕ, ◌+◌, ◌<◌, ◌≤◌, List, [], ◌∷◌, ◌++◌, length, take, drop, refl}
 use Rattle.std.proofs.Common.{sym, ap, ◌∙◌, subst, arith, append_assoc, append-nil}
 use Rattle.std.proofs.Common.{take-append-drop}
@@ -16,7 +16,7 @@ use Rattle.unix_bytes.proofs.LongestLemmas.{longest_len-longest}
 use Rattle.unix_bytes.proofs.TextLemmas.{IsText-append, IsText-sequence, IsText-nil}
 use Rattle.unix_bytes.proofs.TextLemmas.{IsUtf8-from_IsText}
 use Rattle.unix_bytes.proofs.LossyLemmas.{lossy_of-append, lossy_of-none, lossy_of-nil}
-use Rattle.unix_bytes.proofs.BrokenLemmas.{broken_len-empty, none_in_front, broken_len-none}
+use Rattle.unix_bytes.proofs.BrokenLemmas.{broken_len-empty, no_sequence_first, broken_len-none}
 use Rattle.unix_bytes.proofs.BrokenLemmas.{broken_len_within}
 use Rattle.unix_bytes.proofs.StretchLemmas.{ascii_is_text, sequence_within}
 use Rattle.unix_bytes.proofs.LawLemmas.{replacement_is_sequence}
@@ -38,7 +38,7 @@ pub shows_broken : (s before : List ℕ) (n : ℕ) (after : List ℕ) → (0 < n
 shows_broken [] before n after (some, is) e = absurd (omega (arith, broken_len-empty [] refl))
 shows_broken (b ∷ bs) before n after (some, is) e =
     let s = b ∷ bs in
-    let none : longest_len is_sequence s ≡ 0 = none_in_front s (omega arith) in
+    let none : longest_len is_sequence s ≡ 0 = no_sequence_first s (omega arith) in
     let len : length (longest_front_of s) ≡ n = sym (is ∙ broken_len-none s none) in
     record {
       lossy =
@@ -51,7 +51,7 @@ shows_broken (b ∷ bs) before n after (some, is) e =
           (IsText-sequence replacement replacement_is_sequence));
     }
 
--- a piece and then another are a piece of both
+-- what shows the first n bytes, and then the next k, shows the first n + k
 pub shows_more : (s t before middle after : List ℕ) (n k : ℕ) → t ≡ drop n s
     → Shows s before n middle → Shows t middle k after → Shows s before (n + k) after
 shows_more s t before middle after n k e p q = record {
@@ -61,16 +61,16 @@ shows_more s t before middle after n k e p q = record {
   text = λ h. q.text (p.text h);
 }
 
--- behind other bytes, a piece and the lossy text of what was not read are all of it
-pub pushes_piece : (items piece s t : List ℕ) (n : ℕ) → t ≡ drop n s → Shows s [] n piece
-    → (items ++ piece) ++ lossy_of t ≡ items ++ lossy_of s
-pushes_piece items piece s t n e p =
-    append_assoc items piece (lossy_of t)
-    ∙ ap (λ u. items ++ u) (ap (λ u. piece ++ lossy_of u) e ∙ p.lossy)
+-- behind other bytes, a buffer and the lossy text of what was not read are all of it
+pub pushes_buffer : (items buffer s t : List ℕ) (n : ℕ) → t ≡ drop n s → Shows s [] n buffer
+    → (items ++ buffer) ++ lossy_of t ≡ items ++ lossy_of s
+pushes_buffer items buffer s t n e p =
+    append_assoc items buffer (lossy_of t)
+    ∙ ap (λ u. items ++ u) (ap (λ u. buffer ++ lossy_of u) e ∙ p.lossy)
 
--- a piece that was made alone is text
-pub piece_is_utf8 : (s piece : List ℕ) (n : ℕ) → Shows s [] n piece → IsUtf8 piece
-piece_is_utf8 s piece n p = IsUtf8-from_IsText piece (p.text IsText-nil)
+-- a buffer that holds lossy text alone is UTF-8
+pub buffer_is_utf8 : (s buffer : List ℕ) (n : ℕ) → Shows s [] n buffer → IsUtf8 buffer
+buffer_is_utf8 s buffer n p = IsUtf8-from_IsText buffer (p.text IsText-nil)
 
 -- where nothing is left, what was written is the whole
 pub writes_whole : (items s whole : List ℕ) → length s ≡ 0 → items ++ lossy_of s ≡ whole
@@ -79,11 +79,11 @@ writes_whole items s whole z e =
     sym (append-nil items)
     ∙ ap (λ u. items ++ u) (sym (ap lossy_of (nil_from_length s z) ∙ lossy_of-nil)) ∙ e
 
--- where nothing is left behind the last piece, what was written with it is the whole
-pub writes_last : (items piece s t whole : List ℕ) (n : ℕ) → t ≡ drop n s → length t ≡ 0
-    → Shows s [] n piece → items ++ lossy_of s ≡ whole → items ++ piece ≡ whole
-writes_last items piece s t whole n cut z p e =
-    writes_whole (items ++ piece) t whole z (pushes_piece items piece s t n cut p ∙ e)
+-- where nothing is left behind the last buffer, what was written with it is the whole
+pub writes_last : (items buffer s t whole : List ℕ) (n : ℕ) → t ≡ drop n s → length t ≡ 0
+    → Shows s [] n buffer → items ++ lossy_of s ≡ whole → items ++ buffer ≡ whole
+writes_last items buffer s t whole n cut z p e =
+    writes_whole (items ++ buffer) t whole z (pushes_buffer items buffer s t n cut p ∙ e)
 
 -- where n bytes were written at a place, the first k of them stand there
 pub takes_fewer : (out old s : List ℕ) (at n k : ℕ) → k ≤ n → at ≤ length old

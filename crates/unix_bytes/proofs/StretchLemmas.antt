@@ -17,7 +17,7 @@ use Rattle.unix_bytes.proofs.HasBegunLemmas.{take-two, first_of_drop}
 use Rattle.unix_bytes.proofs.LongestLemmas.{longest_len-is, longest_len-longest}
 use Rattle.unix_bytes.proofs.LossyLemmas.{is_text-from_IsText, IsText-from_is_text, text_rest}
 use Rattle.unix_bytes.proofs.LossyLemmas.{no_text}
-use Rattle.unix_bytes.proofs.BrokenLemmas.{broken_len_within, broken_len-empty, none_in_front}
+use Rattle.unix_bytes.proofs.BrokenLemmas.{broken_len_within, broken_len-empty, no_sequence_first}
 use Rattle.unix_bytes.proofs.ChunkLemmas.{whole_text, text_prefix}
 
 -- ASCII is text
@@ -108,7 +108,7 @@ module _ (s r : List ℕ) (i : ℕ) (rest : r ≡ drop i s) (before : IsText (ta
       → i ≡ longest_len is_text s
   text_before_broken n le (some, is) =
       text_until s i le before
-      (subst (λ t. longest_len is_sequence t ≡ 0) rest (none_in_front r (omega arith)))
+      (subst (λ t. longest_len is_sequence t ≡ 0) rest (no_sequence_first r (omega arith)))
 
 -- how far the rest is from the beginning
 abbrev pub place_of : List ℕ → List ℕ → ℕ

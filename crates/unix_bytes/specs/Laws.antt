@@ -40,12 +40,12 @@ abbrev pub FrontIsLongest : Type 0
 FrontIsLongest = (s : List ℕ) → IsLongest BeginsSequence (front_of s) s
 
 -- the bytes begin with no sequence
-abbrev pub NoneInFront : List ℕ → Type 0
-NoneInFront s = (u : List ℕ) → IsSequence u → ¬ (Begins u s)
+abbrev pub BeginsWithNoSequence : List ℕ → Type 0
+BeginsWithNoSequence s = (u : List ℕ) → IsSequence u → ¬ (Begins u s)
 
 -- the first front has three bytes at most where the bytes begin with no sequence
 abbrev pub BrokenIsShort : Type 0
-BrokenIsShort = (s : List ℕ) → NoneInFront s → length (front_of s) ≤ 3
+BrokenIsShort = (s : List ℕ) → BeginsWithNoSequence s → length (front_of s) ≤ 3
 
 -- a sequence at the beginning is copied
 abbrev pub LossyOfSequence : Type 0
@@ -54,7 +54,7 @@ LossyOfSequence = (u s : List ℕ) → IsSequence u → lossy_of (u ++ s) ≡ u 
 -- where the bytes begin with no sequence, U+FFFD stands for the first front
 abbrev pub LossyOfBroken : Type 0
 LossyOfBroken =
-    (s : List ℕ) → 0 < length s → NoneInFront s
+    (s : List ℕ) → 0 < length s → BeginsWithNoSequence s
     → lossy_of s ≡ replacement ++ lossy_of (drop (length (front_of s)) s)
 
 -- text is its own lossy text

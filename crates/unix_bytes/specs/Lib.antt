@@ -2,7 +2,7 @@ pub mod Begins
 pub mod Utf8
 pub mod Lossy
 pub mod Chunks
-pub mod Texts
+pub mod Text
 pub mod Hashed
 pub mod Owned
 pub mod Steps

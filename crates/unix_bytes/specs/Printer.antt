@@ -1,4 +1,4 @@
--- Lossy text as the code writes it, piece by piece. No public clause cites this word.
+-- Lossy text as the code writes it, a buffer at a time. No public clause cites this word.
 use Rattle.std.specs.Prelude.{◌≡◌, ℕ, List, ◌++◌, drop}
 use Rattle.unix_bytes.specs.Utf8.{IsText}
 use Rattle.unix_bytes.specs.Lossy.{lossy_of}

@@ -7,7 +7,7 @@ ghost use Rattle.unix_bytes.specs.Lossy.{lossy_of};
 ghost use Rattle.unix_bytes.specs.Chunks.{replacement_for};
 
 use crate::lossy::Utf8Lossy;
-use crate::printer::{PIECE, show_first};
+use crate::printer::{BUFFER_LEN, show_first};
 use crate::utf8::{split_text, to_text};
 use std::alloc::{AllocError, Global};
 use std::fmt;
@@ -31,7 +31,7 @@ pub struct UnixStr<'a> {
 }
 
 impl<'a> UnixStr<'a> {
-    ghost use Rattle.unix_bytes.specs.Texts.{text_bytes, IsBorrowed};
+    ghost use Rattle.unix_bytes.specs.Text.{text_bytes, IsBorrowed};
 
     /// The bytes of the text, in UTF-8. Does not allocate.
     ///
@@ -154,27 +154,27 @@ impl fmt::Debug for UnixStr<'_> {
     }
 }
 
-// The text, then U+FFFD unless nothing is broken, then the lossy text of the rest. Where that is
-// one piece, the capacity is known at once.
+// The text, then U+FFFD unless nothing is broken, then the lossy text of the rest. Where that fits
+// one buffer, the capacity is known at once.
 fn lossy_string(alloc: Global, text: &str, broken: &[u8], rest: &[u8]) -> Result<String, AllocError>
     ensures { let whole = (text.now ++ replacement_for broken.now) ++ lossy_of rest.now in
         IfOk result (λ lossy. string_bytes lossy ≡ whole) }
 {
-    let mut piece = [0; PIECE];
-    let (read, written) = show_first(rest, &mut piece);
+    let mut buffer = [0; BUFFER_LEN];
+    let (read, written) = show_first(rest, &mut buffer);
     let left = &rest[read..];
     let capacity = text.len().saturating_add(left.len());
     let mut bytes = Vec::with_capacity(alloc, capacity.saturating_add(written + 3))?;
     bytes.extend_from_slice(text.as_bytes())?;
     push_broken(&mut bytes, broken)?;
-    bytes.extend_from_slice(&piece[..written])?;
-    push_lossy(&mut bytes, left, &mut piece)?;
+    bytes.extend_from_slice(&buffer[..written])?;
+    push_lossy(&mut bytes, left, &mut buffer)?;
     // All that was pushed is text.
     Ok(unsafe { String::from_utf8_unchecked(bytes) })
 }
 
-// Appends the lossy text of the source, made piece by piece in `piece`.
-fn push_lossy(bytes: &mut Vec<u8>, source: &[u8], piece: &mut [u8]) -> Result<(), AllocError>
+// Appends the lossy text of the source, made a buffer at a time in `buffer`.
+fn push_lossy(bytes: &mut Vec<u8>, source: &[u8], buffer: &mut [u8]) -> Result<(), AllocError>
     ensures { OnOk result (bytes.new.items ≡ bytes.old.items ++ lossy_of source.now) }
 {
     let mut left = source;
@@ -182,8 +182,8 @@ fn push_lossy(bytes: &mut Vec<u8>, source: &[u8], piece: &mut [u8]) -> Result<()
         let (text, broken, rest) = split_text(left);
         push_prefix(bytes, left, text.len())?;
         push_broken(bytes, broken)?;
-        let (read, written) = show_first(rest, piece);
-        bytes.extend_from_slice(&piece[..written])?;
+        let (read, written) = show_first(rest, buffer);
+        bytes.extend_from_slice(&buffer[..written])?;
         left = &rest[read..];
     }
     Ok(())

@@ -9,7 +9,7 @@ ghost use Rattle.unix_bytes.specs.Utf8.{IsSequence, BeginsSequence};
 ghost use Rattle.unix_bytes.specs.Lossy.{is_text, lossy_of};
 ghost use Rattle.unix_bytes.specs.Chunks.{chunks_of, chunk_of, chunks_left, shown_chunk};
 
-use crate::printer::{PIECE, show_first};
+use crate::printer::{BUFFER_LEN, show_first};
 use crate::utf8::split_text;
 use std::iter::FusedIterator;
 use std::{fmt, str};
@@ -46,6 +46,8 @@ pub struct Utf8Lossy<'a> {
 
 impl<'a> Utf8Lossy<'a> {
     /// These bytes, whatever they are. Does not allocate.
+    ///
+    /// Not in Rust's std, where `String::from_utf8_lossy` takes the bytes.
     ///
     /// `Utf8Lossy::from_bytes(b"a\xFF")` is displayed as `a` and U+FFFD.
     #[inline]
@@ -149,17 +151,17 @@ fn write_text<W: fmt::Write>(bytes: &[u8], f: &mut fmt::Formatter<W>) -> fmt::Re
     f.write_str(unsafe { str::from_utf8_unchecked(bytes) })
 }
 
-// Writes the lossy text of the source, piece by piece.
+// Writes the lossy text of the source, a buffer at a time.
 #[inline]
 fn write_lossy<W: fmt::Write>(source: &[u8], f: &mut fmt::Formatter<W>) -> fmt::Result
     ensures writes { WritesOnOk W.write_str_gives f.old result (lossy_of source.now) f.new }
     ensures styled { WritesStyledOnOk W.write_str_gives f.old result (lossy_of source.now) f.new }
 {
-    let mut piece = [0; PIECE];
+    let mut buffer = [0; BUFFER_LEN];
     let mut left = source;
     while !left.is_empty() {
-        let (read, written) = show_first(left, &mut piece);
-        write_text(&piece[..written], f)?;
+        let (read, written) = show_first(left, &mut buffer);
+        write_text(&buffer[..written], f)?;
         let behind = &left[read..];
         if behind.is_empty() {
             return Ok(());
@@ -187,7 +189,8 @@ impl fmt::Display for Utf8Lossy<'_> {
         if broken.is_empty() {
             return f.pad(valid);
         }
-        if valid.len() < PIECE / 4 {
+        // A short text is read again, so that it is written at once with what follows it.
+        if valid.len() < BUFFER_LEN / 4 {
             return write_lossy(self.bytes, f);
         }
         write_chunk(Utf8LossyChunk { valid, broken }, f)?;

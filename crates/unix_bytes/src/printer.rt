@@ -1,5 +1,6 @@
 //! Lossy text that is written into a buffer, a front at a time.
 ghost use Rattle.std.specs.Prelude.{◌≡◌, ℕ, ◌+◌, ◌≤◌, ◌<◌, ◌++◌, [], length, take, slice_index};
+ghost use Rattle.unix_bytes.specs.Lossy.{replacement};
 ghost use Rattle.unix_bytes.specs.Printer.{Shows};
 
 use crate::utf8::ascii::{ascii_in_sixteen, is_ascii_block};
@@ -7,11 +8,11 @@ use crate::utf8::fronts::{may_begin, wide_front};
 use std::simd::Simd;
 
 // How many bytes of lossy text are made at once.
-pub(crate) const PIECE: usize = 256;
+pub(crate) const BUFFER_LEN: usize = 256;
 
-// Writes the bytes into `out` from `at` on.
+// Copies the bytes into `out` from `at` on.
 #[inline(always)]
-fn place(out: &mut [u8], at: usize, bytes: &[u8])
+fn copy_at(out: &mut [u8], at: usize, bytes: &[u8])
     requires { at + length bytes.now ≤ length out.old }
     ensures len { length out.new ≡ length out.old }
     ensures bytes { take (at + length bytes.now) out.new ≡ take at out.old ++ bytes.now }
@@ -19,9 +20,9 @@ fn place(out: &mut [u8], at: usize, bytes: &[u8])
     out[at..at + bytes.len()].copy_from_slice(bytes);
 }
 
-// Writes the first N bytes of the source into `out` from `at` on: one load and one store.
+// Copies the first N bytes of the source into `out` from `at` on: one load and one store.
 #[inline(always)]
-fn place_first<const N: usize>(out: &mut [u8], at: usize, source: &[u8])
+fn copy_first<const N: usize>(out: &mut [u8], at: usize, source: &[u8])
     requires room { at + N ≤ length out.old }
     requires some { N ≤ length source.now }
     ensures len { length out.new ≡ length out.old }
@@ -29,6 +30,18 @@ fn place_first<const N: usize>(out: &mut [u8], at: usize, source: &[u8])
         → take (at + k) out.new ≡ take at out.old ++ take k source.now }
 {
     Simd::<u8, N>::from_slice(source).copy_to_slice(&mut out[at..]);
+}
+
+// Writes U+FFFD into `out` from `at` on. Gives where in `out` it ends.
+#[inline(always)]
+fn show_replacement(out: &mut [u8], at: usize) -> usize
+    requires { at + 3 ≤ length out.old }
+    ensures len { length out.new ≡ length out.old }
+    ensures end { result ≡ at + 3 }
+    ensures bytes { take result out.new ≡ take at out.old ++ replacement }
+{
+    copy_at(out, at, "\u{FFFD}".as_bytes());
+    at + 3
 }
 
 // Writes the lossy text of the first front, whose first byte is not ASCII. Gives how many bytes
@@ -46,21 +59,19 @@ fn show_front(source: &[u8], out: &mut [u8], at: usize) -> (usize, usize)
 {
     match wide_front(source) {
         Ok(size) => {
-            place_first::<4>(out, at, source);
+            copy_first::<4>(out, at, source);
             (size, at + size)
         }
-        Err(size) => {
-            place(out, at, "\u{FFFD}".as_bytes());
-            (size, at + 3)
-        }
+        Err(size) => (size, show_replacement(out, at)),
     }
 }
 
-// Writes the lossy text of up to 16 bytes of ASCII and of the front behind them, or of the front
-// alone. Gives how many bytes were read, and where in `out` the written bytes end. Reads nothing
-// where 64 bytes are ASCII, or where other text may go on: a long text is read faster at once.
+// Writes 16 bytes of ASCII, or else those before the first front that is not ASCII and the lossy
+// text of that front. Gives how many bytes were read, and where in `out` the written bytes end.
+// Reads nothing where 64 bytes are ASCII, or where other text may go on: a long text is read faster
+// at once.
 #[inline(always)]
-fn show_wide(source: &[u8], out: &mut [u8], at: usize) -> (usize, usize)
+fn show_many(source: &[u8], out: &mut [u8], at: usize) -> (usize, usize)
     requires some { 20 ≤ length source.now }
     requires room { at + 20 ≤ length out.old }
     ensures len { length out.new ≡ length out.old }
@@ -70,8 +81,7 @@ fn show_wide(source: &[u8], out: &mut [u8], at: usize) -> (usize, usize)
 {
     if 0x80 <= source[0] {
         if !may_begin(source) {
-            place(out, at, "\u{FFFD}".as_bytes());
-            return (1, at + 3);
+            return (1, show_replacement(out, at));
         }
         if 0x80 <= source[7] {
             return (0, at);
@@ -82,7 +92,7 @@ fn show_wide(source: &[u8], out: &mut [u8], at: usize) -> (usize, usize)
     if ascii == 16 && 64 <= source.len() && is_ascii_block(source, 0) {
         return (0, at);
     }
-    place_first::<16>(out, at, source);
+    copy_first::<16>(out, at, source);
     if ascii == 16 {
         return (16, at + 16);
     }
@@ -105,20 +115,17 @@ fn show_last_front(source: &[u8], out: &mut [u8], at: usize) -> (usize, usize)
 {
     match wide_front(source) {
         Ok(size) => {
-            place(out, at, &source[..size]);
+            copy_at(out, at, &source[..size]);
             (size, at + size)
         }
-        Err(size) => {
-            place(out, at, "\u{FFFD}".as_bytes());
-            (size, at + 3)
-        }
+        Err(size) => (size, show_replacement(out, at)),
     }
 }
 
 // Writes the first byte where it is ASCII, or else the lossy text of the first front. Gives how
 // many bytes were read, and where in `out` the written bytes end.
 #[inline(always)]
-fn show_narrow(source: &[u8], out: &mut [u8], at: usize) -> (usize, usize)
+fn show_few(source: &[u8], out: &mut [u8], at: usize) -> (usize, usize)
     requires some { 0 < length source.now }
     requires room { at + 4 ≤ length out.old }
     ensures len { length out.new ≡ length out.old }
@@ -146,9 +153,9 @@ pub(crate) fn show_first(source: &[u8], out: &mut [u8]) -> (usize, usize)
     while read < source.len() && 20 <= out.len() - end {
         let rest = &source[read..];
         let (size, next) = if rest.len() < 20 {
-            show_narrow(rest, out, end)
+            show_few(rest, out, end)
         } else {
-            show_wide(rest, out, end)
+            show_many(rest, out, end)
         };
         read += size;
         end = next;

@@ -3,7 +3,7 @@ ghost use Rattle.std.specs.Prelude.{◌≡◌, ◌↔◌, IsOk, IsSome, IfOk, If
 ghost use Rattle.std.specs.Fmt.{padded};
 ghost use Rattle.unix_bytes.specs.Utf8.{IsText};
 ghost use Rattle.unix_bytes.specs.Lossy.{is_text, lossy_of};
-ghost use Rattle.unix_bytes.specs.Texts.{text_bytes, IsBorrowed};
+ghost use Rattle.unix_bytes.specs.Text.{text_bytes, IsBorrowed};
 
 use crate::path::Path;
 use std::alloc::{AllocError, Global};

@@ -9,7 +9,7 @@ ghost use Rattle.std.specs.Fmt.{padded, debug_str};
 ghost use Rattle.std.specs.Hash as fed;
 ghost use Rattle.std.specs.String.{string_bytes};
 ghost use Rattle.std.proofs.Common.{ap, refl};
-ghost use Rattle.unix_bytes.specs.Texts.{text_bytes, IsBorrowed};
+ghost use Rattle.unix_bytes.specs.Text.{text_bytes, IsBorrowed};
 
 use std::alloc::{AllocError, Global};
 use std::cmp::Ordering;

@@ -8,7 +8,7 @@ use std::simd::{u8x8, u8x16, u8x64};
 
 // A bit for each of the 16 bytes from `at` on: set where the byte is not ASCII.
 #[inline(always)]
-pub(crate) fn wide_lanes(source: &[u8], at: usize) -> u64
+pub(crate) fn wide_bits(source: &[u8], at: usize) -> u64
     requires { at + 16 ≤ length source.now }
     ensures { result ≡ wide_mask (take 16 (drop at source.now)) }
 {
@@ -48,13 +48,13 @@ fn ascii_len(source: &[u8]) -> usize
     let last = source.len() - 16;
     let mut at = ascii_blocks_len(source);
     while at < last {
-        let wide = wide_lanes(source, at);
+        let wide = wide_bits(source, at);
         if wide != 0 {
             return at + wide.trailing_zeros() as usize;
         }
         at += 16;
     }
-    let wide = wide_lanes(source, last);
+    let wide = wide_bits(source, last);
     if wide == 0 {
         return source.len();
     }
@@ -126,7 +126,7 @@ pub(crate) fn ascii_in_sixteen(source: &[u8]) -> usize
     ensures ascii { IsAscii (take result source.now) }
     ensures wide { result < 16 → 0x80 ≤ slice_index source.now result }
 {
-    let wide = wide_lanes(source, 0);
+    let wide = wide_bits(source, 0);
     if wide == 0 {
         return 16;
     }

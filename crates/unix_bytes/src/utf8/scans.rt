@@ -4,7 +4,7 @@ ghost use Rattle.unix_bytes.specs.Utf8.{IsText};
 ghost use Rattle.unix_bytes.specs.Lossy.{is_text};
 ghost use Rattle.unix_bytes.specs.Steps.{longest_len, broken_len};
 
-use crate::utf8::ascii::{ascii_in_sixteen, ascii_prefix_len, wide_lanes};
+use crate::utf8::ascii::{ascii_in_sixteen, ascii_prefix_len, wide_bits};
 use crate::utf8::classes::{is_tail, leads_four, leads_two};
 use crate::utf8::fronts::{begins_four, may_begin, wide_front};
 use crate::windows::window_len;
@@ -140,8 +140,9 @@ fn scan_many(source: &[u8], from: usize) -> (usize, usize)
     (at, 0)
 }
 
-// How far the text that reaches `from` goes on, as far as windows tell. Stops at a window that is
-// all ASCII, or in which a byte may not follow the three before it.
+// How far the text that reaches `from` goes on, as far as windows tell. Stops where fewer than 16
+// bytes are left, and at a window that is all ASCII or in which a byte may not follow the three
+// before it. Goes nowhere where fewer than three bytes stand before `from`.
 #[inline(always)]
 fn text_end(source: &[u8], from: usize) -> usize
     requires bound { from ≤ length source.now }
@@ -154,7 +155,7 @@ fn text_end(source: &[u8], from: usize) -> usize
         return from;
     }
     let mut at = from;
-    while 16 <= source.len() - at && wide_lanes(source, at) != 0 {
+    while 16 <= source.len() - at && wide_bits(source, at) != 0 {
         let size = window_len(&source[at - 3..]);
         if size == 0 {
             return at;

@@ -4,7 +4,7 @@ use Rattle.std.proofs.lemmas.List.{take_rest}
 use Rattle.unix_bytes.specs.Lossy.{lossy_of}
 use Rattle.unix_bytes.specs.Chunks.{replacement_for}
 use Rattle.unix_bytes.proofs.PushLemmas.{lossy_is_utf8}
-use Rattle.unix_bytes.proofs.PrinterLemmas.{pushes_piece}
+use Rattle.unix_bytes.proofs.PrinterLemmas.{pushes_buffer}
 use Rattle.unix_bytes.proofs.bytes.lossy_string.Goals as goal
 use Rattle.unix_bytes.proofs.bytes.lossy_string.Goals.{In_ok-push_lossy}
 
@@ -21,7 +21,7 @@ whole_bytes c =
       c.in_ok-bytes.ensures.items,
       c.as_bytes.ensures.value,
     )
-    (pushes_piece _ _ rest _ _ (take_rest rest c.show_first-read.result.0)
+    (pushes_buffer _ _ rest _ _ (take_rest rest c.show_first-read.result.0)
     c.show_first-read.ensures.lossy)
 
 pub from_utf8_unchecked-requires : goal.from_utf8_unchecked-requires

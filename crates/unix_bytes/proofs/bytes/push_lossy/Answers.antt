@@ -1,7 +1,7 @@
 use Rattle.std.proofs.Common.{length, sym, ap, ◌∙◌, arith, length-drop}
 use Rattle.std.proofs.lemmas.Bool.{eqb-true}
 use Rattle.std.proofs.lemmas.List.{take_rest}
-use Rattle.unix_bytes.proofs.PrinterLemmas.{pushes_piece, writes_whole}
+use Rattle.unix_bytes.proofs.PrinterLemmas.{pushes_buffer, writes_whole}
 use Rattle.unix_bytes.proofs.PushLemmas.{pushes_split, rest_is_shorter}
 use Rattle.unix_bytes.proofs.bytes.push_lossy.Goals as goal
 
@@ -17,14 +17,14 @@ pub loop-left-preserved : goal.loop-left-preserved
 loop-left-preserved c =
     let rest = c.split_text.result.2.now in
     let more = pushes_split c.loop-left.bytes.items c.split_text.ensures in
-    let piece = pushes_piece _ _ rest _ _ (take_rest rest c.show_first-read.result.0)
+    let buffer = pushes_buffer _ _ rest _ _ (take_rest rest c.show_first-read.result.0)
     c.show_first-read.ensures.lossy in
     rw (
       c.in_ok-extend_from_slice.ensures.items,
       c.in_ok-push_broken.ensures,
       c.in_ok-push_prefix.ensures,
     )
-    (piece ∙ more ∙ c.loop-left.invariant)
+    (buffer ∙ more ∙ c.loop-left.invariant)
 
 pub returns : goal.returns
 returns c =

@@ -5,14 +5,14 @@ use Rattle.std.proofs.lemmas.List.{take_rest}
 use Rattle.unix_bytes.specs.Lossy.{lossy_of}
 use Rattle.unix_bytes.specs.Chunks.{replacement_for}
 use Rattle.unix_bytes.proofs.PushLemmas.{rest_is_shorter, lossy_of-split}
-use Rattle.unix_bytes.proofs.PrinterLemmas.{pushes_piece, piece_is_utf8}
+use Rattle.unix_bytes.proofs.PrinterLemmas.{pushes_buffer, buffer_is_utf8}
 use Rattle.unix_bytes.proofs.PrinterLemmas.{writes_last, writes_whole}
 use Rattle.std.proofs.Output.{has_written_append, has_written_of_eq}
 use Rattle.std.proofs.Output.{has_written_styled_append, has_written_styled_of_eq}
 use Rattle.unix_bytes.proofs.lossy.write_lossy.Goals as goal
 
 pub write_text-requires : goal.write_text-requires
-write_text-requires g c = piece_is_utf8 _ _ _ c.show_first-read.ensures.lossy
+write_text-requires g c = buffer_is_utf8 _ _ _ c.show_first-read.ensures.lossy
 
 pub loop-left-smaller : goal.loop-left-smaller
 loop-left-smaller g c =
@@ -28,29 +28,29 @@ loop-left-preserved g c =
     let left = c.loop-left.left.now in
     let rest = c.split_text.result.2.now in
     let chunk = c.split_text.result.0.now ++ replacement_for c.split_text.result.1.now in
-    let piece = take c.show_first-read.result.1 c.show_first-read.new.out in
+    let buffer = take c.show_first-read.result.1 c.show_first-read.new.out in
     let whole : (bs : List ℕ) → bs ++ lossy_of left ≡ lossy_of c.args.source.now
-    → ((bs ++ piece) ++ chunk) ++ lossy_of rest ≡ lossy_of c.args.source.now = λ bs e.
-    append_assoc (bs ++ piece) chunk (lossy_of rest)
-    ∙ ap (λ t. (bs ++ piece) ++ t) (lossy_of-split c.split_text.ensures)
-    ∙ pushes_piece bs piece left _ _ (take_rest left c.show_first-read.result.0)
+    → ((bs ++ buffer) ++ chunk) ++ lossy_of rest ≡ lossy_of c.args.source.now = λ bs e.
+    append_assoc (bs ++ buffer) chunk (lossy_of rest)
+    ∙ ap (λ t. (bs ++ buffer) ++ t) (lossy_of-split c.split_text.ensures)
+    ∙ pushes_buffer bs buffer left _ _ (take_rest left c.show_first-read.result.0)
     c.show_first-read.ensures.lossy ∙ e in
     record {
       plain = λ p.
           let (bs, h, e) = c.loop-left.invariant.plain p in
-          let k = has_written_append took _ bs _ piece _ h
+          let k = has_written_append took _ bs _ buffer _ h
           (c.in_ok-write_text.ensures.writes h.plain (refl {a = true})) in (
-            (bs ++ piece) ++ chunk,
-            has_written_append took _ (bs ++ piece) _ chunk _ k
+            (bs ++ buffer) ++ chunk,
+            has_written_append took _ (bs ++ buffer) _ chunk _ k
                 (c.in_ok-write_chunk.ensures.writes k.plain (refl {a = true})),
             whole bs e,
           );
       styled = λ p.
           let (bs, h, e) = c.loop-left.invariant.styled p in
-          let k = has_written_styled_append took _ bs _ piece _ h
+          let k = has_written_styled_append took _ bs _ buffer _ h
           (c.in_ok-write_text.ensures.styled h.flush (refl {a = true})) in (
-            (bs ++ piece) ++ chunk,
-            has_written_styled_append took _ (bs ++ piece) _ chunk _ k
+            (bs ++ buffer) ++ chunk,
+            has_written_styled_append took _ (bs ++ buffer) _ chunk _ k
                 (c.in_ok-write_chunk.ensures.styled k.flush (refl {a = true})),
             whole bs e,
           );

@@ -9,9 +9,9 @@ returns-in-Ok-clause-lossy c =
     let sequence = c.in-Ok.ensures.sequence in
     let few = sequence_is_short s in
     shows_text s _ c.in-Ok.size _ (sequence_is_text s _ sequence.0 sequence.1)
-    (c.place_first.ensures.bytes c.in-Ok.size (omega arith))
+    (c.copy_first.ensures.bytes c.in-Ok.size (omega arith))
 
 pub returns-in-Err-clause-lossy : goal.returns-in-Err-clause-lossy
 returns-in-Err-clause-lossy c =
     shows_broken c.args.source.now _ c.in-Err.size _ c.in-Err.ensures.broken
-    (rw c.as_bytes.ensures.value at c.place.ensures.bytes)
+    c.show_replacement.ensures.bytes

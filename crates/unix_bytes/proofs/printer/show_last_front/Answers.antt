@@ -3,8 +3,8 @@ use Rattle.unix_bytes.proofs.StretchLemmas.{sequence_is_text}
 use Rattle.unix_bytes.proofs.PrinterLemmas.{shows_text, shows_broken, sequence_is_short}
 use Rattle.unix_bytes.proofs.printer.show_last_front.Goals as goal
 
-pub place-requires : goal.place-requires
-place-requires c =
+pub copy_at-requires : goal.copy_at-requires
+copy_at-requires c =
     let s = c.args.source.now in
     omega (
       arith,
@@ -20,9 +20,9 @@ returns-in-Ok-clause-lossy c =
     let sequence = c.in-Ok.ensures.sequence in
     let long : length (take n s) ≡ n = length-take-le n s c.in-Ok.ensures.within in
     shows_text s _ n _ (sequence_is_text s _ sequence.0 sequence.1)
-    (ap (λ k. take (c.args.at + k) c.place.new.out) (sym long) ∙ c.place.ensures.bytes)
+    (ap (λ k. take (c.args.at + k) c.copy_at.new.out) (sym long) ∙ c.copy_at.ensures.bytes)
 
 pub returns-in-Err-clause-lossy : goal.returns-in-Err-clause-lossy
 returns-in-Err-clause-lossy c =
     shows_broken c.args.source.now _ c.in-Err.size _ c.in-Err.ensures.broken
-    (rw c.as_bytes.ensures.value at c.place-in-Err.ensures.bytes)
+    c.show_replacement.ensures.bytes

@@ -7,23 +7,23 @@ use Rattle.unix_bytes.specs.Printer.{Shows}
 use Rattle.unix_bytes.proofs.StretchLemmas.{ascii_is_text}
 use Rattle.unix_bytes.proofs.BrokenLemmas.{one_byte_broken}
 use Rattle.unix_bytes.proofs.PrinterLemmas.{shows_text, shows_broken, shows_more}
-use Rattle.unix_bytes.proofs.printer.show_wide.Goals as goal
+use Rattle.unix_bytes.proofs.printer.show_many.Goals as goal
 
 pub returns-then-ascii-eq16-2-clause-lossy : goal.returns-then-ascii-eq16-2-clause-lossy
 returns-then-ascii-eq16-2-clause-lossy c =
     let s = c.args.source.now in
     let ascii = c.ascii_in_sixteen-ascii.ensures in
     subst (λ n. Shows s (take c.args.at c.args.out.now) n
-    (take (c.args.at + n) c.place_first.new.out))
+    (take (c.args.at + n) c.copy_first.new.out))
     c.if-ascii-eq16-2.true
-    (shows_text s _ _ _ (ascii_is_text _ ascii.ascii) (c.place_first.ensures.bytes _ ascii.bound))
+    (shows_text s _ _ _ (ascii_is_text _ ascii.ascii) (c.copy_first.ensures.bytes _ ascii.bound))
 
 pub returns-clause-lossy : goal.returns-clause-lossy
 returns-clause-lossy c =
     let s = c.args.source.now in
     let ascii = c.ascii_in_sixteen-ascii.ensures in
     shows_more s _ _ _ _ _ _ (take_rest s c.ascii_in_sixteen-ascii.result)
-    (shows_text s _ _ _ (ascii_is_text _ ascii.ascii) (c.place_first.ensures.bytes _ ascii.bound))
+    (shows_text s _ _ _ (ascii_is_text _ ascii.ascii) (c.copy_first.ensures.bytes _ ascii.bound))
     c.show_front-size.ensures.lossy
 
 pub returns-then-not-may_begin-clause-lossy : goal.returns-then-not-may_begin-clause-lossy
@@ -32,5 +32,4 @@ returns-then-not-may_begin-clause-lossy c =
     let end = λ (h : HasBegun s 2).
     true≢false (sym (c.may_begin.ensures h) ∙ c.if-not-may_begin.true) in
     let one = one_byte_broken s (omega arith) end (omega arith) in
-    shows_broken s _ 1 _ (omega arith, sym one)
-    (rw c.as_bytes.ensures.value at c.place.ensures.bytes)
+    shows_broken s _ 1 _ (omega arith, sym one) c.show_replacement.ensures.bytes

@@ -1,7 +1,7 @@
 use Rattle.std.proofs.Common.{◌≡◌, ◌+◌, length, take, arith, length-take-le}
 use Rattle.std.proofs.lemmas.Simd.{take_more_put_chunk}
 use Rattle.unix_bytes.proofs.PrinterLemmas.{takes_fewer}
-use Rattle.unix_bytes.proofs.printer.place_first.Goals as goal
+use Rattle.unix_bytes.proofs.printer.copy_first.Goals as goal
 
 pub returns-clause-bytes : goal.returns-clause-bytes
 returns-clause-bytes g c = λ k few.
