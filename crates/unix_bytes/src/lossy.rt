@@ -223,14 +223,15 @@ fn write_escaped_chunk<W: fmt::Write>(
     f.write_char(char::REPLACEMENT_CHARACTER)
 }
 
-// Writes the text as its debug form has it between the quotes, where a `'` stands as it is.
+// Writes the text as its debug form has it between the quotes.
 fn write_escaped<W: fmt::Write>(text: &str, f: &mut fmt::Formatter<W>) -> fmt::Result {
-    for c in text.chars() {
-        if c == '\'' {
-            f.write_char(c)?;
-        } else {
-            write!(f, "{}", c.escape_debug())?;
-        }
+    text.chars().try_for_each(|c| write_escaped_char(c, f))
+}
+
+// Writes the character as the debug form of a text has it, where a `'` stands as it is.
+fn write_escaped_char<W: fmt::Write>(c: char, f: &mut fmt::Formatter<W>) -> fmt::Result {
+    if c == '\'' {
+        return f.write_char(c);
     }
-    Ok(())
+    fmt::Display::fmt(&c.escape_debug(), f)
 }
