@@ -23,7 +23,7 @@ pub parts_end-append : (ps : List Part) (q : Part) → parts_end (ps ++ q ∷ []
 parts_end-append [] q = refl
 parts_end-append (p ∷ ps) q = last_end-append p ps q
 
--- a string that ends in a part has its last part's end at its own
+-- the last part of a string that ends in a part ends where the string does
 pub parts_end-whole : (s : List ℕ) → EndsInPart s → parts_end (parts s) ≡ length s
 parts_end-whole s ends =
     let at = last_start s in

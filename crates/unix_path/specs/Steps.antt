@@ -45,7 +45,7 @@ pub record IsLastStart (s : List ℕ) (start : ℕ) : Type 0 where
   pub after_slash : 0 < start → slice_index s (start - 1) ≡ slash
   pub no_slash : position_or_len is_slash (drop start s) ≡ length (drop start s)
 
--- the value of a string's first piece, where `.` counts
+-- the value of a piece where a `.` counts, as it does at the beginning of a string
 abbrev pub first_value : List ℕ → Value
 first_value bytes = if bytes_eq bytes cur_dir then CurDir else value_of_piece bytes
 

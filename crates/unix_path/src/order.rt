@@ -1,4 +1,4 @@
-//! Equality, order and hash of paths and of walks, by their values.
+//! Equality and order of paths and of walks, and the hash of paths, by their values.
 ghost use Rattle.std.specs.Prelude.{◌≡◌, ◌↔◌, IsTrue, Some, fold};
 ghost use Rattle.std.specs.Ordering.{is_eq};
 ghost use Rattle.std.specs.Cmp;

@@ -194,7 +194,8 @@ impl<'a> Path<'a> {
     ///
     /// The error is `Separator` exactly where the extension holds a `/`, before anything is
     /// allocated, and `Memory` where the allocation fails. Allocates once, or not at all for an
-    /// empty result. As Rust's `Path::with_extension`, which panics for a separator.
+    /// empty result. As Rust's `Path::with_extension`, but that panics for a separator, and for
+    /// `..a` it gives `..` whatever the extension.
     ///
     /// `foo.rs` with the extension `txt` is `foo.txt`, and `..` stays `..`.
     #[tactic(auto, using(crate::proofs::EditLemmas::extension_cases))]

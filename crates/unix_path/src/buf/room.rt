@@ -38,8 +38,9 @@ impl PathBuf {
 
     /// Gives back the room.
     ///
-    /// Does not allocate where there is no room. Otherwise moving the bytes can fail, and then the
-    /// bytes and the room stay as they were. As Rust's `PathBuf::shrink_to_fit`.
+    /// Does not allocate where there is no room. Otherwise moving the bytes can fail, and then they
+    /// stay as they were, and the capacity is no greater than before. As Rust's
+    /// `PathBuf::shrink_to_fit`.
     ///
     /// For `foo` with the capacity 10, the capacity is then 3.
     pub fn shrink_to_fit(&mut self) -> Result<(), AllocError>
@@ -54,8 +55,8 @@ impl PathBuf {
     /// Lowers the capacity to `least` bytes, or to the path's length where that is more.
     ///
     /// Where the capacity is no more than that it stays, and nothing is allocated. Otherwise moving
-    /// the bytes can fail, and then the bytes and the room stay as they were. As Rust's
-    /// `PathBuf::shrink_to`.
+    /// the bytes can fail, and then they stay as they were, and the capacity is no greater than
+    /// before. As Rust's `PathBuf::shrink_to`.
     ///
     /// For `foo` with the capacity 10, `shrink_to(5)` makes it 5, `shrink_to(0)` makes it 3, and
     /// `shrink_to(20)` leaves it.

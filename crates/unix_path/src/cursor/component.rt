@@ -27,8 +27,8 @@ pub enum Component<'a> {
 }
 
 impl<'a> Component<'a> {
-    /// The part's bytes: `/`, `.`, `..` or the name. Does not allocate.
-    /// As Rust's `Component::as_os_str`.
+    /// The part's bytes: `/`, `.`, `..` or the name. Does not allocate. As Rust's
+    /// `Component::as_os_str`.
     ///
     /// For `Component::ParentDir` it is `..`.
     #[must_use]

@@ -19,9 +19,10 @@ use std::iter::FusedIterator;
 /// either end. As Rust's `Components`.
 ///
 /// For `///foo///bar` it gives the root, `foo` and `bar`.
-// Only this file knows the fields, and it may change them: `cursor_rest` of specs/Cursor says what
-// they stand for, contracts and proofs elsewhere speak of a walk through that word alone, and only
-// `OffsetLemmas` and the proofs of this file's functions unfold it.
+// Only this file knows the fields, and it may change them: `cursor_rest` and `cursor_source` of
+// specs/Cursor say what they stand for, and contracts and proofs elsewhere speak of a walk through
+// these words alone. Only `OffsetLemmas` and the proofs of this file's functions unfold
+// `cursor_rest`.
 #[must_use]
 #[derive(Clone, Copy)]
 pub struct Components<'a> {
@@ -190,7 +191,7 @@ impl fmt::Debug for ListedParts<'_> {
     }
 }
 
-/// The parts that are left, as `Components([RootDir, Normal("tmp")])`.
+/// The parts that are left, as `Components([RootDir, Normal("tmp")])`. Does not allocate.
 impl fmt::Debug for Components<'_> {
     fn fmt<W: fmt::Write>(&self, f: &mut fmt::Formatter<W>) -> fmt::Result {
         f.debug_tuple("Components")

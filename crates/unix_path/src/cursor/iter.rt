@@ -88,7 +88,7 @@ impl fmt::Debug for ListedBytes<'_> {
     }
 }
 
-/// The bytes of the parts that are left, as `Iter(["/", "tmp"])`.
+/// The bytes of the parts that are left, as `Iter(["/", "tmp"])`. Does not allocate.
 impl fmt::Debug for Iter<'_> {
     fn fmt<W: fmt::Write>(&self, f: &mut fmt::Formatter<W>) -> fmt::Result {
         f.debug_tuple("Iter").field(&ListedBytes(*self)).finish()

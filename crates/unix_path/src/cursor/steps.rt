@@ -37,7 +37,8 @@ fn is_idle_block(path: &[u8], at: usize) -> bool
 }
 
 // How many bytes stand before the next part, or fewer: it stops at the first block of 16 bytes that
-// doesn't stand wholly before that part. The bytes before `start` are known not to count.
+// doesn't stand wholly before that part, and where 16 bytes or fewer are left. The bytes before
+// `start` are known not to count.
 #[inline(never)]
 fn idle_blocks_len(path: &[u8], start: usize) -> usize
     requires { start ≤ length path.now }
@@ -211,7 +212,8 @@ fn is_trailing_block(path: &[u8], at: usize) -> bool
 }
 
 // Where the last part among the first `len` bytes ends, or further on: it stops at the first block
-// of 16 bytes, from behind, that doesn't stand wholly behind that part.
+// of 16 bytes, from behind, that doesn't stand wholly behind that part, and where 16 bytes or fewer
+// are left.
 #[inline(never)]
 fn trimmed_blocks_len(path: &[u8], len: usize) -> usize
     requires { len ≤ length path.now }

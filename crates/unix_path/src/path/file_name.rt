@@ -31,8 +31,7 @@ impl<'a> Path<'a> {
     }
 
     /// The file name up to its last dot, or all of it where that dot is the first byte or there is
-    /// none.
-    /// `None` where there is no file name. Does not allocate. As Rust's `Path::file_stem`.
+    /// none. `None` where there is no file name. Does not allocate. As Rust's `Path::file_stem`.
     ///
     /// For `foo.tar.gz` it is `foo.tar`, and for `.foo` it is `.foo`.
     #[must_use]

@@ -22,6 +22,7 @@ use std::fmt;
 #[derive(Clone, Copy, Debug, PartialEq, Eq)]
 pub struct StripPrefixError(());
 
+/// The text `prefix not found`, padded by width, precision, fill and alignment. Does not allocate.
 impl fmt::Display for StripPrefixError {
     ghost output = { λ _. Some (codes "prefix not found") };
 
