@@ -7,7 +7,7 @@ use Rattle.std.proofs.lemmas.Simd.{length-chunk, get_or-chunk}
 use Rattle.unix_path.specs.Parts.{inner_parts}
 use Rattle.unix_path.specs.Steps.{is_idle}
 use Rattle.unix_path.proofs.IdleLemmas.{inner_parts_idle_at}
-use Rattle.unix_path.proofs.TrailingLemmas.{stop_lanes, none_stops}
+use Rattle.unix_path.proofs.DotLaneLemmas.{stop_lanes, none_stops}
 
 -- where no bit is set, all 16 bytes from `at` on are slashes, or dots before slashes
 pub idle_block : (s : List ℕ) (at : ℕ) → at + 16 < length s

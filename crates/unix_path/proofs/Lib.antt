@@ -5,7 +5,8 @@ pub mod PartLemmas
 pub mod IdleLemmas
 pub mod CutLemmas
 pub mod TrimLemmas
-pub mod TrailingLemmas
+pub mod DotLaneLemmas
+pub mod TrailingBlockLemmas
 pub mod IdleBlockLemmas
 pub mod LastLemmas
 pub mod SpanLemmas
