@@ -13,7 +13,7 @@ use Rattle.unix_path.specs.Joins.{is_open, join_of, join_all_of}
 use Rattle.unix_path.specs.Parts.{is_rooted}
 use Rattle.unix_path.specs.declared.path.Path.{Path}
 use Rattle.unix_path.proofs.CaseLemmas.{by_test}
-use Rattle.unix_path.proofs.JoinLemmas.{join_of_open, join_of_closed}
+use Rattle.unix_path.proofs.JoinLemmas.{length-join_of_open, length-join_of_closed}
 
 -- none of these is rooted
 abbrev pub AllRootless : List (List ℕ) → Type 0
@@ -22,13 +22,8 @@ AllRootless bs = AllByRecursion (λ b. is_rooted b ≡ false) bs
 -- a join with a rootless path is no shorter than the first path
 length-join_of : (a b : List ℕ) → is_rooted b ≡ false → length a ≤ length (join_of a b)
 length-join_of a b r = by_test (is_open a)
-    (λ o. omega (arith, ap length (join_of_open a b r o), length-append a b))
-    (λ o. omega (
-      arith,
-      ap length (join_of_closed a b r o),
-      length-append (a ++ 47 ∷ []) b,
-      length-append a (47 ∷ []),
-    ))
+    (λ o. omega (arith, length-join_of_open a b r o))
+    (λ o. omega (arith, length-join_of_closed a b r o))
 
 -- a join with rootless paths is no shorter than the first path
 length-join_all_of : (a : List ℕ) (bs : List (List ℕ)) → AllRootless bs

@@ -3,8 +3,8 @@ use Rattle.std.proofs.Common.{◌≡◌, Bool, true, false, List, [], ◌∷◌,
 use Rattle.std.proofs.Common.{Some, None}
 use Rattle.std.specs.List.{list_all, list_any}
 use Rattle.unix_path.specs.Parts.{Value, RootDir, CurDir, ParentDir, Normal}
+use Rattle.unix_path.proofs.RootLemmas.{NoRoot}
 use Rattle.path_within.specs.Resolved.{AreNames, is_name, is_root, steps_between}
-use Rattle.path_within.proofs.ClimbLemmas.{NoRoots}
 
 -- the test for names answers true on names
 list_all-names : (vs : List Value) → AreNames vs → list_all is_name vs ≡ true
@@ -15,7 +15,7 @@ list_all-names (CurDir ∷ vs) h = absurd h
 list_all-names (ParentDir ∷ vs) h = absurd h
 
 -- the test for a root answers false where no value is the root
-list_any-roots : (vs : List Value) → NoRoots vs → list_any is_root vs ≡ false
+list_any-roots : (vs : List Value) → NoRoot vs → list_any is_root vs ≡ false
 list_any-roots [] h = refl
 list_any-roots (RootDir ∷ vs) h = absurd h
 list_any-roots (CurDir ∷ vs) h = list_any-roots vs h
@@ -31,7 +31,7 @@ names_all (CurDir ∷ vs) e = absurd (let no : false ≡ true = e in cc)
 names_all (ParentDir ∷ vs) e = absurd (let no : false ≡ true = e in cc)
 
 -- where the test for a root answers false, no value is the root
-pub no_roots_any : (vs : List Value) → list_any is_root vs ≡ false → NoRoots vs
+pub no_roots_any : (vs : List Value) → list_any is_root vs ≡ false → NoRoot vs
 no_roots_any [] e = tt
 no_roots_any (RootDir ∷ vs) e = absurd (let no : true ≡ false = e in cc)
 no_roots_any (CurDir ∷ vs) e = no_roots_any vs e
@@ -43,14 +43,14 @@ abbrev pub ups_of : List Value → List Value
 ups_of vs = map (λ v. ParentDir) vs
 
 -- from names to values without a root there are steps
-pub steps_between-some : (v w : List Value) → AreNames v → NoRoots w
+pub steps_between-some : (v w : List Value) → AreNames v → NoRoot w
     → steps_between v w ≡ Some (ups_of v ++ w)
 steps_between-some v w h k = rw (list_all-names v h, list_any-roots w k) refl
 
 -- these are the steps from v to w: v has names alone, and w no root
 pub record AreSteps (v w steps : List Value) : Type 0 where
   pub names : AreNames v
-  pub no_roots : NoRoots w
+  pub no_roots : NoRoot w
   pub steps_are : ups_of v ++ w ≡ steps
 
 -- where there are steps, they go from names to values without a root

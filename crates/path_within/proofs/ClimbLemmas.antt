@@ -7,7 +7,7 @@ use Rattle.std.proofs.lemmas.Bool.{false_from_ne_true}
 use Rattle.std.proofs.lemmas.List.Sums.{sum_by-cons}
 use Rattle.unix_path.specs.Parts.{Value, RootDir, CurDir, ParentDir, Normal, is_rooted, values}
 use Rattle.unix_path.proofs.PartLemmas.{root_first, root_first-values}
-use Rattle.unix_path.proofs.RootLemmas.{rooted-Begins}
+use Rattle.unix_path.proofs.RootLemmas.{NoRoot, rooted-Begins}
 use Rattle.path_runs.proofs.LeadLemmas.{IsInner, inner-behind}
 use Rattle.path_within.specs.Resolved.{AreNames, Climbs, GoesAbove, is_name, is_parent}
 use Rattle.path_within.specs.Resolved.{kept_of}
@@ -108,16 +108,8 @@ climbs_nowhere s n left h e r climbs = ⊎_elim
     (λ above. sym (ap (above_from n) e) ∙ h ∙ above)
     ((climbs_by_depth s).0 climbs)
 
--- no value is the root
-abbrev pub NoRoots : List Value → Type 0
-NoRoots [] = Unit {0}
-NoRoots (RootDir ∷ vs) = ⊥
-NoRoots (CurDir ∷ vs) = NoRoots vs
-NoRoots (ParentDir ∷ vs) = NoRoots vs
-NoRoots (Normal name ∷ vs) = NoRoots vs
-
 -- no inner value is the root
-pub inner-no_roots : (vs : List Value) → AllByRecursion IsInner vs → NoRoots vs
+pub inner-no_roots : (vs : List Value) → AllByRecursion IsInner vs → NoRoot vs
 inner-no_roots [] h = tt
 inner-no_roots (RootDir ∷ vs) h = absurd h.0
 inner-no_roots (CurDir ∷ vs) h = absurd h.0
@@ -125,10 +117,10 @@ inner-no_roots (ParentDir ∷ vs) h = inner-no_roots vs h.1
 inner-no_roots (Normal name ∷ vs) h = inner-no_roots vs h.1
 
 -- no value of a rootless path is the root
-pub rootless-no_roots : (s : List ℕ) → is_rooted s ≡ false → NoRoots (values s)
+pub rootless-no_roots : (s : List ℕ) → is_rooted s ≡ false → NoRoot (values s)
 rootless-no_roots s r = by (values s) refl
   where
-    by : (vs : List Value) → values s ≡ vs → NoRoots vs
+    by : (vs : List Value) → values s ≡ vs → NoRoot vs
     by [] e = tt
     by (RootDir ∷ vs) e =
         absurd (let no : true ≡ false = sym (ap root_first e) ∙ root_first-values s ∙ r in cc)
@@ -142,7 +134,7 @@ pub record Stays (ks ns vs : List Value) : Type 0 where
   pub names : AreNames (kept_of ns vs)
 
 -- values without a root that never go above the depth of ns leave what was kept behind ns
-stays : (ks ns vs : List Value) → AreNames ns → NoRoots vs → above_from (length ns) vs ≡ false
+stays : (ks ns vs : List Value) → AreNames ns → NoRoot vs → above_from (length ns) vs ≡ false
     → Stays ks ns vs
 stays ks ns [] h r e = record { kept = refl; names = h }
 stays ks ns (RootDir ∷ vs) h r e = absurd r

@@ -6,10 +6,11 @@ use Rattle.std.proofs.lemmas.Grind.{reverse_onto}
 use Rattle.std.proofs.lemmas.List.{reverse-append}
 use Rattle.unix_path.specs.Joins.{join_of}
 use Rattle.unix_path.specs.Parts.{Value, RootDir, CurDir, ParentDir, Normal, is_rooted, values}
+use Rattle.unix_path.proofs.RootLemmas.{NoRoot}
 use Rattle.path_within.specs.Resolved.{AreNames, kept_of, up_from}
 use Rattle.path_within.specs.Resolved.{resolved_of, resolved_bytes_of, steps_between, way_of}
 use Rattle.path_within.specs.Steps.{IsKept}
-use Rattle.path_within.proofs.ClimbLemmas.{NoRoots, rootless-no_roots}
+use Rattle.path_within.proofs.ClimbLemmas.{rootless-no_roots}
 use Rattle.path_within.proofs.KeepLemmas.{IsKept-kept_of}
 use Rattle.path_within.proofs.KeepLemmas.{names_reverse}
 use Rattle.path_within.proofs.ResolveLemmas.{kept_of-join, values-resolved}
@@ -48,11 +49,11 @@ on_floor (Normal name ∷ ks) h = let more = on_floor ks h in record {
 -- the kept values ks are a floor and no root behind it
 pub record KeepsFloor (ks floor : List Value) : Type 0 where
   pub top : List Value
-  pub no_roots : NoRoots top
+  pub no_roots : NoRoot top
   pub is : ks ≡ top ++ floor
 
 -- `..` keeps the floor
-up_on : (top floor : List Value) → IsFloor floor → NoRoots top
+up_on : (top floor : List Value) → IsFloor floor → NoRoot top
     → KeepsFloor (up_from (top ++ floor)) floor
 up_on [] floor h k = ⊎_elim
     (λ e. record { top = []; no_roots = tt; is = e })
@@ -65,7 +66,7 @@ up_on (ParentDir ∷ top) floor h k =
 up_on (Normal name ∷ top) floor h k = record { top = top; no_roots = k; is = refl }
 
 -- values without a root keep the floor
-keeps_floor : (top floor vs : List Value) → IsFloor floor → NoRoots top → NoRoots vs
+keeps_floor : (top floor vs : List Value) → IsFloor floor → NoRoot top → NoRoot vs
     → KeepsFloor (kept_of (top ++ floor) vs) floor
 keeps_floor top floor [] h k r = record { top = top; no_roots = k; is = refl }
 keeps_floor top floor (RootDir ∷ vs) h k r = absurd r
@@ -77,21 +78,21 @@ keeps_floor top floor (ParentDir ∷ vs) h k r =
     (keeps_floor up.top floor vs h up.no_roots r)
 
 -- no name is the root
-no_roots_names : (vs : List Value) → AreNames vs → NoRoots vs
+no_roots_names : (vs : List Value) → AreNames vs → NoRoot vs
 no_roots_names [] h = tt
 no_roots_names (Normal name ∷ vs) h = no_roots_names vs h
 no_roots_names (RootDir ∷ vs) h = absurd h
 no_roots_names (CurDir ∷ vs) h = absurd h
 no_roots_names (ParentDir ∷ vs) h = absurd h
 
-no_roots_append : (vs ws : List Value) → NoRoots vs → NoRoots ws → NoRoots (vs ++ ws)
+no_roots_append : (vs ws : List Value) → NoRoot vs → NoRoot ws → NoRoot (vs ++ ws)
 no_roots_append [] ws h k = k
 no_roots_append (RootDir ∷ vs) ws h k = absurd h
 no_roots_append (CurDir ∷ vs) ws h k = no_roots_append vs ws h k
 no_roots_append (ParentDir ∷ vs) ws h k = no_roots_append vs ws h k
 no_roots_append (Normal name ∷ vs) ws h k = no_roots_append vs ws h k
 
-no_roots_reverse : (vs : List Value) → NoRoots vs → NoRoots (reverse vs)
+no_roots_reverse : (vs : List Value) → NoRoot vs → NoRoot (reverse vs)
 no_roots_reverse [] h = tt
 no_roots_reverse (RootDir ∷ vs) h = absurd h
 no_roots_reverse (CurDir ∷ vs) h = rw (reverse_onto vs CurDir [])
@@ -102,7 +103,7 @@ no_roots_reverse (Normal name ∷ vs) h = rw (reverse_onto vs (Normal name) [])
     (no_roots_append (reverse vs) (Normal name ∷ []) (no_roots_reverse vs h) tt)
 
 -- where values without a root lead from one list to another, there is a way
-some_way : (ks vs : List Value) → IsKept ks → NoRoots vs
+some_way : (ks vs : List Value) → IsKept ks → NoRoot vs
     → (let v = reverse ks in let w = reverse (kept_of ks vs) in let n = shared_count v w in
     (steps : List Value) × (steps_between (drop n v) (drop n w) ≡ Some steps))
 some_way ks vs h r =

@@ -2,8 +2,8 @@
 use Rattle.std.proofs.Common.{◌≡◌, true, false, List, ◌∷◌, drop, sym, ap, ap₂, subst, ◌∙◌}
 use Rattle.unix_path.specs.Parts.{Value}
 use Rattle.unix_path.specs.Order.{same_value}
-use Rattle.path_within.proofs.SharedStartLemmas.{drop-more, shared_count}
-use Rattle.path_within.proofs.SharedStartLemmas.{shared_count-no, shared_count-yes}
+use Rattle.unix_path.proofs.CaseLemmas.{drop-suc_cons}
+use Rattle.path_within.proofs.SharedStartLemmas.{shared_count, shared_count-no, shared_count-yes}
 
 -- behind what `left` and `onward` share, the same is left as behind what v and w share
 pub record SkipsOn (v w left onward : List Value) : Type 0 where
@@ -20,9 +20,9 @@ skips_cons : (v w : List Value) (x y : Value) (more rest : List Value)
     → SkipsOn v w (x ∷ more) (y ∷ rest) → same_value x y ≡ true → SkipsOn v w more rest
 skips_cons v w x y more rest h e =
     let n = shared_count-yes x y more rest e in record {
-      first = sym (ap (λ k. drop k (x ∷ more)) n ∙ drop-more x more (shared_count more rest))
+      first = sym (ap (λ k. drop k (x ∷ more)) n ∙ drop-suc_cons (shared_count more rest) x more)
           ∙ h.first;
-      second = sym (ap (λ k. drop k (y ∷ rest)) n ∙ drop-more y rest (shared_count more rest))
+      second = sym (ap (λ k. drop k (y ∷ rest)) n ∙ drop-suc_cons (shared_count more rest) y rest)
           ∙ h.second;
     }
 

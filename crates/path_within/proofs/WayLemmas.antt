@@ -6,7 +6,7 @@ use Rattle.std.proofs.lemmas.List.{reverse-append, reverse-reverse}
 use Rattle.unix_path.specs.Parts.{Value, RootDir, CurDir, ParentDir, Normal}
 use Rattle.path_within.specs.Resolved.{AreNames, AreUpsThenNames, IsNormal, kept_of}
 use Rattle.path_within.specs.Steps.{AreUps, IsKept}
-use Rattle.path_within.proofs.ClimbLemmas.{NoRoots}
+use Rattle.unix_path.proofs.RootLemmas.{NoRoot}
 use Rattle.path_within.proofs.KeepLemmas.{kept_of-append, kept_of-kept}
 use Rattle.path_within.proofs.KeepLemmas.{IsKept-tail, up_behind}
 use Rattle.path_within.proofs.BetweenLemmas.{ups_of}
@@ -93,7 +93,7 @@ straight_end (CurDir ∷ start) rest h = absurd h
 straight_end (ParentDir ∷ start) rest h = straight_end start rest h
 
 -- the rest of normal values without a root is `..` and then names
-pub normal_end : (start rest : List Value) → IsNormal (start ++ rest) → NoRoots rest
+pub normal_end : (start rest : List Value) → IsNormal (start ++ rest) → NoRoot rest
     → AreUpsThenNames rest
 normal_end [] [] h k = tt
 normal_end [] (Normal name ∷ rest) h k = h

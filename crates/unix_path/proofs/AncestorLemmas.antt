@@ -1,13 +1,14 @@
--- The ancestors of a path are the path and its parent's ancestors.
-use Rattle.std.proofs.Common.{◌≡◌, ℕ, zero, suc, ◌+◌, ◌-◌, List, [], ◌∷◌, ◌++◌, length, map}
+-- The ancestors of a path: the path and its parent's ancestors, and how many they are.
+use Rattle.std.proofs.Common.{◌≡◌, ℕ, zero, suc, ◌+◌, ◌-◌, ◌≤◌, List, [], ◌∷◌, ◌++◌, length, map}
 use Rattle.std.proofs.Common.{Option, Some, None, option_map, refl, sym, ap, ap₂, ◌∙◌, arith}
 use Rattle.std.specs.List.{range_with_len}
 use Rattle.std.specs.Option.{option_map_or}
+use Rattle.std.proofs.lemmas.List.FromFn.{length-map-range_with_len}
 use Rattle.unix_path.specs.Parts.{Value, RootDir, CurDir, ParentDir, Normal, values}
 use Rattle.unix_path.specs.Rest.{rest}
 use Rattle.unix_path.specs.Parents.{parent_of, depth_of, ancestors_of}
 use Rattle.unix_path.specs.declared.path.Path.{Path}
-use Rattle.unix_path.proofs.RestLemmas.{values-rest, rest-rest}
+use Rattle.unix_path.proofs.RestLemmas.{length-values, values-rest, rest-rest}
 use Rattle.unix_path.proofs.MiddleLemmas.{middle}
 use Rattle.unix_path.proofs.EndLemmas.{Snoc, Empty, Push, snoc, middle-push}
 use Rattle.unix_path.proofs.RootLemmas.{root_count}
@@ -64,6 +65,12 @@ by_snoc s (Push vs v e) = by_last s vs v e
 -- the ancestors of a path are the path and its parent's ancestors
 pub ancestors_of-parent : (s : List ℕ) → ancestors_of s ≡ s ∷ ancestors_by (parent_of s)
 ancestors_of-parent s = by_snoc s (snoc (values s))
+
+-- a path has at most one ancestor more than bytes
+pub length-ancestors_of : (s : List ℕ) → length (ancestors_of s) ≤ length s + 1
+unfolding ancestors_of
+length-ancestors_of s =
+    omega (arith, length-values s, length-map-range_with_len (λ m. rest s 0 m) 1 (depth_of s))
 
 -- the bytes of the paths that a walk over ancestors gives from `next` on
 abbrev ancestors_from : Option Path → List (List ℕ)

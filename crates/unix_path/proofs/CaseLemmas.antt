@@ -7,8 +7,9 @@ pub by_test : {G : Type 0} (b : Bool) → (b ≡ true → G) → (b ≡ false �
 by_test true holds fails = holds refl
 by_test false holds fails = fails refl
 
-pub take-suc_cons : (n : ℕ) (x : ℕ) (xs : List ℕ) → take (1 + n) (x ∷ xs) ≡ x ∷ take n xs
+pub take-suc_cons : {A : Type 0} (n : ℕ) (x : A) (xs : List A)
+    → take (1 + n) (x ∷ xs) ≡ x ∷ take n xs
 take-suc_cons n x xs = ap (λ k. take k (x ∷ xs)) {x = 1 + n} {y = suc n} (omega arith)
 
-pub drop-suc_cons : (n : ℕ) (x : ℕ) (xs : List ℕ) → drop (1 + n) (x ∷ xs) ≡ drop n xs
+pub drop-suc_cons : {A : Type 0} (n : ℕ) (x : A) (xs : List A) → drop (1 + n) (x ∷ xs) ≡ drop n xs
 drop-suc_cons n x xs = ap (λ k. drop k (x ∷ xs)) {x = 1 + n} {y = suc n} (omega arith)

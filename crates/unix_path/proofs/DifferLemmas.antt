@@ -17,18 +17,9 @@ use Rattle.unix_path.specs.Order.{values_cmp}
 use Rattle.unix_path.specs.Parts.{Part, Value, Normal, parent_dir, value_of_piece, inner_parts}
 use Rattle.unix_path.specs.Parts.{is_slash, slash}
 use Rattle.unix_path.specs.Steps.{is_idle}
-use Rattle.unix_path.proofs.CaseLemmas.{by_test, take-suc_cons}
+use Rattle.unix_path.proofs.CaseLemmas.{by_test}
 use Rattle.unix_path.proofs.IdleLemmas.{inner_parts_busy}
-use Rattle.unix_path.proofs.PieceLemmas.{first_piece, position_or_len-other, position_or_len-slash}
-
-first_piece-slash : (x : ℕ) (s : List ℕ) → eqb x 47 ≡ true → first_piece (x ∷ s) ≡ []
-first_piece-slash x s e = ap (λ n. take n (x ∷ s)) (position_or_len-slash x s e)
-
-first_piece-other : (x : ℕ) (s : List ℕ) → eqb x 47 ≡ false
-    → first_piece (x ∷ s) ≡ x ∷ first_piece s
-first_piece-other x s e =
-    ap (λ n. take n (x ∷ s)) (position_or_len-other x s e)
-    ∙ take-suc_cons (position_or_len is_slash s) x s
+use Rattle.unix_path.proofs.PieceLemmas.{first_piece, first_piece-other, first_piece-slash}
 
 piece_rank-slash : (x : ℕ) (s : List ℕ) → eqb x 47 ≡ true → piece_rank (x ∷ s) 0 ≡ 0
 piece_rank-slash x s e = rw e refl

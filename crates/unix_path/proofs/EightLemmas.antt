@@ -34,24 +34,24 @@ in_eights-last s h =
     ap (λ n. first_chunks 8 n t) count
 
 -- each number of s is a byte
-abbrev AreBytes : List ℕ → Type 0
+abbrev pub AreBytes : List ℕ → Type 0
 AreBytes s = (i : ℕ) → Fits w8 (get_or s i 0)
 
 -- two strings of bytes are one string of bytes
-bytes-append : (s t : List ℕ) → AreBytes s → AreBytes t → AreBytes (s ++ t)
-bytes-append [] t h k i = k i
-bytes-append (x ∷ s) t h k zero = h 0
-bytes-append (x ∷ s) t h k (suc i) = bytes-append s t (λ i. h (suc i)) k i
+AreBytes-append : (s t : List ℕ) → AreBytes s → AreBytes t → AreBytes (s ++ t)
+AreBytes-append [] t h k i = k i
+AreBytes-append (x ∷ s) t h k zero = h 0
+AreBytes-append (x ∷ s) t h k (suc i) = AreBytes-append s t (λ i. h (suc i)) k i
 
 -- the first bytes of a string are bytes
-bytes-take : (n : ℕ) (s : List ℕ) → AreBytes s → (i : ℕ) → get_or (take n s) i 0 < 256
-bytes-take zero s h i = omega arith
-bytes-take (suc n) [] h i = omega arith
-bytes-take (suc n) (x ∷ s) h zero = omega (arith, h 0)
-bytes-take (suc n) (x ∷ s) h (suc i) = bytes-take n s (λ i. h (suc i)) i
+AreBytes-take : (n : ℕ) (s : List ℕ) → AreBytes s → (i : ℕ) → get_or (take n s) i 0 < 256
+AreBytes-take zero s h i = omega arith
+AreBytes-take (suc n) [] h i = omega arith
+AreBytes-take (suc n) (x ∷ s) h zero = omega (arith, h 0)
+AreBytes-take (suc n) (x ∷ s) h (suc i) = AreBytes-take n s (λ i. h (suc i)) i
 
 -- the number that is read off the first k bytes and the mark has these as its bytes
-pub le_bytes-last : (s : List ℕ) (k n : ℕ) → length s ≡ k → ((i : ℕ) → Fits w8 (get_or s i 0))
+pub le_bytes-last : (s : List ℕ) (k n : ℕ) → length s ≡ k → AreBytes s
     → n ≡ from_le_bytes w64 (take 8 (map (λ i. get_or s i 0) (range_with_len 0 k) ++ end_mark))
     → le_bytes 8 n ≡ take 8 (s ++ end_mark)
 unfolding le_bytes
@@ -61,5 +61,5 @@ le_bytes-last s k n e fits d =
     let marked : AreBytes end_mark = search rules in
     le_bytes_8 (take 8 (s ++ end_mark)) n
     (length-take-le 8 (s ++ end_mark) (omega (arith, length-append s end_mark)))
-    (bytes-take 8 (s ++ end_mark) (bytes-append s end_mark fits marked))
+    (AreBytes-take 8 (s ++ end_mark) (AreBytes-append s end_mark fits marked))
     (d ∙ ap (λ t. from_le_bytes w64 (take 8 (t ++ end_mark))) (sym read))

@@ -1,17 +1,17 @@
 -- Bytes between two parts that don't count.
 use Rattle.std.proofs.Common.{◌≡◌, ℕ, suc, ◌+◌, ◌≤◌, ◌<◌, true, false, cond, ◌&&◌, ◌||◌, eqb, List}
-use Rattle.std.proofs.Common.{[], ◌∷◌, ◌++◌, length, get_or, take, drop, refl, sym, ap, ap₂, ◌∙◌}
+use Rattle.std.proofs.Common.{[], ◌∷◌, ◌++◌, length, get_or, drop, refl, sym, ap, ap₂, ◌∙◌}
 use Rattle.std.proofs.Common.{◌⊎◌, inl, inr, ⊎_elim, arith, eqb-true, get_or-drop, length-drop}
 use Rattle.std.proofs.Common.{drop-drop}
 use Rattle.std.specs.List.{position_or_len}
 use Rattle.std.specs.Str.{bytes_eq}
 use Rattle.std.proofs.lemmas.Bool.{or_cases, or_parts, and_parts}
-use Rattle.unix_path.proofs.CaseLemmas.{by_test, take-suc_cons}
+use Rattle.unix_path.proofs.CaseLemmas.{by_test}
 use Rattle.unix_path.proofs.PartLemmas.{leading_part-name, nonempty_first_piece}
 use Rattle.unix_path.proofs.PieceLemmas.{inner_parts-dot, inner_parts-dot_slash, inner_parts-first}
 use Rattle.unix_path.proofs.PieceLemmas.{inner_parts-nil}
-use Rattle.unix_path.proofs.PieceLemmas.{inner_parts-slash, first_piece, position_or_len-other}
-use Rattle.unix_path.proofs.PieceLemmas.{position_or_len-slash}
+use Rattle.unix_path.proofs.PieceLemmas.{inner_parts-slash, first_piece, first_piece-other}
+use Rattle.unix_path.proofs.PieceLemmas.{first_piece-slash}
 use Rattle.unix_path.specs.Parts.{CurDir, inner_parts, cur_dir, is_slash, leading_part, parts}
 use Rattle.unix_path.specs.Parts.{value_of_piece}
 use Rattle.unix_path.specs.Steps.{is_idle}
@@ -60,21 +60,26 @@ inner_parts_idle_at at s i l e =
 pub first_piece_empty : (s : List ℕ) → bytes_eq (first_piece s) [] ≡ eqb (get_or s 0 47) 47
 first_piece_empty [] = refl
 first_piece_empty (b ∷ s) = by_test (eqb b 47)
-    (λ e. ap (λ n. bytes_eq (take n (b ∷ s)) []) (position_or_len-slash b s e) ∙ sym e)
-    (λ e. ap (λ n. bytes_eq (take n (b ∷ s)) []) (position_or_len-other b s e)
-    ∙ ap (λ p. bytes_eq p []) (take-suc_cons (position_or_len is_slash s) b s) ∙ sym e)
+    (λ e. ap (λ p. bytes_eq p []) (first_piece-slash b s e) ∙ sym e)
+    (λ e. ap (λ p. bytes_eq p []) (first_piece-other b s e) ∙ sym e)
+
+-- whether the first piece is `.`, by its first two bytes
+pub first_piece_dot : (s : List ℕ)
+    → bytes_eq (first_piece s) cur_dir ≡ (eqb (get_or s 0 0) 46 && eqb (get_or s 1 47) 47)
+first_piece_dot [] = refl
+first_piece_dot (b ∷ s) = by_test (eqb b 47)
+    (λ e. ap (λ p. bytes_eq p cur_dir) (first_piece-slash b s e)
+    ∙ sym (ap (λ b. eqb b 46 && eqb (get_or s 0 47) 47) (eqb-true b 47 e)))
+    (λ e. ap (λ p. bytes_eq p cur_dir) (first_piece-other b s e)
+    ∙ ap (λ t. eqb b 46 && t) (first_piece_empty s))
 
 -- a string that begins with no idle byte begins with no slash, and its first piece is no `.`
 pub busy_parts : (s : List ℕ) → 0 < length s → is_idle s 0 ≡ false
     → (eqb (get_or s 0 0) 47 ≡ false) × (bytes_eq (first_piece s) cur_dir ≡ false)
 busy_parts [] l e = absurd (omega arith)
 busy_parts (b ∷ s) l e =
-    let neither = or_parts (eqb b 47) (eqb b 46 && eqb (get_or s 0 47) 47) e in (
-      neither.0,
-      ap (λ n. bytes_eq (take n (b ∷ s)) cur_dir) (position_or_len-other b s neither.0)
-          ∙ ap (λ p. bytes_eq p cur_dir) (take-suc_cons (position_or_len is_slash s) b s)
-          ∙ ap (λ t. eqb b 46 && t) (first_piece_empty s) ∙ neither.1,
-    )
+    let neither = or_parts (eqb b 47) (eqb b 46 && eqb (get_or s 0 47) 47) e in
+    (neither.0, first_piece_dot (b ∷ s) ∙ neither.1)
 
 -- a string that begins with no idle byte has its first piece as its first part
 pub inner_parts_busy : (at : ℕ) (s : List ℕ) → 0 < length s → is_idle s 0 ≡ false

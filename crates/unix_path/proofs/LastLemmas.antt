@@ -9,8 +9,7 @@ use Rattle.std.proofs.lemmas.Slice.Eq.{bytes_eq-Decides}
 use Rattle.std.proofs.lemmas.Bool.{both_ways}
 use Rattle.std.proofs.lemmas.List.{drop_all, take_more, drop_more}
 use Rattle.unix_path.proofs.CaseLemmas.{by_test}
-use Rattle.unix_path.proofs.IdleLemmas.{parts-busy}
-use Rattle.unix_path.proofs.PartLemmas.{parts-name, parts-root}
+use Rattle.unix_path.proofs.PartLemmas.{parts-name, parts-nil, parts-root}
 use Rattle.unix_path.proofs.PieceLemmas.{inner_parts-first, inner_parts-nil, parts_of_piece}
 use Rattle.unix_path.proofs.PieceLemmas.{first_piece}
 use Rattle.unix_path.proofs.PieceLemmas.{position_or_len-other, position_or_len-slash}
@@ -112,8 +111,7 @@ pub last_part : (s : List ℕ) (start : ℕ) → IsLastStart s start → start <
     (take start s) ++ record { start = at; end = length s; value = first_value (drop start s) }
     ∷ [])
 last_part s zero h l ends =
-    let whole = whole_first s h.no_slash in
-    let none : parts [] ≡ [] = parts-busy [] (λ l. absurd (omega arith)) ∙ inner_parts-nil 0 in (
+    let whole = whole_first s h.no_slash in (
       0,
       parts-name s l (no_slash_head s h.no_slash l)
           ∙ ap₂ (λ p r. record {
@@ -124,7 +122,7 @@ last_part s zero h l ends =
           ∙ ap₂ (λ e ps. record { start = 0; end = e; value = first_value s } ∷ ps) h.no_slash
           (inner_parts-nil _)
           ∙ sym (ap (λ ps. ps ++ record { start = 0; end = length s; value = first_value s } ∷ [])
-          none),
+          parts-nil),
     )
 last_part s (suc k) h l ends =
     let c = last_counts s (suc k) h (omega arith) l ends in

@@ -6,13 +6,14 @@ use Rattle.std.proofs.Common.{length-drop, map}
 use Rattle.std.specs.List.{position_or_len}
 use Rattle.std.specs.Str.{bytes_eq}
 use Rattle.std.proofs.lemmas.Bool.{or_parts, and_parts, both_ways}
-use Rattle.unix_path.proofs.CaseLemmas.{by_test, take-suc_cons}
-use Rattle.unix_path.proofs.IdleLemmas.{busy_parts, first_piece_empty, idle_from, is_idle-drop}
+use Rattle.unix_path.proofs.CaseLemmas.{by_test}
+use Rattle.unix_path.proofs.IdleLemmas.{busy_parts, first_piece_dot, idle_from, is_idle-drop}
 use Rattle.unix_path.proofs.IdleLemmas.{parts-busy}
 use Rattle.unix_path.proofs.PartLemmas.{parts-name}
-use Rattle.unix_path.proofs.PieceLemmas.{first_piece, position_or_len-other, position_or_len-slash}
+use Rattle.unix_path.proofs.PieceLemmas.{first_piece, first_piece-other, position_or_len-other}
+use Rattle.unix_path.proofs.PieceLemmas.{position_or_len-slash}
 use Rattle.unix_path.proofs.StepLemmas.{takes_first}
-use Rattle.unix_path.specs.Parts.{Value, CurDir, ParentDir, Normal, cur_dir, parent_dir}
+use Rattle.unix_path.specs.Parts.{Value, CurDir, ParentDir, Normal, parent_dir}
 use Rattle.unix_path.specs.Parts.{inner_parts, is_slash, parts, values}
 use Rattle.unix_path.proofs.PlaceLemmas.{values-inner_parts}
 use Rattle.unix_path.specs.Steps.{StepsFirst, TakesFirst}
@@ -83,24 +84,12 @@ length-parent_first (b ∷ c ∷ s) e = omega arith
 pub busy_no_slash : (s : List ℕ) → is_idle s 0 ≡ false → eqb (get_or s 0 0) 47 ≡ false
 busy_no_slash s e = (or_parts (eqb (get_or s 0 0) 47) _ e).0
 
--- whether the first piece is `.`, by its first two bytes
-first_piece_dot : (s : List ℕ)
-    → bytes_eq (first_piece s) cur_dir ≡ (eqb (get_or s 0 0) 46 && eqb (get_or s 1 47) 47)
-first_piece_dot [] = refl
-first_piece_dot (b ∷ s) = by_test (eqb b 47)
-    (λ e. ap (λ n. bytes_eq (take n (b ∷ s)) cur_dir) (position_or_len-slash b s e)
-    ∙ sym (ap (λ b. eqb b 46 && eqb (get_or s 0 47) 47) (eqb-true b 47 e)))
-    (λ e. ap (λ n. bytes_eq (take n (b ∷ s)) cur_dir) (position_or_len-other b s e)
-    ∙ ap (λ p. bytes_eq p cur_dir) (take-suc_cons (position_or_len is_slash s) b s)
-    ∙ ap (λ t. eqb b 46 && t) (first_piece_empty s))
-
 -- whether the first piece is `..`, by its first three bytes
 first_piece_parent : (s : List ℕ) → eqb (get_or s 0 0) 47 ≡ false
     → bytes_eq (first_piece s) parent_dir ≡ begins_with_parent s
 first_piece_parent [] e = refl
 first_piece_parent (b ∷ s) e =
-    ap (λ n. bytes_eq (take n (b ∷ s)) parent_dir) (position_or_len-other b s e)
-    ∙ ap (λ p. bytes_eq p parent_dir) (take-suc_cons (position_or_len is_slash s) b s)
+    ap (λ p. bytes_eq p parent_dir) (first_piece-other b s e)
     ∙ ap (λ t. eqb b 46 && t) (first_piece_dot s)
 
 -- a first piece that counts and isn't `..` is a name

@@ -4,21 +4,20 @@ use Rattle.std.proofs.Common.{ltb, List, [], ◌∷◌, ◌++◌, length, get_or
 use Rattle.std.proofs.Common.{ap, subst, ◌∙◌, arith, length-drop, drop-drop, take-take, eqb-true}
 use Rattle.std.proofs.Common.{ltb-true, ltb-false}
 use Rattle.std.specs.Prelude.{slice_range}
-use Rattle.std.specs.List.{position_or_len}
 use Rattle.std.specs.Str.{bytes_eq}
 use Rattle.std.proofs.lemmas.List.{length-take, length-map, nil_from_length, drop-take}
 use Rattle.unix_path.specs.Cursor.{cursor_rest, cursor_source}
 use Rattle.unix_path.specs.declared.cursor.components.Components.{Components}
 use Rattle.unix_path.specs.Parts.{Value, RootDir, CurDir, ParentDir, Normal, parts, values}
-use Rattle.unix_path.specs.Parts.{cur_dir, parent_dir, is_slash}
+use Rattle.unix_path.specs.Parts.{cur_dir, parent_dir}
 use Rattle.unix_path.specs.Steps.{is_idle, first_value, EndsInPart, parts_end}
 use Rattle.unix_path.specs.Rest.{rest}
 use Rattle.unix_path.specs.Steps.{HasLast, IsWalk, StepsFirst, TakesFirst, TakesLast}
-use Rattle.unix_path.proofs.CaseLemmas.{by_test, take-suc_cons}
-use Rattle.unix_path.proofs.IdleLemmas.{first_piece_empty}
+use Rattle.unix_path.proofs.CaseLemmas.{by_test}
+use Rattle.unix_path.proofs.IdleLemmas.{first_piece_dot}
 use Rattle.unix_path.proofs.ParentLemmas.{rest-whole_last, values-whole}
 use Rattle.unix_path.proofs.PartLemmas.{parts-nil, parts-root, parts-name}
-use Rattle.unix_path.proofs.PieceLemmas.{first_piece, position_or_len-other}
+use Rattle.unix_path.proofs.PieceLemmas.{first_piece}
 use Rattle.unix_path.proofs.SpanLemmas.{parts_end-whole}
 
 -- what stands from a to b has b - a bytes
@@ -63,13 +62,7 @@ unfolding values
 is_idle-first [] = ap (λ ps. lead_first (map (λ p. p.value) ps)) (sym parts-nil)
 is_idle-first (b ∷ s) = by_test (eqb b 47)
     (λ e. rw (parts-root (b ∷ s) (eqb-true b 47 e), e) refl)
-    (λ e.
-    let dot : bytes_eq (first_piece (b ∷ s)) cur_dir
-    ≡ (eqb b 46 && eqb (get_or s 0 47) 47) =
-    ap (λ n. bytes_eq (take n (b ∷ s)) cur_dir) (position_or_len-other b s e)
-    ∙ ap (λ p. bytes_eq p cur_dir) (take-suc_cons (position_or_len is_slash s) b s)
-    ∙ ap (λ t. eqb b 46 && t) (first_piece_empty s) in
-    ap (λ t. t || (eqb b 46 && eqb (get_or s 0 47) 47)) e ∙ sym dot
+    (λ e. ap (λ t. t || (eqb b 46 && eqb (get_or s 0 47) 47)) e ∙ sym (first_piece_dot (b ∷ s))
     ∙ of_piece (first_piece (b ∷ s)) _
     ∙ ap (λ ps. lead_first (map (λ p. p.value) ps)) (sym (parts-name (b ∷ s) (omega arith) e)))
   where

@@ -5,11 +5,10 @@ use Rattle.std.proofs.Common.{◌∙◌, arith, take_all, zero-add}
 use Rattle.std.specs.List.{position_or_len}
 use Rattle.std.specs.Str.{bytes_eq}
 use Rattle.std.proofs.lemmas.Slice.Eq.{bytes_eq-Decides}
-use Rattle.std.proofs.lemmas.List.{drop_all}
-use Rattle.unix_path.proofs.CaseLemmas.{by_test, take-suc_cons}
+use Rattle.std.proofs.lemmas.List.{drop_all, nil_from_length}
+use Rattle.unix_path.proofs.CaseLemmas.{by_test}
 use Rattle.unix_path.proofs.PieceLemmas.{inner_parts-first, inner_parts-slash, parts_of_piece}
-use Rattle.unix_path.proofs.PieceLemmas.{first_piece}
-use Rattle.unix_path.proofs.PieceLemmas.{length-first_piece, position_or_len-other}
+use Rattle.unix_path.proofs.PieceLemmas.{first_piece, first_piece-other, length-first_piece}
 use Rattle.unix_path.specs.Parts.{Value, parent_dir, is_rooted, CurDir, Part}
 use Rattle.unix_path.specs.Parts.{RootDir, inner_parts, cur_dir, is_slash}
 use Rattle.unix_path.specs.Parts.{leading_part, parts, value_of_piece, values}
@@ -43,8 +42,7 @@ leading_part-name s e =
 pub nonempty_first_piece : (s : List ℕ) → 0 < length s → eqb (get_or s 0 0) 47 ≡ false
     → bytes_eq (first_piece s) [] ≡ false
 nonempty_first_piece [] l e = absurd (omega arith)
-nonempty_first_piece (b ∷ s) l e =
-    rw (position_or_len-other b s e) (rw (take-suc_cons (position_or_len is_slash s) b s) refl)
+nonempty_first_piece (b ∷ s) l e = ap (λ p. bytes_eq p []) (first_piece-other b s e)
 
 -- a string that begins with another byte than a slash has its first piece as its first part
 pub parts-name : (s : List ℕ) → 0 < length s → eqb (get_or s 0 0) 47 ≡ false
@@ -85,6 +83,10 @@ rest-nil k m = ap (λ ps. span_of [] (take (0 - (k + m)) ps)) (drop_all k [] (om
 pub parts-nil : parts [] ≡ []
 unfolding parts leading_part inner_parts
 parts-nil = refl
+
+-- a string without bytes has no parts
+pub parts-none : (s : List ℕ) → length s ≡ 0 → parts s ≡ []
+parts-none s e = ap parts (nil_from_length s e) ∙ parts-nil
 
 -- whether the first value is the root
 abbrev pub root_first : List Value → Bool

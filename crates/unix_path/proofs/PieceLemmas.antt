@@ -54,6 +54,17 @@ pub position_or_len-other : (x : ℕ) (xs : List ℕ) → eqb x 47 ≡ false
     → position_or_len is_slash (x ∷ xs) ≡ 1 + position_or_len is_slash xs
 position_or_len-other x xs e = rw e refl
 
+-- a string that begins with a slash has no byte in its first piece
+pub first_piece-slash : (x : ℕ) (s : List ℕ) → eqb x 47 ≡ true → first_piece (x ∷ s) ≡ []
+first_piece-slash x s e = ap (λ n. take n (x ∷ s)) (position_or_len-slash x s e)
+
+-- a string that begins with another byte than a slash has it first in its first piece
+pub first_piece-other : (x : ℕ) (s : List ℕ) → eqb x 47 ≡ false
+    → first_piece (x ∷ s) ≡ x ∷ first_piece s
+first_piece-other x s e =
+    ap (λ n. take n (x ∷ s)) (position_or_len-other x s e)
+    ∙ take-suc_cons (position_or_len is_slash s) x s
+
 -- the pieces are the first one and those that follow it
 pub slice_split-first : (s : List ℕ)
     → slice_split is_slash s ≡ first_piece s ∷ later_pieces (drop (position_or_len is_slash s) s)
@@ -80,10 +91,8 @@ IsCut-drop (x ∷ xs) = by_test (eqb x 47)
 pub length-first_piece : (s : List ℕ) → length (first_piece s) ≡ position_or_len is_slash s
 length-first_piece [] = refl
 length-first_piece (x ∷ xs) = by_test (eqb x 47)
-    (λ e. ap (λ n. length (take n (x ∷ xs))) (position_or_len-slash x xs e)
-    ∙ sym (position_or_len-slash x xs e))
-    (λ e. ap (λ n. length (take n (x ∷ xs))) (position_or_len-other x xs e)
-    ∙ ap length (take-suc_cons (position_or_len is_slash xs) x xs)
+    (λ e. ap length (first_piece-slash x xs e) ∙ sym (position_or_len-slash x xs e))
+    (λ e. ap length (first_piece-other x xs e)
     ∙ omega (arith, length-first_piece xs, position_or_len-other x xs e))
 
 -- the part of a piece that stands at `at`, if it counts

@@ -1,11 +1,11 @@
 -- What a rest leaves, and what is left of that.
 use Rattle.std.proofs.Common.{◌≡◌, ℕ, zero, suc, ◌+◌, ◌-◌, ◌≤◌, ltb, List, [], length, take, drop}
 use Rattle.std.proofs.Common.{map, refl, sym, ap, ◌∙◌, arith, length-drop, ltb-true, ltb-false}
-use Rattle.std.proofs.lemmas.List.{length-map, nil_from_length}
+use Rattle.std.proofs.lemmas.List.{length-map}
 use Rattle.unix_path.proofs.CaseLemmas.{by_test}
 use Rattle.unix_path.proofs.MiddleLemmas.{Middle, map-middle, middle, middle-middle, middle_of}
 use Rattle.unix_path.proofs.MiddleLemmas.{rest-middle, stands_in}
-use Rattle.unix_path.proofs.PartLemmas.{parts-nil}
+use Rattle.unix_path.proofs.PartLemmas.{parts-none}
 use Rattle.unix_path.proofs.PlaceLemmas.{part_at, part_at-part_at, values-part_at}
 use Rattle.unix_path.proofs.SplitLemmas.{drops_to, splits_first}
 use Rattle.unix_path.specs.Parts.{parts, values}
@@ -49,8 +49,7 @@ rest-none s k m l =
 
 -- a string has no more parts than bytes
 few_parts : (n : ℕ) (t : List ℕ) → length t ≤ n → length (parts t) ≤ length t
-few_parts zero t l =
-    omega (arith, ap length (ap parts (nil_from_length t (omega arith)) ∙ parts-nil))
+few_parts zero t l = omega (arith, ap length (parts-none t (omega arith)))
 few_parts (suc n) t l = by_test (ltb 0 (length t))
     (λ e.
     let first = splits_first t (ltb-true _ _ e) in
@@ -65,11 +64,7 @@ few_parts (suc n) t l = by_test (ltb 0 (length t))
           (omega (arith, first.in_range)),
       first.in_range,
     ))
-    (λ e. omega (
-      arith,
-      ap length
-          (ap parts (nil_from_length t (omega (arith, ltb-false _ _ e))) ∙ parts-nil),
-    ))
+    (λ e. omega (arith, ap length (parts-none t (omega (arith, ltb-false _ _ e)))))
 
 -- a path has no more values than bytes
 pub length-values : (s : List ℕ) → length (values s) ≤ length s
@@ -78,7 +73,7 @@ length-values s = omega
     (arith, length-map (parts s) (λ p. p.value), few_parts (length s) s (omega arith))
 
 -- where nothing is taken in front, what is left stands at place 0
-middle_of-at : (s : List ℕ) (m : ℕ) → (middle_of s 0 m).at ≡ 0
+pub middle_of-at : (s : List ℕ) (m : ℕ) → (middle_of s 0 m).at ≡ 0
 unfolding middle_of drops_to
 middle_of-at s m = refl
 

@@ -5,7 +5,7 @@ use Rattle.std.proofs.Common.{arith, eqb-true, length-append, ltb-true, ltb-fals
 use Rattle.std.specs.List.{position_or_len, slice_split}
 use Rattle.std.specs.Str.{bytes_eq}
 use Rattle.std.proofs.lemmas.List.{nil_from_length}
-use Rattle.unix_path.specs.Parts.{Value, RootDir, is_slash}
+use Rattle.unix_path.specs.Parts.{Value, RootDir, CurDir, ParentDir, Normal, is_slash}
 use Rattle.unix_path.specs.Parts.{parent_dir, counts, parts_of_pieces, value_of_piece}
 use Rattle.unix_path.specs.Parts.{inner_parts, values, is_rooted}
 use Rattle.unix_path.specs.Prefixes.{Begins}
@@ -18,19 +18,26 @@ use Rattle.unix_path.proofs.PartLemmas.{root_first-values}
 -- none of the values is the root
 abbrev pub NoRoot : List Value → Type 0
 NoRoot [] = Unit {0}
-NoRoot (v ∷ vs) = (v ≡ RootDir → ⊥) × NoRoot vs
+NoRoot (RootDir ∷ vs) = ⊥
+NoRoot (CurDir ∷ vs) = NoRoot vs
+NoRoot (ParentDir ∷ vs) = NoRoot vs
+NoRoot (Normal name ∷ vs) = NoRoot vs
 
 -- no piece is the root
 pub no_root_piece : (p : List ℕ) → value_of_piece p ≡ RootDir → ⊥
 no_root_piece p =
     by_test (bytes_eq p parent_dir) (λ e. rw e (λ h. cc)) (λ e. rw e (λ h. cc))
 
+-- with a piece in front, values without a root are still without one
+no_root_cons : (p : List ℕ) (vs : List Value) → NoRoot vs → NoRoot (value_of_piece p ∷ vs)
+no_root_cons p vs h = by_test (bytes_eq p parent_dir) (λ e. rw e h) (λ e. rw e h)
+
 -- none of the values of pieces is the root
 no_root_pieces : (at : ℕ) (ps : List (List ℕ)) → NoRoot (map (λ p. p.value) (parts_of_pieces at ps))
 no_root_pieces at [] = tt
 no_root_pieces at (p ∷ ps) =
     let next = no_root_pieces (at + length p + 1) ps in
-    by_test (counts p) (λ e. rw e (no_root_piece p, next)) (λ e. rw e next)
+    by_test (counts p) (λ e. rw e (no_root_cons p _ next)) (λ e. rw e next)
 
 -- none of the inner values is the root
 no_root_inner : (at : ℕ) (s : List ℕ) → NoRoot (map (λ p. p.value) (inner_parts at s))
@@ -88,8 +95,11 @@ root_count-values s = ap (λ c. cond c 1 0) (sym (root_first-values s))
 
 -- where none of the values is the root, the last is not
 no_root_last : (vs : List Value) (v : Value) → NoRoot (vs ++ v ∷ []) → v ≡ RootDir → ⊥
-no_root_last [] v h = h.0
-no_root_last (w ∷ vs) v h = no_root_last vs v h.1
+no_root_last [] v h r = subst (λ v. NoRoot (v ∷ [])) r h
+no_root_last (RootDir ∷ vs) v h r = h
+no_root_last (CurDir ∷ vs) v h r = no_root_last vs v h r
+no_root_last (ParentDir ∷ vs) v h r = no_root_last vs v h r
+no_root_last (Normal name ∷ vs) v h r = no_root_last vs v h r
 
 -- where no value behind v is the root, nothing stands before a last one that is
 before_last_root : (v w : Value) (more vs : List Value) → NoRoot more → v ∷ more ≡ vs ++ w ∷ []

@@ -4,13 +4,11 @@ use Rattle.std.proofs.Common.{get_or, take, drop, map, refl, sym, ap, ap₂, ◌
 use Rattle.std.proofs.Common.{take_all, ltb-true, ltb-false, length-take-le}
 use Rattle.std.proofs.lemmas.List.{nil_from_length}
 use Rattle.unix_path.proofs.CaseLemmas.{by_test}
-use Rattle.unix_path.proofs.IdleLemmas.{parts-busy}
 use Rattle.unix_path.proofs.LastLemmas.{last_part, last_start, root_alone}
-use Rattle.unix_path.proofs.PartLemmas.{parts-name, parts-nil, parts-root}
-use Rattle.unix_path.proofs.PieceLemmas.{inner_parts-nil}
+use Rattle.unix_path.proofs.PartLemmas.{parts-name, parts-none, parts-root}
 use Rattle.unix_path.proofs.PlaceLemmas.{last_end-part_at, part_at}
 use Rattle.unix_path.proofs.TrimLemmas.{EndsInPart-take, trims_to}
-use Rattle.unix_path.specs.Parts.{Part, Value, inner_parts, parts}
+use Rattle.unix_path.specs.Parts.{Part, Value, parts}
 use Rattle.unix_path.specs.Rest.{last_end, rest, span_of}
 use Rattle.unix_path.specs.Steps.{EndsInPart, parts_end}
 
@@ -37,9 +35,9 @@ parts_end-whole s ends =
     let l : 0 < length s = ltb-true _ _ some in
     ap parts_end (root_alone s l ends
     (ap (λ k. get_or s (k - 1) 0) (sym here) ∙ at.1.after_slash (omega arith))))
-    (λ none. ap (λ s. parts_end (parts s)) (nil_from_length s (omega (arith, ltb-false _ _ none)))
-    ∙ ap parts_end (parts-busy [] (λ l. absurd (omega arith)) ∙ inner_parts-nil 0)
-    ∙ ap length (sym (nil_from_length s (omega (arith, ltb-false _ _ none))))))
+    (λ none.
+    let size : length s ≡ 0 = omega (arith, ltb-false _ _ none) in
+    ap parts_end (parts-none s size) ∙ sym size))
 
 -- parts of which the first begins at place 0 span a beginning of the string
 from_zero : (t : List ℕ) {all : List Part} {v : Value} {e : ℕ} {ps : List Part}
@@ -56,9 +54,8 @@ span-parts t s = by_test (ltb 0 (length s))
     (λ some. by_test (eqb (get_or s 0 0) 47)
     (λ e. from_zero t (parts-root s (eqb-true _ 47 e)))
     (λ e. from_zero t (parts-name s (ltb-true _ _ some) e)))
-    (λ none. let is : parts s ≡ [] = parts-busy s (λ l. absurd (omega (arith, ltb-false _ _ none)))
-    ∙ ap (inner_parts 0) (nil_from_length s (omega (arith, ltb-false _ _ none)))
-    ∙ inner_parts-nil 0 in
+    (λ none.
+    let is = parts-none s (omega (arith, ltb-false _ _ none)) in
     ap (span_of t) is ∙ ap (λ ps. take (parts_end ps) t) (sym is))
 
 -- where no part is taken, what is left ends where the last part ends
@@ -96,9 +93,9 @@ first_start s p qs e = by_test (ltb 0 (length s))
     (λ some. by_test (eqb (get_or s 0 0) 47)
     (λ slash. let h = sym e ∙ parts-root s (eqb-true _ 47 slash) in start_of h)
     (λ no. let h = sym e ∙ parts-name s (ltb-true _ _ some) no in start_of h))
-    (λ none. let nil : parts s ≡ [] =
-    ap parts (nil_from_length s (omega (arith, ltb-false _ _ none)))
-    ∙ parts-nil in absurd (let h = sym nil ∙ e in cc))
+    (λ none.
+    let nil = parts-none s (omega (arith, ltb-false _ _ none)) in
+    absurd (let h = sym nil ∙ e in cc))
   where
     start_of : {p q : Part} {ps qs : List Part} → p ∷ ps ≡ q ∷ qs → p.start ≡ q.start
     start_of h = cc

@@ -4,12 +4,12 @@ use Rattle.std.proofs.Common.{◌++◌, length, get_or, take, drop, map, sym, ap
 use Rattle.std.proofs.Common.{eqb-true, take_all, length-drop, drop-drop, ltb-true, ltb-false}
 use Rattle.std.proofs.Common.{length-append, length-take-le}
 use Rattle.std.specs.List.{position_or_len}
-use Rattle.std.proofs.lemmas.List.{take-append-le, drop-map, length-take, nil_from_length}
+use Rattle.std.proofs.lemmas.List.{take-append-le, drop-map, length-take}
 use Rattle.std.proofs.lemmas.List.{take-take}
 use Rattle.unix_path.proofs.CaseLemmas.{by_test}
 use Rattle.unix_path.proofs.IdleLemmas.{parts-busy, skips_idle}
 use Rattle.unix_path.proofs.LastLemmas.{last_part, last_start, root_alone}
-use Rattle.unix_path.proofs.PartLemmas.{parts-name, parts-nil, parts-root}
+use Rattle.unix_path.proofs.PartLemmas.{parts-name, parts-nil, parts-none, parts-root}
 use Rattle.unix_path.proofs.PieceLemmas.{length-first_piece, position_or_len-other}
 use Rattle.unix_path.proofs.PlaceLemmas.{inner_parts-add, part_at, part_at-part_at, part_at-zero}
 use Rattle.unix_path.proofs.TrimLemmas.{EndsInPart-take, trims_to}
@@ -80,8 +80,7 @@ drops_to t (suc k) = by_test (ltb 0 (length t))
           ∙ ap (λ u. map (part_at (i + j)) (parts u)) (drop-drop j i t);
     })
     (λ none.
-    let nil : parts t ≡ [] = ap parts (nil_from_length t (omega (arith, ltb-false _ _ none)))
-    ∙ parts-nil in
+    let nil = parts-none t (omega (arith, ltb-false _ _ none)) in
     record {
       at = 0;
       in_range = omega arith;
@@ -167,8 +166,7 @@ takes_to t (suc m) ends = by_test (ltb 0 (length t))
       ends = subst EndsInPart same next.ends;
     })
     (λ none.
-    let nil : parts t ≡ [] = ap parts (nil_from_length t (omega (arith, ltb-false _ _ none)))
-    ∙ parts-nil in
+    let nil = parts-none t (omega (arith, ltb-false _ _ none)) in
     record {
       len = 0;
       in_range = omega arith;

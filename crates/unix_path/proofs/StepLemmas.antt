@@ -5,6 +5,7 @@ use Rattle.std.proofs.Common.{length-drop, drop-drop, length-append, length-take
 use Rattle.std.proofs.lemmas.List.{map-append, take-append-le}
 use Rattle.unix_path.proofs.IdleLemmas.{inner_parts_busy, parts-busy}
 use Rattle.unix_path.proofs.LastLemmas.{last_part, root_alone}
+use Rattle.unix_path.proofs.PartLemmas.{parts-nil}
 use Rattle.unix_path.proofs.PieceLemmas.{inner_parts-nil}
 use Rattle.unix_path.proofs.PlaceLemmas.{values-inner_parts}
 use Rattle.unix_path.proofs.SpanLemmas.{parts_end-whole, span-parts}
@@ -104,8 +105,8 @@ takes_last t start n h l ends m same trimmed =
 pub takes_root : (t : List ℕ) → 0 < length t → EndsInPart t → get_or t (length t - 1) 0 ≡ 47
     → TakesLast t (take 0 t) RootDir
 takes_root t l ends e =
-    let none : parts [] ≡ [] = parts-busy [] (λ l. absurd (omega arith)) ∙ inner_parts-nil 0 in
     takes_last_to t 0 0 (length t) RootDir (omega arith)
     (root_alone t l ends e
-    ∙ ap (λ ps. ps ++ record { start = 0; end = length t; value = RootDir } ∷ []) (sym none))
+    ∙ ap (λ ps. ps ++ record { start = 0; end = length t; value = RootDir } ∷ [])
+    (sym parts-nil))
     (λ l. absurd (omega arith))

@@ -1,44 +1,34 @@
--- What runs of calls of a walk give, and how many ancestors a path has.
-use Rattle.std.proofs.Common.{ℕ, ◌+◌, ◌≤◌, List, length, ap, arith}
-use Rattle.std.proofs.lemmas.List.FromFn.{length-map-range_with_len}
+-- What runs of calls of a walk give.
+use Rattle.std.proofs.Common.{length, ap}
 use Rattle.std.proofs.iter.runs.Sources.{from_front, from_back}
 use Rattle.std.specs.Iterator.{YieldsFirstBy}
 use Rattle.unix_path.specs.Views.{value_of}
-use Rattle.unix_path.specs.Cursor.{cursor_rest, cursor_source, cursor_values}
-use Rattle.unix_path.specs.Cursor.{iter_rest, iter_source, iter_bytes, GivesFirst, GivesLast}
+use Rattle.unix_path.specs.Cursor.{cursor_values, iter_bytes}
 use Rattle.unix_path.specs.Ancestors.{ancestors_left}
-use Rattle.unix_path.specs.Parents.{depth_of, ancestors_of}
-use Rattle.unix_path.specs.Rest.{rest}
-use Rattle.unix_path.proofs.RestLemmas.{length-values}
 use Rattle.unix_path.proofs.CursorLemmas.{GivesFirstPart, GivesLastPart}
 use Rattle.unix_path.proofs.CursorLemmas.{name_bytes, GivesFirstName, GivesLastName}
 use Rattle.std.specs.Iterator.Runs.{EveryRun, ItemsMapTo, ItemsMapToReversed}
-use Rattle.unix_bytes.specs.declared.bytes.UnixStr.{UnixStr}
 use Rattle.unix_path.specs.declared.path.Path.{Path}
 
 -- calls of `next` give the values that were left, in order
 abbrev pub PartsInOrder : Type 0
 PartsInOrder =
-    EveryRun (GivesFirst value_of cursor_values cursor_rest cursor_source)
-    (λ run. ItemsMapTo run value_of (cursor_values run.from))
+    EveryRun GivesFirstPart (λ run. ItemsMapTo run value_of (cursor_values run.from))
 
 -- calls of `next_back` give the values that were left, from the last on
 abbrev pub PartsInReverse : Type 0
 PartsInReverse =
-    EveryRun (GivesLast value_of cursor_values cursor_rest cursor_source)
-    (λ run. ItemsMapToReversed run value_of (cursor_values run.from))
+    EveryRun GivesLastPart (λ run. ItemsMapToReversed run value_of (cursor_values run.from))
 
 -- calls of `next` give the bytes of the values that were left, in order
 abbrev pub NamesInOrder : Type 0
 NamesInOrder =
-    EveryRun {A = UnixStr} (GivesFirst (λ name. name.bytes.now) iter_bytes iter_rest iter_source)
-    (λ run. ItemsMapTo run (λ name. name.bytes.now) (iter_bytes run.from))
+    EveryRun GivesFirstName (λ run. ItemsMapTo run name_bytes (iter_bytes run.from))
 
 -- calls of `next_back` give the bytes of the values that were left, from the last on
 abbrev pub NamesInReverse : Type 0
 NamesInReverse =
-    EveryRun {A = UnixStr} (GivesLast (λ name. name.bytes.now) iter_bytes iter_rest iter_source)
-    (λ run. ItemsMapToReversed run (λ name. name.bytes.now) (iter_bytes run.from))
+    EveryRun GivesLastName (λ run. ItemsMapToReversed run name_bytes (iter_bytes run.from))
 
 -- calls of `next` give the ancestors that were left, in order
 abbrev pub AncestorsInOrder : Type 0
@@ -66,9 +56,3 @@ pub ancestors_in_order : AncestorsInOrder
 ancestors_in_order =
     from_front {A = Path} (YieldsFirstBy (λ path. path.bytes.now) ancestors_left)
     (λ path. path.bytes.now) ancestors_left (λ s t h. ap length h.0) (λ s x t h. h)
-
--- a path has no more ancestors than bytes, and one more
-pub length-ancestors_of : (s : List ℕ) → length (ancestors_of s) ≤ length s + 1
-unfolding ancestors_of
-length-ancestors_of s =
-    omega (arith, length-values s, length-map-range_with_len (λ m. rest s 0 m) 1 (depth_of s))

@@ -16,7 +16,7 @@ use Rattle.unix_path.proofs.OffsetLemmas.{length-range}
 use Rattle.unix_path.proofs.ParentLemmas.{values-whole}
 use Rattle.unix_path.proofs.PartLemmas.{rest-nil}
 use Rattle.unix_path.proofs.PlaceLemmas.{part_at, part_at-zero}
-use Rattle.unix_path.proofs.RestLemmas.{take-rest}
+use Rattle.unix_path.proofs.RestLemmas.{middle_of-at, take-rest}
 use Rattle.unix_path.proofs.StemLemmas.{length-rest_whole-le}
 use Rattle.unix_path_c.specs.Places.{place_bytes, place_end}
 use Rattle.unix_path_c.specs.Walks.{kind_of, bytes_left, part_bytes, part_value, parts_left}
@@ -24,7 +24,6 @@ use Rattle.unix_path_c.specs.Walks.{value_of_kind}
 use Rattle.unix_path_c.specs.declared.places.Place.{Place}
 use Rattle.unix_path_c.specs.declared.walks.Part.{Part}
 use Rattle.unix_path_c.specs.declared.walks.Walk.{Walk}
-use Rattle.unix_path_c.proofs.FirstLemmas.{middle_of-at}
 
 -- the walk's places lie in the path, in order, and s stands between them
 pub record Between (path : List ℕ) (walk : Walk) (s : List ℕ) : Type 0 where

@@ -8,10 +8,9 @@ use Rattle.unix_path.specs.Rest.{last_end, rest}
 use Rattle.unix_path.specs.Steps.{parts_end}
 use Rattle.unix_path.proofs.CaseLemmas.{by_test}
 use Rattle.unix_path.proofs.MiddleLemmas.{Middle, middle, middle_of, rest-middle}
-use Rattle.unix_path.proofs.PartLemmas.{parts-nil, values-nil}
+use Rattle.unix_path.proofs.PartLemmas.{parts-none, values-nil}
 use Rattle.unix_path.proofs.PlaceLemmas.{last_end-part_at, part_at}
 use Rattle.unix_path.proofs.SpanLemmas.{length-rest_whole, parts_end-whole}
-use Rattle.unix_path.proofs.SplitLemmas.{drops_to}
 use Rattle.unix_path.proofs.StemLemmas.{length-rest_whole-le}
 use Rattle.unix_path_c.proofs.FollowLemmas.{BeginsWith, Follow, begins_with}
 
@@ -39,9 +38,6 @@ no_bytes s none = by_test (ltb 0 (length s))
     let b = begins_with s (ltb-true _ _ e) in
     let no = sym none ∙ ap (map (λ p. p.value)) b.is in cc)
     (λ e. nil_from_length s (omega (arith, ltb-false _ _ e)))
-
-pub parts-none : (s : List ℕ) → length s ≡ 0 → parts s ≡ []
-parts-none s e = ap parts (nil_from_length s e) ∙ parts-nil
 
 middle-first : (p : Part) (ps : List Part) → middle 1 0 (p ∷ ps) ≡ ps
 middle-first p ps = take_all (length (p ∷ ps) - (1 + 0)) ps (omega arith)
@@ -133,8 +129,3 @@ pub takes_in_front : (s : List ℕ) (v : Value) (vs : List Value) → values s �
     → TakesInFront s v (length (rest s 0 0)) (length (rest s 1 0))
 takes_in_front s v vs e = takes_in_front-by s v vs
     (begins_with s (some_bytes s (λ none. let no = sym none ∙ e in cc))) (middle_of s 1 0) e
-
--- with nothing taken in front, what is left begins the string
-pub middle_of-at : (s : List ℕ) (m : ℕ) → (middle_of s 0 m).at ≡ 0
-unfolding middle_of drops_to
-middle_of-at s m = refl

@@ -4,13 +4,12 @@ use Rattle.std.proofs.Common.{get_or, take, drop, sym, ap, subst, ◌∙◌, ari
 use Rattle.std.proofs.Common.{ltb-true, ltb-false}
 use Rattle.std.specs.List.{position_or_len, slice_split}
 use Rattle.std.specs.Str.{bytes_eq}
-use Rattle.std.proofs.lemmas.List.{nil_from_length}
 use Rattle.std.proofs.lemmas.Slice.Eq.{bytes_eq-Decides}
 use Rattle.unix_path.specs.Parts.{Part, Value, RootDir, counts, cur_dir, inner_parts, is_slash}
 use Rattle.unix_path.specs.Parts.{parts, parts_of_pieces, value_bytes}
 use Rattle.unix_path.specs.Steps.{first_value, parts_end}
 use Rattle.unix_path.proofs.CaseLemmas.{by_test}
-use Rattle.unix_path.proofs.PartLemmas.{parts-name, parts-nil, parts-root}
+use Rattle.unix_path.proofs.PartLemmas.{parts-name, parts-none, parts-root}
 use Rattle.unix_path.proofs.PieceLemmas.{first_piece, length-first_piece}
 use Rattle.unix_path.proofs.StemLemmas.{value_bytes-piece}
 
@@ -97,8 +96,7 @@ Follow-parts s = by_test (ltb 0 (length s))
     (λ e.
     let b = begins_with s (ltb-true _ _ e) in
     subst (Follow 0) (sym b.is) (omega arith, omega arith, b.follow))
-    (λ e. subst (Follow 0)
-    (sym (ap parts (nil_from_length s (omega (arith, ltb-false _ _ e))) ∙ parts-nil)) tt)
+    (λ e. subst (Follow 0) (sym (parts-none s (omega (arith, ltb-false _ _ e)))) tt)
 
 -- p begins where these parts have ended, or later, and is as long as its value's bytes
 pub record EndsWith (ps : List Part) (p : Part) : Type 0 where

@@ -12,13 +12,13 @@ use Rattle.unix_path.specs.Steps.{EndsInPart, parts_end}
 use Rattle.unix_path.proofs.CaseLemmas.{by_test}
 use Rattle.unix_path.proofs.EndLemmas.{Snoc, Empty, Push, snoc, last_or-push, middle-push}
 use Rattle.unix_path.proofs.MiddleLemmas.{middle, middle_of, rest-middle, stands_in}
+use Rattle.unix_path.proofs.PartLemmas.{parts-none}
 use Rattle.unix_path.proofs.PlaceLemmas.{part_at, part_at-zero}
-use Rattle.unix_path.proofs.RestLemmas.{take-rest}
+use Rattle.unix_path.proofs.RestLemmas.{middle_of-at, take-rest}
 use Rattle.unix_path.proofs.SpanLemmas.{length-rest_whole, parts_end-append, parts_end-whole}
 use Rattle.unix_path.proofs.StemLemmas.{length-rest_whole-le}
 use Rattle.unix_path_c.proofs.FollowLemmas.{BeginsWith, Follow, Follow-parts, begins_with}
 use Rattle.unix_path_c.proofs.FollowLemmas.{ends_with}
-use Rattle.unix_path_c.proofs.FirstLemmas.{middle_of-at, parts-none}
 
 -- v is the last value of s, whose parts end at n: its bytes end there, and the first m are left
 pub record TakesBehind (s : List ℕ) (v : Value) (n m : ℕ) : Type 0 where
