@@ -3,6 +3,7 @@ mod component;
 mod components;
 mod hash;
 mod iter;
+mod order;
 mod parents;
 mod steps;
 

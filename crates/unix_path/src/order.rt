@@ -1,4 +1,4 @@
-//! Equality and order of paths and of walks, and the hash of paths, by their values.
+//! Equality, order and hash of paths, by their values.
 ghost use Rattle.std.specs.Prelude.{◌≡◌, ◌↔◌, IsTrue, Some, fold};
 ghost use Rattle.std.specs.Ordering.{is_eq};
 ghost use Rattle.std.specs.Cmp;
@@ -23,56 +23,6 @@ fn feed_parts<H: Hasher>(parts: Components<'_>, state: &mut H)
 {
     for part in parts {
         part.hash(state);
-    }
-}
-
-/// Two walks are equal if the values that they have left are: those over `a//b` and `a/b` are. Does
-/// not allocate. As `PartialEq` of Rust's `Components`.
-impl PartialEq for Components<'_> {
-    ghost eq = { λ x y. is_eq (values_cmp (cursor_values x) (cursor_values y)) };
-
-    ghost laws = { Cmp.partial_equiv_from_equiv
-        (eq_by_cmp_equiv (Cmp.on_total cursor_values values_cmp-total)) };
-
-    fn eq(&self, other: &Self) -> bool
-        ensures value { result
-            ≡ is_eq (values_cmp (cursor_values self.now) (cursor_values other.now)) }
-        ensures same { IsTrue result ↔ (cursor_values self.now ≡ cursor_values other.now) }
-    {
-        is_same(self.as_path().bytes, other.as_path().bytes)
-    }
-}
-
-impl Eq for Components<'_> {
-    ghost laws = { eq_by_cmp_equiv (Cmp.on_total cursor_values values_cmp-total) };
-}
-
-impl PartialOrd for Components<'_> {
-    ghost partial_cmp = { λ x y. Some (values_cmp (cursor_values x) (cursor_values y)) };
-
-    ghost laws = { partial_order_from_total (Cmp.on_total cursor_values values_cmp-total) };
-
-    fn partial_cmp(&self, other: &Self) -> Option<Ordering> {
-        Some(compare(self.as_path().bytes, other.as_path().bytes))
-    }
-}
-
-/// Walks are ordered by the first of the values left that differ, as `Component` orders them; where
-/// one has fewer left and none differs, it comes first. Does not allocate. As `Ord` of Rust's
-/// `Components`.
-///
-/// The walk over `a/b` comes before that over `a.b`.
-impl Ord for Components<'_> {
-    ghost cmp = { λ x y. values_cmp (cursor_values x) (cursor_values y) };
-
-    ghost total = { Cmp.on_total cursor_values values_cmp-total };
-
-    ghost matches_partial_cmp = { Prim.search (comparing, rules) };
-
-    ghost matches_eq = { Prim.search (comparing, rules) };
-
-    fn cmp(&self, other: &Self) -> Ordering {
-        compare(self.as_path().bytes, other.as_path().bytes)
     }
 }
 
@@ -105,7 +55,7 @@ impl PartialOrd for Path<'_> {
         (Cmp.on_total (λ path. values path.bytes.now) values_cmp-total) };
 
     fn partial_cmp(&self, other: &Self) -> Option<Ordering> {
-        Some(compare(self.bytes, other.bytes))
+        Some(self.cmp(other))
     }
 }
 

@@ -45,7 +45,7 @@ impl PartialOrd for PathBuf {
         (Cmp.on_total (λ path. values (path_bytes path)) values_cmp-total) };
 
     fn partial_cmp(&self, other: &Self) -> Option<Ordering> {
-        Some(self.as_path().cmp(&other.as_path()))
+        Some(self.cmp(other))
     }
 }
 

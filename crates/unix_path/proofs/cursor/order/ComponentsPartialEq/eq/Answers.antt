@@ -4,7 +4,7 @@ use Rattle.unix_path.specs.Order.{values_cmp}
 use Rattle.unix_path.specs.Parts.{values}
 use Rattle.unix_path.specs.OrderLaws.{is_eq-values_cmp}
 use Rattle.unix_path.proofs.TieLemmas.{values_cmp-same}
-use Rattle.unix_path.proofs.order.ComponentsPartialEq.eq.Goals as goal
+use Rattle.unix_path.proofs.cursor.order.ComponentsPartialEq.eq.Goals as goal
 
 pub returns-clause-same : goal.returns-clause-same
 returns-clause-same c =
