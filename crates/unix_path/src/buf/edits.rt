@@ -148,9 +148,8 @@ impl PathBuf {
         ensures bytes { path_bytes self.new ≡ popped_of (path_bytes self.old) }
         ensures capacity { capacity self.new ≡ capacity self.old }
     {
-        let len = match self.as_path().parent_len() {
-            Some(len) => len,
-            None => return false,
+        let Some(len) = self.as_path().parent_len() else {
+            return false;
         };
         self.inner.truncate(len);
         true

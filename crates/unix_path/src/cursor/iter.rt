@@ -69,10 +69,7 @@ impl<'a> DoubleEndedIterator for Iter<'a> {
 
     #[inline]
     fn next_back(&mut self) -> Option<UnixStr<'a>> {
-        match self.components.next_back() {
-            Some(part) => Some(part.as_unix_str()),
-            None => None,
-        }
+        self.components.next_back().map(Component::as_unix_str)
     }
 }
 
