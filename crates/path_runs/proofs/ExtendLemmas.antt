@@ -1,14 +1,14 @@
 -- Rootless paths that are joined to a path, all of them or up to one.
 use Rattle.std.proofs.Common.{◌≡◌, ℕ, suc, ◌≤◌, ◌<◌, false, List, [], ◌∷◌, ◌++◌, length, take}
 use Rattle.std.proofs.Common.{drop, map, Option, slice_get, Some, refl, sym, ap, subst, ◌∙◌, arith}
-use Rattle.std.proofs.Common.{map-id, length-append}
+use Rattle.std.proofs.Common.{map-id}
 use Rattle.std.specs.List.{AllByRecursion}
 use Rattle.std.proofs.lemmas.Iterator.{YieldsList}
 use Rattle.std.proofs.lemmas.Iterator.Consumers.{YieldsList-so_far, nth_from_yields_List}
 use Rattle.std.proofs.lemmas.List.{map-append}
 use Rattle.std.proofs.lemmas.Option.{get_or_from_slice_get, slice_get_within}
 use Rattle.std.proofs.Math.Seq.{split_at}
-use Rattle.unix_path.specs.Buffers.{texts, JoinsBeginning}
+use Rattle.unix_path.specs.Buffers.{bytes_of_each, JoinsBeginning}
 use Rattle.unix_path.specs.Joins.{is_open, join_of, join_all_of}
 use Rattle.unix_path.specs.Parts.{is_rooted}
 use Rattle.unix_path.specs.declared.path.Path.{Path}
@@ -51,26 +51,28 @@ slice_get-split xs n y e = split_at xs n y (slice_get_within xs n y e)
 -- the join up to one path is no longer than the join with all
 length-join_of_next : (old : List ℕ) (all xs : List Path) (x : Path)
     → map (λ x. x) xs ≡ take (length xs) all → Some x ≡ slice_get all (length xs)
-    → AllRootless (texts all)
-    → length (join_of (join_all_of old (texts xs)) x.bytes.now)
-    ≤ length (join_all_of old (texts all))
+    → AllRootless (bytes_of_each all)
+    → length (join_of (join_all_of old (bytes_of_each xs)) x.bytes.now)
+    ≤ length (join_all_of old (bytes_of_each all))
 length-join_of_next old all xs x prefix at h =
     let rest = drop (suc (length xs)) all in
     let whole : all ≡ xs ++ x ∷ rest = slice_get-split all (length xs) x (sym at)
     ∙ ap (λ ys. ys ++ x ∷ rest) (sym prefix ∙ map-id xs) in
-    let parts : texts all ≡ texts xs ++ texts (x ∷ rest) = ap texts whole
+    let before = bytes_of_each xs in
+    let onward = bytes_of_each (x ∷ rest) in
+    let parts : bytes_of_each all ≡ before ++ onward = ap bytes_of_each whole
     ∙ map-append (λ x. x.bytes.now) xs (x ∷ rest) in
-    let rootless = AllRootless-end (texts xs) (texts (x ∷ rest)) (subst AllRootless parts h) in
-    let made = join_of (join_all_of old (texts xs)) x.bytes.now in
-    let all_is : join_all_of old (texts all) ≡ join_all_of made (texts rest) =
-    ap (join_all_of old) parts ∙ join_all_of-append old (texts xs) (texts (x ∷ rest)) in
-    omega (arith, ap length all_is, length-join_all_of made (texts rest) rootless.1)
+    let rootless = AllRootless-end before onward (subst AllRootless parts h) in
+    let made = join_of (join_all_of old before) x.bytes.now in
+    let all_is : join_all_of old (bytes_of_each all) ≡ join_all_of made (bytes_of_each rest) =
+    ap (join_all_of old) parts ∙ join_all_of-append old before onward in
+    omega (arith, ap length all_is, length-join_all_of made (bytes_of_each rest) rootless.1)
 
 -- where the join up to one of some rootless paths is longer than `most`, so is that of all
 pub JoinsBeginning-exceeds : {S : Type 0} {steps : S → Option Path → S → Type 0} {items : S}
     {all : List Path} (old new : List ℕ) (most : ℕ) → YieldsList steps (λ x. x) items all
-    → AllRootless (texts all) → JoinsBeginning steps items old new most
-    → most < length (join_all_of old (texts all))
+    → AllRootless (bytes_of_each all) → JoinsBeginning steps items old new most
+    → most < length (join_all_of old (bytes_of_each all))
 JoinsBeginning-exceeds {all = all} old new most yields h e =
     let prefix = YieldsList-so_far yields e.paths e.items_before.0 e.items_before.1 in
     let at = nth_from_yields_List (Some e.next) e.left (length e.paths)

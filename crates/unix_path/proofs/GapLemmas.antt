@@ -3,7 +3,7 @@ use Rattle.std.proofs.Common.{◌≡◌, ℕ, ◌≤◌, List, [], ◌∷◌, �
 use Rattle.std.proofs.Math.Seq.{take-length}
 use Rattle.std.proofs.lemmas.List.{take-take}
 use Rattle.unix_path.specs.Joins.{join_of, join_all_of}
-use Rattle.unix_path.specs.Buffers.{texts}
+use Rattle.unix_path.specs.Buffers.{bytes_of_each}
 use Rattle.unix_path.specs.declared.path.Path.{Path}
 use Rattle.unix_path.proofs.JoinLemmas.{join_of_rooted, join_of_open, join_of_closed}
 
@@ -18,7 +18,7 @@ pub ruleset beginnings = (take-beginning, take-length)
 
 -- several paths and one more are joined by joining the one to the join of the others
 pub join_all_of_snoc : (a : List ℕ) (paths : List Path) (path : Path)
-    → join_all_of a (texts (paths ++ path ∷ []))
-    ≡ join_of (join_all_of a (texts paths)) path.bytes.now
+    → join_all_of a (bytes_of_each (paths ++ path ∷ []))
+    ≡ join_of (join_all_of a (bytes_of_each paths)) path.bytes.now
 join_all_of_snoc a [] path = refl
 join_all_of_snoc a (p ∷ paths) path = join_all_of_snoc (join_of a p.bytes.now) paths path

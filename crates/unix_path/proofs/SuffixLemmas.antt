@@ -16,12 +16,12 @@ pub record EndsOn (s child u : List ℕ) (left : List Value) : Type 0 where
 pub ends_start : {s child u b : List ℕ} → u ≡ rest s 0 0 → b ≡ rest child 0 0
     → EndsOn s child u (values b)
 ends_start {s} {child} {u} {b} e f =
-    let wanted : values b ≡ values child = values-whole child b f in
+    let child_whole : values b ≡ values child = values-whole child b f in
     let whole : values u ≡ values s = values-whole s u e in
     record {
-      onward = λ h. subst (λ v. Ends v (values s)) wanted (subst (Ends (values b)) whole h);
+      onward = λ h. subst (λ v. Ends v (values s)) child_whole (subst (Ends (values b)) whole h);
       back = λ h. subst (Ends (values b)) (sym whole)
-          (subst (λ v. Ends v (values s)) (sym wanted) h);
+          (subst (λ v. Ends v (values s)) (sym child_whole) h);
     }
 
 -- where a list ends another one, so do the lists with the same element behind

@@ -19,15 +19,15 @@ abbrev pub capacity : PathBuf → ℕ
 capacity p = owned_capacity p.inner
 
 -- the bytes of each of these paths
-abbrev pub texts : List Path → List (List ℕ)
-texts paths = map (λ path. path.bytes.now) paths
+abbrev pub bytes_of_each : List Path → List (List ℕ)
+bytes_of_each paths = map (λ path. path.bytes.now) paths
 
 -- an iterator's items were all joined to the old bytes, one after the other
 pub record JoinsAll {S : Type 0} (steps : S → Option Path → S → Type 0) (items : S)
     (old new : List ℕ) : Type 0 where
   pub paths : List Path
   pub all_items : Drains steps items paths
-  pub bytes : new ≡ join_all_of old (texts paths)
+  pub bytes : new ≡ join_all_of old (bytes_of_each paths)
 
 -- the items before one were joined to the old bytes, one after the other, and the join with that
 -- one is longer than `most` bytes
@@ -37,5 +37,5 @@ pub record JoinsBeginning {S : Type 0} (steps : S → Option Path → S → Type
   pub next : Path
   pub left : S
   pub items_before : YieldsThen steps items paths (Some next) left
-  pub bytes : new ≡ join_all_of old (texts paths)
+  pub bytes : new ≡ join_all_of old (bytes_of_each paths)
   pub longer : most < length (join_of new next.bytes.now)

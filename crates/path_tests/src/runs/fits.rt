@@ -1,7 +1,7 @@
 //! A caller of `extend`: rootless paths that together fit the capacity are never refused.
 ghost use Rattle.std.specs.Prelude.{◌≡◌, ◌≤◌, false, length, IsOk};
 ghost use Rattle.std.specs.List.{AllByRecursion};
-ghost use Rattle.unix_path.specs.Buffers.{capacity, path_bytes, texts};
+ghost use Rattle.unix_path.specs.Buffers.{capacity, path_bytes, bytes_of_each};
 ghost use Rattle.unix_path.specs.Joins.{join_all_of};
 ghost use Rattle.unix_path.specs.Parts.{is_rooted};
 
@@ -11,9 +11,9 @@ use unix_path::bytes::UnixStr;
 use unix_path::{Path, PathBuf};
 
 fn extend_all(buffer: &mut PathBuf, paths: &[Path<'_>]) -> Result<(), AllocError>
-    ensures { AllByRecursion (λ b. is_rooted b ≡ false) (texts paths.now)
-        → length (join_all_of (path_bytes buffer.old) (texts paths.now)) ≤ capacity buffer.old
-        → IsOk result }
+    ensures { AllByRecursion (λ b. is_rooted b ≡ false) (bytes_of_each paths.now)
+        → length (join_all_of (path_bytes buffer.old) (bytes_of_each paths.now))
+        ≤ capacity buffer.old → IsOk result }
 {
     buffer.extend(paths.iter().copied())?;
     Ok(())

@@ -58,7 +58,7 @@ impl Error for ExtensionError {}
 impl From<AllocError> for ExtensionError {
     ghost use Rattle.unix_path.specs.declared.buf.extensions.ExtensionError.TheVariants.{Memory};
 
-    ghost from_gives = { λ error given. given ≡ Memory error };
+    ghost from_gives = { λ error variant. variant ≡ Memory error };
 
     fn from(error: AllocError) -> ExtensionError {
         ExtensionError::Memory(error)

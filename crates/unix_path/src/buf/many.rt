@@ -22,7 +22,7 @@ impl PathBuf {
         requires ends { IsFinite (I.remaining items) }
         ensures ok { IfOk result (λ p. JoinsAll I.next_gives items [] (path_bytes p)) }
         ensures err { OnErr result
-            ((made : List ℕ) × JoinsBeginning I.next_gives items [] made 0) }
+            ((bytes : List ℕ) × JoinsBeginning I.next_gives items [] bytes 0) }
     {
         let mut path = PathBuf::new(alloc);
         path.extend(items)?;

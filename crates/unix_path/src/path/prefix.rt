@@ -56,8 +56,8 @@ fn after_prefix<'a>(path: &'a [u8], base: &[u8]) -> Option<Components<'a>>
     ensures value { IfSome result (λ left. cursor_rest left ≡ stripped_of path.now base.now) }
     ensures place { IfSome result (λ left. LiesIn (cursor_source left) path.entry) }
 {
-    let (mut left, wanted) = past_common(path, base);
-    for part in wanted {
+    let (mut left, base_parts) = past_common(path, base);
+    for part in base_parts {
         let Some(own) = left.next() else {
             return None;
         };
@@ -74,8 +74,8 @@ fn ends_with_parts(path: &[u8], child: &[u8]) -> bool
     ensures { IsTrue result ↔ Ends (values child.now) (values path.now) }
 {
     let mut left = Components::new(path);
-    let mut wanted = Components::new(child);
-    while let Some(part) = wanted.next_back() {
+    let mut child_parts = Components::new(child);
+    while let Some(part) = child_parts.next_back() {
         let Some(own) = left.next_back() else {
             return false;
         };

@@ -6,7 +6,7 @@ use Rattle.unix_path.proofs.SuffixLemmas.{ends_differs}
 use Rattle.unix_path.proofs.path.prefix.ends_with_parts.Goals as goal
 
 pub loop-part-init : goal.loop-part-init
-loop-part-init c = ends_start c.new-left.ensures.rest c.new-wanted.ensures.rest
+loop-part-init c = ends_start c.new-left.ensures.rest c.new-child_parts.ensures.rest
 
 pub returns-in_default-next_back : goal.returns-in_default-next_back
 returns-in_default-next_back c = (

@@ -4,7 +4,7 @@ use Rattle.unix_path.proofs.SuffixLemmas.{EndsOn}
 use Rattle.unix_path.proofs.path.prefix.ends_with_parts.Given as goal
 
 abbrev pub invariant-loop-part : goal.invariant-loop-part
-invariant-loop-part l = EndsOn l.path l.child (cursor_rest l.left) (cursor_values l.wanted)
+invariant-loop-part l = EndsOn l.path l.child (cursor_rest l.left) (cursor_values l.child_parts)
 
 abbrev pub decreases-loop-part : goal.decreases-loop-part
-decreases-loop-part l = length (cursor_values l.wanted)
+decreases-loop-part l = length (cursor_values l.child_parts)

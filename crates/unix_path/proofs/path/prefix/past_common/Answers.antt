@@ -10,7 +10,7 @@ returns-else-dir-eq0-clause-strips c =
     let path = c.args.path.now in
     let base = c.args.base.now in
     let left = c.walk_behind.ensures in
-    let wanted = c.walk_behind-else-dir-eq0.ensures in
+    let base_left = c.walk_behind-else-dir-eq0.ensures in
     let n = c.common_dir-dir.result in
     let is : n ≡ common_dir_of path base = c.common_dir-dir.ensures.value
     ∙ ap₂ common_dir_of c.from_bytes.ensures c.from_bytes-2.ensures in
@@ -22,5 +22,5 @@ returns-else-dir-eq0-clause-strips c =
     ∙ ap (λ vs. values (take n path) ++ vs) (sym left.values))
     (values-behind base n some cuts.in_second cuts.second_slash
     ∙ ap (λ t. values t ++ inner_values (drop n base)) (sym cuts.same)
-    ∙ ap (λ vs. values (take n path) ++ vs) (sym wanted.values))
+    ∙ ap (λ vs. values (take n path) ++ vs) (sym base_left.values))
     (left.rest some cuts.first_slash)
