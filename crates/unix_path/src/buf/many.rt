@@ -10,8 +10,9 @@ use std::alloc::{AllocError, Global};
 impl PathBuf {
     /// The empty path, joined with each of these paths, one after the other.
     ///
-    /// Allocates as the path grows; an empty list allocates nothing. Fails if an allocation fails.
-    /// As `FromIterator` of Rust's `PathBuf`.
+    /// The caller shows that `items` may be asked for a next item, and that it ends. Allocates as
+    /// the path grows; an empty list allocates nothing. Fails if an allocation fails. As
+    /// `FromIterator` of Rust's `PathBuf`.
     ///
     /// For `/`, `feel` and `the.force` it is `/feel/the.force`.
     pub fn from_iter<'a, I: Iterator<Item = Path<'a>>>(
@@ -31,8 +32,9 @@ impl PathBuf {
 
     /// Pushes each of these paths, one after the other.
     ///
-    /// Allocates as the path grows; an empty list allocates nothing. If an allocation fails, the
-    /// path is as the pushes before it left it. As `Extend` of Rust's `PathBuf`.
+    /// The caller shows that `items` may be asked for a next item, and that it ends. Allocates as
+    /// the path grows; an empty list allocates nothing. If an allocation fails, the path is as the
+    /// pushes before it left it. As `Extend` of Rust's `PathBuf`.
     ///
     /// `a`, extended by `b`, `/c` and `d`, is `/c/d`.
     #[tactic(auto, using(crate::proofs::GapLemmas::join_all_of_snoc))]
