@@ -28,7 +28,8 @@ fn all_count(bytes: &[u8]) -> bool
     bytes.split(|byte| *byte == b'/').all(counts)
 }
 
-// True only for a path that is its own canonical spelling; false for `/` and where a `.` is first.
+// True only for a path that is its own canonical spelling. Of such paths it is false for the empty
+// one, for `/`, and where a `.` is first.
 #[inline]
 fn is_spelled(path: Path<'_>) -> bool
     ensures { IsTrue result → spelling_of (values path.entry.bytes.now) ≡ path.entry.bytes.now }

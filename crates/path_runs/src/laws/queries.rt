@@ -49,13 +49,14 @@ pub fn ancestors_step()
     ensures prefixes { AncestorsArePrefixes }
 {}
 
-/// Equal paths have the same answer to every query, or equal paths as answers.
+/// Equal paths have the same answer to every query about parts, or equal paths as answers.
 ///
 /// The other path of a query, as a base or a path to compare with, may be replaced by an equal one
-/// too. Queries for the bytes themselves are no part of the law. Calling it does nothing. Not in
-/// Rust's std.
+/// too. Queries for the bytes themselves, and `common_dir`, which counts bytes, are no part of the
+/// law. Calling it does nothing. Not in Rust's std.
 ///
-/// `//a//b` and `/a/b` have the file name `b`, and the equal parents `//a` and `/a`.
+/// `//a//b` and `/a/b` have the file name `b`, and the equal parents `//a` and `/a`. But the
+/// `common_dir` of `a//b` and `a//c` is 3, and that of the equal `a/b` and `a/c` is 2.
 pub fn queries_congruent()
     ensures has_root { SameOnEqual is_rooted }
     ensures file_name { SameOnEqual (λ s. file_name_of (values s)) }
