@@ -25,7 +25,7 @@ suffixes_same s t child other e f = (
   λ h. subst (λ v. Ends v (values s)) (sym f) (subst (Ends (values other)) (sym e) h),
 )
 
--- two paths are equal exactly if two others are that equal them
+-- two paths are equal exactly if two others, which equal them, are equal
 pub equality_same : (s t u w : List ℕ) → SameValues s t → SameValues u w
     → SameValues s u ↔ SameValues t w
 equality_same s t u w e f = (λ h. sym e ∙ h ∙ f, λ h. e ∙ h ∙ sym f)

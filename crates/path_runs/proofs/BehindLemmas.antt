@@ -1,19 +1,18 @@
 -- A last part behind an open path, taken off again.
-use Rattle.std.proofs.Common.{◌≡◌, ℕ, ◌+◌, ◌≤◌, true, List, [], ◌∷◌, ◌++◌, length, take, map}
-use Rattle.std.proofs.Common.{refl, sym, ap, ap₂, ◌∙◌, arith, append_assoc, append-nil}
+use Rattle.std.proofs.Common.{◌≡◌, ℕ, ◌≤◌, true, List, [], ◌∷◌, ◌++◌, length, take, map}
+use Rattle.std.proofs.Common.{refl, sym, ap, subst, ◌∙◌, arith, append-nil}
 use Rattle.std.proofs.lemmas.List.{map-append, take-append-le, append_cancel_left}
-use Rattle.unix_path.specs.Parts.{slash, Part, Value, inner_parts, leading_part, parts, values}
+use Rattle.unix_path.specs.Parts.{Part, Value, inner_parts, parts, values}
 use Rattle.unix_path.specs.Rest.{rest}
 use Rattle.unix_path.specs.Steps.{parts_end}
 use Rattle.unix_path.specs.Joins.{is_open}
 use Rattle.unix_path.proofs.CaseLemmas.{by_test}
-use Rattle.unix_path.proofs.CutLemmas.{inner_parts-append}
+use Rattle.unix_path.proofs.CommonPrefixLemmas.{parts-past_slash}
 use Rattle.unix_path.proofs.PartLemmas.{parts-nil}
-use Rattle.unix_path.proofs.PieceLemmas.{inner_parts-nil}
 use Rattle.unix_path.proofs.SpanLemmas.{length-rest_whole, rest-whole, span-parts}
 use Rattle.unix_path.proofs.StemLemmas.{length-rest_whole-le}
 use Rattle.unix_path.proofs.StepLemmas.{rest-last}
-use Rattle.unix_path.proofs.TrimLemmas.{leading_past_slash, parts-slash}
+use Rattle.unix_path.proofs.TrimLemmas.{parts-slash}
 use Rattle.path_runs.proofs.AssociativeLemmas.{separator}
 use Rattle.path_runs.proofs.ValueLemmas.{ends_open, not_open}
 
@@ -21,29 +20,15 @@ use Rattle.path_runs.proofs.ValueLemmas.{ends_open, not_open}
 abbrev value_of_part : Part → Value
 value_of_part p = p.value
 
--- the parts on both sides of a slash, those behind it without a lead
-parts-past_slash : (f b : List ℕ)
-    → parts (f ++ slash ∷ b) ≡ parts (f ++ slash ∷ []) ++ inner_parts (0 + length f + 1) b
-unfolding parts
-parts-past_slash f b =
-    let k = 0 + length f + 1 in
-    let lead = leading_part (f ++ slash ∷ []) in
-    ap₂ ◌++◌ (leading_past_slash f b []) (inner_parts-append 0 f b)
-    ∙ sym (append_assoc lead (inner_parts 0 f) (inner_parts k b))
-    ∙ ap (λ ps. (lead ++ ps) ++ inner_parts k b)
-    (sym (inner_parts-append 0 f [] ∙ ap (λ ps. inner_parts 0 f ++ ps) (inner_parts-nil k)
-    ∙ append-nil (inner_parts 0 f)))
-
 -- behind an open path the parts are those of that path, and more
 parts-open : (u b : List ℕ) → is_open u ≡ true
     → (more : List Part) × (parts (u ++ b) ≡ parts u ++ more)
 parts-open [] b o = (parts b, sym (ap (λ ps. ps ++ parts b) parts-nil))
 parts-open (x ∷ u) b o =
     let cut = ends_open (x ∷ u) o (omega arith) in (
-      inner_parts (0 + length cut.0 + 1) b,
-      ap (λ u. parts (u ++ b)) (sym cut.1)
-          ∙ ap parts (append_assoc cut.0 (slash ∷ []) b) ∙ parts-past_slash cut.0 b
-          ∙ ap (λ u. parts u ++ inner_parts (0 + length cut.0 + 1) b) cut.1,
+      inner_parts (length (x ∷ u)) b,
+      subst (λ u. parts (u ++ b) ≡ parts u ++ inner_parts (length u) b) cut.1
+          (parts-past_slash cut.0 b),
     )
 
 -- parts with one value are one part

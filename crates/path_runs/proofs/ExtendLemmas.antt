@@ -14,6 +14,7 @@ use Rattle.unix_path.specs.Parts.{is_rooted}
 use Rattle.unix_path.specs.declared.path.Path.{Path}
 use Rattle.unix_path.proofs.CaseLemmas.{by_test}
 use Rattle.unix_path.proofs.JoinLemmas.{length-join_of_open, length-join_of_closed}
+use Rattle.path_runs.proofs.AllLemmas.{AllByRecursion-end}
 
 -- none of these is rooted
 abbrev pub AllRootless : List (List ℕ) → Type 0
@@ -38,10 +39,6 @@ pub join_all_of-append : (a : List ℕ) (bs cs : List (List ℕ))
 join_all_of-append a [] cs = refl
 join_all_of-append a (b ∷ bs) cs = join_all_of-append (join_of a b) bs cs
 
-AllRootless-end : (bs cs : List (List ℕ)) → AllRootless (bs ++ cs) → AllRootless cs
-AllRootless-end [] cs h = h
-AllRootless-end (b ∷ bs) cs h = AllRootless-end bs cs h.1
-
 -- a list is what stands before one of its items, that item, and what stands behind it
 slice_get-split : {X : Type 0} (xs : List X) (n : ℕ) (y : X) → slice_get xs n ≡ Some y
     → xs ≡ take n xs ++ y ∷ drop (suc n) xs
@@ -62,7 +59,8 @@ length-join_of_next old all xs x prefix at h =
     let onward = bytes_of_each (x ∷ rest) in
     let parts : bytes_of_each all ≡ before ++ onward = ap bytes_of_each whole
     ∙ map-append (λ x. x.bytes.now) xs (x ∷ rest) in
-    let rootless = AllRootless-end before onward (subst AllRootless parts h) in
+    let rootless = AllByRecursion-end (λ b. is_rooted b ≡ false) before onward
+    (subst AllRootless parts h) in
     let made = join_of (join_all_of old before) x.bytes.now in
     let all_is : join_all_of old (bytes_of_each all) ≡ join_all_of made (bytes_of_each rest) =
     ap (join_all_of old) parts ∙ join_all_of-append old before onward in

@@ -33,18 +33,18 @@ concat-in_eights b =
     ∙ take-append-add b end_mark (suc (8 * ((n + 8) / 8) - (n + 1)))
 
 -- the zeros behind a value's bytes and a slash, and then others
-pub zeros_and : Value → List ℕ → List ℕ
-zeros_and v x = zeros_behind (length (value_bytes v)) ++ x
+pub with_zeros : Value → List ℕ → List ℕ
+with_zeros v x = zeros_behind (length (value_bytes v)) ++ x
 
-pub zeros_and-cancel : (v : Value) (x y : List ℕ) → zeros_and v x ≡ zeros_and v y → x ≡ y
-unfolding zeros_and
-zeros_and-cancel v x y e = append_cancel_left (zeros_behind (length (value_bytes v))) x y e
+pub with_zeros-cancel : (v : Value) (x y : List ℕ) → with_zeros v x ≡ with_zeros v y → x ≡ y
+unfolding with_zeros
+with_zeros-cancel v x y e = append_cancel_left (zeros_behind (length (value_bytes v))) x y e
 
 -- values feed the bytes of the first, a slash, zeros, and then what the others feed
 pub concat-hash_input_of : (v : Value) (vs : List Value) (x : List ℕ)
     → concat (hash_input_of (v ∷ vs)) ++ x
-    ≡ value_bytes v ++ slash ∷ zeros_and v (concat (hash_input_of vs) ++ x)
-unfolding zeros_and
+    ≡ value_bytes v ++ slash ∷ with_zeros v (concat (hash_input_of vs) ++ x)
+unfolding with_zeros
 concat-hash_input_of v vs x =
     let b = value_bytes v in
     let z = zeros_behind (length b) in

@@ -4,22 +4,22 @@ use Rattle.std.proofs.Common.{length-append}
 use Rattle.std.specs.List.{sum_by}
 use Rattle.std.proofs.lemmas.List.Sums.{sum_by-cons}
 use Rattle.unix_path.specs.Parts.{Value, RootDir, value_bytes, values}
-use Rattle.path_runs.specs.Spelling.{row_of, spelling_of}
+use Rattle.path_runs.specs.Spelling.{slashed_bytes, spelling_of}
 use Rattle.path_runs.proofs.LeanLemmas.{spelling_of-shortest}
 
 -- how many bytes the values have
 abbrev pub byte_count : List Value → ℕ
 byte_count vs = sum_by (λ v. length (value_bytes v)) vs
 
--- values have no more bytes than their row
-byte_count-row_of : (vs : List Value) → byte_count vs ≤ length (row_of vs)
-byte_count-row_of [] = omega arith
-byte_count-row_of (v ∷ []) = omega (arith, sum_by-cons (λ v. length (value_bytes v)) v [])
-byte_count-row_of (v ∷ w ∷ vs) = omega (
+-- values have no more bytes than these have with slashes between
+byte_count-slashed_bytes : (vs : List Value) → byte_count vs ≤ length (slashed_bytes vs)
+byte_count-slashed_bytes [] = omega arith
+byte_count-slashed_bytes (v ∷ []) = omega (arith, sum_by-cons (λ v. length (value_bytes v)) v [])
+byte_count-slashed_bytes (v ∷ w ∷ vs) = omega (
   arith,
   sum_by-cons (λ v. length (value_bytes v)) v (w ∷ vs),
-  length-append (value_bytes v) (47 ∷ row_of (w ∷ vs)),
-  byte_count-row_of (w ∷ vs),
+  length-append (value_bytes v) (47 ∷ slashed_bytes (w ∷ vs)),
+  byte_count-slashed_bytes (w ∷ vs),
 )
 
 -- values have no more bytes than their spelling
@@ -29,9 +29,9 @@ byte_count-spelling_of [] = omega arith
 byte_count-spelling_of (RootDir ∷ vs) = omega (
   arith,
   sum_by-cons (λ v. length (value_bytes v)) RootDir vs,
-  byte_count-row_of vs,
+  byte_count-slashed_bytes vs,
 )
-byte_count-spelling_of (v ∷ vs) = byte_count-row_of (v ∷ vs)
+byte_count-spelling_of (v ∷ vs) = byte_count-slashed_bytes (v ∷ vs)
 
 -- a path's values have no more bytes than the path
 pub byte_count-values : (s : List ℕ) → byte_count (values s) ≤ length s
@@ -49,6 +49,6 @@ sum_by-map (v ∷ vs) = omega (
   sum_by-map vs,
 )
 
--- the names of a path's parts have no more bytes than the path
-pub sum_by-names : (s : List ℕ) → sum_by length (map value_bytes (values s)) ≤ length s
-sum_by-names s = omega (arith, sum_by-map (values s), byte_count-values s)
+-- the bytes of a path's parts, as a list of strings, are no more than the path's
+pub sum_by-items : (s : List ℕ) → sum_by length (map value_bytes (values s)) ≤ length s
+sum_by-items s = omega (arith, sum_by-map (values s), byte_count-values s)

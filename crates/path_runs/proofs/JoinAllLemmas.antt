@@ -5,16 +5,16 @@ use Rattle.std.specs.List.{AllByRecursion, join_with_byte}
 use Rattle.unix_path.specs.Parts.{slash, Value, RootDir, value_bytes, values}
 use Rattle.unix_path.specs.Joins.{is_open, join_of, join_all_of}
 use Rattle.unix_path.proofs.JoinLemmas.{join_of_rooted, join_of_open, join_of_closed}
-use Rattle.path_runs.specs.Spelling.{row_of, spelling_of}
+use Rattle.path_runs.specs.Spelling.{slashed_bytes, spelling_of}
 use Rattle.path_runs.proofs.SpellLemmas.{spelling_of-root}
 use Rattle.path_runs.proofs.PlainLemmas.{IsPlain, IsPlainValue, Shape, Rooted, Rootless}
 use Rattle.path_runs.proofs.PlainLemmas.{values-shape}
 
--- what stands before a row stands before its first piece
-row_onto : (x b : List ℕ) (bs : List (List ℕ))
+-- what stands before joined strings stands before the first of them
+join_with_byte-onto : (x b : List ℕ) (bs : List (List ℕ))
     → join_with_byte slash ((x ++ b) ∷ bs) ≡ x ++ join_with_byte slash (b ∷ bs)
-row_onto x b [] = refl
-row_onto x b (c ∷ bs) = append_assoc x b (slash ∷ join_with_byte slash (c ∷ bs))
+join_with_byte-onto x b [] = refl
+join_with_byte-onto x b (c ∷ bs) = append_assoc x b (slash ∷ join_with_byte slash (c ∷ bs))
 
 -- a path that ends in one that isn't open isn't open
 is_open-append_closed : (a b : List ℕ) → is_open b ≡ false → is_open (a ++ b) ≡ false
@@ -27,7 +27,7 @@ is_open-append_closed (x ∷ y ∷ a) b e = is_open-append_closed (y ∷ a) b e
 abbrev AllPlain : List (List ℕ) → Type 0
 AllPlain bs = AllByRecursion IsPlain bs
 
--- plain paths, joined to a path that isn't open, are a row behind it
+-- plain paths, joined to a path that isn't open, each follow a slash
 join_all_of-closed : (a : List ℕ) (bs : List (List ℕ)) → is_open a ≡ false → AllPlain bs
     → join_all_of a bs ≡ join_with_byte slash (a ∷ bs)
 join_all_of-closed a [] o h = refl
@@ -35,14 +35,15 @@ join_all_of-closed a (b ∷ bs) o h =
     ap (λ c. join_all_of c bs) (join_of_closed a b h.0.rootless o)
     ∙ join_all_of-closed ((a ++ slash ∷ []) ++ b) bs
     (is_open-append_closed (a ++ slash ∷ []) b h.0.closed) h.1
-    ∙ row_onto (a ++ slash ∷ []) b bs ∙ append_assoc a (slash ∷ []) (join_with_byte slash (b ∷ bs))
+    ∙ join_with_byte-onto (a ++ slash ∷ []) b bs
+    ∙ append_assoc a (slash ∷ []) (join_with_byte slash (b ∷ bs))
 
 join_all_of-plain : (bs : List (List ℕ)) → AllPlain bs → join_all_of [] bs ≡ join_with_byte slash bs
 join_all_of-plain [] h = refl
 join_all_of-plain (b ∷ bs) h = ap (λ c. join_all_of c bs) (join_of_open [] b h.0.rootless refl)
     ∙ join_all_of-closed b bs h.0.closed h.1
 
--- plain paths, joined to the root, are a row behind it
+-- plain paths, joined to the root, follow it with slashes between them
 join_all_of-root : (bs : List (List ℕ)) → AllPlain bs
     → join_all_of [] ((slash ∷ []) ∷ bs) ≡ slash ∷ join_with_byte slash bs
 join_all_of-root [] h = join_of_rooted [] (slash ∷ []) refl
@@ -50,13 +51,14 @@ join_all_of-root (b ∷ bs) h =
     ap (λ c. join_all_of (join_of c b) bs) (join_of_rooted [] (slash ∷ []) refl)
     ∙ ap (λ c. join_all_of c bs) (join_of_open (slash ∷ []) b h.0.rootless refl)
     ∙ join_all_of-closed (slash ∷ b) bs (is_open-append_closed (slash ∷ []) b h.0.closed) h.1
-    ∙ row_onto (slash ∷ []) b bs
+    ∙ join_with_byte-onto (slash ∷ []) b bs
 
 plain_bytes : (vs : List Value) → AllByRecursion IsPlainValue vs → AllPlain (map value_bytes vs)
 plain_bytes [] h = tt
 plain_bytes (v ∷ vs) h = (h.0.plain, plain_bytes vs h.1)
 
-spelling_of-plain : (vs : List Value) → AllByRecursion IsPlainValue vs → spelling_of vs ≡ row_of vs
+spelling_of-plain : (vs : List Value) → AllByRecursion IsPlainValue vs
+    → spelling_of vs ≡ slashed_bytes vs
 unfolding spelling_of
 spelling_of-plain [] h = refl
 spelling_of-plain (RootDir ∷ vs) h = absurd (h.0.no_root refl)

@@ -24,11 +24,11 @@ Leaner-longer : (u s t : List ℕ) → Leaner u s → length s < length t → Le
 Leaner-longer u s t (inl e) l = inr (omega (arith, ap length e))
 Leaner-longer u s t (inr h) l = inr (omega arith)
 
--- a row without its second piece has fewer bytes
-row_less : (p q : List ℕ) (qs : List (List ℕ))
+-- without the second of them, joined pieces have fewer bytes
+join_with_byte-less : (p q : List ℕ) (qs : List (List ℕ))
     → length (join_with_byte slash (p ∷ qs)) < length (join_with_byte slash (p ∷ q ∷ qs))
-row_less p q [] = omega (arith, length-append p (slash ∷ q))
-row_less p q (r ∷ qs) =
+join_with_byte-less p q [] = omega (arith, length-append p (slash ∷ q))
+join_with_byte-less p q (r ∷ qs) =
     let u = join_with_byte slash (r ∷ qs) in
     omega (
       arith,
@@ -38,37 +38,37 @@ row_less p q (r ∷ qs) =
     )
 
 -- behind a first piece, dropping the pieces that don't count leaves the same bytes or fewer
-Leaner-row_behind : (p : List ℕ) (qs : List (List ℕ))
+Leaner-behind : (p : List ℕ) (qs : List (List ℕ))
     → Leaner (join_with_byte slash (p ∷ filter counts qs)) (join_with_byte slash (p ∷ qs))
-Leaner-row_behind p [] = inl refl
-Leaner-row_behind p (q ∷ qs) = by_test (counts q)
+Leaner-behind p [] = inl refl
+Leaner-behind p (q ∷ qs) = by_test (counts q)
     (λ e. rw e (subst (λ z. Leaner z (p ++ slash ∷ join_with_byte slash (q ∷ qs)))
     (append_assoc p (slash ∷ []) (join_with_byte slash (q ∷ filter counts qs)))
     (subst (Leaner ((p ++ slash ∷ []) ++ join_with_byte slash (q ∷ filter counts qs)))
     (append_assoc p (slash ∷ []) (join_with_byte slash (q ∷ qs)))
     (Leaner-append (p ++ slash ∷ []) (join_with_byte slash (q ∷ filter counts qs))
-    (join_with_byte slash (q ∷ qs)) (Leaner-row_behind q qs)))))
+    (join_with_byte slash (q ∷ qs)) (Leaner-behind q qs)))))
     (λ e. rw e (Leaner-longer (join_with_byte slash (p ∷ filter counts qs))
-    (join_with_byte slash (p ∷ qs)) (join_with_byte slash (p ∷ q ∷ qs)) (Leaner-row_behind p qs)
-    (row_less p q qs)))
+    (join_with_byte slash (p ∷ qs)) (join_with_byte slash (p ∷ q ∷ qs)) (Leaner-behind p qs)
+    (join_with_byte-less p q qs)))
 
--- what is leaner than a row is leaner than that row behind one more piece
-Leaner-row_cons : (q : List ℕ) (qs : List (List ℕ))
+-- what is leaner than joined pieces is leaner than these with one more piece before them
+Leaner-cons : (q : List ℕ) (qs : List (List ℕ))
     → Leaner (join_with_byte slash (filter counts qs)) (join_with_byte slash qs)
     → Leaner (join_with_byte slash (filter counts qs)) (join_with_byte slash (q ∷ qs))
-Leaner-row_cons [] [] h = inl refl
-Leaner-row_cons (x ∷ q) [] h = inr (omega arith)
-Leaner-row_cons q (r ∷ qs) h =
+Leaner-cons [] [] h = inl refl
+Leaner-cons (x ∷ q) [] h = inr (omega arith)
+Leaner-cons q (r ∷ qs) h =
     Leaner-longer (join_with_byte slash (filter counts (r ∷ qs))) (join_with_byte slash (r ∷ qs))
     (q ++ slash ∷ join_with_byte slash (r ∷ qs)) h
     (omega (arith, length-append q (slash ∷ join_with_byte slash (r ∷ qs))))
 
 -- dropping the pieces that don't count leaves the same bytes or fewer
-Leaner-row : (qs : List (List ℕ))
+Leaner-pieces : (qs : List (List ℕ))
     → Leaner (join_with_byte slash (filter counts qs)) (join_with_byte slash qs)
-Leaner-row [] = inl refl
-Leaner-row (q ∷ qs) = by_test (counts q) (λ e. rw e (Leaner-row_behind q qs))
-    (λ e. rw e (Leaner-row_cons q qs (Leaner-row qs)))
+Leaner-pieces [] = inl refl
+Leaner-pieces (q ∷ qs) = by_test (counts q) (λ e. rw e (Leaner-behind q qs))
+    (λ e. rw e (Leaner-cons q qs (Leaner-pieces qs)))
 
 -- a string is its pieces, joined
 pub join_with_byte-pieces : (s : List ℕ) → join_with_byte slash (slice_split is_slash s) ≡ s
@@ -81,7 +81,7 @@ spelling_of-lean_rooted t =
     subst (λ u. Leaner u (slash ∷ t)) (sym (spelling_of-rooted t))
     (Leaner-append (slash ∷ []) (join_with_byte slash (filter counts ps)) t
     (subst (Leaner (join_with_byte slash (filter counts ps))) (join_with_byte-pieces t)
-    (Leaner-row ps)))
+    (Leaner-pieces ps)))
 
 -- what the spelling keeps of a rootless path's pieces has the same bytes or fewer
 Leaner-lean_pieces : (ps : List (List ℕ))
@@ -93,10 +93,10 @@ Leaner-lean_pieces (p ∷ qs) = by (bytes_eq p cur_dir) refl
         → Leaner (join_with_byte slash (lean_pieces (p ∷ qs))) (join_with_byte slash (p ∷ qs))
     by true d = subst (λ p. Leaner (join_with_byte slash (lean_pieces (p ∷ qs)))
         (join_with_byte slash (p ∷ qs))) (sym ((bytes_eq-Decides p cur_dir).0 d))
-        (Leaner-row_behind cur_dir qs)
+        (Leaner-behind cur_dir qs)
     by false d = subst (λ c. Leaner
         (join_with_byte slash (cond c (cur_dir ∷ filter counts qs) (filter counts (p ∷ qs))))
-        (join_with_byte slash (p ∷ qs))) (sym d) (Leaner-row (p ∷ qs))
+        (join_with_byte slash (p ∷ qs))) (sym d) (Leaner-pieces (p ∷ qs))
 
 -- the spelling of a path is the path itself, or has fewer bytes
 spelling_of-lean : (s : List ℕ) → Leaner (spelling_of (values s)) s

@@ -1,3 +1,4 @@
+pub mod AllLemmas
 pub mod TogetherLemmas
 pub mod WalkLemmas
 pub mod WalkStepLemmas

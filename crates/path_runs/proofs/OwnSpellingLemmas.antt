@@ -11,7 +11,7 @@ use Rattle.std.proofs.lemmas.Slice.Eq.{bytes_eq-Decides}
 use Rattle.unix_path.specs.Parts.{is_slash, slash, cur_dir, counts, is_rooted, values}
 use Rattle.path_runs.specs.Spelling.{spelling_of}
 use Rattle.path_runs.proofs.LeanLemmas.{join_with_byte-pieces}
-use Rattle.path_runs.proofs.PieceValueLemmas.{is_rooted-slash}
+use Rattle.path_runs.proofs.PieceValueLemmas.{AllCount, is_rooted-slash}
 use Rattle.path_runs.proofs.SpellLemmas.{lean_pieces, spelling_of-rooted, spelling_of-rootless}
 
 -- a piece has no byte exactly if it is the empty one
@@ -24,15 +24,17 @@ pub slice_range-behind_first : (s t : List ℕ) → s ≡ t → slice_range s 1 
 slice_range-behind_first s t e =
     ap (λ n. take n (drop 1 s)) (sym (length-drop 1 s)) ∙ take-length (drop 1 s) ∙ ap (drop 1) e
 
--- all these pieces count
-abbrev AllCount : List (List ℕ) → Type 0
-AllCount ps = list_all counts ps ≡ true
+-- where the test of all pieces answers true, all count
+AllCount-list_all : (ps : List (List ℕ)) → list_all counts ps ≡ true → AllCount ps
+AllCount-list_all [] h = tt
+AllCount-list_all (p ∷ ps) h = (
+  first_so (counts p) (list_all counts ps) h,
+  AllCount-list_all ps (second_so (counts p) (list_all counts ps) h),
+)
 
 filter-all : (ps : List (List ℕ)) → AllCount ps → filter counts ps ≡ ps
 filter-all [] h = refl
-filter-all (p ∷ ps) h =
-    rw (first_so (counts p) (list_all counts ps) h)
-    (ap (λ qs. p ∷ qs) (filter-all ps (second_so (counts p) (list_all counts ps) h)))
+filter-all (p ∷ ps) h = rw h.0 (ap (λ qs. p ∷ qs) (filter-all ps h.1))
 
 lean_pieces-all : (ps : List (List ℕ)) → AllCount ps → lean_pieces ps ≡ ps
 lean_pieces-all [] h = refl
@@ -41,25 +43,27 @@ lean_pieces-all (p ∷ ps) h = by (bytes_eq p cur_dir) refl
     by : (c : Bool) → bytes_eq p cur_dir ≡ c
         → cond (bytes_eq p cur_dir) (cur_dir ∷ filter counts ps) (filter counts (p ∷ ps)) ≡ p ∷ ps
     by true d = rw d (ap (λ q. q ∷ filter counts ps) (sym ((bytes_eq-Decides p cur_dir).0 d))
-        ∙ ap (λ qs. p ∷ qs) (filter-all ps (second_so (counts p) (list_all counts ps) h)))
+        ∙ ap (λ qs. p ∷ qs) (filter-all ps h.1))
     by false d = subst (λ c. cond c (cur_dir ∷ filter counts ps) (filter counts (p ∷ ps)) ≡ p ∷ ps)
         (sym d) (filter-all (p ∷ ps) h)
 
 -- a rooted path is its own spelling where all pieces of t, which follows the root, count
-pub spelling_of-own_rooted : (s t : List ℕ) → AllCount (slice_split is_slash t)
+pub spelling_of-own_rooted : (s t : List ℕ) → list_all counts (slice_split is_slash t) ≡ true
     → is_rooted s ≡ true → t ≡ drop 1 s → spelling_of (values s) ≡ s
 spelling_of-own_rooted s t h r e =
+    let ps = slice_split is_slash t in
     let u = is_rooted-slash s r in
     let same : t ≡ u.0 = e ∙ ap (drop 1) u.1 in
     ap (λ s. spelling_of (values s)) u.1 ∙ spelling_of-rooted u.0
     ∙ ap (λ t. slash ∷ join_with_byte slash (filter counts (slice_split is_slash t))) (sym same)
-    ∙ ap (λ ps. slash ∷ join_with_byte slash ps) (filter-all (slice_split is_slash t) h)
+    ∙ ap (λ ps. slash ∷ join_with_byte slash ps) (filter-all ps (AllCount-list_all ps h))
     ∙ ap (λ u. slash ∷ u) (join_with_byte-pieces t ∙ same) ∙ sym u.1
 
 -- a rootless path is its own spelling where all its pieces count
-pub spelling_of-own_rootless : (s t : List ℕ) → AllCount (slice_split is_slash t)
+pub spelling_of-own_rootless : (s t : List ℕ) → list_all counts (slice_split is_slash t) ≡ true
     → is_rooted s ≡ false → t ≡ s → spelling_of (values s) ≡ s
 spelling_of-own_rootless s t h r e =
     let ps = slice_split is_slash t in
     spelling_of-rootless s ps r (ap (slice_split is_slash) (sym e))
-    ∙ ap (join_with_byte slash) (lean_pieces-all ps h) ∙ join_with_byte-pieces t ∙ e
+    ∙ ap (join_with_byte slash) (lean_pieces-all ps (AllCount-list_all ps h))
+    ∙ join_with_byte-pieces t ∙ e

@@ -1,6 +1,6 @@
 -- A string without a slash that is the name of its one part.
 use Rattle.std.proofs.Common.{◌≡◌, ℕ, suc, ◌<◌, false, eqb, List, [], ◌∷◌, ◌++◌, length}
-use Rattle.std.proofs.Common.{get_or, take, drop, map, refl, ap, ap₂, ◌∙◌, arith, take_all}
+use Rattle.std.proofs.Common.{take, drop, map, refl, ap, ap₂, ◌∙◌, arith, take_all}
 use Rattle.std.proofs.Common.{eqb-true}
 use Rattle.std.specs.List.{position_or_len}
 use Rattle.std.specs.Str.{bytes_eq}
@@ -9,6 +9,7 @@ use Rattle.std.proofs.lemmas.Slice.Eq.{bytes_eq-Decides}
 use Rattle.unix_path.specs.Parts.{is_slash, cur_dir, parent_dir, Part, Normal, inner_parts, values}
 use Rattle.unix_path.specs.Steps.{first_value}
 use Rattle.unix_path.proofs.CaseLemmas.{by_test}
+use Rattle.unix_path.proofs.LastLemmas.{no_slash_head}
 use Rattle.unix_path.proofs.PartLemmas.{parts-name}
 use Rattle.unix_path.proofs.PieceLemmas.{inner_parts-nil, position_or_len-other}
 use Rattle.unix_path.proofs.PieceLemmas.{position_or_len-slash}
@@ -62,11 +63,6 @@ long-name s l h = record {
     differs t m = by_test (bytes_eq s t)
         (λ e. absurd (omega (arith, ap length ((bytes_eq-Decides s t).0 e)))) (λ e. e)
 
--- the first byte of a piece of a byte or more is no slash
-first_other : (s : List ℕ) → 0 < length s → IsPiece s → eqb (get_or s 0 0) 47 ≡ false
-first_other [] l h = absurd (omega arith)
-first_other (b ∷ s) l h = piece_head b s h
-
 -- a name is a path of that name alone
 pub values-name : (s : List ℕ) → IsName s → values s ≡ Normal s ∷ []
 unfolding values
@@ -75,7 +71,7 @@ values-name s h =
     let whole : take n s ≡ s = take_all n s (omega (arith, h.no_slash)) in
     let none : drop n s ≡ [] = drop_all n s (omega (arith, h.no_slash)) in
     let named : first_value s ≡ Normal s = rw (h.no_dot, h.no_dots) refl in
-    ap (map (λ (p : Part). p.value)) (parts-name s h.some (first_other s h.some h.no_slash)
+    ap (map (λ (p : Part). p.value)) (parts-name s h.some (no_slash_head s h.no_slash h.some)
     ∙ ap₂ (λ p r. record { start = 0; end = n; value = first_value p } ∷ inner_parts n r) whole none
     ∙ ap (λ ps. record { start = 0; end = n; value = first_value s } ∷ ps) (inner_parts-nil n))
     ∙ ap (λ v. v ∷ []) named

@@ -15,6 +15,10 @@ use Rattle.unix_path.specs.CommonDir.{inner_values}
 abbrev pub names_of : List (List ℕ) → List Value
 names_of ps = map value_of_piece (filter counts ps)
 
+-- all these pieces count
+abbrev pub AllCount : List (List ℕ) → Type 0
+AllCount ps = AllByRecursion (λ p. counts p ≡ true) ps
+
 -- the parts of the pieces have the values of the pieces that count
 names_of-parts : (at : ℕ) (ps : List (List ℕ))
     → map (λ (p : Part). p.value) (parts_of_pieces at ps) ≡ names_of ps
@@ -39,7 +43,7 @@ values-pieces s = values-lead s
 pub values-rooted : (t : List ℕ) → values (slash ∷ t) ≡ RootDir ∷ names_of (slice_split is_slash t)
 values-rooted t = values-pieces (slash ∷ t)
 
--- a rootless path's values are a first `.`, and then those of its pieces that count
+-- a rootless path's values are a first `.`, if it has one, and then those of its pieces that count
 pub values-rootless : (s : List ℕ) (ps : List (List ℕ)) → is_rooted s ≡ false
     → slice_split is_slash s ≡ ps
     → values s ≡ cond (dot_first ps) (CurDir ∷ []) [] ++ names_of ps

@@ -11,25 +11,21 @@ use Rattle.unix_path.specs.Parts.{is_rooted, counts, values}
 use Rattle.unix_path.proofs.CaseLemmas.{by_test}
 use Rattle.path_runs.specs.Spelling.{spelling_of}
 use Rattle.path_runs.proofs.LeadLemmas.{dot_first}
-use Rattle.path_runs.proofs.PieceValueLemmas.{names_of, values-rooted, values-rootless}
+use Rattle.path_runs.proofs.PieceValueLemmas.{AllCount, names_of, values-rooted, values-rootless}
 use Rattle.path_runs.proofs.PieceValueLemmas.{is_rooted-slash, NoSlash, slice_split-no_slash}
 use Rattle.path_runs.proofs.SpellLemmas.{lean_pieces, spelling_of-rooted, spelling_of-rootless}
 
--- all these pieces count
-abbrev AllCount : List (List ℕ) → Type 0
-AllCount ps = AllByRecursion (λ p. counts p ≡ true) ps
-
--- a row of pieces without a slash is cut into these pieces
-slice_split-row : (p : List ℕ) (ps : List (List ℕ)) → AllByRecursion NoSlash (p ∷ ps)
+-- joined pieces without a slash are cut into these pieces again
+slice_split-join_with_byte : (p : List ℕ) (ps : List (List ℕ)) → AllByRecursion NoSlash (p ∷ ps)
     → slice_split is_slash (join_with_byte slash (p ∷ ps)) ≡ p ∷ ps
-slice_split-row p [] h =
+slice_split-join_with_byte p [] h =
     slice_split_none is_slash p (All-from_recursion (λ b. is_slash b ≡ false) p h.0)
-slice_split-row p (q ∷ ps) h =
+slice_split-join_with_byte p (q ∷ ps) h =
     slice_split_at is_slash p slash (join_with_byte slash (q ∷ ps))
     (All-from_recursion (λ b. is_slash b ≡ false) p h.0) refl
-    ∙ ap (λ qs. p ∷ qs) (slice_split-row q ps h.1)
+    ∙ ap (λ qs. p ∷ qs) (slice_split-join_with_byte q ps h.1)
 
--- the pieces that count of pieces without a slash have none
+-- of pieces without a slash, those that count have no slash either
 filter-no_slash : (ps : List (List ℕ)) → AllByRecursion NoSlash ps
     → AllByRecursion NoSlash (filter counts ps)
 filter-no_slash [] h = tt
@@ -46,18 +42,19 @@ names_of-counts : (ps : List (List ℕ)) → AllCount ps → names_of ps ≡ map
 names_of-counts [] h = refl
 names_of-counts (p ∷ ps) h = rw h.0 (ap (λ vs. value_of_piece p ∷ vs) (names_of-counts ps h.1))
 
--- the pieces of a row of pieces that count have the values of these
-names_of-row : (ps : List (List ℕ)) → AllByRecursion NoSlash ps → AllCount ps
+-- joined pieces that count are cut into pieces that have their values
+names_of-join_with_byte : (ps : List (List ℕ)) → AllByRecursion NoSlash ps → AllCount ps
     → names_of (slice_split is_slash (join_with_byte slash ps)) ≡ map value_of_piece ps
-names_of-row [] h k = refl
-names_of-row (p ∷ ps) h k = ap names_of (slice_split-row p ps h) ∙ names_of-counts (p ∷ ps) k
+names_of-join_with_byte [] h k = refl
+names_of-join_with_byte (p ∷ ps) h k =
+    ap names_of (slice_split-join_with_byte p ps h) ∙ names_of-counts (p ∷ ps) k
 
--- a row that begins with a name has no root
-row_rootless : (p : List ℕ) (ps : List (List ℕ)) → NoSlash p → counts p ≡ true
+-- joined pieces of which the first counts have no root
+is_rooted-join_with_byte : (p : List ℕ) (ps : List (List ℕ)) → NoSlash p → counts p ≡ true
     → is_rooted (join_with_byte slash (p ∷ ps)) ≡ false
-row_rootless [] ps h e = absurd (let d : false ≡ true = e in cc)
-row_rootless (x ∷ p) [] h e = h.0
-row_rootless (x ∷ p) (q ∷ ps) h e = h.0
+is_rooted-join_with_byte [] ps h e = absurd (let d : false ≡ true = e in cc)
+is_rooted-join_with_byte (x ∷ p) [] h e = h.0
+is_rooted-join_with_byte (x ∷ p) (q ∷ ps) h e = h.0
 
 counts-no_dot : (p : List ℕ) → counts p ≡ true → bytes_eq p cur_dir ≡ false
 counts-no_dot p e = by (bytes_eq p []) (bytes_eq p cur_dir) refl refl e
@@ -76,16 +73,16 @@ values-spelling_rooted t =
     let kept = filter counts ps in
     ap values (spelling_of-rooted t) ∙ values-rooted (join_with_byte slash kept)
     ∙ ap (λ vs. RootDir ∷ vs)
-    (names_of-row kept (filter-no_slash ps (slice_split-no_slash t)) (filter-counts ps))
+    (names_of-join_with_byte kept (filter-no_slash ps (slice_split-no_slash t)) (filter-counts ps))
     ∙ sym (values-rooted t)
 
--- a row of pieces that count has the values of these
-values-row : (ps : List (List ℕ)) → AllByRecursion NoSlash ps → AllCount ps
+-- joined pieces that count have their values
+values-join_with_byte : (ps : List (List ℕ)) → AllByRecursion NoSlash ps → AllCount ps
     → values (join_with_byte slash ps) ≡ map value_of_piece ps
-values-row [] h k = values-rootless [] ([] ∷ []) refl refl
-values-row (p ∷ ps) h k =
-    values-rootless (join_with_byte slash (p ∷ ps)) (p ∷ ps) (row_rootless p ps h.0 k.0)
-    (slice_split-row p ps h)
+values-join_with_byte [] h k = values-rootless [] ([] ∷ []) refl refl
+values-join_with_byte (p ∷ ps) h k =
+    values-rootless (join_with_byte slash (p ∷ ps)) (p ∷ ps) (is_rooted-join_with_byte p ps h.0 k.0)
+    (slice_split-join_with_byte p ps h)
     ∙ ap (λ c. cond c (CurDir ∷ []) [] ++ names_of (p ∷ ps)) (counts-no_dot p k.0)
     ∙ names_of-counts (p ∷ ps) k
 
@@ -93,12 +90,13 @@ dot_rootless : (ps : List (List ℕ)) → is_rooted (join_with_byte slash (cur_d
 dot_rootless [] = refl
 dot_rootless (p ∷ ps) = refl
 
--- behind a first `.`, a row of pieces that count has that `.` and the values of these
-values-dot_row : (ps : List (List ℕ)) → AllByRecursion NoSlash ps → AllCount ps
+-- a first `.`, joined with pieces that count, has that `.` and their values
+values-join_with_byte_dot : (ps : List (List ℕ)) → AllByRecursion NoSlash ps → AllCount ps
     → values (join_with_byte slash (cur_dir ∷ ps)) ≡ CurDir ∷ map value_of_piece ps
-values-dot_row ps h k =
+values-join_with_byte_dot ps h k =
     values-rootless (join_with_byte slash (cur_dir ∷ ps)) (cur_dir ∷ ps) (dot_rootless ps)
-    (slice_split-row cur_dir ps ((refl, (tt)), h)) ∙ ap (λ vs. CurDir ∷ vs) (names_of-counts ps k)
+    (slice_split-join_with_byte cur_dir ps ((refl, (tt)), h))
+    ∙ ap (λ vs. CurDir ∷ vs) (names_of-counts ps k)
 
 -- what the spelling keeps of a rootless path's pieces has the path's values
 values-lean_pieces : (ps : List (List ℕ)) → AllByRecursion NoSlash ps
@@ -111,11 +109,12 @@ values-lean_pieces (p ∷ qs) h = by (bytes_eq p cur_dir) refl
         → values (join_with_byte slash (lean_pieces (p ∷ qs))) ≡ cond (bytes_eq p cur_dir)
         (CurDir ∷ []) [] ++ names_of (p ∷ qs)
     by true d = rw ((bytes_eq-Decides p cur_dir).0 d)
-        (values-dot_row (filter counts qs) (filter-no_slash qs h.1) (filter-counts qs))
+        (values-join_with_byte_dot (filter counts qs) (filter-no_slash qs h.1) (filter-counts qs))
     by false d = subst (λ c. values
         (join_with_byte slash (cond c (cur_dir ∷ filter counts qs) (filter counts (p ∷ qs))))
         ≡ cond c (CurDir ∷ []) [] ++ names_of (p ∷ qs)) (sym d)
-        (values-row (filter counts (p ∷ qs)) (filter-no_slash (p ∷ qs) h) (filter-counts (p ∷ qs)))
+        (values-join_with_byte (filter counts (p ∷ qs)) (filter-no_slash (p ∷ qs) h)
+        (filter-counts (p ∷ qs)))
 
 -- the spelling of a path's values has these values
 pub values-spelling_of : (s : List ℕ) → values (spelling_of (values s)) ≡ values s

@@ -1,4 +1,4 @@
--- The spelling of a path's values is the row of the pieces that count, and of a first `.`.
+-- A path is spelled as its pieces that count and a first `.`, with slashes between.
 use Rattle.std.proofs.Common.{◌≡◌, ℕ, Bool, true, false, cond, List, [], ◌∷◌, ◌++◌, map, filter}
 use Rattle.std.proofs.Common.{refl, sym, ap, ap₂, subst, ◌∙◌}
 use Rattle.std.specs.List.{slice_split, join_with_byte}
@@ -9,7 +9,7 @@ use Rattle.unix_path.specs.Parts.{value_of_piece, value_bytes, is_rooted}
 use Rattle.unix_path.specs.Parts.{counts, values}
 use Rattle.unix_path.proofs.RootLemmas.{no_root_piece}
 use Rattle.unix_path.proofs.StemLemmas.{value_bytes-piece}
-use Rattle.path_runs.specs.Spelling.{row_of, spelling_of}
+use Rattle.path_runs.specs.Spelling.{slashed_bytes, spelling_of}
 use Rattle.path_runs.proofs.PieceValueLemmas.{names_of, values-rooted, values-rootless}
 
 -- the values of pieces have the bytes of these pieces
@@ -17,21 +17,21 @@ bytes_of_pieces : (ps : List (List ℕ)) → map value_bytes (map value_of_piece
 bytes_of_pieces [] = refl
 bytes_of_pieces (p ∷ ps) = ap₂ (λ q qs. q ∷ qs) (value_bytes-piece p) (bytes_of_pieces ps)
 
-row_of-names : (ps : List (List ℕ))
-    → row_of (names_of ps) ≡ join_with_byte slash (filter counts ps)
-row_of-names ps = ap (join_with_byte slash) (bytes_of_pieces (filter counts ps))
+slashed_bytes-names : (ps : List (List ℕ))
+    → slashed_bytes (names_of ps) ≡ join_with_byte slash (filter counts ps)
+slashed_bytes-names ps = ap (join_with_byte slash) (bytes_of_pieces (filter counts ps))
 
-pub spelling_of-root : (vs : List Value) → spelling_of (RootDir ∷ vs) ≡ slash ∷ row_of vs
+pub spelling_of-root : (vs : List Value) → spelling_of (RootDir ∷ vs) ≡ slash ∷ slashed_bytes vs
 unfolding spelling_of
 spelling_of-root vs = refl
 
-spelling_of-dot : (vs : List Value) → spelling_of (CurDir ∷ vs) ≡ row_of (CurDir ∷ vs)
+spelling_of-dot : (vs : List Value) → spelling_of (CurDir ∷ vs) ≡ slashed_bytes (CurDir ∷ vs)
 unfolding spelling_of
 spelling_of-dot vs = refl
 
--- values of which the first isn't the root are spelled as a row
+-- values of which the first isn't the root are spelled with slashes between
 spelling_of-cons : (v : Value) (vs : List Value) → (v ≡ RootDir → ⊥)
-    → spelling_of (v ∷ vs) ≡ row_of (v ∷ vs)
+    → spelling_of (v ∷ vs) ≡ slashed_bytes (v ∷ vs)
 unfolding spelling_of
 spelling_of-cons RootDir vs h = absurd (h refl)
 spelling_of-cons v vs h = refl
@@ -40,21 +40,21 @@ spelling_of-nil : spelling_of [] ≡ []
 unfolding spelling_of
 spelling_of-nil = refl
 
--- where no root stands first, a spelling is a row
+-- the values of pieces are spelled with slashes between
 spelling_of-pieces : (ps : List (List ℕ))
-    → spelling_of (map value_of_piece ps) ≡ row_of (map value_of_piece ps)
+    → spelling_of (map value_of_piece ps) ≡ slashed_bytes (map value_of_piece ps)
 spelling_of-pieces [] = spelling_of-nil
 spelling_of-pieces (p ∷ ps) =
     spelling_of-cons (value_of_piece p) (map value_of_piece ps) (no_root_piece p)
 
--- a rooted path is spelled as a slash and the row of the pieces behind it that count
+-- a rooted path is spelled as a slash, and then its pieces that count with slashes between
 pub spelling_of-rooted : (t : List ℕ)
     → spelling_of (values (slash ∷ t)) ≡ slash ∷ join_with_byte slash
     (filter counts (slice_split is_slash t))
 spelling_of-rooted t =
     let ps = slice_split is_slash t in
     ap spelling_of (values-rooted t) ∙ spelling_of-root (names_of ps)
-    ∙ ap (λ r. slash ∷ r) (row_of-names ps)
+    ∙ ap (λ r. slash ∷ r) (slashed_bytes-names ps)
 
 -- what the spelling of a rootless path keeps of its pieces: a first `.`, and those that count
 abbrev pub lean_pieces : List (List ℕ) → List (List ℕ)
@@ -62,7 +62,7 @@ lean_pieces [] = []
 lean_pieces (p ∷ ps) = cond (bytes_eq p cur_dir) (cur_dir ∷ filter counts ps)
     (filter counts (p ∷ ps))
 
--- a rootless path is spelled as the row of what is kept of its pieces
+-- a rootless path is spelled as what is kept of its pieces, with slashes between
 pub spelling_of-rootless : (s : List ℕ) (ps : List (List ℕ)) → is_rooted s ≡ false
     → slice_split is_slash s ≡ ps → spelling_of (values s) ≡ join_with_byte slash (lean_pieces ps)
 spelling_of-rootless s [] r e = ap spelling_of (values-rootless s [] r e) ∙ spelling_of-nil
@@ -78,4 +78,4 @@ spelling_of-rootless s (p ∷ ps) r e = ap spelling_of (values-rootless s (p ∷
     by false d = subst (λ c. spelling_of
         (cond c (CurDir ∷ []) [] ++ names_of (p ∷ ps)) ≡ join_with_byte slash
         (cond c (cur_dir ∷ filter counts ps) (filter counts (p ∷ ps)))) (sym d)
-        (spelling_of-pieces (filter counts (p ∷ ps)) ∙ row_of-names (p ∷ ps))
+        (spelling_of-pieces (filter counts (p ∷ ps)) ∙ slashed_bytes-names (p ∷ ps))

@@ -1,7 +1,6 @@
 -- What was stripped of its base, joined to that base.
 use Rattle.std.proofs.Common.{◌≡◌, ℕ, ◌+◌, ◌-◌, false, List, [], ◌∷◌, ◌++◌, length, take, refl}
 use Rattle.std.proofs.Common.{sym, ap, ap₂, ◌∙◌, arith, take_all, length-append}
-use Rattle.std.specs.List.{AllByRecursion}
 use Rattle.std.proofs.lemmas.List.{drop_at}
 use Rattle.unix_path.specs.Parts.{Value, is_rooted, values}
 use Rattle.unix_path.specs.Joins.{join_of}
@@ -10,6 +9,7 @@ use Rattle.unix_path.proofs.MiddleLemmas.{middle}
 use Rattle.unix_path.proofs.PartLemmas.{root_first, root_first-values, values-nil}
 use Rattle.unix_path.proofs.RestLemmas.{values-rest}
 use Rattle.path_runs.specs.JoinLaws.{drop_lead}
+use Rattle.path_runs.proofs.AllLemmas.{AllByRecursion-end}
 use Rattle.path_runs.proofs.AssociativeLemmas.{join_of-nil}
 use Rattle.path_runs.proofs.LeadLemmas.{IsInner, inner-no_lead, inner-behind}
 use Rattle.path_runs.proofs.LeadLemmas.{drop_lead-values}
@@ -30,17 +30,13 @@ values-stripped_of s base more e =
     values-rest s (length (values base)) 0 ∙ ap (middle (length (values base)) 0) (sym e)
     ∙ middle-append (values base) more
 
--- the last of inner values are inner values
-inner-end : (vs ws : List Value) → AllByRecursion IsInner (vs ++ ws) → AllByRecursion IsInner ws
-inner-end [] ws h = h
-inner-end (v ∷ vs) ws h = inner-end vs ws h.1
-
 -- bytes with the values behind those of base, joined to base, have the values of the path
 join_behind : (s base r : List ℕ) (v : Value) (vs more : List Value)
     → values base ≡ v ∷ vs → values r ≡ more → v ∷ vs ++ more ≡ values s
     → values (join_of base r) ≡ values s
 join_behind s base r v vs more is left all =
-    let inner = inner-no_lead more (inner-end vs more (inner-behind s v (vs ++ more) (sym all))) in
+    let inner = inner-no_lead more
+    (AllByRecursion-end IsInner vs more (inner-behind s v (vs ++ more) (sym all))) in
     let rootless : is_rooted r ≡ false =
     sym (root_first-values r) ∙ ap root_first left ∙ inner.no_root in
     let bodies : inner_values r ≡ more =

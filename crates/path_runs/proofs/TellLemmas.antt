@@ -10,7 +10,7 @@ use Rattle.unix_path.specs.Hashed.{hash_input_of}
 use Rattle.unix_path.specs.Parts.{is_slash, slash, cur_dir, Value, RootDir, CurDir}
 use Rattle.unix_path.specs.Parts.{value_of_piece, value_bytes, values}
 use Rattle.unix_path.specs.Prefixes.{Begins}
-use Rattle.path_runs.proofs.FeedLemmas.{zeros_and, zeros_and-cancel, concat-hash_input_of}
+use Rattle.path_runs.proofs.FeedLemmas.{with_zeros, with_zeros-cancel, concat-hash_input_of}
 use Rattle.path_runs.proofs.PieceValueLemmas.{HoldsOfPieces, NoSlash, values-hold}
 use Rattle.unix_path.proofs.StemLemmas.{value_bytes-piece}
 
@@ -80,13 +80,13 @@ same_value v w x y m n e =
 
 -- two values that begin the same fed bytes are the same, and so is what follows
 same_first : (v w : Value) (x y : List ℕ) → IsTold v → IsTold w
-    → value_bytes v ++ slash ∷ zeros_and v x ≡ value_bytes w ++ slash ∷ zeros_and w y
+    → value_bytes v ++ slash ∷ with_zeros v x ≡ value_bytes w ++ slash ∷ with_zeros w y
     → (v ≡ w) × (x ≡ y)
 same_first v w x y m n e =
-    let same = same_value v w (zeros_and v x) (zeros_and w y) m n e in
-    let whole = e ∙ ap (λ u. value_bytes u ++ slash ∷ zeros_and u y) (sym same) in
+    let same = same_value v w (with_zeros v x) (with_zeros w y) m n e in
+    let whole = e ∙ ap (λ u. value_bytes u ++ slash ∷ with_zeros u y) (sym same) in
     let after = append_cancel_left (value_bytes v) _ _ whole in
-    (same, zeros_and-cancel v x y (append_cancel_left (slash ∷ []) _ _ after))
+    (same, with_zeros-cancel v x y (append_cancel_left (slash ∷ []) _ _ after))
 
 -- where what some values feed begins what others feed, they begin the others
 begins-told : (vs ws : List Value) → AllByRecursion IsTold vs → AllByRecursion IsTold ws
@@ -95,7 +95,7 @@ begins-told : (vs ws : List Value) → AllByRecursion IsTold vs → AllByRecursi
 begins-told [] ws m n x e = (ws, refl)
 begins-told (v ∷ vs) [] m n x e =
     let b = value_bytes v in
-    let others = slash ∷ zeros_and v (concat (hash_input_of vs) ++ x) in
+    let others = slash ∷ with_zeros v (concat (hash_input_of vs) ++ x) in
     let none : b ++ others ≡ [] = sym (concat-hash_input_of v vs x) ∙ e in
     absurd (omega (arith, ap length none, length-append b others))
 begins-told (v ∷ vs) (w ∷ ws) m n x e =

@@ -4,11 +4,11 @@ use Rattle.std.specs.List.{join_with_byte}
 use Rattle.unix_path.specs.Parts.{Value, RootDir, slash, value_bytes}
 
 -- the values' bytes, with one slash between neighbours
-abbrev pub row_of : List Value → List ℕ
-row_of vs = join_with_byte slash (map value_bytes vs)
+abbrev pub slashed_bytes : List Value → List ℕ
+slashed_bytes vs = join_with_byte slash (map value_bytes vs)
 
--- a first root as a slash, and then the row of the other values
+-- a first root as a slash, and then the other values' bytes with slashes between
 unfoldable pub spelling_of : List Value → List ℕ
 spelling_of [] = []
-spelling_of (RootDir ∷ vs) = slash ∷ row_of vs
-spelling_of (v ∷ vs) = row_of (v ∷ vs)
+spelling_of (RootDir ∷ vs) = slash ∷ slashed_bytes vs
+spelling_of (v ∷ vs) = slashed_bytes (v ∷ vs)

@@ -5,10 +5,9 @@ mod joins;
 mod order;
 mod parts;
 mod queries;
+mod runs;
 mod spelling;
 mod tables;
-mod text;
-mod walks;
 
 pub use edits::{edits_congruent, extension_set, push_then_pop};
 pub use hashes::hash_inputs_tell;
@@ -18,7 +17,7 @@ pub use order::{
 };
 pub use parts::{no_part_no_byte, parts_fit, rest_reads_again};
 pub use queries::{ancestors_step, name_rejoined, parent_before, queries_congruent};
+pub use runs::walks_in_order;
 pub use spelling::canonical_form;
 pub use tables::{insert_by_values, lookup_by_values, remove_by_values};
-pub use text::lossy_of_text;
-pub use walks::walks_in_order;
+pub use unix_bytes::laws::lossy_of_text;

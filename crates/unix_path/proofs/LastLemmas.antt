@@ -98,7 +98,7 @@ last_counts s start h some l ends =
     )
 
 -- a string without a slash doesn't begin with one
-no_slash_head : (s : List ℕ) → position_or_len is_slash s ≡ length s → 0 < length s
+pub no_slash_head : (s : List ℕ) → position_or_len is_slash s ≡ length s → 0 < length s
     → eqb (get_or s 0 0) 47 ≡ false
 no_slash_head [] e l = absurd (omega arith)
 no_slash_head (b ∷ s) e l =

@@ -3,7 +3,7 @@ use Rattle.std.proofs.Common.{◌≡◌, ◌≤◌, ℕ, ◌+◌, List, [], ◌�
 use Rattle.std.proofs.Common.{⊎_elim, append_assoc, append-nil, arith}
 use Rattle.std.specs.List.{AllByRecursion}
 use Rattle.unix_path.specs.Parts.{slash, Value, RootDir, value_bytes, values}
-use Rattle.path_runs.specs.Spelling.{row_of, spelling_of}
+use Rattle.path_runs.specs.Spelling.{slashed_bytes, spelling_of}
 use Rattle.path_runs.proofs.LeanLemmas.{spelling_of-shortest}
 use Rattle.path_runs.proofs.PlainLemmas.{IsPlainValue, Shape, Rooted, Rootless, values-shape}
 use Rattle.path_runs.proofs.SpellLemmas.{spelling_of-root}
@@ -14,22 +14,24 @@ gap_after-plain : (v : Value) → (v ≡ RootDir → ⊥) → gap_after v ≡ sl
 gap_after-plain RootDir h = absurd (h refl)
 gap_after-plain v h = refl
 
--- plain values spelled behind a gap are that gap, and then their row
+-- plain values spelled behind a gap are that gap, and then their bytes with slashes between
 spelling_behind-plain : (gap : List ℕ) (v : Value) (vs : List Value)
-    → AllByRecursion IsPlainValue (v ∷ vs) → spelling_behind gap (v ∷ vs) ≡ gap ++ row_of (v ∷ vs)
+    → AllByRecursion IsPlainValue (v ∷ vs)
+    → spelling_behind gap (v ∷ vs) ≡ gap ++ slashed_bytes (v ∷ vs)
 spelling_behind-plain gap v [] h = append-nil (gap ++ value_bytes v)
 spelling_behind-plain gap v (w ∷ ws) h =
     ap (λ next. (gap ++ value_bytes v) ++ spelling_behind next (w ∷ ws))
     (gap_after-plain v h.0.no_root)
     ∙ ap (λ s. (gap ++ value_bytes v) ++ s) (spelling_behind-plain (slash ∷ []) w ws h.1)
-    ∙ append_assoc gap (value_bytes v) (slash ∷ row_of (w ∷ ws))
+    ∙ append_assoc gap (value_bytes v) (slash ∷ slashed_bytes (w ∷ ws))
 
-spelling_behind-row : (vs : List Value) → AllByRecursion IsPlainValue vs
-    → spelling_behind [] vs ≡ row_of vs
-spelling_behind-row [] h = refl
-spelling_behind-row (v ∷ vs) h = spelling_behind-plain [] v vs h
+spelling_behind-nothing : (vs : List Value) → AllByRecursion IsPlainValue vs
+    → spelling_behind [] vs ≡ slashed_bytes vs
+spelling_behind-nothing [] h = refl
+spelling_behind-nothing (v ∷ vs) h = spelling_behind-plain [] v vs h
 
-spelling_of-plain : (vs : List Value) → AllByRecursion IsPlainValue vs → spelling_of vs ≡ row_of vs
+spelling_of-plain : (vs : List Value) → AllByRecursion IsPlainValue vs
+    → spelling_of vs ≡ slashed_bytes vs
 unfolding spelling_of
 spelling_of-plain [] h = refl
 spelling_of-plain (RootDir ∷ vs) h = absurd (h.0.no_root refl)
@@ -41,9 +43,9 @@ spelling_behind-values s = by (values-shape s)
   where
     by : Shape (values s) → spelling_behind [] (values s) ≡ spelling_of (values s)
     by (Rooted ws e h) = ap (spelling_behind []) e
-        ∙ ap (λ row. slash ∷ row) (spelling_behind-row ws h)
+        ∙ ap (λ bytes. slash ∷ bytes) (spelling_behind-nothing ws h)
         ∙ sym (ap spelling_of e ∙ spelling_of-root ws)
-    by (Rootless h) = spelling_behind-row (values s) h ∙ sym (spelling_of-plain (values s) h)
+    by (Rootless h) = spelling_behind-nothing (values s) h ∙ sym (spelling_of-plain (values s) h)
 
 -- a spelling is never longer than the path
 pub length-spelling_of : (s : List ℕ) → length (spelling_of (values s)) ≤ length s

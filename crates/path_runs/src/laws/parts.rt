@@ -24,7 +24,7 @@ pub fn no_part_no_byte()
 pub fn parts_fit()
     ensures count { (s : List ℕ) → length (values s) ≤ length s }
     ensures bytes { (s : List ℕ) → sum_by (λ v. length (value_bytes v)) (values s) ≤ length s }
-    ensures names { (s : List ℕ) → sum_by length (map value_bytes (values s)) ≤ length s }
+    ensures items { (s : List ℕ) → sum_by length (map value_bytes (values s)) ≤ length s }
 {}
 
 /// The rest of a path after some parts in front and some behind has the values that are left.

@@ -1,5 +1,5 @@
 use Rattle.unix_path.proofs.RestLemmas.{length-values}
-use Rattle.path_runs.proofs.FitLemmas.{byte_count-values, sum_by-names}
+use Rattle.path_runs.proofs.FitLemmas.{byte_count-values, sum_by-items}
 use Rattle.path_runs.proofs.laws.parts.parts_fit.Goals as goal
 
 pub returns-clause-count : goal.returns-clause-count
@@ -8,5 +8,5 @@ returns-clause-count c = length-values
 pub returns-clause-bytes : goal.returns-clause-bytes
 returns-clause-bytes c = byte_count-values
 
-pub returns-clause-names : goal.returns-clause-names
-returns-clause-names c = sum_by-names
+pub returns-clause-items : goal.returns-clause-items
+returns-clause-items c = sum_by-items

@@ -1,6 +1,6 @@
 use Rattle.unix_path.proofs.WalkLemmas.{parts_in_order, parts_in_reverse, names_in_order}
 use Rattle.unix_path.proofs.WalkLemmas.{names_in_reverse, ancestors_in_order}
-use Rattle.path_runs.proofs.laws.walks.walks_in_order.Goals as goal
+use Rattle.path_runs.proofs.laws.runs.walks_in_order.Goals as goal
 
 pub returns-clause-parts : goal.returns-clause-parts
 returns-clause-parts c = parts_in_order
@@ -8,11 +8,11 @@ returns-clause-parts c = parts_in_order
 pub returns-clause-parts_back : goal.returns-clause-parts_back
 returns-clause-parts_back c = parts_in_reverse
 
-pub returns-clause-names : goal.returns-clause-names
-returns-clause-names c = names_in_order
+pub returns-clause-items : goal.returns-clause-items
+returns-clause-items c = names_in_order
 
-pub returns-clause-names_back : goal.returns-clause-names_back
-returns-clause-names_back c = names_in_reverse
+pub returns-clause-items_back : goal.returns-clause-items_back
+returns-clause-items_back c = names_in_reverse
 
 pub returns-clause-ancestors : goal.returns-clause-ancestors
 returns-clause-ancestors c = ancestors_in_order

@@ -19,10 +19,10 @@ pub fn walks_in_order()
         (λ run. ItemsMapTo run value_of (cursor_values run.from)) }
     ensures parts_back { EveryRun (GivesLast value_of cursor_values cursor_rest cursor_source)
         (λ run. ItemsMapToReversed run value_of (cursor_values run.from)) }
-    ensures names { EveryRun {A = UnixStr}
+    ensures items { EveryRun {A = UnixStr}
         (GivesFirst (λ name. name.bytes.now) iter_bytes iter_rest iter_source)
         (λ run. ItemsMapTo run (λ name. name.bytes.now) (iter_bytes run.from)) }
-    ensures names_back { EveryRun {A = UnixStr}
+    ensures items_back { EveryRun {A = UnixStr}
         (GivesLast (λ name. name.bytes.now) iter_bytes iter_rest iter_source)
         (λ run. ItemsMapToReversed run (λ name. name.bytes.now) (iter_bytes run.from)) }
     ensures ancestors { EveryRun {A = Path}
