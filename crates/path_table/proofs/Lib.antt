@@ -2,6 +2,6 @@ pub mod BeginLemmas
 pub mod RowLemmas
 pub mod UnderLemmas
 pub mod StripLemmas
-pub mod PartLemmas
+pub mod RangeLemmas
 pub mod NextLemmas
 pub mod UpdateLemmas

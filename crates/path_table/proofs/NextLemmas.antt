@@ -1,4 +1,4 @@
--- A call of `next` leaves rows that ascend and are not below the base.
+-- A call of `next` leaves rows that ascend and are not before the base.
 use Rattle.std.proofs.Common.{◌≡◌, ◌∷◌, ◌∙◌, ◌<◌, [], List, true, Option, Some, None}
 use Rattle.std.proofs.Common.{ap, sym, subst, length, arith}
 use Rattle.std.proofs.lemmas.List.Elements.{All-nil, All-head, All-rest}
@@ -28,7 +28,7 @@ module _ {V : Type 0} (old new : List (PathBuf × V)) where
       sorted_tail values_cmp (values (path_bytes e.0.now)) (paths_of new)
       (subst (λ es. IsStrictlySortedBy values_cmp (paths_of es)) some sorted)
 
-  -- where no path is below base, none is after a call of `next`
+  -- where no path is before base, none is after a call of `next`
   pub next_not_before : (base : List Value) (r : Option (Bor PathBuf × Bor V))
       → TakesFirst deref_pair old r new
       → NoneBefore base (paths_of old) → NoneBefore base (paths_of new)

@@ -1,4 +1,4 @@
--- In a table's order what is under a base is side by side, and none of it is below the base.
+-- In a table's order what is under a base is side by side, and none of it is before the base.
 use Rattle.std.proofs.Common.{◌≡◌, ◌∷◌, [], ◌∙◌, List, Bool, true, false, true≢false, cond, refl}
 use Rattle.std.proofs.Common.{sym, ap, map, Less, append-nil}
 use Rattle.std.specs.List.{AllByRecursion, filter}
@@ -17,7 +17,7 @@ module _ {V : Type 0} (base : List Value) where
   abbrev pub under : List (List Value × V) → List (List Value × V)
   under rows = filter (λ row. is_under base row.0) rows
 
-  -- the rows that are not below base
+  -- the rows that are not before base
   abbrev pub from_base : List (List Value × V) → List (List Value × V)
   from_base rows = filter (λ row. is_le (values_cmp base row.0)) rows
 
@@ -35,7 +35,7 @@ module _ {V : Type 0} (base : List Value) where
       ap (λ b. map (row_under base) (cond b (row ∷ under rows) (under rows)))
       (not_under base row.0 apart)
 
-  -- where v isn't below base nor under it, no row that is greater than v is under base
+  -- where v isn't before base nor under it, no row that is greater than v is under base
   none_behind : UnderIsInterval → (v : List Value) (rows : List (List Value × V))
       → is_le (values_cmp base v) ≡ true → (Begins base v → ⊥)
       → AllByRecursion (λ w. values_cmp v w ≡ Less) (keys_of rows)
@@ -46,7 +46,7 @@ module _ {V : Type 0} (base : List Value) where
       (interval base base v row.0 ([], append-nil base) begins from (ap is_le behind.0)))
       ∙ none_behind interval v rows from apart behind.1
 
-  -- of rows in order, where the first isn't below base nor under it, none behind it is under it
+  -- of rows in order, where the first isn't before base nor under it, none behind it is under it
   pub none_under : UnderIsInterval → (row : List Value × V) (rows : List (List Value × V))
       → IsStrictlySortedBy values_cmp (keys_of (row ∷ rows))
       → is_le (values_cmp base row.0) ≡ true → (Begins base row.0 → ⊥)
@@ -55,7 +55,7 @@ module _ {V : Type 0} (base : List Value) where
   none_under interval row rows sorted from apart =
       none_behind interval row.0 rows from apart sorted.0
 
-  -- a first row that is below base adds nothing under it, and another adds itself if it is under it
+  -- a first row before base adds nothing under it, and another adds itself if it is under base
   one_more : BaseBeforeUnder → (row : List Value × V) (rows : List (List Value × V))
       (from is : Bool) → is_le (values_cmp base row.0) ≡ from → is_under base row.0 ≡ is
       → entries_under base (from_base rows) ≡ entries_under base rows
@@ -72,7 +72,7 @@ module _ {V : Type 0} (base : List Value) where
       absurd (true≢false (sym (before base row.0 (begins_from_under base row.0 is)) ∙ from))
   one_more before row rows false false from is rest = rest
 
-  -- all rows under base are among those that are not below it
+  -- all rows under base are among those that are not before it
   pub under_from_base : BaseBeforeUnder → (rows : List (List Value × V))
       → entries_under base (from_base rows) ≡ entries_under base rows
   under_from_base before [] = refl

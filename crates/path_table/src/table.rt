@@ -22,7 +22,7 @@ use std::collections::BTreeMap;
 use std::collections::btree_map::Iter;
 use std::fmt;
 pub use under::Under;
-use unix_path::{Path, PathBuf};
+use unix_path::PathBuf;
 
 /// Values by path, where equal paths are one key.
 ///
@@ -95,7 +95,7 @@ impl<V> PathTable<V> {
     /// The value at the path that is equal to this one, to be written; `None` if there is no such
     /// path. Does not allocate. As Rust's `BTreeMap::get_mut`.
     ///
-    /// With 1 at `a/b`, writing 2 through that of `a//b` leaves 2 at `a/b`.
+    /// With 1 at `a/b`, writing 2 through what it gives for `a//b` leaves 2 at `a/b`.
     pub fn get_mut(&mut self, path: &PathBuf) -> Option<&mut V>
         ensures* writes_back { sem 𝓛 (lends_value V.row self.entry
             (values (path_bytes path.now)) result) }

@@ -9,8 +9,8 @@ use Rattle.unix_path.specs.Parts.{values}
 use Rattle.path_runs.specs.TableLaws.{rows_of}
 use Rattle.path_table.specs.Table.{answer_row, entries_under}
 use Rattle.path_table.specs.Under.{under_left}
-use Rattle.path_table.proofs.PartLemmas.{part_ordered, part_from_base, part_under}
-use Rattle.path_table.proofs.PartLemmas.{fewer_under}
+use Rattle.path_table.proofs.RangeLemmas.{range_ordered, range_from_base, range_under}
+use Rattle.path_table.proofs.RangeLemmas.{fewer_under}
 use Rattle.path_table.proofs.table.PathTable.walk_under.Goals as goal
 
 pub invariant_of-result : goal.invariant_of-result
@@ -20,15 +20,15 @@ invariant_of-result g c =
     let is : c.range.result ≡ filter (λ e. is_le (values_cmp base (values (path_bytes e.0)))) all =
     rw c.as_path.ensures (search rules) in
     record {
-      ordered = part_ordered base all c.range.result is c.range.ensures.ordered;
-      start = part_from_base base all c.range.result is;
+      ordered = range_ordered base all c.range.result is c.range.ensures.ordered;
+      start = range_from_base base all c.range.result is;
     }
 
 pub returns-clause-left : goal.returns-clause-left
 returns-clause-left g c =
     let base = values (path_bytes c.args.base.now) in
     ap (λ s. entries_under (values s) (rows_of path_bytes c.range.result)) c.as_path.ensures
-    ∙ part_under base c.args.self.now.files.entries c.range.result (search rules)
+    ∙ range_under base c.args.self.now.files.entries c.range.result (search rules)
     c.base_before_under.ensures
 
 pub returns-clause-runs : goal.returns-clause-runs

@@ -1,4 +1,4 @@
--- The rows of the part of a table that is not below a base.
+-- The rows of the range of a table that is not before a base.
 use Rattle.std.proofs.Common.{◌≡◌, ◌∙◌, ◌≤◌, List, Bool, sym, ap, subst, length}
 use Rattle.std.proofs.Common.{arith}
 use Rattle.std.proofs.lemmas.List.{length-map}
@@ -19,50 +19,50 @@ use Rattle.path_table.specs.Table.{NoneBefore, entries_under, is_under, paths_of
 use Rattle.path_table.proofs.RowLemmas.{sorted-rows_of, rows_of-filter, keys_of-filter}
 use Rattle.path_table.proofs.UnderLemmas.{from_base, under_from_base}
 
-module _ {V : Type 0} (base : List Value) (entries part : List (PathBuf × V))
-    (is : part ≡ filter (λ e. is_le (values_cmp base (values (path_bytes e.0)))) entries) where
-  -- the rows of the part are the rows that are not below base
-  rows_are : rows_of path_bytes part ≡ from_base base (rows_of path_bytes entries)
+module _ {V : Type 0} (base : List Value) (entries range : List (PathBuf × V))
+    (is : range ≡ filter (λ e. is_le (values_cmp base (values (path_bytes e.0)))) entries) where
+  -- the rows of the range are the rows that are not before base
+  rows_are : rows_of path_bytes range ≡ from_base base (rows_of path_bytes entries)
   rows_are =
       ap (rows_of path_bytes) is ∙ rows_of-filter (λ v. is_le (values_cmp base v)) entries
 
-  -- the values of the part's paths are those that are not below base
-  keys_are : keys_of (rows_of path_bytes part)
+  -- the values of the range's paths are those that are not before base
+  keys_are : keys_of (rows_of path_bytes range)
       ≡ filter (λ v. is_le (values_cmp base v)) (keys_of (rows_of path_bytes entries))
   keys_are =
       ap keys_of rows_are
       ∙ keys_of-filter (λ v. is_le (values_cmp base v)) (rows_of path_bytes entries)
 
-  -- the part's paths ascend
-  pub part_ordered : IsStrictlySortedBy (on (λ p. values (path_bytes p)) values_cmp)
-      (keys_of entries) → IsStrictlySortedBy values_cmp (paths_of part)
-  part_ordered sorted =
+  -- the range's paths ascend
+  pub range_ordered : IsStrictlySortedBy (on (λ p. values (path_bytes p)) values_cmp)
+      (keys_of entries) → IsStrictlySortedBy values_cmp (paths_of range)
+  range_ordered sorted =
       subst (IsStrictlySortedBy values_cmp) (sym keys_are)
       (IsStrictlySortedBy-filter values_cmp (λ v. is_le (values_cmp base v)) _
       (sorted-rows_of entries sorted))
 
-  -- no path of the part is below base
-  pub part_from_base : NoneBefore base (paths_of part)
-  part_from_base =
+  -- no path of the range is before base
+  pub range_from_base : NoneBefore base (paths_of range)
+  range_from_base =
       subst (NoneBefore base) (sym keys_are)
       (filter_passes (λ v. is_le (values_cmp base v)) _)
 
-  -- what is under base in the part is all that is under it
-  pub part_under : BaseBeforeUnder
-      → entries_under base (rows_of path_bytes part)
+  -- what is under base in the range is all that is under it
+  pub range_under : BaseBeforeUnder
+      → entries_under base (rows_of path_bytes range)
       ≡ entries_under base (rows_of path_bytes entries)
-  part_under before =
+  range_under before =
       ap (entries_under base) rows_are
       ∙ under_from_base base before (rows_of path_bytes entries)
 
 -- no more of the files are under a base than there are
-pub fewer_under : {V : Type 0} (base : List Value) (part : List (PathBuf × V))
-    → length (entries_under base (rows_of path_bytes part)) ≤ length part
-fewer_under {V} base part =
-    let rows : List (List Value × V) = rows_of path_bytes part in
+pub fewer_under : {V : Type 0} (base : List Value) (range : List (PathBuf × V))
+    → length (entries_under base (rows_of path_bytes range)) ≤ length range
+fewer_under {V} base range =
+    let rows : List (List Value × V) = rows_of path_bytes range in
     let test : List Value × V → Bool = λ row. is_under base row.0 in
     let kept : length (entries_under base rows) ≡ count_by test rows =
     length-map (filter test rows) (row_under base) ∙ length-filter test rows in
-    let all : length rows ≡ length part =
-    length-map part (λ e. (values (path_bytes e.0), e.1)) in
+    let all : length rows ≡ length range =
+    length-map range (λ e. (values (path_bytes e.0), e.1)) in
     omega (arith, kept, all, count_by-le-length test rows)
