@@ -4,7 +4,8 @@ ghost use Rattle.unix_path.specs.Buffers.{path_bytes};
 ghost use Rattle.unix_path.specs.Joins.{join_of};
 ghost use Rattle.unix_path.specs.Prefixes.{Begins, stripped_of};
 ghost use Rattle.unix_path.specs.Parts.{values};
-ghost use Rattle.path_within.specs.Resolved.{Climbs, resolved_bytes_of};
+ghost use Rattle.path_within.specs.Resolved.{resolved_bytes_of};
+ghost use Rattle.path_within.specs.Climbs.{Climbs};
 
 use path_within::WithinError;
 use path_within::within::join_within;

@@ -4,7 +4,9 @@ use Rattle.std.proofs.Common.{Some, None}
 use Rattle.std.specs.List.{list_all, list_any}
 use Rattle.unix_path.specs.Parts.{Value, RootDir, CurDir, ParentDir, Normal}
 use Rattle.unix_path.proofs.RootLemmas.{NoRoot}
-use Rattle.path_within.specs.Resolved.{AreNames, is_name, is_root, steps_between}
+use Rattle.path_within.specs.Resolved.{AreNames}
+use Rattle.path_within.specs.Climbs.{is_name}
+use Rattle.path_within.specs.Way.{is_root, steps_between}
 
 -- the test for names answers true on names
 list_all-names : (vs : List Value) → AreNames vs → list_all is_name vs ≡ true

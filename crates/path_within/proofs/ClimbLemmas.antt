@@ -9,8 +9,8 @@ use Rattle.unix_path.specs.Parts.{Value, RootDir, CurDir, ParentDir, Normal, is_
 use Rattle.unix_path.proofs.PartLemmas.{root_first, root_first-values}
 use Rattle.unix_path.proofs.RootLemmas.{NoRoot, rooted-Begins}
 use Rattle.path_runs.proofs.LeadLemmas.{IsInner, inner-behind}
-use Rattle.path_within.specs.Resolved.{AreNames, Climbs, GoesAbove, is_name, is_parent}
-use Rattle.path_within.specs.Resolved.{kept_of}
+use Rattle.path_within.specs.Resolved.{AreNames, kept_of}
+use Rattle.path_within.specs.Climbs.{Climbs, GoesAbove, is_name, is_parent}
 
 -- read from depth n on, the values go above depth 0
 abbrev pub above_from : ℕ → List Value → Bool

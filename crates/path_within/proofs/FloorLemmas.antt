@@ -7,8 +7,8 @@ use Rattle.std.proofs.lemmas.List.{reverse-append}
 use Rattle.unix_path.specs.Joins.{join_of}
 use Rattle.unix_path.specs.Parts.{Value, RootDir, CurDir, ParentDir, Normal, is_rooted, values}
 use Rattle.unix_path.proofs.RootLemmas.{NoRoot}
-use Rattle.path_within.specs.Resolved.{AreNames, kept_of, up_from}
-use Rattle.path_within.specs.Resolved.{resolved_of, resolved_bytes_of, steps_between, way_of}
+use Rattle.path_within.specs.Resolved.{AreNames, kept_of, up_from, resolved_of, resolved_bytes_of}
+use Rattle.path_within.specs.Way.{steps_between, way_of}
 use Rattle.path_within.specs.Steps.{IsKept}
 use Rattle.path_within.proofs.ClimbLemmas.{rootless-no_roots}
 use Rattle.path_within.proofs.KeepLemmas.{IsKept-kept_of}

@@ -7,9 +7,11 @@ use Rattle.std.proofs.lemmas.List.{reverse-append, reverse-reverse, length-rever
 use Rattle.unix_path.specs.Joins.{join_of}
 use Rattle.unix_path.specs.Parts.{Value, values}
 use Rattle.path_runs.specs.Spelling.{spelling_of}
+use Rattle.path_runs.proofs.AllLemmas.{AllByRecursion-end}
 use Rattle.path_within.specs.Resolved.{AreUpsThenNames, IsNormal, kept_of}
-use Rattle.path_within.specs.Resolved.{resolved_of, resolved_bytes_of, steps_between, way_of}
-use Rattle.path_within.specs.Steps.{AllOne, IsKept}
+use Rattle.path_within.specs.Resolved.{resolved_of, resolved_bytes_of}
+use Rattle.path_within.specs.Way.{steps_between, way_of}
+use Rattle.path_within.specs.Steps.{AllOne, IsKept, IsOne}
 use Rattle.path_within.proofs.KeepLemmas.{IsKept-kept_of, kept_of-append}
 use Rattle.path_within.proofs.KeepLemmas.{names_reverse, resolved_normal}
 use Rattle.path_within.proofs.ResolveLemmas.{kept_of-join}
@@ -29,11 +31,6 @@ AllOne-reverse [] h = tt
 AllOne-reverse (v ∷ vs) h =
     rw (reverse_onto vs v [])
     (AllOne-append (reverse vs) (v ∷ []) (AllOne-reverse vs h.1) (h.0, tt))
-
--- the rest of values that are spelled one by one is too
-AllOne-end : (start rest : List Value) → AllOne (start ++ rest) → AllOne rest
-AllOne-end [] rest h = h
-AllOne-end (v ∷ start) rest h = AllOne-end start rest h.1
 
 AllOne-ups_of : (vs : List Value) → AllOne (ups_of vs)
 AllOne-ups_of [] = tt
@@ -72,7 +69,8 @@ is_way ks js steps h normal one e =
     let are = steps_between-is x y steps e in
     let straight : AreUpsThenNames y =
     normal_end f y (subst IsNormal (sym cut.second) normal) are.no_roots in
-    let ones : AllOne y = AllOne-end f y (subst AllOne (sym cut.second) (AllOne-reverse js one)) in
+    let ones : AllOne y =
+    AllByRecursion-end IsOne f y (subst AllOne (sym cut.second) (AllOne-reverse js one)) in
     let split : ks ≡ reverse x ++ reverse f =
     sym (reverse-reverse ks) ∙ ap reverse (sym cut.first) ∙ reverse-append f x in
     record {

@@ -15,7 +15,7 @@ use Rattle.path_runs.proofs.OwnSpellingLemmas.{spelling_of-own_rooted, spelling_
 use Rattle.path_runs.proofs.PieceValueLemmas.{is_rooted-slash, names_of}
 use Rattle.path_runs.proofs.PieceValueLemmas.{values-rooted, values-rootless}
 use Rattle.path_within.specs.Resolved.{AreNames, resolved_of, resolved_bytes_of}
-use Rattle.path_within.specs.Steps.{has_plain_pieces}
+use Rattle.path_within.specs.PlainPieces.{has_plain_pieces}
 use Rattle.path_within.proofs.WayLemmas.{kept_of-names}
 
 -- the piece has a byte, and the first is no dot

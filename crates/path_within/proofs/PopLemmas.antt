@@ -1,7 +1,7 @@
 -- What is spelled, after one more part: a push, or a pop of the last name.
 use Rattle.std.proofs.Common.{◌≡◌, ℕ, Bool, true, false, List, [], ◌∷◌, length}
 use Rattle.std.proofs.Common.{reverse, refl, sym, ap, ◌∙◌, ⊎_elim, arith}
-use Rattle.std.proofs.Common.{Option, Some, None, is_some, option_map, unwrap_or}
+use Rattle.std.proofs.Common.{Option, is_some, option_map, unwrap_or}
 use Rattle.std.proofs.lemmas.Bool.{both_ways}
 use Rattle.std.proofs.lemmas.Grind.{reverse_onto}
 use Rattle.unix_bytes.specs.declared.bytes.UnixStr.{UnixStr}
@@ -13,6 +13,7 @@ use Rattle.unix_path.specs.Parts.{parent_dir}
 use Rattle.unix_path.specs.Parts.{value_bytes, values}
 use Rattle.unix_path.specs.Rest.{rest}
 use Rattle.unix_path.proofs.CursorLemmas.{name_bytes}
+use Rattle.unix_path.proofs.EditLemmas.{is_some-option_map}
 use Rattle.unix_path.proofs.JoinLemmas.{join_of_rooted}
 use Rattle.unix_path.proofs.ParentLemmas.{file_name_of-last, values-whole}
 use Rattle.unix_path.proofs.PartLemmas.{root_first, root_first-values}
@@ -67,11 +68,8 @@ pub file_name-is_some : (o : Option UnixStr) (s t : List ℕ) (b : Bool)
     → option_map name_bytes o ≡ file_name_of (values t) → t ≡ s → is_some o ≡ b
     → is_some (file_name_of (values s)) ≡ b
 file_name-is_some o s t b e same found =
-    ap (λ s. is_some (file_name_of (values s))) (sym same) ∙ ap is_some (sym e) ∙ by o ∙ found
-  where
-    by : (o : Option UnixStr) → is_some (option_map name_bytes o) ≡ is_some o
-    by None = refl
-    by (Some x) = refl
+    ap (λ s. is_some (file_name_of (values s))) (sym same) ∙ ap is_some (sym e)
+    ∙ is_some-option_map name_bytes o ∙ found
 
 -- bytes that spell kept values and have a file name spell, after a pop, what `..` leaves of these
 pub spells_pop : {s t : List ℕ} {ks : List Value} → Spells s ks

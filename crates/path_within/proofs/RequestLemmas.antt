@@ -6,7 +6,8 @@ use Rattle.unix_path.specs.Parts.{Value, RootDir, CurDir, ParentDir, Normal, is_
 use Rattle.unix_path.proofs.PartLemmas.{root_first, root_first-values}
 use Rattle.path_runs.specs.JoinLaws.{drop_dot}
 use Rattle.path_runs.proofs.LeadLemmas.{IsInner, inner-behind}
-use Rattle.path_within.specs.Resolved.{AreNames, Climbs, has_root_or_up}
+use Rattle.path_within.specs.Resolved.{AreNames}
+use Rattle.path_within.specs.Climbs.{Climbs, has_root_or_up}
 use Rattle.path_within.proofs.ClimbLemmas.{above_from, climbs_by_depth}
 
 -- values without a root or a `..` have no root in front
@@ -18,8 +19,8 @@ no_root_first (ParentDir ∷ vs) e = refl
 no_root_first (Normal name ∷ vs) e = refl
 
 -- a request without a root or a `..` is rootless
-pub plain_rootless : (b : List ℕ) → has_root_or_up (values b) ≡ false → is_rooted b ≡ false
-plain_rootless b e = sym (root_first-values b) ∙ no_root_first (values b) e
+pub request_rootless : (b : List ℕ) → has_root_or_up (values b) ≡ false → is_rooted b ≡ false
+request_rootless b e = sym (root_first-values b) ∙ no_root_first (values b) e
 
 -- values without a root or a `..` go above nowhere
 above_from-plain : (n : ℕ) (vs : List Value) → has_root_or_up vs ≡ false
@@ -31,9 +32,9 @@ above_from-plain n (ParentDir ∷ vs) e = absurd (let no : true ≡ false = e in
 above_from-plain n (Normal name ∷ vs) e = above_from-plain (suc n) vs e
 
 -- a request without a root or a `..` doesn't climb
-pub plain_stays : (b : List ℕ) → has_root_or_up (values b) ≡ false → Climbs (values b) → ⊥
-plain_stays b e h = ⊎_elim
-    (λ r. both_ways (is_rooted b) (plain_rootless b e) r)
+pub request_stays : (b : List ℕ) → has_root_or_up (values b) ≡ false → Climbs (values b) → ⊥
+request_stays b e h = ⊎_elim
+    (λ r. both_ways (is_rooted b) (request_rootless b e) r)
     (λ a. both_ways (above_from 0 (values b)) (above_from-plain 0 (values b) e) a)
     ((climbs_by_depth b).0 h)
 
@@ -47,9 +48,9 @@ inner_names (ParentDir ∷ vs) h e = absurd (let no : true ≡ false = e in cc)
 inner_names (Normal name ∷ vs) h e = inner_names vs h.1 e
 
 -- a request without a root or a `..` has names alone behind a leading dot
-pub plain_names : (b : List ℕ) → has_root_or_up (values b) ≡ false
+pub request_names : (b : List ℕ) → has_root_or_up (values b) ≡ false
     → AreNames (drop_dot (values b))
-plain_names b plain = by (values b) refl plain
+request_names b plain = by (values b) refl plain
   where
     by : (vs : List Value) → values b ≡ vs → has_root_or_up vs ≡ false → AreNames (drop_dot vs)
     by [] e h = tt

@@ -7,8 +7,9 @@ use Rattle.std.proofs.lemmas.Bool.{cond-false}
 use Rattle.std.proofs.lemmas.List.{reverse-reverse}
 use Rattle.unix_path.specs.Parts.{Value, values}
 use Rattle.path_runs.specs.Spelling.{spelling_of}
-use Rattle.path_within.specs.Resolved.{is_name, is_root, kept_of, resolved_of}
-use Rattle.path_within.specs.Resolved.{resolved_bytes_of, steps_between, way_of}
+use Rattle.path_within.specs.Resolved.{kept_of, resolved_of, resolved_bytes_of}
+use Rattle.path_within.specs.Climbs.{is_name}
+use Rattle.path_within.specs.Way.{is_root, steps_between, way_of}
 use Rattle.path_within.specs.Steps.{Spells}
 use Rattle.path_within.proofs.KeepLemmas.{kept_of-append}
 use Rattle.path_within.proofs.LeadsLemmas.{way_is}

@@ -3,7 +3,8 @@ use Rattle.std.proofs.Common.{◌≡◌, ℕ, List, [], ◌++◌, reverse, sym, 
 use Rattle.std.proofs.lemmas.List.{reverse-append}
 use Rattle.unix_path.specs.Joins.{join_of}
 use Rattle.unix_path.specs.Parts.{values}
-use Rattle.path_within.specs.Resolved.{kept_of, resolved_of, resolved_bytes_of, AreNames, Climbs}
+use Rattle.path_within.specs.Resolved.{kept_of, resolved_of, resolved_bytes_of, AreNames}
+use Rattle.path_within.specs.Climbs.{Climbs}
 use Rattle.path_within.proofs.ClimbLemmas.{stays_within}
 use Rattle.path_within.proofs.ResolveLemmas.{kept_of-join, values-resolved}
 use Rattle.path_within.proofs.KeepLemmas.{names_reverse}

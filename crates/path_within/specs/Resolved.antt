@@ -1,13 +1,7 @@
--- Paths with each `..` taken against the name before it, by names alone (as Go's `path.Clean`, but
--- for the empty path, which stays).
-use Rattle.std.specs.Prelude.{◌⊎◌, ◌<◌, ℕ, Bool, true, false, not, ◌&&◌, if◌then◌else◌}
-use Rattle.std.specs.Prelude.{List, [], ◌∷◌, ◌++◌, count_by, drop, map, reverse, take}
-use Rattle.std.specs.Prelude.{Option, Some, None, is_some, ⊤}
-use Rattle.std.specs.List.{common_prefix_len, list_all, list_any}
-use Rattle.unix_path.specs.Names.{name_of}
-use Rattle.unix_path.specs.Order.{same_value}
+-- Paths with each `..` taken against the name before it, by names alone (as Go's `path.Clean`,
+-- which gives `.` where nothing is left).
+use Rattle.std.specs.Prelude.{ℕ, List, [], ◌∷◌, reverse, ⊤}
 use Rattle.unix_path.specs.Parts.{Value, RootDir, CurDir, ParentDir, Normal, values}
-use Rattle.unix_path.specs.Prefixes.{Begins}
 use Rattle.path_runs.specs.Spelling.{spelling_of}
 
 -- the values kept so far, the last first, after `..`: it takes a name away, is dropped behind the
@@ -52,51 +46,3 @@ AreUpsThenNames vs = AreNames vs
 abbrev pub IsNormal : List Value → Type 0
 IsNormal (RootDir ∷ vs) = AreNames vs
 IsNormal vs = AreUpsThenNames vs
-
--- the value is a name
-abbrev pub is_name : Value → Bool
-is_name v = is_some (name_of v)
-
--- the value is `..`
-abbrev pub is_parent : Value → Bool
-is_parent ParentDir = true
-is_parent _ = false
-
--- the value is the root
-abbrev pub is_root : Value → Bool
-is_root RootDir = true
-is_root _ = false
-
--- some first of these values hold more `..` than names
-abbrev pub GoesAbove : List Value → Type 0
-GoesAbove vs = (n : ℕ) × (count_by is_name (take n vs) < count_by is_parent (take n vs))
-
--- these values begin with a root or, read from the left, go above where they start
-abbrev pub Climbs : List Value → Type 0
-Climbs vs = Begins (RootDir ∷ []) vs ⊎ GoesAbove vs
-
--- the value is the root or `..`
-abbrev pub is_root_or_up : Value → Bool
-is_root_or_up RootDir = true
-is_root_or_up ParentDir = true
-is_root_or_up _ = false
-
--- the root or a `..` is among the values
-abbrev pub has_root_or_up : List Value → Bool
-has_root_or_up vs = list_any is_root_or_up vs
-
--- from the directory v to the path w, which have no first value in common: `..` for each name of
--- v, and then w; none where v holds more than names, or w the root
-abbrev pub steps_between : List Value → List Value → Option (List Value)
-steps_between v w =
-    if list_all is_name v && not (list_any is_root w) then Some (map (λ x. ParentDir) v ++ w)
-    else None
-
--- the way by names from one list of values to another: both resolved, and without the first values
--- that they share
-unfoldable pub way_of : List Value → List Value → Option (List Value)
-way_of from to =
-    let v = resolved_of from in
-    let w = resolved_of to in
-    let n = common_prefix_len same_value v w in
-    steps_between (drop n v) (drop n w)

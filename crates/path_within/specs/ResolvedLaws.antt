@@ -5,7 +5,7 @@ use Rattle.unix_path.specs.Parts.{values, SameValues}
 use Rattle.unix_path.specs.Prefixes.{Begins, stripped_of}
 use Rattle.path_runs.specs.JoinLaws.{drop_dot, values_added}
 use Rattle.path_within.specs.Resolved.{resolved_of, resolved_bytes_of, AreNames, IsNormal}
-use Rattle.path_within.specs.Resolved.{Climbs, has_root_or_up}
+use Rattle.path_within.specs.Climbs.{Climbs, has_root_or_up}
 
 -- resolved values are normal
 abbrev pub ResolvedIsNormal : Type 0

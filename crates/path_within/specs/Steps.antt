@@ -1,9 +1,8 @@
 -- What a resolved path is kept as while its parts are read. No public clause cites it.
-use Rattle.std.specs.Prelude.{◌≡◌, ◌==◌, ◌&&◌, ◌||◌, ℕ, Bool, not, List, [], ◌∷◌, ⊤}
+use Rattle.std.specs.Prelude.{◌≡◌, ℕ, List, [], ◌∷◌, ⊤}
 use Rattle.std.specs.List.{AllByRecursion}
 use Rattle.unix_path.specs.Joins.{join_of}
-use Rattle.unix_path.specs.Parts.{dot, is_slash, Value, RootDir, ParentDir, Normal}
-use Rattle.unix_path.specs.Parts.{value_bytes, values}
+use Rattle.unix_path.specs.Parts.{Value, RootDir, ParentDir, Normal, value_bytes, values}
 
 -- all these values are `..`
 abbrev pub AreUps : List Value → Type 0
@@ -35,9 +34,3 @@ pub record Spells (bytes : List ℕ) (ks : List Value) : Type 0 where
   pub kept : IsKept ks
   pub one : AllOne ks
   pub is : bytes ≡ path_of ks
-
--- the bytes have no empty piece and none that begins with a dot; a piece begins here, or goes on
-abbrev pub has_plain_pieces : Bool → List ℕ → Bool
-has_plain_pieces begins [] = not begins
-has_plain_pieces begins (b ∷ s) =
-    not (begins && (is_slash b || b == dot)) && has_plain_pieces (is_slash b) s

@@ -3,7 +3,8 @@ use Rattle.std.specs.Prelude.{◌≡◌, ◌≢◌, ℕ, List, false, Some, None
 use Rattle.unix_path.specs.Joins.{join_of}
 use Rattle.unix_path.specs.Parts.{Value, is_rooted, values}
 use Rattle.path_runs.specs.Spelling.{spelling_of}
-use Rattle.path_within.specs.Resolved.{resolved_bytes_of, way_of}
+use Rattle.path_within.specs.Resolved.{resolved_bytes_of}
+use Rattle.path_within.specs.Way.{way_of}
 
 -- the spelling of a way has its values
 abbrev pub WayReadsBack : Type 0

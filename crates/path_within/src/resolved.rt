@@ -5,7 +5,8 @@ ghost use Rattle.unix_path.specs.Cursor.{cursor_values};
 ghost use Rattle.unix_path.specs.Parts.{Value};
 ghost use Rattle.unix_path.specs.Views.{value_of};
 ghost use Rattle.path_within.specs.Resolved.{keep, kept_of, up_from, resolved_bytes_of};
-ghost use Rattle.path_within.specs.Steps.{has_plain_pieces, IsOne, Spells};
+ghost use Rattle.path_within.specs.Steps.{IsOne, Spells};
+ghost use Rattle.path_within.specs.PlainPieces.{has_plain_pieces};
 
 use std::alloc::{AllocError, Global};
 use unix_path::{Component, Components, Path, PathBuf};
@@ -49,8 +50,8 @@ pub(crate) fn keep_all(kept: &mut PathBuf, parts: Components<'_>) -> Result<(), 
     Ok(())
 }
 
-// Whether no piece is empty or begins with a dot. No branch depends on a byte, so it takes the same
-// time for any names.
+// Whether no piece is empty or begins with a dot. No branch depends on a byte, so the time depends
+// on the length alone.
 #[inline]
 fn has_plain_pieces(bytes: &[u8]) -> bool
     ensures { result ≡ has_plain_pieces true bytes.now }
@@ -65,7 +66,8 @@ fn has_plain_pieces(bytes: &[u8]) -> bool
     is_plain & !begins
 }
 
-// True only for a path that is resolved as it stands; false also where a name begins with a dot.
+// True only for a path that is resolved as it stands. Of such paths it is false for the empty one,
+// for `/`, and where a piece begins with a dot.
 #[inline]
 fn is_resolved(path: Path<'_>) -> bool
     ensures { IsTrue result
@@ -85,7 +87,7 @@ fn is_resolved(path: Path<'_>) -> bool
 /// It goes by names alone: where a part before a `..` may be a link, only the system knows where
 /// that `..` leads. The empty path stands for the current directory. Allocates once, as many bytes
 /// as the path has, or not at all for the empty path; fails if the allocation fails. Not in Rust's
-/// std; as Go's `path.Clean`, which gives `.` for the empty path.
+/// std; as Go's `path.Clean`, which gives `.` where this gives the empty path.
 ///
 /// For `a/../..//b/.` it is `../b`, for `/../a` it is `/a`, and for `a/..` the empty path.
 pub fn resolved(alloc: Global, path: Path<'_>) -> Result<PathBuf, AllocError>

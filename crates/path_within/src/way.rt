@@ -7,7 +7,9 @@ ghost use Rattle.unix_path.specs.Order.{same_value};
 ghost use Rattle.unix_path.specs.Parts.{Value, ParentDir, values};
 ghost use Rattle.unix_path.specs.Views.{value_of};
 ghost use Rattle.path_runs.specs.Spelling.{spelling_of};
-ghost use Rattle.path_within.specs.Resolved.{is_name, is_root, kept_of, way_of};
+ghost use Rattle.path_within.specs.Resolved.{kept_of};
+ghost use Rattle.path_within.specs.Climbs.{is_name};
+ghost use Rattle.path_within.specs.Way.{is_root, way_of};
 ghost use Rattle.path_within.specs.Steps.{Spells};
 
 use crate::resolved::{keep_all, keep_up, resolved};

@@ -6,7 +6,7 @@ ghost use Rattle.unix_path.specs.Joins.{join_of};
 ghost use Rattle.unix_path.specs.Parts.{values};
 ghost use Rattle.unix_path.specs.Prefixes.{Begins};
 ghost use Rattle.unix_path.specs.Views.{value_of};
-ghost use Rattle.path_within.specs.Resolved.{Climbs, has_root_or_up, is_root_or_up};
+ghost use Rattle.path_within.specs.Climbs.{Climbs, has_root_or_up, is_root_or_up};
 ghost use Rattle.path_within.specs.Resolved.{resolved_bytes_of};
 
 use crate::laws;
@@ -54,7 +54,7 @@ impl Error for WithinError {}
 impl From<AllocError> for WithinError {
     ghost use Rattle.path_within.specs.declared.within.WithinError.TheVariants.{Memory};
 
-    ghost from_gives = { λ error given. given ≡ Memory error };
+    ghost from_gives = { λ error variant. variant ≡ Memory error };
 
     fn from(error: AllocError) -> WithinError {
         WithinError::Memory(error)
@@ -97,7 +97,7 @@ pub fn climbs(path: Path<'_>) -> bool
 /// The error is `Escapes` exactly where the request climbs, before anything is allocated, and
 /// `Memory` where the allocation fails. It goes by names alone: where a part of the root or of the
 /// request may be a link, take `join_plain` and let the system refuse links. Allocates once, one
-/// byte more than both paths have; fails if the allocation fails. Not in Rust's std.
+/// byte more than both paths have. Not in Rust's std.
 ///
 /// `/srv/www` with `a/../b` is `/srv/www/b`, and with `a/../../x` it is refused.
 pub fn join_within(alloc: Global, root: Path<'_>, request: Path<'_>) -> Result<PathBuf, WithinError>

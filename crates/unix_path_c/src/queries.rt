@@ -6,7 +6,7 @@ ghost use Rattle.unix_path.specs.CommonDir.{common_dir_of};
 ghost use Rattle.unix_path.specs.Order.{values_cmp, IsBefore};
 ghost use Rattle.unix_path.specs.Parts.{RootDir, SameValues, is_rooted, values};
 ghost use Rattle.unix_path.specs.Prefixes.{Begins, Ends};
-ghost use Rattle.path_within.specs.Resolved.{Climbs};
+ghost use Rattle.path_within.specs.Climbs.{Climbs};
 ghost use Rattle.unix_path_c.specs.Queries.{path_hash, sign_of};
 
 use path_within::within::climbs;

@@ -3,7 +3,8 @@ ghost use Rattle.std.specs.Prelude.{◌≡◌, ◌↔◌, ◌⊎◌, length};
 ghost use Rattle.unix_path.specs.Joins.{join_of};
 ghost use Rattle.unix_path.specs.Parts.{values};
 ghost use Rattle.unix_path.specs.Prefixes.{Begins};
-ghost use Rattle.path_within.specs.Resolved.{Climbs, resolved_bytes_of};
+ghost use Rattle.path_within.specs.Resolved.{resolved_bytes_of};
+ghost use Rattle.path_within.specs.Climbs.{Climbs};
 ghost use Rattle.unix_path_c.specs.Within.{IsLength, escapes, no_memory};
 ghost use Rattle.unix_path_c.specs.Buffer.{buffer_after};
 
@@ -31,8 +32,8 @@ const NO_MEMORY: usize = usize::MAX - 2;
 /// It goes by names alone: where a part before a `..` may be a link, only the system knows where
 /// that `..` leads. An answer of no bytes stands for the current directory. Allocates once, as many
 /// bytes as the path has, or not at all for the empty path, and frees what it allocates. C passes
-/// nothing for `alloc`. Not in Rust's std; as Go's `path.Clean`, which gives `.` for the empty
-/// path.
+/// nothing for `alloc`. Not in Rust's std; as Go's `path.Clean`, which gives `.` where this answers
+/// 0.
 ///
 /// For `a/../..//b/.` it is `../b`, for `/../a` it is `/a`, and for `a/..` the empty path.
 #[unsafe(no_mangle)]

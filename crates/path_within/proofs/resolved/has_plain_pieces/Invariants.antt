@@ -1,5 +1,5 @@
 use Rattle.std.proofs.Common.{◌≡◌, ◌&&◌, true, drop}
-use Rattle.path_within.specs.Steps.{has_plain_pieces}
+use Rattle.path_within.specs.PlainPieces.{has_plain_pieces}
 use Rattle.path_within.proofs.resolved.has_plain_pieces.Given as goal
 
 abbrev pub invariant-loop-byte : goal.invariant-loop-byte

@@ -1,7 +1,7 @@
 use Rattle.std.proofs.Common.{rules, tests}
 use Rattle.std.proofs.lemmas.Iterator.Search.{any_from_yields_List}
 use Rattle.unix_path.proofs.CursorLemmas.{Components-yields}
-use Rattle.path_within.specs.Resolved.{is_root}
+use Rattle.path_within.specs.Way.{is_root}
 use Rattle.path_within.proofs.way.has_root.Goals as goal
 
 pub returns : goal.returns

@@ -1,7 +1,7 @@
 use Rattle.std.proofs.Common.{rules, tests, ap, ◌∙◌}
 use Rattle.std.proofs.lemmas.Iterator.Search.{any_from_yields_List}
 use Rattle.unix_path.proofs.CursorLemmas.{Components-yields}
-use Rattle.path_within.specs.Resolved.{has_root_or_up, is_root_or_up}
+use Rattle.path_within.specs.Climbs.{has_root_or_up, is_root_or_up}
 use Rattle.path_within.proofs.within.has_root_or_up.Goals as goal
 
 pub returns : goal.returns

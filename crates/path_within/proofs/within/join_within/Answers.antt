@@ -2,7 +2,8 @@ use Rattle.std.proofs.Common.{[], sym, ap, ◌∙◌}
 use Rattle.std.proofs.lemmas.Bool.{true≢false}
 use Rattle.unix_path.specs.Cursor.{cursor_values}
 use Rattle.unix_path.specs.Parts.{values}
-use Rattle.path_within.specs.Resolved.{kept_of, Climbs, resolved_bytes_of}
+use Rattle.path_within.specs.Resolved.{kept_of, resolved_bytes_of}
+use Rattle.path_within.specs.Climbs.{Climbs}
 use Rattle.path_within.proofs.StepLemmas.{spells_join, spells_nothing}
 use Rattle.path_within.proofs.WithinLemmas.{values-within}
 use Rattle.path_within.proofs.within.join_within.Goals as goal

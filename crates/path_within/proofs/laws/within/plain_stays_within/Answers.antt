@@ -3,22 +3,22 @@ use Rattle.unix_path.specs.Joins.{join_of}
 use Rattle.path_runs.specs.JoinLaws.{values_added}
 use Rattle.path_runs.proofs.LeadLemmas.{values-join_of_values_added}
 use Rattle.path_runs.proofs.StripLemmas.{values-stripped_of}
-use Rattle.path_within.proofs.RequestLemmas.{plain_names, plain_rootless, plain_stays}
+use Rattle.path_within.proofs.RequestLemmas.{request_names, request_rootless, request_stays}
 use Rattle.path_within.proofs.laws.within.plain_stays_within.Goals as goal
 
 pub returns-clause-climbs : goal.returns-clause-climbs
-returns-clause-climbs c = plain_stays
+returns-clause-climbs c = request_stays
 
 pub returns-clause-names : goal.returns-clause-names
-returns-clause-names c = plain_names
+returns-clause-names c = request_names
 
 pub returns-clause-values : goal.returns-clause-values
-returns-clause-values c = λ a b e. values-join_of_values_added a b (plain_rootless b e)
+returns-clause-values c = λ a b e. values-join_of_values_added a b (request_rootless b e)
 
 pub returns-clause-begins : goal.returns-clause-begins
 returns-clause-begins c = λ a b e.
-    (values_added a b, sym (values-join_of_values_added a b (plain_rootless b e)))
+    (values_added a b, sym (values-join_of_values_added a b (request_rootless b e)))
 
 pub returns-clause-stripped : goal.returns-clause-stripped
 returns-clause-stripped c = λ a b e. values-stripped_of (join_of a b) a (values_added a b)
-    (sym (values-join_of_values_added a b (plain_rootless b e)))
+    (sym (values-join_of_values_added a b (request_rootless b e)))
