@@ -1,3 +1,3 @@
 pub mod Below
 pub mod Manifest
-pub mod Trees
+pub mod Tree

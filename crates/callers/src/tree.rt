@@ -6,7 +6,7 @@ ghost use Rattle.std.specs.Option.{option_copied};
 ghost use Rattle.unix_path.specs.Buffers.{path_bytes};
 ghost use Rattle.unix_path.specs.Order.{values_cmp};
 ghost use Rattle.unix_path.specs.Parts.{values};
-ghost use Rattle.callers.specs.Trees.{rows};
+ghost use Rattle.callers.specs.Tree.{rows};
 
 use path_runs::laws;
 use std::alloc::{AllocError, Global};
@@ -37,8 +37,9 @@ impl<V> Tree<V> {
     /// was no such path.
     ///
     /// If an equal path has a value, that path stays as the key and its value is replaced.
-    /// Allocates for the path, and for its place in the tree; fails if an allocation fails: then
-    /// the tree stays as it was, and the value is dropped. As Rust's `BTreeMap::insert`.
+    /// Allocates for the path and, if no equal path is there, for its place in the tree; fails if
+    /// an allocation fails: then the tree stays as it was, and the value is dropped. As Rust's
+    /// `BTreeMap::insert`.
     ///
     /// With 1 at `a/b`, inserting 2 at `a//b/` gives 1 and leaves 2 at `a/b` alone.
     pub fn insert(
