@@ -57,7 +57,8 @@ plain_bytes : (vs : List Value) → AllByRecursion IsPlainValue vs → AllPlain 
 plain_bytes [] h = tt
 plain_bytes (v ∷ vs) h = (h.0.plain, plain_bytes vs h.1)
 
-spelling_of-plain : (vs : List Value) → AllByRecursion IsPlainValue vs
+-- the spelling of plain values is their bytes with a slash between two of them
+pub spelling_of-plain : (vs : List Value) → AllByRecursion IsPlainValue vs
     → spelling_of vs ≡ slashed_bytes vs
 unfolding spelling_of
 spelling_of-plain [] h = refl

@@ -4,6 +4,7 @@ use Rattle.std.proofs.Common.{⊎_elim, append_assoc, append-nil, arith}
 use Rattle.std.specs.List.{AllByRecursion}
 use Rattle.unix_path.specs.Parts.{slash, Value, RootDir, value_bytes, values}
 use Rattle.path_runs.specs.Spelling.{slashed_bytes, spelling_of}
+use Rattle.path_runs.proofs.JoinAllLemmas.{spelling_of-plain}
 use Rattle.path_runs.proofs.LeanLemmas.{spelling_of-shortest}
 use Rattle.path_runs.proofs.PlainLemmas.{IsPlainValue, Shape, Rooted, Rootless, values-shape}
 use Rattle.path_runs.proofs.SpellLemmas.{spelling_of-root}
@@ -29,13 +30,6 @@ spelling_behind-nothing : (vs : List Value) → AllByRecursion IsPlainValue vs
     → spelling_behind [] vs ≡ slashed_bytes vs
 spelling_behind-nothing [] h = refl
 spelling_behind-nothing (v ∷ vs) h = spelling_behind-plain [] v vs h
-
-spelling_of-plain : (vs : List Value) → AllByRecursion IsPlainValue vs
-    → spelling_of vs ≡ slashed_bytes vs
-unfolding spelling_of
-spelling_of-plain [] h = refl
-spelling_of-plain (RootDir ∷ vs) h = absurd (h.0.no_root refl)
-spelling_of-plain (v ∷ vs) h = refl
 
 -- a path's values, spelled one behind the other, are the canonical spelling
 pub spelling_behind-values : (s : List ℕ) → spelling_behind [] (values s) ≡ spelling_of (values s)
