@@ -3,7 +3,7 @@ use Rattle.std.proofs.Common.{◌≡◌, ℕ, zero, suc, ◌+◌, ◌-◌, ◌�
 use Rattle.std.proofs.Common.{Bool, true, false, cond}
 use Rattle.std.proofs.Common.{length, take, drop, Option, Some, None, option_map, refl, sym, ap}
 use Rattle.std.proofs.Common.{ap₂, subst, ◌∙◌, arith, append_assoc, length-drop, take_all}
-use Rattle.std.proofs.Math.Seq.{take-append_seam, drop-append_seam, take-length}
+use Rattle.std.proofs.Math.Seq.{take-append_seam, drop-append_seam}
 use Rattle.std.specs.Option.{option_and_then}
 use Rattle.std.proofs.lemmas.List.{length-take}
 use Rattle.std.proofs.lemmas.Option.{same_Some, none-some}
@@ -14,7 +14,6 @@ use Rattle.unix_path.specs.Names.{past_last, file_name_of, split_name, stem_of, 
 use Rattle.unix_path.specs.Prefixes.{stripped_of}
 use Rattle.unix_path.specs.Edits.{last_start_of}
 use Rattle.unix_path.specs.Steps.{parts_end}
-use Rattle.unix_path.proofs.CaseLemmas.{by_test}
 use Rattle.unix_path.proofs.NameLemmas.{is_dot, split_name-stem}
 use Rattle.unix_path.proofs.ParentLemmas.{parent_of-some}
 use Rattle.unix_path.proofs.RestLemmas.{take-rest}

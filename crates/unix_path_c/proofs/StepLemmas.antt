@@ -1,6 +1,8 @@
 -- What a step over the first part of what is left, or over a name at its end, leaves of a walk.
 use Rattle.std.proofs.Common.{◌≡◌, ℕ, ◌+◌, ◌-◌, ◌≤◌, ◌<◌, List, [], ◌∷◌, ◌++◌, length, drop}
-use Rattle.std.proofs.Common.{refl, sym, ap, ◌∙◌, arith, length-drop, length-take-le}
+use Rattle.std.proofs.Common.{eqb, false, refl, sym, ap, subst, ◌∙◌, arith}
+use Rattle.std.proofs.Common.{length-drop, length-take-le}
+use Rattle.std.proofs.lemmas.Bool.{eqb-false}
 use Rattle.unix_path.specs.Parts.{Normal, values}
 use Rattle.unix_path_c.specs.Steps.{BeginsInPart, EndsInName, TakenBehind, TakenInFront}
 use Rattle.unix_path_c.specs.Walks.{bytes_left}
@@ -9,6 +11,10 @@ use Rattle.unix_path_c.proofs.TakeLastLemmas.{taken_behind}
 use Rattle.unix_path_c.proofs.TakeFirstLemmas.{taken_in_front}
 use Rattle.unix_path_c.proofs.BytesLeftLemmas.{stands_between}
 use Rattle.unix_path_c.proofs.NameLemmas.{rest-ends}
+
+-- what is left has a byte, if bytes that are the same aren't empty
+pub some_left : {s left : List ℕ} → left ≡ s → eqb (length left) 0 ≡ false → 0 < length s
+some_left same some = subst (λ s. 0 < length s) same (omega (arith, eqb-false _ 0 some))
 
 module _ (path : List ℕ) (walk : Walk) (some : 0 < length (bytes_left path walk)) where
   -- a step over the first part ends in the path

@@ -1,5 +1,5 @@
 -- Stretches of bytes: what stands in a string from a place on, or up to one.
-use Rattle.std.proofs.Common.{◌≡◌, ℕ, zero, suc, ◌+◌, ◌-◌, ◌≤◌, ltb, List, [], ◌∷◌}
+use Rattle.std.proofs.Common.{◌≡◌, ℕ, ◌+◌, ◌-◌, ◌≤◌, ltb, List, []}
 use Rattle.std.proofs.Common.{length, take, drop, refl, sym, ap, ap₂}
 use Rattle.std.proofs.Common.{subst, ◌∙◌, arith, length-drop, ltb-true, ltb-false}
 use Rattle.std.proofs.Math.Seq.{take-length}

@@ -77,6 +77,10 @@ taken_in_front path old new part v e start size kind back front =
       );
     }
 
+-- the whole rest of a string is that of any string that is the same
+pub rest-same : {s t left : List ℕ} → left ≡ rest t 0 0 → t ≡ s → left ≡ rest s 0 0
+rest-same is same = is ∙ ap (λ u. rest u 0 0) same
+
 -- what a fresh cursor has left after one part in front
 cursor_rest-first : (s : List ℕ) (old new : Components) (item : Option Component)
     → cursor_rest old ≡ rest s 0 0 → GivesFirstPart old item new → cursor_rest new ≡ rest s 1 0

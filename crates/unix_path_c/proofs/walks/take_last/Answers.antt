@@ -1,6 +1,6 @@
-use Rattle.std.proofs.Common.{◌≡◌, true, false, ap, length, arith, ◌∙◌}
+use Rattle.std.proofs.Common.{true≢false, ap, length, arith}
 use Rattle.unix_path.specs.Cursor.{cursor_rest}
-use Rattle.unix_path.specs.Rest.{rest}
+use Rattle.unix_path_c.proofs.TakeFirstLemmas.{rest-same}
 use Rattle.unix_path_c.proofs.TakeLastLemmas.{StepBehindFits, step_behind_fits, next_back_gives}
 use Rattle.unix_path_c.proofs.TakeLastLemmas.{nothing_last}
 use Rattle.unix_path_c.proofs.walks.take_last.Goals as goal
@@ -11,13 +11,13 @@ fits : (c : After-as_unix_str) → StepBehindFits c.args.path.now c.args.walk.no
     (length (cursor_rest c.next_back.new.self))
 fits c =
     step_behind_fits c.args.path.now c.args.walk.now _ _ _ _ _
-    (c.components-parts.ensures.rest ∙ ap (λ s. rest s 0 0) c.left_of.ensures)
+    (rest-same c.components-parts.ensures.rest c.left_of.ensures)
     c.in-Some.ensures.steps c.as_path.ensures.bytes c.as_unix_str.ensures
 
 pub returns-in_default-clause-ended : goal.returns-in_default-clause-ended
 returns-in_default-clause-ended c =
     λ _. nothing_last _ _ _
-    (c.components-parts.ensures.rest ∙ ap (λ s. rest s 0 0) c.left_of.ensures)
+    (rest-same c.components-parts.ensures.rest c.left_of.ensures)
     c.in_default.ensures.steps
 
 pub overflow_add-part : goal.overflow_add-part
@@ -36,12 +36,12 @@ overflow_add-walk c =
 pub returns : goal.returns
 returns c =
     let t = next_back_gives c.args.path.now c.args.walk.now _ _ _ _ _ _ _
-    (c.components-parts.ensures.rest ∙ ap (λ s. rest s 0 0) c.left_of.ensures)
+    (rest-same c.components-parts.ensures.rest c.left_of.ensures)
     c.in-Some.ensures.steps c.as_path.ensures.bytes c.as_path-2.ensures.bytes
     c.as_unix_str.ensures c.kind_of.ensures in
     record {
-      ended = λ no. let e : true ≡ false = no in cc;
-      walk_stays = λ no. let e : true ≡ false = no in cc;
-      part_stays = λ no. let e : true ≡ false = no in cc;
+      ended = λ no. absurd (true≢false no);
+      walk_stays = λ no. absurd (true≢false no);
+      part_stays = λ no. absurd (true≢false no);
       taken = λ _. t;
     }

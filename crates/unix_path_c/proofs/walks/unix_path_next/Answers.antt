@@ -1,14 +1,12 @@
-use Rattle.std.proofs.Common.{◌≡◌, ◌<◌, true, false, length, sym, ◌∙◌, arith, subst}
-use Rattle.std.proofs.lemmas.Bool.{eqb-false}
+use Rattle.std.proofs.Common.{◌<◌, true≢false, length, sym, ◌∙◌, arith, subst}
 use Rattle.unix_path_c.specs.Steps.{BeginsInPart}
 use Rattle.unix_path_c.specs.Walks.{bytes_left}
-use Rattle.unix_path_c.proofs.StepLemmas.{takes_first_part, first_fits}
+use Rattle.unix_path_c.proofs.StepLemmas.{takes_first_part, first_fits, some_left}
 use Rattle.unix_path_c.proofs.walks.unix_path_next.Goals as goal
 use Rattle.unix_path_c.proofs.walks.unix_path_next.Goals.{In-Some}
 
-some_left : (c : In-Some) → 0 < length (bytes_left c.args.path.now c.args.walk.now)
-some_left c = subst (λ s. 0 < length s) c.left_of.ensures
-    (omega (arith, eqb-false _ 0 (sym c.is_empty.ensures ∙ c.if-is_empty.false)))
+some : (c : In-Some) → 0 < length (bytes_left c.args.path.now c.args.walk.now)
+some c = some_left c.left_of.ensures (sym c.is_empty.ensures ∙ c.if-is_empty.false)
 
 begins_in_part : (c : In-Some)
     → BeginsInPart (bytes_left c.args.path.now c.args.walk.now)
@@ -20,16 +18,16 @@ begins_in_part c =
 pub overflow_add-walk : goal.overflow_add-walk
 overflow_add-walk c =
     let d = (goal.at.overflow_add-walk c).In-Some in
-    omega (arith, first_fits c.args.path.now c.args.walk.now (some_left d) (begins_in_part d))
+    omega (arith, first_fits c.args.path.now c.args.walk.now (some d) (begins_in_part d))
 
 pub returns : goal.returns
 returns c =
     let d = (goal.at.returns c).In-Some in
-    let t = takes_first_part c.args.path.now c.args.walk.now (some_left d) (begins_in_part d) in
+    let t = takes_first_part c.args.path.now c.args.walk.now (some d) (begins_in_part d) in
     record {
-      ended = (λ no. let e : true ≡ false = no in cc, λ nothing. absurd (t.some nothing));
-      walk_stays = λ no. let e : true ≡ false = no in cc;
-      part_stays = λ no. let e : true ≡ false = no in cc;
+      ended = (λ no. absurd (true≢false no), λ nothing. absurd (t.some nothing));
+      walk_stays = λ no. absurd (true≢false no);
+      part_stays = λ no. absurd (true≢false no);
       parts = λ _. t.parts_are;
       values = λ _. t.values_are;
       bytes = λ _. t.bytes;

@@ -1,14 +1,12 @@
-use Rattle.std.proofs.Common.{◌≡◌, ◌<◌, true, false, length, sym, ap, ◌∙◌, arith, subst}
-use Rattle.std.proofs.lemmas.Bool.{eqb-false}
+use Rattle.std.proofs.Common.{◌<◌, true≢false, length, sym, ap, ◌∙◌, arith, subst}
 use Rattle.unix_path_c.specs.Steps.{EndsInName}
 use Rattle.unix_path_c.specs.Walks.{bytes_left}
-use Rattle.unix_path_c.proofs.StepLemmas.{takes_last_name, last_fits}
+use Rattle.unix_path_c.proofs.StepLemmas.{takes_last_name, last_fits, some_left}
 use Rattle.unix_path_c.proofs.walks.unix_path_next_back.Goals as goal
 use Rattle.unix_path_c.proofs.walks.unix_path_next_back.Goals.{In-Some}
 
-some_left : (c : In-Some) → 0 < length (bytes_left c.args.path.now c.args.walk.now)
-some_left c = subst (λ s. 0 < length s) c.left_of.ensures
-    (omega (arith, eqb-false _ 0 (sym c.is_empty.ensures ∙ c.if-is_empty.false)))
+some : (c : In-Some) → 0 < length (bytes_left c.args.path.now c.args.walk.now)
+some c = some_left c.left_of.ensures (sym c.is_empty.ensures ∙ c.if-is_empty.false)
 
 ends_in_name : (c : In-Some)
     → EndsInName (bytes_left c.args.path.now c.args.walk.now) c.in-Some.before c.in-Some.start
@@ -18,23 +16,23 @@ ends_in_name c =
 pub overflow_add-part : goal.overflow_add-part
 overflow_add-part c =
     let d = (goal.at.overflow_add-part c).In-Some in
-    omega (arith, last_fits c.args.path.now c.args.walk.now (some_left d) (ends_in_name d))
+    omega (arith, last_fits c.args.path.now c.args.walk.now (some d) (ends_in_name d))
 
 pub overflow_add-walk : goal.overflow_add-walk
 overflow_add-walk c =
     let d = (goal.at.overflow_add-walk c).In-Some in
     let name = ends_in_name d in
-    omega (arith, last_fits c.args.path.now c.args.walk.now (some_left d) name, name.in_order)
+    omega (arith, last_fits c.args.path.now c.args.walk.now (some d) name, name.in_order)
 
 pub returns : goal.returns
 returns c =
     let d = (goal.at.returns c).In-Some in
-    let t = takes_last_name c.args.path.now c.args.walk.now (some_left d) (ends_in_name d)
+    let t = takes_last_name c.args.path.now c.args.walk.now (some d) (ends_in_name d)
     (ap length c.left_of.ensures) in
     record {
-      ended = (λ no. let e : true ≡ false = no in cc, λ nothing. absurd (t.some nothing));
-      walk_stays = λ no. let e : true ≡ false = no in cc;
-      part_stays = λ no. let e : true ≡ false = no in cc;
+      ended = (λ no. absurd (true≢false no), λ nothing. absurd (t.some nothing));
+      walk_stays = λ no. absurd (true≢false no);
+      part_stays = λ no. absurd (true≢false no);
       parts = λ _. t.parts_are;
       values = λ _. t.values_are;
       bytes = λ _. t.bytes;
