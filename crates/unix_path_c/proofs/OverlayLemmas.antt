@@ -37,17 +37,17 @@ pub buffer_after-fits : (bytes old : List ℕ) → length bytes ≤ length old
 buffer_after-fits bytes old h = cond-true _ _ _ (le-leb (length bytes) (length old) h)
 
 -- three stretches, put one behind the other into a buffer that has room for all of them
-pub buffer_after-three : {one two three : List ℕ} (old start mark end : List ℕ) (n : ℕ)
-    → n ≡ length start + length mark → n + length end ≤ length old
-    → one ≡ overlay 0 start old → two ≡ overlay (length start) mark one
-    → three ≡ overlay n end two → three ≡ buffer_after ((start ++ mark) ++ end) old
-buffer_after-three old start mark end n at fits first second third =
-    let both : n ≡ length (start ++ mark) = omega (arith, at, length-append start mark) in
-    let all : length ((start ++ mark) ++ end) ≤ length old =
-    omega (arith, both, fits, length-append (start ++ mark) end) in
+pub buffer_after-three : {one two three : List ℕ} (old start gap end : List ℕ) (n : ℕ)
+    → n ≡ length start + length gap → n + length end ≤ length old
+    → one ≡ overlay 0 start old → two ≡ overlay (length start) gap one
+    → three ≡ overlay n end two → three ≡ buffer_after ((start ++ gap) ++ end) old
+buffer_after-three old start gap end n at fits first second third =
+    let both : n ≡ length (start ++ gap) = omega (arith, at, length-append start gap) in
+    let all : length ((start ++ gap) ++ end) ≤ length old =
+    omega (arith, both, fits, length-append (start ++ gap) end) in
     third
     ∙ ap₂ (λ n two. overlay n end two) both (second
-    ∙ ap (overlay (length start) mark) (first ∙ overlay-first start old)
-    ∙ overlay-bytes_over start mark old)
-    ∙ overlay-bytes_over (start ++ mark) end old
-    ∙ sym (buffer_after-fits ((start ++ mark) ++ end) old all)
+    ∙ ap (overlay (length start) gap) (first ∙ overlay-first start old)
+    ∙ overlay-bytes_over start gap old)
+    ∙ overlay-bytes_over (start ++ gap) end old
+    ∙ sym (buffer_after-fits ((start ++ gap) ++ end) old all)

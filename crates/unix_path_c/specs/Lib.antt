@@ -4,7 +4,7 @@ pub mod Queries
 pub mod Within
 pub mod Buffer
 pub mod Overlay
-pub mod Pieces
+pub mod Layout
 pub mod SaturatedSize
 pub mod Gaps
 pub mod Steps

@@ -8,7 +8,7 @@ ghost use Rattle.unix_path_c.specs.Gaps.{gap_after};
 ghost use Rattle.unix_path_c.specs.Buffer.{buffer_after};
 
 use crate::spelling::own_spelling;
-use crate::writing::{mark_len, place_behind, place_whole};
+use crate::writing::{gap_len, place_behind, place_whole};
 use unix_path::{Component, Path};
 
 // The byte behind the part and before the next one: none behind the root.
@@ -30,7 +30,7 @@ fn spelling_len(path: Path<'_>) -> usize
     let mut len = 0_usize;
     let mut gap = None;
     for part in path.components() {
-        len += mark_len(gap) + part.as_unix_str().len();
+        len += gap_len(gap) + part.as_unix_str().len();
         gap = gap_after(part);
     }
     len

@@ -5,48 +5,49 @@ ghost use Rattle.unix_path.specs.Edits.{with_extension_of, with_name_of};
 ghost use Rattle.unix_path.specs.Extensions.{has_slash};
 ghost use Rattle.unix_path.specs.Joins.{is_open, join_of};
 ghost use Rattle.unix_path.specs.Steps.{gap_bytes};
-ghost use Rattle.unix_path_c.specs.Pieces.{pieces_bytes};
+ghost use Rattle.unix_path_c.specs.Layout.{layout_bytes};
 ghost use Rattle.unix_path_c.specs.Buffer.{buffer_after};
 
-use crate::writing::{mark_len, place, place_mark};
+use crate::places::last_end;
+use crate::writing::{gap_len, place, place_gap};
 use unix_path::{Component, Path};
 
 /// What `unix_path_with_extension` answers where the extension has a slash. No buffer has as many
 /// bytes.
 pub const SEPARATOR: usize = usize::MAX;
 
-// What an answer is made of: a beginning, a byte behind it or none, and an end.
+// What an answer is made of: a beginning, a gap of one byte or none behind it, and an end.
 #[derive(Clone, Copy)]
-struct Pieces<'a> {
+struct Layout<'a> {
     beginning: &'a [u8],
-    mark: Option<u8>,
+    gap: Option<u8>,
     end: &'a [u8],
 }
 
-impl Pieces<'_> {
-    // How many bytes the pieces have.
+impl Layout<'_> {
+    // How many bytes the whole has.
     #[inline]
     fn total_len(&self) -> usize
-        ensures total { result ≡ length (pieces_bytes self.now) }
-        ensures pieces { result ≡ length self.now.beginning.now
-            + length (gap_bytes self.now.mark) + length self.now.end.now }
+        ensures total { result ≡ length (layout_bytes self.now) }
+        ensures sum { result ≡ length self.now.beginning.now
+            + length (gap_bytes self.now.gap) + length self.now.end.now }
     {
-        self.beginning.len() + mark_len(self.mark) + self.end.len()
+        self.beginning.len() + gap_len(self.gap) + self.end.len()
     }
 
-    // Writes the pieces to the beginning of the buffer if it has room for all of them, and gives
-    // how many bytes they have.
+    // Writes the whole to the beginning of the buffer if it has room for all of it, and gives how
+    // many bytes the whole has.
     #[inline]
     fn write(&self, out: &mut [u8]) -> usize
-        ensures out { out.new ≡ buffer_after (pieces_bytes self.now) out.old }
-        ensures length { result ≡ length (pieces_bytes self.now) }
+        ensures out { out.new ≡ buffer_after (layout_bytes self.now) out.old }
+        ensures length { result ≡ length (layout_bytes self.now) }
     {
         let total = self.total_len();
         if total > out.len() {
             return total;
         }
         place(out, 0, self.beginning);
-        place_mark(out, self.beginning.len(), self.mark);
+        place_gap(out, self.beginning.len(), self.gap);
         place(out, total - self.end.len(), self.end);
         total
     }
@@ -60,30 +61,30 @@ fn is_open(path: &[u8]) -> bool
     path.is_empty() || path[path.len() - 1] == b'/'
 }
 
-// The pieces of a join.
+// What a join is made of.
 #[inline]
-fn join_pieces<'a>(base: Path<'a>, path: Path<'a>) -> Pieces<'a>
-    ensures { pieces_bytes result ≡ join_of base.entry.bytes.now path.entry.bytes.now }
+fn join_layout<'a>(base: Path<'a>, path: Path<'a>) -> Layout<'a>
+    ensures { layout_bytes result ≡ join_of base.entry.bytes.now path.entry.bytes.now }
 {
     let end = path.bytes;
     if path.has_root() {
-        return Pieces {
+        return Layout {
             beginning: &[],
-            mark: None,
+            gap: None,
             end,
         };
     }
     let beginning = base.bytes;
     if is_open(beginning) {
-        return Pieces {
+        return Layout {
             beginning,
-            mark: None,
+            gap: None,
             end,
         };
     }
-    Pieces {
+    Layout {
         beginning,
-        mark: Some(b'/'),
+        gap: Some(b'/'),
         end,
     }
 }
@@ -115,8 +116,7 @@ fn stem_end(path: Path<'_>) -> Option<usize>
     let Some(stem) = path.file_stem() else {
         return None;
     };
-    let end = path.components().as_path().bytes.len();
-    Some(end - name.bytes.len() + stem.bytes.len())
+    Some(last_end(path) - name.bytes.len() + stem.bytes.len())
 }
 
 // The dot before an extension, unless that is empty.
@@ -130,21 +130,21 @@ fn dot_before(extension: &[u8]) -> Option<u8>
     Some(b'.')
 }
 
-// The pieces of a path with another extension.
+// What a path with another extension is made of.
 #[inline]
-fn extension_pieces<'a>(path: Path<'a>, extension: &'a [u8]) -> Pieces<'a>
-    ensures { pieces_bytes result ≡ with_extension_of path.entry.bytes.now extension.now }
+fn extension_layout<'a>(path: Path<'a>, extension: &'a [u8]) -> Layout<'a>
+    ensures { layout_bytes result ≡ with_extension_of path.entry.bytes.now extension.now }
 {
     let Some(end) = stem_end(path) else {
-        return Pieces {
+        return Layout {
             beginning: path.bytes,
-            mark: None,
+            gap: None,
             end: &[],
         };
     };
-    Pieces {
+    Layout {
         beginning: &path.bytes[..end],
-        mark: dot_before(extension),
+        gap: dot_before(extension),
         end: extension,
     }
 }
@@ -162,7 +162,7 @@ pub extern "C" fn unix_path_join(base: &[u8], path: &[u8], out: &mut [u8]) -> us
     ensures out { out.new ≡ buffer_after (join_of base.now path.now) out.old }
     ensures length { result ≡ length (join_of base.now path.now) }
 {
-    join_pieces(Path { bytes: base }, Path { bytes: path }).write(out)
+    join_layout(Path { bytes: base }, Path { bytes: path }).write(out)
 }
 
 /// Writes the path with another file name to `out`, and gives how many bytes it has then.
@@ -180,7 +180,7 @@ pub extern "C" fn unix_path_with_file_name(path: &[u8], name: &[u8], out: &mut [
     ensures out { out.new ≡ buffer_after (with_name_of path.now name.now) out.old }
     ensures length { result ≡ length (with_name_of path.now name.now) }
 {
-    join_pieces(before_name(Path { bytes: path }), Path { bytes: name }).write(out)
+    join_layout(before_name(Path { bytes: path }), Path { bytes: name }).write(out)
 }
 
 /// Writes the path with another extension to `out`, and gives how many bytes it has then.
@@ -190,7 +190,8 @@ pub extern "C" fn unix_path_with_file_name(path: &[u8], name: &[u8], out: &mut [
 /// answer is `UNIX_PATH_SEPARATOR`, and nothing is written. If `out` has room for all of it, the
 /// answer stands at its beginning, and the bytes behind stay; else nothing is written. Lengths are
 /// in bytes. `out` overlaps neither slice, and no pointer is null. Does not allocate. As Rust's
-/// `Path::with_extension`, which panics for a separator.
+/// `Path::with_extension`, but that panics for a separator, and gives `..` for `..a` whatever the
+/// extension is.
 ///
 /// `foo.rs/.` with the extension `txt` is `foo.txt`, of 7 bytes, and `..` stays `..`.
 #[unsafe(no_mangle)]
@@ -205,5 +206,5 @@ pub extern "C" fn unix_path_with_extension(path: &[u8], extension: &[u8], out: &
     if extension.contains(&b'/') {
         return SEPARATOR;
     }
-    extension_pieces(Path { bytes: path }, extension).write(out)
+    extension_layout(Path { bytes: path }, extension).write(out)
 }

@@ -12,7 +12,11 @@ ghost use Rattle.unix_path_c.specs.Places.{place_end, place_bytes, name_start_of
 
 use unix_path::Path;
 
-/// A stretch of a path: `length` bytes, the first of them at place `start`. Both are bytes.
+/// A stretch of a path: `length` bytes, the first of them at place `start`. Both count bytes.
+///
+/// Not in Rust's std, which gives slices.
+///
+/// For `tmp` in `/tmp//foo/` it is from 1 on, of 3 bytes.
 #[derive(Clone, Copy)]
 #[repr(C)]
 pub struct Place {
@@ -36,7 +40,7 @@ fn place_at_end(end: usize, bytes: &[u8]) -> Place
 
 // Where the last part ends.
 #[inline]
-fn last_end(path: Path<'_>) -> usize
+pub(crate) fn last_end(path: Path<'_>) -> usize
     ensures { result ≡ last_end_of path.entry.bytes.now }
 {
     path.components().as_path().bytes.len()

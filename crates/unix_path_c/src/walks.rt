@@ -9,7 +9,7 @@ ghost use Rattle.unix_path_c.specs.Steps.{TakenBehind, TakenInFront};
 ghost use Rattle.unix_path_c.specs.Walks.{InOrder, bytes_left, kind_of as kind_of_value};
 ghost use Rattle.unix_path_c.specs.Walks.{part_bytes, part_end, part_in, part_value, parts_left};
 
-use crate::firsts::{NORMAL, first_part};
+use crate::firsts::{NORMAL, PARENT_DIR, first_part};
 use crate::names::last_name;
 use crate::places::Place;
 use unix_path::{Component, Path};
@@ -19,6 +19,8 @@ use unix_path::{Component, Path};
 /// The caller keeps the walk, and hands it in with the bytes of the same path. A walk has ended if
 /// its places are out of order or lie past the path's end. A copy of it goes on by itself. As
 /// Rust's `Components`.
+///
+/// For `/tmp//foo/` a new walk is from 0 to 9.
 #[derive(Clone, Copy)]
 #[repr(C)]
 pub struct Walk {
@@ -29,6 +31,8 @@ pub struct Walk {
 }
 
 /// A part of a path: where the part stands, and its kind. As Rust's `Component`.
+///
+/// For `foo` in `/tmp//foo/` it is from 6 on, of 3 bytes and kind 3.
 #[derive(Clone, Copy)]
 #[repr(C)]
 pub struct Part {
@@ -48,7 +52,7 @@ fn kind_of(part: Component<'_>) -> u32
     match part {
         Component::RootDir => 0,
         Component::CurDir => 1,
-        Component::ParentDir => 2,
+        Component::ParentDir => PARENT_DIR,
         Component::Normal(_) => NORMAL,
     }
 }

@@ -27,23 +27,23 @@ pub(crate) fn place_whole(out: &mut [u8], bytes: &[u8]) -> usize
     bytes.len()
 }
 
-// Puts the mark, if there is one, in place of the byte at `at`.
+// Puts the gap's byte, if it has one, in place of the byte at `at`.
 #[inline]
-pub(crate) fn place_mark(out: &mut [u8], at: usize, mark: Option<u8>)
-    requires { at + length (gap_bytes mark) ≤ length out.old }
-    ensures { out.new ≡ overlay at (gap_bytes mark) out.old }
+pub(crate) fn place_gap(out: &mut [u8], at: usize, gap: Option<u8>)
+    requires { at + length (gap_bytes gap) ≤ length out.old }
+    ensures { out.new ≡ overlay at (gap_bytes gap) out.old }
 {
-    if let Some(byte) = mark {
+    if let Some(byte) = gap {
         out[at] = byte;
     }
 }
 
-// How many bytes the mark takes: one, or none.
+// How many bytes the gap has: one, or none.
 #[inline]
-pub(crate) fn mark_len(mark: Option<u8>) -> usize
-    ensures { result ≡ length (gap_bytes mark) }
+pub(crate) fn gap_len(gap: Option<u8>) -> usize
+    ensures { result ≡ length (gap_bytes gap) }
 {
-    match mark {
+    match gap {
         Some(_) => 1,
         None => 0,
     }
@@ -64,17 +64,17 @@ pub(crate) fn place_both(out: &mut [u8], at: usize, first: &[u8], second: &[u8])
     middle + second.len()
 }
 
-// Puts the mark, if there is one, and the bytes behind it at `at`, in place of as many bytes, and
-// gives where they end.
+// Puts the gap's byte, if it has one, and the bytes behind it at `at`, in place of as many bytes,
+// and gives where they end.
 #[inline]
-pub(crate) fn place_behind(out: &mut [u8], at: usize, mark: Option<u8>, bytes: &[u8]) -> usize
-    requires { at + length (gap_bytes mark) + length bytes.now ≤ length out.old }
-    ensures out { let middle = at + length (gap_bytes mark) in
-        out.new ≡ overlay middle bytes.now (overlay at (gap_bytes mark) out.old) }
-    ensures end { result ≡ at + length (gap_bytes mark) + length bytes.now }
+pub(crate) fn place_behind(out: &mut [u8], at: usize, gap: Option<u8>, bytes: &[u8]) -> usize
+    requires { at + length (gap_bytes gap) + length bytes.now ≤ length out.old }
+    ensures out { let middle = at + length (gap_bytes gap) in
+        out.new ≡ overlay middle bytes.now (overlay at (gap_bytes gap) out.old) }
+    ensures end { result ≡ at + length (gap_bytes gap) + length bytes.now }
 {
-    let middle = at + mark_len(mark);
-    place_mark(out, at, mark);
+    let middle = at + gap_len(gap);
+    place_gap(out, at, gap);
     place(out, middle, bytes);
     middle + bytes.len()
 }

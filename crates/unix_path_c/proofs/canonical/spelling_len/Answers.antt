@@ -11,7 +11,7 @@ use Rattle.unix_path_c.proofs.canonical.spelling_len.Goals.{After-len}
 
 -- the bytes that are counted, with those of one part more, are never more than the path's
 fits : (c : After-len)
-    → c.loop-part.len + (c.mark_len.result + c.len.result) ≤ length c.args.path.bytes.now
+    → c.loop-part.len + (c.gap_len.result + c.len.result) ≤ length c.args.path.bytes.now
 fits c =
     omega (
       arith,
@@ -20,7 +20,7 @@ fits c =
           c.loop-part.len c.loop-part.invariant.2
           c.in-Some.ensures.steps.item_is,
       c.len.ensures,
-      c.mark_len.ensures,
+      c.gap_len.ensures,
       ap length c.as_unix_str.ensures,
     )
 
@@ -57,7 +57,7 @@ loop-part-preserved c =
         arith,
         c.loop-part.invariant.2,
         next,
-        c.mark_len.ensures,
+        c.gap_len.ensures,
         c.len.ensures,
         ap length c.as_unix_str.ensures,
         ap (λ g. length (spelling_behind g more)) c.gap_after-gap.ensures,
