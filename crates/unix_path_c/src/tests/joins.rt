@@ -1,6 +1,6 @@
-//! Rows of joins, and of paths with another file name or extension, in buffers of every length.
+//! Rows of joins, and of paths with another file name or extension, in buffers of 0 to 31 bytes.
 use crate::joins::{SEPARATOR, unix_path_join, unix_path_with_extension, unix_path_with_file_name};
-use crate::tests::rooms::holds;
+use crate::tests::rooms::{holds, is_answered};
 
 // A path, a path to join to it, and the join.
 static JOINS: [(&'static str, &'static str, &'static str); 16] = [
@@ -63,49 +63,38 @@ static EXTENSIONS: [(&'static str, &'static str, &'static str); 19] = [
     ("/", "foo", "/"),
 ];
 
-#[derive(Clone, Copy)]
-enum Call {
-    Join,
-    WithFileName,
-    WithExtension,
+// Whether the join is written, where there is room for it.
+fn is_joined(base: &str, path: &str, want: &str) -> bool {
+    let call = |out: &mut [u8]| unix_path_join(base.as_bytes(), path.as_bytes(), out);
+    is_answered(call, want.len(), want.as_bytes())
 }
 
-fn answer(call: Call, path: &str, more: &str, out: &mut [u8]) -> usize {
-    match call {
-        Call::Join => unix_path_join(path.as_bytes(), more.as_bytes(), out),
-        Call::WithFileName => unix_path_with_file_name(path.as_bytes(), more.as_bytes(), out),
-        Call::WithExtension => unix_path_with_extension(path.as_bytes(), more.as_bytes(), out),
-    }
+// Whether the path with that file name is written, where there is room for it.
+fn is_named(path: &str, name: &str, want: &str) -> bool {
+    let call = |out: &mut [u8]| unix_path_with_file_name(path.as_bytes(), name.as_bytes(), out);
+    is_answered(call, want.len(), want.as_bytes())
 }
 
-// Whether the call gives the length and writes what it should, in buffers of 0 to 31 bytes.
-fn is_answered(call: Call, path: &str, more: &str, want: &str) -> bool {
-    for room in 0..32usize {
-        let mut buffer = [b'#'; 32];
-        let out = &mut buffer[..room];
-        if answer(call, path, more, out) != want.len() || !holds(out, want.as_bytes()) {
-            return false;
-        }
-    }
-    true
+// Whether the path with that extension is written, where there is room for it.
+fn is_extended(path: &str, extension: &str, want: &str) -> bool {
+    let call = |out: &mut [u8]| unix_path_with_extension(
+        path.as_bytes(),
+        extension.as_bytes(),
+        out,
+    );
+    is_answered(call, want.len(), want.as_bytes())
 }
 
 #[test]
 fn every_room_is_answered(rt: HostRuntime) {
     for (base, path, want) in JOINS {
-        assert!(rt;
-            is_answered(Call::Join, base, path, want),
-            "{base} joined with {path}"
-        );
+        assert!(rt; is_joined(base, path, want), "{base} joined with {path}");
     }
     for (path, name, want) in NAMES {
-        assert!(rt;
-            is_answered(Call::WithFileName, path, name, want),
-            "{path} with {name}"
-        );
+        assert!(rt; is_named(path, name, want), "{path} with {name}");
     }
     for (path, extension, want) in EXTENSIONS {
-        let is_right = is_answered(Call::WithExtension, path, extension, want);
+        let is_right = is_extended(path, extension, want);
         assert!(rt; is_right, "{path} with the extension {extension}");
     }
 }

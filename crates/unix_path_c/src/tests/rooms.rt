@@ -13,3 +13,17 @@ pub(crate) fn holds(out: &[u8], want: &[u8]) -> bool {
         None => false,
     }
 }
+
+// Whether the call gives this answer and writes these bytes, in buffers of 0 to 31 bytes.
+pub(crate) fn is_answered<F: Fn(&mut [u8]) -> usize>(call: F, answer: usize, want: &[u8]) -> bool
+    requires { F.IsAlwaysCallable call }
+{
+    for room in 0..32usize {
+        let mut buffer = [b'#'; 32];
+        let out = &mut buffer[..room];
+        if call(out) != answer || !holds(out, want) {
+            return false;
+        }
+    }
+    true
+}

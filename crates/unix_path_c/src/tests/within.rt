@@ -1,5 +1,5 @@
-//! Rows of resolved paths and of joins that stay under a root, with every short buffer.
-use crate::tests::rooms::holds;
+//! Rows of resolved paths and of joins that stay under a root, in buffers of 0 to 31 bytes.
+use crate::tests::rooms::is_answered;
 use crate::within::{unix_path_join_within, unix_path_resolved};
 use std::alloc::Global;
 
@@ -39,34 +39,24 @@ static JOINS: [(&'static str, &'static str, Option<&'static str>); 13] = [
     ("/", "a\0/../etc", Some("/etc")),
 ];
 
-// Whether the path resolves to these bytes in a buffer of any length.
+// Whether what the path resolves to is written, where there is room for it.
 fn is_resolved(alloc: Global, path: &str, want: &str) -> bool {
-    for room in 0..24 {
-        let mut buffer = [b'#'; 24];
-        let out = &mut buffer[..room];
-        let answer = unix_path_resolved(alloc, path.as_bytes(), out);
-        if answer != want.len() || !holds(out, want.as_bytes()) {
-            return false;
-        }
-    }
-    true
+    let call = |out: &mut [u8]| unix_path_resolved(alloc, path.as_bytes(), out);
+    is_answered(call, want.len(), want.as_bytes())
 }
 
-// Whether the join is this one in a buffer of any length, or is refused where none is wanted.
+// Whether the join is written, where there is room for it, or is refused if none is wanted.
 fn is_joined(alloc: Global, root: &str, request: &str, want: Option<&str>) -> bool {
-    for room in 0..24 {
-        let mut buffer = [b'#'; 24];
-        let out = &mut buffer[..room];
-        let answer = unix_path_join_within(alloc, root.as_bytes(), request.as_bytes(), out);
-        let is_right = match want {
-            Some(want) => answer == want.len() && holds(out, want.as_bytes()),
-            None => answer == ESCAPES && holds(out, b""),
-        };
-        if !is_right {
-            return false;
-        }
+    let call = |out: &mut [u8]| unix_path_join_within(
+        alloc,
+        root.as_bytes(),
+        request.as_bytes(),
+        out,
+    );
+    match want {
+        Some(want) => is_answered(call, want.len(), want.as_bytes()),
+        None => is_answered(call, ESCAPES, b""),
     }
-    true
 }
 
 #[test]
