@@ -2,10 +2,6 @@
 #define _DEFAULT_SOURCE
 #include "check.h"
 
-typedef bool (*call_of_place)(const uint8_t *, size_t, unix_path_place *);
-typedef bool (*call_of_truth)(const uint8_t *, size_t);
-typedef bool (*call_of_relation)(const uint8_t *, size_t, const uint8_t *, size_t);
-
 // A record that no call gives, so that it shows whether one was written.
 static const unix_path_place no_place = {SIZE_MAX, SIZE_MAX - 1};
 static const unix_path_part no_part = {SIZE_MAX, SIZE_MAX - 1, UINT32_MAX};
@@ -219,16 +215,6 @@ static size_t call_row(size_t row, uint8_t *out, size_t room) {
     return outputs[row].two(a.bytes, a.length, b.bytes, b.length, out, room);
 }
 
-// Whether the memory begins with the answer, and has only guards behind it.
-static bool is_written(const uint8_t *memory, size_t size, view answer) {
-    for (size_t at = answer.length; at < size; at++) {
-        if (memory[at] != 0xA5) {
-            return false;
-        }
-    }
-    return memcmp(memory, answer.bytes, answer.length) == 0;
-}
-
 static void ample_memory(void) {
     for (size_t row = 0; row < output_count; row++) {
         uint8_t memory[64];
@@ -420,12 +406,13 @@ static void call_all_of_one(view path) {
         CHECK(is_there ? is_inside(path, place) : same_place(place, no_place), "call %zu", at);
     }
     for (size_t at = 0; at < sizeof writers / sizeof *writers; at++) {
-        text made = new_text();
-        add_one(&made, writers[at], path);
-        uint8_t *out = second_fence.begin + second_fence.size - made.length;
-        CHECK(writers[at](path.bytes, path.length, out, made.length) == made.length, "%zu", at);
-        CHECK(same_bytes(as_view(&made), (view){out, made.length}), "call %zu", at);
-        free(made.bytes);
+        text answer = new_text();
+        add_one(&answer, writers[at], path);
+        size_t room = answer.length;
+        uint8_t *out = second_fence.begin + second_fence.size - room;
+        CHECK(writers[at](path.bytes, path.length, out, room) == room, "call %zu", at);
+        CHECK(same_bytes(as_view(&answer), (view){out, room}), "call %zu", at);
+        free(answer.bytes);
     }
     unix_path_climbs(path.bytes, path.length);
     unix_path_is_utf8(path.bytes, path.length);

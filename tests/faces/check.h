@@ -1,4 +1,4 @@
-// Checks that are counted, and memory beside which nothing can be read.
+// Checks that are counted, memory beside which nothing can be read, and what a call wrote.
 #ifndef CHECK_H
 #define CHECK_H
 
@@ -58,6 +58,16 @@ static inline view fence_in(fence around, view bytes, bool at_end) {
     uint8_t *begin = at_end ? around.begin + around.size - bytes.length : around.begin;
     memcpy(begin, bytes.bytes, bytes.length);
     return (view){begin, bytes.length};
+}
+
+// Whether the memory begins with the answer, and all bytes behind it are still A5.
+static inline bool is_written(const uint8_t *memory, size_t size, view answer) {
+    for (size_t at = answer.length; at < size; at++) {
+        if (memory[at] != 0xA5) {
+            return false;
+        }
+    }
+    return memcmp(memory, answer.bytes, answer.length) == 0;
 }
 
 // Calls a function with each string of at most `longest` of these letters.

@@ -38,7 +38,7 @@ std::string output_of(OfOne call, std::string_view path) {
     return out;
 }
 
-// How many of all calls are right on a path without a file name.
+// How many of the calls in these lists are right on the root.
 int right_calls() {
     std::string_view root = "/";
     int right = 0;
@@ -68,16 +68,40 @@ int right_calls() {
     return right;
 }
 
+using Begin = void (*)(const uint8_t *, size_t, unix_path_walk *);
+using Left = void (*)(const uint8_t *, size_t, const unix_path_walk *, unix_path_place *);
+using Remainder = bool (*)(const uint8_t *, size_t, const uint8_t *, size_t, unix_path_place *);
+using Order = int32_t (*)(const uint8_t *, size_t, const uint8_t *, size_t);
+using Length = size_t (*)(const uint8_t *, size_t, const uint8_t *, size_t);
+using Hash = uint64_t (*)(const uint8_t *, size_t);
+
+constexpr Begin components = unix_path_components;
+constexpr Left as_path = unix_path_as_path;
+constexpr Remainder strip_prefix = unix_path_strip_prefix;
+constexpr Order compare = unix_path_compare;
+constexpr Length common_dir = unix_path_common_dir;
+constexpr Hash hash = unix_path_hash;
+
+// Whether the calls that have a type of their own are right.
+bool other_calls_are_right() {
+    std::string_view path = ".//a/./b/", base = "./a", spelling = "./a/b";
+    unix_path_walk walk;
+    unix_path_place left, rest;
+    components(bytes(path), path.size(), &walk);
+    as_path(bytes(path), path.size(), &walk, &left);
+    return path.substr(left.start, left.length) == ".//a/./b"
+           && strip_prefix(bytes(path), path.size(), bytes(base), base.size(), &rest)
+           && path.substr(rest.start, rest.length) == "b"
+           && compare(bytes(path), path.size(), bytes(base), base.size()) == 1
+           && common_dir(bytes(path), path.size(), bytes(base), base.size()) == 2
+           && hash(bytes(path), path.size()) == hash(bytes(spelling), spelling.size())
+           && output_of(unix_path_canonical, path) == spelling;
+}
+
 }  // namespace
 
 int main() {
-    std::string_view path = ".//a/./b/", base = "./a";
-    unix_path_place rest;
-    bool strips = unix_path_strip_prefix(bytes(path), path.size(), bytes(base), base.size(), &rest);
-    bool is_right = output_of(unix_path_canonical, path) == "./a/b" && right_calls() == 20 && strips
-                    && path.substr(rest.start, rest.length) == "b"
-                    && unix_path_compare(bytes(path), path.size(), bytes(base), base.size()) == 1
-                    && unix_path_common_dir(bytes(path), path.size(), bytes(base), 3) == 2;
+    bool is_right = right_calls() == 20 && other_calls_are_right();
     std::puts(is_right ? "1 passed, 0 failed" : "0 passed, 1 failed");
     return is_right ? 0 : 1;
 }

@@ -49,15 +49,6 @@ static size_t call_row(size_t row, uint8_t *out, size_t room) {
     return unix_path_join_within(path.bytes, path.length, request.bytes, request.length, out, room);
 }
 
-static bool is_untouched(const uint8_t *memory, size_t size) {
-    for (size_t at = 0; at < size; at++) {
-        if (memory[at] != 0xA5) {
-            return false;
-        }
-    }
-    return true;
-}
-
 // Each request is refused once; without a refusal the call gives an answer.
 static void refused_requests(void) {
     for (size_t row = 0; row < 2 * path_count; row++) {
@@ -69,7 +60,8 @@ static void refused_requests(void) {
             size_t length = call_row(row, memory, sizeof memory);
             if (requests >= number) {
                 CHECK(length == UNIX_PATH_NO_MEMORY, "row %zu, request %zu", row, number);
-                CHECK(is_untouched(memory, sizeof memory), "row %zu, request %zu", row, number);
+                CHECK(is_written(memory, sizeof memory, view_of("")), "row %zu, request %zu", row,
+                      number);
             } else {
                 CHECK(length < sizeof memory, "row %zu, request %zu", row, number);
                 CHECK(number > 1, "row %zu asks for no memory", row);

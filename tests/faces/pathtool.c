@@ -1,10 +1,7 @@
 // Answers lines as pathtool does, over the library's calls from C.
 #include "text.h"
 
-typedef bool (*call_of_place)(const uint8_t *, size_t, unix_path_place *);
-typedef bool (*call_of_truth)(const uint8_t *, size_t, const uint8_t *, size_t);
-
-// The fields of a line behind its command, and whether an item of the answer stands before.
+// The fields of a line behind its command, its answer, and whether that has an item already.
 typedef struct {
     view *fields;
     size_t count;
@@ -13,53 +10,51 @@ typedef struct {
 } request;
 
 // Adds an item of a list.
-static void add_item(request *asked, view item) {
-    if (asked->has_item) {
-        add_string(asked->answer, "\t");
+static void add_item(request *line, view item) {
+    if (line->has_item) {
+        add_string(line->answer, "\t");
     }
-    add(asked->answer, item);
-    asked->has_item = true;
+    add(line->answer, item);
+    line->has_item = true;
 }
 
 static view part_at(view path, unix_path_part part) {
     return (view){path.bytes + part.start, part.length};
 }
 
-static bool parts(request *asked) {
-    view path = asked->fields[0];
+// Adds the parts of the path, in the order in which the call takes them.
+static bool answer_parts(request *line, call_of_step call) {
+    view path = line->fields[0];
     unix_path_walk walk;
     unix_path_part part;
     unix_path_components(path.bytes, path.length, &walk);
-    while (unix_path_next(path.bytes, path.length, &walk, &part)) {
-        add_item(asked, part_at(path, part));
+    while (call(path.bytes, path.length, &walk, &part)) {
+        add_item(line, part_at(path, part));
     }
     return true;
 }
 
-static bool back(request *asked) {
-    view path = asked->fields[0];
-    unix_path_walk walk;
-    unix_path_part part;
-    unix_path_components(path.bytes, path.length, &walk);
-    while (unix_path_next_back(path.bytes, path.length, &walk, &part)) {
-        add_item(asked, part_at(path, part));
-    }
-    return true;
+static bool parts(request *line) {
+    return answer_parts(line, unix_path_next);
 }
 
-static bool ancestors(request *asked) {
-    view path = asked->fields[0];
+static bool back(request *line) {
+    return answer_parts(line, unix_path_next_back);
+}
+
+static bool ancestors(request *line) {
+    view path = line->fields[0];
     unix_path_place place;
-    add_item(asked, path);
+    add_item(line, path);
     while (unix_path_parent(path.bytes, path.length, &place)) {
         path = view_at(path, place);
-        add_item(asked, path);
+        add_item(line, path);
     }
     return true;
 }
 
 // Takes a part for each turn; adds those of the turns of one letter, and answers how many.
-static size_t take(request *asked, view path, view turns, uint8_t wanted, unix_path_walk *walk) {
+static size_t take(request *line, view path, view turns, uint8_t wanted, unix_path_walk *walk) {
     size_t count = 0;
     unix_path_part part;
     unix_path_components(path.bytes, path.length, walk);
@@ -68,7 +63,7 @@ static size_t take(request *asked, view path, view turns, uint8_t wanted, unix_p
         bool is_part = (is_front ? unix_path_next : unix_path_next_back)(path.bytes, path.length,
                                                                          walk, &part);
         if (is_part && turns.bytes[at] == wanted) {
-            add_item(asked, part_at(path, part));
+            add_item(line, part_at(path, part));
             count++;
         }
     }
@@ -84,8 +79,8 @@ static bool are_turns(view turns) {
     return true;
 }
 
-static bool walk_turns(request *asked) {
-    view path = asked->fields[0], turns = asked->fields[1];
+static bool walk_turns(request *line) {
+    view path = line->fields[0], turns = line->fields[1];
     if (!are_turns(turns)) {
         return false;
     }
@@ -98,86 +93,86 @@ static bool walk_turns(request *asked) {
     unix_path_as_path(path.bytes, path.length, &walk, &rest);
     char counts[64];
     snprintf(counts, sizeof counts, "%zu\t%zu", front_count, behind_count);
-    add_item(asked, view_of(counts));
+    add_item(line, view_of(counts));
     if (front_count > 0) {
-        add(asked->answer, as_view(&front_items));
+        add(line->answer, as_view(&front_items));
     }
-    add_item(asked, view_at(path, rest));
+    add_item(line, view_at(path, rest));
     if (behind_count > 0) {
-        add(asked->answer, as_view(&behind_items));
+        add(line->answer, as_view(&behind_items));
     }
     free(front_items.bytes);
     free(behind_items.bytes);
     return true;
 }
 
-static bool answer_place(request *asked, call_of_place call) {
-    view path = asked->fields[0];
+static bool answer_place(request *line, call_of_place call) {
+    view path = line->fields[0];
     unix_path_place place;
     if (call(path.bytes, path.length, &place)) {
-        add_string(asked->answer, "+");
-        add(asked->answer, view_at(path, place));
+        add_string(line->answer, "+");
+        add(line->answer, view_at(path, place));
     } else {
-        add_string(asked->answer, "-");
+        add_string(line->answer, "-");
     }
     return true;
 }
 
-static bool parent(request *asked) {
-    return answer_place(asked, unix_path_parent);
+static bool parent(request *line) {
+    return answer_place(line, unix_path_parent);
 }
 
-static bool name(request *asked) {
-    return answer_place(asked, unix_path_file_name);
+static bool name(request *line) {
+    return answer_place(line, unix_path_file_name);
 }
 
-static bool stem(request *asked) {
-    return answer_place(asked, unix_path_file_stem);
+static bool stem(request *line) {
+    return answer_place(line, unix_path_file_stem);
 }
 
-static bool extension(request *asked) {
-    return answer_place(asked, unix_path_extension);
+static bool extension(request *line) {
+    return answer_place(line, unix_path_extension);
 }
 
-static bool strip(request *asked) {
-    view path = asked->fields[0], base = asked->fields[1];
+static bool strip(request *line) {
+    view path = line->fields[0], base = line->fields[1];
     unix_path_place place;
     if (unix_path_strip_prefix(path.bytes, path.length, base.bytes, base.length, &place)) {
-        add_string(asked->answer, "+");
-        add(asked->answer, view_at(path, place));
+        add_string(line->answer, "+");
+        add(line->answer, view_at(path, place));
     } else {
-        add_string(asked->answer, "prefix not found");
+        add_string(line->answer, "prefix not found");
     }
     return true;
 }
 
-static bool answer_truth(request *asked, call_of_truth call) {
-    view a = asked->fields[0], b = asked->fields[1];
+static bool answer_relation(request *line, call_of_relation call) {
+    view a = line->fields[0], b = line->fields[1];
     bool is_true = call(a.bytes, a.length, b.bytes, b.length);
-    add_string(asked->answer, is_true ? "true" : "false");
+    add_string(line->answer, is_true ? "true" : "false");
     return true;
 }
 
-static bool starts(request *asked) {
-    return answer_truth(asked, unix_path_starts_with);
+static bool starts(request *line) {
+    return answer_relation(line, unix_path_starts_with);
 }
 
-static bool ends(request *asked) {
-    return answer_truth(asked, unix_path_ends_with);
+static bool ends(request *line) {
+    return answer_relation(line, unix_path_ends_with);
 }
 
-static bool canon(request *asked) {
-    add_one(asked->answer, unix_path_canonical, asked->fields[0]);
+static bool canon(request *line) {
+    add_one(line->answer, unix_path_canonical, line->fields[0]);
     return true;
 }
 
-static bool show(request *asked) {
-    add_one(asked->answer, unix_path_to_string_lossy, asked->fields[0]);
+static bool show(request *line) {
+    add_one(line->answer, unix_path_to_string_lossy, line->fields[0]);
     return true;
 }
 
-static bool join(request *asked) {
-    return add_two(asked->answer, unix_path_join, asked->fields[0], asked->fields[1]);
+static bool join(request *line) {
+    return add_two(line->answer, unix_path_join, line->fields[0], line->fields[1]);
 }
 
 static int compare(const void *first, const void *second) {
@@ -185,9 +180,9 @@ static int compare(const void *first, const void *second) {
     return unix_path_compare(a->bytes, a->length, b->bytes, b->length);
 }
 
-static bool order(request *asked) {
+static bool order(request *line) {
     static const char *names[] = {"less", "equal", "greater"};
-    add_string(asked->answer, names[1 + compare(&asked->fields[0], &asked->fields[1])]);
+    add_string(line->answer, names[1 + compare(&line->fields[0], &line->fields[1])]);
     return true;
 }
 
@@ -195,19 +190,19 @@ static bool is_equal(view a, view b) {
     return unix_path_equal(a.bytes, a.length, b.bytes, b.length);
 }
 
-static bool under(request *asked) {
-    view base = asked->fields[0], *paths = asked->fields + 1;
-    size_t count = asked->count - 1;
+static bool under(request *line) {
+    view base = line->fields[0], *paths = line->fields + 1;
+    size_t count = line->count - 1;
     qsort(paths, count, sizeof *paths, compare);
     for (size_t at = 0; at < count; at++) {
         unix_path_place rest;
         bool is_first = at == 0 || !is_equal(paths[at - 1], paths[at]);
         if (is_first && unix_path_strip_prefix(paths[at].bytes, paths[at].length, base.bytes,
                                                base.length, &rest)) {
-            text spelled = new_text();
-            add_one(&spelled, unix_path_canonical, view_at(paths[at], rest));
-            add_item(asked, as_view(&spelled));
-            free(spelled.bytes);
+            text spelling = new_text();
+            add_one(&spelling, unix_path_canonical, view_at(paths[at], rest));
+            add_item(line, as_view(&spelling));
+            free(spelling.bytes);
         }
     }
     return true;
@@ -226,30 +221,30 @@ static void add_escaped(text *answer, uint8_t byte) {
     add_string(answer, escaped);
 }
 
-static bool json(request *asked) {
-    view path = asked->fields[0];
+static bool json(request *line) {
+    view path = line->fields[0];
     if (!unix_path_is_utf8(path.bytes, path.length)) {
-        add_string(asked->answer, "path contains invalid UTF-8 characters");
+        add_string(line->answer, "path contains invalid UTF-8 characters");
         return true;
     }
-    add_string(asked->answer, "\"");
+    add_string(line->answer, "\"");
     for (size_t at = 0; at < path.length; at++) {
-        add_escaped(asked->answer, path.bytes[at]);
+        add_escaped(line->answer, path.bytes[at]);
     }
-    add_string(asked->answer, "\"");
+    add_string(line->answer, "\"");
     return true;
 }
 
 // Puts what a call gives in the place of the path; whether the call gives a path.
 static bool replace(text *path, call_of_two call, view end) {
-    text made = new_text();
-    bool is_made = add_two(&made, call, as_view(path), end);
-    if (is_made) {
+    text answer = new_text();
+    bool has_answer = add_two(&answer, call, as_view(path), end);
+    if (has_answer) {
         path->length = 0;
-        add(path, as_view(&made));
+        add(path, as_view(&answer));
     }
-    free(made.bytes);
-    return is_made;
+    free(answer.bytes);
+    return has_answer;
 }
 
 static const char *push(text *path, view rest) {
@@ -329,21 +324,21 @@ static const char *make_edit(text *path, view field) {
     return NULL;
 }
 
-static bool edit_path(request *asked) {
-    text path = copy_of(asked->fields[0]), answers = new_text();
-    const char *told = "";
-    for (size_t at = 1; at < asked->count && told != NULL; at++) {
-        told = make_edit(&path, asked->fields[at]);
+static bool edit_path(request *line) {
+    text path = copy_of(line->fields[0]), answers = new_text();
+    const char *word = "";
+    for (size_t at = 1; at < line->count && word != NULL; at++) {
+        word = make_edit(&path, line->fields[at]);
         add_string(&answers, "\t");
-        add_string(&answers, told == NULL ? "" : told);
+        add_string(&answers, word == NULL ? "" : word);
     }
-    if (told != NULL) {
-        add(asked->answer, as_view(&path));
-        add(asked->answer, as_view(&answers));
+    if (word != NULL) {
+        add(line->answer, as_view(&path));
+        add(line->answer, as_view(&answers));
     }
     free(path.bytes);
     free(answers.bytes);
-    return told != NULL;
+    return word != NULL;
 }
 
 // A command: its name, the fewest and the most fields, and what answers it, which is false where
@@ -387,10 +382,10 @@ static const command *find(view name) {
 
 // Answers a line, cut into its fields.
 static void answer_fields(view *fields, size_t count, text *answer) {
-    request asked = {fields + 1, count - 1, answer, false};
+    request line = {fields + 1, count - 1, answer, false};
     const command *found = find(fields[0]);
-    bool is_counted = found != NULL && asked.count >= found->fewest && asked.count <= found->most;
-    if (!is_counted || !found->answer(&asked)) {
+    bool is_counted = found != NULL && line.count >= found->fewest && line.count <= found->most;
+    if (!is_counted || !found->answer(&line)) {
         add_string(answer, "bad command");
     }
 }
@@ -417,14 +412,14 @@ static void answer_line(view line, text *answer) {
 }
 
 static text read_all(FILE *file) {
-    text read = new_text();
+    text input = new_text();
     size_t count;
     do {
-        make_room(&read, read.length + 65536);
-        count = fread(read.bytes + read.length, 1, read.room - read.length, file);
-        read.length += count;
+        make_room(&input, input.length + 65536);
+        count = fread(input.bytes + input.length, 1, input.room - input.length, file);
+        input.length += count;
     } while (count > 0);
-    return read;
+    return input;
 }
 
 int main(void) {
