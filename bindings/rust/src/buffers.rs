@@ -37,7 +37,8 @@ pub fn with_file_name<'o>(path: &[u8], name: &[u8], out: &'o mut [u8]) -> Result
 /// takes the old one away. A path without a file name stays as it is.
 ///
 /// Fails with `Separator` exactly where the extension has a slash, and with `Short`. Does not
-/// allocate. As Rust's `Path::with_extension`, which panics at a slash.
+/// allocate. As Rust's `Path::with_extension`, but that panics for a separator, and gives `..` for
+/// `..a` whatever the extension is.
 ///
 /// ```
 /// use unix_path_rattle::{with_extension, Error};
@@ -87,8 +88,9 @@ pub fn to_string_lossy<'o>(path: &[u8], out: &'o mut [u8]) -> Result<&'o [u8], E
 /// so does `..` behind the root. An answer of no bytes stands for the current directory.
 ///
 /// It goes by names alone: where a part before a `..` may be a link, only the system knows where
-/// that `..` leads. It has at most as many bytes as the path. Fails with `NoMemory` where an
-/// allocation failed, and with `Short`. Not in Rust's std.
+/// that `..` leads. It has at most as many bytes as the path. Allocates once, as many bytes as the
+/// path has, or not at all for the empty path, and frees what it allocates. Fails with `NoMemory`
+/// where the allocation failed, and with `Short`. Not in Rust's std.
 ///
 /// ```
 /// let mut out = [0; 16];
@@ -103,9 +105,10 @@ pub fn resolved<'o>(path: &[u8], out: &'o mut [u8]) -> Result<&'o [u8], Error> {
 /// The request joined to the root, and resolved, so that it stays under the resolved root.
 ///
 /// Fails with `Escapes` exactly where the request [climbs](crate::climbs), before anything is
-/// allocated, with `NoMemory` where an allocation failed, and with `Short`. It goes by names alone:
-/// where a part of the root or of the request may be a link, let the system refuse links. Not in
-/// Rust's std.
+/// allocated. Else it allocates once, one byte more than both paths have, and frees what it
+/// allocates; it fails with `NoMemory` where the allocation failed, and with `Short`. It goes by
+/// names alone: where a part of the root or of the request may be a link, let the system refuse
+/// links. Not in Rust's std.
 ///
 /// ```
 /// use unix_path_rattle::{join_within, Error};

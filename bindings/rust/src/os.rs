@@ -1,6 +1,6 @@
 //! The calls over the paths and strings of Rust's std, on Unix.
 //!
-//! Their answers lie in the path that was given, or are a `PathBuf` of their own.
+//! Their answers lie in the path that was given, or are a `PathBuf` or a `String` of their own.
 use crate::components::{Component, Components};
 use crate::error::Error;
 use crate::owned;

@@ -155,7 +155,7 @@ pub fn compare(a: &[u8], b: &[u8]) -> Ordering {
 /// A number that equal paths share, the same in every run and on every machine.
 ///
 /// It has no key: where an attacker may choose the paths, hash their [canonical](crate::canonical)
-/// bytes with a hasher that has one.
+/// bytes with a hasher that has one. Not in Rust's std, whose `Path` feeds a hasher.
 ///
 /// ```
 /// assert_eq!(unix_path_rattle::hash(b"a//b/."), unix_path_rattle::hash(b"a/b"));
@@ -166,7 +166,7 @@ pub fn hash(path: &[u8]) -> u64 {
     ffi::hash(path)
 }
 
-/// Whether the path's bytes are UTF-8.
+/// Whether the path's bytes are UTF-8. As Rust's `Path::to_str`, which gives the text.
 ///
 /// ```
 /// assert!(unix_path_rattle::is_utf8("/tmp/é".as_bytes()));

@@ -1,4 +1,5 @@
-//! The calls, the records and the constants as `include/unix_path.h` declares them.
+//! The calls that this crate makes, their records and their constants, as `include/unix_path.h`
+//! declares them.
 
 pub type Start = *const u8;
 
@@ -75,9 +76,9 @@ extern "C" {
         request_length: usize, out: *mut u8, out_length: usize) -> usize;
 }
 
-/// `with_extension` answers so for an extension with a slash.
+/// What `unix_path_with_extension` answers for an extension with a slash.
 pub const SEPARATOR: usize = usize::MAX;
-/// `join_within` answers so for a request that climbs.
+/// What `unix_path_join_within` answers for a request that climbs.
 pub const ESCAPES: usize = usize::MAX - 1;
-/// `resolved` and `join_within` answer so where an allocation failed.
+/// What `unix_path_resolved` and `unix_path_join_within` answer where an allocation failed.
 pub const NO_MEMORY: usize = usize::MAX - 2;
