@@ -49,7 +49,7 @@ impl Error for RunError {}
 
 /// A failed allocation is `Memory`.
 impl From<AllocError> for RunError {
-    ghost from_gives = { λ error given. given ≡ Memory };
+    ghost from_gives = { λ error variant. variant ≡ Memory };
 
     fn from(_: AllocError) -> RunError {
         RunError::Memory

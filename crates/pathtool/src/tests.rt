@@ -18,7 +18,7 @@ fn output_for(rt: &impl Abort, alloc: Global, input: &[u8]) -> Result<Vec<u8>, F
     let mut reader = Watched::new(input);
     let mut writer = Watched::new(Vec::<u8>::new(alloc));
     assert_eq!(rt; run(alloc, &mut reader, &mut writer), Ok(()));
-    assert!(rt; reader.ended());
+    assert!(rt; reader.has_ended());
     Ok(writer.into_inner())
 }
 
@@ -199,9 +199,9 @@ fn read_errors_write_nothing(rt: HostRuntime) -> Result<(), Fail> {
         let mut writer = Watched::new(Vec::<u8>::new(rt.alloc()));
         let result = run(rt.alloc(), &mut reader, &mut writer);
         assert_eq!(&rt; result, Err(RunError::Read));
-        assert!(&rt; reader.failed());
-        assert!(&rt; !reader.ended());
-        assert!(&rt; !writer.failed());
+        assert!(&rt; reader.has_failed());
+        assert!(&rt; !reader.has_ended());
+        assert!(&rt; !writer.has_failed());
         assert_eq!(&rt; writer.into_inner().len(), 0);
     }
     Ok(())
@@ -221,8 +221,8 @@ fn output_before(
     let mut writer = Watched::new(FaultyWriter { left, fault, bytes });
     let result = run(alloc, &mut reader, &mut writer);
     assert_eq!(rt; result.err(), error);
-    assert_eq!(rt; writer.failed(), error.is_some());
-    assert!(rt; reader.ended());
+    assert_eq!(rt; writer.has_failed(), error.is_some());
+    assert!(rt; reader.has_ended());
     Ok(writer.into_inner().bytes)
 }
 

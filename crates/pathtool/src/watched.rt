@@ -28,7 +28,7 @@ impl<T> Watched<T> {
     ///
     /// Does not allocate. Not in Rust's std.
     ///
-    /// `Watched::new(reader).failed()` is false.
+    /// `Watched::new(reader).has_failed()` is false.
     pub fn new(inner: T) -> Watched<T>
         ensures inner { watched_inner result ≡ inner }
         ensures failed { has_failed result ≡ false }
@@ -48,7 +48,7 @@ impl<T> Watched<T> {
     /// Does not allocate. Not in Rust's std.
     ///
     /// It is true after a `flush` that failed.
-    pub fn failed(&self) -> bool
+    pub fn has_failed(&self) -> bool
         ensures { result ≡ has_failed self.now }
     {
         let Watched { failed, .. } = self;
@@ -60,7 +60,7 @@ impl<T> Watched<T> {
     /// Does not allocate. Not in Rust's std.
     ///
     /// It is false after a read into an empty slice.
-    pub fn ended(&self) -> bool
+    pub fn has_ended(&self) -> bool
         ensures { result ≡ has_ended self.now }
     {
         let Watched { ended, .. } = self;
@@ -72,7 +72,7 @@ impl<T> Watched<T> {
     /// Does not allocate. Not in Rust's std.
     ///
     /// It is false after a `write`.
-    pub fn flushed(&self) -> bool
+    pub fn is_flushed(&self) -> bool
         ensures { result ≡ is_flushed self.now }
     {
         let Watched { flushed, .. } = self;

@@ -96,8 +96,8 @@ fn one_failed_read_ends_the_run(rt: HostRuntime) -> Result<(), Fail> {
         let mut writer = Watched::new(Vec::<u8>::new(rt.alloc()));
         let result = run(rt.alloc(), &mut reader, &mut writer);
         assert_eq!(&rt; result, Err(RunError::Read));
-        assert!(&rt; reader.failed());
-        assert!(&rt; !reader.ended());
+        assert!(&rt; reader.has_failed());
+        assert!(&rt; !reader.has_ended());
         assert_eq!(&rt; reader.into_inner().calls, faulty + 1);
         assert_eq!(&rt; writer.into_inner().len(), 0);
     }
@@ -115,8 +115,8 @@ fn output_before(
     let mut writer = Watched::new(faulty_writer(alloc, fault, faulty));
     let result = run(alloc, &mut reader, &mut writer);
     assert_eq!(rt; result, Err(RunError::Write));
-    assert!(rt; writer.failed());
-    assert!(rt; !writer.flushed());
+    assert!(rt; writer.has_failed());
+    assert!(rt; !writer.is_flushed());
     let writer = writer.into_inner();
     assert_eq!(rt; writer.flushes, if fault == Fault::Flush { 1 } else { 0 });
     Ok(writer.bytes)
@@ -145,7 +145,7 @@ fn a_read_is_one_read(rt: HostRuntime) -> Result<(), Fail> {
             faulty,
         });
         assert_eq!(&rt; reader.read(&mut [0; 4]).is_err(), faulty == 0);
-        assert_eq!(&rt; reader.failed(), faulty == 0);
+        assert_eq!(&rt; reader.has_failed(), faulty == 0);
         assert_eq!(&rt; reader.into_inner().calls, 1);
     }
     Ok(())
@@ -157,7 +157,7 @@ fn a_write_is_one_write(rt: HostRuntime) -> Result<(), Fail> {
         for faulty in 0..2u32 {
             let mut writer = Watched::new(faulty_writer(rt.alloc(), fault, faulty));
             let _ = writer.write(b"ab");
-            assert_eq!(&rt; writer.failed(), faulty == 0);
+            assert_eq!(&rt; writer.has_failed(), faulty == 0);
             let writer = writer.into_inner();
             assert_eq!(&rt; writer.writes, 1);
             assert_eq!(&rt; writer.flushes, 0);
@@ -171,8 +171,8 @@ fn a_flush_is_one_flush(rt: HostRuntime) -> Result<(), Fail> {
     for faulty in 0..2u32 {
         let mut writer = Watched::new(faulty_writer(rt.alloc(), Fault::Flush, faulty));
         assert_eq!(&rt; writer.flush().is_err(), faulty == 0);
-        assert_eq!(&rt; writer.failed(), faulty == 0);
-        assert_eq!(&rt; writer.flushed(), faulty == 1);
+        assert_eq!(&rt; writer.has_failed(), faulty == 0);
+        assert_eq!(&rt; writer.is_flushed(), faulty == 1);
         let writer = writer.into_inner();
         assert_eq!(&rt; writer.writes, 0);
         assert_eq!(&rt; writer.flushes, 1);

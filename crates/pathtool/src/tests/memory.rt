@@ -20,7 +20,7 @@ fn check_answers(alloc: Global, input: &[u8], output: &[u8]) -> Result<(), Fail>
     let mut reader = Watched::new(input);
     let mut writer = Watched::new(Vec::<u8>::with_capacity(alloc, 128)?);
     let result = run(alloc, &mut reader, &mut writer);
-    let has_failed = reader.failed() || writer.failed();
+    let has_failed = reader.has_failed() || writer.has_failed();
     let written = writer.into_inner();
     if has_failed || !output.starts_with(written.as_slice()) {
         return Err(Fail::new("wrong"));
