@@ -1,12 +1,11 @@
 -- What a call added to the answer.
-use Rattle.std.proofs.Common.{◌≡◌, ℕ, List, ◌++◌, Result, Ok, Err, OnOk, is_ok, if◌then◌else◌}
-use Rattle.std.proofs.Common.{ap, append_assoc, ◌∙◌}
+use Rattle.std.proofs.Common.{◌≡◌, ℕ, List, ◌++◌, Result, Ok, Err, OnOk, ap, subst, append_assoc}
+use Rattle.std.proofs.Common.{◌∙◌}
 
--- these bytes were added, which are also spelled otherwise
-pub adds_if_ok : {T E : Type 0} (r : Result T E) (new old : List ℕ) {said bytes : List ℕ}
-    → said ≡ bytes → new ≡ (if is_ok r then old ++ said else old) → OnOk r (new ≡ old ++ bytes)
-adds_if_ok (Ok x) new old e h = h ∙ ap (λ said. old ++ said) e
-adds_if_ok (Err x) new old e h = tt
+-- where some bytes were added, bytes that are equal to them were added
+pub adds : {T E : Type 0} (r : Result T E) (new old : List ℕ) {said bytes : List ℕ} → said ≡ bytes
+    → OnOk r (new ≡ old ++ said) → OnOk r (new ≡ old ++ bytes)
+adds r new old e h = subst (λ bs. OnOk r (new ≡ old ++ bs)) e h
 
 -- these bytes were added behind some that were added before
 pub adds_behind : {T E : Type 0} (r : Result T E) (new mid old front said : List ℕ)

@@ -1,6 +1,6 @@
 -- Lists of values that begin or end with others, as tests.
-use Rattle.std.proofs.Common.{◌≡◌, ℕ, ◌-◌, List, [], ◌∷◌, length, take, drop, sym, ap}
-use Rattle.std.proofs.Common.{◌∙◌, refl, Some, Decides, codes}
+use Rattle.std.proofs.Common.{◌≡◌, ℕ, ◌-◌, List, length, take, drop, sym, ap, refl, Some, Decides}
+use Rattle.std.proofs.Common.{codes}
 use Rattle.std.specs.List.{starts_with, ends_with}
 use Rattle.std.proofs.lemmas.Slice.Eq.{starts_is, ends_is}
 use Rattle.unix_path.proofs.CaseLemmas.{by_test}

@@ -12,7 +12,7 @@ use Rattle.path_runs.specs.EditViews.{edit_value}
 use Rattle.path_runs.specs.declared.edits.Edit.{Edit}
 use Rattle.pathtool.proofs.LoopLemmas.{IsStep}
 use Rattle.pathtool.specs.EditFields.{edit_of_field, edit_answer}
-use Rattle.pathtool.specs.Texts.{edit_before, edits_of_fields, edited_answer}
+use Rattle.pathtool.specs.Steps.{edit_before, edits_of_fields, edited_answer}
 
 -- some edits, and then those that these fields name
 abbrev pub edits_then : List EditValue → List (List ℕ) → Option (List EditValue)

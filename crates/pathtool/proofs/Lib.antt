@@ -1,11 +1,11 @@
 pub mod SplitLemmas
 pub mod LineLemmas
+pub mod AddLemmas
 pub mod ListLemmas
 pub mod WriteLemmas
 pub mod BeginLemmas
 pub mod QuoteLemmas
 pub mod SayLemmas
-pub mod AddLemmas
 pub mod LoopLemmas
 pub mod FieldLemmas
 pub mod WordLemmas

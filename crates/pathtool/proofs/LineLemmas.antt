@@ -4,7 +4,7 @@ use Rattle.std.proofs.Common.{append-nil}
 use Rattle.std.specs.List.{slice_split, flat_map}
 use Rattle.pathtool.proofs.SplitLemmas.{is_newline, slice_split-cons, slice_split-one}
 use Rattle.pathtool.specs.Answers.{answer_of, lines_of, output_of, without_empty_last}
-use Rattle.pathtool.specs.Texts.{newline}
+use Rattle.pathtool.specs.Steps.{newline}
 
 without_empty_last-cons : (line x : List ℕ) (xs : List (List ℕ))
     → without_empty_last (line ∷ x ∷ xs) ≡ line ∷ without_empty_last (x ∷ xs)

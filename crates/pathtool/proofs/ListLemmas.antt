@@ -1,8 +1,7 @@
 -- Lists of items with tabs between them.
-use Rattle.std.proofs.Common.{◌≡◌, ℕ, false, List, [], ◌∷◌, ◌++◌, length, Option, Some}
+use Rattle.std.proofs.Common.{◌≡◌, ℕ, Bool, true, false, List, [], ◌∷◌, ◌++◌, length, Option, Some}
 use Rattle.std.proofs.Common.{Result, Ok, Err, OnOk}
-use Rattle.std.proofs.Common.{refl, sym, ap, subst, ◌∙◌, append_assoc, if◌then◌else◌}
-use Rattle.std.proofs.lemmas.List.{map-append}
+use Rattle.std.proofs.Common.{refl, sym, ap, ap₂, subst, ◌∙◌, append_assoc, if◌then◌else◌}
 use Rattle.std.specs.Iterator.{Drains}
 use Rattle.std.proofs.iter.Yields.{gives_Drains}
 use Rattle.std.specs.Iterator.Adapters.{once_item, once_steps}
@@ -12,40 +11,43 @@ use Rattle.std.proofs.lemmas.Iterator.{YieldsList}
 use Rattle.std.proofs.lemmas.Iterator.Consumers.{YieldsList-from_shown}
 use Rattle.unix_bytes.specs.declared.bytes.UnixStr.{UnixStr}
 use Rattle.pathtool.specs.Fields.{tabs}
-use Rattle.pathtool.specs.Texts.{has_none, tab, texts}
+use Rattle.pathtool.specs.Steps.{tab, names_bytes}
 
--- a list with an item behind its others
-pub tabs-snoc : (x : List ℕ) (xs : List (List ℕ)) (y : List ℕ)
-    → tabs ((x ∷ xs) ++ y ∷ []) ≡ tabs (x ∷ xs) ++ tab ∷ y
-tabs-snoc x [] y = refl
-tabs-snoc x (z ∷ xs) y = ap (λ more. x ++ tab ∷ more) (tabs-snoc z xs y)
-    ∙ sym (append_assoc x (tab ∷ tabs (z ∷ xs)) (tab ∷ y))
+-- whether a list has no item
+abbrev pub has_none : List (List ℕ) → Bool
+has_none [] = true
+has_none (item ∷ items) = false
 
--- a list of names with a name behind the others: a tab stands before it unless it is alone
-pub tabs-push : (names : List UnixStr) (name : UnixStr)
-    → tabs (texts (names ++ name ∷ [])) ≡ tabs (texts names)
-    ++ (if has_none names then name.bytes.now else tab ∷ name.bytes.now)
-tabs-push [] name = refl
-tabs-push (x ∷ names) name =
-    ap tabs (map-append (λ name. name.bytes.now) (x ∷ names) (name ∷ []))
-    ∙ tabs-snoc x.bytes.now (texts names) name.bytes.now
+-- a list with an item behind its others: a tab stands before the item unless it is alone
+tabs-push : (items : List (List ℕ)) (item : List ℕ)
+    → tabs (items ++ item ∷ []) ≡ tabs items ++ (if has_none items then item else tab ∷ item)
+tabs-push [] item = refl
+tabs-push (x ∷ []) item = refl
+tabs-push (x ∷ y ∷ items) item = ap (λ more. x ++ tab ∷ more) (tabs-push (y ∷ items) item)
+    ∙ sym (append_assoc x (tab ∷ tabs (y ∷ items)) (tab ∷ item))
 
--- a list with a name at its end isn't empty
-pub is_not_first : (names : List UnixStr) (name : UnixStr)
-    → false ≡ has_none (names ++ name ∷ [])
-is_not_first [] name = refl
-is_not_first (x ∷ names) name = refl
+-- a list with an item at its end isn't empty
+is_not_first : (items : List (List ℕ)) (item : List ℕ) → false ≡ has_none (items ++ item ∷ [])
+is_not_first [] item = refl
+is_not_first (x ∷ items) item = refl
 
--- where some bytes were added, bytes that are equal to them were added
-pub adds : {T E : Type 0} (r : Result T E) (new old : List ℕ) {said bytes : List ℕ} → said ≡ bytes
-    → OnOk r (new ≡ old ++ said) → OnOk r (new ≡ old ++ bytes)
-adds r new old e h = subst (λ bs. OnOk r (new ≡ old ++ bs)) e h
+-- where a list was added, and then an item, the list with that item was added, and isn't empty
+pub adds_item : (items : List (List ℕ)) (item : List ℕ) {more : List (List ℕ)} (is_first : Bool)
+    (old said new : List ℕ) → more ≡ items ++ item ∷ [] → is_first ≡ has_none items
+    → said ≡ old ++ tabs items → new ≡ said ++ (if is_first then item else tab ∷ item)
+    → (false ≡ has_none more) × (new ≡ old ++ tabs more)
+adds_item items item is_first old said new all first so_far is = (
+  is_not_first items item ∙ ap has_none (sym all),
+  is ∙ ap₂ (λ said (is_first : Bool). said ++ (if is_first then item else tab ∷ item)) so_far first
+      ∙ append_assoc old (tabs items) _
+      ∙ ap (λ said. old ++ said) (sym (tabs-push items item) ∙ ap tabs (sym all)),
+)
 
 -- where the names that an iterator gave up to its end were added, the list that it yields was
 pub adds_list : {T E S : Type 0} (r : Result T E) (new old : List ℕ) {all : List (List ℕ)} {s : S}
     {steps : S → Option UnixStr → S → Type 0} → YieldsList steps (λ name. name.bytes.now) s all
     → OnOk r ((names : List UnixStr) × Drains steps s names
-    × (new ≡ old ++ tabs (texts names)))
+    × (new ≡ old ++ tabs (names_bytes names)))
     → OnOk r (new ≡ old ++ tabs all)
 adds_list (Ok x) new old {all} {s} {steps} road (names, ran, e) =
     e ∙ ap (λ items. old ++ tabs items)
@@ -56,7 +58,7 @@ adds_list (Err x) new old road h = tt
 pub once_yields : {s : Once UnixStr} (name : UnixStr) {bytes : List ℕ} → once_item s ≡ Some name
     → name.bytes.now ≡ bytes → YieldsList once_steps (λ name. name.bytes.now) s (bytes ∷ [])
 once_yields {s} name e same =
-    let shown = λ (o : Option UnixStr). texts (option_to_list o) in
+    let shown = λ (o : Option UnixStr). names_bytes (option_to_list o) in
     subst (YieldsList once_steps (λ name. name.bytes.now) s)
     (ap shown e ∙ ap (λ bytes. bytes ∷ []) same)
     (YieldsList-from_shown once_steps (λ name. name.bytes.now) (λ s. shown (once_item s))

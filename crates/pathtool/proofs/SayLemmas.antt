@@ -14,7 +14,7 @@ use Rattle.pathtool.specs.Fields.{truth}
 use Rattle.pathtool.specs.Quoted.{json_of}
 use Rattle.pathtool.proofs.BeginLemmas.{starts_with-Decides, ends_with-Decides}
 use Rattle.pathtool.proofs.BeginLemmas.{strip_answer-ok, strip_answer-refused}
-use Rattle.pathtool.proofs.ListLemmas.{adds}
+use Rattle.pathtool.proofs.AddLemmas.{adds}
 use Rattle.pathtool.proofs.QuoteLemmas.{json_of-text}
 
 -- the answer of an optional name was added

@@ -5,7 +5,7 @@ use Rattle.std.specs.List.{slice_split, position_or_len, join_with_byte}
 use Rattle.std.proofs.lemmas.List.Splits.{slice_split_none, length-slice_split}
 use Rattle.std.proofs.lemmas.List.Splits.{join_with_byte-slice_split}
 use Rattle.std.proofs.lemmas.List.Sums.{fails_before_first}
-use Rattle.pathtool.specs.Texts.{newline, tab}
+use Rattle.pathtool.specs.Steps.{newline, tab}
 
 abbrev pub is_tab : ℕ → Bool
 is_tab b = b == tab

@@ -18,9 +18,8 @@ use Rattle.path_runs.proofs.WalkLemmas.{is_back}
 use Rattle.path_runs.specs.declared.walk.Turn.{Turn}
 use Rattle.path_runs.specs.declared.walk.Walked.{Walked}
 use Rattle.pathtool.specs.Fields.{tabs, bad_command}
-use Rattle.pathtool.specs.Texts.{tab}
-use Rattle.pathtool.specs.Texts.{part_texts, walked_texts, walk_of}
-use Rattle.pathtool.specs.Walks.{part_bytes, turn_of, walk_answer}
+use Rattle.pathtool.specs.Steps.{tab, components_bytes, walked_items}
+use Rattle.pathtool.specs.Walks.{part_bytes, turn_of, walk_items, walk_answer}
 
 -- the items behind the first one
 tabs-cons : (item : List ℕ) (xs : List (List ℕ)) (y : List ℕ) (ys : List (List ℕ))
@@ -56,9 +55,9 @@ reverse-map f (x ∷ xs) =
     reverse-append (f x ∷ []) (map f xs) ∙ ap (λ front. front ++ f x ∷ []) (reverse-map f xs)
     ∙ sym (ap (map f) (reverse-append (x ∷ []) xs) ∙ map-append f (reverse xs) (x ∷ []))
 
-part_texts-taken : (parts : List Component) (k : ℕ) (vs : List Value)
-    → map value_of parts ≡ take k vs → part_texts parts ≡ take k (map value_bytes vs)
-part_texts-taken parts k vs e =
+components_bytes-taken : (parts : List Component) (k : ℕ) (vs : List Value)
+    → map value_of parts ≡ take k vs → components_bytes parts ≡ take k (map value_bytes vs)
+components_bytes-taken parts k vs e =
     sym (map-map value_bytes value_of parts) ∙ ap (map value_bytes) e
     ∙ sym (take-map value_bytes k vs)
 
@@ -68,13 +67,13 @@ length-taken parts k vs l e =
     sym (length-map parts value_of) ∙ ap length e ∙ length-take-le k vs l
 
 -- what a walk took is the answer to its turns
-pub walked_texts-walk_of : (path : List ℕ) (turns : List Turn) (walked : Walked)
+pub walked_items-walk_items : (path : List ℕ) (turns : List Turn) (walked : Walked)
     → let n = length (values path) in
     map value_of walked.front.items ≡ take (front_turns n turns) (values path)
     → walked.rest.bytes.now ≡ rest path (front_turns n turns) (back_turns n turns)
     → map value_of walked.behind.items ≡ take (back_turns n turns) (reverse (values path))
-    → walked_texts walked ≡ walk_of path turns
-walked_texts-walk_of path turns walked f r b =
+    → walked_items walked ≡ walk_items path turns
+walked_items-walk_items path turns walked f r b =
     let vs = values path in
     let n = length vs in
     let k = front_turns n turns in
@@ -84,12 +83,12 @@ walked_texts-walk_of path turns walked f r b =
     omega (arith, back_turns-le n turns, length-reverse vs) in
     let fronts = length-taken walked.front.items k vs few f in
     let backs = length-taken walked.behind.items m (reverse vs) few_behind b in
-    let behind = part_texts-taken walked.behind.items m (reverse vs) b
+    let behind = components_bytes-taken walked.behind.items m (reverse vs) b
     ∙ ap (take m) (sym (reverse-map value_bytes vs)) in
-    ap₂ (λ i j. decimal i ∷ decimal j ∷ (part_texts walked.front.items
-    ++ walked.rest.bytes.now ∷ part_texts walked.behind.items)) fronts backs
+    ap₂ (λ i j. decimal i ∷ decimal j ∷ (components_bytes walked.front.items
+    ++ walked.rest.bytes.now ∷ components_bytes walked.behind.items)) fronts backs
     ∙ ap₂ (λ front left. decimal k ∷ decimal m ∷ (front ++ left
-    ∷ part_texts walked.behind.items)) (part_texts-taken walked.front.items k vs f) r
+    ∷ components_bytes walked.behind.items)) (components_bytes-taken walked.front.items k vs f) r
     ∙ ap (λ behind. decimal k ∷ decimal m ∷ (take k (part_bytes path) ++ rest path k m ∷ behind))
     behind
     ∙ ap (λ n. let k = front_turns n turns in let m = back_turns n turns in
@@ -103,5 +102,5 @@ walk_answer-bad path letters e = rw e refl
 
 pub walk_answer-turns : (path letters : List ℕ)
     → list_all (λ letter. is_some (turn_of letter)) letters ≡ true
-    → tabs (walk_of path (filter_map turn_of letters)) ≡ walk_answer path letters
+    → tabs (walk_items path (filter_map turn_of letters)) ≡ walk_answer path letters
 walk_answer-turns path letters e = rw e refl

@@ -5,7 +5,7 @@ use Rattle.std.proofs.lemmas.List.{at_drop_more}
 use Rattle.path_runs.specs.declared.edits.Answer.{Answer}
 use Rattle.pathtool.specs.Fields.{tabs}
 use Rattle.pathtool.specs.EditFields.{answer_word}
-use Rattle.pathtool.specs.Texts.{tab, words_of}
+use Rattle.pathtool.specs.Steps.{tab, words_of}
 
 -- a list of some bytes and of answers' words is the bytes, and each word behind a tab
 pub tabs-words : (bytes : List ℕ) (answers : List Answer)

@@ -32,10 +32,13 @@ answer_word Plain = codes "ok"
 answer_word (Flag is_so) = truth is_so
 answer_word Separator = codes "separator"
 
--- the bytes after the edits that these fields name, and then what each of them answers
+-- the bytes after these edits, and then what each of them answers
+abbrev pub edit_items : List ℕ → List EditValue → List (List ℕ)
+edit_items path edits = let done = edits_of path edits in done.0 ∷ map answer_word done.1
+
+-- the answer to edits by fields: their items, or `bad command` if a field names no edit
 abbrev pub edit_answer : List ℕ → List (List ℕ) → List ℕ
 edit_answer path fields =
-    let done = edits_of path (filter_map edit_of_field fields) in
     if list_all (λ field. is_some (edit_of_field field)) fields
-    then tabs (done.0 ∷ map answer_word done.1)
+    then tabs (edit_items path (filter_map edit_of_field fields))
     else bad_command

@@ -11,7 +11,7 @@ fields_of line = slice_split (λ b. b == byte "\t") line
 abbrev pub tabs : List (List ℕ) → List ℕ
 tabs items = join_with_byte (byte "\t") items
 
--- the answer to an unknown command
+-- the answer where a command, an edit or a turn is unknown, or fields are missing or too many
 abbrev pub bad_command : List ℕ
 bad_command = codes "bad command"
 

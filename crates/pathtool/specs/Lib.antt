@@ -4,7 +4,7 @@ pub mod Walks
 pub mod Tables
 pub mod Watched
 pub mod Answers
-pub mod Texts
+pub mod Steps
 pub mod Quoted
 pub mod RunError
 pub mod Others

@@ -1,4 +1,4 @@
--- The fields of a line that follow its path. No public clause cites these words.
+-- The fields of a line that follow its path. The clauses of `run` need none of these words.
 use Rattle.std.specs.Prelude.{ℕ, List, [], ◌∷◌}
 use Rattle.pathtool.specs.Fields.{fields_of}
 use Rattle.pathtool.specs.declared.fields.Others.{Others}

@@ -20,14 +20,18 @@ turn_of letter = lookup (λ key. key == letter) ((byte "f", Front) ∷ (byte "b"
 abbrev pub part_bytes : List ℕ → List (List ℕ)
 part_bytes path = map value_bytes (values path)
 
--- how many parts these letters take in front and behind; the parts in front; the rest; and the
--- parts behind, in the order of taking
-abbrev pub walk_answer : List ℕ → List ℕ → List ℕ
-walk_answer path letters =
+-- how many parts these turns take in front and behind; the parts in front; the rest; and the parts
+-- behind, in the order of taking
+abbrev pub walk_items : List ℕ → List Turn → List (List ℕ)
+walk_items path turns =
     let parts = part_bytes path in
-    let turns = filter_map turn_of letters in
     let k = front_turns (length parts) turns in
     let m = back_turns (length parts) turns in
+    decimal k ∷ decimal m ∷ (take k parts ++ rest path k m ∷ take m (reverse parts))
+
+-- the answer to a walk by letters: its items, or `bad command` if a letter stands for no turn
+abbrev pub walk_answer : List ℕ → List ℕ → List ℕ
+walk_answer path letters =
     if list_all (λ letter. is_some (turn_of letter)) letters
-    then tabs (decimal k ∷ decimal m ∷ (take k parts ++ rest path k m ∷ take m (reverse parts)))
+    then tabs (walk_items path (filter_map turn_of letters))
     else bad_command

@@ -1,9 +1,8 @@
 //! Answers to lines, each of which is a command and its arguments.
 ghost use Rattle.std.specs.Prelude.{◌≡◌, ◌++◌, ◌∷◌, [], OnOk};
 ghost use Rattle.pathtool.specs.Answers.{answer_to, answer_of};
-ghost use Rattle.pathtool.specs.Fields.{bad_command};
 ghost use Rattle.pathtool.specs.Others.{other_fields};
-ghost use Rattle.pathtool.specs.Texts.{newline};
+ghost use Rattle.pathtool.specs.Steps.{newline};
 
 use crate::edits::push_edit;
 use crate::fields::{Line, Others, is, line_from};
@@ -11,18 +10,11 @@ use crate::lists::{push_ancestors, push_back, push_parts};
 use crate::names::{push_extension, push_name, push_stem};
 use crate::paths::{push_canon, push_join, push_parent, push_stripped};
 use crate::tables::push_under;
-use crate::texts::{push_json, push_show};
+use crate::texts::{push_bad_command, push_json, push_show};
 use crate::truths::{push_ends, push_order, push_starts};
 use crate::walks::push_walk;
 use std::alloc::AllocError;
 use unix_path::Path;
-
-// Adds the answer to an unknown command.
-fn push_bad_command(answer: &mut Vec<u8>) -> Result<(), AllocError>
-    ensures { OnOk result (answer.new.items ≡ answer.old.items ++ bad_command) }
-{
-    answer.extend_from_slice(b"bad command")
-}
 
 // Adds the answer to a line that has a path.
 fn push_answer_to(line: Line<'_>, answer: &mut Vec<u8>) -> Result<(), AllocError>
@@ -75,8 +67,9 @@ fn push_answer(line: &[u8], answer: &mut Vec<u8>) -> Result<(), AllocError>
 
 /// Adds the answer to `line`, and a newline, to `answer`.
 ///
-/// An unknown command, or one with too few or too many fields, is answered `bad command`. If an
-/// allocation fails, the answer is left in any state. Not in Rust's std.
+/// An unknown command, one with too few or too many fields, or an unknown edit or turn is answered
+/// `bad command`. Allocates as the command's function does; if an allocation fails, the answer is
+/// left in any state. Not in Rust's std.
 ///
 /// `parts`, a tab and `a//b` is answered `a`, a tab and `b`.
 pub fn push_answer_line(line: &[u8], answer: &mut Vec<u8>) -> Result<(), AllocError>

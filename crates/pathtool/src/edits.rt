@@ -7,9 +7,10 @@ ghost use Rattle.pathtool.specs.Fields.{fields_of};
 ghost use Rattle.pathtool.specs.Others.{other_fields};
 ghost use Rattle.pathtool.specs.EditFields.{edits_by_name, edit_of_field, answer_word};
 ghost use Rattle.pathtool.specs.EditFields.{edit_answer};
-ghost use Rattle.pathtool.specs.Texts.{edits_of_fields, edited_answer, words_of};
+ghost use Rattle.pathtool.specs.Steps.{edits_of_fields, edited_answer, words_of};
 
 use crate::fields::{Others, is};
+use crate::texts::push_bad_command;
 use path_runs::edits::apply;
 use path_runs::{Answer, Edit};
 use std::alloc::{AllocError, Global};
@@ -111,7 +112,7 @@ fn push_edits(path: Path<'_>, fields: &[u8], answer: &mut Vec<u8>) -> Result<(),
 {
     match edits_from(*answer.allocator(), fields)? {
         Some(edits) => push_edited(path, edits.as_slice(), answer),
-        None => answer.extend_from_slice(b"bad command"),
+        None => push_bad_command(answer),
     }
 }
 
@@ -130,7 +131,7 @@ pub fn push_edit(path: Path<'_>, others: Others<'_>, answer: &mut Vec<u8>) -> Re
         Others::None => push_edited(path, &[], answer),
         Others::One(field) => match edit_from(field) {
             Some(edit) => push_edited(path, &[edit], answer),
-            None => answer.extend_from_slice(b"bad command"),
+            None => push_bad_command(answer),
         },
         Others::Several(fields) => push_edits(path, fields, answer),
     }

@@ -8,7 +8,7 @@ ghost use Rattle.path_table.specs.Table.{table_of};
 ghost use Rattle.pathtool.specs.Fields.{fields_of, tabs};
 ghost use Rattle.pathtool.specs.Others.{other_fields};
 ghost use Rattle.pathtool.specs.Tables.{entries_with, under_answer};
-ghost use Rattle.pathtool.specs.Texts.{row_spelling, tab};
+ghost use Rattle.pathtool.specs.Steps.{row_spelling, tab};
 
 use crate::fields::Others;
 use crate::paths::push_canon;
@@ -25,7 +25,7 @@ fn insert_path(alloc: Global, table: &mut PathTable<()>, path: Path<'_>) -> Resu
     Ok(())
 }
 
-// Puts the paths that these fields are into the table.
+// Puts each of these fields into the table, as a path.
 fn insert_paths(alloc: Global, table: &mut PathTable<()>, fields: &[u8]) -> Result<(), AllocError>
     ensures { OnOk result (table_of table.new
         ≡ entries_with (table_of table.old) (fields_of fields.now)) }
@@ -36,7 +36,7 @@ fn insert_paths(alloc: Global, table: &mut PathTable<()>, fields: &[u8]) -> Resu
     Ok(())
 }
 
-// The table of the paths that these fields are.
+// A table of these fields, each as a path.
 fn table_from(alloc: Global, others: Others<'_>) -> Result<PathTable<()>, AllocError>
     ensures { IfOk result (λ table. table_of table ≡ entries_with [] (other_fields others.entry)) }
 {
@@ -77,8 +77,8 @@ fn push_all(paths: &[(Path<'_>, &())], answer: &mut Vec<u8>) -> Result<(), Alloc
 /// Adds to `answer` what follows `base` in those of the paths that start with it, as a list.
 ///
 /// The list is in the order of paths, has equal paths once, and each in its canonical spelling.
-/// Allocates for a copy of each path, for the list and for what it adds; if an allocation fails,
-/// the answer is left in any state. Not in Rust's std.
+/// Allocates for copies of `base` and of each path, for the table, the list and each spelling, and
+/// for what it adds; if an allocation fails, the answer is left in any state. Not in Rust's std.
 ///
 /// `/a` with `/a.b` and `/a/b` adds `b`.
 pub fn push_under(

@@ -5,12 +5,20 @@ ghost use Rattle.unix_bytes.specs.Chunks.{chunk_of, shown_chunk};
 ghost use Rattle.unix_bytes.specs.Utf8.{IsText};
 ghost use Rattle.std.specs.String.{string_bytes};
 ghost use Rattle.json.specs.Print.{quoted};
+ghost use Rattle.pathtool.specs.Fields.{bad_command};
 ghost use Rattle.pathtool.specs.Quoted.{json_of};
 
 use std::alloc::{AllocError, Global};
 use unix_bytes::lossy::{Utf8Lossy, Utf8LossyChunk};
 use unix_path::Path;
 use unix_path::json::{JsonError, to_json};
+
+// Adds the answer to a line that is no command.
+pub(crate) fn push_bad_command(answer: &mut Vec<u8>) -> Result<(), AllocError>
+    ensures { OnOk result (answer.new.items ≡ answer.old.items ++ bad_command) }
+{
+    answer.extend_from_slice(b"bad command")
+}
 
 // Adds the chunk's text, and U+FFFD for its broken front.
 fn push_chunk(chunk: Utf8LossyChunk<'_>, answer: &mut Vec<u8>) -> Result<(), AllocError>
@@ -58,8 +66,8 @@ fn push_refusal(answer: &mut Vec<u8>) -> Result<(), AllocError>
 
 /// Adds the path as a JSON string to `answer`, or that its bytes aren't UTF-8.
 ///
-/// The string is compact, by RFC 8259, section 7. Allocates for the text and for what it adds; if
-/// an allocation fails, the answer is left in any state. Not in Rust's std.
+/// The string is compact, by RFC 8259, section 7. Allocates for a JSON value, for its text and for
+/// what it adds; if an allocation fails, the answer is left in any state. Not in Rust's std.
 ///
 /// `a"b` adds `"a\"b"`, and FF adds `path contains invalid UTF-8 characters`.
 #[tactic(auto, using(crate::proofs::SayLemmas::adds_quoted))]

@@ -3,10 +3,11 @@ ghost use Rattle.std.specs.Prelude.{◌≡◌, ◌++◌, OnOk, IfOk, is_some};
 ghost use Rattle.std.specs.Fmt.{decimal};
 ghost use Rattle.std.specs.List.{filter_map, list_all};
 ghost use Rattle.pathtool.specs.Fields.{tabs};
-ghost use Rattle.pathtool.specs.Texts.{counts_text, walked_texts};
+ghost use Rattle.pathtool.specs.Steps.{counts_text, walked_items};
 ghost use Rattle.pathtool.specs.Walks.{turn_of, walk_answer};
 
 use crate::lists::push_list;
+use crate::texts::push_bad_command;
 use path_runs::walk::walk;
 use path_runs::{Turn, Walked};
 use std::alloc::{AllocError, Global};
@@ -63,7 +64,7 @@ fn push_counts(walked: &Walked<'_>, answer: &mut Vec<u8>) -> Result<(), AllocErr
 // Adds what a walk took, and what it left between.
 fn push_walked(walked: &Walked<'_>, answer: &mut Vec<u8>) -> Result<(), AllocError>
     ensures { OnOk result (answer.new.items
-        ≡ answer.old.items ++ tabs (walked_texts walked.now)) }
+        ≡ answer.old.items ++ tabs (walked_items walked.now)) }
 {
     push_counts(walked, answer)?;
     let front = walked.front.iter().map(|part| part.as_unix_str());
@@ -78,8 +79,8 @@ fn push_walked(walked: &Walked<'_>, answer: &mut Vec<u8>) -> Result<(), AllocErr
 ///
 /// The letters are `f` for a part in front and `b` for one behind; others add `bad command`. The
 /// list has the counts of parts in front and behind, the parts in front, the rest, and the parts
-/// behind in the order of taking. Allocates for the turns, the parts and for what it adds; if an
-/// allocation fails, the answer is left in any state. Not in Rust's std.
+/// behind in the order of taking. Allocates for the turns, the parts, the text of each count and
+/// for what it adds; if an allocation fails, the answer is left in any state. Not in Rust's std.
 ///
 /// `//` with `bf` adds `0`, `1`, the empty path and `/`, with tabs between them.
 pub fn push_walk(path: Path<'_>, letters: &[u8], answer: &mut Vec<u8>) -> Result<(), AllocError>
@@ -87,7 +88,7 @@ pub fn push_walk(path: Path<'_>, letters: &[u8], answer: &mut Vec<u8>) -> Result
         ≡ answer.old.items ++ walk_answer path.entry.bytes.now letters.now) }
 {
     if !are_turns(letters) {
-        return answer.extend_from_slice(b"bad command");
+        return push_bad_command(answer);
     }
     let alloc = *answer.allocator();
     let turns = turns_from(alloc, letters)?;

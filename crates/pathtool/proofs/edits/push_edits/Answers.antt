@@ -1,10 +1,9 @@
 use Rattle.std.proofs.Common.{Some, map, option_map, ap, sym, ◌∙◌}
 use Rattle.path_runs.specs.EditViews.{edit_value}
 use Rattle.pathtool.specs.Fields.{fields_of}
-use Rattle.pathtool.specs.Texts.{edited_answer}
-use Rattle.pathtool.proofs.AddLemmas.{adds_if_ok}
+use Rattle.pathtool.specs.Steps.{edited_answer}
 use Rattle.pathtool.proofs.FieldLemmas.{edited_answer-fields}
-use Rattle.pathtool.proofs.ListLemmas.{adds}
+use Rattle.pathtool.proofs.AddLemmas.{adds}
 use Rattle.pathtool.proofs.edits.push_edits.Goals as goal
 
 pub returns-in-Some : goal.returns-in-Some
@@ -23,7 +22,7 @@ returns-in-None c =
     let path = c.args.path.bytes.now in
     let says = sym c.in_ok-edits.ensures
     ∙ ap (option_map (λ edits. map edit_value edits.items)) c.in-None.is in
-    adds_if_ok c.extend_from_slice.result _ _
+    adds c.push_bad_command.result _ _
     (ap (edited_answer path) (sym says)
     ∙ edited_answer-fields path (fields_of c.args.fields.now))
-    c.extend_from_slice.ensures.items
+    c.push_bad_command.ensures

@@ -1,5 +1,5 @@
 use Rattle.std.proofs.Common.{◌≡◌, ◌++◌, drop}
-use Rattle.pathtool.specs.Texts.{words_of}
+use Rattle.pathtool.specs.Steps.{words_of}
 use Rattle.pathtool.proofs.edits.push_words.Given as goal
 
 -- the words so far, and then those of the answers left, are all

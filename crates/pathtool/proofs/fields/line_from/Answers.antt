@@ -1,6 +1,6 @@
 use Rattle.std.proofs.Common.{[], ◌∷◌, ap, sym, ◌∙◌}
 use Rattle.pathtool.proofs.SplitLemmas.{slice_split-one}
-use Rattle.pathtool.specs.Texts.{tab}
+use Rattle.pathtool.specs.Steps.{tab}
 use Rattle.pathtool.proofs.fields.line_from.Goals as goal
 
 pub returns-in_default : goal.returns-in_default

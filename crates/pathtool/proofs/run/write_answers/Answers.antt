@@ -3,7 +3,7 @@ use Rattle.std.specs.Io.KnownBytes.{Appends}
 use Rattle.std.proofs.KnownBytes.{Appends-trans}
 use Rattle.std.proofs.lemmas.List.{nil_from_length}
 use Rattle.pathtool.specs.Answers.{answer_of, output_of}
-use Rattle.pathtool.specs.Texts.{newline}
+use Rattle.pathtool.specs.Steps.{newline}
 use Rattle.pathtool.specs.Watched.{AppendsBeginning}
 use Rattle.pathtool.proofs.LineLemmas.{output_of-done, output_of-next, writes_answer}
 use Rattle.pathtool.proofs.WriteLemmas.{AppendsBeginning-of, AppendsBeginning-then, OnErr-of}

@@ -1,5 +1,5 @@
 use Rattle.std.proofs.Common.{rules, sym}
-use Rattle.pathtool.proofs.ListLemmas.{adds}
+use Rattle.pathtool.proofs.AddLemmas.{adds}
 use Rattle.pathtool.proofs.QuoteLemmas.{json_of-other}
 use Rattle.pathtool.proofs.texts.push_json.Goals as goal
 

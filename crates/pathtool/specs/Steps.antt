@@ -1,24 +1,19 @@
--- Words of the program's private steps. No public clause cites them.
-use Rattle.std.specs.Prelude.{ℕ, Bool, true, false, Option, Some, None, List, [], ◌∷◌, ◌++◌, map}
-use Rattle.std.specs.Prelude.{length, take, reverse}
+-- Words of the steps towards an answer. The clauses of `run` and `Watched` need none of them.
+use Rattle.std.specs.Prelude.{ℕ, Option, Some, None, List, [], ◌∷◌, ◌++◌, map, length}
 use Rattle.std.specs.Borrow.{Bor}
 use Rattle.std.specs.Fmt.{decimal}
 use Rattle.std.specs.List.{flat_map}
 use Rattle.std.specs.Str.{byte}
 use Rattle.unix_bytes.specs.declared.bytes.UnixStr.{UnixStr}
 use Rattle.unix_path.specs.Parts.{values, value_bytes}
-use Rattle.unix_path.specs.Rest.{rest}
 use Rattle.unix_path.specs.Views.{value_of}
 use Rattle.unix_path.specs.declared.cursor.component.Component.{Component}
 use Rattle.unix_path.specs.declared.path.Path.{Path}
-use Rattle.path_runs.specs.EditLists.{EditValue, edits_of}
+use Rattle.path_runs.specs.EditLists.{EditValue}
 use Rattle.path_runs.specs.declared.edits.Answer.{Answer}
 use Rattle.path_runs.specs.Spelling.{spelling_of}
-use Rattle.path_runs.specs.Turns.{front_turns, back_turns}
-use Rattle.path_runs.specs.declared.walk.Turn.{Turn}
 use Rattle.path_runs.specs.declared.walk.Walked.{Walked}
-use Rattle.pathtool.specs.Walks.{part_bytes}
-use Rattle.pathtool.specs.EditFields.{edit_of_field, answer_word}
+use Rattle.pathtool.specs.EditFields.{edit_of_field, edit_items, answer_word}
 use Rattle.pathtool.specs.Fields.{tabs, bad_command}
 
 -- the byte between two fields, and between two items of a list
@@ -30,17 +25,12 @@ abbrev pub newline : ℕ
 newline = byte "\n"
 
 -- the bytes of these names
-abbrev pub texts : List UnixStr → List (List ℕ)
-texts names = map (λ name. name.bytes.now) names
-
--- whether a list of names is empty
-abbrev pub has_none : List UnixStr → Bool
-has_none [] = true
-has_none (name ∷ names) = false
+abbrev pub names_bytes : List UnixStr → List (List ℕ)
+names_bytes names = map (λ name. name.bytes.now) names
 
 -- the bytes of these parts
-abbrev pub part_texts : List Component → List (List ℕ)
-part_texts parts = map (λ part. value_bytes (value_of part)) parts
+abbrev pub components_bytes : List Component → List (List ℕ)
+components_bytes parts = map (λ part. value_bytes (value_of part)) parts
 
 -- how many parts a walk took at each end, with a tab behind each count
 abbrev pub counts_text : Walked → List ℕ
@@ -48,19 +38,12 @@ counts_text walked =
     ((decimal (length walked.front.items) ++ tab ∷ []) ++ decimal (length walked.behind.items))
     ++ tab ∷ []
 
--- the items of the answer to a walk: two counts, the parts in front, the rest, the parts behind
-abbrev pub walked_texts : Walked → List (List ℕ)
-walked_texts walked =
+-- what a walk took, as items: two counts, the parts in front, the rest, and the parts behind
+abbrev pub walked_items : Walked → List (List ℕ)
+walked_items walked =
     decimal (length walked.front.items) ∷ decimal (length walked.behind.items)
-    ∷ (part_texts walked.front.items ++ walked.rest.bytes.now ∷ part_texts walked.behind.items)
-
--- the items of the answer to these turns of a path
-abbrev pub walk_of : List ℕ → List Turn → List (List ℕ)
-walk_of path turns =
-    let parts = part_bytes path in
-    let k = front_turns (length parts) turns in
-    let m = back_turns (length parts) turns in
-    decimal k ∷ decimal m ∷ (take k parts ++ rest path k m ∷ take m (reverse parts))
+    ∷ (components_bytes walked.front.items
+    ++ walked.rest.bytes.now ∷ components_bytes walked.behind.items)
 
 -- the canonical spelling of a path that a table answered
 abbrev pub row_spelling : Path × Bor (Unit {0}) → List ℕ
@@ -77,11 +60,10 @@ abbrev pub edits_of_fields : List (List ℕ) → Option (List EditValue)
 edits_of_fields [] = Some []
 edits_of_fields (field ∷ fields) = edit_before (edit_of_field field) (edits_of_fields fields)
 
--- the bytes after these edits, and then what each of them answers
+-- the answer to edits by fields, where `None` says that a field names no edit
 abbrev pub edited_answer : List ℕ → Option (List EditValue) → List ℕ
 edited_answer path None = bad_command
-edited_answer path (Some edits) =
-    let done = edits_of path edits in tabs (done.0 ∷ map answer_word done.1)
+edited_answer path (Some edits) = tabs (edit_items path edits)
 
 -- the words of these answers, with a tab before each
 abbrev pub words_of : List Answer → List ℕ
