@@ -55,7 +55,9 @@ pub fn is(field: &[u8], name: &[u8]) -> bool
     field == name
 }
 
-/// The fields of a line that follow its path.
+/// The fields of a line that follow its path. Not in Rust's std.
+///
+/// For `pop` alone it is `One`, and for `pop`, a tab and `pop` it is `Several`.
 #[derive(Clone, Copy)]
 pub enum Others<'a> {
     /// No field follows.
@@ -66,7 +68,9 @@ pub enum Others<'a> {
     Several(&'a [u8]),
 }
 
-/// A line as its command, its path and the fields that follow.
+/// A line as its command, its path and the fields that follow. Not in Rust's std.
+///
+/// For `parts`, a tab and `a` they are `parts`, `a` and no other field.
 #[derive(Clone, Copy)]
 pub struct Line<'a> {
     /// The first field.

@@ -131,9 +131,11 @@ fn write_answers<W: Write>(
 
 /// Reads the input to its end, writes the answer to each of its lines and a newline, and flushes.
 ///
-/// An input without lines is answered with nothing. Allocates for the input and for one answer; a
+/// An input without lines is answered with nothing. Allocates for the input and for each answer; a
 /// failed allocation is `Memory`. A failed read is `Read`, and then nothing was written. A failed
-/// write or flush, or a write that takes none of some bytes, is `Write`. Not in Rust's std.
+/// write or flush, or a write that takes none of some bytes, is `Write`. After `Write` or `Memory`
+/// a beginning of the output was written, and nothing if the input wasn't read to its end. Not in
+/// Rust's std.
 ///
 /// The input `parts`, a tab, `a//b` and a newline is answered `a`, a tab, `b` and a newline.
 pub fn run<R: Read, W: Write>(
