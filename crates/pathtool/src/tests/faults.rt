@@ -1,10 +1,9 @@
-//! Readers and writers that fail once, and how often each is called.
+//! Readers and writers that fail once, how often each is called, and the errors of a run.
 use crate::run::{RunError, run};
 use crate::watched::Watched;
 use std::alloc::Global;
 use std::io;
 use std::io::{Read, Write};
-use std::process::Abort;
 use std::test::Fail;
 
 // Gives a newline a call until `left` were given, and fails at its call number `faulty` alone.
@@ -31,12 +30,13 @@ impl Read for OnceFailingReader {
     }
 }
 
-// What a writer does wrong.
+// What a writer does wrong, if anything.
 #[derive(Clone, Copy, PartialEq, Eq)]
 enum Fault {
     Write,
     NoByte,
     Flush,
+    None,
 }
 
 // Takes one byte a call, and meets its fault at its write or flush number `faulty` alone.
@@ -73,7 +73,7 @@ impl Write for OnceFaultyWriter {
     }
 }
 
-// Such a writer that has taken nothing.
+// A writer that meets this fault at its write or flush number `faulty`, and has taken nothing.
 fn faulty_writer(alloc: Global, fault: Fault, faulty: u32) -> OnceFaultyWriter {
     OnceFaultyWriter {
         writes: 0,
@@ -99,41 +99,42 @@ fn one_failed_read_ends_the_run(rt: HostRuntime) -> Result<(), Fail> {
         assert!(&rt; reader.has_failed());
         assert!(&rt; !reader.has_ended());
         assert_eq!(&rt; reader.into_inner().calls, faulty + 1);
+        assert!(&rt; !writer.has_failed());
         assert_eq!(&rt; writer.into_inner().len(), 0);
     }
     Ok(())
 }
 
-// Runs to a writer with one fault, which ends the run, and answers what it took.
-fn output_before(
-    rt: &impl Abort,
-    alloc: Global,
-    fault: Fault,
-    faulty: u32,
-) -> Result<Vec<u8>, Fail> {
+// Whether a run over two lines ends as this fault of its writer has it: with `Write`, or with Ok
+// for no fault, the input read, this output written, and so many writes and flushes made.
+fn is_ended(alloc: Global, fault: Fault, faulty: u32, output: &[u8], calls: (u32, u32)) -> bool {
     let mut reader = Watched::new(b"parts\ta/b\nparts\t./c\n".as_slice());
     let mut writer = Watched::new(faulty_writer(alloc, fault, faulty));
     let result = run(alloc, &mut reader, &mut writer);
-    assert_eq!(rt; result, Err(RunError::Write));
-    assert!(rt; writer.has_failed());
-    assert!(rt; !writer.is_flushed());
+    let is_ok = fault == Fault::None;
+    let wanted = if is_ok { Ok(()) } else { Err(RunError::Write) };
+    let is_told = result == wanted && reader.has_ended();
+    let is_known = writer.has_failed() != is_ok && writer.is_flushed() == is_ok;
     let writer = writer.into_inner();
-    assert_eq!(rt; writer.flushes, if fault == Fault::Flush { 1 } else { 0 });
-    Ok(writer.bytes)
+    let is_called = (writer.writes, writer.flushes) == calls;
+    is_told && is_known && is_called && writer.bytes.as_slice() == output
 }
 
 #[test]
-fn one_fault_of_a_writer_ends_the_run(rt: HostRuntime) -> Result<(), Fail> {
+fn one_fault_of_a_writer_ends_the_run(rt: HostRuntime) {
     let whole = b"a\tb\n.\tc\n".as_slice();
     for faulty in 0..8u32 {
         for fault in [Fault::Write, Fault::NoByte] {
-            let bytes = output_before(&rt, rt.alloc(), fault, faulty)?;
-            assert_eq!(&rt; bytes.as_slice(), &whole[..faulty as usize]);
+            let output = &whole[..faulty as usize];
+            let calls = (faulty + 1, 0);
+            assert!(rt;
+                is_ended(rt.alloc(), fault, faulty, output, calls),
+                "at {faulty}"
+            );
         }
     }
-    let bytes = output_before(&rt, rt.alloc(), Fault::Flush, 0)?;
-    assert_eq!(&rt; bytes.as_slice(), whole);
-    Ok(())
+    assert!(rt; is_ended(rt.alloc(), Fault::Flush, 0, whole, (8, 1)));
+    assert!(rt; is_ended(rt.alloc(), Fault::None, 0, whole, (8, 1)));
 }
 
 #[test]
@@ -176,6 +177,20 @@ fn a_flush_is_one_flush(rt: HostRuntime) -> Result<(), Fail> {
         let writer = writer.into_inner();
         assert_eq!(&rt; writer.writes, 0);
         assert_eq!(&rt; writer.flushes, 1);
+    }
+    Ok(())
+}
+
+#[test]
+fn errors_are_displayed(rt: HostRuntime) -> Result<(), Fail> {
+    let rows = [
+        (RunError::Read, "read error", "    read error"),
+        (RunError::Write, "write error", "   write error"),
+        (RunError::Memory, "out of memory", " out of memory"),
+    ];
+    for (error, text, padded) in rows {
+        assert_eq!(&rt; format!(in rt.alloc(); "{error}")?.as_str(), text);
+        assert_eq!(&rt; format!(in rt.alloc(); "{error:>14}")?.as_str(), padded);
     }
     Ok(())
 }

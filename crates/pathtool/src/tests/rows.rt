@@ -1,30 +1,6 @@
 //! Rows of the commands that answer with a walk, edits, a table, a text or a path.
-use crate::run::run;
-use crate::watched::Watched;
-use std::alloc::{AllocError, Global};
-use std::process::Abort;
+use super::are_answered;
 use std::test::Fail;
-
-// Whether a run over this line alone writes this answer and a newline.
-fn is_answered(alloc: Global, line: &[u8], answer: &[u8]) -> Result<bool, AllocError> {
-    let mut input = Vec::from_slice(alloc, line)?;
-    input.push(b'\n')?;
-    let mut reader = Watched::new(input.as_slice());
-    let mut writer = Watched::new(Vec::<u8>::new(alloc));
-    if run(alloc, &mut reader, &mut writer).is_err() {
-        return Ok(false);
-    }
-    let output = writer.into_inner();
-    Ok(output.as_slice().strip_suffix(b"\n") == Some(answer))
-}
-
-// Each line is answered so.
-fn are_answered(rt: &impl Abort, alloc: Global, rows: &[(&[u8], &[u8])]) -> Result<(), Fail> {
-    for (line, answer) in rows {
-        assert!(rt; is_answered(alloc, line, answer)?, "at {line:?}");
-    }
-    Ok(())
-}
 
 #[test]
 fn walks_are_answered(rt: HostRuntime) -> Result<(), Fail> {
