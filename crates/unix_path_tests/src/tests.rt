@@ -17,6 +17,7 @@ mod places;
 mod prefixes;
 mod readme;
 mod recording_hasher;
+mod refusing_writer;
 mod rests;
 mod texts;
 mod views;

@@ -13,8 +13,8 @@ fn copy_of_clone(alloc: Global, first: PathBuf) -> Result<UnixString, AllocError
     Ok(PathBuf::from(text).into_unix_string())
 }
 
-// Whether a text was given, and has these bytes.
-fn is_text(given: Result<UnixString, AllocError>, bytes: UnixStr<'_>) -> bool {
+// Whether a byte string was given, and has these bytes.
+fn is_byte_string(given: Result<UnixString, AllocError>, bytes: UnixStr<'_>) -> bool {
     match given {
         Ok(text) => text.as_unix_str() == bytes,
         Err(AllocError) => false,
@@ -27,7 +27,7 @@ fn conversions_keep_the_bytes(rt: HostRuntime) -> Result<(), Fail> {
     let bytes = UnixStr::from_bytes(b"a//\xff/");
     let first = PathBuf::from_unix_str(alloc, bytes)?;
     assert!(rt; first.as_path().as_unix_str() == bytes);
-    assert!(rt; is_text(copy_of_clone(alloc, first), bytes));
+    assert!(rt; is_byte_string(copy_of_clone(alloc, first), bytes));
     Ok(())
 }
 
@@ -35,7 +35,7 @@ fn conversions_keep_the_bytes(rt: HostRuntime) -> Result<(), Fail> {
 fn texts_keep_their_bytes(rt: HostRuntime) -> Result<(), Fail> {
     let alloc = rt.alloc();
     let head = PathBuf::from_text(alloc, "/the/head")?;
-    assert!(rt; is_text(Ok(head.into_unix_string()), UnixStr::new("/the/head")));
+    assert!(rt; is_byte_string(Ok(head.into_unix_string()), UnixStr::new("/the/head")));
     let owned = PathBuf::from(String::from_str(alloc, "/tmp/")?);
     assert_bytes(&rt, &owned, "/tmp/");
     Ok(())

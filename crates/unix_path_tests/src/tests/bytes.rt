@@ -1,7 +1,7 @@
-//! Tables, worked rows, printed text and failing writers.
+//! Tests of unix_bytes: views, owned bytes, chunks, lossy texts, searches and failing writers.
 mod bytes;
 mod callers;
 mod chunks;
 mod formats;
+mod lossy_texts;
 mod search;
-mod text;

@@ -1,9 +1,8 @@
 //! Rows of extensions that are set, added and refused.
 use super::edits::has_bytes;
-use super::texts::assert_text;
+use super::texts::{assert_text, text_of_error};
 use super::views::path;
 use std::alloc::{AllocError, Global};
-use std::error::Error;
 use std::test::Fail;
 use unix_bytes::bytes::UnixStr;
 use unix_path::{ExtensionError, PathBuf};
@@ -144,15 +143,16 @@ fn an_extension_with_a_separator_is_refused(rt: HostRuntime) {
     }
 }
 
-fn text_of<E: Error>(alloc: Global, error: &E) -> Result<String, AllocError> {
-    format!(in alloc; "{error}|{error:>32}")
-}
-
 #[test]
 fn texts_of_refused_extensions(rt: HostRuntime) {
     let alloc = rt.alloc();
     let text = "extension contains a separator|  extension contains a separator";
-    assert_text(&rt, text_of(alloc, &ExtensionError::Separator), text);
+    assert_text(
+        &rt,
+        text_of_error(alloc, &ExtensionError::Separator, 32),
+        text,
+    );
+    let error = ExtensionError::from(AllocError);
     let text = "out of memory|                   out of memory";
-    assert_text(&rt, text_of(alloc, &ExtensionError::from(AllocError)), text);
+    assert_text(&rt, text_of_error(alloc, &error, 32), text);
 }

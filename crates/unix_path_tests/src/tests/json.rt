@@ -2,10 +2,9 @@
 ghost use Rattle.std.specs.Prelude.{◌≡◌, IfOk};
 ghost use Rattle.unix_path.specs.Buffers.{path_bytes};
 
-use super::texts::assert_text;
+use super::texts::{assert_text, text_of_error};
 use serde_json::Value;
 use std::alloc::{AllocError, Global};
-use std::error::Error;
 use std::test::Fail;
 use unix_bytes::bytes::UnixStr;
 use unix_path::json::{JsonError, from_json, to_json};
@@ -72,17 +71,17 @@ fn values_that_are_not_strings_are_refused(rt: HostRuntime) -> Result<(), Fail> 
     Ok(())
 }
 
-fn text_of<E: Error>(alloc: Global, error: &E) -> Result<String, AllocError> {
-    format!(in alloc; "{error}|{error:>15}")
-}
-
 #[test]
 fn texts_of_errors(rt: HostRuntime) {
     let alloc = rt.alloc();
     let text = "path contains invalid UTF-8 characters|path contains invalid UTF-8 characters";
-    assert_text(&rt, text_of(alloc, &JsonError::NotUtf8), text);
+    assert_text(&rt, text_of_error(alloc, &JsonError::NotUtf8, 15), text);
     let text = "expected path string|expected path string";
-    assert_text(&rt, text_of(alloc, &JsonError::NotString), text);
+    assert_text(&rt, text_of_error(alloc, &JsonError::NotString, 15), text);
     let text = "out of memory|  out of memory";
-    assert_text(&rt, text_of(alloc, &JsonError::Memory(AllocError)), text);
+    assert_text(
+        &rt,
+        text_of_error(alloc, &JsonError::Memory(AllocError), 15),
+        text,
+    );
 }

@@ -3,6 +3,7 @@
 ghost use Rattle.std.specs.Prelude.{◌≡◌, IsOk, IfOk};
 ghost use Rattle.unix_path.specs.Buffers.{path_bytes};
 
+use super::texts::is_text;
 use super::views::path;
 use std::alloc::{AllocError, Global};
 use std::fmt;
@@ -10,7 +11,8 @@ use std::test::Fail;
 use unix_bytes::bytes::UnixStr;
 use unix_path::{BoxedPath, CowPath, Path, PathBuf, RcPath};
 
-// The buffer, made an owned path and back: neither step allocates, so none fails.
+// The buffer, made an owned path, made a buffer again, and then borrowed as a path that is cloned:
+// none of these three steps allocates, so none fails.
 fn rewrap(alloc: Global, buffer: PathBuf) -> Result<PathBuf, AllocError>
     ensures bytes { IfOk result (λ p. path_bytes p ≡ path_bytes buffer) }
     ensures succeeds { IsOk result }
@@ -213,10 +215,7 @@ fn a_borrowed_or_owned_path_keeps_a_name(rt: HostRuntime) -> Result<(), Fail> {
 
 // Whether the debug text is `/tmp` in quotes.
 fn has_debug_text(alloc: Global, value: &impl fmt::Debug) -> bool {
-    match format!(in alloc; "{value:?}") {
-        Ok(text) => text.as_str() == "\"/tmp\"",
-        Err(AllocError) => false,
-    }
+    is_text(format!(in alloc; "{value:?}"), "\"/tmp\"")
 }
 
 // Whether the debug text of the borrowed or owned path is `/tmp` in quotes.

@@ -207,7 +207,8 @@ fn components_and_names(rt: HostRuntime) {
     assert!(rt; same_names(a, a) && !same_names(a, b));
 }
 
-// What paths feed a hasher, counted out by hand: each part, a slash, and zeros up to eight bytes.
+// What paths feed a hasher, counted out by hand: for each part its bytes, a slash, and zeros up to
+// the next multiple of eight bytes.
 static HASH_INPUTS: [(&str, &str); 14] = [
     ("", ""),
     ("/", "//\0\0\0\0\0\0"),
@@ -272,7 +273,8 @@ fn paths_feed_their_components(rt: HostRuntime) {
     assert!(rt; name.len > 0 && name != hash_input("a"));
 }
 
-// A name `.` or `..` stands in no path; as a component it differs from what feeds the same.
+// No path has a name `.` or `..`. Such a name, as a component, is not equal to `CurDir` or
+// `ParentDir`, and feeds a hasher the same.
 #[test]
 fn components_may_feed_alike(rt: HostRuntime) {
     let dot = Component::Normal(UnixStr::new("."));

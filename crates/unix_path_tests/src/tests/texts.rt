@@ -1,11 +1,21 @@
-//! Assertions of texts that calls give. A test that makes them holds no owned text over an
-//! assertion, which would make its proof long.
+//! Assertions of texts that calls give, and the texts of errors. A test that makes them holds no
+//! owned text over an assertion, which would make its proof long.
 use std::alloc::{AllocError, Global};
+use std::error::Error;
 use std::fmt;
 use std::process::Abort;
+use unix_bytes::bytes::LossyText;
 
 // Whether a text was given, and is this one.
 pub(super) fn is_text(given: Result<String, AllocError>, wanted: &str) -> bool {
+    match given {
+        Ok(text) => text.as_str() == wanted,
+        Err(AllocError) => false,
+    }
+}
+
+// Whether a lossy text was given, and is this one.
+pub(super) fn is_lossy_text(given: Result<LossyText<'_>, AllocError>, wanted: &str) -> bool {
     match given {
         Ok(text) => text.as_str() == wanted,
         Err(AllocError) => false,
@@ -23,4 +33,13 @@ pub(super) fn assert_debug_text<T: fmt::Debug>(
     wanted: &str,
 ) {
     assert_text(rt, format!(in alloc; "{value:?}"), wanted);
+}
+
+// The text of the error, and behind a bar the same in a field of this width.
+pub(super) fn text_of_error<E: Error>(
+    alloc: Global,
+    error: &E,
+    width: usize,
+) -> Result<String, AllocError> {
+    format!(in alloc; "{error}|{error:>width$}")
 }

@@ -45,7 +45,7 @@ static SEQUENCES: [(&[u8], bool); 36] = [
     (b"a\xC2\x80\xE1\x80\x80\xF1\x80\x80\x80z", true),
 ];
 
-// Whether the bytes are text, as they are, just where they should be.
+// Whether the bytes are text exactly if they should be, and then unchanged.
 fn is_judged(bytes: &[u8], is_text: bool) -> bool {
     match UnixStr::from_bytes(bytes).to_str() {
         Some(text) => is_text && text.as_bytes() == bytes,

@@ -1,5 +1,5 @@
 //! What a caller can prove of chains over chunks.
-ghost use Rattle.std.specs.Prelude.{◌≡◌, ◌↔◌, ◌-◌, [], IfOk, IfSome, IsTrue, drop, length, map};
+ghost use Rattle.std.specs.Prelude.{◌≡◌, ◌↔◌, ◌-◌, IfOk, IfSome, IsTrue, drop, length, map};
 ghost use Rattle.std.specs.Prelude.{option_map, slice_get};
 ghost use Rattle.std.specs.List.{All};
 ghost use Rattle.unix_bytes.specs.Chunks.{chunk_of, chunks_of};

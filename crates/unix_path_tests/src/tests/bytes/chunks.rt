@@ -4,9 +4,9 @@ ghost use Rattle.std.specs.String.{string_bytes};
 ghost use Rattle.unix_bytes.specs.Lossy.{lossy_of};
 ghost use Rattle.unix_bytes.specs.Chunks.{chunk_of, chunks_of};
 
-use super::super::texts::assert_text;
+use super::super::texts::{assert_text, is_lossy_text};
 use std::alloc::{AllocError, Global};
-use unix_bytes::bytes::{LossyText, UnixStr};
+use unix_bytes::bytes::UnixStr;
 use unix_bytes::lossy::{Utf8Lossy, Utf8LossyChunk, utf8_char_width};
 
 #[test]
@@ -101,14 +101,6 @@ fn has_chunks(alloc: Global, source: &[u8], wanted: &[(&str, &[u8])]) -> bool {
     }
 }
 
-// Whether a lossy text was given, and is this one.
-fn is_lossy_text(given: Result<LossyText<'_>, AllocError>, wanted: &str) -> bool {
-    match given {
-        Ok(text) => text.as_str() == wanted,
-        Err(AllocError) => false,
-    }
-}
-
 #[test]
 fn chunks_of_sources(rt: HostRuntime) {
     let alloc = rt.alloc();
@@ -161,7 +153,7 @@ const STARTS: [usize; 10] = [0, 1, 1, 3, 3, 3, 6, 6, 6, 6];
 
 // Text of all widths that is longer than what is read at once, with FF at each place.
 #[test]
-fn long_mixed_runs(rt: HostRuntime) {
+fn long_mixed_stretches(rt: HostRuntime) {
     for place in 0..90 {
         let mut bytes = [0; 90];
         for i in 0..90 {

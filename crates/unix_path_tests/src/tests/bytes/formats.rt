@@ -1,4 +1,5 @@
 //! Rows of printed byte strings, and writers that fail.
+use super::super::refusing_writer::RefusingWriter;
 use super::super::texts::{assert_debug_text, assert_text};
 use std::alloc::{AllocError, Global};
 use std::fmt;
@@ -8,7 +9,7 @@ use std::test::Fail;
 use unix_bytes::bytes::UnixStr;
 use unix_bytes::lossy::Utf8Lossy;
 
-// Text is padded as text is; anything else ignores width, precision and fill.
+// Text is padded as a `str` is; bytes that are no text ignore width, precision and fill.
 #[test]
 fn padding(rt: HostRuntime) {
     let alloc = rt.alloc();
@@ -55,37 +56,6 @@ fn debug_texts(rt: HostRuntime) {
     let wanted = "Utf8LossyChunk { valid: \"a\", broken: [255] }";
     for chunk in Utf8Lossy::from_bytes(b"a\xFF").chunks() {
         assert_debug_text(&rt, alloc, &chunk, wanted);
-    }
-}
-
-// A writer that takes `most` writes, and refuses all others.
-#[derive(Drop)]
-struct RefusingWriter {
-    text: String,
-    accepted_writes: usize,
-    most: usize,
-    refused_writes: usize,
-}
-
-impl RefusingWriter {
-    fn after(alloc: Global, most: usize) -> RefusingWriter {
-        RefusingWriter {
-            text: String::new(alloc),
-            accepted_writes: 0,
-            most,
-            refused_writes: 0,
-        }
-    }
-}
-
-impl fmt::Write for RefusingWriter {
-    fn write_str(&mut self, text: &str) -> fmt::Result {
-        if self.most <= self.accepted_writes {
-            self.refused_writes = self.refused_writes.saturating_add(1);
-            return Err(fmt::Error);
-        }
-        self.accepted_writes = self.accepted_writes.saturating_add(1);
-        self.text.push_str(text).map_err(|_| fmt::Error)
     }
 }
 

@@ -27,9 +27,9 @@ fn long_bytes(rt: HostRuntime) {
     assert_places(&rt, b"123456789abcdef0:23456789abcdef01", 16, 17);
 }
 
-// The second row has the first byte that differs in the last lane of a window; the third and fourth
-// rows differ behind a window.
-static COMMON: [(&[u8], &[u8], usize); 12] = [
+// Two byte strings, and the length of their common prefix. In the second row the byte that differs
+// is the last of the first 16; in the third and fourth rows the first 16 bytes are the same.
+static COMMON_PREFIXES: [(&[u8], &[u8], usize); 12] = [
     (b"a/b", b"a/c", 2),
     (b"123456789abcdef0", b"123456789abcdefg", 15),
     (b"123456789abcdef012", b"123456789abcdef0x2", 16),
@@ -58,7 +58,7 @@ fn is_common(a: &[u8], b: &[u8], len: usize) -> bool {
 
 #[test]
 fn common_prefixes(rt: HostRuntime) {
-    for row in COMMON.iter() {
+    for row in COMMON_PREFIXES.iter() {
         assert!(rt; is_common(row.0, row.1, row.2), "{}", row.2);
     }
 }

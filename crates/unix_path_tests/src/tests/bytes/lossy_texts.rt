@@ -9,12 +9,12 @@ use unix_bytes::bytes::{LossyText, UnixStr};
 
 // Whether a borrowed and an owned text are equal, and feed a hasher alike.
 fn are_alike<'a>(borrowed: &LossyText<'a>, owned: &LossyText<'a>) -> bool {
-    *borrowed == *owned
-        && borrowed.cmp(&*owned) == Ordering::Equal
-        && borrowed.partial_cmp(&*owned) == Some(Ordering::Equal)
-        && hash_of(&*borrowed) == hash_of(&*owned)
-        && matches!(*borrowed, LossyText::Borrowed(_))
-        && matches!(*owned, LossyText::Owned(_))
+    borrowed == owned
+        && borrowed.cmp(owned) == Ordering::Equal
+        && borrowed.partial_cmp(owned) == Some(Ordering::Equal)
+        && hash_of(borrowed) == hash_of(owned)
+        && matches!(borrowed, LossyText::Borrowed(_))
+        && matches!(owned, LossyText::Owned(_))
 }
 
 // Asserts that the text of 61 FF is printed right: plain, padded, cut and in its debug form.
