@@ -53,10 +53,9 @@ pub pair_at : (s : List ℕ) (i : ℕ) → i + 2 ≤ length s
     → IsText (take i s) → IsText (take (i + 2) s)
 pair_at s i l lead tail before =
     let r = drop i s in
-    let first : slice_index r 0 ≡ slice_index s i = first_of_drop i s in
     let second : slice_index r 1 ≡ slice_index s (i + 1) = get_or-drop i s 1 0 in
     let pair = IsSequence-two (slice_index r 0) (slice_index r 1)
-    (rw (first, second) (lead.0, lead.1, tail.0, tail.1)) in
+    (rw (first_of_drop i s, second) (lead.0, lead.1, tail.0, tail.1)) in
     let two = take-two r (omega (arith, length-drop i s)) in
     more_text s i 2 before (IsText-sequence (take 2 r) (subst IsSequence (sym two) pair))
 
