@@ -16,7 +16,7 @@ type Row = (
     &'static [&'static str],
 );
 
-static UNDER: [Row; 7] = [
+static ROWS_UNDER_A_BASE: [Row; 7] = [
     (&["./a", "a", "/a"], "", &["/a", "./a", "a"]),
     (&["/a.b", "/a/b"], "/a", &["b"]),
     (&["a/b", "a", "a.b"], "a//", &["", "b"]),
@@ -66,7 +66,7 @@ fn has_under(alloc: Global, row: &Row) -> Result<bool, AllocError> {
 
 #[test]
 fn what_is_under_a_base(rt: HostRuntime) -> Result<(), Fail> {
-    for row in UNDER.iter() {
+    for row in ROWS_UNDER_A_BASE.iter() {
         assert!(rt; has_under(rt.alloc(), row)?, "{}", row.1);
     }
     Ok(())

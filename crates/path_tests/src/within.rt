@@ -6,7 +6,9 @@ mod short_paths;
 mod traversal;
 
 use path_within::WithinError;
-use unix_path::PathBuf;
+use path_within::within::{join_plain, join_within};
+use std::alloc::Global;
+use unix_path::{Path, PathBuf};
 
 // Whether the join was made and has these bytes, or was refused where none are wanted.
 fn is_joined(joined: Result<PathBuf, WithinError>, want: Option<&[u8]>) -> bool {
@@ -15,6 +17,24 @@ fn is_joined(joined: Result<PathBuf, WithinError>, want: Option<&[u8]>) -> bool 
         Err(WithinError::Escapes) => want.is_none(),
         Err(WithinError::Memory(_)) => false,
     }
+}
+
+// Whether the join within of the root and the request has these bytes, or is refused where none are
+// wanted.
+fn is_joined_within(alloc: Global, root: &[u8], request: &[u8], want: Option<&[u8]>) -> bool {
+    is_joined(
+        join_within(alloc, Path::from_bytes(root), Path::from_bytes(request)),
+        want,
+    )
+}
+
+// Whether the plain join of the root and the request has these bytes, or is refused where none are
+// wanted.
+fn is_joined_plain(alloc: Global, root: &[u8], request: &[u8], want: Option<&[u8]>) -> bool {
+    is_joined(
+        join_plain(alloc, Path::from_bytes(root), Path::from_bytes(request)),
+        want,
+    )
 }
 
 // The bytes of the text, if there is one.

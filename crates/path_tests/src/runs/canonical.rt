@@ -1,9 +1,8 @@
 //! Rows of canonical spellings.
 use path_runs::canonical::canonical;
 use std::alloc::{AllocError, Global};
-use std::test::Fail;
+use unix_path::Path;
 use unix_path::bytes::UnixStr;
-use unix_path::{Path, PathBuf};
 
 // A path and its canonical spelling.
 static ROWS: [(&'static str, &'static str); 9] = [
@@ -31,13 +30,4 @@ fn rows_of_spellings(rt: HostRuntime) {
     for row in ROWS.iter() {
         assert!(rt; is_spelled(rt.alloc(), row.0, row.1), "{}", row.0);
     }
-}
-
-#[test]
-fn names_collected(rt: HostRuntime) -> Result<(), Fail> {
-    let names = ["/", "feel", "the.force"];
-    let paths = names.iter().map(|name| Path::new(UnixStr::new(name)));
-    let path = PathBuf::from_iter(rt.alloc(), paths)?;
-    assert!(rt; path.as_path().as_unix_str() == UnixStr::new("/feel/the.force"));
-    Ok(())
 }

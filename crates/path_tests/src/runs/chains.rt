@@ -9,17 +9,11 @@ ghost use Rattle.unix_path.specs.Names.{name_of};
 ghost use Rattle.unix_path.specs.Parts.{Value, ParentDir, value_bytes, values};
 ghost use Rattle.unix_path.specs.Views.{value_of};
 
-use super::is_list;
+use super::{is_list, is_name};
 use std::alloc::{AllocError, Global};
 use std::test::Fail;
 use unix_path::bytes::UnixStr;
 use unix_path::{Component, Path, PathBuf};
-
-fn is_name(part: Component<'_>) -> bool
-    ensures { result ≡ is_some (name_of (value_of part.entry)) }
-{
-    matches!(part, Component::Normal(_))
-}
 
 fn count(path: Path<'_>) -> usize
     ensures { result ≡ length (values path.entry.bytes.now) }
@@ -159,20 +153,20 @@ fn place_up(path: Path<'_>) -> Option<usize>
         .position(|part| part == Component::ParentDir)
 }
 
-fn count_bytes(path: Path<'_>) -> usize
+fn count_byte_strings(path: Path<'_>) -> usize
     ensures { result ≡ length (values path.entry.bytes.now) }
 {
     path.iter().count()
 }
 
-fn bytes_back<'a>(alloc: Global, path: Path<'a>) -> Result<Vec<UnixStr<'a>>, AllocError>
+fn byte_strings_back<'a>(alloc: Global, path: Path<'a>) -> Result<Vec<UnixStr<'a>>, AllocError>
     ensures { IfOk result (λ list. map (λ name. name.bytes.now) list.items
         ≡ reverse (map value_bytes (values path.entry.bytes.now))) }
 {
     path.iter().rev().collect(alloc)
 }
 
-fn nth_bytes<'a>(path: Path<'a>, n: usize) -> Option<UnixStr<'a>>
+fn nth_byte_string<'a>(path: Path<'a>, n: usize) -> Option<UnixStr<'a>>
     ensures { option_map (λ name. name.bytes.now) result
         ≡ slice_get (map value_bytes (values path.entry.bytes.now)) n }
 {
@@ -219,7 +213,7 @@ fn numbers_of_parts(rt: HostRuntime) {
     let long = path("/a/../b//c/.");
     assert!(rt; count(long) == 5 && count(path("")) == 0);
     assert!(rt; shared_len(long, path("/a/./../c")) == 3);
-    assert!(rt; count_names(long) == 3 && count_bytes(long) == 5);
+    assert!(rt; count_names(long) == 3 && count_byte_strings(long) == 5);
     assert!(rt; count_ancestors(path("../a")) == 3);
 }
 
@@ -229,7 +223,7 @@ fn parts_by_number(rt: HostRuntime) {
     assert!(rt; nth(long, 3) == Some(name("b")) && nth(long, 5) == None);
     assert!(rt; last(long) == Some(name("c")));
     assert!(rt; nth_with_number(long, 2) == Some((2, Component::ParentDir)));
-    assert!(rt; nth_bytes(long, 0) == Some(UnixStr::new("/")));
+    assert!(rt; nth_byte_string(long, 0) == Some(UnixStr::new("/")));
 }
 
 #[test]
@@ -266,9 +260,9 @@ fn lists_without_the_first_part(rt: HostRuntime) {
 fn lists_of_bytes_from_the_end(rt: HostRuntime) {
     let alloc = rt.alloc();
     let short = path("./a//bc/");
-    let texts = [UnixStr::new("bc"), UnixStr::new("a"), UnixStr::new(".")];
+    let back = [UnixStr::new("bc"), UnixStr::new("a"), UnixStr::new(".")];
     assert!(rt; is_list(lengths_back(alloc, short), [2, 1, 1].as_slice()));
-    assert!(rt; is_list(bytes_back(alloc, short), texts.as_slice()));
+    assert!(rt; is_list(byte_strings_back(alloc, short), back.as_slice()));
 }
 
 #[test]

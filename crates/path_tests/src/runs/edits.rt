@@ -4,84 +4,127 @@ use std::alloc::{AllocError, Global};
 use unix_path::bytes::UnixStr;
 use unix_path::{Path, PathBuf};
 
-// What is done with a text.
-#[derive(Clone, Copy)]
-pub(super) enum Verb {
-    Push,
-    Pop,
-    Name,
-    Extension,
-    Added,
-    Clear,
-}
-
-// The edit by this text; a pop and a clear have none.
-pub(super) fn edit_of<'a>(verb: Verb, text: &'a str) -> Edit<'a> {
-    match verb {
-        Verb::Push => Edit::Push(Path::from_text(text)),
-        Verb::Pop => Edit::Pop,
-        Verb::Name => Edit::SetFileName(UnixStr::new(text)),
-        Verb::Extension => Edit::SetExtension(UnixStr::new(text)),
-        Verb::Added => Edit::AddExtension(UnixStr::new(text)),
-        Verb::Clear => Edit::Clear,
-    }
-}
-
 // A path, an edit, and the path and the answer that it gives.
-type SingleRow = (&'static str, Verb, &'static str, &'static str, Answer);
+type SingleRow = (&'static str, Edit<'static>, &'static str, Answer);
 
 static SINGLE_EDITS: [SingleRow; 21] = [
-    ("a/..foo", Verb::Extension, "", "a/.", Answer::Flag(true)),
-    ("a", Verb::Push, "b:c", "a/b:c", Answer::Plain),
-    ("a", Verb::Extension, "x/y", "a", Answer::Separator),
-    ("..", Verb::Extension, "x/y", "..", Answer::Separator),
-    ("..", Verb::Added, "x/y", "..", Answer::Separator),
-    ("..", Verb::Added, "x", "..", Answer::Flag(false)),
-    ("a/.", Verb::Added, "", "a/.", Answer::Flag(true)),
+    (
+        "a/..foo",
+        Edit::SetExtension(UnixStr { bytes: b"" }),
+        "a/.",
+        Answer::Flag(true),
+    ),
+    (
+        "a",
+        Edit::Push(Path { bytes: b"b:c" }),
+        "a/b:c",
+        Answer::Plain,
+    ),
+    (
+        "a",
+        Edit::SetExtension(UnixStr { bytes: b"x/y" }),
+        "a",
+        Answer::Separator,
+    ),
+    (
+        "..",
+        Edit::SetExtension(UnixStr { bytes: b"x/y" }),
+        "..",
+        Answer::Separator,
+    ),
+    (
+        "..",
+        Edit::AddExtension(UnixStr { bytes: b"x/y" }),
+        "..",
+        Answer::Separator,
+    ),
+    (
+        "..",
+        Edit::AddExtension(UnixStr { bytes: b"x" }),
+        "..",
+        Answer::Flag(false),
+    ),
+    (
+        "a/.",
+        Edit::AddExtension(UnixStr { bytes: b"" }),
+        "a/.",
+        Answer::Flag(true),
+    ),
     (
         "foo.tar/.",
-        Verb::Added,
-        "gz",
+        Edit::AddExtension(UnixStr { bytes: b"gz" }),
         "foo.tar.gz",
         Answer::Flag(true),
     ),
     (
         "foo/.",
-        Verb::Extension,
-        "bar",
+        Edit::SetExtension(UnixStr { bytes: b"bar" }),
         "foo.bar",
         Answer::Flag(true),
     ),
     (
         "foo/..",
-        Verb::Extension,
-        "bar",
+        Edit::SetExtension(UnixStr { bytes: b"bar" }),
         "foo/..",
         Answer::Flag(false),
     ),
-    ("...", Verb::Extension, "", "..", Answer::Flag(true)),
-    ("..foo", Verb::Extension, "", ".", Answer::Flag(true)),
-    ("foo", Verb::Name, "/etc", "/etc", Answer::Plain),
-    ("foo/..", Verb::Name, "bar", "foo/../bar", Answer::Plain),
-    ("foo", Verb::Name, "", "", Answer::Plain),
-    ("/a", Verb::Name, "..", "/..", Answer::Plain),
-    ("foo", Verb::Push, "", "foo/", Answer::Plain),
-    ("foo", Verb::Push, "/", "/", Answer::Plain),
+    (
+        "...",
+        Edit::SetExtension(UnixStr { bytes: b"" }),
+        "..",
+        Answer::Flag(true),
+    ),
+    (
+        "..foo",
+        Edit::SetExtension(UnixStr { bytes: b"" }),
+        ".",
+        Answer::Flag(true),
+    ),
+    (
+        "foo",
+        Edit::SetFileName(UnixStr { bytes: b"/etc" }),
+        "/etc",
+        Answer::Plain,
+    ),
+    (
+        "foo/..",
+        Edit::SetFileName(UnixStr { bytes: b"bar" }),
+        "foo/../bar",
+        Answer::Plain,
+    ),
+    (
+        "foo",
+        Edit::SetFileName(UnixStr { bytes: b"" }),
+        "",
+        Answer::Plain,
+    ),
+    (
+        "/a",
+        Edit::SetFileName(UnixStr { bytes: b".." }),
+        "/..",
+        Answer::Plain,
+    ),
+    (
+        "foo",
+        Edit::Push(Path { bytes: b"" }),
+        "foo/",
+        Answer::Plain,
+    ),
+    ("foo", Edit::Push(Path { bytes: b"/" }), "/", Answer::Plain),
     (
         "/foo/bar",
-        Verb::Push,
-        "./baz",
+        Edit::Push(Path { bytes: b"./baz" }),
         "/foo/bar/./baz",
         Answer::Plain,
     ),
-    ("foo//bar", Verb::Pop, "", "foo", Answer::Flag(true)),
-    ("/", Verb::Pop, "", "/", Answer::Flag(false)),
+    ("foo//bar", Edit::Pop, "foo", Answer::Flag(true)),
+    ("/", Edit::Pop, "/", Answer::Flag(false)),
 ];
 
 // A path, edits, the path that they leave, and their answers.
 type ListRow = (
     &'static str,
-    &'static [(Verb, &'static str)],
+    &'static [Edit<'static>],
     &'static str,
     &'static [Answer],
 );
@@ -90,12 +133,12 @@ static LISTS_OF_EDITS: [ListRow; 5] = [
     (
         "/tmp/foo.txt",
         &[
-            (Verb::Extension, ""),
-            (Verb::Push, "b"),
-            (Verb::Pop, ""),
-            (Verb::Pop, ""),
-            (Verb::Pop, ""),
-            (Verb::Pop, ""),
+            Edit::SetExtension(UnixStr { bytes: b"" }),
+            Edit::Push(Path { bytes: b"b" }),
+            Edit::Pop,
+            Edit::Pop,
+            Edit::Pop,
+            Edit::Pop,
         ],
         "/",
         &[
@@ -109,19 +152,26 @@ static LISTS_OF_EDITS: [ListRow; 5] = [
     ),
     (
         "foo/.",
-        &[(Verb::Extension, "bar"), (Verb::Pop, ""), (Verb::Pop, "")],
+        &[
+            Edit::SetExtension(UnixStr { bytes: b"bar" }),
+            Edit::Pop,
+            Edit::Pop,
+        ],
         "",
         &[Answer::Flag(true), Answer::Flag(true), Answer::Flag(false)],
     ),
     (
         "a",
-        &[(Verb::Clear, ""), (Verb::Push, "")],
+        &[Edit::Clear, Edit::Push(Path { bytes: b"" })],
         "",
         &[Answer::Plain, Answer::Plain],
     ),
     (
         "a",
-        &[(Verb::Extension, "x/y"), (Verb::Push, "b")],
+        &[
+            Edit::SetExtension(UnixStr { bytes: b"x/y" }),
+            Edit::Push(Path { bytes: b"b" }),
+        ],
         "a/b",
         &[Answer::Separator, Answer::Plain],
     ),
@@ -163,33 +213,21 @@ fn edits_give(
 // Whether the edit gives what the row says.
 fn edit_gives(alloc: Global, row: &SingleRow) -> Result<bool, AllocError> {
     let mut buffer = PathBuf::from_text(alloc, row.0)?;
-    let edits = [edit_of(row.1, row.2)];
-    let answers = [row.4];
+    let edits = [row.1];
+    let answers = [row.3];
     Ok(edits_give(
         alloc,
         &mut buffer,
         edits.as_slice(),
-        row.3,
+        row.2,
         answers.as_slice(),
     ))
 }
 
-fn list_of(
-    alloc: Global,
-    texts: &[(Verb, &'static str)],
-) -> Result<Vec<Edit<'static>>, AllocError> {
-    let mut edits = Vec::new(alloc);
-    for text in texts {
-        edits.push(edit_of(text.0, text.1))?;
-    }
-    Ok(edits)
-}
-
 // Whether the edits give what the row says.
 fn list_gives(alloc: Global, row: &ListRow) -> Result<bool, AllocError> {
-    let edits = list_of(alloc, row.1)?;
     let mut buffer = PathBuf::from_text(alloc, row.0)?;
-    Ok(edits_give(alloc, &mut buffer, &edits, row.2, row.3))
+    Ok(edits_give(alloc, &mut buffer, row.1, row.2, row.3))
 }
 
 // Whether the path is joined again to the base as the row says, or not at all.

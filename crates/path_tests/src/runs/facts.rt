@@ -31,7 +31,7 @@ fn starts_again(alloc: Global, root: Path<'_>, request: Path<'_>) -> Result<bool
     Ok(joined.as_path().starts_with(root))
 }
 
-fn part_room(path: Path<'_>) -> usize
+fn bound_of_parts(path: Path<'_>) -> usize
     ensures count { length (values path.entry.bytes.now) ≤ result }
     ensures bytes { sum_by (λ v. length (value_bytes v)) (values path.entry.bytes.now) ≤ result }
 {
@@ -77,7 +77,7 @@ fn laws_are_facts(rt: HostRuntime) -> Result<(), Fail> {
     let joined = join_below(alloc, root, request)?;
     assert_eq!(rt; joined.as_path().as_unix_str(), UnixStr::new("/srv/./a//b"));
     assert!(rt; starts_again(alloc, empty, request)?);
-    assert_eq!(rt; part_room(request), 6);
+    assert_eq!(rt; bound_of_parts(request), 6);
     assert!(rt; is_nothing(empty));
     assert!(rt; ties(request, Path::new(UnixStr::new("./a/b/."))));
     assert_eq!(rt; reverse_order(root, request), Ordering::Less);

@@ -5,16 +5,10 @@ ghost use Rattle.unix_path.specs.Names.{name_of};
 ghost use Rattle.unix_path.specs.Parts.{value_bytes, values};
 ghost use Rattle.unix_path.specs.Views.{value_of};
 
-use super::is_list;
+use super::{is_list, is_name};
 use std::alloc::{AllocError, Global};
 use unix_path::bytes::UnixStr;
 use unix_path::{Component, Path};
-
-fn is_name(part: Component<'_>) -> bool
-    ensures { result ≡ is_some (name_of (value_of part.entry)) }
-{
-    matches!(part, Component::Normal(_))
-}
 
 fn first_name(path: Path<'_>) -> usize
     ensures { result

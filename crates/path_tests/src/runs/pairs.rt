@@ -4,10 +4,11 @@ use std::alloc::{AllocError, Global};
 use std::test::Fail;
 use unix_path::{Component, Path};
 
-// How many strings of at most 4 of four bytes there are, 1, 4, 16, 64 and 256 of each length, and
-// how many of at most 3.
+// How many strings of at most 4 letters there are over four letters: 1, 4, 16, 64 and 256 of each
+// length.
 const STRINGS: usize = 341;
 
+// How many strings of at most 3 letters there are over four letters.
 const SHORTER_STRINGS: usize = 85;
 
 // The components of the path of these bytes.

@@ -1,6 +1,6 @@
 //! Random byte strings, set and added as extensions of others, beside the plain reading.
 use super::plain::{is_name, last_dot, parts_of};
-use super::random::Random;
+use crate::random::Random;
 use std::alloc::{AllocError, Global};
 use std::test::Fail;
 use unix_path::bytes::UnixStr;

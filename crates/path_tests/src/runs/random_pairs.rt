@@ -1,6 +1,6 @@
 //! Random pairs of byte strings, each asked what two paths answer, beside their lists of parts.
 use super::plain::{left_between, parts_of};
-use super::random::Random;
+use crate::random::Random;
 use std::alloc::{AllocError, Global};
 use std::test::Fail;
 use unix_path::bytes::UnixStr;
@@ -8,7 +8,7 @@ use unix_path::{Component, Path};
 
 const PAIRS: u32 = 10_000;
 
-// A stretch in front of the string, or behind, or another string.
+// The beginning or the end of the string, or another string.
 fn other_string(alloc: Global, random: &mut Random, bytes: &[u8]) -> Result<Vec<u8>, AllocError> {
     let word = random.next();
     let place = (word >> 32) as usize % 65;
@@ -20,15 +20,20 @@ fn other_string(alloc: Global, random: &mut Random, bytes: &[u8]) -> Result<Vec<
     }
 }
 
-// Whether two paths are compared as these lists, of their parts, are.
-fn are_compared(p: Path<'_>, q: Path<'_>, v: &[Component<'_>], w: &[Component<'_>]) -> bool {
-    p.starts_with(q) == v.starts_with(w)
-        && p.ends_with(q) == v.ends_with(w)
-        && (p == q) == (v == w)
-        && p.cmp(&q) == v.cmp(w)
+// Whether the first path begins with the second, ends with it and equals it where these lists of
+// the bytes of their parts do.
+fn are_compared(p: Path<'_>, q: Path<'_>, v: &[&[u8]], w: &[&[u8]]) -> bool {
+    p.starts_with(q) == v.starts_with(w) && p.ends_with(q) == v.ends_with(w) && (p == q) == (v == w)
 }
 
-// Whether the prefix is cut off the path where these bytes are left behind it, or not at all.
+// Whether two paths are ordered as the lists of their components are.
+fn are_ordered(alloc: Global, p: Path<'_>, q: Path<'_>) -> Result<bool, AllocError> {
+    let v: Vec<Component<'_>> = p.components().collect(alloc)?;
+    let w: Vec<Component<'_>> = q.components().collect(alloc)?;
+    Ok(p.cmp(&q) == v.as_slice().cmp(w.as_slice()))
+}
+
+// Whether stripping the prefix leaves these bytes, or fails where there are none.
 fn is_stripped(path: Path<'_>, prefix: Path<'_>, left: Option<&[u8]>) -> bool {
     match path.strip_prefix(prefix) {
         Ok(rest) => left == Some(rest.as_unix_str().as_bytes()),
@@ -49,17 +54,27 @@ fn left_behind<'a>(
     })
 }
 
-// Whether one path begins and ends with the other where its list of parts does.
-fn is_cut(alloc: Global, path: &[u8], other: &[u8]) -> Result<bool, AllocError> {
+// The bytes of each part.
+fn bytes_of_parts<'a>(alloc: Global, path: &'a [u8]) -> Result<Vec<&'a [u8]>, AllocError> {
+    let mut list = Vec::new(alloc);
+    for part in parts_of(alloc, path)?.iter() {
+        list.push(part.bytes)?;
+    }
+    Ok(list)
+}
+
+// Whether two paths answer as their lists of parts do: whether the first begins with the second,
+// ends with it and equals it, what stripping it leaves, and how the two are ordered.
+fn agree_with_lists(alloc: Global, path: &[u8], other: &[u8]) -> Result<bool, AllocError> {
     let (p, q) = (Path::from_bytes(path), Path::from_bytes(other));
-    let v: Vec<Component<'_>> = p.components().collect(alloc)?;
-    let w: Vec<Component<'_>> = q.components().collect(alloc)?;
+    let v = bytes_of_parts(alloc, path)?;
+    let w = bytes_of_parts(alloc, other)?;
     let left = if v.starts_with(&w) {
         left_behind(alloc, path, w.len())?
     } else {
         None
     };
-    Ok(is_stripped(p, q, left) && are_compared(p, q, &v, &w))
+    Ok(is_stripped(p, q, left) && are_compared(p, q, &v, &w) && are_ordered(alloc, p, q)?)
 }
 
 // Whether the join is the second alone if it is rooted, and else both with a slash between.
@@ -83,7 +98,7 @@ fn random_strings_are_compared(rt: HostRuntime) -> Result<(), Fail> {
     for _ in 0..PAIRS {
         let bytes = random.string(alloc)?;
         let other = other_string(alloc, &mut random, &bytes)?;
-        let alike = is_cut(alloc, &bytes, &other)? && is_joined(alloc, &bytes, &other)?;
+        let alike = agree_with_lists(alloc, &bytes, &other)? && is_joined(alloc, &bytes, &other)?;
         assert!(rt; alike, "{bytes:?} {other:?}");
     }
     Ok(())

@@ -1,6 +1,6 @@
 //! Random byte strings, each asked everything that a path answers, beside the plain reading.
 use super::plain::{Part, are_parts, first_dot, is_name, last_dot, left_between, parts_of};
-use super::random::Random;
+use crate::random::Random;
 use path_runs::canonical::canonical;
 use std::alloc::{AllocError, Global};
 use std::test::Fail;
@@ -91,44 +91,43 @@ fn is_spelled(alloc: Global, path: Path<'_>, parts: &[Part<'_>]) -> Result<bool,
     Ok(spelled.as_path().as_unix_str() == want && again.as_path().as_unix_str() == want)
 }
 
-// Whether a path that is text is its own JSON value, and another path has none.
-fn has_json(alloc: Global, path: Path<'_>) -> bool {
+// Whether the path's JSON value is its text, or is refused if the path has none.
+fn has_json(alloc: Global, path: Path<'_>, text: Option<&str>) -> bool {
     match to_json(alloc, path) {
-        Ok(value) => match path.to_str() {
-            Some(text) => value.as_str() == Some(text),
-            None => false,
-        },
-        Err(JsonError::NotUtf8) => path.to_str().is_none(),
+        Ok(value) => text.is_some() && value.as_str() == text,
+        Err(JsonError::NotUtf8) => text.is_none(),
         Err(_) => false,
     }
 }
 
-// Whether this text is the path, or has replacement characters if the path is no text.
-fn is_lossy(path: Path<'_>, shown: &str) -> bool {
-    match path.to_str() {
-        Some(text) => text.as_bytes() == path.as_unix_str().as_bytes() && text == shown,
-        None => shown.contains('\u{FFFD}'),
+// Whether the path gives its text or none, and is shown as its text or with replacement characters.
+fn is_lossy(path: Path<'_>, text: Option<&str>, shown: &str) -> bool {
+    match text {
+        Some(text) => path.to_str() == Some(text) && shown == text,
+        None => path.to_str().is_none() && shown.contains('\u{FFFD}'),
     }
 }
 
-// Whether text is shown as it is.
-fn is_shown(alloc: Global, path: Path<'_>) -> Result<bool, AllocError> {
+// Whether the path is displayed as its lossy text, which is its text if it has one.
+fn is_shown(alloc: Global, path: Path<'_>, text: Option<&str>) -> Result<bool, AllocError> {
     let shown = format!(in alloc; "{}", path.display())?;
     let lossy = path.to_string_lossy(alloc)?;
-    Ok(is_lossy(path, shown.as_str()) && lossy.as_str() == shown.as_str())
+    Ok(is_lossy(path, text, shown.as_str()) && lossy.as_str() == shown.as_str())
 }
 
-// Whether the path of these bytes answers as the plain reading has it.
+// Whether the path of these bytes answers as the plain reading has it, and is text exactly where
+// `from_utf8` of std finds text.
 fn is_read(alloc: Global, bytes: &[u8]) -> Result<bool, AllocError> {
     let path = Path::from_bytes(bytes);
     let parts = parts_of(alloc, bytes)?;
+    let text = str::from_utf8(bytes).ok();
     Ok(
         has_parents(path, &parts)
             && has_name(path, &parts)
-            && has_json(alloc, path)
+            && has_json(alloc, path, text)
             && has_parts(alloc, path, &parts)?
             && is_spelled(alloc, path, &parts)?
-            && is_shown(alloc, path)?,
+            && is_shown(alloc, path, text)?,
     )
 }
 

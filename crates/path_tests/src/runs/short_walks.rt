@@ -1,5 +1,6 @@
 //! All short paths, each walked by all short lists of turns.
 use super::plain::{Part, is_part, left_between, parts_of};
+use super::turns_of;
 use crate::strings::strings_over;
 use path_runs::walk::{Turn, walk};
 use std::alloc::{AllocError, Global};
@@ -7,29 +8,19 @@ use std::test::Fail;
 use unix_path::Path;
 use unix_path::bytes::UnixStr;
 
-// How many strings of at most 6 of three bytes there are, and how many of at most 5.
+// How many strings of at most 6 letters there are over three letters.
 const STRINGS: usize = 1093;
 
+// How many strings of at most 5 letters there are over three letters.
 const SHORTER_STRINGS: usize = 364;
 
-// How many lists of at most 8 turns there are, and how many of at most 7.
+// How many lists of at most 8 turns there are.
 const LISTS: usize = 511;
 
+// How many lists of at most 7 turns there are.
 const SHORTER_LISTS: usize = 255;
 
-// The turns that the letters are: `f` is one in front, any other letter one behind.
-fn turns_of(alloc: Global, letters: &[u8]) -> Result<Vec<Turn>, AllocError> {
-    let mut turns = Vec::new(alloc);
-    for letter in letters {
-        turns.push(if *letter == b'f' {
-            Turn::Front
-        } else {
-            Turn::Back
-        })?;
-    }
-    Ok(turns)
-}
-
+// All lists of at most 8 turns.
 fn lists_of_turns(alloc: Global) -> Result<Vec<Vec<Turn>>, AllocError> {
     let mut lists = Vec::new(alloc);
     for letters in strings_over(alloc, b"fb", SHORTER_LISTS)?.iter() {
@@ -38,7 +29,7 @@ fn lists_of_turns(alloc: Global) -> Result<Vec<Vec<Turn>>, AllocError> {
     Ok(lists)
 }
 
-// How many of so many parts the turns take in front and behind.
+// How many of `count` parts the turns take in front, and how many behind.
 fn parts_taken(turns: &[Turn], count: usize) -> (usize, usize) {
     let mut front = 0_usize;
     let mut behind = 0_usize;
@@ -53,7 +44,8 @@ fn parts_taken(turns: &[Turn], count: usize) -> (usize, usize) {
     (front, behind)
 }
 
-// Whether the turns take so many of these parts, and leave what is between.
+// Whether a walk of the path by these turns takes as many of its parts, in front and behind, as
+// `parts_taken` counts, and leaves what is between.
 fn is_walked<'a>(
     alloc: Global,
     path: &'a [u8],
@@ -76,7 +68,7 @@ fn is_walked<'a>(
     )
 }
 
-// How many of the lists of turns walk the path so.
+// How many of the lists of turns walk the path as its plain reading says.
 fn count_walks(alloc: Global, path: &[u8], lists: &[Vec<Turn>]) -> Result<usize, AllocError> {
     let parts = parts_of(alloc, path)?;
     let mut count = 0_usize;

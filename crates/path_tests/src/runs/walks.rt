@@ -1,5 +1,6 @@
 //! Rows of walks from both ends.
-use path_runs::walk::{Turn, walk};
+use super::turns_of;
+use path_runs::walk::walk;
 use std::alloc::{AllocError, Global};
 use std::test::Fail;
 use unix_path::bytes::UnixStr;
@@ -30,18 +31,6 @@ static ROWS: [Row; 13] = [
     ("", "ff", &[], "", &[]),
 ];
 
-fn turns_of(alloc: Global, letters: &str) -> Result<Vec<Turn>, AllocError> {
-    let mut turns = Vec::new(alloc);
-    for letter in letters.as_bytes() {
-        turns.push(if *letter == b'f' {
-            Turn::Front
-        } else {
-            Turn::Back
-        })?;
-    }
-    Ok(turns)
-}
-
 fn have_bytes(parts: &[Component<'_>], want: &[&str]) -> bool {
     parts.len() == want.len()
         && parts
@@ -53,7 +42,7 @@ fn have_bytes(parts: &[Component<'_>], want: &[&str]) -> bool {
 // Whether the walk of the row takes and leaves what the row says.
 fn is_walked(alloc: Global, row: &Row) -> Result<bool, AllocError> {
     let (path, letters, front, rest, behind) = *row;
-    let turns = turns_of(alloc, letters)?;
+    let turns = turns_of(alloc, letters.as_bytes())?;
     let walked = walk(alloc, Path::from_text(path), &turns)?;
     Ok(
         have_bytes(&walked.front, front)

@@ -1,4 +1,5 @@
 //! Random calls of a table, beside a plain list of the same paths and values.
+use crate::random::Random;
 use path_table::PathTable;
 use std::alloc::{AllocError, Global};
 use std::test::Fail;
@@ -10,37 +11,22 @@ const CALLS: u32 = 60;
 
 static LETTERS: [u8; 8] = *b"/./.aabb";
 
-// The numbers of splitmix64 from a seed.
-#[derive(Drop)]
-struct Random {
-    state: u64,
-}
-
-impl Random {
-    fn next(&mut self) -> u64 {
-        self.state = self.state.wrapping_add(0x9E37_79B9_7F4A_7C15);
-        let mixed = (self.state ^ self.state >> 30).wrapping_mul(0xBF58_476D_1CE4_E5B9);
-        let mixed = (mixed ^ mixed >> 27).wrapping_mul(0x94D0_49BB_1331_11EB);
-        mixed ^ mixed >> 31
+// A random path of at most six bytes.
+fn path_from(alloc: Global, random: &mut Random) -> Result<PathBuf, AllocError> {
+    let mut bytes = Vec::new(alloc);
+    for _ in 0..random.next() % 7 {
+        bytes.push(LETTERS[(random.next() & 7) as usize])?;
     }
-
-    // A path of at most six bytes.
-    fn path(&mut self, alloc: Global) -> Result<PathBuf, AllocError> {
-        let mut bytes = Vec::new(alloc);
-        for _ in 0..self.next() % 7 {
-            bytes.push(LETTERS[(self.next() & 7) as usize])?;
-        }
-        Path::from_bytes(&bytes).to_path_buf(alloc)
-    }
+    Path::from_bytes(&bytes).to_path_buf(alloc)
 }
 
 // Paths, no two of them equal, and their values.
 #[derive(Drop)]
-struct Plain {
+struct PlainList {
     files: Vec<(PathBuf, u32)>,
 }
 
-impl Plain {
+impl PlainList {
     fn place(&self, path: &PathBuf) -> Option<usize> {
         self.files.iter().position(|file| file.0 == *path)
     }
@@ -91,10 +77,10 @@ fn answers_alike(
     alloc: Global,
     random: &mut Random,
     table: &mut PathTable<u32>,
-    plain: &mut Plain,
+    plain: &mut PlainList,
     value: u32,
 ) -> Result<bool, AllocError> {
-    let path = random.path(alloc)?;
+    let path = path_from(alloc, random)?;
     Ok(match random.next() % 8 {
         0..3 => {
             let other = path.as_path().to_path_buf(alloc)?;
@@ -111,9 +97,9 @@ fn answers_alike(
 
 // How many calls of a table and a list answer alike, and leave as many files, before two do not.
 fn calls_alike(alloc: Global, seed: u64) -> Result<u32, AllocError> {
-    let mut random = Random { state: seed };
+    let mut random = Random::new(seed);
     let mut table = PathTable::new(alloc);
-    let mut plain = Plain {
+    let mut plain = PlainList {
         files: Vec::new(alloc),
     };
     for value in 0..CALLS {

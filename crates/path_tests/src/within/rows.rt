@@ -1,8 +1,8 @@
 //! Rows of resolved paths, joins under a root, and ways.
-use super::{bytes_of, is_joined};
+use super::{bytes_of, is_joined_plain, is_joined_within};
 use path_within::resolved::resolved;
 use path_within::way::way;
-use path_within::within::{climbs, join_plain, join_within};
+use path_within::within::climbs;
 use std::alloc::{AllocError, Global};
 use unix_path::Path;
 
@@ -102,18 +102,6 @@ fn is_resolved(alloc: Global, path: &str, want: &str) -> bool {
     }
 }
 
-// Whether the join within is that of the row.
-fn is_joined_within(alloc: Global, row: &Row) -> bool {
-    let joined = join_within(alloc, Path::from_text(row.0), Path::from_text(row.1));
-    is_joined(joined, bytes_of(row.2))
-}
-
-// Whether the plain join is that of the row.
-fn is_joined_plain(alloc: Global, row: &Row) -> bool {
-    let joined = join_plain(alloc, Path::from_text(row.0), Path::from_text(row.1));
-    is_joined(joined, bytes_of(row.2))
-}
-
 // Whether the way is that of the row.
 fn is_way(alloc: Global, row: &Row) -> bool {
     match way(alloc, Path::from_text(row.0), Path::from_text(row.1)) {
@@ -140,10 +128,14 @@ fn rows_that_climb(rt: HostRuntime) {
 #[test]
 fn rows_joined(rt: HostRuntime) {
     for row in JOINS_WITHIN.iter() {
-        assert!(rt; is_joined_within(rt.alloc(), row), "{}", row.1);
+        let (root, request) = (row.0.as_bytes(), row.1.as_bytes());
+        let is_row = is_joined_within(rt.alloc(), root, request, bytes_of(row.2));
+        assert!(rt; is_row, "{}", row.1);
     }
     for row in PLAIN_JOINS.iter() {
-        assert!(rt; is_joined_plain(rt.alloc(), row), "{}", row.1);
+        let (root, request) = (row.0.as_bytes(), row.1.as_bytes());
+        let is_row = is_joined_plain(rt.alloc(), root, request, bytes_of(row.2));
+        assert!(rt; is_row, "{}", row.1);
     }
 }
 

@@ -8,14 +8,15 @@ use std::alloc::{AllocError, Global};
 use std::test::Fail;
 use unix_path::{Path, PathBuf};
 
-// How many strings of at most 5 of three bytes there are, and how many of at most 4.
+// How many strings of at most 5 letters there are over three letters.
 const STRINGS: usize = 364;
 
+// How many strings of at most 4 letters there are over three letters.
 const SHORTER_STRINGS: usize = 121;
 
 // A path, with what is asked of it beside every other.
 #[derive(Drop)]
-struct Short<'a> {
+struct ShortPath<'a> {
     path: Path<'a>,
     // What the call resolves it to.
     resolved: PathBuf,
@@ -27,9 +28,9 @@ struct Short<'a> {
 }
 
 // The path of these bytes, and what is asked of it.
-fn read_path(alloc: Global, bytes: &[u8]) -> Result<Short<'_>, AllocError> {
+fn read_path(alloc: Global, bytes: &[u8]) -> Result<ShortPath<'_>, AllocError> {
     let path = Path::from_bytes(bytes);
-    Ok(Short {
+    Ok(ShortPath {
         path,
         resolved: resolved(alloc, path)?,
         want: plain::resolved_of(alloc, bytes)?,
@@ -47,8 +48,8 @@ fn bytes_of(path: &PathBuf) -> &[u8] {
 // request climbs; and whether it is the resolved root and behind it the resolved request.
 fn stays_within(
     alloc: Global,
-    root: &Short<'_>,
-    request: &Short<'_>,
+    root: &ShortPath<'_>,
+    request: &ShortPath<'_>,
     whole: &PathBuf,
 ) -> Result<bool, AllocError> {
     let joined = join_within(alloc, root.path, request.path);
@@ -68,7 +69,12 @@ fn stays_within(
 
 // Whether the plain join is the join that `Path` makes, or is refused where the request has a root
 // or a `..`; and whether the join starts with the root.
-fn stays_plain(alloc: Global, root: &Short<'_>, request: &Short<'_>, whole: &PathBuf) -> bool {
+fn stays_plain(
+    alloc: Global,
+    root: &ShortPath<'_>,
+    request: &ShortPath<'_>,
+    whole: &PathBuf,
+) -> bool {
     let joined = join_plain(alloc, root.path, request.path);
     if request.has_root_or_up {
         return is_joined(joined, None);
@@ -83,7 +89,7 @@ fn stays_plain(alloc: Global, root: &Short<'_>, request: &Short<'_>, whole: &Pat
 
 // Whether there is no way by a plain reading: one has a root and the other has none, or a `..` is
 // left of the first.
-fn has_no_way(from: &Short<'_>, to: &Short<'_>) -> bool {
+fn has_no_way(from: &ShortPath<'_>, to: &ShortPath<'_>) -> bool {
     let shared = from
         .pieces
         .iter()
@@ -99,7 +105,11 @@ fn has_no_way(from: &Short<'_>, to: &Short<'_>) -> bool {
 }
 
 // Whether the way leads from the first path to the other, or there is none.
-fn leads_there(alloc: Global, from: &Short<'_>, to: &Short<'_>) -> Result<bool, AllocError> {
+fn leads_there(
+    alloc: Global,
+    from: &ShortPath<'_>,
+    to: &ShortPath<'_>,
+) -> Result<bool, AllocError> {
     match way(alloc, from.path, to.path)? {
         Some(steps) => {
             let joined = from.path.join(alloc, steps.as_path())?;
@@ -111,7 +121,7 @@ fn leads_there(alloc: Global, from: &Short<'_>, to: &Short<'_>) -> Result<bool, 
 }
 
 // Whether the joins of two paths stay below the first, and the way leads to the second.
-fn are_joined(alloc: Global, a: &Short<'_>, b: &Short<'_>) -> Result<bool, AllocError> {
+fn are_joined(alloc: Global, a: &ShortPath<'_>, b: &ShortPath<'_>) -> Result<bool, AllocError> {
     let whole = a.path.join(alloc, b.path)?;
     Ok(
         stays_within(alloc, a, b, &whole)?
@@ -121,7 +131,7 @@ fn are_joined(alloc: Global, a: &Short<'_>, b: &Short<'_>) -> Result<bool, Alloc
 }
 
 // What is asked of each of these paths.
-fn read_paths(alloc: Global, strings: &[Vec<u8>]) -> Result<Vec<Short<'_>>, AllocError> {
+fn read_paths(alloc: Global, strings: &[Vec<u8>]) -> Result<Vec<ShortPath<'_>>, AllocError> {
     let mut paths = Vec::new(alloc);
     for string in strings {
         paths.push(read_path(alloc, string.as_slice())?)?;
@@ -130,7 +140,11 @@ fn read_paths(alloc: Global, strings: &[Vec<u8>]) -> Result<Vec<Short<'_>>, Allo
 }
 
 // How many paths are joined to the first, and reached from it, before one is not.
-fn paths_joined(alloc: Global, a: &Short<'_>, paths: &[Short<'_>]) -> Result<usize, AllocError> {
+fn paths_joined(
+    alloc: Global,
+    a: &ShortPath<'_>,
+    paths: &[ShortPath<'_>],
+) -> Result<usize, AllocError> {
     let mut count = 0_usize;
     for b in paths {
         if !are_joined(alloc, a, b)? {

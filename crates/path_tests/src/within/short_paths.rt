@@ -8,9 +8,10 @@ use std::alloc::{AllocError, Global};
 use std::test::Fail;
 use unix_path::{Component, Path};
 
-// How many strings of at most 6 of three bytes there are, and how many of at most 5.
+// How many strings of at most 6 letters there are over three letters.
 const STRINGS: usize = 1093;
 
+// How many strings of at most 5 letters there are over three letters.
 const SHORTER_STRINGS: usize = 364;
 
 // Whether no `.` is a part, no `..` stands behind a name or the root, and a root only in front.
@@ -36,7 +37,7 @@ fn resolves_to(alloc: Global, path: Path<'_>, want: &[u8]) -> Result<bool, Alloc
     Ok(found.as_path().as_unix_str().as_bytes() == want)
 }
 
-// Whether these bytes are a path that is normal, resolves to itself and is its own spelling.
+// Whether these bytes are a path that is normal and is its own spelling.
 fn stays(alloc: Global, bytes: &[u8]) -> Result<bool, AllocError> {
     let path = Path::from_bytes(bytes);
     let spelled = canonical(alloc, path)?;

@@ -1,11 +1,9 @@
 //! Known bad requests of path traversal, each with the answer that its bytes give: an encoding is
 //! no `..`, and stays a name.
-use super::is_joined;
+use super::{is_joined_plain, is_joined_within};
 use path_within::WithinError;
-use path_within::within::{join_plain, join_within};
 use std::alloc::{AllocError, Global};
 use std::test::Fail;
-use unix_path::Path;
 
 // A request, and its join with `/www`, unless it is refused.
 static REQUESTS: [(&'static [u8], Option<&'static [u8]>); 24] = [
@@ -47,26 +45,11 @@ fn plain_want(request: &'static [u8], within: Option<&'static [u8]>) -> Option<&
     }
 }
 
-// Whether the join of the request with `/www` is this, or refused.
-fn is_joined_within(alloc: Global, request: &[u8], want: Option<&[u8]>) -> bool {
-    is_joined(
-        join_within(alloc, Path::from_bytes(b"/www"), Path::from_bytes(request)),
-        want,
-    )
-}
-
-// Whether the plain join of the request with `/www` is this, or refused.
-fn is_joined_plain(alloc: Global, request: &[u8], want: Option<&[u8]>) -> bool {
-    is_joined(
-        join_plain(alloc, Path::from_bytes(b"/www"), Path::from_bytes(request)),
-        want,
-    )
-}
-
 #[test]
 fn bad_requests(rt: HostRuntime) {
     for row in REQUESTS.iter() {
-        assert!(rt; is_joined_within(rt.alloc(), row.0, row.1), "{:?}", row.0);
+        let is_row = is_joined_within(rt.alloc(), b"/www", row.0, row.1);
+        assert!(rt; is_row, "{:?}", row.0);
     }
 }
 
@@ -74,11 +57,12 @@ fn bad_requests(rt: HostRuntime) {
 fn bad_plain_requests(rt: HostRuntime) {
     for row in REQUESTS.iter() {
         let want = plain_want(row.0, row.1);
-        assert!(rt; is_joined_plain(rt.alloc(), row.0, want), "{:?}", row.0);
+        let is_row = is_joined_plain(rt.alloc(), b"/www", row.0, want);
+        assert!(rt; is_row, "{:?}", row.0);
     }
 }
 
-// Whether the error's text is this, and behind two spaces in a field of 22.
+// Whether the error's text is `text`, and `wide` in a field of 22.
 fn is_shown(
     alloc: Global,
     error: &WithinError,

@@ -6,16 +6,16 @@ static LETTERS: [u8; 8] = *b"//../.ab";
 
 // The numbers of splitmix64 from a seed.
 #[derive(Drop)]
-pub(super) struct Random {
+pub(crate) struct Random {
     state: u64,
 }
 
 impl Random {
-    pub(super) fn new(seed: u64) -> Random {
+    pub(crate) fn new(seed: u64) -> Random {
         Random { state: seed }
     }
 
-    pub(super) fn next(&mut self) -> u64 {
+    pub(crate) fn next(&mut self) -> u64 {
         self.state = self.state.wrapping_add(0x9E37_79B9_7F4A_7C15);
         let mixed = (self.state ^ self.state >> 30).wrapping_mul(0xBF58_476D_1CE4_E5B9);
         let mixed = (mixed ^ mixed >> 27).wrapping_mul(0x94D0_49BB_1331_11EB);
@@ -33,8 +33,8 @@ impl Random {
         }
     }
 
-    // At most 64 bytes.
-    pub(super) fn string(&mut self, alloc: Global) -> Result<Vec<u8>, AllocError> {
+    // A string of at most 64 bytes.
+    pub(crate) fn string(&mut self, alloc: Global) -> Result<Vec<u8>, AllocError> {
         let word = self.next();
         let is_plain = word >> 32 & 1 == 0;
         let mut bytes = Vec::new(alloc);
