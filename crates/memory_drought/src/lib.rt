@@ -13,8 +13,9 @@ const STEPS: usize = 200;
 // keeps apart by their size, so that neighbouring blocks become one again.
 const STEP: usize = 2048;
 
-// How many sizes of short blocks the C library keeps apart, in steps of 16 bytes.
-const SIZES: usize = 66;
+// How many sizes of short blocks are taken, in steps of 16 bytes: no fewer than the C library keeps
+// apart by their size.
+const SIZES: usize = 65;
 
 /// All memory that the process can still get. Dropping it gives the memory back.
 ///
@@ -32,8 +33,8 @@ pub struct Drought {
 impl Drought {
     /// Takes all memory, or gives `None` if the process can get more than 50,000 blocks.
     ///
-    /// Allocates all that it can get. Fails if the lists of the blocks can't be allocated; then no
-    /// memory is held. Not in Rust's std.
+    /// Allocates all that it can get. Fails if a list of its blocks, or one of the 200 blocks that
+    /// `ease` gives back, can't be allocated; then no memory is held. Not in Rust's std.
     ///
     /// Under an allocator that grants any request, as that of a checker of memory, it is `None`.
     pub fn begin(alloc: Global) -> Result<Option<Drought>, AllocError> {
@@ -49,7 +50,7 @@ impl Drought {
             }
             len /= 2;
         }
-        for size in 1..SIZES {
+        for size in 1..=SIZES {
             if !takes_all(&mut blocks, alloc, 16 * size) {
                 return Ok(None);
             }

@@ -11,10 +11,20 @@ mod without_memory;
 use memory_drought::Drought;
 use std::alloc::{AllocError, Global};
 use std::test::Fail;
-use unix_bytes::bytes::LossyText;
+use unix_bytes::bytes::{LossyText, UnixStr};
+use unix_path::{Path, PathBuf};
 
 fn is_refused(alloc: Global, len: usize) -> bool {
     Vec::<u8>::with_capacity(alloc, len).is_err()
+}
+
+fn path(text: &str) -> Path<'_> {
+    Path::from_text(text)
+}
+
+// Whether the path has these bytes.
+fn holds(buffer: &PathBuf, text: &str) -> bool {
+    buffer.as_path().as_unix_str() == UnixStr::new(text)
 }
 
 // Whether the call failed. It takes what the call gave, so that the caller has nothing to drop.

@@ -1,17 +1,9 @@
 //! Buffers of paths while allocations fail.
-use super::{drought, fails};
+use super::{drought, fails, holds, path};
 use std::alloc::Global;
 use std::test::Fail;
 use unix_path::bytes::{UnixStr, UnixString};
 use unix_path::{ExtensionError, Path, PathBuf};
-
-fn path(text: &str) -> Path<'_> {
-    Path::from_text(text)
-}
-
-fn holds(buffer: &PathBuf, text: &str) -> bool {
-    buffer.as_path().as_unix_str() == UnixStr::new(text)
-}
 
 // Pushes the paths until one is refused, and says whether none was.
 fn pushes_all(buffer: &mut PathBuf, paths: &[Path<'_>]) -> bool {
@@ -241,8 +233,8 @@ fn separators_are_refused_without_memory(rt: HostRuntime) -> Result<(), Fail> {
     Ok(())
 }
 
-// Marks how many of the paths an empty path takes before a push is refused. Whether it holds those,
-// and `extend` gives Ok for all three.
+// Extends an empty path by these three, and marks in `seen` how many of them it holds then, told by
+// its length. False at any other length, or unless `extend` gives Ok exactly where it holds all.
 fn extends_so_far(alloc: Global, paths: &[Path<'_>], seen: &mut [bool; 4]) -> bool {
     let mut buffer = PathBuf::new(alloc);
     let is_made = extends(&mut buffer, paths);

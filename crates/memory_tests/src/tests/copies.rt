@@ -1,13 +1,9 @@
 //! Copies of paths while allocations fail.
-use super::{drought, fails, is_borrowed, succeeds};
+use super::{drought, fails, is_borrowed, path, succeeds};
 use std::alloc::{AllocError, Global};
 use std::test::Fail;
 use unix_path::bytes::UnixStr;
 use unix_path::{BoxedPath, CowPath, Path, PathBuf, RcPath};
-
-fn path(text: &str) -> Path<'_> {
-    Path::from_text(text)
-}
 
 // Whether each call that copies the path, or makes another, is refused.
 fn refuses_copies(alloc: Global, buffer: &PathBuf) -> bool {

@@ -9,21 +9,14 @@ mod strings;
 mod tables;
 mod within;
 
+use super::{holds, path};
 use std::alloc::{AllocError, Global};
 use std::test::Fail;
 use unix_bytes::bytes::{UnixStr, UnixString};
-use unix_path::{Path, PathBuf};
-
-fn path(text: &str) -> Path<'_> {
-    Path::from_text(text)
-}
-
-fn holds(buffer: &PathBuf, text: &str) -> bool {
-    buffer.as_path().as_unix_str() == UnixStr::new(text)
-}
+use unix_path::PathBuf;
 
 // The path, with a capacity of 100 bytes.
-fn roomy(alloc: Global, text: &str) -> Result<PathBuf, AllocError> {
+fn buffer_with_room(alloc: Global, text: &str) -> Result<PathBuf, AllocError> {
     let mut buffer = PathBuf::with_capacity(alloc, 100)?;
     buffer.push(path(text))?;
     Ok(buffer)

@@ -1,5 +1,5 @@
 //! Edits, walks and spellings while allocations fail.
-use super::{drought, fails};
+use super::{drought, fails, holds, path};
 use path_runs::canonical::canonical;
 use path_runs::edits::{Edit, apply, rejoin};
 use path_runs::walk::{Turn, walk};
@@ -8,20 +8,12 @@ use std::test::Fail;
 use unix_path::bytes::UnixStr;
 use unix_path::{Path, PathBuf};
 
-fn path(text: &str) -> Path<'_> {
-    Path::from_text(text)
-}
-
 // How many edits were made before one failed, if one did.
 fn edits_before_failure(alloc: Global, buffer: &mut PathBuf, edits: &[Edit<'_>]) -> Option<usize> {
     match apply(alloc, buffer, edits) {
         Ok(_) => None,
         Err(error) => Some(error.done),
     }
-}
-
-fn holds(buffer: &PathBuf, text: &str) -> bool {
-    buffer.as_path().as_unix_str() == UnixStr::new(text)
 }
 
 #[test]
@@ -56,7 +48,8 @@ fn answers_that_fail_leave_the_path(rt: HostRuntime) -> Result<(), Fail> {
     Ok(())
 }
 
-// Whether each walk and spelling is refused that has parts, and a join of none is not.
+// Whether a walk, a spelling and a join to a base are refused, and a path that isn't below the base
+// is answered without memory.
 fn refuses_runs(alloc: Global) -> bool {
     fails(walk(alloc, path("/a"), [Turn::Back].as_slice()))
         && fails(canonical(alloc, path("/a")))

@@ -11,10 +11,6 @@ use std::hash::{DefaultHasher, Hash, Hasher};
 use unix_path::Path;
 use unix_path::bytes::UnixStr;
 
-fn path(text: &str) -> Path<'_> {
-    Path::from_text(text)
-}
-
 // A writer that keeps only how many bytes were written.
 #[derive(Drop)]
 struct Counter {

@@ -1,5 +1,6 @@
 //! Requests for memory of calls that make copies of paths.
-use super::{path, report, report_path};
+use super::super::path;
+use super::{report, report_path};
 use serde_json::Value;
 use std::test::Fail;
 use unix_path::bytes::UnixStr;

@@ -1,5 +1,6 @@
 //! Requests for memory of edits of a buffer.
-use super::{holds, path, report, roomy};
+use super::super::{holds, path};
+use super::{buffer_with_room, report};
 use std::alloc::AllocError;
 use std::test::Fail;
 use unix_path::bytes::UnixStr;
@@ -81,7 +82,7 @@ fn path_with_exact_room(rt: HostRuntime) -> Result<(), Fail> {
 
 #[test]
 fn path_without_room(rt: HostRuntime) -> Result<(), Fail> {
-    let mut buffer = roomy(rt.alloc(), "foo")?;
+    let mut buffer = buffer_with_room(rt.alloc(), "foo")?;
     let is_made = buffer.shrink_to_fit().is_ok();
     let capacity = if is_made { 3 } else { 100 };
     report(
@@ -92,7 +93,7 @@ fn path_without_room(rt: HostRuntime) -> Result<(), Fail> {
 
 #[test]
 fn path_with_less_room(rt: HostRuntime) -> Result<(), Fail> {
-    let mut buffer = roomy(rt.alloc(), "foo")?;
+    let mut buffer = buffer_with_room(rt.alloc(), "foo")?;
     let is_made = buffer.shrink_to(5).is_ok();
     let capacity = if is_made { 5 } else { 100 };
     report(
@@ -102,7 +103,7 @@ fn path_with_less_room(rt: HostRuntime) -> Result<(), Fail> {
 }
 
 // What `ab` is after no push, and after each of three, which all grow the buffer.
-const EXTENSIONS_OF_AB: [&str; 4] = [
+const AB_AFTER_PUSHES: [&str; 4] = [
     "ab",
     "ab/c",
     "ab/c/0123456789",
@@ -112,7 +113,7 @@ const EXTENSIONS_OF_AB: [&str; 4] = [
 // Whether the path holds what the pushes before the refused one left: the next is longer than its
 // capacity.
 fn is_cut_short(buffer: &PathBuf) -> bool {
-    let [none, one, two, three] = EXTENSIONS_OF_AB;
+    let [none, one, two, three] = AB_AFTER_PUSHES;
     let next = if holds(buffer, none) {
         one
     } else if holds(buffer, one) {
@@ -134,7 +135,7 @@ fn path_extended(rt: HostRuntime) -> Result<(), Fail> {
         path("0123456789012345678901234567890123456789"),
     ];
     let is_made = buffer.extend(items.iter().copied()).is_ok();
-    let [_, _, _, whole] = EXTENSIONS_OF_AB;
+    let [_, _, _, whole] = AB_AFTER_PUSHES;
     report(
         is_made,
         if is_made {

@@ -1,5 +1,6 @@
 //! Requests for memory of calls that make boxed, shared, and borrowed or owned paths.
-use super::{path, report, report_path, roomy};
+use super::super::path;
+use super::{buffer_with_room, report, report_path};
 use std::alloc::AllocError;
 use std::test::Fail;
 use unix_path::bytes::UnixStr;
@@ -28,7 +29,7 @@ fn boxed_from_view(rt: HostRuntime) -> Result<(), Fail> {
 
 #[test]
 fn boxed_from_buffer(rt: HostRuntime) -> Result<(), Fail> {
-    report_boxed(BoxedPath::from_path_buf(roomy(rt.alloc(), "foo/")?))
+    report_boxed(BoxedPath::from_path_buf(buffer_with_room(rt.alloc(), "foo/")?))
 }
 
 #[test]
@@ -39,13 +40,13 @@ fn boxed_from_borrowed(rt: HostRuntime) -> Result<(), Fail> {
 
 #[test]
 fn boxed_from_owned(rt: HostRuntime) -> Result<(), Fail> {
-    let owned = CowPath::Owned(roomy(rt.alloc(), "foo/")?);
+    let owned = CowPath::Owned(buffer_with_room(rt.alloc(), "foo/")?);
     report_boxed(BoxedPath::from_cow(rt.alloc(), owned))
 }
 
 #[test]
 fn buffer_boxed(rt: HostRuntime) -> Result<(), Fail> {
-    report_boxed(roomy(rt.alloc(), "foo/")?.into_boxed_path())
+    report_boxed(buffer_with_room(rt.alloc(), "foo/")?.into_boxed_path())
 }
 
 #[test]

@@ -1,5 +1,6 @@
 //! Requests for memory of calls that make spellings, joins, walks and lists of edits.
-use super::{holds, path, report, report_path};
+use super::super::{holds, path};
+use super::{report, report_path};
 use path_runs::canonical::canonical;
 use path_runs::edits::{Edit, apply, rejoin};
 use path_runs::walk::{Turn, walk};

@@ -1,5 +1,5 @@
 //! Requests for memory of calls that make byte strings and lossy texts.
-use super::{has_bytes, report, roomy};
+use super::{buffer_with_room, has_bytes, report};
 use std::alloc::AllocError;
 use std::test::Fail;
 use unix_bytes::bytes::{LossyText, UnixStr, UnixString};
@@ -66,7 +66,7 @@ fn bytes_with_exact_room(rt: HostRuntime) -> Result<(), Fail> {
 
 #[test]
 fn bytes_without_room(rt: HostRuntime) -> Result<(), Fail> {
-    let mut bytes = roomy(rt.alloc(), "foo")?.into_unix_string();
+    let mut bytes = buffer_with_room(rt.alloc(), "foo")?.into_unix_string();
     let is_made = bytes.shrink_to_fit().is_ok();
     let capacity = if is_made { 3 } else { 100 };
     report(
@@ -77,7 +77,7 @@ fn bytes_without_room(rt: HostRuntime) -> Result<(), Fail> {
 
 #[test]
 fn bytes_with_less_room(rt: HostRuntime) -> Result<(), Fail> {
-    let mut bytes = roomy(rt.alloc(), "foo")?.into_unix_string();
+    let mut bytes = buffer_with_room(rt.alloc(), "foo")?.into_unix_string();
     let is_made = bytes.shrink_to(5).is_ok();
     let capacity = if is_made { 5 } else { 100 };
     report(

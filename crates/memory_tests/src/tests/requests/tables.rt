@@ -1,5 +1,6 @@
 //! Requests for memory of tables of paths.
-use super::{holds, path, report, roomy};
+use super::super::{holds, path};
+use super::{buffer_with_room, report};
 use path_table::PathTable;
 use std::alloc::{AllocError, Global};
 use std::test::Fail;
@@ -39,7 +40,7 @@ fn has_at(found: &[(Path<'_>, &usize)], place: usize, rest: &str, value: usize) 
     }
 }
 
-// What stands under `a/b`.
+// Whether these are the six rows under `a/b`, of which the first, third and last are looked at.
 fn are_under(found: &[(Path<'_>, &usize)]) -> bool {
     found.len() == 6
         && has_at(found, 0, "", 1)
@@ -85,7 +86,7 @@ fn is_as_before(
 fn path_inserted(rt: HostRuntime) -> Result<(), Fail> {
     let alloc = rt.alloc();
     let mut table = table_of(alloc, TEXTS.len())?;
-    let mut key = roomy(alloc, "a/c")?;
+    let mut key = buffer_with_room(alloc, "a/c")?;
     match table.insert(PathBuf::from_text(alloc, "a/c")?, 7) {
         Ok(before) => report(true, before.is_none() && has_one_more(&table, &mut key)?),
         Err(AllocError) => report(false, is_as_before(alloc, &table, &mut key)?),

@@ -1,5 +1,6 @@
 //! Requests for memory of calls that make resolved paths, ways and joins within.
-use super::{holds, path, report, report_path};
+use super::super::{holds, path};
+use super::{report, report_path};
 use path_within::WithinError;
 use path_within::resolved::resolved;
 use path_within::way::way;

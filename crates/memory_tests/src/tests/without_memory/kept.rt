@@ -1,6 +1,6 @@
 //! Boxed, shared, and borrowed or owned paths need no memory for what promises so.
-use super::super::drought;
-use super::{debug_has, display_has, hash_same, is_view, path};
+use super::super::{drought, path};
+use super::{debug_has, display_has, hash_same, is_view};
 use std::alloc::{AllocError, Global};
 use std::test::Fail;
 use unix_path::json::{JsonError, from_json, to_json};

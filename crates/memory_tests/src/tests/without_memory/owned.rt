@@ -1,6 +1,6 @@
 //! Buffers, walks, spellings and edits need no memory for what promises so.
-use super::super::drought;
-use super::{debug_has, hash_same, path};
+use super::super::{drought, path};
+use super::{debug_has, hash_same};
 use path_runs::canonical::canonical;
 use path_runs::edits::{Edit, apply, rejoin};
 use path_runs::walk::{Turn, walk};

@@ -1,6 +1,6 @@
 //! Views of paths need no memory for what promises so.
-use super::super::drought;
-use super::{debug_has, display_has, hash_same, is_view, path};
+use super::super::{drought, path};
+use super::{debug_has, display_has, hash_same, is_view};
 use std::cmp::Ordering;
 use std::test::Fail;
 use unix_path::bytes::UnixStr;
