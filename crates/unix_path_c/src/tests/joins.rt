@@ -64,59 +64,68 @@ static EXTENSIONS: [(&'static str, &'static str, &'static str); 19] = [
 ];
 
 // Whether the join is written, where there is room for it.
-fn is_joined(base: &str, path: &str, want: &str) -> bool {
-    let call = |out: &mut [u8]| unix_path_join(base.as_bytes(), path.as_bytes(), out);
-    is_answered(call, want.len(), want.as_bytes())
-}
-
-// Whether the path with that file name is written, where there is room for it.
-fn is_named(path: &str, name: &str, want: &str) -> bool {
-    let call = |out: &mut [u8]| unix_path_with_file_name(path.as_bytes(), name.as_bytes(), out);
-    is_answered(call, want.len(), want.as_bytes())
-}
-
-// Whether the path with that extension is written, where there is room for it.
-fn is_extended(path: &str, extension: &str, want: &str) -> bool {
-    let call = |out: &mut [u8]| unix_path_with_extension(
-        path.as_bytes(),
-        extension.as_bytes(),
-        out,
-    );
-    is_answered(call, want.len(), want.as_bytes())
+fn is_joined(row: &(&str, &str, &str)) -> bool {
+    let call = |out: &mut [u8]| unix_path_join(row.0.as_bytes(), row.1.as_bytes(), out);
+    is_answered(call, row.2.len(), row.2.as_bytes())
 }
 
 #[test]
-fn every_room_is_answered(rt: HostRuntime) {
-    for (base, path, want) in JOINS {
-        assert!(rt; is_joined(base, path, want), "{base} joined with {path}");
+fn joins_in_every_room(rt: HostRuntime) {
+    for row in JOINS.iter() {
+        assert!(rt; is_joined(row), "{} joined with {}", row.0, row.1);
     }
-    for (path, name, want) in NAMES {
-        assert!(rt; is_named(path, name, want), "{path} with {name}");
+}
+
+// Whether the path with that file name is written, where there is room for it.
+fn has_name(row: &(&str, &str, &str)) -> bool {
+    let call = |out: &mut [u8]| unix_path_with_file_name(row.0.as_bytes(), row.1.as_bytes(), out);
+    is_answered(call, row.2.len(), row.2.as_bytes())
+}
+
+#[test]
+fn names_in_every_room(rt: HostRuntime) {
+    for row in NAMES.iter() {
+        assert!(rt; has_name(row), "{} with {}", row.0, row.1);
     }
-    for (path, extension, want) in EXTENSIONS {
-        let is_right = is_extended(path, extension, want);
-        assert!(rt; is_right, "{path} with the extension {extension}");
+}
+
+// Whether the path with that extension is written, where there is room for it.
+fn has_extension(row: &(&str, &str, &str)) -> bool {
+    let call = |out: &mut [u8]| unix_path_with_extension(row.0.as_bytes(), row.1.as_bytes(), out);
+    is_answered(call, row.2.len(), row.2.as_bytes())
+}
+
+#[test]
+fn extensions_in_every_room(rt: HostRuntime) {
+    for row in EXTENSIONS.iter() {
+        assert!(rt;
+            has_extension(row),
+            "{} with the extension {}",
+            row.0,
+            row.1
+        );
     }
 }
 
 #[test]
 fn bytes_that_are_no_text_are_kept(rt: HostRuntime) {
     let mut out = [b'#'; 8];
-    assert_eq!(rt; unix_path_join(b"\xff/", b"\xfe", &mut out), 3);
-    assert_eq!(rt; out.as_slice(), b"\xff/\xfe#####".as_slice());
-    assert_eq!(rt;
-        unix_path_with_extension(b"\xff.\x00", b"\xfe", &mut out),
-        3
-    );
-    assert_eq!(rt; out.as_slice(), b"\xff.\xfe#####".as_slice());
+    assert!(rt; unix_path_join(b"\xff/", b"\xfe", &mut out) == 3);
+    assert!(rt; holds(&out, b"\xff/\xfe"));
+    assert!(rt; unix_path_with_extension(b"\xff.\x00", b"\xfe", &mut out) == 3);
+    assert!(rt; holds(&out, b"\xff.\xfe"));
+}
+
+// Whether the extension is refused, and nothing is written.
+fn is_refused(extension: &str) -> bool {
+    let mut out = [b'#'; 16];
+    unix_path_with_extension(b"foo.rs", extension.as_bytes(), &mut out) == SEPARATOR
+        && holds(&out, b"")
 }
 
 #[test]
 fn an_extension_with_a_slash_is_refused(rt: HostRuntime) {
-    for extension in ["/", "a/", "/a", "a/b", "//"] {
-        let mut out = [b'#'; 16];
-        let answer = unix_path_with_extension(b"foo.rs", extension.as_bytes(), &mut out);
-        assert_eq!(rt; answer, SEPARATOR, "{extension}");
-        assert!(rt; holds(&out, b""), "{extension}");
+    for extension in ["/", "a/", "/a", "a/b", "//"].iter() {
+        assert!(rt; is_refused(extension), "{extension}");
     }
 }

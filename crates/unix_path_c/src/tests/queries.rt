@@ -80,42 +80,54 @@ static SINGLE_PATHS: [(&'static [u8], bool, bool, bool); 14] = [
     (b"./..", true, false, true),
 ];
 
+// Whether the first path starts and ends with the second as the row says.
+fn begins_and_ends(row: &(&str, &str, bool, bool, i32)) -> bool {
+    let (path, other) = (row.0.as_bytes(), row.1.as_bytes());
+    unix_path_starts_with(path, other) == row.2 && unix_path_ends_with(path, other) == row.3
+}
+
+// Whether the paths compare as the row says, from either side, and are equal exactly at 0.
+fn is_ordered(row: &(&str, &str, bool, bool, i32)) -> bool {
+    let (path, other) = (row.0.as_bytes(), row.1.as_bytes());
+    unix_path_compare(path, other) == row.4
+        && unix_path_compare(other, path) == row.4.wrapping_neg()
+        && unix_path_equal(path, other) == (row.4 == 0)
+}
+
 #[test]
 fn rows_of_pairs(rt: HostRuntime) {
-    for (a, b, starts, ends, order) in PAIRS {
-        let (a, b) = (a.as_bytes(), b.as_bytes());
-        assert_eq!(rt; unix_path_starts_with(a, b), starts, "{a:?} {b:?}");
-        assert_eq!(rt; unix_path_ends_with(a, b), ends, "{a:?} {b:?}");
-        assert_eq!(rt; unix_path_compare(a, b), order, "{a:?} {b:?}");
-        assert_eq!(rt;
-            unix_path_compare(b, a),
-            order.wrapping_neg(),
-            "{b:?} {a:?}"
-        );
-        assert_eq!(rt; unix_path_equal(a, b), order == 0, "{a:?} {b:?}");
+    for row in PAIRS.iter() {
+        assert!(rt; begins_and_ends(row), "{} {}", row.0, row.1);
+        assert!(rt; is_ordered(row), "{} {}", row.0, row.1);
     }
 }
 
 #[test]
 fn rows_of_common_dirs(rt: HostRuntime) {
-    for (a, b, len) in COMMON_DIRS {
-        let found = unix_path_common_dir(a.as_bytes(), b.as_bytes());
-        assert_eq!(rt; found, len, "{a} {b}");
+    for row in COMMON_DIRS.iter() {
+        let len = unix_path_common_dir(row.0.as_bytes(), row.1.as_bytes());
+        assert!(rt; len == row.2, "{} {}: {len}", row.0, row.1);
     }
 }
 
 #[test]
 fn rows_of_hashes(rt: HostRuntime) {
-    for (path, want) in HASHES {
-        assert_eq!(rt; unix_path_hash(path.as_bytes()), want, "{path}");
+    for row in HASHES.iter() {
+        let hash = unix_path_hash(row.0.as_bytes());
+        assert!(rt; hash == row.1, "{}: {hash}", row.0);
     }
+}
+
+// Whether the path is UTF-8, is absolute and climbs as the row says.
+fn is_told(row: &(&[u8], bool, bool, bool)) -> bool {
+    unix_path_is_utf8(row.0) == row.1
+        && unix_path_is_absolute(row.0) == row.2
+        && unix_path_climbs(row.0) == row.3
 }
 
 #[test]
 fn rows_of_one_path(rt: HostRuntime) {
-    for (path, is_utf8, is_absolute, climbs) in SINGLE_PATHS {
-        assert_eq!(rt; unix_path_is_utf8(path), is_utf8, "{path:?}");
-        assert_eq!(rt; unix_path_is_absolute(path), is_absolute, "{path:?}");
-        assert_eq!(rt; unix_path_climbs(path), climbs, "{path:?}");
+    for row in SINGLE_PATHS.iter() {
+        assert!(rt; is_told(row), "{:?}", row.0);
     }
 }

@@ -149,54 +149,59 @@ fn whole(path: &[u8]) -> Walk {
     walk
 }
 
+// Whether the plain reading and the walks from either end give the row's parts.
+fn has_parts(alloc: Global, row: &(&str, &[PartFields])) -> Result<bool, AllocError> {
+    let (path, want) = (row.0.as_bytes(), row.1);
+    let parts = parts_at(alloc, 0, path)?;
+    Ok(
+        parts.as_slice() == want
+            && is_walked(path, whole(path), want, want.len())
+            && is_walked(path, whole(path), want, 0),
+    )
+}
+
 #[test]
 fn parts_have_places(rt: HostRuntime) -> Result<(), Fail> {
-    for (text, want) in WALKS {
-        let path = text.as_bytes();
-        let parts = parts_at(rt.alloc(), 0, path)?;
-        assert!(rt; parts.as_slice() == want, "{text}");
-        assert!(rt; is_walked(path, whole(path), want, want.len()), "{text}");
-        assert!(rt; is_walked(path, whole(path), want, 0), "{text}");
+    for row in WALKS.iter() {
+        assert!(rt; has_parts(rt.alloc(), row)?, "{}", row.0);
     }
     Ok(())
+}
+
+// Whether each number of parts can be taken in front, and the others then behind.
+fn is_walked_from_both_ends(alloc: Global, path: &[u8]) -> Result<bool, AllocError> {
+    let parts = parts_at(alloc, 0, path)?;
+    let parts = parts.as_slice();
+    Ok((0..parts.len().saturating_add(1)).all(|front| is_walked(path, whole(path), parts, front)))
 }
 
 #[test]
 fn all_short_paths(rt: HostRuntime) -> Result<(), Fail> {
-    let alloc = rt.alloc();
-    let strings = strings_over(alloc, b"/.a", SHORTER_STRINGS)?;
-    assert_eq!(rt; strings.len(), 364);
+    let strings = strings_over(rt.alloc(), b"/.a", SHORTER_STRINGS)?;
+    assert!(rt; strings.len() == 364);
     for string in strings.iter() {
         let path = string.as_slice();
-        let parts = parts_at(alloc, 0, path)?;
-        for front in 0..parts.len().saturating_add(1) {
-            assert!(rt;
-                is_walked(path, whole(path), parts.as_slice(), front),
-                "{path:?} {front}"
-            );
-        }
+        assert!(rt; is_walked_from_both_ends(rt.alloc(), path)?, "{path:?}");
     }
     Ok(())
 }
 
+// Whether a walk between these places gives the parts that a plain reading finds there, or none
+// where no bytes lie between them.
+fn is_safe(alloc: Global, front: usize, back: usize) -> Result<bool, AllocError> {
+    let parts = match PATH.get(front..back) {
+        Some(left) => parts_at(alloc, front, left)?,
+        None => Vec::new(alloc),
+    };
+    let (walk, parts) = (Walk { front, back }, parts.as_slice());
+    Ok(is_walked(PATH, walk, parts, 0) && is_walked(PATH, walk, parts, parts.len()))
+}
+
 #[test]
 fn any_places_are_safe(rt: HostRuntime) -> Result<(), Fail> {
-    let alloc = rt.alloc();
-    for front in PLACES {
-        for back in PLACES {
-            let parts = match PATH.get(front..back) {
-                Some(left) => parts_at(alloc, front, left)?,
-                None => Vec::new(alloc),
-            };
-            let walk = Walk { front, back };
-            assert!(rt;
-                is_walked(PATH, walk, parts.as_slice(), 0),
-                "{front} {back}"
-            );
-            assert!(rt;
-                is_walked(PATH, walk, parts.as_slice(), parts.len()),
-                "{front} {back}"
-            );
+    for front in PLACES.iter() {
+        for back in PLACES.iter() {
+            assert!(rt; is_safe(rt.alloc(), *front, *back)?, "{front} {back}");
         }
     }
     Ok(())

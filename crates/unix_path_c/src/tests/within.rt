@@ -40,20 +40,20 @@ static JOINS: [(&'static str, &'static str, Option<&'static str>); 13] = [
 ];
 
 // Whether what the path resolves to is written, where there is room for it.
-fn is_resolved(alloc: Global, path: &str, want: &str) -> bool {
-    let call = |out: &mut [u8]| unix_path_resolved(alloc, path.as_bytes(), out);
-    is_answered(call, want.len(), want.as_bytes())
+fn is_resolved(alloc: Global, row: &(&str, &str)) -> bool {
+    let call = |out: &mut [u8]| unix_path_resolved(alloc, row.0.as_bytes(), out);
+    is_answered(call, row.1.len(), row.1.as_bytes())
 }
 
 // Whether the join is written, where there is room for it, or is refused if none is wanted.
-fn is_joined(alloc: Global, root: &str, request: &str, want: Option<&str>) -> bool {
+fn is_joined(alloc: Global, row: &(&str, &str, Option<&str>)) -> bool {
     let call = |out: &mut [u8]| unix_path_join_within(
         alloc,
-        root.as_bytes(),
-        request.as_bytes(),
+        row.0.as_bytes(),
+        row.1.as_bytes(),
         out,
     );
-    match want {
+    match row.2 {
         Some(want) => is_answered(call, want.len(), want.as_bytes()),
         None => is_answered(call, ESCAPES, b""),
     }
@@ -61,15 +61,14 @@ fn is_joined(alloc: Global, root: &str, request: &str, want: Option<&str>) -> bo
 
 #[test]
 fn rows_resolved(rt: HostRuntime) {
-    for (path, want) in RESOLUTIONS {
-        assert!(rt; is_resolved(rt.alloc(), path, want), "{path}");
+    for row in RESOLUTIONS.iter() {
+        assert!(rt; is_resolved(rt.alloc(), row), "{}", row.0);
     }
 }
 
 #[test]
 fn rows_joined_within(rt: HostRuntime) {
-    for (root, request, want) in JOINS {
-        let found = is_joined(rt.alloc(), root, request, want);
-        assert!(rt; found, "{root} {request}");
+    for row in JOINS.iter() {
+        assert!(rt; is_joined(rt.alloc(), row), "{} {}", row.0, row.1);
     }
 }
