@@ -1,7 +1,7 @@
 //! Readers and writers that fail once, how often each is called, and the errors of a run.
 use crate::run::{RunError, run};
 use crate::watched::Watched;
-use std::alloc::Global;
+use std::alloc::{AllocError, Global};
 use std::io;
 use std::io::{Read, Write};
 use std::test::Fail;
@@ -84,25 +84,32 @@ fn faulty_writer(alloc: Global, fault: Fault, faulty: u32) -> OnceFaultyWriter {
     }
 }
 
+// A reader of so many newlines that fails at its call number `faulty`, and has not been called.
+fn failing_reader(left: u32, faulty: u32) -> OnceFailingReader {
+    OnceFailingReader {
+        left,
+        calls: 0,
+        faulty,
+    }
+}
+
+// Whether a run over three newlines ends with `Read` at this call, and then nothing was written.
+fn ends_at_read(alloc: Global, faulty: u32) -> bool {
+    let mut reader = Watched::new(failing_reader(3, faulty));
+    let mut writer = Watched::new(Vec::<u8>::new(alloc));
+    let result = run(alloc, &mut reader, &mut writer);
+    let is_told = result == Err(RunError::Read) && reader.has_failed() && !reader.has_ended();
+    let is_last = reader.into_inner().calls == faulty.saturating_add(1);
+    let is_unwritten = !writer.has_failed() && writer.into_inner().is_empty();
+    is_told && is_last && is_unwritten
+}
+
 // The last of the four calls finds the end.
 #[test]
-fn one_failed_read_ends_the_run(rt: HostRuntime) -> Result<(), Fail> {
+fn one_failed_read_ends_the_run(rt: HostRuntime) {
     for faulty in 0..4u32 {
-        let mut reader = Watched::new(OnceFailingReader {
-            left: 3,
-            calls: 0,
-            faulty,
-        });
-        let mut writer = Watched::new(Vec::<u8>::new(rt.alloc()));
-        let result = run(rt.alloc(), &mut reader, &mut writer);
-        assert_eq!(&rt; result, Err(RunError::Read));
-        assert!(&rt; reader.has_failed());
-        assert!(&rt; !reader.has_ended());
-        assert_eq!(&rt; reader.into_inner().calls, faulty + 1);
-        assert!(&rt; !writer.has_failed());
-        assert_eq!(&rt; writer.into_inner().len(), 0);
+        assert!(rt; ends_at_read(rt.alloc(), faulty), "at {faulty}");
     }
-    Ok(())
 }
 
 // Whether a run over two lines ends as this fault of its writer has it: with `Write`, or with Ok
@@ -137,60 +144,78 @@ fn one_fault_of_a_writer_ends_the_run(rt: HostRuntime) {
     assert!(rt; is_ended(rt.alloc(), Fault::None, 0, whole, (8, 1)));
 }
 
-#[test]
-fn a_read_is_one_read(rt: HostRuntime) -> Result<(), Fail> {
-    for faulty in 0..2u32 {
-        let mut reader = Watched::new(OnceFailingReader {
-            left: 1,
-            calls: 0,
-            faulty,
-        });
-        assert_eq!(&rt; reader.read(&mut [0; 4]).is_err(), faulty == 0);
-        assert_eq!(&rt; reader.has_failed(), faulty == 0);
-        assert_eq!(&rt; reader.into_inner().calls, 1);
-    }
-    Ok(())
+// Whether a read calls the reader once, and tells its failure at call 0 alone.
+fn reads_once(faulty: u32) -> bool {
+    let mut reader = Watched::new(failing_reader(1, faulty));
+    let is_err = reader.read(&mut [0; 4]).is_err();
+    let is_told = is_err == (faulty == 0) && reader.has_failed() == (faulty == 0);
+    is_told && reader.into_inner().calls == 1
 }
 
 #[test]
-fn a_write_is_one_write(rt: HostRuntime) -> Result<(), Fail> {
-    for fault in [Fault::Write, Fault::NoByte] {
-        for faulty in 0..2u32 {
-            let mut writer = Watched::new(faulty_writer(rt.alloc(), fault, faulty));
-            let _ = writer.write(b"ab");
-            assert_eq!(&rt; writer.has_failed(), faulty == 0);
-            let writer = writer.into_inner();
-            assert_eq!(&rt; writer.writes, 1);
-            assert_eq!(&rt; writer.flushes, 0);
-        }
+fn a_read_is_one_read(rt: HostRuntime) {
+    for faulty in 0..2u32 {
+        assert!(rt; reads_once(faulty), "at {faulty}");
     }
-    Ok(())
+}
+
+// Whether a write calls the writer once, and tells the fault at call 0 alone.
+fn writes_once(alloc: Global, fault: Fault, faulty: u32) -> bool {
+    let mut writer = Watched::new(faulty_writer(alloc, fault, faulty));
+    let _ = writer.write(b"ab");
+    let is_told = writer.has_failed() == (faulty == 0);
+    let writer = writer.into_inner();
+    is_told && (writer.writes, writer.flushes) == (1, 0)
 }
 
 #[test]
-fn a_flush_is_one_flush(rt: HostRuntime) -> Result<(), Fail> {
+fn a_write_is_one_write(rt: HostRuntime) {
     for faulty in 0..2u32 {
-        let mut writer = Watched::new(faulty_writer(rt.alloc(), Fault::Flush, faulty));
-        assert_eq!(&rt; writer.flush().is_err(), faulty == 0);
-        assert_eq!(&rt; writer.has_failed(), faulty == 0);
-        assert_eq!(&rt; writer.is_flushed(), faulty == 1);
-        let writer = writer.into_inner();
-        assert_eq!(&rt; writer.writes, 0);
-        assert_eq!(&rt; writer.flushes, 1);
+        assert!(rt;
+            writes_once(rt.alloc(), Fault::Write, faulty),
+            "at {faulty}"
+        );
+        assert!(rt;
+            writes_once(rt.alloc(), Fault::NoByte, faulty),
+            "at {faulty}"
+        );
     }
-    Ok(())
+}
+
+// Whether a flush calls the writer's once, and tells its failure at call 0 alone.
+fn flushes_once(alloc: Global, faulty: u32) -> bool {
+    let mut writer = Watched::new(faulty_writer(alloc, Fault::Flush, faulty));
+    let is_err = writer.flush().is_err();
+    let is_told = is_err == (faulty == 0) && writer.has_failed() == (faulty == 0);
+    let is_flushed = writer.is_flushed() == (faulty == 1);
+    let writer = writer.into_inner();
+    is_told && is_flushed && (writer.writes, writer.flushes) == (0, 1)
+}
+
+#[test]
+fn a_flush_is_one_flush(rt: HostRuntime) {
+    for faulty in 0..2u32 {
+        assert!(rt; flushes_once(rt.alloc(), faulty), "at {faulty}");
+    }
+}
+
+// Errors, their texts, and these in a field of 14.
+static ERRORS: [(RunError, &str, &str); 3] = [
+    (RunError::Read, "read error", "    read error"),
+    (RunError::Write, "write error", "   write error"),
+    (RunError::Memory, "out of memory", " out of memory"),
+];
+
+fn is_displayed(alloc: Global, row: &(RunError, &str, &str)) -> Result<bool, AllocError> {
+    let text = format!(in alloc; "{}", row.0)?;
+    let wide = format!(in alloc; "{:>14}", row.0)?;
+    Ok(text.as_str() == row.1 && wide.as_str() == row.2)
 }
 
 #[test]
 fn errors_are_displayed(rt: HostRuntime) -> Result<(), Fail> {
-    let rows = [
-        (RunError::Read, "read error", "    read error"),
-        (RunError::Write, "write error", "   write error"),
-        (RunError::Memory, "out of memory", " out of memory"),
-    ];
-    for (error, text, padded) in rows {
-        assert_eq!(&rt; format!(in rt.alloc(); "{error}")?.as_str(), text);
-        assert_eq!(&rt; format!(in rt.alloc(); "{error:>14}")?.as_str(), padded);
+    for row in ERRORS.iter() {
+        assert!(rt; is_displayed(rt.alloc(), row)?, "{}", row.1);
     }
     Ok(())
 }
