@@ -54,16 +54,18 @@ fn is(found: Option<PathBuf>, want: Option<&str>) -> bool {
     }
 }
 
+// Whether the row's join is found, and the request told to stay below exactly if there is one.
+fn is_joined(alloc: Global, row: &(&str, &str, Option<&str>)) -> Result<bool, AllocError> {
+    let request = Path::from_text(row.1);
+    let is_told = stays_below(request) == row.2.is_some();
+    let found = safe_join(alloc, Path::from_text(row.0), request)?;
+    Ok(is_told && is(found, row.2))
+}
+
 #[test]
 fn requests_stay_below(rt: HostRuntime) -> Result<(), Fail> {
-    for (root, request, want) in JOINS {
-        let found = safe_join(rt.alloc(), Path::from_text(root), Path::from_text(request))?;
-        assert!(rt; is(found, want), "{request}");
-        assert_eq!(rt;
-            stays_below(Path::from_text(request)),
-            want.is_some(),
-            "{request}"
-        );
+    for row in JOINS.iter() {
+        assert!(rt; is_joined(rt.alloc(), row)?, "{}", row.1);
     }
     Ok(())
 }
@@ -77,49 +79,63 @@ fn names(found: Result<Option<PathBuf>, WithinError>, want: Option<&str>) -> boo
     }
 }
 
+// Whether the row's URL names its file.
+fn is_file(alloc: Global, row: &(&str, Option<&str>)) -> bool {
+    let (prefix, root) = (Path::from_text("/static"), Path::from_text("/srv/./www"));
+    names(file_of(alloc, prefix, root, Path::from_text(row.0)), row.1)
+}
+
 #[test]
-fn urls_name_files(rt: HostRuntime) -> Result<(), Fail> {
-    let prefix = Path::from_text("/static");
-    let root = Path::from_text("/srv/./www");
-    for (url, want) in FILES {
-        let found = file_of(rt.alloc(), prefix, root, Path::from_text(url));
-        assert!(rt; names(found, want), "{url}");
+fn urls_name_files(rt: HostRuntime) {
+    for row in FILES.iter() {
+        assert!(rt; is_file(rt.alloc(), row), "{}", row.0);
     }
-    Ok(())
+}
+
+// Whether the row's URL is mapped to its file.
+fn is_mapped(alloc: Global, row: &(&str, Option<&str>)) -> Result<bool, AllocError> {
+    let (prefix, root) = (Path::from_text("/static"), Path::from_text("/srv/www"));
+    let found = map_url(alloc, prefix, root, Path::from_text(row.0))?;
+    Ok(is(found, row.1))
 }
 
 #[test]
 fn urls_are_mapped(rt: HostRuntime) -> Result<(), Fail> {
-    for (url, want) in URLS {
-        let found = map_url(
-            rt.alloc(),
-            Path::from_text("/static"),
-            Path::from_text("/srv/www"),
-            Path::from_text(url),
-        )?;
-        assert!(rt; is(found, want), "{url}");
+    for row in URLS.iter() {
+        assert!(rt; is_mapped(rt.alloc(), row)?, "{}", row.0);
     }
     Ok(())
 }
 
+// The paths of a manifest as it stands, and of the same manifest normalised.
+static MANIFEST: [&str; 6] = ["b", "a//b/.", "./a", "a.b", "a/b", "b/"];
+
+static NORMALISED: [&str; 4] = ["./a", "a/b", "a.b", "b"];
+
+// Whether the normalised manifest has these paths, spelled as they are and in this order.
+fn is_normalised(alloc: Global, want: &[&str]) -> Result<bool, AllocError> {
+    let paths: Vec<Path<'_>> = MANIFEST
+        .iter()
+        .map(|text| Path::from_text(text))
+        .collect(alloc)?;
+    let set = normalise(alloc, paths.as_slice())?;
+    let is_whole = set.len() == want.len();
+    Ok(
+        is_whole
+            && set
+                .iter()
+                .zip(want)
+                .all(|(path, text)| has_bytes(path, text)),
+    )
+}
+
+fn has_bytes(path: &PathBuf, text: &str) -> bool {
+    path.as_path().as_unix_str() == UnixStr::new(text)
+}
+
 #[test]
 fn manifests_are_normalised(rt: HostRuntime) -> Result<(), Fail> {
-    let alloc = rt.alloc();
-    let paths = [
-        Path::from_text("b"),
-        Path::from_text("a//b/."),
-        Path::from_text("./a"),
-        Path::from_text("a.b"),
-        Path::from_text("a/b"),
-        Path::from_text("b/"),
-    ];
-    let set = normalise(alloc, paths.as_slice())?;
-    let mut line = Vec::new(alloc);
-    for p in &set {
-        line.extend_from_slice(p.as_path().as_unix_str().as_bytes())?;
-        line.push(b' ')?;
-    }
-    assert_eq!(rt; line.as_slice(), b"./a a/b a.b b ".as_slice());
+    assert!(rt; is_normalised(rt.alloc(), NORMALISED.as_slice())?);
     Ok(())
 }
 
