@@ -13,7 +13,7 @@ use unix_bytes::lossy::{Utf8Lossy, Utf8LossyChunk};
 use unix_path::Path;
 use unix_path::json::{JsonError, to_json};
 
-// Adds the answer to a line that is no command.
+// Adds the answer to an unknown command, edit or turn, and to the wrong number of fields.
 pub(crate) fn push_bad_command(answer: &mut Vec<u8>) -> Result<(), AllocError>
     ensures { OnOk result (answer.new.items ≡ answer.old.items ++ bad_command) }
 {
