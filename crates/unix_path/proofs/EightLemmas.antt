@@ -1,11 +1,13 @@
 -- The eights that a part feeds a hasher: first of its bytes, and last with the mark behind them.
 use Rattle.std.proofs.Common.{◌≡◌, ℕ, suc, ◌/◌, ◌<◌, ◌≤◌, List, [], ◌∷◌, ◌++◌}
-use Rattle.std.proofs.Common.{length, get_or, take, drop, set, replicate, sym, ap, ap₂, ◌∙◌, arith}
+use Rattle.std.proofs.Common.{length, get_or, take, drop, map, refl, sym, ap, ap₂, ◌∙◌, arith}
 use Rattle.std.proofs.Common.{length-append, length-drop, zero, rules, Fits, w8, w64}
 use Rattle.std.specs.Hash.{le_bytes}
 use Rattle.std.specs.Int.{from_le_bytes}
+use Rattle.std.specs.List.{range_with_len}
 use Rattle.std.specs.Simd.{first_chunks}
-use Rattle.std.proofs.lemmas.List.{take-append-le, drop-append-le, length-take-le, take-replicate}
+use Rattle.std.proofs.lemmas.List.{take-append-le, drop-append-le, length-take-le}
+use Rattle.std.proofs.lemmas.List.FromFn.{fill_by_all}
 use Rattle.std.proofs.lemmas.Nat.{le_bytes_8}
 use Rattle.unix_path.specs.Hashed.{end_mark, in_eights}
 
@@ -48,24 +50,16 @@ AreBytes-take (suc n) [] h i = omega arith
 AreBytes-take (suc n) (x ∷ s) h zero = omega (arith, h 0)
 AreBytes-take (suc n) (x ∷ s) h (suc i) = AreBytes-take n s (λ i. h (suc i)) i
 
--- n zeros, with s and a slash put in place of the first, are the first n bytes of s and the mark
-with_mark : (s : List ℕ) (n : ℕ) → length s < n → n ≤ 8
-    → set (s ++ drop (length s) (replicate n 0)) (length s) 47 ≡ take n (s ++ end_mark)
-with_mark s zero l m = absurd (omega arith)
-with_mark [] (suc n) l m = ap (λ zeros. 47 ∷ zeros) (sym (take-replicate n 7 0 (omega arith)))
-with_mark (x ∷ s) (suc n) l m =
-    ap (λ bytes. x ∷ bytes) (with_mark s n (omega arith) (omega arith))
-
--- the number that is read off eight zeros, with s and a slash put in place of the first, has the
--- first eight bytes of s and the mark
-pub le_bytes-last : (s copied : List ℕ) (n : ℕ) → length s < 8 → AreBytes s → copied ≡ s
-    → n ≡ from_le_bytes w64 (set (copied ++ drop (length s) (replicate 8 0)) (length s) 47)
+-- the number that is read off the first k bytes and the mark has these as its bytes
+pub le_bytes-last : (s : List ℕ) (k n : ℕ) → length s ≡ k → AreBytes s
+    → n ≡ from_le_bytes w64 (take 8 (map (λ i. get_or s i 0) (range_with_len 0 k) ++ end_mark))
     → le_bytes 8 n ≡ take 8 (s ++ end_mark)
 unfolding le_bytes
-le_bytes-last s copied n few fits is d =
+le_bytes-last s k n e fits d =
+    let read : s ≡ map (λ i. get_or s i 0) (range_with_len 0 k) =
+    fill_by_all (λ i. get_or s i 0) s k 0 e (λ i l. refl) in
     let marked : AreBytes end_mark = search rules in
     le_bytes_8 (take 8 (s ++ end_mark)) n
     (length-take-le 8 (s ++ end_mark) (omega (arith, length-append s end_mark)))
     (AreBytes-take 8 (s ++ end_mark) (AreBytes-append s end_mark fits marked))
-    (d ∙ ap (λ t. from_le_bytes w64 (set (t ++ drop (length s) (replicate 8 0)) (length s) 47)) is
-    ∙ ap (from_le_bytes w64) (with_mark s 8 few (omega arith)))
+    (d ∙ ap (λ t. from_le_bytes w64 (take 8 (t ++ end_mark))) (sym read))

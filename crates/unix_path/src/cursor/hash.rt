@@ -15,10 +15,17 @@ fn last_eight(rest: &[u8]) -> u64
     requires { length rest.now < 8 }
     ensures { le_bytes 8 result ≡ take 8 (rest.now ++ end_mark) }
 {
-    let mut eight = [0; 8];
-    eight[..rest.len()].copy_from_slice(rest);
-    eight[rest.len()] = b'/';
-    u64::from_le_bytes(eight)
+    match rest {
+        [] => u64::from_le_bytes([b'/', 0, 0, 0, 0, 0, 0, 0]),
+        [a] => u64::from_le_bytes([*a, b'/', 0, 0, 0, 0, 0, 0]),
+        [a, b] => u64::from_le_bytes([*a, *b, b'/', 0, 0, 0, 0, 0]),
+        [a, b, c] => u64::from_le_bytes([*a, *b, *c, b'/', 0, 0, 0, 0]),
+        [a, b, c, d] => u64::from_le_bytes([*a, *b, *c, *d, b'/', 0, 0, 0]),
+        [a, b, c, d, e] => u64::from_le_bytes([*a, *b, *c, *d, *e, b'/', 0, 0]),
+        [a, b, c, d, e, f] => u64::from_le_bytes([*a, *b, *c, *d, *e, *f, b'/', 0]),
+        [a, b, c, d, e, f, g] => u64::from_le_bytes([*a, *b, *c, *d, *e, *f, *g, b'/']),
+        _ => unreachable!(),
+    }
 }
 
 // Feeds the bytes with a slash and zeros behind them, eight in a write.
