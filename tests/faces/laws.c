@@ -1,0 +1,96 @@
+// All calls on short strings of every kind: what they read, and what ties their answers together.
+#define _DEFAULT_SOURCE
+#include "check.h"
+#include "comparisons.h"
+#include "records.h"
+#include "mixed_walks.h"
+
+static fence first_fence, second_fence;
+
+// Each call of one path, beside which nothing can be read.
+static void call_all_of_one(view path) {
+    static const call_of_place calls[] = {unix_path_parent, unix_path_file_name,
+                                          unix_path_file_stem, unix_path_extension,
+                                          unix_path_file_prefix};
+    static const call_of_one writers[] = {unix_path_canonical, unix_path_to_string_lossy,
+                                          unix_path_resolved};
+    for (size_t at = 0; at < sizeof calls / sizeof *calls; at++) {
+        unix_path_place place = no_place;
+        bool is_there = calls[at](path.bytes, path.length, &place);
+        CHECK(is_there ? is_inside(path, place) : same_place(place, no_place), "call %zu", at);
+    }
+    for (size_t at = 0; at < sizeof writers / sizeof *writers; at++) {
+        text answer = new_text();
+        add_one(&answer, writers[at], path);
+        size_t room = answer.length;
+        uint8_t *out = second_fence.begin + second_fence.size - room;
+        CHECK(writers[at](path.bytes, path.length, out, room) == room, "call %zu", at);
+        CHECK(same_bytes(as_view(&answer), (view){out, room}), "call %zu", at);
+        free(answer.bytes);
+    }
+    unix_path_climbs(path.bytes, path.length);
+    unix_path_is_utf8(path.bytes, path.length);
+    unix_path_is_absolute(path.bytes, path.length);
+    hash(path);
+    walks_of(path);
+}
+
+static void call_fenced(view path) {
+    call_all_of_one(fence_in(first_fence, path, true));
+    call_all_of_one(fence_in(first_fence, path, false));
+}
+
+static void nothing_beside_is_read(void) {
+    first_fence = new_fence();
+    second_fence = new_fence();
+    each_string("/.a\xE2\x82", 4, call_fenced);
+}
+
+static view first_of_pair;
+
+// Laws that tie the calls of two paths together.
+static void pair_with(view path) {
+    view a = fence_in(first_fence, first_of_pair, true), b = fence_in(second_fence, path, true);
+    unix_path_place place = no_place;
+    bool is_equal = unix_path_equal(a.bytes, a.length, b.bytes, b.length);
+    bool starts = unix_path_starts_with(a.bytes, a.length, b.bytes, b.length);
+    CHECK(compare(a, b) == -compare(b, a), "order");
+    CHECK(is_equal == (compare(a, b) == 0), "equality and order");
+    CHECK(!is_equal || hash(a) == hash(b), "hash");
+    CHECK(!is_equal || (starts && unix_path_ends_with(a.bytes, a.length, b.bytes, b.length)),
+          "equal paths");
+    CHECK(unix_path_strip_prefix(a.bytes, a.length, b.bytes, b.length, &place) == starts, "prefix");
+    CHECK(starts ? is_inside(a, place) : same_place(place, no_place), "place");
+    CHECK(common_dir(a, b) <= a.length && common_dir(a, b) == common_dir(b, a), "common dir");
+    text first = new_text(), second = new_text();
+    add_one(&first, unix_path_canonical, a);
+    add_one(&second, unix_path_canonical, b);
+    CHECK(same_bytes(as_view(&first), as_view(&second)) == is_equal, "spelling");
+    first.length = second.length = 0;
+    if (starts && add_two(&first, unix_path_join, b, view_at(a, place)) && b.length > 0) {
+        CHECK(unix_path_equal(first.bytes, first.length, a.bytes, a.length), "rejoined");
+    }
+    bool climbs = unix_path_climbs(b.bytes, b.length);
+    CHECK(add_two(&second, unix_path_join_within, a, b) == !climbs, "escapes");
+    add_two(&first, unix_path_with_file_name, a, b);
+    add_two(&first, unix_path_with_extension, a, b);
+    free(first.bytes);
+    free(second.bytes);
+}
+
+static void pairs_of(view path) {
+    uint8_t copy[16];
+    memcpy(copy, path.bytes, path.length);
+    first_of_pair = (view){copy, path.length};
+    each_string("/.a", 4, pair_with);
+}
+
+static void laws_of_pairs(void) {
+    each_string("/.a", 4, pairs_of);
+}
+
+int main(void) {
+    run("nothing beside a path is read", nothing_beside_is_read);
+    run("laws of pairs", laws_of_pairs);
+    return finish();
+}

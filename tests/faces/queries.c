@@ -1,0 +1,150 @@
+// The questions about paths, with what the documentation of each says.
+#define _DEFAULT_SOURCE
+#include "check.h"
+#include "comparisons.h"
+#include "records.h"
+
+// Calls that answer a place, and what they answer: NULL for false.
+static const struct {
+    call_of_place call;
+    const char *path, *answer;
+    size_t start;
+} places[] = {
+    {unix_path_parent, "///foo///bar", "///foo", 0},
+    {unix_path_parent, "/foo", "/", 0},
+    {unix_path_parent, "./.", "", 0},
+    {unix_path_parent, "foo/./bar", "foo", 0},
+    {unix_path_parent, "/", NULL, 0},
+    {unix_path_parent, "", NULL, 0},
+    {unix_path_file_name, "foo.txt/.//", "foo.txt", 0},
+    {unix_path_file_name, "/usr//bin/", "bin", 6},
+    {unix_path_file_name, "foo.txt/..", NULL, 0},
+    {unix_path_file_name, "/", NULL, 0},
+    {unix_path_file_stem, "a/foo.bar.txt", "foo.bar", 2},
+    {unix_path_file_stem, ".foo/", ".foo", 0},
+    {unix_path_file_stem, "a/..foo", ".", 2},
+    {unix_path_file_stem, "..", NULL, 0},
+    {unix_path_extension, "a/foo.bar.txt/.", "txt", 10},
+    {unix_path_extension, "..foo", "foo", 2},
+    {unix_path_extension, ".foo", NULL, 0},
+    {unix_path_extension, "foo", NULL, 0},
+    {unix_path_file_prefix, "a//foo.tar.gz", "foo", 3},
+    {unix_path_file_prefix, ".foo.rs", ".foo", 0},
+    {unix_path_file_prefix, "...", ".", 0},
+    {unix_path_file_prefix, "..", NULL, 0},
+};
+
+static void places_of_rows(void) {
+    for (size_t row = 0; row < sizeof places / sizeof *places; row++) {
+        view path = view_of(places[row].path);
+        unix_path_place place = no_place;
+        bool is_there = places[row].call(path.bytes, path.length, &place);
+        if (places[row].answer == NULL) {
+            CHECK(!is_there && same_place(place, no_place), "row %zu", row);
+        } else {
+            unix_path_place wanted = {places[row].start, strlen(places[row].answer)};
+            CHECK(is_there && same_place(place, wanted), "row %zu", row);
+        }
+    }
+}
+
+// An empty extension or rest stands somewhere in the path.
+static void empty_places(void) {
+    view path = view_of("a/foo.");
+    unix_path_place place = no_place;
+    CHECK(unix_path_extension(path.bytes, path.length, &place), "none");
+    CHECK(place.length == 0 && is_inside(path, place), "place %zu", place.start);
+    place = no_place;
+    CHECK(unix_path_strip_prefix(path.bytes, path.length, path.bytes, path.length, &place), "none");
+    CHECK(place.length == 0 && is_inside(path, place), "place %zu", place.start);
+}
+
+static void prefixes(void) {
+    static const struct {
+        const char *path, *base, *rest;
+    } rows[] = {
+        {"/test/haha/foo.txt", "/", "test/haha/foo.txt"},
+        {"/test/haha/foo.txt", "/test/", "haha/foo.txt"},
+        {"./foo/bar/", ".", "foo/bar"},
+        {"/a//b/", "/a", "b"},
+        {"foo/bar", "foo/bar/baz", NULL},
+        {"/test/haha/foo.txt", "test", NULL},
+    };
+    for (size_t row = 0; row < sizeof rows / sizeof *rows; row++) {
+        view path = view_of(rows[row].path), base = view_of(rows[row].base);
+        unix_path_place place = no_place;
+        bool is_there = unix_path_strip_prefix(path.bytes, path.length, base.bytes, base.length,
+                                               &place);
+        CHECK(is_there == (rows[row].rest != NULL), "row %zu", row);
+        if (is_there) {
+            CHECK(same_bytes(view_at(path, place), view_of(rows[row].rest)), "row %zu", row);
+        } else {
+            CHECK(same_place(place, no_place), "row %zu", row);
+        }
+    }
+}
+
+static void relations(void) {
+    static const struct {
+        call_of_relation call;
+        const char *a, *b;
+        bool is_true;
+    } rows[] = {
+        {unix_path_starts_with, "/etc/passwd", "/etc/", true},
+        {unix_path_starts_with, "/etc/passwd", "/e", false},
+        {unix_path_starts_with, "foo", "", true},
+        {unix_path_ends_with, "/etc/passwd", "passwd", true},
+        {unix_path_ends_with, "a/b", "./b", false},
+        {unix_path_ends_with, "foo", "", true},
+        {unix_path_equal, "a/./b//", "a/b", true},
+        {unix_path_equal, "./a", "a", false},
+        {unix_path_equal, "a/c", "a/b/../c", false},
+    };
+    for (size_t row = 0; row < sizeof rows / sizeof *rows; row++) {
+        view a = view_of(rows[row].a), b = view_of(rows[row].b);
+        CHECK(rows[row].call(a.bytes, a.length, b.bytes, b.length) == rows[row].is_true,
+              "row %zu", row);
+    }
+}
+
+static void truths(void) {
+    static const struct {
+        call_of_truth call;
+        const char *path;
+        bool is_true;
+    } rows[] = {
+        {unix_path_is_utf8, "caf\xC3\xA9", true}, {unix_path_is_utf8, "caf\xE9", false},
+        {unix_path_is_utf8, "\xED\xA0\x80", false}, {unix_path_is_utf8, "", true},
+        {unix_path_is_absolute, "/a", true}, {unix_path_is_absolute, "a/", false},
+        {unix_path_is_absolute, "", false}, {unix_path_climbs, "/a", true},
+        {unix_path_climbs, "a/../../root/x", true}, {unix_path_climbs, "a/../..foo", false},
+        {unix_path_climbs, "", false}, {unix_path_climbs, "..", true},
+    };
+    for (size_t row = 0; row < sizeof rows / sizeof *rows; row++) {
+        view path = view_of(rows[row].path);
+        CHECK(rows[row].call(path.bytes, path.length) == rows[row].is_true, "row %zu", row);
+    }
+}
+
+static void orders_hashes_and_common_dirs(void) {
+    CHECK(compare(view_of("a/b"), view_of("a.b")) == -1, "less");
+    CHECK(compare(view_of("a/./b//"), view_of("a/b")) == 0, "equal");
+    CHECK(compare(view_of("a"), view_of("./a")) == 1, "greater");
+    CHECK(compare(view_of(".."), view_of("+")) == -1, "less");
+    CHECK(compare(view_of("/"), view_of(".")) == -1, "less");
+    CHECK(hash(view_of("a/./b//")) == hash(view_of("a/b")), "of equal paths");
+    CHECK(hash(view_of("a/b")) != hash(view_of("ab")), "of other paths");
+    CHECK(common_dir(view_of("a/./b"), view_of("a/b")) == 2, "alike");
+    CHECK(common_dir(view_of("a/b"), view_of("ab")) == 0, "not alike");
+    CHECK(common_dir(view_of("/a/b"), view_of("/a/b")) == 3, "the same");
+}
+
+int main(void) {
+    run("places", places_of_rows);
+    run("empty places", empty_places);
+    run("prefixes", prefixes);
+    run("relations", relations);
+    run("truths", truths);
+    run("orders, hashes and common dirs", orders_hashes_and_common_dirs);
+    return finish();
+}
