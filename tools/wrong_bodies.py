@@ -8,7 +8,9 @@ import re
 from repository import ROOT
 
 HEAD = re.compile(r'( *)(?:pub(?:\([a-z]+\))? )?(?:const )?(?:extern "C" )?fn (\w+)')
-IMPL = re.compile(r"impl(?:<.*?>)? (?:(?:\w+::)*(\w+)(?:<.*>)? for )?(&(?:'\w+ )?)?(\w+)")
+IMPL = re.compile(r"impl(?:<.*?>)? (?:(?:\w+::)*(\w+)(<.*>)? for )?(&?(?:'\w+ )?\w+)")
+# A word of a type, but for its lifetimes.
+WORD = re.compile(r"&|(?<!')\b\w+")
 
 
 @dataclasses.dataclass(frozen=True)
@@ -67,15 +69,25 @@ def body_lines(lines, head, indent):
     return None
 
 
+def in_one_word(type_):
+    """The words of a type as a check writes them in a name: `Vec<u8>` is VecU8."""
+    words = WORD.findall(type_ or "")
+    return "".join("Ref" if it == "&" else it[0].upper() + it[1:] for it in words)
+
+
+def modules_of(file):
+    """The modules in which a file of src/ stands, from the crate's root on."""
+    return [it for it in file[len("src/"):-len(".rt")].split("/") if it not in ("lib", "main")]
+
+
 def place_of(crate, file, lines, head):
     """The place of the function at this line, as a check names it: its module; or the type of the
     impl that it is in, which may stand in another file, with the trait if there is one."""
-    if lines[head].startswith(" "):
-        number = max(number for number in range(head) if lines[number].startswith("impl"))
-        impl = IMPL.match(lines[number])
-        return f"{'Ref' if impl[2] else ''}{impl[3]}{impl[1] or ''}"
-    words = file[len("src/"):-len(".rt")].split("/")
-    return "::".join([crate, *(word for word in words if word not in ("lib", "main"))])
+    if not lines[head].startswith(" "):
+        return "::".join([crate, *modules_of(file)])
+    number = max(number for number in range(head) if lines[number].startswith("impl"))
+    impl = IMPL.match(lines[number])
+    return f"{in_one_word(impl[3])}{impl[1] or ''}{in_one_word(impl[2])}"
 
 
 @functools.lru_cache(maxsize=None)
@@ -107,18 +119,22 @@ def around(crate, change):
     return found[-1] if found else None
 
 
+def answers_of(file, place, name):
+    """The answers of the proof of a function, whose folder is its path below proofs/."""
+    types = [place] if place[0].isupper() else []
+    return "/".join(["proofs", *modules_of(file), *types, name, "Answers.antt"])
+
+
 def function_of(crate, changes):
     """The one function that all changes of the code are in, or None. The only other changes are in
-    the answers of its own proof, which no other proof reads. They stand at the path of the function
-    below proofs/."""
+    the answers of its own proof, which no other proof reads."""
     code = [it for it in changes if it.file.startswith("src/")]
     found = {around(crate, it) for it in code}
     if len(found) != 1 or None in found:
         return None
     function = found.pop()
-    module = code[0].file[len("src/"):-len(".rt")]
-    answers = re.compile(rf"proofs/{module}/(?:\w+/)?{function[1]}/Answers\.antt")
-    own = all(answers.fullmatch(it.file) for it in changes if it not in code)
+    answers = answers_of(code[0].file, *function)
+    own = all(it.file == answers for it in changes if it not in code)
     return function if own else None
 
 
