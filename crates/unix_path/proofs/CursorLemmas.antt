@@ -15,7 +15,7 @@ use Rattle.unix_path.specs.Views.{value_of}
 use Rattle.unix_path.specs.Cursor.{cursor_rest, cursor_source, cursor_values}
 use Rattle.unix_path.specs.Cursor.{iter_rest, iter_source, iter_bytes, GivesFirst, GivesLast}
 use Rattle.unix_path.specs.declared.cursor.component.Component.{Component}
-use Rattle.unix_path.specs.declared.cursor.components.Components.{Components}
+use Rattle.unix_path.specs.declared.cursor.walk.Components.{Components}
 use Rattle.unix_path.specs.declared.cursor.iter.Iter.{Iter}
 
 -- what a call of `next` of a `Components` gives and leaves

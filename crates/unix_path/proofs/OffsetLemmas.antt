@@ -7,7 +7,7 @@ use Rattle.std.specs.Prelude.{slice_range}
 use Rattle.std.specs.Str.{bytes_eq}
 use Rattle.std.proofs.lemmas.List.{length-take, length-map, nil_from_length, drop-take}
 use Rattle.unix_path.specs.Cursor.{cursor_rest, cursor_source}
-use Rattle.unix_path.specs.declared.cursor.components.Components.{Components}
+use Rattle.unix_path.specs.declared.cursor.walk.Components.{Components}
 use Rattle.unix_path.specs.Parts.{Value, RootDir, CurDir, ParentDir, Normal, parts, values}
 use Rattle.unix_path.specs.Parts.{cur_dir, parent_dir}
 use Rattle.unix_path.specs.Steps.{is_idle, first_value, EndsInPart, parts_end}

@@ -5,7 +5,7 @@ use Rattle.std.specs.Iterator.{YieldsFirstBy, YieldsLastBy}
 use Rattle.unix_path.specs.Parts.{Value, values, value_bytes}
 use Rattle.unix_path.specs.Rest.{rest}
 use Rattle.unix_path.specs.Places.{LiesIn}
-use Rattle.unix_path.specs.declared.cursor.components.Components.{Components}
+use Rattle.unix_path.specs.declared.cursor.walk.Components.{Components}
 use Rattle.unix_path.specs.declared.cursor.iter.Iter.{Iter}
 
 -- the string that a cursor stands for: its source between the two places

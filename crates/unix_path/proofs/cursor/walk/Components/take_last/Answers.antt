@@ -7,8 +7,8 @@ use Rattle.unix_path.specs.Steps.{is_idle}
 use Rattle.unix_path.proofs.CursorLemmas.{GivesLast-none}
 use Rattle.unix_path.proofs.OffsetLemmas.{walks_back}
 use Rattle.unix_path.proofs.SourceLemmas.{LiesIn-itself}
-use Rattle.unix_path.proofs.cursor.components.Components.take_last.Goals.{then-self, else-self}
-use Rattle.unix_path.proofs.cursor.components.Components.take_last.Goals as goal
+use Rattle.unix_path.proofs.cursor.walk.Components.take_last.Goals.{then-self, else-self}
+use Rattle.unix_path.proofs.cursor.walk.Components.take_last.Goals as goal
 
 pub returns-then-is_empty-clause-steps : goal.returns-then-is_empty-clause-steps
 returns-then-is_empty-clause-steps c =

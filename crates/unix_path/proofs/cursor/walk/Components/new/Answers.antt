@@ -2,7 +2,7 @@ use Rattle.std.proofs.Common.{length, ap, arith}
 use Rattle.unix_path.proofs.RestLemmas.{length-values}
 use Rattle.unix_path.proofs.ParentLemmas.{values-whole}
 use Rattle.unix_path.proofs.WalkLemmas.{parts_in_order, parts_in_reverse}
-use Rattle.unix_path.proofs.cursor.components.Components.new.Goals as goal
+use Rattle.unix_path.proofs.cursor.walk.Components.new.Goals as goal
 
 pub returns-clause-values : goal.returns-clause-values
 returns-clause-values c = values-whole c.args.path.now _ c.whole.ensures.rest

@@ -6,7 +6,7 @@ use Rattle.unix_path.specs.Steps.{EndsInPart}
 use Rattle.unix_path.proofs.OffsetLemmas.{is_idle-same, range-zero}
 use Rattle.unix_path.proofs.SpanLemmas.{rest-trimmed}
 use Rattle.unix_path.proofs.TrimLemmas.{EndsInPart-take}
-use Rattle.unix_path.proofs.cursor.components.Components.whole.Goals as goal
+use Rattle.unix_path.proofs.cursor.walk.Components.whole.Goals as goal
 
 pub invariant_of-result : goal.invariant_of-result
 unfolding IsWalk
