@@ -28,8 +28,8 @@ help:
 	@echo '                   install_program and install_library put one of the two'
 	@echo
 	@echo 'A first proof of the program (run, bench, differential, ends, install_program) takes'
-	@echo 'five to seven minutes on four cores, and one of the library (lib, test-faces,'
-	@echo 'install_library) some five; bench and install may prove a few crates more. After'
+	@echo 'four to seven minutes on four cores, and one of the library (lib, test-faces,'
+	@echo 'install_library) a little less; bench and install may prove a few crates more. After'
 	@echo 'that a change has its crate and those above it proved again.'
 	@echo 'Each needs rt, the command of the Rattle toolchain, in one of these versions:'
 	@sed 's/^/  /' rattle-toolchain
