@@ -1,6 +1,8 @@
 // Answers to questions about paths, and paths made of others.
 #include "answers.h"
 
+#include "comparisons.h"
+
 // Adds an item of a list.
 static void add_item(request *line, view item) {
     if (line->has_item) {
@@ -167,15 +169,15 @@ bool join(request *line) {
     return add_two(line->answer, unix_path_join, line->fields[0], line->fields[1]);
 }
 
-static int compare(const void *first, const void *second) {
-    const view *a = first, *b = second;
-    return unix_path_compare(a->bytes, a->length, b->bytes, b->length);
-}
-
 bool order(request *line) {
     static const char *names[] = {"less", "equal", "greater"};
-    add_string(line->answer, names[1 + compare(&line->fields[0], &line->fields[1])]);
+    add_string(line->answer, names[1 + compare(line->fields[0], line->fields[1])]);
     return true;
+}
+
+// The order of two views, for qsort.
+static int compare_views(const void *first, const void *second) {
+    return compare(*(const view *)first, *(const view *)second);
 }
 
 static bool is_equal(view a, view b) {
@@ -185,7 +187,7 @@ static bool is_equal(view a, view b) {
 bool under(request *line) {
     view base = line->fields[0], *paths = line->fields + 1;
     size_t count = line->count - 1;
-    qsort(paths, count, sizeof *paths, compare);
+    qsort(paths, count, sizeof *paths, compare_views);
     for (size_t at = 0; at < count; at++) {
         unix_path_place rest;
         bool is_first = at == 0 || !is_equal(paths[at - 1], paths[at]);
