@@ -1,0 +1,86 @@
+//! The jobs that users of paths wait for, on made-up inputs, for timing.
+//!
+//! `path_jobs JOB SEED COUNT` runs one of the jobs `manifest`, `table`, `requests`, `rules` and
+//! `long` on so many inputs, which the seed makes, and prints a digest of all its answers.
+//! `path_jobs all SEED COUNT` runs each. The same words print the same.
+#![tactic(auto)]
+
+mod digest;
+mod lines;
+mod long;
+mod manifest;
+mod random;
+mod requests;
+mod rules;
+mod table;
+mod tree;
+
+use std::alloc::{AllocError, Global};
+use std::process::ExitCode;
+use std::{env, io};
+
+// The names of the jobs.
+static JOBS: [&str; 5] = ["manifest", "table", "requests", "rules", "long"];
+
+// The digest of a job's answers; `None` for an unknown job.
+fn digest_of(alloc: Global, job: &str, seed: u64, count: u64) -> Result<Option<u64>, AllocError> {
+    let digest = match job {
+        "manifest" => manifest::run(alloc, seed, count)?,
+        "table" => table::run(alloc, seed, count)?,
+        "requests" => requests::run(alloc, seed, count)?,
+        "rules" => rules::run(alloc, seed, count)?,
+        "long" => long::run(alloc, seed, count)?,
+        _ => return Ok(None),
+    };
+    Ok(Some(digest))
+}
+
+// Runs a job and prints its digest. Gives whether there is such a job.
+fn run(rt: &HostRuntime, job: &str, seed: u64, count: u64) -> io::Result<bool> {
+    let Some(digest) = digest_of(rt.alloc(), job, seed, count)? else {
+        return Ok(false);
+    };
+    println!(rt; "{job} {digest:016x}")?;
+    Ok(true)
+}
+
+// Runs each job. Gives whether there are such jobs.
+fn run_all(rt: &HostRuntime, seed: u64, count: u64) -> io::Result<bool> {
+    for job in JOBS.iter() {
+        if !run(rt, job, seed, count)? {
+            return Ok(false);
+        }
+    }
+    Ok(true)
+}
+
+// Runs what the words behind the program's name ask for. Gives whether they ask for something.
+fn answer(rt: &HostRuntime) -> io::Result<bool> {
+    let mut words = env::args(rt)?;
+    let _program = words.next();
+    let (Some(job), Some(seed), Some(count)) = (words.next(), words.next(), words.next()) else {
+        return Ok(false);
+    };
+    let (Ok(seed), Ok(count)) = (seed.parse::<u64>(), count.parse::<u64>()) else {
+        return Ok(false);
+    };
+    if job.as_str() == "all" {
+        run_all(rt, seed, count)
+    } else {
+        run(rt, job.as_str(), seed, count)
+    }
+}
+
+fn main(rt: HostRuntime) -> ExitCode {
+    match answer(&rt) {
+        Ok(true) => ExitCode::SUCCESS,
+        Ok(false) => {
+            let _ = eprintln!(rt; "usage: path_jobs JOB SEED COUNT");
+            ExitCode::FAILURE
+        }
+        Err(error) => {
+            let _ = eprintln!(rt; "{error}");
+            ExitCode::FAILURE
+        }
+    }
+}

@@ -1,0 +1,81 @@
+//! Manifests are put in order: the paths of two listings, each once, in canonical form.
+use crate::digest::Digest;
+use crate::lines::Lines;
+use crate::random::Random;
+use crate::tree::{Tree, noise_of, shuffled};
+use callers::manifest::normalise;
+use path_runs::canonical::canonical;
+use std::alloc::{AllocError, Global};
+use unix_path::{Path, PathBuf};
+
+// Of the words, one in five respells a path.
+fn noise(word: u64) -> u64 {
+    if word % 5 == 0 {
+        noise_of(word >> 8)
+    } else {
+        0
+    }
+}
+
+// The paths of `count` files as a walk over the tree gives them, and then as many that are shuffled,
+// of which one in ten is a file of the walk in another spelling.
+fn listing(alloc: Global, tree: Tree<'_>, seed: u64, count: u64) -> Result<Lines, AllocError> {
+    let mut random = Random::new(seed);
+    let mut lines = Lines::new(alloc);
+    for place in 0..count {
+        tree.push(lines.buffer(), place << 1 & 0xF_FFFF, noise(random.next()))?;
+        lines.end_line()?;
+    }
+    for place in 0..count {
+        let word = random.next();
+        let number = shuffled(place, seed);
+        if word % 10 == 0 {
+            tree.push(lines.buffer(), number, noise_of(word >> 8))?;
+        } else {
+            tree.push(lines.buffer(), number | 1, noise(word >> 4))?;
+        }
+        lines.end_line()?;
+    }
+    Ok(lines)
+}
+
+// The paths as a set in canonical form.
+fn order_set(alloc: Global, paths: &[Path<'_>], digest: &mut Digest) -> Result<(), AllocError> {
+    for path in normalise(alloc, paths)?.iter() {
+        digest.add_path(path.as_path());
+    }
+    Ok(())
+}
+
+// The paths in canonical form, sorted, and each once.
+fn order_list(alloc: Global, paths: &[Path<'_>], digest: &mut Digest) -> Result<(), AllocError> {
+    let mut list: Vec<PathBuf> = Vec::with_capacity(alloc, paths.len())?;
+    for path in paths {
+        list.push(canonical(alloc, *path)?)?;
+    }
+    list.sort()?;
+    let mut last = Path::from_bytes(b"");
+    for path in list.iter() {
+        if path.as_path() != last {
+            digest.add_path(path.as_path());
+        }
+        last = path.as_path();
+    }
+    Ok(())
+}
+
+// Orders two manifests, of twice so many paths each, one as a set and one as a list.
+pub(crate) fn run(alloc: Global, seed: u64, count: u64) -> Result<u64, AllocError> {
+    let mut digest = Digest::new();
+    let packages = listing(alloc, Tree::new("usr/lib/packages", seed), seed, count)?;
+    order_set(alloc, &packages.paths(alloc)?, &mut digest)?;
+    let other = seed ^ 1 << 40;
+    let backup = listing(
+        alloc,
+        Tree::new("/srv/backup/daily/host", other),
+        other,
+        count,
+    )?;
+    order_list(alloc, &backup.paths(alloc)?, &mut digest)?;
+    Ok(digest.get())
+}

@@ -1,0 +1,161 @@
+//! Requests are resolved under a root, as servers and sandboxes do.
+use crate::digest::Digest;
+use crate::random::Random;
+use crate::tree::{Tree, noise_of, push_tag};
+use path_within::resolved::resolved;
+use path_within::way::way;
+use path_within::within::{WithinError, climbs, join_plain, join_within};
+use std::alloc::{AllocError, Global};
+use unix_path::Path;
+
+static ROOTS: [&str; 8] = [
+    "/srv/www/site/public",
+    "/var/lib/tenant/7f/files",
+    "/home/build/sandbox/work",
+    "data/uploads",
+    "/srv/../srv/static//assets",
+    "/opt/app/share",
+    "./public",
+    "/",
+];
+
+// What mostly stands in front of a request whose name is hidden.
+static HIDDEN: [&str; 4] = [".well-known/acme", ".git/objects", ".config/app", ".cache"];
+
+// What climbs, or doesn't, in front of a request.
+static UPS: [&str; 8] = [
+    "../",
+    "a/../../",
+    "a/b/../../c/../../",
+    "..",
+    "/",
+    "a/../",
+    "./..x/",
+    "./",
+];
+
+// Adds a request that a hostile client sends: `../` by the hundred, or any bytes.
+fn push_hostile(out: &mut Vec<u8>, random: &mut Random, place: u64) -> Result<(), AllocError> {
+    let word = random.next();
+    push_tag(out, place)?;
+    if word & 1 == 0 {
+        out.extend_from_slice(b"/b/c")?;
+        for _ in 0..word >> 8 & 127 {
+            out.extend_from_slice(b"/..")?;
+        }
+        return Ok(());
+    }
+    for _ in 0..8 + (word >> 8 & 7) {
+        out.extend_from_slice(&random.next().to_le_bytes())?;
+    }
+    Ok(())
+}
+
+// Adds a request: mostly a plain path, at times with a hidden name in front; one in ten has `.`,
+// `..` or `//`, a few climb, and a few are hostile. The place makes it another than all before.
+fn push_request(
+    out: &mut Vec<u8>,
+    tree: Tree<'_>,
+    random: &mut Random,
+    place: u64,
+) -> Result<(), AllocError> {
+    let word = random.next();
+    let number = word >> 24;
+    let mut noise = 0;
+    match word & 63 {
+        0 => return push_hostile(out, random, place),
+        1..=3 => {
+            out.extend_from_slice(UPS[(word >> 8 & 7) as usize].as_bytes())?;
+            tree.push_first(out, number)?;
+        }
+        4..=9 => {
+            tree.push_first(out, number)?;
+            noise = noise_of(word >> 8);
+        }
+        10 | 11 => {
+            tree.push_first(out, number)?;
+            out.extend_from_slice(b"/../")?;
+            tree.push_first(out, number ^ 1 << 20)?;
+        }
+        12..=17 => out.extend_from_slice(HIDDEN[(word >> 8 & 3) as usize].as_bytes())?,
+        _ => tree.push_first(out, number)?,
+    }
+    tree.push_short(out, number, noise, place)
+}
+
+// Answers a request: where it leads below the root, and what is left of that behind the root; 0
+// where it leaves the root.
+fn answer(
+    alloc: Global,
+    root: Path<'_>,
+    request: Path<'_>,
+    digest: &mut Digest,
+) -> Result<(), AllocError> {
+    match join_within(alloc, root, request) {
+        Ok(path) => {
+            digest.add_path(path.as_path());
+            if let Ok(rest) = path.as_path().strip_prefix(root) {
+                digest.add_path(rest);
+            }
+        }
+        Err(WithinError::Escapes) => digest.add(0),
+        Err(WithinError::Memory(error)) => return Err(error),
+    }
+    Ok(())
+}
+
+// Answers a request as those do that trust no link: the join as it stands, if it goes down by names.
+fn answer_plain(
+    alloc: Global,
+    root: Path<'_>,
+    request: Path<'_>,
+    digest: &mut Digest,
+) -> Result<(), AllocError> {
+    digest.add_flag(climbs(request));
+    match join_plain(alloc, root, request) {
+        Ok(path) => digest.add_path(path.as_path()),
+        Err(WithinError::Escapes) => digest.add(0),
+        Err(WithinError::Memory(error)) => return Err(error),
+    }
+    Ok(())
+}
+
+// Answers a request as a mapper of links does: what it resolves to, and the way there from a page.
+fn answer_link(
+    alloc: Global,
+    page: Path<'_>,
+    request: Path<'_>,
+    digest: &mut Digest,
+) -> Result<(), AllocError> {
+    digest.add_path(resolved(alloc, request)?.as_path());
+    match way(alloc, page, request)? {
+        Some(path) => digest.add_path(path.as_path()),
+        None => digest.add(1),
+    }
+    Ok(())
+}
+
+// Answers so many requests, each under three roots, and each as a link on the page that was asked
+// for before.
+pub(crate) fn run(alloc: Global, seed: u64, count: u64) -> Result<u64, AllocError> {
+    let mut digest = Digest::new();
+    let mut random = Random::new(seed);
+    let tree = Tree::new("", seed);
+    let mut page = Vec::new(alloc);
+    let mut request = Vec::new(alloc);
+    for place in 0..count {
+        request.clear();
+        push_request(&mut request, tree, &mut random, place)?;
+        let asked = Path::from_bytes(&request);
+        for turn in 0..3 {
+            let root = Path::from_text(ROOTS[(place.wrapping_add(turn) & 7) as usize]);
+            answer(alloc, root, asked, &mut digest)?;
+        }
+        let root = Path::from_text(ROOTS[(place.wrapping_add(3) & 7) as usize]);
+        answer_plain(alloc, root, asked, &mut digest)?;
+        answer_link(alloc, Path::from_bytes(&page), asked, &mut digest)?;
+        page.clear();
+        page.extend_from_slice(&request)?;
+    }
+    Ok(digest.get())
+}

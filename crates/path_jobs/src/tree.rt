@@ -1,0 +1,219 @@
+//! The paths of a made-up tree of files, each told by its number.
+ghost use Rattle.std.specs.Prelude.{◌<◌};
+
+use crate::random::mix;
+use std::alloc::AllocError;
+
+// In order, so that the names of one folder are in the order of their numbers.
+#[rattlefmt::skip]
+static WORDS: [&str; 64] = [
+    "accept", "adapter", "async", "backend", "base", "buffer", "build", "cache", "channel",
+    "client", "codec", "common", "config", "core", "decoder", "device", "driver", "encoder",
+    "engine", "event", "filter", "format", "graph", "handler", "header", "hook", "image", "index",
+    "input", "journal", "kernel", "layout", "library", "locale", "memory", "message", "network",
+    "object", "output", "packet", "parser", "plugin", "pool", "query", "queue", "record", "render",
+    "router", "schema", "script", "server", "session", "signal", "socket", "storage", "stream",
+    "task", "thread", "token", "trace", "update", "vector", "version", "worker",
+];
+
+static ENDINGS: [&str; 16] = [
+    ".rs", ".c", ".h", ".cpp", ".py", ".md", ".json", ".tar.gz", ".test.ts", "", ".html", ".yaml",
+    ".o", ".txt", ".so.1", ".js",
+];
+
+// A tree of 2^20 files below one folder; the seed makes their names. The numbers of a folder's files
+// follow each other, and so do those of all files below a folder: a walk over the tree that gives
+// the names of each folder in order gives the files in the order of their numbers.
+#[derive(Clone, Copy)]
+pub(crate) struct Tree<'a> {
+    front: &'a str,
+    seed: u64,
+}
+
+// What stands between two names, or behind the last one, where the lowest three bits of `noise`
+// respell it.
+#[inline]
+fn gap(noise: u64) -> &'static str {
+    match noise & 7 {
+        5 => "//",
+        6 => "/./",
+        7 => "/.//",
+        _ => "/",
+    }
+}
+
+// Noise that respells one or two of the places where names end; one of them is the end of the path,
+// or stands before its first or its second name.
+#[inline]
+pub(crate) fn noise_of(random: u64) -> u64 {
+    let first = match random >> 8 & 3 {
+        0 => 5 + random % 3,
+        1 => (5 + random % 3) << 3,
+        _ => (5 + random % 3) << 21,
+    };
+    let second = (5 + (random >> 16) % 3) << (3 * (random >> 24 & 7));
+    first | second
+}
+
+#[inline]
+fn push_text(out: &mut Vec<u8>, text: &str) -> Result<(), AllocError> {
+    out.extend_from_slice(text.as_bytes())
+}
+
+// Adds a dot and the lowest 24 bits of the tag as six letters.
+pub(crate) fn push_tag(out: &mut Vec<u8>, tag: u64) -> Result<(), AllocError> {
+    out.push(b'.')?;
+    let mut left = tag;
+    for _ in 0..6 {
+        out.push(b'a' + (left & 15) as u8)?;
+        left >>= 4;
+    }
+    Ok(())
+}
+
+impl<'a> Tree<'a> {
+    pub(crate) fn new(front: &'a str, seed: u64) -> Tree<'a> {
+        Tree {
+            front,
+            seed: mix(seed),
+        }
+    }
+
+    // Adds a name of one or two words. `place` tells the file or folder from others; of the 64
+    // words the first one is among the `span` that begin at `first`.
+    fn push_name(
+        self,
+        out: &mut Vec<u8>,
+        place: u64,
+        first: u64,
+        span: u64,
+    ) -> Result<(), AllocError>
+        requires { 0 < span }
+    {
+        let random = mix(self.seed ^ place);
+        push_text(
+            out,
+            WORDS[(first.wrapping_add(random % span) & 63) as usize],
+        )?;
+        if random >> 32 & 1 == 0 {
+            let gap = if random >> 33 & 1 == 0 { "-" } else { "_" };
+            push_text(out, gap)?;
+            push_text(out, WORDS[(random >> 34 & 63) as usize])?;
+        }
+        Ok(())
+    }
+
+    // Adds the names of the folders of a file, each with a gap before it.
+    fn push_folders(self, out: &mut Vec<u8>, number: u64, noise: u64) -> Result<(), AllocError> {
+        push_text(out, gap(noise))?;
+        self.push_name(out, 1 << 32 | number >> 17, (number >> 17 & 7) << 3, 8)?;
+        push_text(out, gap(noise >> 3))?;
+        self.push_name(out, 2 << 32 | number >> 15, (number >> 15 & 3) << 4, 16)?;
+        push_text(out, gap(noise >> 6))?;
+        self.push_name(out, 3 << 32 | number >> 13, (number >> 13 & 3) << 4, 16)
+    }
+
+    // Adds the names of a file's inner folders, each with a gap before it.
+    fn push_inner(self, out: &mut Vec<u8>, number: u64, noise: u64) -> Result<(), AllocError> {
+        push_text(out, gap(noise >> 9))?;
+        self.push_name(out, 4 << 32 | number >> 10, (number >> 10 & 7) << 3, 8)?;
+        push_text(out, gap(noise >> 12))?;
+        self.push_name(out, 5 << 32 | number >> 7, (number >> 7 & 7) << 3, 8)?;
+        push_text(out, gap(noise >> 15))?;
+        self.push_name(out, 6 << 32 | number >> 4, (number >> 4 & 7) << 3, 8)
+    }
+
+    // Whether the file stands in a folder of 8,192 files, as an eighth of the files do. Others stand
+    // in folders of 16.
+    pub(crate) fn is_in_large(self, number: u64) -> bool {
+        mix(self.seed ^ number >> 13) & 7 == 0
+    }
+
+    // Adds the number below 8,192 as four digits.
+    fn push_digits(out: &mut Vec<u8>, number: u64) -> Result<(), AllocError> {
+        let digit = |value: u64| b'0' + (value % 10) as u8;
+        out.push(digit(number / 1000))?;
+        out.push(digit(number / 100))?;
+        out.push(digit(number / 10))?;
+        out.push(digit(number))?;
+        Ok(())
+    }
+
+    // Adds a file's name and its ending. One in a hundred has a byte that is no UTF-8.
+    fn push_file(
+        self,
+        out: &mut Vec<u8>,
+        number: u64,
+        is_in_large: bool,
+    ) -> Result<(), AllocError> {
+        let random = mix(self.seed ^ (7 << 32 | number));
+        if is_in_large {
+            self.push_name(out, 8 << 32 | number, number >> 7 & 63, 1)?;
+            Tree::push_digits(out, number & 8191)?;
+        } else {
+            self.push_name(out, 8 << 32 | number, (number & 15) << 2, 4)?;
+        }
+        if random % 100 == 0 {
+            out.push(0xE9)?;
+        }
+        push_text(out, ENDINGS[(random >> 32 & 15) as usize])
+    }
+
+    // Adds the path of a file behind the folder of the tree, which begins with a gap. Without noise
+    // the spelling is canonical; three bits of noise, from the lowest on, are for each gap, and those
+    // from the 22nd on for what stands behind the file's name.
+    pub(crate) fn push_below(
+        self,
+        out: &mut Vec<u8>,
+        number: u64,
+        noise: u64,
+    ) -> Result<(), AllocError> {
+        let is_in_large = self.is_in_large(number);
+        self.push_folders(out, number, noise)?;
+        if !is_in_large {
+            self.push_inner(out, number, noise)?;
+        }
+        push_text(out, gap(noise >> 18))?;
+        self.push_file(out, number, is_in_large)?;
+        if noise >> 21 & 7 != 0 {
+            push_text(out, gap(noise >> 21))?;
+        }
+        Ok(())
+    }
+
+    // Adds a name that goes by the highest bits of the number.
+    pub(crate) fn push_first(self, out: &mut Vec<u8>, number: u64) -> Result<(), AllocError> {
+        self.push_name(out, 9 << 32 | number >> 12, 0, 64)
+    }
+
+    // Adds one to five names that go by the number, each with a gap before it, a tag and an ending.
+    pub(crate) fn push_short(
+        self,
+        out: &mut Vec<u8>,
+        number: u64,
+        noise: u64,
+        tag: u64,
+    ) -> Result<(), AllocError> {
+        let mut noise = noise;
+        for level in 0..1 + number % 5 {
+            push_text(out, gap(noise))?;
+            self.push_name(out, (10 + level) << 32 | number >> 5, 0, 64)?;
+            noise >>= 3;
+        }
+        push_tag(out, tag)?;
+        push_text(out, ENDINGS[(number >> 8 & 15) as usize])
+    }
+
+    // Adds the path of a file, with the folder of the tree.
+    pub(crate) fn push(self, out: &mut Vec<u8>, number: u64, noise: u64) -> Result<(), AllocError> {
+        push_text(out, self.front)?;
+        self.push_below(out, number, noise)
+    }
+}
+
+// The number of a file that is not given again for other places below 2^19: these give the even
+// numbers in an order that looks random.
+#[inline]
+pub(crate) fn shuffled(place: u64, seed: u64) -> u64 {
+    (place.wrapping_mul(0x9E37_79B9).wrapping_add(seed) & 0x7_FFFF) << 1
+}
