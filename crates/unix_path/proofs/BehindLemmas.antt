@@ -92,7 +92,7 @@ rest-behind s t n i e some l is same busy =
     (subst (λ t. 0 < length (drop i t) → is_idle (drop i t) 0 ≡ false) e busy)
 
 -- where a list begins another, it does so without what both begin with
-begins_past : (v w x : List Value) → Begins (v ++ w) (v ++ x) → Begins w x
+pub begins_past : (v w x : List Value) → Begins (v ++ w) (v ++ x) → Begins w x
 begins_past [] w x h = h
 begins_past (y ∷ v) w x h = begins_past v w x (begins_tail y y (v ++ w) (v ++ x) h).1
 

@@ -58,7 +58,7 @@ values-past_slash f b =
     ∙ ap (λ vs. map (λ (p : Part). p.value) (parts g) ++ vs) (values-inner_parts (length g) b)
 
 -- what two lists both begin with doesn't count in their order
-values_cmp-common : (v w x : List Value) → values_cmp (v ++ w) (v ++ x) ≡ values_cmp w x
+pub values_cmp-common : (v w x : List Value) → values_cmp (v ++ w) (v ++ x) ≡ values_cmp w x
 values_cmp-common [] w x = refl
 values_cmp-common (y ∷ v) w x =
     ap (λ o. ordering_then o (values_cmp (v ++ w) (v ++ x))) (tied_itself value_cmp-total y)

@@ -1,8 +1,8 @@
--- The order of two strings whose first pieces are names that differ.
+-- Pieces that differ, and pieces that are names.
 use Rattle.std.proofs.Common.{◌≡◌, ℕ, zero, suc, ◌+◌, ◌-◌, ◌<◌, ◌≤◌, false, true, eqb, ltb, List}
-use Rattle.std.proofs.Common.{[], ◌∷◌, length, get_or, take, drop, map, refl, sym, ap, ap₂, ◌∙◌}
+use Rattle.std.proofs.Common.{[], ◌∷◌, length, get_or, drop, map, refl, sym, ap, ap₂, ◌∙◌}
 use Rattle.std.proofs.Common.{arith, Ordering, Less, Greater, ltb-true, ltb-false, get_or-drop}
-use Rattle.std.proofs.Common.{length-drop, length-take-le, ◌==◌, if◌then◌else◌}
+use Rattle.std.proofs.Common.{length-take-le, ◌==◌, if◌then◌else◌, not}
 use Rattle.std.specs.Cmp.{nat_cmp_is}
 use Rattle.std.specs.Cmp.Lexicographic.{slice_cmp}
 use Rattle.std.specs.List.{position_or_len}
@@ -10,10 +10,9 @@ use Rattle.std.specs.Ordering.{nat_cmp, ordering_then}
 use Rattle.std.specs.Str.{bytes_eq}
 use Rattle.std.proofs.lemmas.Cmp.{tied_itself, nat_cmp_total}
 use Rattle.std.proofs.lemmas.List.{get_or-take}
-use Rattle.std.proofs.lemmas.List.Sums.{fails_before_first}
+use Rattle.std.proofs.lemmas.List.Sums.{fails_before_first, prefix_len-le-length}
 use Rattle.unix_path.specs.CommonDir.{inner_values}
 use Rattle.unix_path.specs.Steps.{piece_rank}
-use Rattle.unix_path.specs.Order.{values_cmp}
 use Rattle.unix_path.specs.Parts.{Part, Value, Normal, parent_dir, value_of_piece, inner_parts}
 use Rattle.unix_path.specs.Parts.{is_slash, slash}
 use Rattle.unix_path.specs.Steps.{is_idle}
@@ -28,7 +27,7 @@ piece_rank-other : (x : ℕ) (s : List ℕ) → eqb x 47 ≡ false → piece_ran
 piece_rank-other x s e = rw e refl
 
 -- numbers that differ are in the order that one more of each is in
-nat_cmp-differ : (x y : ℕ) (o : Ordering) → (x ≡ y → ⊥)
+pub nat_cmp-differ : (x y : ℕ) (o : Ordering) → (x ≡ y → ⊥)
     → (ordering_then (nat_cmp x y) o ≡ nat_cmp x y) × (nat_cmp x y ≡ nat_cmp (1 + x) (1 + y))
 nat_cmp-differ x y o differs = by_test (ltb x y)
     (λ e.
@@ -77,7 +76,7 @@ pieces_begin (x ∷ s) (y ∷ t) differs = by_test (eqb x 47)
     ∙ sym (ap₂ nat_cmp (piece_rank-other x s e) (piece_rank-other y t f))))
 
 -- two pieces that are the same up to n and differ there are in the order of their bytes at n
-pieces_differ : (s t : List ℕ) (n : ℕ) → n ≤ length s → n ≤ length t
+pub pieces_differ : (s t : List ℕ) (n : ℕ) → n ≤ length s → n ≤ length t
     → ((k : ℕ) → k < n → get_or s k 0 ≡ get_or t k 0)
     → ((k : ℕ) → k < n → eqb (get_or s k 0) 47 ≡ false)
     → (piece_rank s n ≡ piece_rank t n → ⊥)
@@ -95,84 +94,73 @@ pieces_differ (x ∷ s) (y ∷ t) (suc n) l m same none differs =
     ∙ pieces_differ s t n (omega arith) (omega arith) (λ k h. same (suc k) (omega arith))
     (λ k h. none (suc k) (omega arith)) differs
 
--- a name that doesn't begin with a dot stands at d
-pub record BeginsName (s : List ℕ) (d : ℕ) : Type 0 where
-  pub some : d < length s
-  pub no_slash : eqb (get_or s d 0) 47 ≡ false
-  pub no_dot : eqb (get_or s d 0) 46 ≡ false
+-- the first piece is no longer than the string
+pub piece-le : (s : List ℕ) → position_or_len is_slash s ≤ length s
+piece-le s = prefix_len-le-length (λ b. not (is_slash b)) s
 
--- a name at place d of s stands first in what follows d bytes
-BeginsName-drop : (s : List ℕ) (d : ℕ) → BeginsName s d → BeginsName (drop d s) 0
-BeginsName-drop s d name =
-    let here : get_or (drop d s) 0 0 ≡ get_or s d 0 =
-    get_or-drop d s 0 0 ∙ ap (λ k. get_or s k 0) {x = d + 0} {y = d} (omega arith) in
-    record {
-      some = omega (arith, length-drop d s, name.some);
-      no_slash = ap (λ b. eqb b 47) here ∙ name.no_slash;
-      no_dot = ap (λ b. eqb b 46) here ∙ name.no_dot;
-    }
+-- the first piece has a byte that is no dot, which makes it a name
+pub record HoldsName (s : List ℕ) : Type 0 where
+  pub at : ℕ
+  pub inside : at < position_or_len is_slash s
+  pub no_dot : eqb (get_or s at 0) 46 ≡ false
+
+-- a string with a byte that is no dot isn't `..`
+no_parent : (p : List ℕ) (at : ℕ) → at < length p → eqb (get_or p at 0) 46 ≡ false
+    → bytes_eq p parent_dir ≡ false
+no_parent [] at l e = refl
+no_parent (x ∷ []) at l e = by_test (eqb x 46) (λ h. rw h refl) (λ h. rw h refl)
+no_parent (x ∷ y ∷ []) zero l e = rw e refl
+no_parent (x ∷ y ∷ []) (suc zero) l e =
+    by_test (eqb x 46) (λ h. rw (h, e) refl) (λ h. rw h refl)
+no_parent (x ∷ y ∷ []) (suc (suc n)) l e = absurd (omega arith)
+no_parent (x ∷ y ∷ z ∷ p) at l e = by_test (eqb x 46)
+    (λ h. by_test (eqb y 46) (λ k. rw (h, k) refl) (λ k. rw (h, k) refl))
+    (λ h. rw h refl)
+
+-- a dot before a byte of the same piece isn't idle
+dot_busy : (x : ℕ) (s : List ℕ) (at : ℕ) → at < position_or_len is_slash (x ∷ s)
+    → eqb (get_or (x ∷ s) at 0) 46 ≡ false → eqb x 46 ≡ true → eqb x 47 ≡ false
+    → is_idle (x ∷ s) 0 ≡ false
+dot_busy x s zero l e dot slash = absurd (cc)
+dot_busy x [] (suc n) l e dot slash =
+    absurd (omega (arith, l, piece-le (x ∷ [])))
+dot_busy x (y ∷ s) (suc n) l e dot slash =
+    let next : eqb y 47 ≡ false =
+    fails_before_first is_slash (x ∷ y ∷ s) 1 0 (omega (arith, l)) in
+    rw (slash, dot, next) refl
+
+-- a string whose first piece is a name begins with no idle byte
+pub holds_busy : (s : List ℕ) → HoldsName s → is_idle s 0 ≡ false
+holds_busy [] name = absurd (omega (arith, name.inside, piece-le []))
+holds_busy (x ∷ s) name =
+    let slash : eqb x 47 ≡ false =
+    fails_before_first is_slash (x ∷ s) 0 0 (omega (arith, name.inside)) in
+    by_test (eqb x 46) (λ dot. dot_busy x s name.at name.inside name.no_dot dot slash)
+    (λ dot. rw (slash, dot) refl)
 
 -- the first inner value of a string that begins with a name is its first piece
-inner_values-name : (s : List ℕ) → BeginsName s 0
+pub inner_values-name : (s : List ℕ) → HoldsName s
     → (more : List Value) × (inner_values s ≡ Normal (first_piece s) ∷ more)
-inner_values-name [] name = absurd (omega (arith, name.some))
-inner_values-name (x ∷ s) name =
-    let n = position_or_len is_slash (x ∷ s) in
-    let more = map (λ (p : Part). p.value) (inner_parts (0 + n) (drop n (x ∷ s))) in
-    let slash : eqb x 47 ≡ false = name.no_slash in
-    let dot : eqb x 46 ≡ false = name.no_dot in
-    let busy : is_idle (x ∷ s) 0 ≡ false = rw (slash, dot) refl in
-    let other : bytes_eq (x ∷ first_piece s) parent_dir ≡ false = rw dot refl in
-    let value : value_of_piece (x ∷ first_piece s) ≡ Normal (x ∷ first_piece s) = rw other refl in
-    let piece = first_piece-other x s slash in (
+inner_values-name s name =
+    let n = position_or_len is_slash s in
+    let more = map (λ (p : Part). p.value) (inner_parts (0 + n) (drop n s)) in
+    let fits = piece-le s in
+    let here : get_or (first_piece s) name.at 0 ≡ get_or s name.at 0 =
+    get_or-take n s name.at 0 name.inside in
+    let other : bytes_eq (first_piece s) parent_dir ≡ false =
+    no_parent (first_piece s) name.at (omega (arith, name.inside, length-take-le n s fits))
+    (ap (λ b. eqb b 46) here ∙ name.no_dot) in
+    let value : value_of_piece (first_piece s) ≡ Normal (first_piece s) = rw other refl in
+    let some : 0 < length s = omega (arith, name.inside, fits) in (
       more,
-      ap (map (λ (p : Part). p.value)) (inner_parts_busy 0 (x ∷ s) (omega arith) busy)
-          ∙ ap (λ v. v ∷ more) (ap value_of_piece piece ∙ value ∙ ap Normal (sym piece)),
+      ap (map (λ (p : Part). p.value)) (inner_parts_busy 0 s some (holds_busy s name))
+          ∙ ap (λ v. v ∷ more) value,
     )
 
--- the order of the first pieces is the strings' order, where those are names that differ
-names_differ : (s t : List ℕ) (n : ℕ) → BeginsName s 0 → BeginsName t 0
-    → (piece_rank s n ≡ piece_rank t n → ⊥)
-    → slice_cmp nat_cmp (first_piece s) (first_piece t) ≡ nat_cmp (piece_rank s n) (piece_rank t n)
-    → nat_cmp (piece_rank s n) (piece_rank t n) ≡ values_cmp (inner_values s) (inner_values t)
-names_differ s t n first second differs pieces =
-    let v = inner_values-name s first in
-    let w = inner_values-name t second in
-    let behind = values_cmp v.0 w.0 in
-    sym (ap₂ values_cmp v.1 w.1 ∙ ap (λ o. ordering_then o behind) pieces
-    ∙ (nat_cmp-differ (piece_rank s n) (piece_rank t n) behind differs).0)
-
 -- the rank at place n is that at place n - d of what follows d bytes
-piece_rank-drop : (s : List ℕ) (d n : ℕ) → d ≤ n → piece_rank (drop d s) (n - d) ≡ piece_rank s n
+pub piece_rank-drop : (s : List ℕ) (d n : ℕ) → d ≤ n
+    → piece_rank (drop d s) (n - d) ≡ piece_rank s n
 piece_rank-drop s d n l =
     let back : d + (n - d) ≡ n = omega arith in
     ap (λ b. if b == slash then 0 else 1 + b)
     (get_or-drop d s (n - d) 47 ∙ ap (λ k. get_or s k 47) back)
-
--- where the names that stand at d are the same up to n and differ there, their bytes at n decide
-pub values_cmp-differ : (a b : List ℕ) (d n : ℕ) → d ≤ n → n ≤ length a → n ≤ length b
-    → take n a ≡ take n b
-    → position_or_len is_slash (drop d (take n a)) ≡ length (drop d (take n a))
-    → BeginsName a d → BeginsName b d → (piece_rank a n ≡ piece_rank b n → ⊥)
-    → nat_cmp (piece_rank a n) (piece_rank b n)
-    ≡ values_cmp (inner_values (drop d a)) (inner_values (drop d b))
-values_cmp-differ a b d n l in_a in_b same none first second differs =
-    let i = n - d in
-    let s = drop d a in
-    let t = drop d b in
-    let ranks = ap₂ nat_cmp (piece_rank-drop a d n l) (piece_rank-drop b d n l) in
-    let apart : piece_rank s i ≡ piece_rank t i → ⊥ =
-    λ e. differs (sym (piece_rank-drop a d n l) ∙ e ∙ piece_rank-drop b d n l) in
-    let common = drop d (take n a) in
-    let size : length common ≡ i =
-    omega (arith, length-drop d (take n a), length-take-le n a in_a) in
-    let byte = λ (k : ℕ) (h : k < i). get_or-drop d (take n a) k 0
-    ∙ get_or-take n a (d + k) 0 (omega arith) ∙ sym (get_or-drop d a k 0) in
-    let other = λ (k : ℕ) (h : k < i). get_or-drop d (take n b) k 0
-    ∙ get_or-take n b (d + k) 0 (omega arith) ∙ sym (get_or-drop d b k 0) in
-    sym ranks
-    ∙ names_differ s t i (BeginsName-drop a d first) (BeginsName-drop b d second) apart
-    (pieces_differ s t i (omega (arith, length-drop d a)) (omega (arith, length-drop d b))
-    (λ k h. sym (byte k h) ∙ ap (λ u. get_or (drop d u) k 0) same ∙ other k h)
-    (λ k h. ap (λ z. eqb z 47) (sym (byte k h))
-    ∙ fails_before_first is_slash common k 0 (omega arith)) apart)

@@ -41,3 +41,6 @@ pub mod CommonDirLemmas
 pub mod BehindLemmas
 pub mod DifferLemmas
 pub mod ComparisonLemmas
+pub mod ApartLemmas
+pub mod SharedLemmas
+pub mod BaseLemmas

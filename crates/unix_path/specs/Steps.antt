@@ -7,7 +7,7 @@ use Rattle.std.proofs.Props.{props}
 use Rattle.std.specs.List.{position_or_len}
 use Rattle.std.specs.Str.{bytes_eq}
 use Rattle.unix_path.specs.Parts.{slash, is_slash, dot, cur_dir, Part, Value, CurDir}
-use Rattle.unix_path.specs.Parts.{value_of_piece, values}
+use Rattle.unix_path.specs.Parts.{inner_parts, value_of_piece, values}
 use Rattle.unix_path.specs.Prefixes.{Begins}
 use Rattle.unix_path.specs.Rest.{last_end, rest}
 
@@ -89,6 +89,23 @@ pub record StripsOn (s base u : List ℕ) (left : List Value) : Type 0 where
   pub onward : Begins left (values u) → Begins (values base) (values s)
   pub back : Begins (values base) (values s) → Begins left (values u)
 
+-- one more than the byte at i, or 0 where a piece ends there: at a slash, or at the end
+abbrev pub piece_rank : List ℕ → ℕ → ℕ
+piece_rank s i = let b = slice_index_or s i slash in if b == slash then 0 else 1 + b
+
+-- t is what follows some first bytes of s that don't count
+pub record PastIdle (s t : List ℕ) : Type 0 where
+  pub len : ℕ
+  pub is : t ≡ drop len s
+  pub idle : inner_parts 0 s ≡ inner_parts (0 + len) t
+
+-- x and y are what is left of a and b behind the same values
+pub record SharesFront (a b x y : List ℕ) : Type 0 where
+  pub front : List Value
+  pub first : values a ≡ front ++ values x
+  pub second : values b ≡ front ++ values y
+  pub left : rest x 0 0 ≡ rest a (length front) 0
+
 -- what the fields of a walk say of each other: what is left stands between the two places and ends
 -- in a part, and the flags tell whether a root or a `.` that counts stands first
 pub record WalkFields (source : List ℕ) (start end : ℕ) (has_lead lead_left : Bool) : Type 0 where
@@ -107,10 +124,6 @@ pub IsWalk-prop : (source : List ℕ) (start end : ℕ) (has_lead lead_left : Bo
     → IsProp (IsWalk source start end has_lead lead_left)
 unfolding IsWalk
 IsWalk-prop source start end has_lead lead_left = hlevel props
-
--- one more than the byte at i, or 0 where a piece ends there: at a slash, or at the end
-abbrev pub piece_rank : List ℕ → ℕ → ℕ
-piece_rank s i = let b = slice_index_or s i slash in if b == slash then 0 else 1 + b
 
 -- the byte between what is kept and what is added, where there is one
 abbrev pub gap_bytes : Option ℕ → List ℕ

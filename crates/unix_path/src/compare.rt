@@ -1,17 +1,15 @@
 //! The order of two paths, found behind the bytes that both begin with.
-ghost use Rattle.std.specs.Prelude.{◌≡◌, ◌<◌, ◌≤◌, ◌==◌, false, length, take, drop};
-ghost use Rattle.std.specs.Prelude.{slice_index, IsTrue, ◌↔◌};
+ghost use Rattle.std.specs.Prelude.{◌≡◌, ◌≤◌, length, take, IsTrue, ◌↔◌};
 ghost use Rattle.std.specs.Ordering.{is_eq};
-ghost use Rattle.std.specs.List.{position_or_len};
-ghost use Rattle.unix_path.specs.Parts.{slash, dot, is_slash, values};
-ghost use Rattle.unix_path.specs.CommonDir.{inner_values};
+ghost use Rattle.unix_path.specs.Parts.{values};
 ghost use Rattle.unix_path.specs.Order.{values_cmp};
-ghost use Rattle.unix_path.specs.Steps.{is_idle, piece_rank};
+ghost use Rattle.unix_path.specs.Steps.{is_idle};
 ghost use Rattle.unix_path.specs.Views.{value_of};
 
-use crate::cursor::{Component, Components, has_lead, long_first_step, long_idle_len};
+use crate::cursor::{Component, Components, has_lead, long_first_step};
+use crate::shared::{order_in_names, past_shared};
 use std::cmp::Ordering;
-use unix_bytes::search::{common_len, past_last};
+use unix_bytes::search::common_len;
 
 // The order of two paths by the first values that differ; a path with no more values comes first.
 // Each flag tells whether the path before it begins with a root or with a `.` that counts. A
@@ -38,69 +36,26 @@ fn compare_parts(a: &[u8], a_lead: bool, b: &[u8], b_lead: bool) -> Ordering
     x.len().cmp(&y.len())
 }
 
-// What follows the bytes that don't count, of a string that stands behind a slash.
-#[inline]
-fn past_idle(bytes: &[u8]) -> &[u8]
-    ensures values { values result.now ≡ inner_values bytes.now }
-    ensures lead { is_idle result.now 0 ≡ false }
-{
-    &bytes[long_idle_len(bytes)..]
-}
-
-// Whether there is a byte at `at` that is neither a slash nor a dot.
-#[inline]
-fn begins_name(bytes: &[u8], at: usize) -> bool
-    ensures in_range { IsTrue result → at < length bytes.now }
-    ensures no_slash { IsTrue result → (slice_index bytes.now at == slash) ≡ false }
-    ensures no_dot { IsTrue result → (slice_index bytes.now at == dot) ≡ false }
-{
-    at < bytes.len() && bytes[at] != b'/' && bytes[at] != b'.'
-}
-
-// One more than the byte at `at`, or 0 where a piece ends there: at a slash, or at the end.
-#[inline]
-fn piece_rank(bytes: &[u8], at: usize) -> u16
-    ensures { result ≡ piece_rank bytes.now at }
-{
-    if at < bytes.len() && bytes[at] != b'/' {
-        1 + u16::from(bytes[at])
-    } else {
-        0
-    }
-}
-
-// The order of two strings that stand behind a slash, by their parts. It isn't inlined, so that a
-// comparison that is decided before its call stays small.
+// The order of two paths by their parts, behind those that are written alike. The first `common`
+// bytes of the paths are the same. It isn't inlined, so that a comparison that is decided before its
+// call stays small.
 #[inline(never)]
-fn compare_inner(a: &[u8], b: &[u8]) -> Ordering
-    ensures { result ≡ values_cmp (inner_values a.now) (inner_values b.now) }
-{
-    compare_parts(past_idle(a), false, past_idle(b), false)
-}
-
-// The order of two paths by their parts behind `dir`, where their first `common` bytes are the same
-// and hold no slash from `dir` on.
-fn compare_behind(a: &[u8], b: &[u8], dir: usize, common: usize) -> Ordering
-    requires in_order { dir ≤ common }
+fn compare_shared(a: &[u8], b: &[u8], common: usize) -> Ordering
     requires in_first { common ≤ length a.now }
     requires in_second { common ≤ length b.now }
     requires same { take common a.now ≡ take common b.now }
-    requires no_slash { position_or_len is_slash (drop dir (take common a.now))
-        ≡ length (drop dir (take common a.now)) }
-    ensures { result
-        ≡ values_cmp (inner_values (drop dir a.now)) (inner_values (drop dir b.now)) }
+    ensures { result ≡ values_cmp (values a.now) (values b.now) }
 {
-    if begins_name(a, dir) && begins_name(b, dir) {
-        let first = piece_rank(a, common);
-        let second = piece_rank(b, common);
-        if first != second {
-            return first.cmp(&second);
-        }
+    let left = past_shared(a, b, common);
+    let (x, y) = (left.first, left.second);
+    if let Some(order) = order_in_names(x, y, left.common) {
+        return order;
     }
-    compare_inner(&a[dir..], &b[dir..])
+    compare_parts(x, has_lead(x), y, has_lead(y))
 }
 
-// The order of two paths by their values. What both begin with, up to its last slash, is skipped.
+// The order of two paths by their values. Where the first bytes that differ are in two names, they
+// decide.
 pub(crate) fn compare(a: &[u8], b: &[u8]) -> Ordering
     ensures { result ≡ values_cmp (values a.now) (values b.now) }
 {
@@ -108,12 +63,10 @@ pub(crate) fn compare(a: &[u8], b: &[u8]) -> Ordering
     if common == a.len() && common == b.len() {
         return Ordering::Equal;
     }
-    let dir = past_last(&a[..common], b'/');
-    if dir == 0 {
-        compare_parts(a, has_lead(a), b, has_lead(b))
-    } else {
-        compare_behind(a, b, dir, common)
+    if let Some(order) = order_in_names(a, b, common) {
+        return order;
     }
+    compare_shared(a, b, common)
 }
 
 // Whether two parts have the same value.

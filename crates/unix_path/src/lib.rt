@@ -10,6 +10,7 @@ pub mod kept;
 mod names;
 mod order;
 pub mod path;
+mod shared;
 
 pub use buf::{ExtensionError, PathBuf};
 pub use cursor::{Ancestors, Component, Components, Iter};

@@ -31,7 +31,6 @@ mod parents;
 mod prefix;
 
 use crate::cursor::{Components, Iter};
-pub(crate) use common_dir::walk_behind;
 pub use prefix::StripPrefixError;
 use std::fmt;
 use unix_bytes::bytes::UnixStr;

@@ -1,12 +1,7 @@
 //! How far two paths are written alike.
-ghost use Rattle.std.specs.Prelude.{◌≡◌, ◌-◌, ◌<◌, ◌≤◌, length, take, drop, slice_index};
-ghost use Rattle.unix_path.specs.Cursor.{cursor_rest, cursor_source, cursor_values};
-ghost use Rattle.unix_path.specs.CommonDir.{common_dir_of, inner_values};
-ghost use Rattle.unix_path.specs.Parts.{slash, values};
-ghost use Rattle.unix_path.specs.Places.{LiesIn};
-ghost use Rattle.unix_path.specs.Rest.{rest};
+ghost use Rattle.std.specs.Prelude.{◌≡◌, ◌≤◌, length};
+ghost use Rattle.unix_path.specs.CommonDir.{common_dir_of};
 
-use crate::cursor::{Components, idle_len};
 use crate::path::Path;
 use unix_bytes::search::{common_len, past_last};
 
@@ -29,18 +24,4 @@ impl<'a> Path<'a> {
         let common = common_len(self.bytes, other.bytes);
         past_last(&self.bytes[..common], b'/')
     }
-}
-
-// The walk over what follows the first `dir` bytes. The last of these is a slash, so neither a root
-// nor a leading `.` counts in what follows.
-#[inline]
-pub(crate) fn walk_behind<'a>(path: &'a [u8], dir: usize) -> Components<'a>
-    requires { dir ≤ length path.now }
-    ensures values { cursor_values result ≡ inner_values (drop dir path.now) }
-    ensures rest { 0 < dir → slice_index path.now (dir - 1) ≡ slash
-        → cursor_rest result ≡ rest path.now (length (values (take dir path.now))) 0 }
-    ensures place { LiesIn (cursor_source result) path.entry }
-{
-    let bytes = &path[dir..];
-    Components::new(&bytes[idle_len(bytes)..])
 }

@@ -1,5 +1,6 @@
 //! Whether the parts of one path begin or end those of another, and what follows them.
-ghost use Rattle.std.specs.Prelude.{◌≡◌, ◌↔◌, IsTrue, IsOk, IfOk, IsSome, IfSome, Some, codes};
+ghost use Rattle.std.specs.Prelude.{◌≡◌, ◌≤◌, ◌↔◌, length, take, IsTrue, IsOk, IfOk, IsSome};
+ghost use Rattle.std.specs.Prelude.{IfSome, Some, None, codes};
 ghost use Rattle.std.specs.Fmt.{padded};
 ghost use Rattle.unix_path.specs.Cursor.{cursor_rest, cursor_source, cursor_values};
 ghost use Rattle.unix_path.specs.Prefixes.{Begins, Ends, stripped_of};
@@ -9,9 +10,11 @@ ghost use Rattle.unix_path.specs.Places.{LiesIn};
 
 use crate::compare::is_same_part;
 use crate::cursor::Components;
-use crate::path::{Path, walk_behind};
+use crate::path::Path;
+use crate::shared::{order_in_names, past_idle, past_shared};
 use std::error::Error;
 use std::fmt;
+use unix_bytes::search::common_len;
 
 /// The refusal of `Path::strip_prefix`: the parts of the base don't begin those of the path.
 ///
@@ -35,28 +38,47 @@ impl fmt::Display for StripPrefixError {
 
 impl Error for StripPrefixError {}
 
-// The walks over the path and over the base, each from the place on that `common_dir` gives.
+// The walks over what is left of the path and of the base, without parts that both begin with, or
+// `None` where it is known that the parts of `base` don't begin the path's: mostly the first bytes
+// that differ, at `common`, are in two names, and tell this alone.
 #[inline]
-fn past_common<'a, 'b>(path: &'a [u8], base: &'b [u8]) -> (Components<'a>, Components<'b>)
-    ensures strips { StripsOn path.now base.now (cursor_rest result.0) (cursor_values result.1) }
-    ensures place { LiesIn (cursor_source result.0) path.entry }
+fn past_common<'a, 'b>(
+    path: &'a [u8],
+    base: &'b [u8],
+    common: usize,
+) -> Option<(Components<'a>, Components<'b>)>
+    requires in_first { common ≤ length path.now }
+    requires in_second { common ≤ length base.now }
+    requires same { take common path.now ≡ take common base.now }
+    ensures none { result ≡ None → Begins (values base.now) (values path.now) → ⊥ }
+    ensures strips { IfSome result (λ left.
+        StripsOn path.now base.now (cursor_rest left.0) (cursor_values left.1)) }
+    ensures place { IfSome result (λ left. LiesIn (cursor_source left.0) path.entry) }
 {
-    let dir = Path::from_bytes(path).common_dir(Path::from_bytes(base));
-    if dir == 0 {
-        (Components::new(path), Components::new(base))
-    } else {
-        (walk_behind(path, dir), walk_behind(base, dir))
+    if order_in_names(path, base, common).is_some() {
+        return None;
     }
+    let left = past_shared(path, base, common);
+    if order_in_names(left.first, left.second, left.common).is_some() {
+        return None;
+    }
+    Some((Components::new(left.first), Components::new(left.second)))
 }
 
 // The walk over what follows `base`, or `None` where the parts of `base` don't begin the path's.
+//
+// Where all bytes of `base` begin the path, and a slash follows them there, all its parts do.
 #[inline]
 fn after_prefix<'a>(path: &'a [u8], base: &[u8]) -> Option<Components<'a>>
     ensures ok { IsSome result ↔ Begins (values base.now) (values path.now) }
     ensures value { IfSome result (λ left. cursor_rest left ≡ stripped_of path.now base.now) }
     ensures place { IfSome result (λ left. LiesIn (cursor_source left) path.entry) }
 {
-    let (mut left, base_parts) = past_common(path, base);
+    let common = common_len(path, base);
+    if common > 0 && common == base.len() && common < path.len() && path[common] == b'/' {
+        return Some(Components::new(past_idle(&path[common + 1..])));
+    }
+    let (mut left, base_parts) = past_common(path, base, common)?;
     for part in base_parts {
         let Some(own) = left.next() else {
             return None;

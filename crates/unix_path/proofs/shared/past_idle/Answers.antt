@@ -3,7 +3,7 @@ use Rattle.std.proofs.lemmas.List.{take_rest}
 use Rattle.unix_path.specs.Parts.{values}
 use Rattle.unix_path.proofs.CommonPrefixLemmas.{values-idle}
 use Rattle.unix_path.proofs.IdleLemmas.{is_idle-drop}
-use Rattle.unix_path.proofs.compare.past_idle.Goals as goal
+use Rattle.unix_path.proofs.shared.past_idle.Goals as goal
 
 pub returns-clause-values : goal.returns-clause-values
 returns-clause-values c =

@@ -1,0 +1,40 @@
+use Rattle.std.proofs.Common.{ℕ, ◌-◌, ◌<◌, ◌≤◌, List, take, sym, ap, subst, ◌∙◌}
+use Rattle.std.proofs.Common.{arith, rules, length-take-le}
+use Rattle.std.proofs.lemmas.List.{get_or-take, take-take, take_rest}
+use Rattle.unix_path.specs.CommonDir.{inner_values}
+use Rattle.unix_path.specs.Steps.{PastIdle}
+use Rattle.unix_path.proofs.CommonDirLemmas.{take-common}
+use Rattle.unix_path.proofs.SharedLemmas.{shares-slash}
+use Rattle.unix_path.proofs.SourceLemmas.{LiesIn-trans}
+use Rattle.unix_path.proofs.shared.past_shared.Goals as goal
+
+pub loop-left-preserved : goal.loop-left-preserved
+loop-left-preserved c =
+    let x : List ℕ = c.loop-left.left.first.now in
+    let y : List ℕ = c.loop-left.left.second.now in
+    let old = c.loop-left.invariant in
+    let m : ℕ = c.loop-left.left.common in
+    let dir = c.past_last-dir in
+    let n : ℕ = dir.result in
+    let some : 0 < n = omega (arith, c.if-dir-eq0.false) in
+    let inside : n ≤ m =
+    omega (arith, dir.ensures.in_range, length-take-le m x old.in_first) in
+    let first = c.past_idle-first.ensures in
+    let second = c.past_idle-second.ensures in
+    let t : List ℕ = c.past_idle-first.result.now in
+    let u : List ℕ = c.past_idle-second.result.now in
+    let common = c.common_len in
+    record {
+      shares = shares-slash old.shares n some (omega (arith, old.in_first))
+          (omega (arith, old.in_second))
+          (sym (take-take n m x inside) ∙ ap (take n) old.same ∙ take-take n m y inside)
+          (sym (get_or-take m x (n - 1) 0 (omega arith)) ∙ dir.ensures.after some)
+          (subst (λ s. PastIdle s t) (take_rest x n) first.behind) first.lead
+          (first.values ∙ ap inner_values (take_rest x n))
+          (second.values ∙ ap inner_values (take_rest y n));
+      place = LiesIn-trans _ _ _ first.place
+          (LiesIn-trans _ _ _ (search rules) old.place);
+      in_first = common.ensures.in_first;
+      in_second = common.ensures.in_second;
+      same = take-common t u common.result (omega (arith, common.ensures.value));
+    }
