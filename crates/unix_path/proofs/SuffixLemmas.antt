@@ -30,7 +30,7 @@ ends_more x v w h =
     (h.0, sym (append_assoc h.0 v (x ∷ [])) ∙ ap (λ z. z ++ x ∷ []) h.1)
 
 -- where a list ends another one, so do the lists without their last elements, which are the same
-ends_before : (x y : Value) (v w : List Value) → Ends (v ++ x ∷ []) (w ++ y ∷ [])
+pub ends_before : (x y : Value) (v w : List Value) → Ends (v ++ x ∷ []) (w ++ y ∷ [])
     → (x ≡ y) × Ends v w
 ends_before x y v w h =
     let same = same_from_push (h.0 ++ v) w x y (append_assoc h.0 v (x ∷ []) ∙ h.1) in

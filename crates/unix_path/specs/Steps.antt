@@ -93,6 +93,10 @@ pub record StripsOn (s base u : List ℕ) (left : List Value) : Type 0 where
 abbrev pub piece_rank : List ℕ → ℕ → ℕ
 piece_rank s i = let b = slice_index_or s i slash in if b == slash then 0 else 1 + b
 
+-- the rank of the byte before the last k bytes, or 0 where they are all
+abbrev pub rank_before : List ℕ → ℕ → ℕ
+rank_before s k = if nat_lt k (length s) then piece_rank s (length s - 1 - k) else 0
+
 -- t is what follows some first bytes of s that don't count
 pub record PastIdle (s t : List ℕ) : Type 0 where
   pub len : ℕ

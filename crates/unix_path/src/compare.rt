@@ -7,6 +7,7 @@ ghost use Rattle.unix_path.specs.Steps.{is_idle};
 ghost use Rattle.unix_path.specs.Views.{value_of};
 
 use crate::cursor::{Component, Components, has_lead, long_first_step};
+use crate::endings::end_in_other_names;
 use crate::shared::{order_in_names, past_shared};
 use std::cmp::Ordering;
 use unix_bytes::search::common_len;
@@ -105,13 +106,17 @@ fn has_same_bytes(a: &[u8], b: &[u8]) -> bool
     common_len(a, b) == len
 }
 
-// Whether two paths have the same values. Where they haven't, their last parts mostly differ, and
-// the last parts are found without a look at what stands before them.
+// Whether two paths have the same values. Where they haven't, their last parts mostly differ, which
+// their last bytes mostly tell; else the last parts are found without a look at what stands before
+// them.
 pub(crate) fn is_same(a: &[u8], b: &[u8]) -> bool
     ensures { result ≡ is_eq (values_cmp (values a.now) (values b.now)) }
 {
     if has_same_bytes(a, b) {
         return true;
+    }
+    if end_in_other_names(a, b) {
+        return false;
     }
     may_be_same(a, b) && compare(a, b).is_eq()
 }

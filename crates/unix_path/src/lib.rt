@@ -5,6 +5,7 @@ pub mod buf;
 mod compare;
 pub mod cursor;
 pub mod display;
+mod endings;
 pub mod json;
 pub mod kept;
 mod names;

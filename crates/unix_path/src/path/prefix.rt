@@ -10,6 +10,7 @@ ghost use Rattle.unix_path.specs.Places.{LiesIn};
 
 use crate::compare::is_same_part;
 use crate::cursor::Components;
+use crate::endings::end_in_other_names;
 use crate::path::Path;
 use crate::shared::{order_in_names, past_idle, past_shared};
 use std::error::Error;
@@ -90,11 +91,14 @@ fn after_prefix<'a>(path: &'a [u8], base: &[u8]) -> Option<Components<'a>>
     Some(left)
 }
 
-// Whether the parts of `child` end the path's.
+// Whether the parts of `child` end the path's. Mostly the last bytes of both tell that they don't.
 #[inline]
 fn ends_with_parts(path: &[u8], child: &[u8]) -> bool
     ensures { IsTrue result ↔ Ends (values child.now) (values path.now) }
 {
+    if end_in_other_names(path, child) {
+        return false;
+    }
     let mut left = Components::new(path);
     let mut child_parts = Components::new(child);
     while let Some(part) = child_parts.next_back() {

@@ -1,0 +1,68 @@
+//! Whether two paths end in names that differ, told by their last bytes.
+ghost use Rattle.std.specs.Prelude.{◌≡◌, ◌-◌, ◌<◌, ◌≤◌, ◌==◌, ℕ, false, length, slice_index, IsTrue};
+ghost use Rattle.unix_path.specs.Parts.{slash, dot, values};
+ghost use Rattle.unix_path.specs.Prefixes.{Ends};
+ghost use Rattle.unix_path.specs.Steps.{rank_before};
+
+use crate::shared::piece_rank;
+
+// Whether the last byte is neither a slash nor a dot, so that a name ends there.
+#[inline]
+fn ends_in_name(bytes: &[u8]) -> bool
+    ensures some { IsTrue result → 0 < length bytes.now }
+    ensures no_slash { IsTrue result
+        → (slice_index bytes.now (length bytes.now - 1) == slash) ≡ false }
+    ensures no_dot { IsTrue result
+        → (slice_index bytes.now (length bytes.now - 1) == dot) ≡ false }
+{
+    let len = bytes.len();
+    len > 0 && bytes[len - 1] != b'/' && bytes[len - 1] != b'.'
+}
+
+// How many of the last bytes are the same in both and no slashes: up to 16, since names mostly
+// differ before that.
+#[inline]
+fn common_end_len(a: &[u8], b: &[u8]) -> usize
+    ensures in_first { result ≤ length a.now }
+    ensures in_second { result ≤ length b.now }
+    ensures same { (k : ℕ) → k < result → slice_index a.now (length a.now - 1 - k)
+        ≡ slice_index b.now (length b.now - 1 - k) }
+    ensures no_slash { (k : ℕ) → k < result
+        → (slice_index a.now (length a.now - 1 - k) == slash) ≡ false }
+{
+    let most = a.len().min(b.len()).min(16);
+    let mut len = 0;
+    while len < most
+        && a[a.len() - 1 - len] == b[b.len() - 1 - len]
+        && a[a.len() - 1 - len] != b'/'
+    {
+        len += 1;
+    }
+    len
+}
+
+// One more than the byte before the last `len` bytes, or 0 where a piece begins with these: behind a
+// slash, or where they are all.
+#[inline]
+fn rank_before(bytes: &[u8], len: usize) -> u16
+    ensures { result ≡ rank_before bytes.now len }
+{
+    if len < bytes.len() {
+        piece_rank(bytes, bytes.len() - 1 - len)
+    } else {
+        0
+    }
+}
+
+// True only where both paths end in names, and these differ: their last bytes do, or the last ones
+// that aren't the same. Mostly this tells two last parts apart, and neither has to be found.
+#[inline]
+pub(crate) fn end_in_other_names(a: &[u8], b: &[u8]) -> bool
+    ensures { IsTrue result → Ends (values b.now) (values a.now) → ⊥ }
+{
+    if !ends_in_name(a) || !ends_in_name(b) {
+        return false;
+    }
+    let len = common_end_len(a, b);
+    rank_before(a, len) != rank_before(b, len)
+}
