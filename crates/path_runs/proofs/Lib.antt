@@ -35,3 +35,4 @@ pub mod FitLemmas
 pub mod TableLemmas
 pub mod KeptLemmas
 pub mod StretchLemmas
+pub mod GapLaneLemmas

@@ -4,6 +4,8 @@ ghost use Rattle.unix_path.specs.Parts.{slash};
 ghost use Rattle.unix_path.specs.Steps.{is_idle};
 ghost use Rattle.path_runs.specs.Gaps.{is_gap, slashed_parts, FirstGap, IsPart};
 
+use std::simd::prelude::*;
+
 // Whether the byte at `at` is a slash, or a `.` that a slash or the end follows.
 #[inline]
 fn is_idle(bytes: &[u8], at: usize) -> bool
@@ -22,12 +24,56 @@ fn is_gap(bytes: &[u8], at: usize) -> bool
     bytes[at] == b'/' && (at + 1 == bytes.len() || is_idle(bytes, at + 1))
 }
 
-// Where the first gap begins, or the length where there is none.
+// How many of the 16 bytes from `at` on stand before the first gap that begins at one of them, or 16
+// where none does.
+#[inline]
+fn gapless_in_lanes(bytes: &[u8], at: usize) -> usize
+    requires { at + 18 ≤ length bytes.now }
+    ensures in_range { result ≤ 16 }
+    ensures none_before { (i : ℕ) → at ≤ i → i < at + result → is_gap bytes.now i ≡ false }
+{
+    let slash = u8x16::splat(b'/');
+    let here = u8x16::from_slice(&bytes[at..]);
+    let next = u8x16::from_slice(&bytes[at + 1..]);
+    let after = u8x16::from_slice(&bytes[at + 2..]);
+    let is_dot = next.simd_eq(u8x16::splat(b'.')) & after.simd_eq(slash);
+    let gaps = (here.simd_eq(slash) & (next.simd_eq(slash) | is_dot)).to_bitmask();
+    if gaps == 0 {
+        16
+    } else {
+        gaps.trailing_zeros() as usize
+    }
+}
+
+// How many bytes stand before the first gap, or a few less: the last two bytes are not looked at,
+// and none of fewer than 18.
+#[inline]
+fn gapless_len(bytes: &[u8]) -> usize
+    ensures in_range { result ≤ length bytes.now }
+    ensures none_before { (i : ℕ) → i < result → is_gap bytes.now i ≡ false }
+{
+    if bytes.len() < 18 {
+        return 0;
+    }
+    let last = bytes.len() - 18;
+    let mut at = 0;
+    while at < last {
+        let len = gapless_in_lanes(bytes, at);
+        if len < 16 {
+            return at + len;
+        }
+        at += 16;
+    }
+    last + gapless_in_lanes(bytes, last)
+}
+
+// Where the first gap begins, or the length where there is none. Nearly all bytes are looked at 16
+// at a time, and only where that search ended one by one.
 #[inline]
 pub(crate) fn first_gap(bytes: &[u8]) -> usize
     ensures { FirstGap bytes.now result }
 {
-    let mut at = 0;
+    let mut at = gapless_len(bytes);
     while at < bytes.len() && !is_gap(bytes, at) {
         at += 1;
     }
