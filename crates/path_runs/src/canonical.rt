@@ -42,6 +42,7 @@ pub fn canonical(alloc: Global, path: Path<'_>) -> Result<PathBuf, AllocError>
     let whole = path.components().as_path();
     let bytes = whole.as_unix_str().as_bytes();
     let gap = first_gap(bytes);
+    // Without a gap it is its own spelling, and so is a single byte, as the root.
     if bytes.len() < 2 || gap == bytes.len() {
         return whole.to_path_buf(alloc);
     }
