@@ -33,3 +33,6 @@ pub mod AncestorPrefixLemmas
 pub mod AlikeLemmas
 pub mod FitLemmas
 pub mod TableLemmas
+pub mod KeptLemmas
+pub mod StretchLemmas
+pub mod GapLaneLemmas

@@ -1,7 +1,6 @@
 -- A path whose pieces all count is its own spelling.
-use Rattle.std.proofs.Common.{◌≡◌, ℕ, Bool, true, false, cond, ◌==◌, List, [], ◌∷◌, length}
-use Rattle.std.proofs.Common.{drop, filter, length-drop, sym, refl, ap, subst, take, ◌∙◌, ne_eqb}
-use Rattle.std.proofs.Common.{arith}
+use Rattle.std.proofs.Common.{◌≡◌, ℕ, Bool, true, false, cond, List, [], ◌∷◌, length}
+use Rattle.std.proofs.Common.{drop, filter, length-drop, sym, refl, ap, subst, take, ◌∙◌}
 use Rattle.std.specs.Cmp.{first_so, second_so}
 use Rattle.std.specs.List.{list_all, slice_split, join_with_byte}
 use Rattle.std.specs.Prelude.{slice_range}
@@ -13,11 +12,6 @@ use Rattle.path_runs.specs.Spelling.{spelling_of}
 use Rattle.path_runs.proofs.LeanLemmas.{join_with_byte-pieces}
 use Rattle.path_runs.proofs.PieceValueLemmas.{AllCount, is_rooted-slash}
 use Rattle.path_runs.proofs.SpellLemmas.{lean_pieces, spelling_of-rooted, spelling_of-rootless}
-
--- a piece has no byte exactly if it is the empty one
-pub no_byte : (p : List ℕ) → (length p == 0) ≡ bytes_eq p []
-no_byte [] = refl
-no_byte (x ∷ p) = ne_eqb (length (x ∷ p)) 0 (λ e. omega (arith, e))
 
 -- the bytes from place 1 on are those behind the first
 pub slice_range-behind_first : (s t : List ℕ) → s ≡ t → slice_range s 1 (length s) ≡ drop 1 t

@@ -30,13 +30,13 @@ unfolding spelling_of
 spelling_of-dot vs = refl
 
 -- values of which the first isn't the root are spelled with slashes between
-spelling_of-cons : (v : Value) (vs : List Value) → (v ≡ RootDir → ⊥)
+pub spelling_of-cons : (v : Value) (vs : List Value) → (v ≡ RootDir → ⊥)
     → spelling_of (v ∷ vs) ≡ slashed_bytes (v ∷ vs)
 unfolding spelling_of
 spelling_of-cons RootDir vs h = absurd (h refl)
 spelling_of-cons v vs h = refl
 
-spelling_of-nil : spelling_of [] ≡ []
+pub spelling_of-nil : spelling_of [] ≡ []
 unfolding spelling_of
 spelling_of-nil = refl
 

@@ -11,3 +11,4 @@ pub mod QueryLaws
 pub mod AlikeLaws
 pub mod TableLaws
 pub mod HashLaws
+pub mod Gaps

@@ -1,45 +1,31 @@
 //! The shortest path with the same values.
-ghost use Rattle.std.specs.Prelude.{◌≡◌, IfOk, IsTrue};
-ghost use Rattle.std.specs.List.{list_all, slice_split};
+ghost use Rattle.std.specs.Prelude.{◌≡◌, ◌<◌, ◌≤◌, ◌++◌, true, length, drop, IfOk, OnOk};
+ghost use Rattle.unix_bytes.specs.Owned.{owned_bytes};
 ghost use Rattle.unix_path.specs.Buffers.{path_bytes};
-ghost use Rattle.unix_path.specs.Parts.{counts, is_slash, values};
+ghost use Rattle.unix_path.specs.Parts.{values};
+ghost use Rattle.path_runs.specs.Gaps.{is_gap, slashed_parts};
 ghost use Rattle.path_runs.specs.Spelling.{spelling_of};
 
+use crate::gaps::{first_gap, past_gap};
 use std::alloc::{AllocError, Global};
+use unix_bytes::bytes::{UnixStr, UnixString};
 use unix_path::{Path, PathBuf};
 
-// Whether the piece is neither empty nor `.`.
-#[inline]
-#[tactic(auto, using(crate::proofs::OwnSpellingLemmas::no_byte))]
-fn counts(piece: &[u8]) -> bool
-    ensures { result ≡ counts piece.now }
+// Appends the parts behind the gap at `gap`, each behind a slash. The parts up to the next gap
+// already stand so in the path, and the slash before them too: they are copied as one.
+fn push_parts(text: &mut UnixString, bytes: &[u8], gap: usize) -> Result<(), AllocError>
+    requires in_range { gap ≤ length bytes.now }
+    requires gap { gap < length bytes.now → is_gap bytes.now gap ≡ true }
+    ensures { OnOk result
+        (owned_bytes text.new ≡ owned_bytes text.old ++ slashed_parts (drop gap bytes.now)) }
 {
-    if piece.is_empty() {
-        return false;
+    let mut start = past_gap(bytes, gap);
+    while start < bytes.len() {
+        let end = start + first_gap(&bytes[start..]);
+        text.push(UnixStr::from_bytes(&bytes[start - 1..end]))?;
+        start = past_gap(bytes, end);
     }
-    piece != b".".as_slice()
-}
-
-// Whether all pieces count.
-#[inline]
-fn all_count(bytes: &[u8]) -> bool
-    ensures { result ≡ list_all counts (slice_split is_slash bytes.now) }
-{
-    bytes.split(|byte| *byte == b'/').all(counts)
-}
-
-// True only for a path that is its own canonical spelling. Of such paths it is false for the empty
-// one, for `/`, and where a `.` is first.
-#[inline]
-fn is_spelled(path: Path<'_>) -> bool
-    ensures { IsTrue result → spelling_of (values path.entry.bytes.now) ≡ path.entry.bytes.now }
-{
-    let bytes = path.as_unix_str().as_bytes();
-    if path.has_root() {
-        all_count(&bytes[1..])
-    } else {
-        all_count(bytes)
-    }
+    Ok(())
 }
 
 /// The canonical spelling of a path: its parts, each joined to those before it.
@@ -53,12 +39,15 @@ fn is_spelled(path: Path<'_>) -> bool
 pub fn canonical(alloc: Global, path: Path<'_>) -> Result<PathBuf, AllocError>
     ensures { IfOk result (λ p. path_bytes p ≡ spelling_of (values path.entry.bytes.now)) }
 {
-    let parts = path.components();
-    let whole = parts.as_path();
-    if is_spelled(whole) {
+    let whole = path.components().as_path();
+    let bytes = whole.as_unix_str().as_bytes();
+    let gap = first_gap(bytes);
+    // Without a gap it is its own spelling, and so is a single byte, as the root.
+    if bytes.len() < 2 || gap == bytes.len() {
         return whole.to_path_buf(alloc);
     }
-    let mut spelling = PathBuf::with_capacity(alloc, whole.as_unix_str().len())?;
-    spelling.extend(parts.map(|part| part.as_path()))?;
-    Ok(spelling)
+    let mut spelling = UnixString::with_capacity(alloc, bytes.len())?;
+    spelling.push(UnixStr::from_bytes(&bytes[..gap]))?;
+    push_parts(&mut spelling, bytes, gap)?;
+    Ok(PathBuf::from(spelling))
 }

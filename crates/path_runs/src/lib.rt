@@ -3,6 +3,7 @@
 
 pub mod canonical;
 pub mod edits;
+mod gaps;
 pub mod laws;
 pub mod walk;
 

@@ -1,32 +1,42 @@
-use Rattle.std.proofs.Common.{◌≡◌, ◌∙◌, List, ℕ, Option, ap, ap₂, map, rules, tests}
-use Rattle.std.specs.Iterator.{Drains}
-use Rattle.std.proofs.iter.Yields.{gives_Drains}
-use Rattle.std.proofs.lemmas.Iterator.{YieldsList, YieldsList-from_map_by}
-use Rattle.std.proofs.lemmas.Iterator.Consumers.{YieldsList-at}
-use Rattle.unix_path.specs.Cursor.{cursor_values}
-use Rattle.unix_path.specs.Joins.{join_all_of}
-use Rattle.unix_path.specs.Parts.{value_bytes}
-use Rattle.unix_path.specs.declared.path.Path.{Path}
-use Rattle.unix_path.proofs.CursorLemmas.{Components-yields}
-use Rattle.path_runs.proofs.JoinAllLemmas.{join_all_of-values}
+use Rattle.std.proofs.Common.{◌≡◌, sym, ap, subst, ◌∙◌}
+use Rattle.std.specs.Prelude.{IfOk}
+use Rattle.unix_path.specs.Buffers.{path_bytes}
+use Rattle.unix_path.specs.Parts.{values}
+use Rattle.unix_path.specs.Rest.{rest}
+use Rattle.path_runs.specs.Spelling.{spelling_of}
+use Rattle.path_runs.proofs.StretchLemmas.{rest-ends, spelling_of-stretch, spelling_of-whole}
 use Rattle.path_runs.proofs.canonical.canonical.Goals as goal
 
-map-Drains : {S A B : Type 0} {steps : S → Option A → S → Type 0} (v : A → B) (xs : List A)
-    (ys : List B) {s : S} → Drains steps s xs → YieldsList steps v s ys → map v xs ≡ ys
-map-Drains {S} {A} {B} {steps} v xs ys {s} drains yields =
-    gives_Drains steps v xs ys s yields.runs drains
+pub returns-then-bytes-lt2 : goal.returns-then-bytes-lt2
+returns-then-bytes-lt2 c =
+    let s = c.args.path.bytes.now in
+    let bytes = c.as_bytes-bytes.result.now in
+    let whole = c.as_path-whole.result.bytes.now in
+    let is : bytes ≡ whole = c.as_bytes-bytes.ensures ∙ c.as_unix_str.ensures in
+    let rest_is : whole ≡ rest s 0 0 = c.as_path-whole.ensures.bytes ∙ c.components.ensures.rest in
+    let same : values bytes ≡ values s =
+    ap values (is ∙ c.as_path-whole.ensures.bytes) ∙ c.components.ensures.values in
+    let own = spelling_of-whole bytes c.first_gap-gap.result (rest-ends s bytes (is ∙ rest_is))
+    c.first_gap-gap.ensures c.then-bytes-lt2.either in
+    subst (λ t. IfOk c.to_path_buf.result (λ p. path_bytes p ≡ t))
+    (sym is ∙ sym own ∙ ap spelling_of same) c.to_path_buf.ensures
 
 pub returns : goal.returns
 returns c =
-    let bytes_of : Path → List ℕ = λ path. path.bytes.now in
-    let joins = c.in_ok-extend.ensures.ok in
-    let values_left = cursor_values c.components-parts.result in
-    joins.bytes
-    ∙ ap₂ join_all_of c.in_ok-spelling.ensures.bytes
-    (map-Drains bytes_of joins.paths (map value_bytes values_left) joins.all_items
-    (YieldsList-from_map_by _ bytes_of value_bytes
-    (YieldsList-at c.map.ensures.source (Components-yields c.components-parts.result))
-    c.map.ensures.closure
-    (λ x r q k. search (rules, tests)))
-    ∙ ap (map value_bytes) c.components-parts.ensures.values)
-    ∙ join_all_of-values c.args.path.bytes.now
+    let s = c.args.path.bytes.now in
+    let bytes = c.as_bytes-bytes.result.now in
+    let whole = c.as_path-whole.result.bytes.now in
+    let is : bytes ≡ whole = c.as_bytes-bytes.ensures ∙ c.as_unix_str.ensures in
+    let rest_is : whole ≡ rest s 0 0 = c.as_path-whole.ensures.bytes ∙ c.components.ensures.rest in
+    let same : values bytes ≡ values s =
+    ap values (is ∙ c.as_path-whole.ensures.bytes) ∙ c.components.ensures.values in
+    let stretch = spelling_of-stretch bytes c.first_gap-gap.result c.if-bytes-lt2.false
+    (rest-ends s bytes (is ∙ rest_is)) c.first_gap-gap.ensures in
+    c.from.ensures
+    ∙ rw (
+      c.in_ok-push_parts.ensures,
+      c.in_ok-push.ensures.ok,
+      c.in_ok-spelling.ensures.bytes,
+      c.from_bytes.ensures,
+    )
+    (sym stretch ∙ ap spelling_of same)

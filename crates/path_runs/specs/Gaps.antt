@@ -1,0 +1,30 @@
+-- Words of the gaps between the parts of a path. No public clause cites them.
+use Rattle.std.specs.Prelude.{◌≡◌, ◌<◌, ◌≤◌, ℕ, ◌+◌, ◌-◌, ◌==◌, Bool, true, false, ◌||◌, ◌&&◌}
+use Rattle.std.specs.Prelude.{List, ◌∷◌, length, slice_index, slice_index_or}
+use Rattle.std.specs.List.{flat_map}
+use Rattle.unix_path.specs.Parts.{slash, dot, value_bytes}
+use Rattle.unix_path.specs.CommonDir.{inner_values}
+use Rattle.unix_path.specs.Steps.{is_idle}
+
+-- the byte at i is a slash, and the piece behind it is empty or `.`
+abbrev pub is_gap : List ℕ → ℕ → Bool
+is_gap s i =
+    let next = slice_index_or s (i + 1) slash in
+    slice_index s i == slash
+    && (next == slash || (next == dot && slice_index_or s (i + 2) slash == slash))
+
+-- the first gap of s begins at `at`, or s has none and is `at` bytes long
+pub record FirstGap (s : List ℕ) (at : ℕ) : Type 0 where
+  pub in_range : at ≤ length s
+  pub gap : at < length s → is_gap s at ≡ true
+  pub none_before : (i : ℕ) → i < at → is_gap s i ≡ false
+
+-- a part stands at `at`, behind a slash
+pub record IsPart (s : List ℕ) (at : ℕ) : Type 0 where
+  pub behind : 0 < at
+  pub after_slash : slice_index s (at - 1) ≡ slash
+  pub begins : is_idle s at ≡ false
+
+-- the bytes of the pieces of s that count, each behind a slash
+unfoldable pub slashed_parts : List ℕ → List ℕ
+slashed_parts s = flat_map (λ v. slash ∷ value_bytes v) (inner_values s)
