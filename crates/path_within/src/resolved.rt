@@ -2,12 +2,13 @@
 ghost use Rattle.std.specs.Prelude.{◌≡◌, true, IsTrue, List, IfOk, OnOk};
 ghost use Rattle.unix_path.specs.Buffers.{path_bytes};
 ghost use Rattle.unix_path.specs.Cursor.{cursor_values};
-ghost use Rattle.unix_path.specs.Parts.{Value};
+ghost use Rattle.unix_path.specs.Parts.{Value, values};
 ghost use Rattle.unix_path.specs.Views.{value_of};
 ghost use Rattle.path_within.specs.Resolved.{keep, kept_of, up_from, resolved_bytes_of};
 ghost use Rattle.path_within.specs.Steps.{IsOne, Spells};
-ghost use Rattle.path_within.specs.PlainPieces.{has_plain_pieces};
+ghost use Rattle.path_within.specs.PlainPieces.{is_plain};
 
+use crate::plain::is_plain;
 use std::alloc::{AllocError, Global};
 use unix_path::{Component, Components, Path, PathBuf};
 
@@ -50,35 +51,21 @@ pub(crate) fn keep_all(kept: &mut PathBuf, parts: Components<'_>) -> Result<(), 
     Ok(())
 }
 
-// Whether no piece is empty or begins with a dot. No branch depends on a byte, so the time depends
-// on the length alone.
-#[inline]
-fn has_plain_pieces(bytes: &[u8]) -> bool
-    ensures { result ≡ has_plain_pieces true bytes.now }
+// Keeps the path's parts behind what is kept: where it is known to be plain, by one copy of all its
+// bytes, since its parts are names that are all kept, behind its root if it has one.
+pub(crate) fn keep_path(
+    kept: &mut PathBuf,
+    path: Path<'_>,
+    known_plain: bool,
+) -> Result<(), AllocError>
+    requires { IsTrue known_plain → is_plain path.bytes.now ≡ true }
+    ensures ok { OnOk result ((ks : List Value) → Spells (path_bytes kept.old) ks
+        → Spells (path_bytes kept.new) (kept_of ks (values path.entry.bytes.now))) }
 {
-    let mut begins = true;
-    let mut is_plain = true;
-    for byte in bytes {
-        let is_slash = *byte == b'/';
-        is_plain &= !(begins & (is_slash | (*byte == b'.')));
-        begins = is_slash;
+    if known_plain {
+        return kept.push(path);
     }
-    is_plain & !begins
-}
-
-// True only for a path that is resolved as it stands. Of such paths it is false for the empty one,
-// for `/`, and where a piece begins with a dot.
-#[inline]
-fn is_resolved(path: Path<'_>) -> bool
-    ensures { IsTrue result
-        → resolved_bytes_of path.entry.bytes.now ≡ path.entry.bytes.now }
-{
-    let bytes = path.as_unix_str().as_bytes();
-    if path.has_root() {
-        has_plain_pieces(&bytes[1..])
-    } else {
-        has_plain_pieces(bytes)
-    }
+    keep_all(kept, path.components())
 }
 
 /// The path with each `..` taken against the name before it, and spelled canonically: `.` goes, and
@@ -93,7 +80,7 @@ fn is_resolved(path: Path<'_>) -> bool
 pub fn resolved(alloc: Global, path: Path<'_>) -> Result<PathBuf, AllocError>
     ensures { IfOk result (λ p. path_bytes p ≡ resolved_bytes_of path.entry.bytes.now) }
 {
-    if is_resolved(path) {
+    if is_plain(path) {
         return path.to_path_buf(alloc);
     }
     let mut kept = PathBuf::with_capacity(alloc, path.as_unix_str().len())?;
