@@ -141,11 +141,14 @@ fn is_root_or_up(part: Component<'_>) -> bool
     matches!(part, Component::RootDir | Component::ParentDir)
 }
 
-// Whether the root or a `..` is among the parts.
+// Whether the root or a `..` is among the parts. A plain path has names alone behind its root.
 #[inline]
 fn has_root_or_up(path: Path<'_>) -> bool
     ensures { result ≡ has_root_or_up (values path.entry.bytes.now) }
 {
+    if is_plain(path) {
+        return path.has_root();
+    }
     path.components().any(is_root_or_up)
 }
 
