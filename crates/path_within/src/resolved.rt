@@ -51,8 +51,8 @@ pub(crate) fn keep_all(kept: &mut PathBuf, parts: Components<'_>) -> Result<(), 
     Ok(())
 }
 
-// Keeps the path's parts behind what is kept: where it is known to be plain, by one copy of all its
-// bytes, since its parts are names that are all kept, behind its root if it has one.
+// Keeps the path's parts behind what is kept. Those of a plain path, and of one with slashes behind
+// it, are names that are all kept, behind its root if it has one: one copy of its bytes adds them.
 pub(crate) fn keep_path(
     kept: &mut PathBuf,
     path: Path<'_>,
@@ -65,7 +65,13 @@ pub(crate) fn keep_path(
     if known_plain {
         return kept.push(path);
     }
-    keep_all(kept, path.components())
+    let parts = path.components();
+    let whole = parts.as_path();
+    let is_cut = whole.as_unix_str().len() < path.as_unix_str().len();
+    if is_cut && is_plain(whole) {
+        return kept.push(whole);
+    }
+    keep_all(kept, parts)
 }
 
 /// The path with each `..` taken against the name before it, and spelled canonically: `.` goes, and
@@ -84,6 +90,6 @@ pub fn resolved(alloc: Global, path: Path<'_>) -> Result<PathBuf, AllocError>
         return path.to_path_buf(alloc);
     }
     let mut kept = PathBuf::with_capacity(alloc, path.as_unix_str().len())?;
-    keep_all(&mut kept, path.components())?;
+    keep_path(&mut kept, path, false)?;
     Ok(kept)
 }

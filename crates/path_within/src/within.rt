@@ -126,9 +126,15 @@ pub fn join_within(alloc: Global, root: Path<'_>, request: Path<'_>) -> Result<P
     if climbs_unless(is_plain_request, request) {
         return Err(WithinError::Escapes);
     }
+    let is_plain_root = is_plain(root);
+    if is_plain_root && is_plain_request {
+        // The join is resolved as it stands, and has one byte more than both, since a plain root
+        // doesn't end in a slash.
+        return Ok(root.join(alloc, request)?);
+    }
     let len = root.as_unix_str().len() + 1 + request.as_unix_str().len();
     let mut kept = PathBuf::with_capacity(alloc, len)?;
-    keep_path(&mut kept, root, is_plain(root))?;
+    keep_path(&mut kept, root, is_plain_root)?;
     keep_path(&mut kept, request, is_plain_request)?;
     Ok(kept)
 }
