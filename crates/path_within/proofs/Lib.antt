@@ -17,3 +17,4 @@ pub mod WaySpellingLemmas
 pub mod PlainStartLemmas
 pub mod PlainBlockLemmas
 pub mod WholeLemmas
+pub mod UpEndLemmas

@@ -2,7 +2,9 @@
 ghost use Rattle.std.specs.Prelude.{◌≡◌, true, IsTrue, List, IfOk, OnOk};
 ghost use Rattle.unix_path.specs.Buffers.{path_bytes};
 ghost use Rattle.unix_path.specs.Cursor.{cursor_values};
-ghost use Rattle.unix_path.specs.Parts.{Value, values};
+ghost use Rattle.unix_path.specs.Joins.{join_of};
+ghost use Rattle.unix_path.specs.Parts.{Value, parent_dir, values};
+ghost use Rattle.unix_path.specs.Steps.{ends_with_parent};
 ghost use Rattle.unix_path.specs.Views.{value_of};
 ghost use Rattle.path_within.specs.Resolved.{keep, kept_of, up_from, resolved_bytes_of};
 ghost use Rattle.path_within.specs.Steps.{IsOne, Spells};
@@ -12,19 +14,43 @@ use crate::plain::is_plain;
 use std::alloc::{AllocError, Global};
 use unix_path::{Component, Components, Path, PathBuf};
 
-// Takes `..` against what is kept: a name goes, the root stays, and any other end gets `..`.
+// Whether the path's last piece is `..`.
+#[inline]
+fn ends_with_parent(path: Path<'_>) -> bool
+    ensures { result ≡ ends_with_parent path.entry.bytes.now }
+{
+    let bytes = path.as_unix_str().as_bytes();
+    let len = bytes.len();
+    len > 1
+        && bytes[len - 1] == b'.'
+        && bytes[len - 2] == b'.'
+        && (len == 2 || bytes[len - 3] == b'/')
+}
+
+// Joins `..` to the end.
+#[inline]
+fn push_up(kept: &mut PathBuf) -> Result<(), AllocError>
+    ensures ok { OnOk result (path_bytes kept.new ≡ join_of (path_bytes kept.old) parent_dir) }
+{
+    kept.push(Component::ParentDir.as_path())
+}
+
+// Takes `..` against what is kept: a name goes, the root stays, and any other end gets `..`. No `.`
+// is kept, so what has a parent ends in a name unless it ends in `..`.
 pub(crate) fn keep_up(kept: &mut PathBuf) -> Result<(), AllocError>
     ensures ok { OnOk result ((ks : List Value)
         → Spells (path_bytes kept.old) ks → Spells (path_bytes kept.new) (up_from ks)) }
 {
-    if kept.as_path().file_name().is_some() {
-        kept.pop();
+    if ends_with_parent(kept.as_path()) {
+        return push_up(kept);
+    }
+    if kept.pop() {
         return Ok(());
     }
     if kept.as_path().has_root() {
         return Ok(());
     }
-    kept.push(Component::ParentDir.as_path())
+    push_up(kept)
 }
 
 // Keeps one more part behind what is kept.
