@@ -18,3 +18,4 @@ pub mod PlainStartLemmas
 pub mod PlainBlockLemmas
 pub mod WholeLemmas
 pub mod UpEndLemmas
+pub mod LeadTestLemmas
