@@ -19,3 +19,4 @@ pub mod PlainBlockLemmas
 pub mod WholeLemmas
 pub mod UpEndLemmas
 pub mod LeadTestLemmas
+pub mod PushLemmas

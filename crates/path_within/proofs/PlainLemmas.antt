@@ -99,12 +99,12 @@ own_plain : (s : List ℕ) → has_plain_pieces s ≡ true → is_rooted s ≡ f
     → spelling_of (values s) ≡ s
 own_plain s h r = spelling_of-own_rootless s s (plain_counts (slice_split is_slash s) h) r refl
 
--- a rootless path is plain exactly if its pieces are
+-- all pieces of a plain rootless path are plain
 is_plain-rootless : (s : List ℕ) → is_plain s ≡ true → is_rooted s ≡ false
     → has_plain_pieces s ≡ true
 is_plain-rootless s h r = sym (ap (λ c. has_plain_pieces (cond c (drop 1 s) s)) r) ∙ h
 
--- a rooted path is plain exactly if the pieces behind its root are
+-- all pieces behind the root of a plain rooted path are plain
 is_plain-rooted : (s : List ℕ) → is_plain s ≡ true → is_rooted s ≡ true
     → has_plain_pieces (drop 1 s) ≡ true
 is_plain-rooted s h r = sym (ap (λ c. has_plain_pieces (cond c (drop 1 s) s)) r) ∙ h

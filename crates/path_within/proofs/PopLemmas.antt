@@ -1,4 +1,4 @@
--- What is spelled, after one more part: a push, or a pop of the last name.
+-- What is spelled after one more `..`: a push of it, or a pop of the last name.
 use Rattle.std.proofs.Common.{◌≡◌, ℕ, Bool, true, false, List, [], ◌∷◌, length}
 use Rattle.std.proofs.Common.{reverse, refl, sym, ap, ◌∙◌, ⊎_elim, arith}
 use Rattle.std.proofs.Common.{Option, Some, None, is_some, unwrap_or}
@@ -9,7 +9,7 @@ use Rattle.unix_path.specs.Names.{name_of}
 use Rattle.unix_path.specs.Parents.{parent_of}
 use Rattle.unix_path.specs.Parts.{Value, RootDir, CurDir, ParentDir, Normal, is_rooted, slash}
 use Rattle.unix_path.specs.Parts.{parent_dir}
-use Rattle.unix_path.specs.Parts.{value_bytes, values}
+use Rattle.unix_path.specs.Parts.{values}
 use Rattle.unix_path.specs.Rest.{rest}
 use Rattle.unix_path.specs.Steps.{ends_with_parent}
 use Rattle.unix_path.proofs.JoinLemmas.{join_of_rooted}
@@ -19,7 +19,7 @@ use Rattle.unix_path.proofs.StemLemmas.{length-rest_whole-le}
 use Rattle.path_runs.specs.Spelling.{spelling_of}
 use Rattle.path_runs.proofs.LeanLemmas.{spelling_of-shortest}
 use Rattle.path_runs.proofs.SiblingLemmas.{parent_of-name, rest-join_of_one, values-join_of_one}
-use Rattle.path_within.specs.Resolved.{keep, up_from}
+use Rattle.path_within.specs.Resolved.{up_from}
 use Rattle.path_within.specs.Steps.{AllOne, AreUps, IsKept, IsOne, path_of, Spells}
 use Rattle.path_within.proofs.KeepLemmas.{ups_reverse}
 use Rattle.path_within.proofs.UpEndLemmas.{last_kept, not_up_last, up_last}
@@ -182,26 +182,3 @@ spells_up {s} {t} {ks} h nameless rootless e = by ks h.kept h.one h.is nameless
     by (ParentDir ∷ ks) kept one is last =
         record { kept = kept; one = (IsOne-up, one); is = path_of-up (ParentDir ∷ ks) is }
     by (Normal name ∷ ks) kept one is last = absurd (let no : true ≡ false = last in cc)
-
--- bytes that spell kept values, joined with a name, spell these and the name
-pub spells_name : {s t name : List ℕ} {ks : List Value} → Spells s ks → IsOne (Normal name)
-    → t ≡ join_of s name → Spells t (Normal name ∷ ks)
-spells_name {s} {t} {name} h one e =
-    record { kept = h.kept; one = (one, h.one); is = e ∙ ap (λ s. join_of s name) h.is }
-
--- bytes joined with the root spell the root alone
-pub spells_root_alone : (s t : List ℕ) → t ≡ join_of s (slash ∷ []) → Spells t (RootDir ∷ [])
-spells_root_alone s t e = record {
-  kept = refl;
-  one = (IsOne-root, tt);
-  is = e ∙ join_of_rooted s (slash ∷ []) refl ∙ sym (join_of_rooted [] (slash ∷ []) refl);
-}
-
--- bytes that spell kept values, joined with a root or a name, spell what is kept after that value
-pub spells_push : {s t : List ℕ} {ks : List Value} (v : Value) → (v ≡ CurDir → ⊥)
-    → (v ≡ ParentDir → ⊥) → Spells s ks → IsOne v → t ≡ join_of s (value_bytes v)
-    → Spells t (keep ks v)
-spells_push {s} {t} RootDir no_dot no_up h one e = spells_root_alone s t e
-spells_push {s} {t} CurDir no_dot no_up h one e = absurd (no_dot refl)
-spells_push {s} {t} ParentDir no_dot no_up h one e = absurd (no_up refl)
-spells_push {s} {t} (Normal name) no_dot no_up h one e = spells_name h one e

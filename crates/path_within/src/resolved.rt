@@ -77,8 +77,9 @@ pub(crate) fn keep_all(kept: &mut PathBuf, parts: Components<'_>) -> Result<(), 
     Ok(())
 }
 
-// Keeps the path's parts behind what is kept. Those of a plain path, and of one with slashes behind
-// it, are names that are all kept, behind its root if it has one: one copy of its bytes adds them.
+// Keeps the path's parts behind what is kept. Those of a plain path are names that are all kept,
+// behind its root if it has one, so one copy of its bytes adds them. So it is where only slashes, or
+// dots between slashes, stand behind a plain path.
 pub(crate) fn keep_path(
     kept: &mut PathBuf,
     path: Path<'_>,
