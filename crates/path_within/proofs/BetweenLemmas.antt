@@ -9,7 +9,7 @@ use Rattle.path_within.specs.Climbs.{is_name}
 use Rattle.path_within.specs.Way.{is_root, steps_between}
 
 -- the test for names answers true on names
-list_all-names : (vs : List Value) → AreNames vs → list_all is_name vs ≡ true
+pub list_all-names : (vs : List Value) → AreNames vs → list_all is_name vs ≡ true
 list_all-names [] h = refl
 list_all-names (Normal name ∷ vs) h = list_all-names vs h
 list_all-names (RootDir ∷ vs) h = absurd h
@@ -17,7 +17,7 @@ list_all-names (CurDir ∷ vs) h = absurd h
 list_all-names (ParentDir ∷ vs) h = absurd h
 
 -- the test for a root answers false where no value is the root
-list_any-roots : (vs : List Value) → NoRoot vs → list_any is_root vs ≡ false
+pub list_any-roots : (vs : List Value) → NoRoot vs → list_any is_root vs ≡ false
 list_any-roots [] h = refl
 list_any-roots (RootDir ∷ vs) h = absurd h
 list_any-roots (CurDir ∷ vs) h = list_any-roots vs h

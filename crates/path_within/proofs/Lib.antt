@@ -14,3 +14,9 @@ pub mod StepLemmas
 pub mod PlainLemmas
 pub mod SkipLemmas
 pub mod WaySpellingLemmas
+pub mod PlainStartLemmas
+pub mod PlainBlockLemmas
+pub mod WholeLemmas
+pub mod UpEndLemmas
+pub mod LeadTestLemmas
+pub mod PushLemmas

@@ -1,12 +1,12 @@
--- A path of plain names alone, or of the root and plain names, is resolved as it stands.
-use Rattle.std.proofs.Common.{◌≡◌, ℕ, Bool, true, false, ◌==◌, cond}
-use Rattle.std.proofs.Common.{List, [], ◌∷◌, ◌++◌, drop, reverse, refl, sym, ap, subst, ◌∙◌}
-use Rattle.std.specs.Prelude.{⊤}
-use Rattle.std.specs.List.{AllByRecursion, list_all, onto_first, slice_split}
+-- A plain path is resolved as it stands: names alone, or the root and then names.
+use Rattle.std.proofs.Common.{◌≡◌, ℕ, Bool, true, false, cond}
+use Rattle.std.proofs.Common.{List, [], ◌∷◌, ◌++◌, drop, reverse, refl, sym, ap, ◌∙◌}
+use Rattle.std.specs.Cmp.{first_so, second_so}
+use Rattle.std.specs.List.{list_all, slice_split}
+use Rattle.std.specs.Str.{bytes_eq}
 use Rattle.std.proofs.lemmas.Grind.{reverse_onto}
 use Rattle.std.proofs.lemmas.List.{append-nil, reverse-reverse}
-use Rattle.std.proofs.lemmas.List.Splits.{slice_split-cons_yes, slice_split-cons_no}
-use Rattle.unix_path.specs.Parts.{dot, is_slash, counts, is_rooted}
+use Rattle.unix_path.specs.Parts.{is_slash, cur_dir, parent_dir, counts, is_rooted}
 use Rattle.unix_path.specs.Parts.{Value, RootDir, CurDir, values}
 use Rattle.unix_path.proofs.CaseLemmas.{by_test}
 use Rattle.path_runs.specs.Spelling.{spelling_of}
@@ -15,80 +15,52 @@ use Rattle.path_runs.proofs.OwnSpellingLemmas.{spelling_of-own_rooted, spelling_
 use Rattle.path_runs.proofs.PieceValueLemmas.{is_rooted-slash, names_of}
 use Rattle.path_runs.proofs.PieceValueLemmas.{values-rooted, values-rootless}
 use Rattle.path_within.specs.Resolved.{AreNames, resolved_of, resolved_bytes_of}
-use Rattle.path_within.specs.PlainPieces.{has_plain_pieces}
+use Rattle.path_within.specs.PlainPieces.{is_plain_piece, has_plain_pieces, is_plain}
 use Rattle.path_within.proofs.WayLemmas.{kept_of-names}
 
--- the piece has a byte, and the first is no dot
-abbrev IsPlain : List ℕ → Type 0
-IsPlain [] = ⊥
-IsPlain (b ∷ p) = (b == dot) ≡ false
+-- a plain piece counts, and is neither `.` nor `..`
+record IsPlainPiece (p : List ℕ) : Type 0 where
+  pub counts_is : counts p ≡ true
+  pub no_dot : bytes_eq p cur_dir ≡ false
+  pub no_up : bytes_eq p parent_dir ≡ false
 
--- all these pieces are plain
-abbrev ArePlain : List (List ℕ) → Type 0
-ArePlain ps = AllByRecursion IsPlain ps
-
--- all these pieces are plain, or at false all but the first, which is the end of a piece
-abbrev ArePlainFrom : Bool → List (List ℕ) → Type 0
-ArePlainFrom true ps = ArePlain ps
-ArePlainFrom false [] = ⊤
-ArePlainFrom false (p ∷ ps) = ArePlain ps
-
--- a byte before the end of a piece leaves the pieces behind it plain
-onto_first-going_on : (b : ℕ) (ps : List (List ℕ)) → ArePlainFrom false ps
-    → ArePlainFrom false (onto_first b ps)
-onto_first-going_on b [] h = tt
-onto_first-going_on b (p ∷ ps) h = h
-
--- a byte before the end of a piece makes it plain if the byte is no dot
-onto_first-begins : (b : ℕ) (ps : List (List ℕ)) → (b == dot) ≡ false → ArePlainFrom false ps
-    → ArePlain (onto_first b ps)
-onto_first-begins b [] e h = (e, tt)
-onto_first-begins b (p ∷ ps) e h = (e, h)
-
--- where the test answers true, the pieces are plain
-plain_from : (c : Bool) (s : List ℕ) → has_plain_pieces c s ≡ true
-    → ArePlainFrom c (slice_split is_slash s)
-plain_from true [] h = absurd (let d : false ≡ true = h in cc)
-plain_from false [] h = tt
-plain_from c (b ∷ s) h =
-    by_test (is_slash b) (yes c h (plain_from true s)) (no c h (plain_from false s))
+plain_piece : (p : List ℕ) → is_plain_piece p ≡ true → IsPlainPiece p
+plain_piece p h = by (bytes_eq p []) (bytes_eq p cur_dir) (bytes_eq p parent_dir) refl refl refl
   where
-    yes : (c : Bool) → has_plain_pieces c (b ∷ s) ≡ true
-        → (has_plain_pieces true s ≡ true → ArePlain (slice_split is_slash s))
-        → is_slash b ≡ true → ArePlainFrom c (slice_split is_slash (b ∷ s))
-    yes true h begins e = absurd (let d : false ≡ true = sym (rw e refl) ∙ h in cc)
-    yes false h begins e = subst (ArePlainFrom false) (sym (slice_split-cons_yes is_slash b s e))
-        (begins (ap (λ d. has_plain_pieces d s) (sym e) ∙ h))
+    by : (a b c : Bool) → bytes_eq p [] ≡ a → bytes_eq p cur_dir ≡ b → bytes_eq p parent_dir ≡ c
+        → IsPlainPiece p
+    by false false false e f g =
+        record { counts_is = rw (e, f) refl; no_dot = f; no_up = g }
+    by true b c e f g = absurd (let no : false ≡ true = rw e at h in cc)
+    by false true c e f g = absurd (let no : false ≡ true = rw (e, f) at h in cc)
+    by false false true e f g = absurd (let no : false ≡ true = rw (e, f, g) at h in cc)
 
-    no : (c : Bool) → has_plain_pieces c (b ∷ s) ≡ true
-        → (has_plain_pieces false s ≡ true → ArePlainFrom false (slice_split is_slash s))
-        → is_slash b ≡ false → ArePlainFrom c (slice_split is_slash (b ∷ s))
-    no true h goes_on e = by_test (b == dot)
-        (λ d. absurd (let f : false ≡ true = sym (rw (e, d) refl) ∙ h in cc))
-        (λ d. subst ArePlain (sym (slice_split-cons_no is_slash b s e))
-        (onto_first-begins b (slice_split is_slash s) d
-        (goes_on (sym (rw (e, d) refl) ∙ h))))
-    no false h goes_on e = subst (ArePlainFrom false) (sym (slice_split-cons_no is_slash b s e))
-        (onto_first-going_on b (slice_split is_slash s)
-        (goes_on (ap (λ d. has_plain_pieces d s) (sym e) ∙ h)))
+-- the first of plain pieces is plain, and so are the others
+plain_first : (p : List ℕ) (ps : List (List ℕ)) → list_all is_plain_piece (p ∷ ps) ≡ true
+    → IsPlainPiece p × (list_all is_plain_piece ps ≡ true)
+plain_first p ps h = (
+  plain_piece p (first_so (is_plain_piece p) (list_all is_plain_piece ps) h),
+  second_so (is_plain_piece p) (list_all is_plain_piece ps) h,
+)
 
 -- plain pieces count
-plain_counts : (ps : List (List ℕ)) → ArePlain ps → list_all counts ps ≡ true
+plain_counts : (ps : List (List ℕ)) → list_all is_plain_piece ps ≡ true
+    → list_all counts ps ≡ true
 plain_counts [] h = refl
-plain_counts ([] ∷ ps) h = absurd h.0
-plain_counts ((b ∷ p) ∷ ps) h = rw h.0 (plain_counts ps h.1)
+plain_counts (p ∷ ps) h =
+    let both = plain_first p ps h in rw both.0.counts_is (plain_counts ps both.1)
 
 -- plain pieces are names
-plain_names : (ps : List (List ℕ)) → ArePlain ps → AreNames (names_of ps)
+plain_names : (ps : List (List ℕ)) → list_all is_plain_piece ps ≡ true → AreNames (names_of ps)
 plain_names [] h = tt
-plain_names ([] ∷ ps) h = absurd h.0
-plain_names ((b ∷ p) ∷ ps) h = rw h.0 (rw h.0 (plain_names ps h.1))
+plain_names (p ∷ ps) h =
+    let both = plain_first p ps h in
+    rw (both.0.counts_is, both.0.no_up) (plain_names ps both.1)
 
 -- the first of plain pieces is no `.`
-plain_dot : (ps : List (List ℕ)) → ArePlain ps → dot_first ps ≡ false
+plain_dot : (ps : List (List ℕ)) → list_all is_plain_piece ps ≡ true → dot_first ps ≡ false
 plain_dot [] h = refl
-plain_dot ([] ∷ ps) h = absurd h.0
-plain_dot ((b ∷ p) ∷ ps) h = rw h.0 refl
+plain_dot (p ∷ ps) h = (plain_first p ps h).0.no_dot
 
 -- names resolve to themselves
 resolved_of-names : (vs : List Value) → AreNames vs → resolved_of vs ≡ vs
@@ -104,26 +76,60 @@ resolved_of-root vs h =
     ∙ reverse-reverse (RootDir ∷ vs)
 
 -- a rooted path is resolved as it stands where all pieces of t, which follows the root, are plain
-pub plain_rooted : (s t : List ℕ) → has_plain_pieces true t ≡ true → is_rooted s ≡ true
+plain_rooted : (s t : List ℕ) → has_plain_pieces t ≡ true → is_rooted s ≡ true
     → t ≡ drop 1 s → resolved_bytes_of s ≡ s
 plain_rooted s t h r e =
     let u = is_rooted-slash s r in
     let ps = slice_split is_slash t in
-    let plain = plain_from true t h in
     let all : values s ≡ RootDir ∷ names_of ps =
     ap values u.1 ∙ values-rooted u.0
     ∙ ap (λ t. RootDir ∷ names_of (slice_split is_slash t)) (sym (e ∙ ap (drop 1) u.1)) in
-    ap spelling_of (ap resolved_of all ∙ resolved_of-root (names_of ps) (plain_names ps plain)
-    ∙ sym all) ∙ spelling_of-own_rooted s t (plain_counts ps plain) r e
+    ap spelling_of (ap resolved_of all ∙ resolved_of-root (names_of ps) (plain_names ps h)
+    ∙ sym all) ∙ spelling_of-own_rooted s t (plain_counts ps h) r e
 
--- a rootless path is resolved as it stands where all its pieces are plain
-pub plain_rootless : (s t : List ℕ) → has_plain_pieces true t ≡ true → is_rooted s ≡ false
-    → t ≡ s → resolved_bytes_of s ≡ s
-plain_rootless s t h r e =
-    let ps = slice_split is_slash t in
-    let plain = plain_from true t h in
-    let all : values s ≡ names_of ps =
-    values-rootless s ps r (ap (slice_split is_slash) (sym e))
-    ∙ ap (λ c. cond c (CurDir ∷ []) [] ++ names_of ps) (plain_dot ps plain) in
+-- the values of a rootless path of plain pieces are those of its pieces
+values-plain : (s : List ℕ) → has_plain_pieces s ≡ true → is_rooted s ≡ false
+    → values s ≡ names_of (slice_split is_slash s)
+values-plain s h r =
+    let ps = slice_split is_slash s in
+    values-rootless s ps r refl ∙ ap (λ c. cond c (CurDir ∷ []) [] ++ names_of ps) (plain_dot ps h)
+
+-- a rootless path of plain pieces is spelled as it stands
+own_plain : (s : List ℕ) → has_plain_pieces s ≡ true → is_rooted s ≡ false
+    → spelling_of (values s) ≡ s
+own_plain s h r = spelling_of-own_rootless s s (plain_counts (slice_split is_slash s) h) r refl
+
+-- all pieces of a plain rootless path are plain
+is_plain-rootless : (s : List ℕ) → is_plain s ≡ true → is_rooted s ≡ false
+    → has_plain_pieces s ≡ true
+is_plain-rootless s h r = sym (ap (λ c. has_plain_pieces (cond c (drop 1 s) s)) r) ∙ h
+
+-- all pieces behind the root of a plain rooted path are plain
+is_plain-rooted : (s : List ℕ) → is_plain s ≡ true → is_rooted s ≡ true
+    → has_plain_pieces (drop 1 s) ≡ true
+is_plain-rooted s h r = sym (ap (λ c. has_plain_pieces (cond c (drop 1 s) s)) r) ∙ h
+
+-- a plain path is resolved as it stands
+pub resolved-plain : (s : List ℕ) → is_plain s ≡ true → resolved_bytes_of s ≡ s
+resolved-plain s h = by_test (is_rooted s)
+    (λ r. plain_rooted s (drop 1 s) (is_plain-rooted s h r) r refl)
+    (λ r. let plain = is_plain-rootless s h r in
+    let ps = slice_split is_slash s in
+    let all = values-plain s plain r in
     ap spelling_of (ap resolved_of all ∙ resolved_of-names (names_of ps) (plain_names ps plain)
-    ∙ sym all) ∙ spelling_of-own_rootless s t (plain_counts ps plain) r e
+    ∙ sym all) ∙ own_plain s plain r)
+
+-- a plain path without a root has names alone, one at least, and is spelled as it stands
+pub record HasNames (s : List ℕ) : Type 0 where
+  pub some : s ≡ [] → ⊥
+  pub names : AreNames (values s)
+  pub own : spelling_of (values s) ≡ s
+
+pub plain_has_names : (s : List ℕ) → is_plain s ≡ true → is_rooted s ≡ false → HasNames s
+plain_has_names s h r =
+    let plain = is_plain-rootless s h r in
+    let ps = slice_split is_slash s in record {
+      some = λ e. let no : false ≡ true = sym (ap has_plain_pieces e) ∙ plain in cc;
+      names = rw (values-plain s plain r) (plain_names ps plain);
+      own = own_plain s plain r;
+    }

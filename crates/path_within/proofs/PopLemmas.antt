@@ -1,29 +1,28 @@
--- What is spelled, after one more part: a push, or a pop of the last name.
+-- What is spelled after one more `..`: a push of it, or a pop of the last name.
 use Rattle.std.proofs.Common.{◌≡◌, ℕ, Bool, true, false, List, [], ◌∷◌, length}
 use Rattle.std.proofs.Common.{reverse, refl, sym, ap, ◌∙◌, ⊎_elim, arith}
-use Rattle.std.proofs.Common.{Option, is_some, option_map, unwrap_or}
+use Rattle.std.proofs.Common.{Option, Some, None, is_some, unwrap_or}
 use Rattle.std.proofs.lemmas.Bool.{both_ways}
-use Rattle.std.proofs.lemmas.Grind.{reverse_onto}
-use Rattle.unix_bytes.specs.declared.bytes.UnixStr.{UnixStr}
 use Rattle.unix_path.specs.Edits.{popped_of}
 use Rattle.unix_path.specs.Joins.{join_of}
-use Rattle.unix_path.specs.Names.{file_name_of, name_of}
+use Rattle.unix_path.specs.Names.{name_of}
+use Rattle.unix_path.specs.Parents.{parent_of}
 use Rattle.unix_path.specs.Parts.{Value, RootDir, CurDir, ParentDir, Normal, is_rooted, slash}
 use Rattle.unix_path.specs.Parts.{parent_dir}
-use Rattle.unix_path.specs.Parts.{value_bytes, values}
+use Rattle.unix_path.specs.Parts.{values}
 use Rattle.unix_path.specs.Rest.{rest}
-use Rattle.unix_path.proofs.CursorLemmas.{name_bytes}
-use Rattle.unix_path.proofs.EditLemmas.{is_some-option_map}
+use Rattle.unix_path.specs.Steps.{ends_with_parent}
 use Rattle.unix_path.proofs.JoinLemmas.{join_of_rooted}
-use Rattle.unix_path.proofs.ParentLemmas.{file_name_of-last, values-whole}
-use Rattle.unix_path.proofs.PartLemmas.{root_first, root_first-values}
+use Rattle.unix_path.proofs.ParentLemmas.{values-whole}
+use Rattle.unix_path.proofs.PartLemmas.{root_first, root_first-values, values-nil}
 use Rattle.unix_path.proofs.StemLemmas.{length-rest_whole-le}
 use Rattle.path_runs.specs.Spelling.{spelling_of}
 use Rattle.path_runs.proofs.LeanLemmas.{spelling_of-shortest}
 use Rattle.path_runs.proofs.SiblingLemmas.{parent_of-name, rest-join_of_one, values-join_of_one}
-use Rattle.path_within.specs.Resolved.{keep, up_from}
+use Rattle.path_within.specs.Resolved.{up_from}
 use Rattle.path_within.specs.Steps.{AllOne, AreUps, IsKept, IsOne, path_of, Spells}
 use Rattle.path_within.proofs.KeepLemmas.{ups_reverse}
+use Rattle.path_within.proofs.UpEndLemmas.{last_kept, not_up_last, up_last}
 use Rattle.path_within.proofs.PathOfLemmas.{IsOne-root, IsOne-up, path_of-spelled, values-path_of}
 
 -- the bytes of kept values end where their last part does
@@ -51,32 +50,45 @@ abbrev pub ends_in_name : List Value → Bool
 ends_in_name [] = false
 ends_in_name (v ∷ ks) = is_some (name_of v)
 
--- the bytes of kept values have a file name exactly if the last of these is a name
-file_name-path_of : (ks : List Value) → IsKept ks → AllOne ks
-    → is_some (file_name_of (values (path_of ks))) ≡ ends_in_name ks
-unfolding file_name_of
-file_name-path_of ks h k =
-    ap (λ vs. is_some (file_name_of vs)) (values-path_of ks h k) ∙ by ks
+-- the empty path and the root have no parent
+parent_of-nothing : is_some (parent_of []) ≡ false
+unfolding parent_of
+parent_of-nothing = rw values-nil refl
+
+parent_of-root : is_some (parent_of (slash ∷ [])) ≡ false
+unfolding parent_of
+parent_of-root = rw IsOne-root refl
+
+-- without a parent a pop changes nothing
+popped_of-none : (s : List ℕ) → is_some (parent_of s) ≡ false → popped_of s ≡ s
+unfolding popped_of
+popped_of-none s e = by (parent_of s) e
   where
-    by : (ks : List Value) → is_some (file_name_of (reverse ks)) ≡ ends_in_name ks
-    by [] = refl
-    by (v ∷ ks) = ap (λ vs. is_some (file_name_of vs)) (reverse_onto ks v [])
-        ∙ ap is_some (file_name_of-last (reverse ks) v)
+    by : (o : Option (List ℕ)) → is_some o ≡ false → unwrap_or o s ≡ s
+    by None e = refl
+    by (Some t) e = absurd (let no : true ≡ false = e in cc)
 
--- where `file_name` answers with some name exactly if b is true, the path has one exactly if it is
-pub file_name-is_some : (o : Option UnixStr) (s t : List ℕ) (b : Bool)
-    → option_map name_bytes o ≡ file_name_of (values t) → t ≡ s → is_some o ≡ b
-    → is_some (file_name_of (values s)) ≡ b
-file_name-is_some o s t b e same found =
-    ap (λ s. is_some (file_name_of (values s))) (sym same) ∙ ap is_some (sym e)
-    ∙ is_some-option_map name_bytes o ∙ found
+-- kept bytes that don't end with `..` have a parent exactly if the last value is a name
+has_parent : {s : List ℕ} {ks : List Value} → Spells s ks → ends_with_parent s ≡ false
+    → is_some (parent_of s) ≡ ends_in_name ks
+has_parent {s} {ks} h no_up = by ks h.kept h.one h.is (not_up_last h no_up)
+  where
+    by : (ks : List Value) → IsKept ks → AllOne ks → s ≡ path_of ks
+        → (last_kept ks ≡ Some ParentDir → ⊥) → is_some (parent_of s) ≡ ends_in_name ks
+    by [] kept one is other = ap (λ s. is_some (parent_of s)) is ∙ parent_of-nothing
+    by (RootDir ∷ ks) kept one is other = ap (λ s. is_some (parent_of s))
+        (is ∙ join_of_rooted (path_of ks) (slash ∷ []) refl) ∙ parent_of-root
+    by (CurDir ∷ ks) kept one is other = absurd kept
+    by (ParentDir ∷ ks) kept one is other = absurd (other refl)
+    by (Normal name ∷ ks) kept one is other = ap (λ s. is_some (parent_of s)) is
+        ∙ ap is_some (parent_of-name (join_of (path_of ks) name) name (values (path_of ks))
+        (values-join_of_one (path_of ks) name name one.0))
 
--- bytes that spell kept values and have a file name spell, after a pop, what `..` leaves of these
-pub spells_pop : {s t : List ℕ} {ks : List Value} → Spells s ks
-    → is_some (file_name_of (values s)) ≡ true → t ≡ popped_of s → Spells t (up_from ks)
-spells_pop {s} {t} {ks} h named e = by ks h.kept h.one h.is
-    (sym (file_name-path_of ks h.kept h.one) ∙ ap (λ s. is_some (file_name_of (values s)))
-    (sym h.is) ∙ named)
+-- kept bytes that don't end with `..` and have a parent spell, after a pop, what `..` leaves
+pub spells_pop : {s t : List ℕ} {ks : List Value} → Spells s ks → ends_with_parent s ≡ false
+    → is_some (parent_of s) ≡ true → t ≡ popped_of s → Spells t (up_from ks)
+spells_pop {s} {t} {ks} h no_up some e =
+    by ks h.kept h.one h.is (sym (has_parent h no_up) ∙ some)
   where
     by : (ks : List Value) → IsKept ks → AllOne ks → s ≡ path_of ks → ends_in_name ks ≡ true
         → Spells t (up_from ks)
@@ -89,6 +101,35 @@ spells_pop {s} {t} {ks} h named e = by ks h.kept h.one h.is
       one = one.1;
       is = e ∙ ap popped_of is ∙ popped_of-name ks name kept one.1 one.0;
     }
+
+-- kept bytes that don't end with `..` and have no parent are as they were after a pop
+pub record StaysPopped (s t : List ℕ) (ks : List Value) : Type 0 where
+  pub spells : Spells t ks
+  pub nameless : ends_in_name ks ≡ false
+
+pub stays_popped : {s t : List ℕ} {ks : List Value} → Spells s ks → ends_with_parent s ≡ false
+    → is_some (parent_of s) ≡ false → t ≡ popped_of s → StaysPopped s t ks
+stays_popped {s} {t} {ks} h no_up none e = record {
+  spells = record { kept = h.kept; one = h.one; is = e ∙ popped_of-none s none ∙ h.is };
+  nameless = sym (has_parent h no_up) ∙ none;
+}
+
+-- kept bytes that end with `..`, joined with one more, spell one more
+pub spells_up_up : {s t : List ℕ} {ks : List Value} → Spells s ks → ends_with_parent s ≡ true
+    → t ≡ join_of s parent_dir → Spells t (up_from ks)
+spells_up_up {s} {t} {ks} h up e = by ks h.kept h.one h.is (up_last h up)
+  where
+    by : (ks : List Value) → IsKept ks → AllOne ks → s ≡ path_of ks
+        → last_kept ks ≡ Some ParentDir → Spells t (up_from ks)
+    by [] kept one is last = absurd (cc)
+    by (RootDir ∷ ks) kept one is last = absurd (cc)
+    by (CurDir ∷ ks) kept one is last = absurd (cc)
+    by (ParentDir ∷ ks) kept one is last = record {
+      kept = kept;
+      one = (IsOne-up, one);
+      is = e ∙ ap (λ s. join_of s parent_dir) is;
+    }
+    by (Normal name ∷ ks) kept one is last = absurd (cc)
 
 -- values that are all `..` have no root in front
 ups-root_first : (vs : List Value) → AreUps vs → root_first vs ≡ false
@@ -108,12 +149,10 @@ is_rooted-path_of ks h k =
 root_first-ups : (ks : List Value) → AreUps ks → root_first (reverse ks) ≡ false
 root_first-ups ks h = ups-root_first (reverse ks) (ups_reverse ks h)
 
--- rooted bytes without a file name spell the same kept values after `..`
-pub spells_root : {s : List ℕ} {ks : List Value} → Spells s ks
-    → is_some (file_name_of (values s)) ≡ false → is_rooted s ≡ true → Spells s (up_from ks)
-spells_root {s} {ks} h nameless rooted = by ks h.kept h.one h.is
-    (sym (file_name-path_of ks h.kept h.one) ∙ ap (λ s. is_some (file_name_of (values s)))
-    (sym h.is) ∙ nameless)
+-- rooted bytes without a last name spell the same kept values after `..`
+pub spells_root : {s : List ℕ} {ks : List Value} → Spells s ks → ends_in_name ks ≡ false
+    → is_rooted s ≡ true → Spells s (up_from ks)
+spells_root {s} {ks} h nameless rooted = by ks h.kept h.one h.is nameless
   where
     by : (ks : List Value) → IsKept ks → AllOne ks → s ≡ path_of ks → ends_in_name ks ≡ false
         → Spells s (up_from ks)
@@ -125,13 +164,10 @@ spells_root {s} {ks} h nameless rooted = by ks h.kept h.one h.is
         ∙ root_first-ups (ParentDir ∷ ks) kept) rooted)
     by (Normal name ∷ ks) kept one is last = absurd (let no : true ≡ false = last in cc)
 
--- rootless bytes without a file name, joined with `..`, spell the kept values and that `..`
-pub spells_up : {s t : List ℕ} {ks : List Value} → Spells s ks
-    → is_some (file_name_of (values s)) ≡ false → is_rooted s ≡ false
-    → t ≡ join_of s parent_dir → Spells t (up_from ks)
-spells_up {s} {t} {ks} h nameless rootless e = by ks h.kept h.one h.is
-    (sym (file_name-path_of ks h.kept h.one) ∙ ap (λ s. is_some (file_name_of (values s)))
-    (sym h.is) ∙ nameless)
+-- rootless bytes without a last name, joined with `..`, spell the kept values and that `..`
+pub spells_up : {s t : List ℕ} {ks : List Value} → Spells s ks → ends_in_name ks ≡ false
+    → is_rooted s ≡ false → t ≡ join_of s parent_dir → Spells t (up_from ks)
+spells_up {s} {t} {ks} h nameless rootless e = by ks h.kept h.one h.is nameless
   where
     path_of-up : (ks : List Value) → s ≡ path_of ks → t ≡ path_of (ParentDir ∷ ks)
     path_of-up ks is = e ∙ ap (λ s. join_of s parent_dir) is
@@ -146,26 +182,3 @@ spells_up {s} {t} {ks} h nameless rootless e = by ks h.kept h.one h.is
     by (ParentDir ∷ ks) kept one is last =
         record { kept = kept; one = (IsOne-up, one); is = path_of-up (ParentDir ∷ ks) is }
     by (Normal name ∷ ks) kept one is last = absurd (let no : true ≡ false = last in cc)
-
--- bytes that spell kept values, joined with a name, spell these and the name
-pub spells_name : {s t name : List ℕ} {ks : List Value} → Spells s ks → IsOne (Normal name)
-    → t ≡ join_of s name → Spells t (Normal name ∷ ks)
-spells_name {s} {t} {name} h one e =
-    record { kept = h.kept; one = (one, h.one); is = e ∙ ap (λ s. join_of s name) h.is }
-
--- bytes joined with the root spell the root alone
-pub spells_root_alone : (s t : List ℕ) → t ≡ join_of s (slash ∷ []) → Spells t (RootDir ∷ [])
-spells_root_alone s t e = record {
-  kept = refl;
-  one = (IsOne-root, tt);
-  is = e ∙ join_of_rooted s (slash ∷ []) refl ∙ sym (join_of_rooted [] (slash ∷ []) refl);
-}
-
--- bytes that spell kept values, joined with a root or a name, spell what is kept after that value
-pub spells_push : {s t : List ℕ} {ks : List Value} (v : Value) → (v ≡ CurDir → ⊥)
-    → (v ≡ ParentDir → ⊥) → Spells s ks → IsOne v → t ≡ join_of s (value_bytes v)
-    → Spells t (keep ks v)
-spells_push {s} {t} RootDir no_dot no_up h one e = spells_root_alone s t e
-spells_push {s} {t} CurDir no_dot no_up h one e = absurd (no_dot refl)
-spells_push {s} {t} ParentDir no_dot no_up h one e = absurd (no_up refl)
-spells_push {s} {t} (Normal name) no_dot no_up h one e = spells_name h one e

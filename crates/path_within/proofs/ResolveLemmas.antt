@@ -37,7 +37,7 @@ kept_of-added ks [] b = refl
 kept_of-added ks (x ∷ a) b = kept_of-drop_dot ks (values b)
 
 -- the values of a rooted path replace what is kept
-kept_of-rooted : (ks : List Value) (b : List ℕ) → is_rooted b ≡ true
+pub kept_of-rooted : (ks : List Value) (b : List ℕ) → is_rooted b ≡ true
     → kept_of [] (values b) ≡ kept_of ks (values b)
 kept_of-rooted ks b r =
     let t = is_rooted-slash b r in

@@ -3,6 +3,7 @@ use Rattle.std.proofs.Common.{◌≡◌, ℕ, List, [], ◌++◌, reverse, sym, 
 use Rattle.std.proofs.lemmas.List.{reverse-append}
 use Rattle.unix_path.specs.Joins.{join_of}
 use Rattle.unix_path.specs.Parts.{values}
+use Rattle.unix_path.specs.Prefixes.{Begins}
 use Rattle.path_within.specs.Resolved.{kept_of, resolved_of, resolved_bytes_of, AreNames}
 use Rattle.path_within.specs.Climbs.{Climbs}
 use Rattle.path_within.proofs.ClimbLemmas.{stays_within}
@@ -29,3 +30,9 @@ pub values-within : (a b : List ℕ) → (Climbs (values b) → ⊥)
     ≡ values (resolved_bytes_of a) ++ values (resolved_bytes_of b)
 values-within a b h = values-resolved (join_of a b) ∙ resolved_of-within a b h
     ∙ sym (ap₂ ◌++◌ (values-resolved a) (values-resolved b))
+
+-- what a join with a request that doesn't climb resolves to begins with the resolved root
+pub begins-within : (a b t : List ℕ) → (Climbs (values b) → ⊥)
+    → t ≡ resolved_bytes_of (join_of a b) → Begins (values (resolved_bytes_of a)) (values t)
+begins-within a b t h e =
+    (values (resolved_bytes_of b), sym (values-within a b h) ∙ ap values (sym e))

@@ -1,9 +1,36 @@
--- Bytes whose pieces are not empty and don't begin with a dot. No public clause cites it.
-use Rattle.std.specs.Prelude.{◌==◌, ◌&&◌, ◌||◌, ℕ, Bool, not, List, [], ◌∷◌}
-use Rattle.unix_path.specs.Parts.{dot, is_slash}
+-- Paths whose pieces are plain names. No public clause cites it.
+use Rattle.std.specs.Prelude.{ℕ, ◌+◌, Bool, ◌==◌, ◌&&◌, ◌||◌, not, List, drop, if◌then◌else◌}
+use Rattle.std.specs.Prelude.{slice_index, slice_index_or}
+use Rattle.std.specs.List.{list_all, slice_split}
+use Rattle.std.specs.Str.{bytes_eq}
+use Rattle.unix_path.specs.Parts.{dot, slash, is_slash, counts, parent_dir, is_rooted}
 
--- no piece of the bytes is empty or begins with a dot; `begins` says whether a piece begins here
-abbrev pub has_plain_pieces : Bool → List ℕ → Bool
-has_plain_pieces begins [] = not begins
-has_plain_pieces begins (b ∷ s) =
-    not (begins && (is_slash b || b == dot)) && has_plain_pieces (is_slash b) s
+-- the piece is neither empty, nor `.`, nor `..`
+abbrev pub is_plain_piece : List ℕ → Bool
+is_plain_piece piece = counts piece && not (bytes_eq piece parent_dir)
+
+-- all pieces between the slashes are plain
+abbrev pub has_plain_pieces : List ℕ → Bool
+has_plain_pieces s = list_all is_plain_piece (slice_split is_slash s)
+
+-- all pieces are plain, but for that before the root, if there is one
+abbrev pub is_plain : List ℕ → Bool
+is_plain s = has_plain_pieces (if is_rooted s then drop 1 s else s)
+
+-- at i stands a slash, or no byte
+abbrev pub is_end : List ℕ → ℕ → Bool
+is_end s i = slice_index_or s i slash == slash
+
+-- from i on stands `.`, or `..`, and then a slash or no byte
+abbrev pub begins_dots : List ℕ → ℕ → Bool
+begins_dots s i =
+    slice_index s i == dot
+    && (is_end s (i + 1) || (slice_index s (i + 1) == dot && is_end s (i + 2)))
+
+-- a plain piece begins at i, if any does
+abbrev pub begins_plain : List ℕ → ℕ → Bool
+begins_plain s i = not (is_end s i || begins_dots s i)
+
+-- no slash stands at i, or a plain piece begins behind it
+abbrev pub goes_on_plain : List ℕ → ℕ → Bool
+goes_on_plain s i = not (is_slash (slice_index s i)) || begins_plain s (i + 1)

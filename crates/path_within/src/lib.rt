@@ -2,6 +2,7 @@
 #![tactic(auto)]
 
 pub mod laws;
+mod plain;
 pub mod resolved;
 pub mod way;
 pub mod within;

@@ -2,28 +2,55 @@
 ghost use Rattle.std.specs.Prelude.{◌≡◌, true, IsTrue, List, IfOk, OnOk};
 ghost use Rattle.unix_path.specs.Buffers.{path_bytes};
 ghost use Rattle.unix_path.specs.Cursor.{cursor_values};
-ghost use Rattle.unix_path.specs.Parts.{Value};
+ghost use Rattle.unix_path.specs.Joins.{join_of};
+ghost use Rattle.unix_path.specs.Parts.{Value, parent_dir, values};
+ghost use Rattle.unix_path.specs.Steps.{ends_with_parent};
 ghost use Rattle.unix_path.specs.Views.{value_of};
 ghost use Rattle.path_within.specs.Resolved.{keep, kept_of, up_from, resolved_bytes_of};
 ghost use Rattle.path_within.specs.Steps.{IsOne, Spells};
-ghost use Rattle.path_within.specs.PlainPieces.{has_plain_pieces};
+ghost use Rattle.path_within.specs.PlainPieces.{is_plain};
 
+use crate::plain::is_plain;
 use std::alloc::{AllocError, Global};
 use unix_path::{Component, Components, Path, PathBuf};
 
-// Takes `..` against what is kept: a name goes, the root stays, and any other end gets `..`.
+// Whether the path's last piece is `..`.
+#[inline]
+fn ends_with_parent(path: Path<'_>) -> bool
+    ensures { result ≡ ends_with_parent path.entry.bytes.now }
+{
+    let bytes = path.as_unix_str().as_bytes();
+    let len = bytes.len();
+    len > 1
+        && bytes[len - 1] == b'.'
+        && bytes[len - 2] == b'.'
+        && (len == 2 || bytes[len - 3] == b'/')
+}
+
+// Joins `..` to the end.
+#[inline]
+fn push_up(kept: &mut PathBuf) -> Result<(), AllocError>
+    ensures ok { OnOk result (path_bytes kept.new ≡ join_of (path_bytes kept.old) parent_dir) }
+{
+    kept.push(Component::ParentDir.as_path())
+}
+
+// Takes `..` against what is kept: a name goes, the root stays, and any other end gets `..`. No `.`
+// is kept, so what has a parent ends in a name unless it ends in `..`.
 pub(crate) fn keep_up(kept: &mut PathBuf) -> Result<(), AllocError>
     ensures ok { OnOk result ((ks : List Value)
         → Spells (path_bytes kept.old) ks → Spells (path_bytes kept.new) (up_from ks)) }
 {
-    if kept.as_path().file_name().is_some() {
-        kept.pop();
+    if ends_with_parent(kept.as_path()) {
+        return push_up(kept);
+    }
+    if kept.pop() {
         return Ok(());
     }
     if kept.as_path().has_root() {
         return Ok(());
     }
-    kept.push(Component::ParentDir.as_path())
+    push_up(kept)
 }
 
 // Keeps one more part behind what is kept.
@@ -50,35 +77,28 @@ pub(crate) fn keep_all(kept: &mut PathBuf, parts: Components<'_>) -> Result<(), 
     Ok(())
 }
 
-// Whether no piece is empty or begins with a dot. No branch depends on a byte, so the time depends
-// on the length alone.
-#[inline]
-fn has_plain_pieces(bytes: &[u8]) -> bool
-    ensures { result ≡ has_plain_pieces true bytes.now }
+// Keeps the path's parts behind what is kept. Those of a plain path are names that are all kept,
+// behind its root if it has one, so one copy of its bytes adds them. So it is where only slashes, or
+// dots between slashes, stand behind a plain path.
+pub(crate) fn keep_path(
+    kept: &mut PathBuf,
+    path: Path<'_>,
+    known_plain: bool,
+) -> Result<(), AllocError>
+    requires { IsTrue known_plain → is_plain path.bytes.now ≡ true }
+    ensures ok { OnOk result ((ks : List Value) → Spells (path_bytes kept.old) ks
+        → Spells (path_bytes kept.new) (kept_of ks (values path.entry.bytes.now))) }
 {
-    let mut begins = true;
-    let mut is_plain = true;
-    for byte in bytes {
-        let is_slash = *byte == b'/';
-        is_plain &= !(begins & (is_slash | (*byte == b'.')));
-        begins = is_slash;
+    if known_plain {
+        return kept.push(path);
     }
-    is_plain & !begins
-}
-
-// True only for a path that is resolved as it stands. Of such paths it is false for the empty one,
-// for `/`, and where a piece begins with a dot.
-#[inline]
-fn is_resolved(path: Path<'_>) -> bool
-    ensures { IsTrue result
-        → resolved_bytes_of path.entry.bytes.now ≡ path.entry.bytes.now }
-{
-    let bytes = path.as_unix_str().as_bytes();
-    if path.has_root() {
-        has_plain_pieces(&bytes[1..])
-    } else {
-        has_plain_pieces(bytes)
+    let parts = path.components();
+    let whole = parts.as_path();
+    let is_cut = whole.as_unix_str().len() < path.as_unix_str().len();
+    if is_cut && is_plain(whole) {
+        return kept.push(whole);
     }
+    keep_all(kept, parts)
 }
 
 /// The path with each `..` taken against the name before it, and spelled canonically: `.` goes, and
@@ -93,10 +113,10 @@ fn is_resolved(path: Path<'_>) -> bool
 pub fn resolved(alloc: Global, path: Path<'_>) -> Result<PathBuf, AllocError>
     ensures { IfOk result (λ p. path_bytes p ≡ resolved_bytes_of path.entry.bytes.now) }
 {
-    if is_resolved(path) {
+    if is_plain(path) {
         return path.to_path_buf(alloc);
     }
     let mut kept = PathBuf::with_capacity(alloc, path.as_unix_str().len())?;
-    keep_all(&mut kept, path.components())?;
+    keep_path(&mut kept, path, false)?;
     Ok(kept)
 }

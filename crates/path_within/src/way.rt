@@ -12,6 +12,7 @@ ghost use Rattle.path_within.specs.Climbs.{is_name};
 ghost use Rattle.path_within.specs.Way.{is_root, way_of};
 ghost use Rattle.path_within.specs.Steps.{Spells};
 
+use crate::plain::is_plain;
 use crate::resolved::{keep_all, keep_up, resolved};
 use std::alloc::{AllocError, Global};
 use unix_path::{Component, Components, Path, PathBuf};
@@ -60,30 +61,25 @@ fn is_name(part: Component<'_>) -> bool
     matches!(part, Component::Normal(_))
 }
 
-// Whether the part is the root.
-#[inline]
-fn is_root(part: Component<'_>) -> bool
-    ensures { result ≡ is_root (value_of part.entry) }
-{
-    matches!(part, Component::RootDir)
-}
-
-// Whether all these parts are names.
+// Whether all these parts are names. They aren't looked at where what is left is plain.
 #[inline]
 fn are_names(parts: Components<'_>) -> bool
     ensures { result ≡ list_all is_name (cursor_values parts.entry) }
 {
+    let left = parts.as_path();
+    if is_plain(left) {
+        return !left.has_root();
+    }
     let mut parts = parts;
     parts.all(is_name)
 }
 
-// Whether the root is among these parts.
+// Whether the root is among these parts, of which it can only be the first.
 #[inline]
 fn has_root(parts: Components<'_>) -> bool
     ensures { result ≡ list_any is_root (cursor_values parts.entry) }
 {
-    let mut parts = parts;
-    parts.any(is_root)
+    parts.as_path().has_root()
 }
 
 // Whether a way leads from what is left of the first path to what is left of the other.

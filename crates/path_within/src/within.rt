@@ -7,10 +7,12 @@ ghost use Rattle.unix_path.specs.Parts.{values};
 ghost use Rattle.unix_path.specs.Prefixes.{Begins};
 ghost use Rattle.unix_path.specs.Views.{value_of};
 ghost use Rattle.path_within.specs.Climbs.{Climbs, has_root_or_up, is_root_or_up};
+ghost use Rattle.path_within.specs.PlainPieces.{is_plain};
 ghost use Rattle.path_within.specs.Resolved.{resolved_bytes_of};
 
 use crate::laws;
-use crate::resolved::keep_all;
+use crate::plain::is_plain;
+use crate::resolved::keep_path;
 use std::alloc::{AllocError, Global};
 use std::error::Error;
 use std::fmt;
@@ -73,8 +75,20 @@ impl From<AllocError> for WithinError {
 pub fn climbs(path: Path<'_>) -> bool
     ensures { IsTrue result ↔ Climbs (values path.entry.bytes.now) }
 {
+    climbs_unless(is_plain(path), path)
+}
+
+// Whether the path climbs, without a look at its parts where it is known to be plain: it does then
+// only if it has a root.
+fn climbs_unless(known_plain: bool, path: Path<'_>) -> bool
+    requires { IsTrue known_plain → is_plain path.bytes.now ≡ true }
+    ensures { IsTrue result ↔ Climbs (values path.entry.bytes.now) }
+{
     if path.has_root() {
         return true;
+    }
+    if known_plain {
+        return false;
     }
     let mut depth = 0_usize;
     for part in path.components() {
@@ -108,13 +122,20 @@ pub fn join_within(alloc: Global, root: Path<'_>, request: Path<'_>) -> Result<P
     ensures within { IfOk result (λ p. Begins (values (resolved_bytes_of root.entry.bytes.now))
         (values (path_bytes p))) }
 {
-    if climbs(request) {
+    let is_plain_request = is_plain(request);
+    if climbs_unless(is_plain_request, request) {
         return Err(WithinError::Escapes);
+    }
+    let is_plain_root = is_plain(root);
+    if is_plain_root && is_plain_request {
+        // The join is resolved as it stands, and has one byte more than both, since a plain root
+        // doesn't end in a slash.
+        return Ok(root.join(alloc, request)?);
     }
     let len = root.as_unix_str().len() + 1 + request.as_unix_str().len();
     let mut kept = PathBuf::with_capacity(alloc, len)?;
-    keep_all(&mut kept, root.components())?;
-    keep_all(&mut kept, request.components())?;
+    keep_path(&mut kept, root, is_plain_root)?;
+    keep_path(&mut kept, request, is_plain_request)?;
     Ok(kept)
 }
 
@@ -126,11 +147,14 @@ fn is_root_or_up(part: Component<'_>) -> bool
     matches!(part, Component::RootDir | Component::ParentDir)
 }
 
-// Whether the root or a `..` is among the parts.
+// Whether the root or a `..` is among the parts. A plain path has names alone behind its root.
 #[inline]
 fn has_root_or_up(path: Path<'_>) -> bool
     ensures { result ≡ has_root_or_up (values path.entry.bytes.now) }
 {
+    if is_plain(path) {
+        return path.has_root();
+    }
     path.components().any(is_root_or_up)
 }
 

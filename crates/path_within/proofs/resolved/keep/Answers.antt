@@ -4,7 +4,7 @@ use Rattle.unix_path.specs.Buffers.{path_bytes}
 use Rattle.unix_path.specs.Joins.{join_of}
 use Rattle.unix_path.specs.Parts.{CurDir, ParentDir}
 use Rattle.unix_path.specs.Views.{value_of}
-use Rattle.path_within.proofs.PopLemmas.{spells_push}
+use Rattle.path_within.proofs.PushLemmas.{spells_push}
 use Rattle.path_within.proofs.resolved.keep.Goals as goal
 
 pub returns-in-RootDir : goal.returns-in-RootDir

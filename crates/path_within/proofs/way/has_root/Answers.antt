@@ -1,9 +1,9 @@
-use Rattle.std.proofs.Common.{rules, tests}
-use Rattle.std.proofs.lemmas.Iterator.Search.{any_from_yields_List}
-use Rattle.unix_path.proofs.CursorLemmas.{Components-yields}
-use Rattle.path_within.specs.Way.{is_root}
+use Rattle.std.proofs.Common.{ap, ◌∙◌}
+use Rattle.unix_path.specs.Cursor.{cursor_rest}
+use Rattle.unix_path.specs.Parts.{is_rooted}
+use Rattle.path_within.proofs.LeadTestLemmas.{any_root}
 use Rattle.path_within.proofs.way.has_root.Goals as goal
 
 pub returns : goal.returns
-returns c = any_from_yields_List is_root _ _ c.any.result c.any.ensures.ran
-    (Components-yields c.args.parts) (λ x r q k. search (rules, tests))
+returns c = c.has_root.ensures.value ∙ ap is_rooted c.as_path.ensures.bytes
+    ∙ any_root (cursor_rest c.args.parts)

@@ -2,7 +2,13 @@ use Rattle.std.proofs.Common.{rules, tests, ap, ◌∙◌}
 use Rattle.std.proofs.lemmas.Iterator.Search.{any_from_yields_List}
 use Rattle.unix_path.proofs.CursorLemmas.{Components-yields}
 use Rattle.path_within.specs.Climbs.{has_root_or_up, is_root_or_up}
+use Rattle.path_within.proofs.WholeLemmas.{plain_root_or_up}
 use Rattle.path_within.proofs.within.has_root_or_up.Goals as goal
+
+pub returns-then-is_plain : goal.returns-then-is_plain
+returns-then-is_plain c =
+    c.has_root.ensures.value
+    ∙ plain_root_or_up c.args.path.bytes.now (c.is_plain.ensures c.if-is_plain.true)
 
 pub returns : goal.returns
 returns c =

@@ -1,8 +1,16 @@
-use Rattle.std.proofs.Common.{refl, sym, ap, ◌∙◌}
+use Rattle.std.proofs.Common.{◌≡◌, true, false, refl, sym, ap, ◌∙◌}
 use Rattle.unix_path.specs.Cursor.{cursor_values}
 use Rattle.unix_path.specs.Views.{value_of}
 use Rattle.path_within.proofs.ClimbLemmas.{climbs_here, climbs_nowhere}
-use Rattle.path_within.proofs.within.climbs.Goals as goal
+use Rattle.path_within.proofs.WholeLemmas.{plain_stays}
+use Rattle.path_within.proofs.within.climbs_unless.Goals as goal
+
+pub returns-then-known_plain : goal.returns-then-known_plain
+returns-then-known_plain c = (
+  λ h. absurd (let no : false ≡ true = h in cc),
+  λ climbs. absurd (plain_stays c.args.path.bytes.now (c.requires c.if-known_plain.true)
+      (sym c.has_root.ensures.value ∙ c.if-has_root.false) climbs),
+)
 
 pub returns-then-depth-eq0 : goal.returns-then-depth-eq0
 returns-then-depth-eq0 c = (
@@ -15,7 +23,7 @@ returns-then-depth-eq0 c = (
 
 pub returns : goal.returns
 returns c = (
-  λ h. absurd (cc),
+  λ h. absurd (let no : false ≡ true = h in cc),
   climbs_nowhere c.args.path.bytes.now c.loop-part.depth (cursor_values c.loop-part.part-iterator)
       c.loop-part.invariant.2 c.in-None.ensures.steps.item_is.0
       (sym c.has_root.ensures.value ∙ c.if-has_root.false),

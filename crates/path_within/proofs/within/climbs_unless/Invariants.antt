@@ -2,7 +2,7 @@ use Rattle.std.proofs.Common.{◌≡◌, ◌+◌, ◌^◌, ◌<◌, length}
 use Rattle.unix_path.specs.Cursor.{cursor_values}
 use Rattle.unix_path.specs.Parts.{values}
 use Rattle.path_within.proofs.ClimbLemmas.{above_from}
-use Rattle.path_within.proofs.within.climbs.Given as goal
+use Rattle.path_within.proofs.within.climbs_unless.Given as goal
 
 abbrev pub invariant-loop-part : goal.invariant-loop-part
 invariant-loop-part l =
