@@ -171,28 +171,6 @@ fn is_common_block(a: &[u8], b: &[u8], at: usize) -> bool
     other.to_bitmask() == 0
 }
 
-// How many of the 64 places from `at` on come before the first at which the two differ, or 64 where
-// there is none.
-#[inline(always)]
-fn common_in_block(a: &[u8], b: &[u8], at: usize) -> usize
-    requires in_first { at + 64 ≤ length a.now }
-    requires in_second { at + 64 ≤ length b.now }
-    ensures in_range { result ≤ 64 }
-    ensures same { (k : ℕ) → at ≤ k → k < at + result →
-        slice_index a.now k ≡ slice_index b.now k }
-    ensures differs { result < 64 →
-        (slice_index a.now (at + result) == slice_index b.now (at + result)) ≡ false }
-{
-    let unlike = u8x64::from_slice(&a[at..])
-        .simd_ne(u8x64::from_slice(&b[at..]))
-        .to_bitmask();
-    if unlike == 0 {
-        64
-    } else {
-        unlike.trailing_zeros() as usize
-    }
-}
-
 // How many bytes both begin with, in whole blocks of 64.
 #[inline]
 fn common_blocks_len(a: &[u8], b: &[u8], most: usize) -> usize
@@ -224,14 +202,6 @@ pub fn common_len(a: &[u8], b: &[u8]) -> usize
     }
     let last = most - 16;
     let mut len = common_blocks_len(a, b, most);
-    if 64 <= most - len {
-        // This block differs. It isn't looked through again by 16 bytes: its mask tells the place.
-        let common = common_in_block(a, b, len);
-        if common < 64 {
-            return len + common;
-        }
-        len += 64;
-    }
     while len < last {
         let common = common_in_lanes(a, b, len);
         if common < 16 {

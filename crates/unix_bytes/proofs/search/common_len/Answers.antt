@@ -3,16 +3,6 @@ use Rattle.std.proofs.lemmas.Bool.{cases_lt}
 use Rattle.unix_bytes.proofs.CommonLemmas.{common_prefix_len-is}
 use Rattle.unix_bytes.proofs.search.common_len.Goals as goal
 
-pub returns-then-common-lt64-clause-value : goal.returns-then-common-lt64-clause-value
-returns-then-common-lt64-clause-value c =
-    let len = c.common_blocks_len-len.result in
-    let block = c.common_in_block-common in
-    common_prefix_len-is c.args.a.now c.args.b.now (len + block.result) (omega arith) (omega arith)
-    (λ k l.
-    ⊎_elim (λ (less : k < len). c.common_blocks_len-len.ensures.same k less)
-    (λ (more : len ≤ k). block.ensures.same k more l) (cases_lt k len))
-    (λ _ _. block.ensures.differs c.if-common-lt64.true)
-
 pub returns-then-common-lt16-clause-value : goal.returns-then-common-lt16-clause-value
 returns-then-common-lt16-clause-value c =
     let len = c.loop-len.len in
