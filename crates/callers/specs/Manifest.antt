@@ -1,5 +1,7 @@
 -- Manifests: paths in canonical form and in order. Not in Rust's std.
-use Rattle.std.specs.Prelude.{◌≡◌, Bool}
+use Rattle.std.specs.Prelude.{◌≡◌, Bool, List}
+use Rattle.std.specs.BTreeSet.{BTreeSet, contains, IsOrdered}
+use Rattle.std.specs.List.{All, list_any}
 use Rattle.std.specs.Ordering.{is_eq}
 use Rattle.std.specs.declared.cmp.Ordering.{Ordering}
 use Rattle.unix_path.specs.Buffers.{path_bytes}
@@ -20,3 +22,9 @@ is_same p path = is_eq (values_cmp (values path.bytes.now) (values (path_bytes p
 -- the path is in canonical form, the one shortest path with its values
 abbrev pub IsCanonical : PathBuf → Type 0
 IsCanonical p = path_bytes p ≡ spelling_of (values (path_bytes p))
+
+-- the set is what `normalise` gives for the paths. No public clause cites it
+pub record IsNormalised (paths : List Path) (set : BTreeSet PathBuf) : Type 0 where
+  pub ordered : IsOrdered paths_cmp set
+  pub canonical : All IsCanonical set.keys
+  pub same : (p : PathBuf) → contains paths_cmp set p ≡ list_any (is_same p) paths

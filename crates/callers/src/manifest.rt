@@ -1,15 +1,51 @@
 //! Manifests: paths in canonical form, each once, in order.
-ghost use Rattle.std.specs.Prelude.{◌≡◌, IfOk};
+ghost use Rattle.std.specs.Prelude.{◌≡◌, ◌||◌, IfOk, OnOk};
 ghost use Rattle.std.specs.BTreeSet.{contains, IsOrdered};
 ghost use Rattle.std.specs.List.{All, list_any};
 ghost use Rattle.unix_path.specs.declared.buf.PathBuf.{PathBuf};
-ghost use Rattle.callers.specs.Manifest.{paths_cmp, is_same, IsCanonical};
+ghost use Rattle.callers.specs.Manifest.{paths_cmp, is_same, IsCanonical, IsNormalised};
 
 use path_runs::canonical::canonical;
 use path_runs::laws;
 use std::alloc::{AllocError, Global};
 use std::collections::BTreeSet;
 use unix_path::{Path, PathBuf};
+
+// Adds the canonical form of a path to the set.
+#[inline]
+fn add(alloc: Global, set: &mut BTreeSet<PathBuf>, path: Path<'_>) -> Result<(), AllocError>
+    ensures ordered { OnOk result (IsOrdered paths_cmp set.new) }
+    ensures canonical { OnOk result
+        (All IsCanonical set.old.keys → All IsCanonical set.new.keys) }
+    ensures same { OnOk result ((p : PathBuf) → contains paths_cmp set.new p
+        ≡ (contains paths_cmp set.old p || is_same p path.entry)) }
+{
+    laws::canonical_form();
+    set.insert(canonical(alloc, path)?)?;
+    Ok(())
+}
+
+// The set of these paths, which are added from the first on.
+fn from_first(alloc: Global, paths: &[Path<'_>]) -> Result<BTreeSet<PathBuf>, AllocError>
+    ensures { IfOk result (IsNormalised paths.now) }
+{
+    let mut set = BTreeSet::new(alloc);
+    for path in paths {
+        add(alloc, &mut set, *path)?;
+    }
+    Ok(set)
+}
+
+// The set of these paths, which are added from the last down.
+fn from_last(alloc: Global, paths: &[Path<'_>]) -> Result<BTreeSet<PathBuf>, AllocError>
+    ensures { IfOk result (IsNormalised paths.now) }
+{
+    let mut set = BTreeSet::new(alloc);
+    for path in paths.iter().rev() {
+        add(alloc, &mut set, *path)?;
+    }
+    Ok(set)
+}
 
 /// The set of these paths in canonical form.
 ///
@@ -24,10 +60,11 @@ pub fn normalise(alloc: Global, paths: &[Path<'_>]) -> Result<BTreeSet<PathBuf>,
     ensures same { IfOk result (λ set. (p : PathBuf) →
         contains paths_cmp set p ≡ list_any (is_same p) paths.now) }
 {
-    laws::canonical_form();
-    let mut set = BTreeSet::new(alloc);
-    for path in paths {
-        set.insert(canonical(alloc, *path)?)?;
+    // A search in a node of the set goes up from the node's first path, so a path that comes before
+    // all others finds its place soonest. So a list in order is added from its end.
+    if paths.first() < paths.last() {
+        from_last(alloc, paths)
+    } else {
+        from_first(alloc, paths)
     }
-    Ok(set)
 }

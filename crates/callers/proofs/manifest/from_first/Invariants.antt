@@ -3,7 +3,7 @@ use Rattle.std.specs.BTreeSet.{contains, IsOrdered}
 use Rattle.std.specs.List.{All, list_any}
 use Rattle.unix_path.specs.declared.buf.PathBuf.{PathBuf}
 use Rattle.callers.specs.Manifest.{paths_cmp, is_same, IsCanonical}
-use Rattle.callers.proofs.manifest.normalise.Given as goal
+use Rattle.callers.proofs.manifest.from_first.Given as goal
 
 abbrev pub invariant-loop-path : goal.invariant-loop-path
 invariant-loop-path l = IsOrdered paths_cmp l.set × All IsCanonical l.set.keys
