@@ -48,10 +48,10 @@ fn compare_shared(a: &[u8], b: &[u8], common: usize) -> Ordering
     ensures { result ≡ values_cmp (values a.now) (values b.now) }
 {
     let left = past_shared(a, b, common);
-    let (x, y) = (left.first, left.second);
-    if let Some(order) = order_in_names(x, y, left.common) {
+    if let Some(order) = left.order {
         return order;
     }
+    let (x, y) = (left.first, left.second);
     compare_parts(x, has_lead(x), y, has_lead(y))
 }
 

@@ -69,20 +69,21 @@ pub(crate) fn order_in_names(a: &[u8], b: &[u8], common: usize) -> Option<Orderi
     None
 }
 
-// What is left of two paths, and how many bytes both then begin with.
+// What is left of two paths, and their order if the first bytes that differ there are in names.
 #[derive(Clone, Copy)]
 pub(crate) struct Unshared<'a, 'b> {
     pub(crate) first: &'a [u8],
     pub(crate) second: &'b [u8],
-    pub(crate) common: usize,
+    pub(crate) order: Option<Ordering>,
 }
 
-// What is left of two paths without parts that both begin with; in what both then begin with there
-// is no slash. The first `common` bytes of the paths are the same.
+// What is left of two paths without parts that both begin with. The first `common` bytes of the
+// paths are the same.
 //
 // What is written alike is skipped at once, up to its last slash, and so is what doesn't count
 // behind that in one of them. So parts that are written alike are never taken one by one, even if
-// others before them are not.
+// others before them are not. It ends where the first bytes that differ are in names, which tells
+// the order, or where no slash is left in what both begin with.
 #[inline(never)]
 pub(crate) fn past_shared<'a, 'b>(a: &'a [u8], b: &'b [u8], common: usize) -> Unshared<'a, 'b>
     requires in_first { common ≤ length a.now }
@@ -90,26 +91,30 @@ pub(crate) fn past_shared<'a, 'b>(a: &'a [u8], b: &'b [u8], common: usize) -> Un
     requires same { take common a.now ≡ take common b.now }
     ensures shares { SharesFront a.now b.now result.first.now result.second.now }
     ensures place { LiesIn result.first a.entry }
-    ensures in_first { result.common ≤ length result.first.now }
-    ensures in_second { result.common ≤ length result.second.now }
-    ensures same { take result.common result.first.now ≡ take result.common result.second.now }
+    ensures order { IfSome result.order (λ order.
+        order ≡ values_cmp (values result.first.now) (values result.second.now)) }
+    ensures apart { IsSome result.order
+        → Begins (values result.second.now) (values result.first.now) → ⊥ }
 {
     let mut left = Unshared {
         first: a,
         second: b,
-        common,
+        order: None,
     };
-    loop {
-        let dir = past_last(&left.first[..left.common], b'/');
+    let mut common = common;
+    while left.order.is_none() {
+        let dir = past_last(&left.first[..common], b'/');
         if dir == 0 {
             return left;
         }
         let first = past_idle(&left.first[dir..]);
         let second = past_idle(&left.second[dir..]);
+        common = common_len(first, second);
         left = Unshared {
             first,
             second,
-            common: common_len(first, second),
+            order: order_in_names(first, second, common),
         };
     }
+    left
 }

@@ -60,7 +60,7 @@ fn past_common<'a, 'b>(
         return None;
     }
     let left = past_shared(path, base, common);
-    if order_in_names(left.first, left.second, left.common).is_some() {
+    if left.order.is_some() {
         return None;
     }
     Some((Components::new(left.first), Components::new(left.second)))

@@ -8,12 +8,17 @@ use Rattle.unix_path.proofs.SharedLemmas.{shares-slash}
 use Rattle.unix_path.proofs.SourceLemmas.{LiesIn-trans}
 use Rattle.unix_path.proofs.shared.past_shared.Goals as goal
 
-pub loop-left-preserved : goal.loop-left-preserved
-loop-left-preserved c =
-    let x : List ℕ = c.loop-left.left.first.now in
-    let y : List ℕ = c.loop-left.left.second.now in
-    let old = c.loop-left.invariant in
-    let m : ℕ = c.loop-left.left.common in
+pub order_in_names-requires-clause-same : goal.order_in_names-requires-clause-same
+order_in_names-requires-clause-same c =
+    take-common c.past_idle-first.result.now c.past_idle-second.result.now
+    c.common_len-common.result (omega (arith, c.common_len-common.ensures.value))
+
+pub loop-dir-preserved : goal.loop-dir-preserved
+loop-dir-preserved c =
+    let x : List ℕ = c.loop-dir.left.first.now in
+    let y : List ℕ = c.loop-dir.left.second.now in
+    let old = c.loop-dir.invariant in
+    let m : ℕ = c.loop-dir.common in
     let dir = c.past_last-dir in
     let n : ℕ = dir.result in
     let some : 0 < n = omega (arith, c.if-dir-eq0.false) in
@@ -23,7 +28,7 @@ loop-left-preserved c =
     let second = c.past_idle-second.ensures in
     let t : List ℕ = c.past_idle-first.result.now in
     let u : List ℕ = c.past_idle-second.result.now in
-    let common = c.common_len in
+    let common = c.common_len-common in
     record {
       shares = shares-slash old.shares n some (omega (arith, old.in_first))
           (omega (arith, old.in_second))
@@ -37,4 +42,6 @@ loop-left-preserved c =
       in_first = common.ensures.in_first;
       in_second = common.ensures.in_second;
       same = take-common t u common.result (omega (arith, common.ensures.value));
+      order = c.order_in_names.ensures.order;
+      apart = c.order_in_names.ensures.apart;
     }

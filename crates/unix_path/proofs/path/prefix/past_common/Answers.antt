@@ -5,7 +5,7 @@ use Rattle.unix_path.proofs.path.prefix.past_common.Goals as goal
 
 pub returns-then-is_some-2-clause-none : goal.returns-then-is_some-2-clause-none
 returns-then-is_some-2-clause-none c = λ _ begins.
-    c.order_in_names-2.ensures.apart (sym c.is_some-2.ensures ∙ c.if-is_some-2.true)
+    c.past_shared-left.ensures.apart (sym c.is_some-2.ensures ∙ c.if-is_some-2.true)
     (begins-shared c.past_shared-left.ensures.shares begins)
 
 pub returns-clause-strips : goal.returns-clause-strips
