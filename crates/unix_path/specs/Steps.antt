@@ -103,6 +103,13 @@ pub record PastIdle (s t : List ℕ) : Type 0 where
   pub is : t ≡ drop len s
   pub idle : inner_parts 0 s ≡ inner_parts (0 + len) t
 
+-- all bytes of `base` begin s, and a slash follows them there
+pub record AtSlash (s base : List ℕ) : Type 0 where
+  pub some : 0 < length base
+  pub inside : length base < length s
+  pub same : take (length base) s ≡ base
+  pub here : slice_index s (length base) ≡ slash
+
 -- x and y are what is left of a and b behind the same values
 pub record SharesFront (a b x y : List ℕ) : Type 0 where
   pub front : List Value

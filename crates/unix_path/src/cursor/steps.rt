@@ -230,7 +230,7 @@ fn trimmed_blocks_len(path: &[u8], len: usize) -> usize
 // Where the last part among the first `len` bytes ends. Blocks of 16 are looked at where eight
 // bytes or more stand behind that part, which is rare.
 #[inline]
-pub(super) fn trimmed_len(path: &[u8], len: usize) -> usize
+pub(crate) fn trimmed_len(path: &[u8], len: usize) -> usize
     requires { len ≤ length path.now }
     ensures in_range { result ≤ len }
     ensures same { parts (take result path.now) ≡ parts (take len path.now) }

@@ -1,15 +1,16 @@
 //! Whether the parts of one path begin or end those of another, and what follows them.
-ghost use Rattle.std.specs.Prelude.{◌≡◌, ◌≤◌, ◌↔◌, length, take, IsTrue, IsOk, IfOk, IsSome};
-ghost use Rattle.std.specs.Prelude.{IfSome, Some, None, codes};
+ghost use Rattle.std.specs.Prelude.{◌≡◌, ◌≤◌, ◌↔◌, length, take, nat_eq, IsTrue, IsOk, IfOk};
+ghost use Rattle.std.specs.Prelude.{IsSome, IfSome, Some, None, codes};
 ghost use Rattle.std.specs.Fmt.{padded};
+ghost use Rattle.std.specs.List.{common_prefix_len};
 ghost use Rattle.unix_path.specs.Cursor.{cursor_rest, cursor_source, cursor_values};
 ghost use Rattle.unix_path.specs.Prefixes.{Begins, Ends, stripped_of};
 ghost use Rattle.unix_path.specs.Parts.{values};
-ghost use Rattle.unix_path.specs.Steps.{StripsOn};
+ghost use Rattle.unix_path.specs.Steps.{AtSlash, StripsOn};
 ghost use Rattle.unix_path.specs.Places.{LiesIn};
 
 use crate::compare::is_same_part;
-use crate::cursor::Components;
+use crate::cursor::{Components, long_idle_len, trimmed_len};
 use crate::endings::end_in_other_names;
 use crate::path::Path;
 use crate::shared::{order_in_names, past_idle, past_shared};
@@ -40,8 +41,7 @@ impl fmt::Display for StripPrefixError {
 impl Error for StripPrefixError {}
 
 // The walks over what is left of the path and of the base, without parts that both begin with, or
-// `None` where it is known that the parts of `base` don't begin the path's: mostly the first bytes
-// that differ, at `common`, are in two names, and tell this alone.
+// `None` where the first bytes that differ there are in two names. Both begin with `common` bytes.
 #[inline]
 fn past_common<'a, 'b>(
     path: &'a [u8],
@@ -56,9 +56,6 @@ fn past_common<'a, 'b>(
         StripsOn path.now base.now (cursor_rest left.0) (cursor_values left.1)) }
     ensures place { IfSome result (λ left. LiesIn (cursor_source left.0) path.entry) }
 {
-    if order_in_names(path, base, common).is_some() {
-        return None;
-    }
     let left = past_shared(path, base, common);
     if left.order.is_some() {
         return None;
@@ -66,19 +63,18 @@ fn past_common<'a, 'b>(
     Some((Components::new(left.first), Components::new(left.second)))
 }
 
-// The walk over what follows `base`, or `None` where the parts of `base` don't begin the path's.
-//
-// Where all bytes of `base` begin the path, and a slash follows them there, all its parts do.
-#[inline]
-fn after_prefix<'a>(path: &'a [u8], base: &[u8]) -> Option<Components<'a>>
+// The walk over what follows `base`, or `None` where the parts of `base` don't begin the path's. Both
+// begin with `common` bytes. It isn't inlined, so that what decides most calls before its call
+// stays small.
+#[inline(never)]
+fn after_parts<'a>(path: &'a [u8], base: &[u8], common: usize) -> Option<Components<'a>>
+    requires in_first { common ≤ length path.now }
+    requires in_second { common ≤ length base.now }
+    requires same { take common path.now ≡ take common base.now }
     ensures ok { IsSome result ↔ Begins (values base.now) (values path.now) }
     ensures value { IfSome result (λ left. cursor_rest left ≡ stripped_of path.now base.now) }
     ensures place { IfSome result (λ left. LiesIn (cursor_source left) path.entry) }
 {
-    let common = common_len(path, base);
-    if common > 0 && common == base.len() && common < path.len() && path[common] == b'/' {
-        return Some(Components::new(past_idle(&path[common + 1..])));
-    }
     let (mut left, base_parts) = past_common(path, base, common)?;
     for part in base_parts {
         let Some(own) = left.next() else {
@@ -89,6 +85,64 @@ fn after_prefix<'a>(path: &'a [u8], base: &[u8]) -> Option<Components<'a>>
         }
     }
     Some(left)
+}
+
+// Whether all bytes of `base` begin the path, and a slash follows them there, so that all its parts
+// do. Both begin with `common` bytes.
+#[inline]
+fn ends_at_slash(path: &[u8], base: &[u8], common: usize) -> bool
+    requires { common ≡ common_prefix_len nat_eq path.now base.now }
+    ensures whole { IsTrue result → common ≡ length base.now }
+    ensures slash { IsTrue result → AtSlash path.now base.now }
+{
+    common > 0 && common == base.len() && common < path.len() && path[common] == b'/'
+}
+
+// The walk over what follows `base`, or `None` where the parts of `base` don't begin the path's.
+// Mostly the first bytes that differ are in two names, or a slash, and tell this alone.
+#[inline]
+fn after_prefix<'a>(path: &'a [u8], base: &[u8]) -> Option<Components<'a>>
+    ensures ok { IsSome result ↔ Begins (values base.now) (values path.now) }
+    ensures value { IfSome result (λ left. cursor_rest left ≡ stripped_of path.now base.now) }
+    ensures place { IfSome result (λ left. LiesIn (cursor_source left) path.entry) }
+{
+    let common = common_len(path, base);
+    if ends_at_slash(path, base, common) {
+        return Some(Components::new(past_idle(&path[common + 1..])));
+    }
+    if order_in_names(path, base, common).is_some() {
+        return None;
+    }
+    after_parts(path, base, common)
+}
+
+// Whether the parts of `base` begin the path's: what `after_prefix` tells, without a walk that nobody
+// reads, which would be kept in memory.
+fn has_prefix(path: &[u8], base: &[u8]) -> bool
+    ensures { IsTrue result ↔ Begins (values base.now) (values path.now) }
+{
+    let common = common_len(path, base);
+    if ends_at_slash(path, base, common) {
+        return true;
+    }
+    if order_in_names(path, base, common).is_some() {
+        return false;
+    }
+    after_parts(path, base, common).is_some()
+}
+
+// Where `strip_prefix` says that nothing follows the base: at the end of the path, if what both paths
+// are written alike goes on behind the last part, or else where that part ends.
+#[cold]
+fn end_behind(path: &[u8], base: &[u8]) -> usize
+    ensures { result ≤ length path.now }
+{
+    let dir = Path::from_bytes(path).common_dir(Path::from_bytes(base));
+    if dir > 0 && long_idle_len(&path[dir..]) == path.len() - dir {
+        path.len()
+    } else {
+        trimmed_len(path, path.len())
+    }
 }
 
 // Whether the parts of `child` end the path's. Mostly the last bytes of both tell that they don't.
@@ -129,10 +183,17 @@ impl<'a> Path<'a> {
             left.bytes.now ≡ stripped_of self.now.bytes.now base.entry.bytes.now) }
         ensures place { IfOk result (λ left. LiesIn left.bytes self.now.bytes) }
     {
-        match after_prefix(self.bytes, base.bytes) {
-            Some(left) => Ok(left.as_path()),
-            None => Err(StripPrefixError(())),
+        let Some(left) = after_prefix(self.bytes, base.bytes) else {
+            return Err(StripPrefixError(()));
+        };
+        let left = left.as_path();
+        if left.bytes.is_empty() {
+            let end = end_behind(self.bytes, base.bytes);
+            return Ok(Path {
+                bytes: &self.bytes[end..end],
+            });
         }
+        Ok(left)
     }
 
     /// Whether `base`'s parts begin this path's. Every path begins with the empty one. Does not
@@ -145,7 +206,7 @@ impl<'a> Path<'a> {
         ensures { IsTrue result
             ↔ Begins (values base.entry.bytes.now) (values self.now.bytes.now) }
     {
-        after_prefix(self.bytes, base.bytes).is_some()
+        has_prefix(self.bytes, base.bytes)
     }
 
     /// Whether `child`'s parts end this path's. Does not allocate. As Rust's `Path::ends_with`;

@@ -3,9 +3,9 @@ use Rattle.unix_path.proofs.BehindLemmas.{strips_behind}
 use Rattle.unix_path.proofs.SharedLemmas.{begins-shared}
 use Rattle.unix_path.proofs.path.prefix.past_common.Goals as goal
 
-pub returns-then-is_some-2-clause-none : goal.returns-then-is_some-2-clause-none
-returns-then-is_some-2-clause-none c = λ _ begins.
-    c.past_shared-left.ensures.apart (sym c.is_some-2.ensures ∙ c.if-is_some-2.true)
+pub returns-then-is_some-clause-none : goal.returns-then-is_some-clause-none
+returns-then-is_some-clause-none c = λ _ begins.
+    c.past_shared-left.ensures.apart (sym c.is_some.ensures ∙ c.if-is_some.true)
     (begins-shared c.past_shared-left.ensures.shares begins)
 
 pub returns-clause-strips : goal.returns-clause-strips

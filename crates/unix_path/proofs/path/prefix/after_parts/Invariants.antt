@@ -1,7 +1,7 @@
 use Rattle.unix_path.specs.Cursor.{cursor_rest, cursor_source, cursor_values}
 use Rattle.unix_path.specs.Places.{LiesIn}
 use Rattle.unix_path.specs.Steps.{StripsOn}
-use Rattle.unix_path.proofs.path.prefix.after_prefix.Given as goal
+use Rattle.unix_path.proofs.path.prefix.after_parts.Given as goal
 
 abbrev pub invariant-loop-part : goal.invariant-loop-part
 invariant-loop-part l = record {
