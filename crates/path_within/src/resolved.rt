@@ -3,6 +3,7 @@ ghost use Rattle.std.specs.Prelude.{◌≡◌, true, IsTrue, List, IfOk, OnOk};
 ghost use Rattle.unix_path.specs.Buffers.{path_bytes};
 ghost use Rattle.unix_path.specs.Cursor.{cursor_values};
 ghost use Rattle.unix_path.specs.Joins.{join_of};
+ghost use Rattle.unix_path.specs.Kept.{cow_bytes};
 ghost use Rattle.unix_path.specs.Parts.{Value, parent_dir, values};
 ghost use Rattle.unix_path.specs.Steps.{ends_with_parent};
 ghost use Rattle.unix_path.specs.Views.{value_of};
@@ -12,7 +13,7 @@ ghost use Rattle.path_within.specs.PlainPieces.{is_plain};
 
 use crate::plain::is_plain;
 use std::alloc::{AllocError, Global};
-use unix_path::{Component, Components, Path, PathBuf};
+use unix_path::{Component, Components, CowPath, Path, PathBuf};
 
 // Whether the path's last piece is `..`.
 #[inline]
@@ -101,6 +102,21 @@ pub(crate) fn keep_path(
     keep_all(kept, parts)
 }
 
+// The path as `resolved` gives it, borrowed where it is resolved as it stands.
+pub(crate) fn resolved_cow<'a>(
+    alloc: Global,
+    path: Path<'a>,
+) -> Result<CowPath<'a>, AllocError>
+    ensures { IfOk result (λ p. cow_bytes p ≡ resolved_bytes_of path.entry.bytes.now) }
+{
+    if is_plain(path) {
+        return Ok(CowPath::Borrowed(path));
+    }
+    let mut kept = PathBuf::with_capacity(alloc, path.as_unix_str().len())?;
+    keep_path(&mut kept, path, false)?;
+    Ok(CowPath::Owned(kept))
+}
+
 /// The path with each `..` taken against the name before it, and spelled canonically: `.` goes, and
 /// so does `..` behind the root. Without a root, `..` with no name before it stays in front.
 ///
@@ -113,10 +129,5 @@ pub(crate) fn keep_path(
 pub fn resolved(alloc: Global, path: Path<'_>) -> Result<PathBuf, AllocError>
     ensures { IfOk result (λ p. path_bytes p ≡ resolved_bytes_of path.entry.bytes.now) }
 {
-    if is_plain(path) {
-        return path.to_path_buf(alloc);
-    }
-    let mut kept = PathBuf::with_capacity(alloc, path.as_unix_str().len())?;
-    keep_path(&mut kept, path, false)?;
-    Ok(kept)
+    resolved_cow(alloc, path)?.into_owned(alloc)
 }

@@ -13,7 +13,7 @@ ghost use Rattle.path_within.specs.Way.{is_root, way_of};
 ghost use Rattle.path_within.specs.Steps.{Spells};
 
 use crate::plain::is_plain;
-use crate::resolved::{keep_all, keep_up, resolved};
+use crate::resolved::{keep_path, keep_up, resolved_cow};
 use std::alloc::{AllocError, Global};
 use unix_path::{Component, Components, Path, PathBuf};
 
@@ -103,28 +103,38 @@ fn keep_ups(kept: &mut PathBuf, parts: Components<'_>) -> Result<(), AllocError>
     Ok(())
 }
 
+// How many bytes the way has: `..` and a slash for each part that is left of the first path, and the
+// rest of the other; or one more, if there is no rest.
+#[inline]
+fn way_len(left: Path<'_>, rest: Path<'_>) -> usize {
+    let ups = left.components().count();
+    ups.saturating_mul(3).saturating_add(rest.as_unix_str().len())
+}
+
 /// The way by names from one path to another, both resolved: `..` for each name of the first behind
 /// what both begin with, and then what is left of the other.
 ///
 /// `None` exactly where one path has a root and the other has none, or where what is left of the
 /// first holds a `..`: then no path without a root leads there. For equal paths it is the empty
 /// path. It goes by names alone: where a part may be a link, only the system knows where `..`
-/// leads. Allocates both resolved paths, and the way as it grows; fails if an allocation fails. Not
-/// in Rust's std; as Python's `PurePath.relative_to` with `walk_up`, which doesn't resolve.
+/// leads. Allocates the way, once, or not at all for the empty path, and before that each of the two
+/// paths that isn't resolved as it stands; fails if an allocation fails. Not in Rust's std; as
+/// Python's `PurePath.relative_to` with `walk_up`, which doesn't resolve.
 ///
 /// From `/a/b/c` to `/a/d` it is `../../d`; from `../x` to `y` there is none.
 pub fn way(alloc: Global, from: Path<'_>, to: Path<'_>) -> Result<Option<PathBuf>, AllocError>
     ensures { let steps = way_of (values from.entry.bytes.now) (values to.entry.bytes.now) in
         IfOk result (λ found. option_map path_bytes found ≡ option_map spelling_of steps) }
 {
-    let from = resolved(alloc, from)?;
-    let to = resolved(alloc, to)?;
+    let from = resolved_cow(alloc, from)?;
+    let to = resolved_cow(alloc, to)?;
     let (left, onward) = skip_shared(from.as_path().components(), to.as_path().components());
     if !leads(left, onward) {
         return Ok(None);
     }
-    let mut kept = PathBuf::new(alloc);
+    let rest = onward.as_path();
+    let mut kept = PathBuf::with_capacity(alloc, way_len(left.as_path(), rest))?;
     keep_ups(&mut kept, left)?;
-    keep_all(&mut kept, onward)?;
+    keep_path(&mut kept, rest, is_plain(rest))?;
     Ok(Some(kept))
 }

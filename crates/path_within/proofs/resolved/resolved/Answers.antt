@@ -1,14 +1,7 @@
-use Rattle.std.proofs.Common.{[], refl, sym, ◌∙◌}
+use Rattle.std.proofs.Common.{◌∙◌}
 use Rattle.std.proofs.lemmas.Result.{IfOk-weaker}
-use Rattle.path_within.proofs.PlainLemmas.{resolved-plain}
-use Rattle.path_within.proofs.StepLemmas.{spells_nothing, spells_resolved}
 use Rattle.path_within.proofs.resolved.resolved.Goals as goal
 
-pub returns-then-is_plain : goal.returns-then-is_plain
-returns-then-is_plain c = IfOk-weaker c.to_path_buf.result _ _
-    (λ p e. e ∙ sym (resolved-plain c.args.path.bytes.now (c.is_plain.ensures c.if-is_plain.true)))
-    c.to_path_buf.ensures
-
 pub returns : goal.returns
-returns c = spells_resolved c.args.path.bytes.now refl
-    (c.in_ok-keep_path.ensures.ok [] (spells_nothing c.in_ok-kept.ensures.bytes))
+returns c = IfOk-weaker c.into_owned.result _ _ (λ p e. e ∙ c.in_ok-resolved_cow.ensures)
+    c.into_owned.ensures.bytes
