@@ -1,9 +1,9 @@
 //! What two paths share in front: names that differ behind it, and what is left of both.
-ghost use Rattle.std.specs.Prelude.{◌≡◌, ◌≢◌, ◌+◌, ◌≤◌, false, length, take, IsTrue, IsSome};
-ghost use Rattle.std.specs.Prelude.{IfSome};
+ghost use Rattle.std.specs.Prelude.{◌≡◌, ◌≢◌, ◌+◌, ◌-◌, ◌<◌, ◌≤◌, false, length, take};
+ghost use Rattle.std.specs.Prelude.{slice_index, IsTrue, IsSome, IfSome};
 ghost use Rattle.unix_path.specs.CommonDir.{inner_values};
 ghost use Rattle.unix_path.specs.Order.{values_cmp};
-ghost use Rattle.unix_path.specs.Parts.{dot, values};
+ghost use Rattle.unix_path.specs.Parts.{slash, dot, values};
 ghost use Rattle.unix_path.specs.Places.{LiesIn};
 ghost use Rattle.unix_path.specs.Prefixes.{Begins};
 ghost use Rattle.unix_path.specs.Steps.{is_idle, piece_rank, PastIdle, SharesFront};
@@ -69,6 +69,20 @@ pub(crate) fn order_in_names(a: &[u8], b: &[u8], common: usize) -> Option<Orderi
     None
 }
 
+// The place just after the last slash among the first `len` bytes, or 0 where there is none. Where a
+// path goes on otherwise behind these bytes since it is spelled otherwise, the slash is the last.
+#[inline]
+fn past_last_slash(bytes: &[u8], len: usize) -> usize
+    requires { len ≤ length bytes.now }
+    ensures in_range { result ≤ len }
+    ensures after { 0 < result → slice_index bytes.now (result - 1) ≡ slash }
+{
+    if len > 0 && bytes[len - 1] == b'/' {
+        return len;
+    }
+    past_last(&bytes[..len], b'/')
+}
+
 // What is left of two paths, and their order if the first bytes that differ there are in names.
 #[derive(Clone, Copy)]
 pub(crate) struct Unshared<'a, 'b> {
@@ -103,7 +117,7 @@ pub(crate) fn past_shared<'a, 'b>(a: &'a [u8], b: &'b [u8], common: usize) -> Un
     };
     let mut common = common;
     while left.order.is_none() {
-        let dir = past_last(&left.first[..common], b'/');
+        let dir = past_last_slash(left.first, common);
         if dir == 0 {
             return left;
         }

@@ -116,8 +116,19 @@ fn after_prefix<'a>(path: &'a [u8], base: &[u8]) -> Option<Components<'a>>
     after_parts(path, base, common)
 }
 
-// Whether the parts of `base` begin the path's: what `after_prefix` tells, without a walk that nobody
-// reads, which would be kept in memory.
+// Whether `after_parts` gives a walk. The walk, which nobody reads, is kept in memory here alone.
+#[inline(never)]
+fn has_parts(path: &[u8], base: &[u8], common: usize) -> bool
+    requires in_first { common ≤ length path.now }
+    requires in_second { common ≤ length base.now }
+    requires same { take common path.now ≡ take common base.now }
+    ensures { IsTrue result ↔ Begins (values base.now) (values path.now) }
+{
+    after_parts(path, base, common).is_some()
+}
+
+// Whether the parts of `base` begin the path's: what `after_prefix` tells, without a walk.
+#[inline]
 fn has_prefix(path: &[u8], base: &[u8]) -> bool
     ensures { IsTrue result ↔ Begins (values base.now) (values path.now) }
 {
@@ -128,7 +139,7 @@ fn has_prefix(path: &[u8], base: &[u8]) -> bool
     if order_in_names(path, base, common).is_some() {
         return false;
     }
-    after_parts(path, base, common).is_some()
+    has_parts(path, base, common)
 }
 
 // Where `strip_prefix` says that nothing follows the base: at the end of the path, if what both paths

@@ -1,6 +1,6 @@
-use Rattle.std.proofs.Common.{ℕ, ◌-◌, ◌<◌, ◌≤◌, List, take, sym, ap, subst, ◌∙◌}
-use Rattle.std.proofs.Common.{arith, rules, length-take-le}
-use Rattle.std.proofs.lemmas.List.{get_or-take, take-take, take_rest}
+use Rattle.std.proofs.Common.{ℕ, ◌<◌, ◌≤◌, List, take, sym, ap, subst, ◌∙◌}
+use Rattle.std.proofs.Common.{arith, rules}
+use Rattle.std.proofs.lemmas.List.{take-take, take_rest}
 use Rattle.unix_path.specs.CommonDir.{inner_values}
 use Rattle.unix_path.specs.Steps.{PastIdle}
 use Rattle.unix_path.proofs.CommonDirLemmas.{take-common}
@@ -19,11 +19,10 @@ loop-dir-preserved c =
     let y : List ℕ = c.loop-dir.left.second.now in
     let old = c.loop-dir.invariant in
     let m : ℕ = c.loop-dir.common in
-    let dir = c.past_last-dir in
+    let dir = c.past_last_slash-dir in
     let n : ℕ = dir.result in
     let some : 0 < n = omega (arith, c.if-dir-eq0.false) in
-    let inside : n ≤ m =
-    omega (arith, dir.ensures.in_range, length-take-le m x old.in_first) in
+    let inside : n ≤ m = dir.ensures.in_range in
     let first = c.past_idle-first.ensures in
     let second = c.past_idle-second.ensures in
     let t : List ℕ = c.past_idle-first.result.now in
@@ -33,7 +32,7 @@ loop-dir-preserved c =
       shares = shares-slash old.shares n some (omega (arith, old.in_first))
           (omega (arith, old.in_second))
           (sym (take-take n m x inside) ∙ ap (take n) old.same ∙ take-take n m y inside)
-          (sym (get_or-take m x (n - 1) 0 (omega arith)) ∙ dir.ensures.after some)
+          (dir.ensures.after some)
           (subst (λ s. PastIdle s t) (take_rest x n) first.behind) first.lead
           (first.values ∙ ap inner_values (take_rest x n))
           (second.values ∙ ap inner_values (take_rest y n));

@@ -15,7 +15,7 @@ order_in_names-requires-clause-same c =
     take-common c.args.path.now c.args.base.now c.common_len-common.result
     (omega (arith, c.common_len-common.ensures.value))
 
-pub after_parts-requires-clause-same : goal.after_parts-requires-clause-same
-after_parts-requires-clause-same c =
+pub has_parts-requires-clause-same : goal.has_parts-requires-clause-same
+has_parts-requires-clause-same c =
     take-common c.args.path.now c.args.base.now c.common_len-common.result
     (omega (arith, c.common_len-common.ensures.value))
