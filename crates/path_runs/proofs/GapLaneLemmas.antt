@@ -1,6 +1,6 @@
 -- Sixteen bytes at once, searched for a gap.
-use Rattle.std.proofs.Common.{◌≡◌, ℕ, ◌+◌, ◌-◌, ◌%◌, ◌^◌, ◌<◌, ◌≤◌, Bool, true, false, cond, not, eqb}
-use Rattle.std.proofs.Common.{◌&&◌, ◌||◌, List, length, map, get_or, replicate, bit_and, bit_or}
+use Rattle.std.proofs.Common.{◌≡◌, ℕ, ◌+◌, ◌-◌, ◌%◌, ◌^◌, ◌<◌, ◌≤◌, Bool, true, false, cond, not}
+use Rattle.std.proofs.Common.{eqb, ◌&&◌, ◌||◌, List, length, map, get_or, replicate, bit_and, bit_or}
 use Rattle.std.proofs.Common.{refl, sym, ap, ap₂, ◌∙◌, arith, eq-eqb, ne_eqb}
 use Rattle.std.specs.Int.Count.{count_trailing_zeros}
 use Rattle.std.specs.List.{prefix_len}
@@ -79,13 +79,14 @@ Tells-zip2 f t same xs ys i a b few h k = record {
 -- a lane tells whether a gap begins at its byte
 Tells-gap : (here next after : List ℕ) (i : ℕ) → length here ≡ 16 → length next ≡ 16
     → length after ≡ 16 → i < 16
-    → Tells (gap_lanes here next after) i (gap (get_or here i 0) (get_or next i 0) (get_or after i 0))
+    → Tells (gap_lanes here next after) i
+    (gap (get_or here i 0) (get_or next i 0) (get_or after i 0))
 Tells-gap here next after i l m n few =
     let x = get_or here i 0 in
     let y = get_or next i 0 in
     let z = get_or after i 0 in
-    Tells-zip2 bit_and (λ a b. a && b) and_lane _ _ i (eqb x 47) (eqb y 47 || (eqb y 46 && eqb z 47))
-    few (Tells-hits here 47 i l few)
+    Tells-zip2 bit_and (λ a b. a && b) and_lane _ _ i (eqb x 47)
+    (eqb y 47 || (eqb y 46 && eqb z 47)) few (Tells-hits here 47 i l few)
     (Tells-zip2 bit_or (λ a b. a || b) or_lane _ _ i (eqb y 47) (eqb y 46 && eqb z 47) few
     (Tells-hits next 47 i m few)
     (Tells-zip2 bit_and (λ a b. a && b) and_lane _ _ i (eqb y 46) (eqb z 47) few

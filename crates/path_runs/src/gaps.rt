@@ -24,8 +24,8 @@ fn is_gap(bytes: &[u8], at: usize) -> bool
     bytes[at] == b'/' && (at + 1 == bytes.len() || is_idle(bytes, at + 1))
 }
 
-// How many of the 16 bytes from `at` on stand before the first gap that begins at one of them, or 16
-// where none does.
+// How many of the 16 bytes from `at` on stand before the first gap that begins at one of them, or
+// 16 where none does.
 #[inline]
 fn gapless_in_lanes(bytes: &[u8], at: usize) -> usize
     requires { at + 18 ≤ length bytes.now }

@@ -171,7 +171,8 @@ fn is_common_block(a: &[u8], b: &[u8], at: usize) -> bool
     other.to_bitmask() == 0
 }
 
-// How many bytes both begin with, in whole blocks of 64 behind the first `start`, which are the same.
+// How many bytes both begin with, in whole blocks of 64 behind the first `start`, which are the
+// same.
 #[inline]
 fn common_blocks_len(a: &[u8], b: &[u8], start: usize, most: usize) -> usize
     requires most { most ≡ min (length a.now) (length b.now) }

@@ -1,6 +1,6 @@
 -- A path that begins with all bytes of its base, and a slash behind them.
-use Rattle.std.proofs.Common.{◌≡◌, ℕ, ◌+◌, ◌-◌, ◌<◌, false, List, [], ◌∷◌, ◌++◌, length, get_or, take}
-use Rattle.std.proofs.Common.{drop, refl, sym, ap, subst, ◌∙◌, arith, append-nil, take_all, eqb}
+use Rattle.std.proofs.Common.{◌≡◌, ℕ, ◌+◌, ◌-◌, ◌<◌, false, List, [], ◌∷◌, ◌++◌, length, get_or}
+use Rattle.std.proofs.Common.{take, drop, refl, sym, ap, subst, ◌∙◌, arith, append-nil, take_all, eqb}
 use Rattle.std.specs.List.{common_prefix_len}
 use Rattle.std.proofs.lemmas.List.{take_more, take_rest}
 use Rattle.unix_path.specs.CommonDir.{inner_values}
@@ -60,7 +60,8 @@ at_slash s base n is some whole inside here = record {
 
 -- what follows the slash, where the code cuts it off
 pub past_slash : (s base t : List ℕ) (n : ℕ) → n ≡ length base
-    → PastIdle (take (length s - (n + 1)) (drop (n + 1) s)) t → PastIdle (drop (length base + 1) s) t
+    → PastIdle (take (length s - (n + 1)) (drop (n + 1) s)) t
+    → PastIdle (drop (length base + 1) s) t
 past_slash s base t n whole past =
     subst (λ u. PastIdle u t)
     (take_rest s (n + 1) ∙ ap (λ k. drop k s) {x = n + 1} {y = length base + 1}

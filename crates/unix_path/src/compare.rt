@@ -38,8 +38,8 @@ fn compare_parts(a: &[u8], a_lead: bool, b: &[u8], b_lead: bool) -> Ordering
 }
 
 // The order of two paths by their parts, behind those that are written alike. The first `common`
-// bytes of the paths are the same. It isn't inlined, so that a comparison that is decided before its
-// call stays small.
+// bytes of the paths are the same. It isn't inlined, so that a comparison that is decided before
+// its call stays small.
 #[inline(never)]
 fn compare_shared(a: &[u8], b: &[u8], common: usize) -> Ordering
     requires in_first { common ≤ length a.now }

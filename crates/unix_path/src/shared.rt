@@ -35,8 +35,8 @@ pub(crate) fn piece_rank(bytes: &[u8], at: usize) -> u16
     }
 }
 
-// Whether the rank is that of a byte that is neither a slash nor a dot. A piece with such a byte is a
-// name.
+// Whether the rank is that of a byte that is neither a slash nor a dot. A piece with such a byte is
+// a name.
 #[inline]
 fn is_in_name(rank: u16) -> bool
     ensures no_end { IsTrue result → rank ≢ 0 }
@@ -45,9 +45,9 @@ fn is_in_name(rank: u16) -> bool
     rank != 0 && rank != 1 + u16::from(b'.')
 }
 
-// The order of two paths, if the first bytes that differ, at `common`, are in two names, and so tell
-// it alone: those of both at `common`, or the one before them in both, are bytes of a name. Mostly
-// two paths differ so, and then no slash before these bytes has to be found.
+// The order of two paths, if the first bytes that differ, at `common`, are in two names, and so
+// tell it alone: those of both at `common`, or the one before them in both, are bytes of a name.
+// Mostly two paths differ so, and then no slash before these bytes has to be found.
 #[inline]
 pub(crate) fn order_in_names(a: &[u8], b: &[u8], common: usize) -> Option<Ordering>
     requires in_first { common ≤ length a.now }
@@ -69,8 +69,8 @@ pub(crate) fn order_in_names(a: &[u8], b: &[u8], common: usize) -> Option<Orderi
     None
 }
 
-// The place just after the last slash among the first `len` bytes, or 0 where there is none. Where a
-// path goes on otherwise behind these bytes since it is spelled otherwise, the slash is the last.
+// The place just after the last slash among the first `len` bytes, or 0 where there is none. Where
+// a path goes on otherwise behind these bytes since it is spelled otherwise, the slash is the last.
 #[inline]
 fn past_last_slash(bytes: &[u8], len: usize) -> usize
     requires { len ≤ length bytes.now }

@@ -63,8 +63,8 @@ fn past_common<'a, 'b>(
     Some((Components::new(left.first), Components::new(left.second)))
 }
 
-// The walk over what follows `base`, or `None` where the parts of `base` don't begin the path's. Both
-// begin with `common` bytes. It isn't inlined, so that what decides most calls before its call
+// The walk over what follows `base`, or `None` where the parts of `base` don't begin the path's.
+// Both begin with `common` bytes. It isn't inlined, so that what decides most calls before its call
 // stays small.
 #[inline(never)]
 fn after_parts<'a>(path: &'a [u8], base: &[u8], common: usize) -> Option<Components<'a>>
@@ -142,8 +142,8 @@ fn has_prefix(path: &[u8], base: &[u8]) -> bool
     has_parts(path, base, common)
 }
 
-// Where `strip_prefix` says that nothing follows the base: at the end of the path, if what both paths
-// are written alike goes on behind the last part, or else where that part ends.
+// Where `strip_prefix` says that nothing follows the base: at the end of the path, if what both
+// paths are written alike goes on behind the last part, or else where that part ends.
 #[cold]
 fn end_behind(path: &[u8], base: &[u8]) -> usize
     ensures { result ≤ length path.now }

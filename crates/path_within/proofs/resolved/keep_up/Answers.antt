@@ -12,7 +12,9 @@ returns-then-ends_with_parent c =
     let up : ends_with_parent (path_bytes c.args.kept.now) ≡ true =
     ap ends_with_parent (sym c.as_path.ensures) ∙ sym c.ends_with_parent.ensures
     ∙ c.if-ends_with_parent.true in
-    record { ok = on_ok_weaker c.push_up.result (λ e ks h. spells_up_up h up e) c.push_up.ensures.ok }
+    record {
+      ok = on_ok_weaker c.push_up.result (λ e ks h. spells_up_up h up e) c.push_up.ensures.ok;
+    }
 
 pub returns-then-pop : goal.returns-then-pop
 returns-then-pop c =
