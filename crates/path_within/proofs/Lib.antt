@@ -16,7 +16,9 @@ pub mod SkipLemmas
 pub mod WaySpellingLemmas
 pub mod PlainStartLemmas
 pub mod PlainBlockLemmas
+pub mod PlainStretchLemmas
 pub mod WholeLemmas
 pub mod UpEndLemmas
 pub mod LeadTestLemmas
 pub mod PushLemmas
+pub mod KeepStretchLemmas

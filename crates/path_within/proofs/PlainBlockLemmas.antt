@@ -1,14 +1,16 @@
--- Sixteen bytes at once among which neither a slash nor a dot follows a slash.
+-- Sixteen bytes at once, searched for a slash that a slash or a dot follows.
 use Rattle.std.proofs.Common.{◌≡◌, ℕ, ◌+◌, ◌-◌, ◌%◌, ◌^◌, ◌<◌, ◌≤◌, true, false}
 use Rattle.std.proofs.Common.{cond, not, eqb, ◌||◌, List, length, map}
-use Rattle.std.proofs.Common.{get_or, replicate, bit_and, bit_or, refl, sym, ap, ap₂, ◌∙◌, arith}
+use Rattle.std.proofs.Common.{get_or, replicate, bit_and, bit_or, refl, sym, ap, ap₂}
+use Rattle.std.proofs.Common.{subst, ◌∙◌, arith}
+use Rattle.std.specs.Int.Count.{count_trailing_zeros}
 use Rattle.std.specs.List.{prefix_len}
 use Rattle.std.specs.Simd.Lanes.{chunk, zip2, mask_l, top}
 use Rattle.std.proofs.lemmas.Bool.{true≢false}
 use Rattle.std.proofs.lemmas.List.{length-map, length-replicate, get_or-replicate, get_or_default}
 use Rattle.std.proofs.lemmas.List.Sums.{prefix_len_passes}
 use Rattle.std.proofs.lemmas.Simd.{length-zip2, get_or-zip2, length-chunk, get_or-chunk}
-use Rattle.std.proofs.lemmas.Simd.{mask_l-mod, leading_from_mask_l}
+use Rattle.std.proofs.lemmas.Simd.{mask_l-mod, first_set_mask_l}
 use Rattle.unix_path.proofs.CaseLemmas.{by_test}
 use Rattle.path_within.specs.PlainPieces.{goes_on_plain}
 
@@ -77,18 +79,30 @@ module _ (here next : List ℕ) (m : length here ≡ 16) (n : length next ≡ 16
       i 0 0 0 (omega (arith, length-same next n 47)) (omega (arith, length-same next n 46))
       ∙ ap₂ bit_or (lane next n 47 i few) (lane next n 46 i few))
 
-  -- where no bit is set, each of the 16 is no slash, or neither a slash nor a dot follows it
-  none_marked : mask_l (map (top 7) (mark_lanes here next)) % 2 ^ 64 ≡ 0 → (i : ℕ) → i < 16
+  -- before the place of the lowest bit that is set, the lanes have no highest bit
+  below_first : (i : ℕ) → i < 16
+      → i < count_trailing_zeros 64 (mask_l (map (top 7) (mark_lanes here next)) % 2 ^ 64)
+      → i < prefix_len (λ x. not (top 7 x)) (mark_lanes here next)
+  below_first i few low =
+      let z = mark_lanes here next in
+      let mask = mask_l (map (top 7) z) in
+      let bits : mask % 2 ^ 64 ≡ mask =
+      mask_l-mod (map (top 7) z) 64 (omega (arith, length-map z (top 7), length-mark_lanes)) in
+      let below : i < count_trailing_zeros 64 mask =
+      subst (λ n. i < count_trailing_zeros 64 n) bits low in
+      let first = first_set_mask_l (top 7) z 16 length-mark_lanes (omega arith) in
+      by_test (eqb mask 0)
+      (λ e. omega (arith, sym (ap (λ c. cond c 16 (count_trailing_zeros 64 mask)) e) ∙ first))
+      (λ e. omega (arith, sym (ap (λ c. cond c 16 (count_trailing_zeros 64 mask)) e) ∙ first))
+
+  -- before that place, each of the 16 is no slash, or neither a slash nor a dot follows it
+  none_marked : (i : ℕ) → i < 16
+      → i < count_trailing_zeros 64 (mask_l (map (top 7) (mark_lanes here next)) % 2 ^ 64)
       → (not (eqb (get_or here i 0) 47)
       || not (eqb (get_or next i 0) 47 || eqb (get_or next i 0) 46)) ≡ true
-  none_marked none i few =
-      let z = mark_lanes here next in
-      let size : length (map (top 7) z) ≤ 64 =
-      omega (arith, length-map z (top 7), length-mark_lanes) in
-      let all : prefix_len (λ x. not (top 7 x)) z ≡ length z =
-      leading_from_mask_l (top 7) z (sym (mask_l-mod (map (top 7) z) 64 size) ∙ none) in
-      let passes = prefix_len_passes (λ x. not (top 7 x)) z i 0
-      (omega (arith, all, length-mark_lanes)) in
+  none_marked i few low =
+      let passes = prefix_len_passes (λ x. not (top 7 x)) (mark_lanes here next) i 0
+      (below_first i few low) in
       unmarked (get_or here i 0) (get_or next i 0)
       (ap (λ x. not (top 7 x)) (sym (mark_lane i few)) ∙ passes)
 
@@ -108,11 +122,12 @@ calm_plain s k l h =
     rw (e, end, d) refl)))
     (λ e. rw e refl)
 
--- where no bit is set, each of the 16 bytes from `at` on goes on plain
-pub calm_block : (s : List ℕ) (at : ℕ) → at + 16 < length s
-    → mask_l (map (top 7) (mark_lanes (chunk at 16 s) (chunk (at + 1) 16 s))) % 2 ^ 64 ≡ 0
-    → (k : ℕ) → at ≤ k → k < at + 16 → goes_on_plain s k ≡ true
-calm_block s at l none k from to =
+-- before the place of the lowest bit that is set, each of the 16 bytes from `at` on goes on plain
+pub calm_bytes : (s : List ℕ) (at : ℕ) → at + 16 < length s → (k : ℕ) → at ≤ k → k < at + 16
+    → k < at + count_trailing_zeros 64
+    (mask_l (map (top 7) (mark_lanes (chunk at 16 s) (chunk (at + 1) 16 s))) % 2 ^ 64)
+    → goes_on_plain s k ≡ true
+calm_bytes s at l k from to low =
     let i = k - at in
     let here : get_or (chunk at 16 s) i 0 ≡ get_or s k 0 =
     get_or-chunk at 16 s i 0 (omega arith)
@@ -123,4 +138,4 @@ calm_block s at l none k from to =
     calm_plain s k (omega arith) (ap₂ (λ x y. not (eqb x 47) || not (eqb y 47 || eqb y 46))
     (sym here) (sym next)
     ∙ none_marked (chunk at 16 s) (chunk (at + 1) 16 s) (length-chunk at 16 s (omega arith))
-    (length-chunk (at + 1) 16 s (omega arith)) none i (omega arith))
+    (length-chunk (at + 1) 16 s (omega arith)) i (omega arith) (omega arith))

@@ -1,14 +1,12 @@
 -- A plain path, kept whole: one join with all its bytes in place of one for each part.
 use Rattle.std.proofs.Common.{◌≡◌, ℕ, true, false, List, [], ◌∷◌, map, reverse}
-use Rattle.std.proofs.Common.{refl, sym, ap, subst, ◌∙◌}
+use Rattle.std.proofs.Common.{refl, sym, ap, ◌∙◌}
 use Rattle.std.proofs.lemmas.Bool.{both_ways}
 use Rattle.unix_path.specs.Joins.{join_of, join_all_of}
 use Rattle.unix_path.specs.Parts.{Value, RootDir, CurDir, ParentDir, Normal, value_bytes}
 use Rattle.unix_path.specs.Parts.{is_rooted, values}
 use Rattle.unix_path.proofs.CaseLemmas.{by_test}
 use Rattle.unix_path.proofs.JoinLemmas.{join_of_rooted}
-use Rattle.unix_path.proofs.ParentLemmas.{values-whole}
-use Rattle.unix_path.specs.Rest.{rest}
 use Rattle.path_runs.specs.Spelling.{spelling_of}
 use Rattle.path_runs.proofs.AssociativeLemmas.{join_of-nil, join_of-join_of}
 use Rattle.path_runs.proofs.JoinAllLemmas.{join_all_of-values}
@@ -91,13 +89,6 @@ pub spells_whole : {s t : List ℕ} {ks : List Value} (b : List ℕ) → Spells 
 spells_whole {s} {t} {ks} b h plain e = spells_kept b h (by_test (is_rooted b)
     (λ r. e ∙ join_of_rooted s b r ∙ whole_rooted ks b h.kept h.one plain r)
     (λ r. e ∙ ap (λ s. join_of s b) h.is ∙ whole_rootless ks b (plain_has_names b plain r)))
-
--- bytes that spell kept values, joined with a path up to its last part, where these bytes are
--- plain, spell what is kept after its values
-pub spells_cut : {s t u : List ℕ} {ks : List Value} (b : List ℕ) → Spells s ks
-    → u ≡ rest b 0 0 → is_plain u ≡ true → t ≡ join_of s u → Spells t (kept_of ks (values b))
-spells_cut {s} {t} {u} {ks} b h cut plain e = subst (λ vs. Spells t (kept_of ks vs))
-    (ap values cut ∙ values-whole b (rest b 0 0) refl) (spells_whole u h plain e)
 
 -- the join of two plain paths is resolved as it stands
 pub resolved-plain_join : (a b : List ℕ) → is_plain a ≡ true → is_plain b ≡ true

@@ -1,6 +1,7 @@
 -- Paths whose pieces are plain names. No public clause cites it.
-use Rattle.std.specs.Prelude.{ℕ, ◌+◌, Bool, ◌==◌, ◌&&◌, ◌||◌, not, List, drop, if◌then◌else◌}
-use Rattle.std.specs.Prelude.{slice_index, slice_index_or}
+use Rattle.std.specs.Prelude.{◌≡◌, ℕ, ◌+◌, ◌<◌, ◌≤◌, Bool, true, ◌==◌, ◌&&◌, ◌||◌, not}
+use Rattle.std.specs.Prelude.{List, length, take, drop, slice_index, slice_index_or}
+use Rattle.std.specs.Prelude.{if◌then◌else◌}
 use Rattle.std.specs.List.{list_all, slice_split}
 use Rattle.std.specs.Str.{bytes_eq}
 use Rattle.unix_path.specs.Parts.{dot, slash, is_slash, counts, parent_dir, is_rooted}
@@ -34,3 +35,10 @@ begins_plain s i = not (is_end s i || begins_dots s i)
 -- no slash stands at i, or a plain piece begins behind it
 abbrev pub goes_on_plain : List ℕ → ℕ → Bool
 goes_on_plain s i = not (is_slash (slice_index s i)) || begins_plain s (i + 1)
+
+-- the first n bytes, of which there is one at least, are plain, and a slash or no byte follows them
+pub record IsStretch (s : List ℕ) (n : ℕ) : Type 0 where
+  pub some : 0 < n
+  pub in_range : n ≤ length s
+  pub plain : is_plain (take n s) ≡ true
+  pub ends : is_end s n ≡ true

@@ -1,7 +1,9 @@
 //! Paths whose pieces are plain names.
-ghost use Rattle.std.specs.Prelude.{◌≡◌, ℕ, ◌+◌, ◌<◌, ◌≤◌, true, length, IsTrue};
+ghost use Rattle.std.specs.Int.Count.{count_trailing_zeros};
+ghost use Rattle.std.specs.Prelude.{◌≡◌, ℕ, ◌+◌, ◌<◌, ◌≤◌, true, length, take, IsTrue};
+ghost use Rattle.std.specs.Prelude.{IfSome, None};
 ghost use Rattle.path_within.specs.PlainPieces.{has_plain_pieces, is_plain, is_end, begins_dots};
-ghost use Rattle.path_within.specs.PlainPieces.{begins_plain, goes_on_plain};
+ghost use Rattle.path_within.specs.PlainPieces.{begins_plain, goes_on_plain, IsStretch};
 
 use std::simd::prelude::*;
 use unix_path::Path;
@@ -31,17 +33,20 @@ fn begins_plain(bytes: &[u8], i: usize) -> bool
     !(is_end(bytes, i) || begins_dots(bytes, i))
 }
 
-// True only where a plain piece begins behind each slash among the bytes from `start` up to `end`.
-fn goes_on_plain(bytes: &[u8], start: usize, end: usize) -> bool
-    requires { end ≤ length bytes.now }
-    ensures { IsTrue result → ((k : ℕ) → start ≤ k → k < end → goes_on_plain bytes.now k ≡ true) }
+// A bit for each of the 16 bytes from `at` on, which is set where a slash or a dot follows a slash.
+// So a plain piece begins behind each slash before the place of the lowest bit that is set.
+#[inline]
+fn marks(bytes: &[u8], at: usize) -> u64
+    requires { at + 16 < length bytes.now }
+    ensures { (k : ℕ) → at ≤ k → k < at + 16 → k < at + count_trailing_zeros 64 result
+        → goes_on_plain bytes.now k ≡ true }
 {
-    for i in start..end {
-        if bytes[i] == b'/' && !begins_plain(bytes, i + 1) {
-            return false;
-        }
-    }
-    true
+    let slash = u8x16::splat(b'/');
+    let here = u8x16::from_slice(&bytes[at..]);
+    let next = u8x16::from_slice(&bytes[at + 1..]);
+    let is_mark = next.simd_eq(slash) | next.simd_eq(u8x16::splat(b'.'));
+    let other = here.simd_eq(slash) & is_mark;
+    other.to_bitmask()
 }
 
 // True only where neither a slash nor a dot follows a slash among the 16 bytes from `at` on.
@@ -50,62 +55,113 @@ fn is_calm_block(bytes: &[u8], at: usize) -> bool
     requires { at + 16 < length bytes.now }
     ensures { IsTrue result → ((k : ℕ) → at ≤ k → k < at + 16 → goes_on_plain bytes.now k ≡ true) }
 {
-    let slash = u8x16::splat(b'/');
-    let here = u8x16::from_slice(&bytes[at..]);
-    let next = u8x16::from_slice(&bytes[at + 1..]);
-    let is_mark = next.simd_eq(slash) | next.simd_eq(u8x16::splat(b'.'));
-    let other = here.simd_eq(slash) & is_mark;
-    other.to_bitmask() == 0
+    marks(bytes, at) == 0
 }
 
-// True only where a plain piece begins behind each slash among the 16 bytes from `at` on. They are
-// looked at one by one only where a dot or a slash follows a slash.
+// The place of the first slash among the 16 bytes from `at` on that a slash or a dot follows.
 #[inline]
-fn goes_on_plain_block(bytes: &[u8], at: usize) -> bool
+fn first_mark(bytes: &[u8], at: usize) -> Option<usize>
     requires { at + 16 < length bytes.now }
-    ensures { IsTrue result → ((k : ℕ) → at ≤ k → k < at + 16 → goes_on_plain bytes.now k ≡ true) }
+    ensures none { result ≡ None
+        → ((k : ℕ) → at ≤ k → k < at + 16 → goes_on_plain bytes.now k ≡ true) }
+    ensures in_range { IfSome result (λ place. (at ≤ place) × (place < at + 16)) }
+    ensures some { IfSome result
+        (λ place. (k : ℕ) → at ≤ k → k < place → goes_on_plain bytes.now k ≡ true) }
 {
-    is_calm_block(bytes, at) || goes_on_plain(bytes, at, at + 16)
+    let calm = marks(bytes, at).trailing_zeros() as usize;
+    if calm < 16 { Some(at + calm) } else { None }
 }
 
-// True only where a plain piece begins behind each slash.
+// Where the first slash stands behind which no plain piece begins, or the end where there is none,
+// if a plain piece begins behind each slash before `start`, and at most 17 bytes follow.
 #[inline]
-fn all_go_on_plain(bytes: &[u8]) -> bool
-    ensures { IsTrue result
-        → ((k : ℕ) → k < length bytes.now → goes_on_plain bytes.now k ≡ true) }
+fn last_plain_end(bytes: &[u8], start: usize) -> usize
+    requires in_range { start ≤ length bytes.now }
+    requires few { length bytes.now ≤ start + 17 }
+    requires before { (k : ℕ) → k < start → goes_on_plain bytes.now k ≡ true }
+    ensures in_range { result ≤ length bytes.now }
+    ensures plain { (k : ℕ) → k < result → goes_on_plain bytes.now k ≡ true }
+    ensures ends { is_end bytes.now result ≡ true }
 {
-    if bytes.len() < 17 {
-        return goes_on_plain(bytes, 0, bytes.len());
+    let len = bytes.len();
+    if len > 16 && is_calm_block(bytes, len - 17) && bytes[len - 1] != b'/' {
+        return len;
     }
-    let last = bytes.len() - 17;
-    let mut at = 0;
-    while at < last {
-        if !goes_on_plain_block(bytes, at) {
-            return false;
+    for i in start..len {
+        if bytes[i] == b'/' && !begins_plain(bytes, i + 1) {
+            return i;
         }
-        at += 16;
     }
-    goes_on_plain_block(bytes, last) && bytes[bytes.len() - 1] != b'/'
+    len
 }
 
-// True only where no piece is empty, `.` or `..`.
+// Where the first slash stands behind which no plain piece begins, or the end where there is none.
+// Blocks of 16 bytes are looked at, and then what is left, as a block too where it can be one.
 #[inline]
-fn has_plain_pieces(bytes: &[u8]) -> bool
-    ensures { IsTrue result → has_plain_pieces bytes.now ≡ true }
+fn plain_end(bytes: &[u8]) -> usize
+    ensures in_range { result ≤ length bytes.now }
+    ensures plain { (k : ℕ) → k < result → goes_on_plain bytes.now k ≡ true }
+    ensures ends { is_end bytes.now result ≡ true }
 {
-    begins_plain(bytes, 0) && all_go_on_plain(bytes)
+    let mut at = 0;
+    while at + 17 < bytes.len() {
+        match first_mark(bytes, at) {
+            None => at += 16,
+            Some(place) => {
+                if bytes[place] == b'/' && !begins_plain(bytes, place + 1) {
+                    return place;
+                }
+                at = place + 1;
+            }
+        }
+    }
+    last_plain_end(bytes, at)
+}
+
+// How many bytes of plain pieces these begin with, up to a slash behind which none begins or to the
+// end; 0 where none begins them.
+#[inline]
+fn plain_pieces_len(bytes: &[u8]) -> usize
+    ensures in_range { result ≤ length bytes.now }
+    ensures plain { 0 < result → has_plain_pieces (take result bytes.now) ≡ true }
+    ensures ends { 0 < result → is_end bytes.now result ≡ true }
+{
+    if begins_plain(bytes, 0) {
+        plain_end(bytes)
+    } else {
+        0
+    }
+}
+
+// How long the stretch is that the path begins with: plain pieces, behind its root if it has one,
+// up to a slash behind which none begins or to the end. It is 0 where no plain piece comes first.
+pub(crate) fn plain_len(path: Path<'_>) -> usize
+    ensures { 0 < result → IsStretch path.entry.bytes.now result }
+{
+    let bytes = path.as_unix_str().as_bytes();
+    if !path.has_root() {
+        return plain_pieces_len(bytes);
+    }
+    let len = plain_pieces_len(&bytes[1..]);
+    if len > 0 { len + 1 } else { 0 }
+}
+
+// True only where the path is plain: the stretch of `len` bytes that it begins with, unless that is
+// 0, is all of it.
+#[inline]
+pub(crate) fn is_whole(path: Path<'_>, len: usize) -> bool
+    requires { 0 < len → IsStretch path.bytes.now len }
+    ensures { IsTrue result → is_plain path.entry.bytes.now ≡ true }
+{
+    len > 0 && len == path.as_unix_str().len()
 }
 
 // True only where no piece is empty, `.` or `..`, but for that before the root. Then the path is
 // resolved as it stands, and without a root it goes down by names alone. It is false for the empty
 // path and for `/`, which are resolved too.
+#[inline]
 pub(crate) fn is_plain(path: Path<'_>) -> bool
     ensures { IsTrue result → is_plain path.entry.bytes.now ≡ true }
 {
-    let bytes = path.as_unix_str().as_bytes();
-    if path.has_root() {
-        has_plain_pieces(&bytes[1..])
-    } else {
-        has_plain_pieces(bytes)
-    }
+    is_whole(path, plain_len(path))
 }

@@ -1,6 +1,7 @@
 //! Paths with each `..` taken against the name before it.
-ghost use Rattle.std.specs.Prelude.{◌≡◌, true, IsTrue, List, IfOk, OnOk};
+ghost use Rattle.std.specs.Prelude.{◌≡◌, ◌++◌, ◌<◌, true, List, take, drop, IfOk, OnOk};
 ghost use Rattle.unix_path.specs.Buffers.{path_bytes};
+ghost use Rattle.unix_path.specs.CommonDir.{inner_values};
 ghost use Rattle.unix_path.specs.Cursor.{cursor_values};
 ghost use Rattle.unix_path.specs.Joins.{join_of};
 ghost use Rattle.unix_path.specs.Kept.{cow_bytes};
@@ -9,9 +10,9 @@ ghost use Rattle.unix_path.specs.Steps.{ends_with_parent};
 ghost use Rattle.unix_path.specs.Views.{value_of};
 ghost use Rattle.path_within.specs.Resolved.{keep, kept_of, up_from, resolved_bytes_of};
 ghost use Rattle.path_within.specs.Steps.{IsOne, Spells};
-ghost use Rattle.path_within.specs.PlainPieces.{is_plain};
+ghost use Rattle.path_within.specs.PlainPieces.{is_end, IsStretch};
 
-use crate::plain::is_plain;
+use crate::plain::{is_whole, plain_len};
 use std::alloc::{AllocError, Global};
 use unix_path::{Component, Components, CowPath, Path, PathBuf};
 
@@ -67,53 +68,84 @@ fn keep(kept: &mut PathBuf, part: Component<'_>) -> Result<(), AllocError>
     }
 }
 
-// Keeps these parts behind what is kept.
-pub(crate) fn keep_all(kept: &mut PathBuf, parts: Components<'_>) -> Result<(), AllocError>
+// The walk over what follows the slash that these bytes begin with, or over nothing where there are
+// none. It takes that slash as a root.
+#[inline]
+fn behind_slash(bytes: &[u8]) -> Components<'_>
+    requires { is_end bytes.now 0 ≡ true }
+    ensures { cursor_values result ≡ inner_values (drop 1 bytes.now) }
+{
+    let mut walk = Path::from_bytes(bytes).components();
+    let _slash = walk.next();
+    walk
+}
+
+// Keeps the stretch of `len` bytes that the path begins with behind what is kept, by one copy: its
+// names are all kept, and stand there with one slash between two. What follows it is left to walk.
+#[inline]
+fn keep_stretch<'a>(
+    kept: &mut PathBuf,
+    path: Path<'a>,
+    len: usize,
+) -> Result<Components<'a>, AllocError>
+    requires { IsStretch path.bytes.now len }
+    ensures ok { OnOk result ((ks : List Value) → Spells (path_bytes kept.old) ks
+        → Spells (path_bytes kept.new) (kept_of ks (values (take len path.entry.bytes.now)))) }
+    ensures rest { IfOk result (λ walk. values path.entry.bytes.now
+        ≡ values (take len path.entry.bytes.now) ++ cursor_values walk) }
+{
+    let bytes = path.as_unix_str().as_bytes();
+    kept.push(Path::from_bytes(&bytes[..len]))?;
+    Ok(behind_slash(&bytes[len..]))
+}
+
+// Keeps these parts behind what is kept: stretch by stretch, and one part where none begins.
+fn keep_stretches(kept: &mut PathBuf, parts: Components<'_>) -> Result<(), AllocError>
     ensures ok { OnOk result ((ks : List Value) → Spells (path_bytes kept.old) ks
         → Spells (path_bytes kept.new) (kept_of ks (cursor_values parts.entry))) }
 {
-    for part in parts {
-        keep(kept, part)?;
+    let mut walk = parts;
+    loop {
+        let left = walk.as_path();
+        let len = plain_len(left);
+        if len > 0 {
+            walk = keep_stretch(kept, left, len)?;
+        } else {
+            let Some(part) = walk.next() else {
+                return Ok(());
+            };
+            keep(kept, part)?;
+        }
     }
-    Ok(())
 }
 
-// Keeps the path's parts behind what is kept. Those of a plain path are names that are all kept,
-// behind its root if it has one, so one copy of its bytes adds them. So it is where only slashes, or
-// dots between slashes, stand behind a plain path.
-pub(crate) fn keep_path(
-    kept: &mut PathBuf,
-    path: Path<'_>,
-    known_plain: bool,
-) -> Result<(), AllocError>
-    requires { IsTrue known_plain → is_plain path.bytes.now ≡ true }
+// Keeps the path's parts behind what is kept. It begins with a stretch of `len` bytes, unless that
+// is 0, whose end isn't looked for again.
+pub(crate) fn keep_path(kept: &mut PathBuf, path: Path<'_>, len: usize) -> Result<(), AllocError>
+    requires { 0 < len → IsStretch path.bytes.now len }
     ensures ok { OnOk result ((ks : List Value) → Spells (path_bytes kept.old) ks
         → Spells (path_bytes kept.new) (kept_of ks (values path.entry.bytes.now))) }
 {
-    if known_plain {
+    if is_whole(path, len) {
         return kept.push(path);
     }
-    let parts = path.components();
-    let whole = parts.as_path();
-    let is_cut = whole.as_unix_str().len() < path.as_unix_str().len();
-    if is_cut && is_plain(whole) {
-        return kept.push(whole);
+    if len == 0 {
+        return keep_stretches(kept, path.components());
     }
-    keep_all(kept, parts)
+    let parts = keep_stretch(kept, path, len)?;
+    keep_stretches(kept, parts)
 }
 
 // The path as `resolved` gives it, borrowed where it is resolved as it stands.
-pub(crate) fn resolved_cow<'a>(
-    alloc: Global,
-    path: Path<'a>,
-) -> Result<CowPath<'a>, AllocError>
+pub(crate) fn resolved_cow<'a>(alloc: Global, path: Path<'a>) -> Result<CowPath<'a>, AllocError>
     ensures { IfOk result (λ p. cow_bytes p ≡ resolved_bytes_of path.entry.bytes.now) }
 {
-    if is_plain(path) {
+    let len = plain_len(path);
+    if is_whole(path, len) {
         return Ok(CowPath::Borrowed(path));
     }
     let mut kept = PathBuf::with_capacity(alloc, path.as_unix_str().len())?;
-    keep_path(&mut kept, path, false)?;
+    keep_path(&mut kept, path, len)?;
     Ok(CowPath::Owned(kept))
 }
 

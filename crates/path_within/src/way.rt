@@ -12,7 +12,7 @@ ghost use Rattle.path_within.specs.Climbs.{is_name};
 ghost use Rattle.path_within.specs.Way.{is_root, way_of};
 ghost use Rattle.path_within.specs.Steps.{Spells};
 
-use crate::plain::is_plain;
+use crate::plain::{is_plain, plain_len};
 use crate::resolved::{keep_path, keep_up, resolved_cow};
 use std::alloc::{AllocError, Global};
 use unix_path::{Component, Components, Path, PathBuf};
@@ -108,7 +108,8 @@ fn keep_ups(kept: &mut PathBuf, parts: Components<'_>) -> Result<(), AllocError>
 #[inline]
 fn way_len(left: Path<'_>, rest: Path<'_>) -> usize {
     let ups = left.components().count();
-    ups.saturating_mul(3).saturating_add(rest.as_unix_str().len())
+    ups.saturating_mul(3)
+        .saturating_add(rest.as_unix_str().len())
 }
 
 /// The way by names from one path to another, both resolved: `..` for each name of the first behind
@@ -135,6 +136,6 @@ pub fn way(alloc: Global, from: Path<'_>, to: Path<'_>) -> Result<Option<PathBuf
     let rest = onward.as_path();
     let mut kept = PathBuf::with_capacity(alloc, way_len(left.as_path(), rest))?;
     keep_ups(&mut kept, left)?;
-    keep_path(&mut kept, rest, is_plain(rest))?;
+    keep_path(&mut kept, rest, plain_len(rest))?;
     Ok(Some(kept))
 }

@@ -11,7 +11,7 @@ ghost use Rattle.path_within.specs.PlainPieces.{is_plain};
 ghost use Rattle.path_within.specs.Resolved.{resolved_bytes_of};
 
 use crate::laws;
-use crate::plain::is_plain;
+use crate::plain::{is_plain, is_whole, plain_len};
 use crate::resolved::keep_path;
 use std::alloc::{AllocError, Global};
 use std::error::Error;
@@ -122,11 +122,13 @@ pub fn join_within(alloc: Global, root: Path<'_>, request: Path<'_>) -> Result<P
     ensures within { IfOk result (λ p. Begins (values (resolved_bytes_of root.entry.bytes.now))
         (values (path_bytes p))) }
 {
-    let is_plain_request = is_plain(request);
+    let request_len = plain_len(request);
+    let is_plain_request = is_whole(request, request_len);
     if climbs_unless(is_plain_request, request) {
         return Err(WithinError::Escapes);
     }
-    let is_plain_root = is_plain(root);
+    let root_len = plain_len(root);
+    let is_plain_root = is_whole(root, root_len);
     if is_plain_root && is_plain_request {
         // The join is resolved as it stands, and has one byte more than both, since a plain root
         // doesn't end in a slash.
@@ -134,8 +136,8 @@ pub fn join_within(alloc: Global, root: Path<'_>, request: Path<'_>) -> Result<P
     }
     let len = root.as_unix_str().len() + 1 + request.as_unix_str().len();
     let mut kept = PathBuf::with_capacity(alloc, len)?;
-    keep_path(&mut kept, root, is_plain_root)?;
-    keep_path(&mut kept, request, is_plain_request)?;
+    keep_path(&mut kept, root, root_len)?;
+    keep_path(&mut kept, request, request_len)?;
     Ok(kept)
 }
 

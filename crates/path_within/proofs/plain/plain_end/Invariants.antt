@@ -1,0 +1,12 @@
+use Rattle.std.proofs.Common.{◌-◌, ◌≡◌, ℕ, ◌<◌, ◌≤◌, length, true}
+use Rattle.path_within.specs.PlainPieces.{goes_on_plain}
+use Rattle.path_within.proofs.plain.plain_end.Given as goal
+
+abbrev pub invariant-loop-at : goal.invariant-loop-at
+invariant-loop-at l = record {
+  in_range : l.at ≤ length l.bytes;
+  plain : (k : ℕ) → k < l.at → goes_on_plain l.bytes k ≡ true;
+}
+
+abbrev pub decreases-loop-at : goal.decreases-loop-at
+decreases-loop-at l = length l.bytes - l.at
