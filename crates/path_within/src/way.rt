@@ -103,8 +103,8 @@ fn keep_ups(kept: &mut PathBuf, parts: Components<'_>) -> Result<(), AllocError>
     Ok(())
 }
 
-// How many bytes the way has: `..` and a slash for each part that is left of the first path, and the
-// rest of the other; or one more, if there is no rest.
+// How many bytes the way has: `..` and a slash for each part that is left of the first path, and
+// the rest of the other; or one more, if there is no rest.
 #[inline]
 fn way_len(left: Path<'_>, rest: Path<'_>) -> usize {
     let ups = left.components().count();
@@ -118,8 +118,8 @@ fn way_len(left: Path<'_>, rest: Path<'_>) -> usize {
 /// `None` exactly where one path has a root and the other has none, or where what is left of the
 /// first holds a `..`: then no path without a root leads there. For equal paths it is the empty
 /// path. It goes by names alone: where a part may be a link, only the system knows where `..`
-/// leads. Allocates the way, once, or not at all for the empty path, and before that each of the two
-/// paths that isn't resolved as it stands; fails if an allocation fails. Not in Rust's std; as
+/// leads. Allocates the way, once, or not at all for the empty path, and before that each of the
+/// two paths that isn't resolved as it stands; fails if an allocation fails. Not in Rust's std; as
 /// Python's `PurePath.relative_to` with `walk_up`, which doesn't resolve.
 ///
 /// From `/a/b/c` to `/a/d` it is `../../d`; from `../x` to `y` there is none.
