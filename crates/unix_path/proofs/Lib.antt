@@ -43,6 +43,5 @@ pub mod DifferLemmas
 pub mod ComparisonLemmas
 pub mod ApartLemmas
 pub mod SharedLemmas
-pub mod EndLaneLemmas
 pub mod EndingLemmas
 pub mod BaseLemmas
