@@ -171,18 +171,14 @@ fn is_common_block(a: &[u8], b: &[u8], at: usize) -> bool
     other.to_bitmask() == 0
 }
 
-// How many bytes both begin with, in whole blocks of 64 behind the first `start`, which are the
-// same.
+// How many bytes both begin with, in whole blocks of 64.
 #[inline]
-fn common_blocks_len(a: &[u8], b: &[u8], start: usize, most: usize) -> usize
-    requires most { most ≡ min (length a.now) (length b.now) }
-    requires start { start ≤ most }
-    ensures forward { start ≤ result }
+fn common_blocks_len(a: &[u8], b: &[u8], most: usize) -> usize
+    requires { most ≡ min (length a.now) (length b.now) }
     ensures in_range { result ≤ most }
-    ensures same { (k : ℕ) → start ≤ k → k < result →
-        slice_index a.now k ≡ slice_index b.now k }
+    ensures same { (k : ℕ) → k < result → slice_index a.now k ≡ slice_index b.now k }
 {
-    let mut len = start;
+    let mut len = 0;
     while 64 <= most - len && is_common_block(a, b, len) {
         len += 64;
     }
@@ -205,17 +201,19 @@ pub fn common_len(a: &[u8], b: &[u8]) -> usize
         return common_in_few(a, b, most);
     }
     let last = most - 16;
-    let mut len = 0;
+    // A block that differs is looked at twice, so blocks are for long strings, of which many bytes
+    // may be the same. Most paths have fewer.
+    let mut len = if most < 128 {
+        0
+    } else {
+        common_blocks_len(a, b, most)
+    };
     while len < last {
         let common = common_in_lanes(a, b, len);
         if common < 16 {
             return len + common;
         }
         len += 16;
-        // Most strings differ before that, and a block in which they do would be looked at twice.
-        if len == 64 {
-            len = common_blocks_len(a, b, len, most);
-        }
     }
     last + common_in_lanes(a, b, last)
 }

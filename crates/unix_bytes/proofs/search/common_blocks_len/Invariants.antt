@@ -4,9 +4,8 @@ use Rattle.unix_bytes.proofs.search.common_blocks_len.Given as goal
 -- the bytes so far are the same
 abbrev pub invariant-loop-len : goal.invariant-loop-len
 invariant-loop-len l = record {
-  forward : l.start ≤ l.len;
   in_range : l.len ≤ l.most;
-  same : (k : ℕ) → l.start ≤ k → k < l.len → get_or l.a k 0 ≡ get_or l.b k 0;
+  same : (k : ℕ) → k < l.len → get_or l.a k 0 ≡ get_or l.b k 0;
 }
 
 abbrev pub decreases-loop-len : goal.decreases-loop-len
