@@ -142,8 +142,8 @@ fn has_prefix(path: &[u8], base: &[u8]) -> bool
     has_parts(path, base, common)
 }
 
-// Where `strip_prefix` says that nothing follows the base: at the end of the path, if what both
-// paths are written alike goes on behind the last part, or else where that part ends.
+// The place of `strip_prefix`'s answer where nothing follows the base: the end of the path, if both
+// are written alike up to a slash behind its last part, or else the end of that part.
 #[cold]
 fn end_behind(path: &[u8], base: &[u8]) -> usize
     ensures { result ≤ length path.now }
