@@ -1,6 +1,7 @@
 -- A path that begins with all bytes of its base, and a slash behind them.
 use Rattle.std.proofs.Common.{◌≡◌, ℕ, ◌+◌, ◌-◌, ◌<◌, false, List, [], ◌∷◌, ◌++◌, length, get_or}
-use Rattle.std.proofs.Common.{take, drop, refl, sym, ap, subst, ◌∙◌, arith, append-nil, take_all, eqb}
+use Rattle.std.proofs.Common.{take, drop, refl, sym, ap, subst, ◌∙◌, arith, append-nil, take_all}
+use Rattle.std.proofs.Common.{eqb}
 use Rattle.std.specs.List.{common_prefix_len}
 use Rattle.std.proofs.lemmas.List.{take_more, take_rest}
 use Rattle.unix_path.specs.CommonDir.{inner_values}
