@@ -38,7 +38,8 @@ slashed_parts-busy s l e =
     ∙ ap₂ (λ p vs. slash ∷ (p ++ flat_map (λ v. slash ∷ value_bytes v) vs))
     (value_bytes-piece (first_piece s)) (values-inner_parts (0 + n) (drop n s))
 
-is_gap-behind : (x : ℕ) (s : List ℕ) (i : ℕ) → is_gap (x ∷ s) (suc i) ≡ is_gap s i
+-- behind a first byte a gap begins one place nearer
+pub is_gap-behind : (x : ℕ) (s : List ℕ) (i : ℕ) → is_gap (x ∷ s) (suc i) ≡ is_gap s i
 is_gap-behind x s i =
     let next : get_or (x ∷ s) (suc i + 1) 47 ≡ get_or s (i + 1) 47 =
     ap (λ k. get_or (x ∷ s) k 47) {x = suc i + 1} {y = suc (i + 1)} (omega arith) in

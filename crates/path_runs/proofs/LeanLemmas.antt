@@ -1,16 +1,18 @@
 -- No path is shorter than the spelling of its values.
-use Rattle.std.proofs.Common.{◌≡◌, ℕ, ◌<◌, Bool, true, false, cond, List, [], ◌∷◌, ◌++◌}
-use Rattle.std.proofs.Common.{length, filter, refl, sym, ap, subst, ◌⊎◌, inl, inr, arith}
+use Rattle.std.proofs.Common.{◌≡◌, ℕ, ◌<◌, ◌≤◌, Bool, true, false, cond, List, [], ◌∷◌}
+use Rattle.std.proofs.Common.{◌++◌, length, filter, refl, sym, ap, subst, ◌∙◌, ◌⊎◌, inl, inr, arith}
 use Rattle.std.proofs.Common.{append_assoc, length-append}
 use Rattle.std.specs.List.{slice_split, join_with_byte}
 use Rattle.std.specs.Str.{bytes_eq}
 use Rattle.std.proofs.lemmas.List.Splits.{join_with_byte-slice_split}
 use Rattle.std.proofs.lemmas.Slice.Eq.{bytes_eq-Decides}
+use Rattle.unix_path.specs.CommonDir.{inner_values}
 use Rattle.unix_path.specs.Parts.{is_slash, slash, cur_dir, counts, is_rooted, values}
 use Rattle.unix_path.proofs.CaseLemmas.{by_test}
-use Rattle.path_runs.specs.Spelling.{spelling_of}
-use Rattle.path_runs.proofs.PieceValueLemmas.{is_rooted-slash}
-use Rattle.path_runs.proofs.SpellLemmas.{lean_pieces, spelling_of-rooted, spelling_of-rootless}
+use Rattle.path_runs.specs.Spelling.{slashed_bytes, spelling_of}
+use Rattle.path_runs.proofs.PieceValueLemmas.{inner_values-pieces, is_rooted-slash}
+use Rattle.path_runs.proofs.SpellLemmas.{lean_pieces, slashed_bytes-names}
+use Rattle.path_runs.proofs.SpellLemmas.{spelling_of-rooted, spelling_of-rootless}
 
 -- the same bytes, or fewer
 abbrev Leaner : List ℕ → List ℕ → Type 0
@@ -73,6 +75,22 @@ Leaner-pieces (q ∷ qs) = by_test (counts q) (λ e. rw e (Leaner-behind q qs))
 -- a string is its pieces, joined
 pub join_with_byte-pieces : (s : List ℕ) → join_with_byte slash (slice_split is_slash s) ≡ s
 join_with_byte-pieces s = join_with_byte-slice_split 47 s
+
+Leaner-length : (u s : List ℕ) → Leaner u s → length u ≤ length s
+Leaner-length u s (inl e) = omega (arith, ap length e)
+Leaner-length u s (inr h) = omega arith
+
+-- the names between a string's slashes are spelled as no more bytes than the string has
+pub slashed_bytes-lean : (s : List ℕ) → length (slashed_bytes (inner_values s)) ≤ length s
+slashed_bytes-lean s =
+    let ps = slice_split is_slash s in
+    let u = join_with_byte slash (filter counts ps) in
+    omega (
+      arith,
+      ap length (ap slashed_bytes (inner_values-pieces s) ∙ slashed_bytes-names ps),
+      Leaner-length u (join_with_byte slash ps) (Leaner-pieces ps),
+      ap length (join_with_byte-pieces s),
+    )
 
 -- the spelling of a rooted path is the path itself, or has fewer bytes
 spelling_of-lean_rooted : (t : List ℕ) → Leaner (spelling_of (values (slash ∷ t))) (slash ∷ t)

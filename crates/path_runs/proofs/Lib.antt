@@ -35,4 +35,5 @@ pub mod FitLemmas
 pub mod TableLemmas
 pub mod KeptLemmas
 pub mod StretchLemmas
+pub mod GaplessLemmas
 pub mod GapLaneLemmas

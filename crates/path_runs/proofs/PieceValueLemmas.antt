@@ -27,7 +27,7 @@ names_of-parts at (p ∷ ps) =
     let next = names_of-parts (at + length p + 1) ps in
     by_test (counts p) (λ e. rw e (ap (λ vs. value_of_piece p ∷ vs) next)) (λ e. rw e next)
 
-inner_values-pieces : (s : List ℕ) → inner_values s ≡ names_of (slice_split is_slash s)
+pub inner_values-pieces : (s : List ℕ) → inner_values s ≡ names_of (slice_split is_slash s)
 unfolding inner_parts
 inner_values-pieces s = names_of-parts 0 (slice_split is_slash s)
 

@@ -24,11 +24,11 @@ use Rattle.path_runs.proofs.SpellLemmas.{spelling_of-cons, spelling_of-nil, spel
 use Rattle.path_runs.proofs.SpellLemmas.{spelling_of-rooted}
 
 -- the values' bytes, each behind a slash
-abbrev slash_each : List Value → List ℕ
+abbrev pub slash_each : List Value → List ℕ
 slash_each vs = flat_map (λ v. slash ∷ value_bytes v) vs
 
 -- values with slashes between are the first of them, and then the others, each behind a slash
-slashed_bytes-cons : (v : Value) (vs : List Value)
+pub slashed_bytes-cons : (v : Value) (vs : List Value)
     → slashed_bytes (v ∷ vs) ≡ value_bytes v ++ slash_each vs
 slashed_bytes-cons v [] = sym (append-nil (value_bytes v))
 slashed_bytes-cons v (w ∷ vs) = ap (λ u. value_bytes v ++ slash ∷ u) (slashed_bytes-cons w vs)

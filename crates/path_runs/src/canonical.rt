@@ -1,5 +1,6 @@
-//! The shortest path with the same values.
-ghost use Rattle.std.specs.Prelude.{◌≡◌, ◌<◌, ◌≤◌, ◌++◌, true, length, drop, IfOk, OnOk};
+//! The shortest path with the same values, and whether a path is that.
+ghost use Rattle.std.specs.Prelude.{◌≡◌, ◌<◌, ◌≤◌, ◌++◌, ◌↔◌, true, length, drop};
+ghost use Rattle.std.specs.Prelude.{IfOk, OnOk, IsTrue};
 ghost use Rattle.unix_bytes.specs.Owned.{owned_bytes};
 ghost use Rattle.unix_path.specs.Buffers.{path_bytes};
 ghost use Rattle.unix_path.specs.Parts.{values};
@@ -50,4 +51,23 @@ pub fn canonical(alloc: Global, path: Path<'_>) -> Result<PathBuf, AllocError>
     spelling.push(UnixStr::from_bytes(&bytes[..gap]))?;
     push_parts(&mut spelling, bytes, gap)?;
     Ok(PathBuf::from(spelling))
+}
+
+/// Whether the path is in canonical form: whether it is the one that `canonical` gives for it.
+///
+/// Does not allocate. Not in Rust's std.
+///
+/// For `./a/b` it is true, and for `a//b`, `a/./b` and `a/` it is false.
+#[must_use]
+pub fn is_canonical(path: Path<'_>) -> bool
+    ensures { IsTrue result
+        ↔ (path.entry.bytes.now ≡ spelling_of (values path.entry.bytes.now)) }
+{
+    let whole = path.components().as_path();
+    let bytes = whole.as_unix_str().as_bytes();
+    // What doesn't count behind the last part is left out of `whole`.
+    if bytes.len() < path.as_unix_str().len() {
+        return false;
+    }
+    bytes.len() < 2 || first_gap(bytes) == bytes.len()
 }

@@ -1,7 +1,7 @@
 //! Buffers, walks, spellings and edits need no memory for what promises so.
 use super::super::{drought, path};
 use super::{debug_has, hash_same};
-use path_runs::canonical::canonical;
+use path_runs::canonical::{canonical, is_canonical};
 use path_runs::edits::{Edit, apply, rejoin};
 use path_runs::walk::{Turn, walk};
 use std::alloc::Global;
@@ -42,6 +42,10 @@ fn runs_over_nothing(alloc: Global) -> bool {
     walked.is_ok() && ended.is_ok() && canonical(alloc, path("")).is_ok()
 }
 
+fn spellings_are_told() -> bool {
+    is_canonical(path("./a/b")) && !is_canonical(path("a//b"))
+}
+
 fn joins_nothing(alloc: Global) -> bool {
     matches!(rejoin(alloc, path("a"), path("b")), Ok(None))
         && matches!(rejoin(alloc, path(""), path("")), Ok(Some(_)))
@@ -61,6 +65,7 @@ fn buffers_need_no_memory(rt: HostRuntime) -> Result<(), Fail> {
     assert!(rt; is_read(&foo));
     assert!(rt; stays_full(full));
     assert!(rt; runs_over_nothing(alloc));
+    assert!(rt; spellings_are_told());
     assert!(rt; joins_nothing(alloc));
     assert!(rt; applies_nothing(alloc, &mut foo));
     assert!(rt; is_edited(foo));
