@@ -112,12 +112,15 @@ static MANIFEST: [&str; 6] = ["b", "a//b/.", "./a", "a.b", "a/b", "b/"];
 
 static NORMALISED: [&str; 4] = ["./a", "a/b", "a.b", "b"];
 
-// Whether the normalised manifest has these paths, spelled as they are and in this order.
-fn is_normalised(alloc: Global, want: &[&str]) -> Result<bool, AllocError> {
-    let paths: Vec<Path<'_>> = MANIFEST
-        .iter()
-        .map(|text| Path::from_text(text))
-        .collect(alloc)?;
+// Whether the manifest, its paths so many times over, is normalised to these paths, spelled as they
+// are and in this order.
+fn is_normalised(alloc: Global, times: usize, want: &[&str]) -> Result<bool, AllocError> {
+    let mut paths = Vec::new(alloc);
+    for _ in 0..times {
+        for text in MANIFEST.iter() {
+            paths.push(Path::from_text(text))?;
+        }
+    }
     let set = normalise(alloc, paths.as_slice())?;
     let is_whole = set.len() == want.len();
     Ok(
@@ -135,7 +138,9 @@ fn has_bytes(path: &PathBuf, text: &str) -> bool {
 
 #[test]
 fn manifests_are_normalised(rt: HostRuntime) -> Result<(), Fail> {
-    assert!(rt; is_normalised(rt.alloc(), NORMALISED.as_slice())?);
+    assert!(rt; is_normalised(rt.alloc(), 1, NORMALISED.as_slice())?);
+    // So many paths are sorted first.
+    assert!(rt; is_normalised(rt.alloc(), 200, NORMALISED.as_slice())?);
     Ok(())
 }
 
