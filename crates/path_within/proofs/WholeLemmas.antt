@@ -1,7 +1,6 @@
 -- A plain path, kept whole: one join with all its bytes in place of one for each part.
 use Rattle.std.proofs.Common.{◌≡◌, ℕ, true, false, List, [], ◌∷◌, map, reverse}
 use Rattle.std.proofs.Common.{refl, sym, ap, ◌∙◌}
-use Rattle.std.proofs.lemmas.Bool.{both_ways}
 use Rattle.unix_path.specs.Joins.{join_of, join_all_of}
 use Rattle.unix_path.specs.Parts.{Value, RootDir, CurDir, ParentDir, Normal, value_bytes}
 use Rattle.unix_path.specs.Parts.{is_rooted, values}
@@ -17,7 +16,7 @@ use Rattle.path_within.specs.Steps.{AllOne, IsKept, path_of, Spells}
 use Rattle.path_within.proofs.KeepLemmas.{IsKept-kept_of}
 use Rattle.path_within.proofs.PathOfLemmas.{AllOne-kept_of, AllOne-values, path_of-spelled}
 use Rattle.path_within.proofs.PlainLemmas.{HasNames, plain_has_names, resolved-plain}
-use Rattle.path_within.proofs.RequestLemmas.{request_rootless, request_stays}
+use Rattle.path_within.proofs.RequestLemmas.{request_stays}
 use Rattle.path_within.proofs.ResolveLemmas.{kept_of-rooted}
 use Rattle.path_within.proofs.StepLemmas.{spells_join, spells_nothing}
 
@@ -105,17 +104,9 @@ names_down (CurDir ∷ vs) h = absurd h
 names_down (ParentDir ∷ vs) h = absurd h
 
 -- a plain path without a root has neither a root nor a `..`
-plain_down : (b : List ℕ) → is_plain b ≡ true → is_rooted b ≡ false
+pub plain_down : (b : List ℕ) → is_plain b ≡ true → is_rooted b ≡ false
     → has_root_or_up (values b) ≡ false
 plain_down b plain r = names_down (values b) (plain_has_names b plain r).names
-
--- a plain path has a root or a `..` exactly if it has a root
-pub plain_root_or_up : (b : List ℕ) → is_plain b ≡ true
-    → is_rooted b ≡ has_root_or_up (values b)
-plain_root_or_up b plain = by_test (is_rooted b)
-    (λ r. by_test (has_root_or_up (values b)) (λ e. r ∙ sym e)
-    (λ e. absurd (both_ways (is_rooted b) (request_rootless b e) r)))
-    (λ r. r ∙ sym (plain_down b plain r))
 
 -- a plain path without a root doesn't climb
 pub plain_stays : (b : List ℕ) → is_plain b ≡ true → is_rooted b ≡ false → Climbs (values b) → ⊥

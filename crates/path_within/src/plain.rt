@@ -27,7 +27,7 @@ fn begins_dots(bytes: &[u8], i: usize) -> bool
 
 // Whether the piece that begins at `i` is plain: neither empty, nor `.`, nor `..`.
 #[inline]
-fn begins_plain(bytes: &[u8], i: usize) -> bool
+pub(crate) fn begins_plain(bytes: &[u8], i: usize) -> bool
     ensures { result ≡ begins_plain bytes.now i }
 {
     !(is_end(bytes, i) || begins_dots(bytes, i))
@@ -60,7 +60,7 @@ fn is_calm_block(bytes: &[u8], at: usize) -> bool
 
 // The place of the first slash among the 16 bytes from `at` on that a slash or a dot follows.
 #[inline]
-fn first_mark(bytes: &[u8], at: usize) -> Option<usize>
+pub(crate) fn first_mark(bytes: &[u8], at: usize) -> Option<usize>
     requires { at + 16 < length bytes.now }
     ensures none { result ≡ None
         → ((k : ℕ) → at ≤ k → k < at + 16 → goes_on_plain bytes.now k ≡ true) }

@@ -12,7 +12,7 @@ ghost use Rattle.path_within.specs.Resolved.{keep, kept_of, up_from, resolved_by
 ghost use Rattle.path_within.specs.Steps.{IsOne, Spells};
 ghost use Rattle.path_within.specs.PlainPieces.{is_end, IsStretch};
 
-use crate::plain::{is_whole, plain_len};
+use crate::plain::{begins_plain, first_mark, is_whole, plain_len};
 use std::alloc::{AllocError, Global};
 use unix_path::{Component, Components, CowPath, Path, PathBuf};
 
@@ -99,7 +99,24 @@ fn keep_stretch<'a>(
     Ok(behind_slash(&bytes[len..]))
 }
 
-// Keeps these parts behind what is kept: stretch by stretch, and one part where none begins.
+// How long the stretch is that the path begins with, as `plain_len` tells, or 0 where it is short
+// or seems so: where few bytes are left, or the first slash that a slash or a dot follows is near
+// and ends it. To search a stretch and to copy it takes as long as to keep two parts.
+#[inline]
+fn long_plain_len(path: Path<'_>) -> usize
+    ensures { 0 < result → IsStretch path.entry.bytes.now result }
+{
+    let bytes = path.as_unix_str().as_bytes();
+    if bytes.len() < 17 {
+        return 0;
+    }
+    match first_mark(bytes, 0) {
+        Some(place) if !begins_plain(bytes, place + 1) => 0,
+        _ => plain_len(path),
+    }
+}
+
+// Keeps these parts behind what is kept: stretch by stretch, and one part where no long one begins.
 fn keep_stretches(kept: &mut PathBuf, parts: Components<'_>) -> Result<(), AllocError>
     ensures ok { OnOk result ((ks : List Value) → Spells (path_bytes kept.old) ks
         → Spells (path_bytes kept.new) (kept_of ks (cursor_values parts.entry))) }
@@ -107,7 +124,7 @@ fn keep_stretches(kept: &mut PathBuf, parts: Components<'_>) -> Result<(), Alloc
     let mut walk = parts;
     loop {
         let left = walk.as_path();
-        let len = plain_len(left);
+        let len = long_plain_len(left);
         if len > 0 {
             walk = keep_stretch(kept, left, len)?;
         } else {

@@ -1,5 +1,6 @@
 //! The way from one path to another.
-ghost use Rattle.std.specs.Prelude.{◌≡◌, ◌&&◌, not, List, IfOk, OnOk, drop, map, option_map};
+ghost use Rattle.std.specs.Prelude.{◌≡◌, ◌+◌, ◌-◌, ◌*◌, ◌^◌, ◌&&◌, not, min, List, length, drop};
+ghost use Rattle.std.specs.Prelude.{map, option_map, IfOk, OnOk};
 ghost use Rattle.std.specs.List.{common_prefix_len, list_all, list_any};
 ghost use Rattle.unix_path.specs.Buffers.{path_bytes};
 ghost use Rattle.unix_path.specs.Cursor.{cursor_values};
@@ -106,7 +107,10 @@ fn keep_ups(kept: &mut PathBuf, parts: Components<'_>) -> Result<(), AllocError>
 // How many bytes the way has: `..` and a slash for each part that is left of the first path, and
 // the rest of the other; or one more, if there is no rest.
 #[inline]
-fn way_len(left: Path<'_>, rest: Path<'_>) -> usize {
+fn way_len(left: Path<'_>, rest: Path<'_>) -> usize
+    ensures { result ≡ min (2 ^ 64 - 1)
+        (length (values left.entry.bytes.now) * 3 + length rest.entry.bytes.now) }
+{
     let ups = left.components().count();
     ups.saturating_mul(3)
         .saturating_add(rest.as_unix_str().len())

@@ -1,9 +1,9 @@
 //! Joins that stay under a root.
-ghost use Rattle.std.specs.Prelude.{◌≡◌, ◌↔◌, true, IfOk, IsErrOf, IsTrue, Some};
+ghost use Rattle.std.specs.Prelude.{◌≡◌, ◌↔◌, true, false, IfOk, IsErrOf, IsTrue, Some};
 ghost use Rattle.std.specs.Fmt.{padded};
 ghost use Rattle.unix_path.specs.Buffers.{path_bytes};
 ghost use Rattle.unix_path.specs.Joins.{join_of};
-ghost use Rattle.unix_path.specs.Parts.{values};
+ghost use Rattle.unix_path.specs.Parts.{values, is_rooted};
 ghost use Rattle.unix_path.specs.Prefixes.{Begins};
 ghost use Rattle.unix_path.specs.Views.{value_of};
 ghost use Rattle.path_within.specs.Climbs.{Climbs, has_root_or_up, is_root_or_up};
@@ -75,18 +75,16 @@ impl From<AllocError> for WithinError {
 pub fn climbs(path: Path<'_>) -> bool
     ensures { IsTrue result ↔ Climbs (values path.entry.bytes.now) }
 {
-    climbs_unless(is_plain(path), path)
+    path.has_root() || climbs_unless(false, path)
 }
 
-// Whether the path climbs, without a look at its parts where it is known to be plain: it does then
-// only if it has a root.
+// Whether a path without a root climbs, without a look at its parts where it is known to be plain:
+// it doesn't then.
 fn climbs_unless(known_plain: bool, path: Path<'_>) -> bool
-    requires { IsTrue known_plain → is_plain path.bytes.now ≡ true }
+    requires plain { IsTrue known_plain → is_plain path.bytes.now ≡ true }
+    requires rootless { is_rooted path.bytes.now ≡ false }
     ensures { IsTrue result ↔ Climbs (values path.entry.bytes.now) }
 {
-    if path.has_root() {
-        return true;
-    }
     if known_plain {
         return false;
     }
@@ -122,6 +120,10 @@ pub fn join_within(alloc: Global, root: Path<'_>, request: Path<'_>) -> Result<P
     ensures within { IfOk result (λ p. Begins (values (resolved_bytes_of root.entry.bytes.now))
         (values (path_bytes p))) }
 {
+    // A root is refused before what follows it is looked at.
+    if request.has_root() {
+        return Err(WithinError::Escapes);
+    }
     let request_len = plain_len(request);
     let is_plain_request = is_whole(request, request_len);
     if climbs_unless(is_plain_request, request) {
@@ -149,13 +151,17 @@ fn is_root_or_up(part: Component<'_>) -> bool
     matches!(part, Component::RootDir | Component::ParentDir)
 }
 
-// Whether the root or a `..` is among the parts. A plain path has names alone behind its root.
+// Whether the root or a `..` is among the parts. A root tells it before what follows is looked at,
+// and a plain path without one has names alone.
 #[inline]
 fn has_root_or_up(path: Path<'_>) -> bool
     ensures { result ≡ has_root_or_up (values path.entry.bytes.now) }
 {
+    if path.has_root() {
+        return true;
+    }
     if is_plain(path) {
-        return path.has_root();
+        return false;
     }
     path.components().any(is_root_or_up)
 }

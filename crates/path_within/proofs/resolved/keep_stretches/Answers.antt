@@ -10,12 +10,12 @@ loop-walk-init c = λ ks h. keeps_first (cursor_rest c.args.parts) refl h
 
 pub loop-walk-smaller-then-len-gt0 : goal.loop-walk-smaller-then-len-gt0
 loop-walk-smaller-then-len-gt0 c = fewer_behind c.as_path-left.result.bytes.now
-    (cursor_values c.in_ok-walk.walk) c.plain_len-len.result
-    (c.plain_len-len.ensures c.if-len-gt0.true) (ap values (sym c.as_path-left.ensures.bytes))
+    (cursor_values c.in_ok-walk.walk) c.long_plain_len-len.result
+    (c.long_plain_len-len.ensures c.if-len-gt0.true) (ap values (sym c.as_path-left.ensures.bytes))
     c.in_ok-walk.ensures.rest
 
 pub loop-walk-preserved-then-len-gt0 : goal.loop-walk-preserved-then-len-gt0
 loop-walk-preserved-then-len-gt0 c = λ ks h. keeps_stretch c.as_path-left.result.bytes.now
-    (cursor_rest c.in_ok-walk.walk) c.plain_len-len.result c.in_ok-walk.ensures.ok refl
+    (cursor_rest c.in_ok-walk.walk) c.long_plain_len-len.result c.in_ok-walk.ensures.ok refl
     (ap values (sym c.as_path-left.ensures.bytes)) c.in_ok-walk.ensures.rest
     (c.loop-walk.invariant ks h)

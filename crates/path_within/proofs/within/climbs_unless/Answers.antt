@@ -1,4 +1,4 @@
-use Rattle.std.proofs.Common.{◌≡◌, true, false, refl, sym, ap, ◌∙◌}
+use Rattle.std.proofs.Common.{◌≡◌, true, false, refl, ap}
 use Rattle.unix_path.specs.Cursor.{cursor_values}
 use Rattle.unix_path.specs.Views.{value_of}
 use Rattle.path_within.proofs.ClimbLemmas.{climbs_here, climbs_nowhere}
@@ -8,8 +8,8 @@ use Rattle.path_within.proofs.within.climbs_unless.Goals as goal
 pub returns-then-known_plain : goal.returns-then-known_plain
 returns-then-known_plain c = (
   λ h. absurd (let no : false ≡ true = h in cc),
-  λ climbs. absurd (plain_stays c.args.path.bytes.now (c.requires c.if-known_plain.true)
-      (sym c.has_root.ensures.value ∙ c.if-has_root.false) climbs),
+  λ climbs. absurd (plain_stays c.args.path.bytes.now
+      (c.requires.plain c.if-known_plain.true) c.requires.rootless climbs),
 )
 
 pub returns-then-depth-eq0 : goal.returns-then-depth-eq0
@@ -26,5 +26,5 @@ returns c = (
   λ h. absurd (let no : false ≡ true = h in cc),
   climbs_nowhere c.args.path.bytes.now c.loop-part.depth (cursor_values c.loop-part.part-iterator)
       c.loop-part.invariant.2 c.in-None.ensures.steps.item_is.0
-      (sym c.has_root.ensures.value ∙ c.if-has_root.false),
+      c.requires.rootless,
 )
