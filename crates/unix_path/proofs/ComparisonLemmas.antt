@@ -72,7 +72,7 @@ pub record SomeValue (s : List ℕ) : Type 0 where
   pub is : values s ≡ first ∷ others
 
 -- a string that is not empty has a value
-some_value : (s : List ℕ) → 0 < length s → SomeValue s
+pub some_value : (s : List ℕ) → 0 < length s → SomeValue s
 unfolding values
 some_value s l =
     let h = splits_first s l in

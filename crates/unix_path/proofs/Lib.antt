@@ -43,5 +43,9 @@ pub mod DifferLemmas
 pub mod ComparisonLemmas
 pub mod ApartLemmas
 pub mod SharedLemmas
+pub mod AheadLemmas
+pub mod EndLaneLemmas
 pub mod EndingLemmas
 pub mod BaseLemmas
+pub mod EmptyRestLemmas
+pub mod FirstByteLemmas

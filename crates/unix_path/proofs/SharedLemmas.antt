@@ -1,7 +1,7 @@
 -- Names that differ where two strings do, and what is left behind the values that both begin with.
 use Rattle.std.proofs.Common.{◌≡◌, ℕ, ◌+◌, ◌-◌, ◌<◌, ◌≤◌, true, false, eqb, ltb, List, [], length}
 use Rattle.std.proofs.Common.{◌++◌, get_or, take, drop, refl, sym, ap, ap₂, subst, ◌∙◌, arith}
-use Rattle.std.proofs.Common.{ltb-true}
+use Rattle.std.proofs.Common.{ltb-true, append-nil}
 use Rattle.std.proofs.Common.{ltb-false, eqb-true, append_assoc, length-append}
 use Rattle.std.proofs.lemmas.List.{get_or_default, get_or_past}
 use Rattle.unix_path.specs.CommonDir.{inner_values}
@@ -15,7 +15,8 @@ use Rattle.unix_path.specs.Prefixes.{Begins}
 use Rattle.unix_path.proofs.BehindLemmas.{begins_past, rest-behind, values-behind}
 use Rattle.unix_path.proofs.CaseLemmas.{by_test}
 use Rattle.unix_path.proofs.CommonPrefixLemmas.{values_cmp-common}
-use Rattle.unix_path.proofs.RestLemmas.{rest-rest}
+use Rattle.unix_path.proofs.PartLemmas.{rest-nil, values-nil}
+use Rattle.unix_path.proofs.RestLemmas.{rest-none, rest-rest}
 
 -- a piece that goes on just before n begins before n
 begins_before : (a b : List ℕ) (d n : ℕ) → Alike a b d n → 0 < n
@@ -31,13 +32,13 @@ begins_before a b d n alike some no_slash = by_test (ltb d n)
     absurd (cc))
 
 -- a byte of a name stands at i
-record NameByte (s : List ℕ) (i : ℕ) : Type 0 where
-  inside : i < length s
-  no_slash : eqb (get_or s i 0) 47 ≡ false
-  no_dot : eqb (get_or s i 0) 46 ≡ false
+pub record NameByte (s : List ℕ) (i : ℕ) : Type 0 where
+  pub inside : i < length s
+  pub no_slash : eqb (get_or s i 0) 47 ≡ false
+  pub no_dot : eqb (get_or s i 0) 46 ≡ false
 
 -- so it is where the rank there is neither that of an end nor that of a dot
-name_byte : (s : List ℕ) (i : ℕ) → (piece_rank s i ≡ 0 → ⊥) → (piece_rank s i ≡ 47 → ⊥)
+pub name_byte : (s : List ℕ) (i : ℕ) → (piece_rank s i ≡ 0 → ⊥) → (piece_rank s i ≡ 47 → ⊥)
     → NameByte s i
 name_byte s i no_end no_dot = by_test (eqb (get_or s i 47) 47)
     (λ e. absurd (no_end (rw e refl)))
@@ -143,6 +144,21 @@ shares-slash {a} {b} {x} {y} {t} {u} h n some in_x in_y same slash_x past busy f
           ∙ ap (λ s. rest s (length v) 0) h.left
           ∙ sym (rest-more a (length h.front) (length v) (length (h.front ++ v))
           (omega (arith, length-append h.front v)));
+    }
+
+-- nothing is left behind the values of strings that are the same
+pub shares-end : {a b x y t u : List ℕ} → SharesFront a b x y → x ≡ y → t ≡ [] → u ≡ []
+    → SharesFront a b t u
+shares-end {a} {b} {x} {y} {t} {u} h same none other =
+    let v = h.front ++ values x in
+    let whole : (w : List ℕ) → w ≡ [] → v ≡ v ++ values w =
+    λ w e. sym (ap (λ w. v ++ values w) e ∙ ap (λ vs. v ++ vs) values-nil ∙ append-nil v) in
+    record {
+      front = v;
+      first = h.first ∙ whole t none;
+      second = h.second ∙ ap (λ s. h.front ++ values s) (sym same) ∙ whole u other;
+      left = ap (λ s. rest s 0 0) none ∙ rest-nil 0 0
+          ∙ sym (rest-none a (length v) 0 (omega (arith, ap length h.first)));
     }
 
 -- what is left of two strings behind the same values is in their order

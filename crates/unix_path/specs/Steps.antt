@@ -1,11 +1,12 @@
 -- Words of private steps. No public clause cites them.
-use Rattle.std.specs.Prelude.{◌≡◌, ◌<◌, ◌≤◌, nat_lt, ℕ, ◌+◌, ◌-◌, ◌==◌, Bool, false, ◌||◌, ◌&&◌}
-use Rattle.std.specs.Prelude.{List, [], ◌∷◌, ◌++◌, length, take, drop, slice_index}
+use Rattle.std.specs.Prelude.{◌≡◌, ◌<◌, ◌≤◌, nat_lt, ℕ, ◌+◌, ◌-◌, ◌==◌, Bool, true, false, ◌||◌}
+use Rattle.std.specs.Prelude.{◌&&◌, List, [], ◌∷◌, ◌++◌, length, take, drop, slice_index}
 use Rattle.std.specs.Prelude.{slice_index_or, slice_range}
 use Rattle.std.specs.Prelude.{Option, Some, None, if◌then◌else◌}
 use Rattle.std.proofs.Props.{props}
 use Rattle.std.specs.List.{position_or_len}
 use Rattle.std.specs.Str.{bytes_eq}
+use Rattle.unix_path.specs.CommonDir.{common_dir_of}
 use Rattle.unix_path.specs.Parts.{slash, is_slash, dot, cur_dir, Part, Value, CurDir}
 use Rattle.unix_path.specs.Parts.{inner_parts, value_of_piece, values}
 use Rattle.unix_path.specs.Prefixes.{Begins}
@@ -97,18 +98,28 @@ piece_rank s i = let b = slice_index_or s i slash in if b == slash then 0 else 1
 abbrev pub rank_before : List ℕ → ℕ → ℕ
 rank_before s k = if nat_lt k (length s) then piece_rank s (length s - 1 - k) else 0
 
+-- a byte that is neither a slash nor a dot stands at i or behind that, with no slash between
+pub record NameAhead (s : List ℕ) (i : ℕ) : Type 0 where
+  pub at : ℕ
+  pub from : i ≤ at
+  pub inside : at < length s
+  pub no_slash : (k : ℕ) → i ≤ k → k ≤ at → (slice_index s k == slash) ≡ false
+  pub no_dot : (slice_index s at == dot) ≡ false
+
 -- t is what follows some first bytes of s that don't count
 pub record PastIdle (s t : List ℕ) : Type 0 where
   pub len : ℕ
   pub is : t ≡ drop len s
   pub idle : inner_parts 0 s ≡ inner_parts (0 + len) t
 
--- all bytes of `base` begin s, and a slash follows them there
-pub record AtSlash (s base : List ℕ) : Type 0 where
+-- all bytes of `base`, of which there is one at least, begin s, and end with a slash, or a slash or
+-- no byte follows them
+pub record IsFront (s base : List ℕ) : Type 0 where
   pub some : 0 < length base
-  pub inside : length base < length s
+  pub inside : length base ≤ length s
   pub same : take (length base) s ≡ base
-  pub here : slice_index s (length base) ≡ slash
+  pub here : length base < length s
+      → (slice_index s (length base) == slash || slice_index s (length base - 1) == slash) ≡ true
 
 -- x and y are what is left of a and b behind the same values
 pub record SharesFront (a b x y : List ℕ) : Type 0 where
@@ -116,6 +127,14 @@ pub record SharesFront (a b x y : List ℕ) : Type 0 where
   pub first : values a ≡ front ++ values x
   pub second : values b ≡ front ++ values y
   pub left : rest x 0 0 ≡ rest a (length front) 0
+
+-- where an empty rest of s behind base stands: at the end of s if no part of s follows the last
+-- slash of what both begin with, and else where the last part of s ends
+abbrev pub empty_rest_at : List ℕ → List ℕ → ℕ
+empty_rest_at s base =
+    let dir = common_dir_of s base in
+    if nat_lt 0 dir && length (inner_parts 0 (drop dir s)) == 0 then length s
+    else length (rest s 0 0)
 
 -- what the fields of a walk say of each other: what is left stands between the two places and ends
 -- in a part, and the flags tell whether a root or a `.` that counts stands first

@@ -8,7 +8,7 @@ ghost use Rattle.unix_path.specs.Views.{value_of};
 
 use crate::cursor::{Component, Components, has_lead, long_first_step};
 use crate::endings::end_in_other_names;
-use crate::shared::{order_in_names, past_shared};
+use crate::shared::{behind_front, is_front, order_ahead, order_in_names, past_shared};
 use std::cmp::Ordering;
 use unix_bytes::search::common_len;
 
@@ -47,6 +47,20 @@ fn compare_shared(a: &[u8], b: &[u8], common: usize) -> Ordering
     requires same { take common a.now ≡ take common b.now }
     ensures { result ≡ values_cmp (values a.now) (values b.now) }
 {
+    if common == 0 {
+        return compare_parts(a, has_lead(a), b, has_lead(b));
+    }
+    if let Some(order) = order_ahead(a, b, common) {
+        return order;
+    }
+    // Where one is all of what both begin with, the other comes behind it, unless that has no more
+    // parts.
+    if is_front(a, b, common) {
+        return behind_front(a, b).len().cmp(&0);
+    }
+    if is_front(b, a, common) {
+        return 0.cmp(&behind_front(b, a).len());
+    }
     let left = past_shared(a, b, common);
     if let Some(order) = left.order {
         return order;

@@ -6,6 +6,7 @@ ghost use Rattle.unix_path.specs.Prefixes.{Ends};
 ghost use Rattle.unix_path.specs.Steps.{rank_before};
 
 use crate::shared::piece_rank;
+use std::simd::prelude::*;
 
 // Whether the last byte is neither a slash nor a dot, so that a name ends there.
 #[inline]
@@ -20,6 +21,45 @@ fn ends_in_name(bytes: &[u8]) -> bool
     len > 0 && bytes[len - 1] != b'/' && bytes[len - 1] != b'.'
 }
 
+// How many of the last 16 bytes are the same in both and no slashes, counted from the end.
+#[inline]
+fn common_end_in_lanes(a: &[u8], b: &[u8]) -> usize
+    requires in_first { 16 ≤ length a.now }
+    requires in_second { 16 ≤ length b.now }
+    ensures in_range { result ≤ 16 }
+    ensures same { (k : ℕ) → k < result → slice_index a.now (length a.now - 1 - k)
+        ≡ slice_index b.now (length b.now - 1 - k) }
+    ensures no_slash { (k : ℕ) → k < result
+        → (slice_index a.now (length a.now - 1 - k) == slash) ≡ false }
+{
+    let x = u8x16::from_slice(&a[a.len() - 16..]);
+    let y = u8x16::from_slice(&b[b.len() - 16..]);
+    let stops = (x.simd_ne(y) | x.simd_eq(u8x16::splat(b'/'))).to_bitmask();
+    stops.leading_zeros() as usize - 48
+}
+
+// How many of the last bytes are the same in both and no slashes, where one has fewer than 16: up
+// to 4, since names mostly differ before that.
+#[inline]
+fn common_end_in_few(a: &[u8], b: &[u8]) -> usize
+    ensures in_first { result ≤ length a.now }
+    ensures in_second { result ≤ length b.now }
+    ensures same { (k : ℕ) → k < result → slice_index a.now (length a.now - 1 - k)
+        ≡ slice_index b.now (length b.now - 1 - k) }
+    ensures no_slash { (k : ℕ) → k < result
+        → (slice_index a.now (length a.now - 1 - k) == slash) ≡ false }
+{
+    let most = a.len().min(b.len()).min(4);
+    let mut len = 0;
+    while len < most
+        && a[a.len() - 1 - len] == b[b.len() - 1 - len]
+        && a[a.len() - 1 - len] != b'/'
+    {
+        len += 1;
+    }
+    len
+}
+
 // How many of the last bytes are the same in both and no slashes: up to 16, since names mostly
 // differ before that.
 #[inline]
@@ -31,15 +71,10 @@ fn common_end_len(a: &[u8], b: &[u8]) -> usize
     ensures no_slash { (k : ℕ) → k < result
         → (slice_index a.now (length a.now - 1 - k) == slash) ≡ false }
 {
-    let most = a.len().min(b.len()).min(16);
-    let mut len = 0;
-    while len < most
-        && a[a.len() - 1 - len] == b[b.len() - 1 - len]
-        && a[a.len() - 1 - len] != b'/'
-    {
-        len += 1;
+    if a.len() >= 16 && b.len() >= 16 {
+        return common_end_in_lanes(a, b);
     }
-    len
+    common_end_in_few(a, b)
 }
 
 // One more than the byte before the last `len` bytes, or 0 where a piece begins with these: behind

@@ -1,12 +1,13 @@
 //! What two paths share in front: names that differ behind it, and what is left of both.
-ghost use Rattle.std.specs.Prelude.{◌≡◌, ◌≢◌, ◌+◌, ◌-◌, ◌<◌, ◌≤◌, false, length, take};
+ghost use Rattle.std.specs.Prelude.{◌≡◌, ◌≢◌, ◌+◌, ◌-◌, ◌<◌, ◌≤◌, false, [], length, take};
 ghost use Rattle.std.specs.Prelude.{slice_index, IsTrue, IsSome, IfSome};
 ghost use Rattle.unix_path.specs.CommonDir.{inner_values};
 ghost use Rattle.unix_path.specs.Order.{values_cmp};
 ghost use Rattle.unix_path.specs.Parts.{slash, dot, values};
 ghost use Rattle.unix_path.specs.Places.{LiesIn};
 ghost use Rattle.unix_path.specs.Prefixes.{Begins};
-ghost use Rattle.unix_path.specs.Steps.{is_idle, piece_rank, PastIdle, SharesFront};
+ghost use Rattle.unix_path.specs.Steps.{is_idle, piece_rank, IsFront, NameAhead};
+ghost use Rattle.unix_path.specs.Steps.{PastIdle, SharesFront};
 
 use crate::cursor::long_idle_len;
 use std::cmp::Ordering;
@@ -35,6 +36,9 @@ pub(crate) fn piece_rank(bytes: &[u8], at: usize) -> u16
     }
 }
 
+// The rank of a dot.
+const DOT_RANK: u16 = 1 + b'.' as u16;
+
 // Whether the rank is that of a byte that is neither a slash nor a dot. A piece with such a byte is
 // a name.
 #[inline]
@@ -42,7 +46,21 @@ fn is_in_name(rank: u16) -> bool
     ensures no_end { IsTrue result → rank ≢ 0 }
     ensures no_dot { IsTrue result → rank ≢ 1 + dot }
 {
-    rank != 0 && rank != 1 + u16::from(b'.')
+    rank != 0 && rank != DOT_RANK
+}
+
+// Whether a byte of a name stands at `at`, or just behind a dot there, as in a hidden name.
+#[inline]
+fn is_name_ahead(bytes: &[u8], at: usize) -> bool
+    ensures { IsTrue result → NameAhead bytes.now at }
+{
+    if is_in_name(piece_rank(bytes, at)) {
+        return true;
+    }
+    if at >= bytes.len() || bytes[at] != b'.' {
+        return false;
+    }
+    is_in_name(piece_rank(bytes, at + 1))
 }
 
 // The order of two paths, if the first bytes that differ, at `common`, are in two names, and so
@@ -67,6 +85,91 @@ pub(crate) fn order_in_names(a: &[u8], b: &[u8], common: usize) -> Option<Orderi
         return Some(first.cmp(&second));
     }
     None
+}
+
+// The order of two paths, if names go on in both at the first bytes that differ, at `common`,
+// though one of these is a dot. `order_in_names` tells it mostly, and is asked first.
+#[inline]
+pub(crate) fn order_ahead(a: &[u8], b: &[u8], common: usize) -> Option<Ordering>
+    requires in_first { common ≤ length a.now }
+    requires in_second { common ≤ length b.now }
+    requires same { take common a.now ≡ take common b.now }
+    ensures order { IfSome result (λ order. order ≡ values_cmp (values a.now) (values b.now)) }
+    ensures apart { IsSome result → Begins (values b.now) (values a.now) → ⊥ }
+{
+    let (x, y) = (piece_rank(a, common), piece_rank(b, common));
+    if x == y || (x != DOT_RANK && y != DOT_RANK) {
+        return None;
+    }
+    if is_name_ahead(a, common) && is_name_ahead(b, common) {
+        return Some(x.cmp(&y));
+    }
+    None
+}
+
+// The order of two paths, if `order_in_names` or `order_ahead` tells it.
+#[inline]
+fn order_by_names(a: &[u8], b: &[u8], common: usize) -> Option<Ordering>
+    requires in_first { common ≤ length a.now }
+    requires in_second { common ≤ length b.now }
+    requires same { take common a.now ≡ take common b.now }
+    ensures order { IfSome result (λ order. order ≡ values_cmp (values a.now) (values b.now)) }
+    ensures apart { IsSome result → Begins (values b.now) (values a.now) → ⊥ }
+{
+    let order = order_in_names(a, b, common);
+    if order.is_some() {
+        return order;
+    }
+    order_ahead(a, b, common)
+}
+
+// Whether the paths have first bytes, and these differ. So do their first parts then.
+#[inline]
+pub(crate) fn begin_apart(a: &[u8], b: &[u8]) -> bool
+    ensures { IsTrue result → Begins (values b.now) (values a.now) → ⊥ }
+{
+    if a.is_empty() || b.is_empty() {
+        return false;
+    }
+    a[0] != b[0]
+}
+
+// Whether all bytes of `base` begin the path, and end with a slash, or a slash or the path's end
+// follows them there, so that all parts of `base` do. The first `common` bytes of both are the
+// same.
+#[inline]
+pub(crate) fn is_front(path: &[u8], base: &[u8], common: usize) -> bool
+    requires in_first { common ≤ length path.now }
+    requires in_second { common ≤ length base.now }
+    requires same { take common path.now ≡ take common base.now }
+    ensures { IsTrue result → IsFront path.now base.now }
+{
+    if common == 0 || common < base.len() {
+        return false;
+    }
+    if common == path.len() {
+        return true;
+    }
+    path[common] == b'/' || path[common - 1] == b'/'
+}
+
+// What a path has behind all bytes of `base`, which begin it as `is_front` says. The bytes that
+// don't count behind them are left out.
+#[inline]
+pub(crate) fn behind_front<'a>(path: &'a [u8], base: &[u8]) -> &'a [u8]
+    requires { IsFront path.now base.now }
+    ensures shares { SharesFront path.now base.now result.now [] }
+    ensures place { LiesIn result path.entry }
+{
+    let end = base.len();
+    if end == path.len() {
+        return &path[end..];
+    }
+    if path[end] == b'/' {
+        past_idle(&path[end + 1..])
+    } else {
+        past_idle(&path[end..])
+    }
 }
 
 // The place just after the last slash among the first `len` bytes, or 0 where there is none. Where
@@ -97,7 +200,8 @@ pub(crate) struct Unshared<'a, 'b> {
 // What is written alike is skipped at once, up to its last slash, and so is what doesn't count
 // behind that in one of them. So parts that are written alike are never taken one by one, even if
 // others before them are not. It ends where the first bytes that differ are in names, which tells
-// the order, or where no slash is left in what both begin with.
+// the order, where no slash is left in what both begin with, or where both are alike to their ends,
+// behind which nothing is left.
 #[inline(never)]
 pub(crate) fn past_shared<'a, 'b>(a: &'a [u8], b: &'b [u8], common: usize) -> Unshared<'a, 'b>
     requires in_first { common ≤ length a.now }
@@ -117,6 +221,13 @@ pub(crate) fn past_shared<'a, 'b>(a: &'a [u8], b: &'b [u8], common: usize) -> Un
     };
     let mut common = common;
     while left.order.is_none() {
+        if common == left.first.len() && common == left.second.len() {
+            return Unshared {
+                first: &left.first[common..],
+                second: &left.second[common..],
+                order: None,
+            };
+        }
         let dir = past_last_slash(left.first, common);
         if dir == 0 {
             return left;
@@ -127,7 +238,7 @@ pub(crate) fn past_shared<'a, 'b>(a: &'a [u8], b: &'b [u8], common: usize) -> Un
         left = Unshared {
             first,
             second,
-            order: order_in_names(first, second, common),
+            order: order_by_names(first, second, common),
         };
     }
     left

@@ -1,22 +1,25 @@
 //! Whether the parts of one path begin or end those of another, and what follows them.
-ghost use Rattle.std.specs.Prelude.{◌≡◌, ◌≤◌, ◌↔◌, length, take, nat_eq, IsTrue, IsOk, IfOk};
+ghost use Rattle.std.specs.Prelude.{◌≡◌, ◌≤◌, ◌↔◌, ◌==◌, length, take, nat_eq, IsTrue, IsOk, IfOk};
 ghost use Rattle.std.specs.Prelude.{IsSome, IfSome, Some, None, codes};
 ghost use Rattle.std.specs.Fmt.{padded};
 ghost use Rattle.std.specs.List.{common_prefix_len};
 ghost use Rattle.unix_path.specs.Cursor.{cursor_rest, cursor_source, cursor_values};
 ghost use Rattle.unix_path.specs.Prefixes.{Begins, Ends, stripped_of};
-ghost use Rattle.unix_path.specs.Parts.{values};
-ghost use Rattle.unix_path.specs.Steps.{AtSlash, StripsOn};
+ghost use Rattle.unix_path.specs.Parts.{inner_parts, values};
+ghost use Rattle.unix_path.specs.Rest.{rest};
+ghost use Rattle.unix_path.specs.Steps.{StripsOn, empty_rest_at};
 ghost use Rattle.unix_path.specs.Places.{LiesIn};
 
 use crate::compare::is_same_part;
 use crate::cursor::{Components, long_idle_len, trimmed_len};
 use crate::endings::end_in_other_names;
 use crate::path::Path;
-use crate::shared::{order_in_names, past_idle, past_shared};
+use crate::shared::{
+    begin_apart, behind_front, is_front, order_ahead, order_in_names, past_shared,
+};
 use std::error::Error;
 use std::fmt;
-use unix_bytes::search::common_len;
+use unix_bytes::search::{common_len, past_last};
 
 /// The refusal of `Path::strip_prefix`: the parts of the base don't begin those of the path.
 ///
@@ -75,6 +78,16 @@ fn after_parts<'a>(path: &'a [u8], base: &[u8], common: usize) -> Option<Compone
     ensures value { IfSome result (λ left. cursor_rest left ≡ stripped_of path.now base.now) }
     ensures place { IfSome result (λ left. LiesIn (cursor_source left) path.entry) }
 {
+    if begin_apart(path, base) || order_ahead(path, base, common).is_some() {
+        return None;
+    }
+    if is_front(base, path, common) {
+        return if behind_front(base, path).is_empty() {
+            Some(Components::new(&path[path.len()..]))
+        } else {
+            None
+        };
+    }
     let (mut left, base_parts) = past_common(path, base, common)?;
     for part in base_parts {
         let Some(own) = left.next() else {
@@ -87,28 +100,20 @@ fn after_parts<'a>(path: &'a [u8], base: &[u8], common: usize) -> Option<Compone
     Some(left)
 }
 
-// Whether all bytes of `base` begin the path, and a slash follows them there, so that all its parts
-// do. Both begin with `common` bytes.
-#[inline]
-fn ends_at_slash(path: &[u8], base: &[u8], common: usize) -> bool
-    requires { common ≡ common_prefix_len nat_eq path.now base.now }
-    ensures whole { IsTrue result → common ≡ length base.now }
-    ensures slash { IsTrue result → AtSlash path.now base.now }
-{
-    common > 0 && common == base.len() && common < path.len() && path[common] == b'/'
-}
-
 // The walk over what follows `base`, or `None` where the parts of `base` don't begin the path's.
-// Mostly the first bytes that differ are in two names, or a slash, and tell this alone.
+// Both begin with `common` bytes. Mostly the first bytes that differ are in two names, or all of
+// `base` begins the path, and that alone tells it.
 #[inline]
-fn after_prefix<'a>(path: &'a [u8], base: &[u8]) -> Option<Components<'a>>
+fn after_prefix<'a>(path: &'a [u8], base: &[u8], common: usize) -> Option<Components<'a>>
+    requires in_first { common ≤ length path.now }
+    requires in_second { common ≤ length base.now }
+    requires same { take common path.now ≡ take common base.now }
     ensures ok { IsSome result ↔ Begins (values base.now) (values path.now) }
     ensures value { IfSome result (λ left. cursor_rest left ≡ stripped_of path.now base.now) }
     ensures place { IfSome result (λ left. LiesIn (cursor_source left) path.entry) }
 {
-    let common = common_len(path, base);
-    if ends_at_slash(path, base, common) {
-        return Some(Components::new(past_idle(&path[common + 1..])));
+    if is_front(path, base, common) {
+        return Some(Components::new(behind_front(path, base)));
     }
     if order_in_names(path, base, common).is_some() {
         return None;
@@ -133,7 +138,7 @@ fn has_prefix(path: &[u8], base: &[u8]) -> bool
     ensures { IsTrue result ↔ Begins (values base.now) (values path.now) }
 {
     let common = common_len(path, base);
-    if ends_at_slash(path, base, common) {
+    if is_front(path, base, common) {
         return true;
     }
     if order_in_names(path, base, common).is_some() {
@@ -142,17 +147,41 @@ fn has_prefix(path: &[u8], base: &[u8]) -> bool
     has_parts(path, base, common)
 }
 
-// The place of `strip_prefix`'s answer where nothing follows the base: the end of the path, if both
-// are written alike up to a slash behind its last part, or else the end of that part.
-#[cold]
-fn end_behind(path: &[u8], base: &[u8]) -> usize
-    ensures { result ≤ length path.now }
+// Whether no part stands in a string that stands behind a slash.
+#[inline]
+fn holds_no_part(bytes: &[u8]) -> bool
+    ensures { result ≡ (length (inner_parts 0 bytes.now) == 0) }
 {
-    let dir = Path::from_bytes(path).common_dir(Path::from_bytes(base));
-    if dir > 0 && long_idle_len(&path[dir..]) == path.len() - dir {
+    long_idle_len(bytes) == bytes.len()
+}
+
+// Where the last part of the path ends.
+#[inline]
+fn last_part_end(path: &[u8]) -> usize
+    ensures value { result ≡ length (rest path.now 0 0) }
+    ensures in_range { result ≤ length path.now }
+{
+    trimmed_len(path, path.len())
+}
+
+// The place of `strip_prefix`'s answer where nothing follows the base: the end of the path, if both
+// are written alike up to a slash behind its last part, or else the end of that part. Both begin
+// with `common` bytes.
+#[cold]
+fn end_behind(path: &[u8], base: &[u8], common: usize) -> usize
+    requires in_range { common ≤ length path.now }
+    requires common { common ≡ common_prefix_len nat_eq path.now base.now }
+    ensures value { result ≡ empty_rest_at path.now base.now }
+    ensures in_range { result ≤ length path.now }
+{
+    let dir = past_last(&path[..common], b'/');
+    if dir == 0 {
+        return last_part_end(path);
+    }
+    if holds_no_part(&path[dir..]) {
         path.len()
     } else {
-        trimmed_len(path, path.len())
+        last_part_end(path)
     }
 }
 
@@ -194,12 +223,13 @@ impl<'a> Path<'a> {
             left.bytes.now ≡ stripped_of self.now.bytes.now base.entry.bytes.now) }
         ensures place { IfOk result (λ left. LiesIn left.bytes self.now.bytes) }
     {
-        let Some(left) = after_prefix(self.bytes, base.bytes) else {
+        let common = common_len(self.bytes, base.bytes);
+        let Some(left) = after_prefix(self.bytes, base.bytes, common) else {
             return Err(StripPrefixError(()));
         };
         let left = left.as_path();
         if left.bytes.is_empty() {
-            let end = end_behind(self.bytes, base.bytes);
+            let end = end_behind(self.bytes, base.bytes, common);
             return Ok(Path {
                 bytes: &self.bytes[end..end],
             });

@@ -1,24 +1,25 @@
-use Rattle.std.proofs.Common.{ℕ, ◌<◌, ◌≤◌, List, take, sym, ap, subst, ◌∙◌}
+use Rattle.std.proofs.Common.{ℕ, ◌<◌, ◌≤◌, List, take, drop, take_all, sym, ap, subst, ◌∙◌}
 use Rattle.std.proofs.Common.{arith, rules}
 use Rattle.std.proofs.lemmas.List.{take-take, take_rest}
+use Rattle.std.proofs.Math.Seq.{drop-length}
 use Rattle.unix_path.specs.CommonDir.{inner_values}
 use Rattle.unix_path.specs.Steps.{PastIdle}
 use Rattle.unix_path.proofs.CommonDirLemmas.{take-common}
-use Rattle.unix_path.proofs.SharedLemmas.{shares-slash}
+use Rattle.unix_path.proofs.SharedLemmas.{shares-end, shares-slash}
 use Rattle.unix_path.proofs.SourceLemmas.{LiesIn-trans}
 use Rattle.unix_path.proofs.shared.past_shared.Goals as goal
 
-pub order_in_names-requires-clause-same : goal.order_in_names-requires-clause-same
-order_in_names-requires-clause-same c =
+pub order_by_names-requires-clause-same : goal.order_by_names-requires-clause-same
+order_by_names-requires-clause-same c =
     take-common c.past_idle-first.result.now c.past_idle-second.result.now
     c.common_len-common.result (omega (arith, c.common_len-common.ensures.value))
 
-pub loop-dir-preserved : goal.loop-dir-preserved
-loop-dir-preserved c =
-    let x : List ℕ = c.loop-dir.left.first.now in
-    let y : List ℕ = c.loop-dir.left.second.now in
-    let old = c.loop-dir.invariant in
-    let m : ℕ = c.loop-dir.common in
+pub loop-left-preserved : goal.loop-left-preserved
+loop-left-preserved c =
+    let x : List ℕ = c.loop-left.left.first.now in
+    let y : List ℕ = c.loop-left.left.second.now in
+    let old = c.loop-left.invariant in
+    let m : ℕ = c.loop-left.common in
     let dir = c.past_last_slash-dir in
     let n : ℕ = dir.result in
     let some : 0 < n = omega (arith, c.if-dir-eq0.false) in
@@ -41,6 +42,18 @@ loop-dir-preserved c =
       in_first = common.ensures.in_first;
       in_second = common.ensures.in_second;
       same = take-common t u common.result (omega (arith, common.ensures.value));
-      order = c.order_in_names.ensures.order;
-      apart = c.order_in_names.ensures.apart;
+      order = c.order_by_names.ensures.order;
+      apart = c.order_by_names.ensures.apart;
     }
+
+pub returns-then-common-left-2-clause-shares : goal.returns-then-common-left-2-clause-shares
+returns-then-common-left-2-clause-shares c =
+    let x : List ℕ = c.loop-left.left.first.now in
+    let y : List ℕ = c.loop-left.left.second.now in
+    let n : ℕ = c.loop-left.common in
+    let old = c.loop-left.invariant in
+    shares-end old.shares
+    (sym (take_all n x (omega (arith, c.if-common-left.true))) ∙ old.same
+    ∙ take_all n y (omega (arith, c.if-common-left-2.true)))
+    (take_rest x n ∙ ap (λ k. drop k x) c.if-common-left.true ∙ drop-length x)
+    (take_rest y n ∙ ap (λ k. drop k y) c.if-common-left-2.true ∙ drop-length y)

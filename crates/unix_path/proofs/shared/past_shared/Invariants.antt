@@ -7,8 +7,8 @@ use Rattle.unix_path.specs.Prefixes.{Begins}
 use Rattle.unix_path.specs.Steps.{SharesFront}
 use Rattle.unix_path.proofs.shared.past_shared.Given as goal
 
-abbrev pub invariant-loop-dir : goal.invariant-loop-dir
-invariant-loop-dir l = record {
+abbrev pub invariant-loop-left : goal.invariant-loop-left
+invariant-loop-left l = record {
   shares : SharesFront l.a l.b l.left.first.now l.left.second.now;
   place : LiesIn l.left.first l.initial.left.first;
   in_first : l.common ≤ length l.left.first.now;
@@ -20,5 +20,5 @@ invariant-loop-dir l = record {
       → Begins (values l.left.second.now) (values l.left.first.now) → ⊥;
 }
 
-abbrev pub decreases-loop-dir : goal.decreases-loop-dir
-decreases-loop-dir l = length l.left.first.now
+abbrev pub decreases-loop-left : goal.decreases-loop-left
+decreases-loop-left l = length l.left.first.now

@@ -1,5 +1,5 @@
 use Rattle.std.proofs.Common.{◌≡◌, ℕ, ◌-◌, ◌<◌, ◌≤◌, eqb, false, length, get_or}
-use Rattle.unix_path.proofs.endings.common_end_len.Given as goal
+use Rattle.unix_path.proofs.endings.common_end_in_few.Given as goal
 
 abbrev pub invariant-loop-len : goal.invariant-loop-len
 invariant-loop-len l = record {
