@@ -201,13 +201,7 @@ pub fn common_len(a: &[u8], b: &[u8]) -> usize
         return common_in_few(a, b, most);
     }
     let last = most - 16;
-    // A block that differs is looked at twice, so blocks are for long strings, of which many bytes
-    // may be the same. Most paths have fewer.
-    let mut len = if most < 128 {
-        0
-    } else {
-        common_blocks_len(a, b, most)
-    };
+    let mut len = common_blocks_len(a, b, most);
     while len < last {
         let common = common_in_lanes(a, b, len);
         if common < 16 {
