@@ -139,8 +139,52 @@ fn has_bytes(path: &PathBuf, text: &str) -> bool {
 #[test]
 fn manifests_are_normalised(rt: HostRuntime) -> Result<(), Fail> {
     assert!(rt; is_normalised(rt.alloc(), 1, NORMALISED.as_slice())?);
-    // So many paths are sorted first.
+    // Each path many times over.
     assert!(rt; is_normalised(rt.alloc(), 200, NORMALISED.as_slice())?);
+    Ok(())
+}
+
+// How many paths there are of a letter, a slash and a letter.
+const LETTERS: usize = 676;
+
+// These paths, from the first on or from the last down.
+fn letters(alloc: Global, falls: bool) -> Result<Vec<PathBuf>, AllocError> {
+    let mut paths = Vec::with_capacity(alloc, LETTERS)?;
+    for place in 0..LETTERS {
+        let at = if falls { LETTERS - 1 - place } else { place };
+        let bytes = [b'a' + (at / 26) as u8, b'/', b'a' + (at % 26) as u8];
+        paths.push(Path::from_bytes(bytes.as_slice()).to_path_buf(alloc)?)?;
+    }
+    Ok(paths)
+}
+
+// Whether these paths, and a last one before all of them or none, are normalised to `want`.
+fn are_ordered(
+    alloc: Global,
+    given: &[PathBuf],
+    last: Option<Path<'_>>,
+    want: &[PathBuf],
+) -> Result<bool, AllocError> {
+    let mut paths = Vec::new(alloc);
+    for path in given {
+        paths.push(path.as_path())?;
+    }
+    if let Some(path) = last {
+        paths.push(path)?;
+    }
+    let mut set = normalise(alloc, paths.as_slice())?;
+    let has_last = last.is_none() || set.pop_first().is_some();
+    Ok(has_last && set.iter().eq(want.iter()))
+}
+
+#[test]
+fn listings_are_ordered(rt: HostRuntime) -> Result<(), Fail> {
+    let rising = letters(rt.alloc(), false)?;
+    let falling = letters(rt.alloc(), true)?;
+    assert!(rt; are_ordered(rt.alloc(), &rising, None, &rising)?);
+    assert!(rt; are_ordered(rt.alloc(), &falling, None, &rising)?);
+    // With it the first path comes behind the last, and the list still rises up to that.
+    assert!(rt; are_ordered(rt.alloc(), &rising, Some(Path::from_text("/")), &rising)?);
     Ok(())
 }
 
