@@ -57,7 +57,7 @@ pub fn canonical(alloc: Global, path: Path<'_>) -> Result<PathBuf, AllocError>
 ///
 /// Does not allocate. Not in Rust's std.
 ///
-/// For `./a/b` it is true, and for `a//b`, `a/./b` and `a/` it is false.
+/// For `./a/b` and the empty path it is true, and for `a//b`, `a/./b` and `a/` it is false.
 #[must_use]
 pub fn is_canonical(path: Path<'_>) -> bool
     ensures { IsTrue result
