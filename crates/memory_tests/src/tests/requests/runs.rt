@@ -20,6 +20,11 @@ fn path_spelled(rt: HostRuntime) -> Result<(), Fail> {
 }
 
 #[test]
+fn spelled_path_copied(rt: HostRuntime) -> Result<(), Fail> {
+    report_path(canonical(rt.alloc(), path(SPELLING)), SPELLING)
+}
+
+#[test]
 fn path_rejoined(rt: HostRuntime) -> Result<(), Fail> {
     match rejoin(rt.alloc(), path("/a//b/."), path("/a/")) {
         Ok(Some(joined)) => report_path(Ok(joined), "/a/b"),

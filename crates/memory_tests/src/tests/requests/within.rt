@@ -24,9 +24,20 @@ fn path_resolved(rt: HostRuntime) -> Result<(), Fail> {
 }
 
 #[test]
+fn plain_path_resolved(rt: HostRuntime) -> Result<(), Fail> {
+    report_path(resolved(rt.alloc(), path("a/b")), "a/b")
+}
+
+#[test]
 fn path_joined_within(rt: HostRuntime) -> Result<(), Fail> {
     let given = join_within(rt.alloc(), path("/srv/www"), path("a/../b"));
     report_join(given, "/srv/www/b")
+}
+
+#[test]
+fn plain_paths_joined_within(rt: HostRuntime) -> Result<(), Fail> {
+    let given = join_within(rt.alloc(), path("/srv/www"), path("a/b"));
+    report_join(given, "/srv/www/a/b")
 }
 
 #[test]
@@ -35,11 +46,22 @@ fn path_joined_plainly(rt: HostRuntime) -> Result<(), Fail> {
     report_join(given, "/srv/www/a/b")
 }
 
-#[test]
-fn way_found(rt: HostRuntime) -> Result<(), Fail> {
-    match way(rt.alloc(), path("/a/b/c"), path("/a/d")) {
-        Ok(Some(found)) => report(true, holds(&found, "../../d")),
+// The result of a test whose call gives a way.
+fn report_way(given: Result<Option<PathBuf>, AllocError>, text: &str) -> Result<(), Fail> {
+    match given {
+        Ok(Some(found)) => report(true, holds(&found, text)),
         Ok(None) => report(true, false),
         Err(AllocError) => report(false, true),
     }
+}
+
+#[test]
+fn way_found(rt: HostRuntime) -> Result<(), Fail> {
+    report_way(way(rt.alloc(), path("/a/b/c"), path("/a/d")), "../../d")
+}
+
+#[test]
+fn way_between_unresolved_found(rt: HostRuntime) -> Result<(), Fail> {
+    let given = way(rt.alloc(), path("/a//b/c"), path("/a/./d"));
+    report_way(given, "../../d")
 }

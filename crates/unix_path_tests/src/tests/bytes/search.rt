@@ -62,3 +62,17 @@ fn common_prefixes(rt: HostRuntime) {
         assert!(rt; is_common(row.0, row.1, row.2), "{}", row.2);
     }
 }
+
+// Strings of each length up to 200 that differ at one place, or at none.
+#[test]
+fn places_of_differences(rt: HostRuntime) {
+    let a = [b'a'; 200];
+    for len in 0..200 {
+        assert!(rt; is_common(&a[..len], &a[..len], len), "{len}");
+        for place in 0..len {
+            let mut b = a;
+            b[place] = b'b';
+            assert!(rt; is_common(&a[..len], &b[..len], place), "{len} {place}");
+        }
+    }
+}
