@@ -1,6 +1,7 @@
 -- Laws of the canonical spelling. Not in Rust's std.
-use Rattle.std.specs.Prelude.{◌≡◌, ◌↔◌, ◌⊎◌, ◌<◌, ℕ, List, length}
-use Rattle.unix_path.specs.Parts.{values, SameValues}
+use Rattle.std.specs.Prelude.{◌≡◌, ◌↔◌, ◌⊎◌, ◌<◌, ℕ, List, [], length, map}
+use Rattle.unix_path.specs.Joins.{join_all_of}
+use Rattle.unix_path.specs.Parts.{value_bytes, values, SameValues}
 use Rattle.path_runs.specs.Spelling.{spelling_of}
 
 -- the spelling of a path's values has these values
@@ -17,3 +18,8 @@ SpellingIsShortest =
 abbrev pub SpellingsTell : Type 0
 SpellingsTell =
     (s t : List ℕ) → SameValues s t ↔ (spelling_of (values s) ≡ spelling_of (values t))
+
+-- the bytes of a path's values, each joined to those before it, are the values' spelling
+abbrev pub JoinsAreSpelling : Type 0
+JoinsAreSpelling =
+    (s : List ℕ) → join_all_of [] (map value_bytes (values s)) ≡ spelling_of (values s)

@@ -3,6 +3,7 @@ ghost use Rattle.std.specs.Prelude.{◌≡◌, ◌<◌, ◌≤◌, ◌++◌, ◌
 ghost use Rattle.std.specs.Prelude.{IfOk, OnOk, IsTrue};
 ghost use Rattle.unix_bytes.specs.Owned.{owned_bytes};
 ghost use Rattle.unix_path.specs.Buffers.{path_bytes};
+ghost use Rattle.unix_path.specs.Cursor.{cursor_values};
 ghost use Rattle.unix_path.specs.Parts.{values};
 ghost use Rattle.path_runs.specs.Gaps.{is_gap, slashed_parts};
 ghost use Rattle.path_runs.specs.Spelling.{spelling_of};
@@ -10,7 +11,7 @@ ghost use Rattle.path_runs.specs.Spelling.{spelling_of};
 use crate::gaps::{first_gap, past_gap};
 use std::alloc::{AllocError, Global};
 use unix_bytes::bytes::{UnixStr, UnixString};
-use unix_path::{Path, PathBuf};
+use unix_path::{Components, Path, PathBuf};
 
 // Appends the parts behind the gap at `gap`, each behind a slash. The parts up to the next gap
 // already stand so in the path, and the slash before them too: they are copied as one.
@@ -51,6 +52,20 @@ pub fn canonical(alloc: Global, path: Path<'_>) -> Result<PathBuf, AllocError>
     spelling.push(UnixStr::from_bytes(&bytes[..gap]))?;
     push_parts(&mut spelling, bytes, gap)?;
     Ok(PathBuf::from(spelling))
+}
+
+/// The parts that are left of a walk, each joined to those before it.
+///
+/// It is the canonical spelling of these parts, in whatever order the others were taken from the two
+/// ends. For a fresh walk it is what `canonical` gives for the path, part by part and so more slowly.
+/// Allocates as the path grows, or not at all if no part is left; fails if an allocation fails. As a
+/// `Components` of Rust's std that is collected into a `PathBuf`.
+///
+/// For what a `next_back` leaves of `.//a/./b/` it is `./a`.
+pub fn collected(alloc: Global, components: Components<'_>) -> Result<PathBuf, AllocError>
+    ensures { IfOk result (λ p. path_bytes p ≡ spelling_of (cursor_values components.entry)) }
+{
+    PathBuf::from_iter(alloc, components.map(|part| part.as_path()))
 }
 
 /// Whether the path is in canonical form: whether it is the one that `canonical` gives for it.

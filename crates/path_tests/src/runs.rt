@@ -6,6 +6,7 @@ ghost use Rattle.unix_path.specs.Views.{value_of};
 mod callers;
 mod canonical;
 mod chains;
+mod collected;
 mod congruent;
 mod edits;
 mod facts;

@@ -1,6 +1,6 @@
 //! Edits, walks and spellings while allocations fail.
 use super::{drought, fails, holds, path};
-use path_runs::canonical::canonical;
+use path_runs::canonical::{canonical, collected};
 use path_runs::edits::{Edit, apply, rejoin};
 use path_runs::walk::{Turn, walk};
 use std::alloc::Global;
@@ -53,6 +53,7 @@ fn answers_that_fail_leave_the_path(rt: HostRuntime) -> Result<(), Fail> {
 fn refuses_runs(alloc: Global) -> bool {
     fails(walk(alloc, path("/a"), [Turn::Back].as_slice()))
         && fails(canonical(alloc, path("/a")))
+        && fails(collected(alloc, path("/a").components()))
         && fails(rejoin(alloc, path("/a"), path("/")))
         && matches!(rejoin(alloc, path("/a"), path("a")), Ok(None))
 }

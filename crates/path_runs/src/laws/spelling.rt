@@ -1,6 +1,6 @@
-//! The law of the canonical spelling.
+//! Laws of the canonical spelling.
 ghost use Rattle.path_runs.specs.SpellingLaws.{SpellingReadsBack, SpellingIsShortest};
-ghost use Rattle.path_runs.specs.SpellingLaws.{SpellingsTell};
+ghost use Rattle.path_runs.specs.SpellingLaws.{SpellingsTell, JoinsAreSpelling};
 
 /// The canonical spelling of a path's values is the one shortest path with these values.
 ///
@@ -12,4 +12,14 @@ pub fn canonical_form()
     ensures reads_back { SpellingReadsBack }
     ensures shortest { SpellingIsShortest }
     ensures tells { SpellingsTell }
+{}
+
+/// A path's parts, each joined to those before it, are the canonical spelling of the path.
+///
+/// That holds byte for byte, of whole paths and of what a walk leaves. Calling it does nothing. Not
+/// in Rust's std.
+///
+/// The parts of `.//a/./b/` are `.`, `a` and `b`; joined one after the other they are `./a/b`.
+pub fn spelling_joined()
+    ensures { JoinsAreSpelling }
 {}

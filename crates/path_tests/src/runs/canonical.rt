@@ -1,5 +1,5 @@
 //! Rows of canonical spellings.
-use path_runs::canonical::{canonical, is_canonical};
+use path_runs::canonical::{canonical, collected, is_canonical};
 use std::alloc::{AllocError, Global};
 use unix_path::Path;
 use unix_path::bytes::UnixStr;
@@ -29,6 +29,21 @@ fn is_spelled(alloc: Global, path: &str, want: &str) -> bool {
 fn rows_of_spellings(rt: HostRuntime) {
     for row in ROWS.iter() {
         assert!(rt; is_spelled(rt.alloc(), row.0, row.1), "{}", row.0);
+    }
+}
+
+// Whether the parts of the path, collected, are this path.
+fn is_collected(alloc: Global, path: &str, want: &str) -> bool {
+    match collected(alloc, Path::from_text(path).components()) {
+        Ok(joined) => joined.as_path().as_unix_str() == UnixStr::new(want),
+        Err(AllocError) => false,
+    }
+}
+
+#[test]
+fn rows_are_collected(rt: HostRuntime) {
+    for row in ROWS.iter() {
+        assert!(rt; is_collected(rt.alloc(), row.0, row.1), "{}", row.0);
     }
 }
 

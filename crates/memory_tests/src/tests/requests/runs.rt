@@ -1,7 +1,7 @@
 //! Requests for memory of calls that make spellings, joins, walks and lists of edits.
 use super::super::{holds, path};
 use super::{report, report_path};
-use path_runs::canonical::canonical;
+use path_runs::canonical::{canonical, collected};
 use path_runs::edits::{Edit, apply, rejoin};
 use path_runs::walk::{Turn, walk};
 use std::alloc::AllocError;
@@ -22,6 +22,11 @@ fn path_spelled(rt: HostRuntime) -> Result<(), Fail> {
 #[test]
 fn spelled_path_copied(rt: HostRuntime) -> Result<(), Fail> {
     report_path(canonical(rt.alloc(), path(SPELLING)), SPELLING)
+}
+
+#[test]
+fn parts_collected(rt: HostRuntime) -> Result<(), Fail> {
+    report_path(collected(rt.alloc(), path(SOURCE).components()), SPELLING)
 }
 
 #[test]
