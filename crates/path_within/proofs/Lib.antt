@@ -12,6 +12,7 @@ pub mod FloorLemmas
 pub mod PopLemmas
 pub mod StepLemmas
 pub mod PlainLemmas
+pub mod NormalLemmas
 pub mod SkipLemmas
 pub mod WaySpellingLemmas
 pub mod PlainStartLemmas

@@ -69,7 +69,7 @@ resolved_of-names vs h =
     ap reverse (kept_of-names [] vs h ∙ append-nil (reverse vs)) ∙ reverse-reverse vs
 
 -- the root and then names resolve to themselves
-resolved_of-root : (vs : List Value) → AreNames vs → resolved_of (RootDir ∷ vs) ≡ RootDir ∷ vs
+pub resolved_of-root : (vs : List Value) → AreNames vs → resolved_of (RootDir ∷ vs) ≡ RootDir ∷ vs
 unfolding resolved_of
 resolved_of-root vs h =
     ap reverse (kept_of-names (RootDir ∷ []) vs h ∙ sym (reverse_onto vs RootDir []))

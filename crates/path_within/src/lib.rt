@@ -2,6 +2,7 @@
 #![tactic(auto)]
 
 pub mod laws;
+mod normal;
 mod plain;
 pub mod resolved;
 pub mod way;

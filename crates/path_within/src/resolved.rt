@@ -12,6 +12,7 @@ ghost use Rattle.path_within.specs.Resolved.{keep, kept_of, up_from, resolved_by
 ghost use Rattle.path_within.specs.Steps.{IsOne, Spells};
 ghost use Rattle.path_within.specs.PlainPieces.{is_end, IsStretch};
 
+use crate::normal::is_resolved;
 use crate::plain::{begins_plain, first_mark, is_whole, plain_len};
 use std::alloc::{AllocError, Global};
 use unix_path::{Component, Components, CowPath, Path, PathBuf};
@@ -159,6 +160,10 @@ pub(crate) fn resolved_cow<'a>(alloc: Global, path: Path<'a>) -> Result<CowPath<
 {
     let len = plain_len(path);
     if is_whole(path, len) {
+        return Ok(CowPath::Borrowed(path));
+    }
+    // Of the other paths only those that begin with no plain piece can be resolved as they stand.
+    if len == 0 && is_resolved(path) {
         return Ok(CowPath::Borrowed(path));
     }
     let mut kept = PathBuf::with_capacity(alloc, path.as_unix_str().len())?;

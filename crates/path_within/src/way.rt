@@ -13,7 +13,8 @@ ghost use Rattle.path_within.specs.Climbs.{is_name};
 ghost use Rattle.path_within.specs.Way.{is_root, way_of};
 ghost use Rattle.path_within.specs.Steps.{Spells};
 
-use crate::plain::{is_plain, plain_len};
+use crate::normal::are_names;
+use crate::plain::plain_len;
 use crate::resolved::{keep_path, keep_up, resolved_cow};
 use std::alloc::{AllocError, Global};
 use unix_path::{Component, Components, Path, PathBuf};
@@ -52,27 +53,6 @@ fn skip_shared<'a, 'b>(from: Components<'a>, to: Components<'b>) -> (Components<
         left = left_next;
         onward = onward_next;
     }
-}
-
-// Whether the part is a name.
-#[inline]
-fn is_name(part: Component<'_>) -> bool
-    ensures { result ≡ is_name (value_of part.entry) }
-{
-    matches!(part, Component::Normal(_))
-}
-
-// Whether all these parts are names. They aren't looked at where what is left is plain.
-#[inline]
-fn are_names(parts: Components<'_>) -> bool
-    ensures { result ≡ list_all is_name (cursor_values parts.entry) }
-{
-    let left = parts.as_path();
-    if is_plain(left) {
-        return !left.has_root();
-    }
-    let mut parts = parts;
-    parts.all(is_name)
 }
 
 // Whether the root is among these parts, of which it can only be the first.

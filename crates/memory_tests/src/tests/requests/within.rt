@@ -29,6 +29,11 @@ fn plain_path_resolved(rt: HostRuntime) -> Result<(), Fail> {
 }
 
 #[test]
+fn path_above_resolved(rt: HostRuntime) -> Result<(), Fail> {
+    report_path(resolved(rt.alloc(), path("../../a")), "../../a")
+}
+
+#[test]
 fn path_joined_within(rt: HostRuntime) -> Result<(), Fail> {
     let given = join_within(rt.alloc(), path("/srv/www"), path("a/../b"));
     report_join(given, "/srv/www/b")
@@ -64,4 +69,19 @@ fn way_found(rt: HostRuntime) -> Result<(), Fail> {
 fn way_between_unresolved_found(rt: HostRuntime) -> Result<(), Fail> {
     let given = way(rt.alloc(), path("/a//b/c"), path("/a/./d"));
     report_way(given, "../../d")
+}
+
+#[test]
+fn way_from_root_found(rt: HostRuntime) -> Result<(), Fail> {
+    report_way(way(rt.alloc(), path("/"), path("/a/b")), "a/b")
+}
+
+#[test]
+fn way_between_paths_above_found(rt: HostRuntime) -> Result<(), Fail> {
+    report_way(way(rt.alloc(), path("../../x"), path("../../y")), "../y")
+}
+
+#[test]
+fn way_from_above_found(rt: HostRuntime) -> Result<(), Fail> {
+    report_way(way(rt.alloc(), path(".."), path("../..")), "..")
 }

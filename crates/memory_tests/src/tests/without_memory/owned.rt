@@ -1,9 +1,10 @@
 //! Buffers, walks, spellings and edits need no memory for what promises so.
 use super::super::{drought, path};
 use super::{debug_has, hash_same};
-use path_runs::canonical::{canonical, is_canonical};
+use path_runs::canonical::{canonical, collected, is_canonical};
 use path_runs::edits::{Edit, apply, rejoin};
 use path_runs::walk::{Turn, walk};
+use path_within::way::way;
 use std::alloc::Global;
 use std::test::Fail;
 use unix_path::PathBuf;
@@ -39,7 +40,18 @@ fn is_edited(mut buffer: PathBuf) -> bool {
 fn runs_over_nothing(alloc: Global) -> bool {
     let walked = walk(alloc, path("a/b"), &[]);
     let ended = walk(alloc, path(""), [Turn::Front, Turn::Back].as_slice());
-    walked.is_ok() && ended.is_ok() && canonical(alloc, path("")).is_ok()
+    walked.is_ok()
+        && ended.is_ok()
+        && canonical(alloc, path("")).is_ok()
+        && collected(alloc, path("").components()).is_ok()
+}
+
+// A way between equal paths that are resolved as they stand is the empty path.
+fn leads_nowhere(alloc: Global) -> bool {
+    let paths = [path(""), path("/"), path(".."), path("../x"), path("/a/b")];
+    paths
+        .iter()
+        .all(|same| matches!(way(alloc, *same, *same), Ok(Some(_))))
 }
 
 fn spellings_are_told() -> bool {
@@ -67,6 +79,7 @@ fn buffers_need_no_memory(rt: HostRuntime) -> Result<(), Fail> {
     assert!(rt; runs_over_nothing(alloc));
     assert!(rt; spellings_are_told());
     assert!(rt; joins_nothing(alloc));
+    assert!(rt; leads_nowhere(alloc));
     assert!(rt; applies_nothing(alloc, &mut foo));
     assert!(rt; is_edited(foo));
     Ok(())

@@ -1,0 +1,72 @@
+//! Paths that are resolved as they stand.
+ghost use Rattle.std.specs.Prelude.{◌≡◌, ◌↔◌, IsTrue};
+ghost use Rattle.std.specs.List.{list_all};
+ghost use Rattle.unix_path.specs.Cursor.{cursor_values};
+ghost use Rattle.unix_path.specs.Views.{value_of};
+ghost use Rattle.path_within.specs.Climbs.{is_name, is_parent};
+ghost use Rattle.path_within.specs.Resolved.{resolved_bytes_of, AreUpsThenNames, IsNormal};
+
+use crate::plain::is_plain;
+use path_runs::canonical::is_canonical;
+use unix_path::{Component, Components, Path};
+
+// Whether the part is a name.
+#[inline]
+fn is_name(part: Component<'_>) -> bool
+    ensures { result ≡ is_name (value_of part.entry) }
+{
+    matches!(part, Component::Normal(_))
+}
+
+// Whether all these parts are names. They aren't looked at where what is left is plain.
+#[inline]
+pub(crate) fn are_names(parts: Components<'_>) -> bool
+    ensures { result ≡ list_all is_name (cursor_values parts.entry) }
+{
+    let left = parts.as_path();
+    if is_plain(left) {
+        return !left.has_root();
+    }
+    let mut parts = parts;
+    parts.all(is_name)
+}
+
+// Whether the part is `..`.
+#[inline]
+fn is_up(part: Component<'_>) -> bool
+    ensures { result ≡ is_parent (value_of part.entry) }
+{
+    matches!(part, Component::ParentDir)
+}
+
+// Whether these parts are `..`, any number of times, and then names.
+fn are_ups_then_names(parts: Components<'_>) -> bool
+    ensures { IsTrue result ↔ AreUpsThenNames (cursor_values parts.entry) }
+{
+    let mut left = parts;
+    while let Some(part) = left.next() {
+        if !is_up(part) {
+            return is_name(part) && are_names(left);
+        }
+    }
+    true
+}
+
+// Whether a root stands only in front, no part is `.`, and no `..` stands behind a name or a root.
+fn is_normal(parts: Components<'_>) -> bool
+    ensures { IsTrue result ↔ IsNormal (cursor_values parts.entry) }
+{
+    let mut left = parts;
+    match left.next() {
+        Some(Component::RootDir) => are_names(left),
+        _ => are_ups_then_names(parts),
+    }
+}
+
+// Whether the path is resolved as it stands: whether it is the one that `resolved` gives for it.
+pub(crate) fn is_resolved(path: Path<'_>) -> bool
+    ensures { IsTrue result
+        ↔ (resolved_bytes_of path.entry.bytes.now ≡ path.entry.bytes.now) }
+{
+    is_normal(path.components()) && is_canonical(path)
+}
