@@ -47,5 +47,4 @@ pub mod AheadLemmas
 pub mod EndLaneLemmas
 pub mod EndingLemmas
 pub mod BaseLemmas
-pub mod EmptyRestLemmas
 pub mod FirstByteLemmas

@@ -6,7 +6,6 @@ use Rattle.std.specs.Prelude.{Option, Some, None, if◌then◌else◌}
 use Rattle.std.proofs.Props.{props}
 use Rattle.std.specs.List.{position_or_len}
 use Rattle.std.specs.Str.{bytes_eq}
-use Rattle.unix_path.specs.CommonDir.{common_dir_of}
 use Rattle.unix_path.specs.Parts.{slash, is_slash, dot, cur_dir, Part, Value, CurDir}
 use Rattle.unix_path.specs.Parts.{inner_parts, value_of_piece, values}
 use Rattle.unix_path.specs.Prefixes.{Begins}
@@ -127,14 +126,6 @@ pub record SharesFront (a b x y : List ℕ) : Type 0 where
   pub first : values a ≡ front ++ values x
   pub second : values b ≡ front ++ values y
   pub left : rest x 0 0 ≡ rest a (length front) 0
-
--- where an empty rest of s behind base stands: at the end of s if no part of s follows the last
--- slash of what both begin with, and else where the last part of s ends
-abbrev pub empty_rest_at : List ℕ → List ℕ → ℕ
-empty_rest_at s base =
-    let dir = common_dir_of s base in
-    if nat_lt 0 dir && length (inner_parts 0 (drop dir s)) == 0 then length s
-    else length (rest s 0 0)
 
 -- what the fields of a walk say of each other: what is left stands between the two places and ends
 -- in a part, and the flags tell whether a root or a `.` that counts stands first

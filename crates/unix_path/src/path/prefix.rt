@@ -1,17 +1,16 @@
 //! Whether the parts of one path begin or end those of another, and what follows them.
-ghost use Rattle.std.specs.Prelude.{◌≡◌, ◌≤◌, ◌↔◌, ◌==◌, length, take, nat_eq, IsTrue, IsOk, IfOk};
+ghost use Rattle.std.specs.Prelude.{◌≡◌, ◌≤◌, ◌↔◌, [], length, take, IsTrue, IsOk, IfOk};
 ghost use Rattle.std.specs.Prelude.{IsSome, IfSome, Some, None, codes};
 ghost use Rattle.std.specs.Fmt.{padded};
-ghost use Rattle.std.specs.List.{common_prefix_len};
 ghost use Rattle.unix_path.specs.Cursor.{cursor_rest, cursor_source, cursor_values};
 ghost use Rattle.unix_path.specs.Prefixes.{Begins, Ends, stripped_of};
-ghost use Rattle.unix_path.specs.Parts.{inner_parts, values};
+ghost use Rattle.unix_path.specs.Parts.{values};
 ghost use Rattle.unix_path.specs.Rest.{rest};
-ghost use Rattle.unix_path.specs.Steps.{StripsOn, empty_rest_at};
-ghost use Rattle.unix_path.specs.Places.{LiesIn};
+ghost use Rattle.unix_path.specs.Steps.{StripsOn};
+ghost use Rattle.unix_path.specs.Places.{BeginsAt, LiesIn};
 
 use crate::compare::is_same_part;
-use crate::cursor::{Components, long_idle_len, trimmed_len};
+use crate::cursor::{Components, trimmed_len};
 use crate::endings::end_in_other_names;
 use crate::path::Path;
 use crate::shared::{
@@ -19,7 +18,7 @@ use crate::shared::{
 };
 use std::error::Error;
 use std::fmt;
-use unix_bytes::search::{common_len, past_last};
+use unix_bytes::search::common_len;
 
 /// The refusal of `Path::strip_prefix`: the parts of the base don't begin those of the path.
 ///
@@ -147,42 +146,13 @@ fn has_prefix(path: &[u8], base: &[u8]) -> bool
     has_parts(path, base, common)
 }
 
-// Whether no part stands in a string that stands behind a slash.
-#[inline]
-fn holds_no_part(bytes: &[u8]) -> bool
-    ensures { result ≡ (length (inner_parts 0 bytes.now) == 0) }
-{
-    long_idle_len(bytes) == bytes.len()
-}
-
-// Where the last part of the path ends.
-#[inline]
+// Where the last part of the path ends. It isn't inlined, so that `strip_prefix` stays small.
+#[cold]
 fn last_part_end(path: &[u8]) -> usize
     ensures value { result ≡ length (rest path.now 0 0) }
     ensures in_range { result ≤ length path.now }
 {
     trimmed_len(path, path.len())
-}
-
-// The place of `strip_prefix`'s answer where nothing follows the base: the end of the path, if both
-// are written alike up to a slash behind its last part, or else the end of that part. Both begin
-// with `common` bytes.
-#[cold]
-fn end_behind(path: &[u8], base: &[u8], common: usize) -> usize
-    requires in_range { common ≤ length path.now }
-    requires common { common ≡ common_prefix_len nat_eq path.now base.now }
-    ensures value { result ≡ empty_rest_at path.now base.now }
-    ensures in_range { result ≤ length path.now }
-{
-    let dir = past_last(&path[..common], b'/');
-    if dir == 0 {
-        return last_part_end(path);
-    }
-    if holds_no_part(&path[dir..]) {
-        path.len()
-    } else {
-        last_part_end(path)
-    }
 }
 
 // Whether the parts of `child` end the path's. Mostly the last bytes of both tell that they don't.
@@ -210,9 +180,10 @@ impl<'a> Path<'a> {
     /// What follows `base`, as a slice of this path's bytes, in the same memory, where `base`'s
     /// parts begin this path's.
     ///
-    /// Whole parts count: `foo/bar` has no prefix `foo/ba`. No bytes are left where all parts
-    /// match. Fails exactly where `starts_with` is false. Does not allocate. As Rust's
-    /// `Path::strip_prefix`; `base` is a `Path`.
+    /// Whole parts count: `foo/bar` has no prefix `foo/ba`. Where all parts match no bytes are left,
+    /// and the empty slice stands where this path's last part ends. Fails exactly where
+    /// `starts_with` is false. Does not allocate. As Rust's `Path::strip_prefix`, whose empty slice
+    /// may stand further on; `base` is a `Path`.
     ///
     /// For `/a//b/` and the base `/a` it is `b`.
     #[inline]
@@ -222,6 +193,8 @@ impl<'a> Path<'a> {
         ensures value { IfOk result (λ left.
             left.bytes.now ≡ stripped_of self.now.bytes.now base.entry.bytes.now) }
         ensures place { IfOk result (λ left. LiesIn left.bytes self.now.bytes) }
+        ensures empty { IfOk result (λ left. left.bytes.now ≡ []
+            → BeginsAt left.bytes self.now.bytes (length (rest self.now.bytes.now 0 0))) }
     {
         let common = common_len(self.bytes, base.bytes);
         let Some(left) = after_prefix(self.bytes, base.bytes, common) else {
@@ -229,7 +202,7 @@ impl<'a> Path<'a> {
         };
         let left = left.as_path();
         if left.bytes.is_empty() {
-            let end = end_behind(self.bytes, base.bytes, common);
+            let end = last_part_end(self.bytes);
             return Ok(Path {
                 bytes: &self.bytes[end..end],
             });

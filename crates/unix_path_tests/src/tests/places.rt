@@ -1,6 +1,7 @@
 //! Where answers lie, as a caller proves it, and how long they live.
-ghost use Rattle.std.specs.Prelude.{IfSome};
-ghost use Rattle.unix_path.specs.Places.{LiesIn};
+ghost use Rattle.std.specs.Prelude.{◌≡◌, [], length, IfSome};
+ghost use Rattle.unix_path.specs.Places.{BeginsAt, LiesIn};
+ghost use Rattle.unix_path.specs.Rest.{rest};
 
 use super::views::{bytes, path, view};
 use unix_bytes::bytes::UnixStr;
@@ -16,9 +17,11 @@ fn grandparent<'a>(path: Path<'a>) -> Option<Path<'a>>
     parent.parent()
 }
 
-// What is left behind a base, in the path's own memory.
+// What is left behind a base, in the path's own memory; if no byte is, where the last part ends.
 fn left_behind<'a>(path: Path<'a>, base: Path<'_>) -> Option<Path<'a>>
-    ensures { IfSome result (λ p. LiesIn p.bytes path.entry.bytes) }
+    ensures inside { IfSome result (λ p. LiesIn p.bytes path.entry.bytes) }
+    ensures empty { IfSome result (λ p. p.bytes.now ≡ []
+        → BeginsAt p.bytes path.entry.bytes (length (rest path.entry.bytes.now 0 0))) }
 {
     match path.strip_prefix(base) {
         Ok(left) => Some(left),
