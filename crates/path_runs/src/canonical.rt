@@ -33,9 +33,10 @@ fn push_parts(text: &mut UnixString, bytes: &[u8], gap: usize) -> Result<(), All
 /// The canonical spelling of a path: its parts, each joined to those before it.
 ///
 /// It is the one shortest path that is equal to this one. For the empty path it is the empty path.
-/// Allocates once, as many bytes as stand from the first part to the end of the last, or not at all
-/// for the empty path; fails if the allocation fails. Not in Rust's std: there it is a `Components`
-/// that is collected into a `PathBuf`.
+/// It has the bytes that `collected` gives for a fresh walk over the path. Allocates once, as many
+/// bytes as stand from the first part to the end of the last, or not at all for the empty path;
+/// fails if the allocation fails. Not in Rust's std: there it is a `Components` that is collected
+/// into a `PathBuf`.
 ///
 /// For `.//a/./b/` it is `./a/b`.
 pub fn canonical(alloc: Global, path: Path<'_>) -> Result<PathBuf, AllocError>
@@ -57,9 +58,9 @@ pub fn canonical(alloc: Global, path: Path<'_>) -> Result<PathBuf, AllocError>
 /// The parts that are left of a walk, each joined to those before it.
 ///
 /// It is the canonical spelling of these parts, in whatever order the others were taken from the two
-/// ends. For a fresh walk it is what `canonical` gives for the path, part by part and so more slowly.
-/// Allocates as the path grows, or not at all if no part is left; fails if an allocation fails. As a
-/// `Components` of Rust's std that is collected into a `PathBuf`.
+/// ends. For a fresh walk `canonical` gives the same bytes, in less time. Allocates as the path
+/// grows, or not at all if no part is left; fails if an allocation fails. As a `Components` of
+/// Rust's std that is collected into a `PathBuf`.
 ///
 /// For what a `next_back` leaves of `.//a/./b/` it is `./a`.
 pub fn collected(alloc: Global, components: Components<'_>) -> Result<PathBuf, AllocError>
