@@ -58,6 +58,17 @@ gap-longer (x ∷ s) zero l g = omega (arith, first_gap-longer (x ∷ s) l g)
 gap-longer (x ∷ s) (suc n) l g =
     omega (arith, gap-longer s n (omega arith) (sym (is_gap-behind x s n) ∙ g))
 
+-- the parts from a gap or the end on, each behind a slash, take no more bytes than stand there
+pub kept-length : (s : List ℕ) (n : ℕ) → n ≤ length s → (n < length s → is_gap s n ≡ true)
+    → n + length (slashed_parts (drop n s)) ≤ length s
+kept-length s n l g = by_test (ltb n (length s))
+    (λ e.
+    let some = ltb-true n (length s) e in
+    omega (arith, gap-longer s n some (g some)))
+    (λ e.
+    let all : length s ≤ n = ltb-false n (length s) e in
+    omega (arith, ap length (nothing_left [] s n all)))
+
 -- a path that has a gap isn't its own spelling
 gap_respelled : (s : List ℕ) (n : ℕ) → 1 < length s → EndsInPart s → FirstGap s n
     → n < length s → s ≡ spelling_of (values s) → ⊥

@@ -105,7 +105,7 @@ nothing_left a s i l =
     ap (λ u. a ++ slashed_parts u) (drop_all i s l) ∙ append-nil a
 
 -- a part and those up to the gap behind them stand in a string with the slash before them
-slashed_stretch : (s : List ℕ) (start n : ℕ) → start < length s → IsPart s start
+pub slashed_stretch : (s : List ℕ) (start n : ℕ) → start < length s → IsPart s start
     → slice_range s (start - 1) (start + n) ≡ slash ∷ take n (drop start s)
 slashed_stretch s start n l part =
     let some = part.behind in

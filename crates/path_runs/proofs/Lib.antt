@@ -37,3 +37,6 @@ pub mod KeptLemmas
 pub mod StretchLemmas
 pub mod GaplessLemmas
 pub mod GapLaneLemmas
+pub mod OverlayLemmas
+pub mod WritingLemmas
+pub mod CopyLemmas

@@ -1,6 +1,6 @@
 -- Words of the gaps between the parts of a path. No public clause cites them.
 use Rattle.std.specs.Prelude.{◌≡◌, ◌<◌, ◌≤◌, ℕ, ◌+◌, ◌-◌, ◌==◌, Bool, true, false, ◌||◌, ◌&&◌}
-use Rattle.std.specs.Prelude.{List, ◌∷◌, length, slice_index, slice_index_or}
+use Rattle.std.specs.Prelude.{List, ◌∷◌, ◌++◌, length, drop, slice_index, slice_index_or}
 use Rattle.std.specs.List.{flat_map}
 use Rattle.unix_path.specs.Parts.{slash, dot, value_bytes}
 use Rattle.unix_path.specs.CommonDir.{inner_values}
@@ -28,3 +28,13 @@ pub record IsPart (s : List ℕ) (at : ℕ) : Type 0 where
 -- the bytes of the pieces of s that count, each behind a slash
 unfoldable pub slashed_parts : List ℕ → List ℕ
 slashed_parts s = flat_map (λ v. slash ∷ value_bytes v) (inner_values s)
+
+-- these bytes stand in s from the slash before the part at `start` on: that part and those behind
+-- it, each behind a slash, up to a gap or to the end of s
+pub record IsCopied (s : List ℕ) (start : ℕ) (stretch : List ℕ) : Type 0 where
+  pub more : 1 < length stretch
+  pub in_range : start - 1 + length stretch ≤ length s
+  pub gap : start - 1 + length stretch < length s
+      → slice_index s (start - 1 + length stretch) ≡ slash
+  pub same : slashed_parts (drop start s)
+      ≡ stretch ++ slashed_parts (drop (start - 1 + length stretch) s)

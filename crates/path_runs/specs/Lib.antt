@@ -12,3 +12,5 @@ pub mod AlikeLaws
 pub mod TableLaws
 pub mod HashLaws
 pub mod Gaps
+pub mod Buffer
+pub mod Overlay

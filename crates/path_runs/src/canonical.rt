@@ -8,10 +8,13 @@ ghost use Rattle.unix_path.specs.Parts.{values};
 ghost use Rattle.path_runs.specs.Gaps.{is_gap, slashed_parts};
 ghost use Rattle.path_runs.specs.Spelling.{spelling_of};
 
+mod written;
+
 use crate::gaps::{first_gap, past_gap};
 use std::alloc::{AllocError, Global};
 use unix_bytes::bytes::{UnixStr, UnixString};
 use unix_path::{Components, Path, PathBuf};
+pub use written::write_canonical;
 
 // Appends the parts behind the gap at `gap`, each behind a slash. The parts up to the next gap
 // already stand so in the path, and the slash before them too: they are copied as one.

@@ -7,9 +7,8 @@ pub mod BytesLeftLemmas
 pub mod TakeFirstLemmas
 pub mod TakeLastLemmas
 pub mod SignLemmas
-pub mod OverlayLemmas
+pub mod LayoutLemmas
 pub mod EndLemmas
 pub mod WritingLemmas
-pub mod GapLemmas
 pub mod NameLemmas
 pub mod StepLemmas

@@ -2,9 +2,6 @@ pub mod Places
 pub mod Walks
 pub mod Queries
 pub mod Within
-pub mod Buffer
-pub mod Overlay
 pub mod Layout
 pub mod SaturatedSize
-pub mod Gaps
 pub mod Steps

@@ -6,7 +6,7 @@ ghost use Rattle.unix_path.specs.Extensions.{has_slash};
 ghost use Rattle.unix_path.specs.Joins.{is_open, join_of};
 ghost use Rattle.unix_path.specs.Steps.{gap_bytes};
 ghost use Rattle.unix_path_c.specs.Layout.{layout_bytes};
-ghost use Rattle.unix_path_c.specs.Buffer.{buffer_after};
+ghost use Rattle.path_runs.specs.Buffer.{buffer_after};
 
 use crate::places::last_end;
 use crate::writing::{gap_len, place, place_gap};

@@ -8,7 +8,6 @@ mod lossy;
 mod names;
 mod places;
 mod queries;
-mod spelling;
 #[cfg(test)]
 mod tests;
 mod walks;

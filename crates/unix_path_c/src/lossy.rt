@@ -3,7 +3,7 @@ ghost use Rattle.std.specs.Prelude.{◌≡◌, ◌≤◌, length};
 ghost use Rattle.unix_bytes.specs.Chunks.{replacement_for};
 ghost use Rattle.unix_bytes.specs.Lossy.{lossy_of};
 ghost use Rattle.unix_path_c.specs.SaturatedSize.{saturated_size};
-ghost use Rattle.unix_path_c.specs.Buffer.{buffer_after};
+ghost use Rattle.path_runs.specs.Buffer.{buffer_after};
 
 use crate::writing::place_both;
 use unix_bytes::lossy::Utf8Lossy;

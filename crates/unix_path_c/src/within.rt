@@ -6,7 +6,7 @@ ghost use Rattle.unix_path.specs.Prefixes.{Begins};
 ghost use Rattle.path_within.specs.Resolved.{resolved_bytes_of};
 ghost use Rattle.path_within.specs.Climbs.{Climbs};
 ghost use Rattle.unix_path_c.specs.Within.{IsLength, escapes, no_memory};
-ghost use Rattle.unix_path_c.specs.Buffer.{buffer_after};
+ghost use Rattle.path_runs.specs.Buffer.{buffer_after};
 
 use crate::writing::place_whole;
 use path_within::WithinError;

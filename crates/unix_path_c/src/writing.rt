@@ -1,8 +1,8 @@
 //! Writes stretches of bytes into a buffer, one behind the other.
 ghost use Rattle.std.specs.Prelude.{◌≡◌, ◌≤◌, ◌<◌, ◌+◌, ◌^◌, length};
 ghost use Rattle.unix_path.specs.Steps.{gap_bytes};
-ghost use Rattle.unix_path_c.specs.Buffer.{buffer_after};
-ghost use Rattle.unix_path_c.specs.Overlay.{overlay};
+ghost use Rattle.path_runs.specs.Buffer.{buffer_after};
+ghost use Rattle.path_runs.specs.Overlay.{overlay};
 
 // Puts the bytes at `at`, in place of as many.
 #[inline]
@@ -62,19 +62,4 @@ pub(crate) fn place_both(out: &mut [u8], at: usize, first: &[u8], second: &[u8])
     place(out, at, first);
     place(out, middle, second);
     middle + second.len()
-}
-
-// Puts the gap's byte, if it has one, and the bytes behind it at `at`, in place of as many bytes,
-// and gives where they end.
-#[inline]
-pub(crate) fn place_behind(out: &mut [u8], at: usize, gap: Option<u8>, bytes: &[u8]) -> usize
-    requires { at + length (gap_bytes gap) + length bytes.now ≤ length out.old }
-    ensures out { let middle = at + length (gap_bytes gap) in
-        out.new ≡ overlay middle bytes.now (overlay at (gap_bytes gap) out.old) }
-    ensures end { result ≡ at + length (gap_bytes gap) + length bytes.now }
-{
-    let middle = at + gap_len(gap);
-    place_gap(out, at, gap);
-    place(out, middle, bytes);
-    middle + bytes.len()
 }

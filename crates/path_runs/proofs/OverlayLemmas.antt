@@ -1,10 +1,10 @@
 -- Bytes that are put in a buffer, one behind the other.
 use Rattle.std.proofs.Common.{◌≡◌, ◌≤◌, ℕ, ◌+◌, List, [], ◌++◌, length, drop}
-use Rattle.std.proofs.Common.{refl, sym, ap, ap₂, ◌∙◌, arith, length-append}
+use Rattle.std.proofs.Common.{refl, sym, ap, ap₂, ◌∙◌, length-append}
 use Rattle.std.proofs.lemmas.Bool.{cond-true, le-leb}
 use Rattle.std.proofs.lemmas.List.{take_at, drop_at, drop-drop}
-use Rattle.unix_path_c.specs.Overlay.{overlay}
-use Rattle.unix_path_c.specs.Buffer.{buffer_after}
+use Rattle.path_runs.specs.Overlay.{overlay}
+use Rattle.path_runs.specs.Buffer.{buffer_after}
 
 -- these bytes, and behind them what stood there
 abbrev pub bytes_over : List ℕ → List ℕ → List ℕ
@@ -28,26 +28,10 @@ overlay-bytes_over first second old =
     ∙ ap (λ n. drop n old) (sym (length-append first second)))
 
 -- bytes put at place 0 are put at the beginning
-overlay-first : (bytes old : List ℕ) → overlay 0 bytes old ≡ bytes_over bytes old
+pub overlay-first : (bytes old : List ℕ) → overlay 0 bytes old ≡ bytes_over bytes old
 overlay-first bytes old = overlay-bytes_over [] bytes old
 
 -- a buffer with room for the bytes has them at its beginning after the call
 pub buffer_after-fits : (bytes old : List ℕ) → length bytes ≤ length old
     → buffer_after bytes old ≡ bytes_over bytes old
 buffer_after-fits bytes old h = cond-true _ _ _ (le-leb (length bytes) (length old) h)
-
--- three stretches, put one behind the other into a buffer that has room for all of them
-pub buffer_after-three : {one two three : List ℕ} (old start gap end : List ℕ) (n : ℕ)
-    → n ≡ length start + length gap → n + length end ≤ length old
-    → one ≡ overlay 0 start old → two ≡ overlay (length start) gap one
-    → three ≡ overlay n end two → three ≡ buffer_after ((start ++ gap) ++ end) old
-buffer_after-three old start gap end n at fits first second third =
-    let both : n ≡ length (start ++ gap) = omega (arith, at, length-append start gap) in
-    let all : length ((start ++ gap) ++ end) ≤ length old =
-    omega (arith, both, fits, length-append (start ++ gap) end) in
-    third
-    ∙ ap₂ (λ n two. overlay n end two) both (second
-    ∙ ap (overlay (length start) gap) (first ∙ overlay-first start old)
-    ∙ overlay-bytes_over start gap old)
-    ∙ overlay-bytes_over (start ++ gap) end old
-    ∙ sym (buffer_after-fits ((start ++ gap) ++ end) old all)

@@ -1,0 +1,13 @@
+use Rattle.std.proofs.Common.{refl}
+use Rattle.path_runs.proofs.CopyLemmas.{spelling_of-single}
+use Rattle.path_runs.proofs.StretchLemmas.{spelling_of-stretch}
+use Rattle.path_runs.proofs.canonical.written.kept_len.Goals as goal
+
+pub returns-then-bytes-lt2-clause-spelled : goal.returns-then-bytes-lt2-clause-spelled
+returns-then-bytes-lt2-clause-spelled c =
+    spelling_of-single c.args.bytes.now _ c.if-bytes-lt2.true refl
+
+pub returns-clause-spelled : goal.returns-clause-spelled
+returns-clause-spelled c =
+    spelling_of-stretch c.args.bytes.now c.first_gap.result c.if-bytes-lt2.false c.requires
+    c.first_gap.ensures

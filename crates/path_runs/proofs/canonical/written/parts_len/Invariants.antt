@@ -1,0 +1,15 @@
+use Rattle.std.proofs.Common.{◌≡◌, ◌+◌, ◌-◌, ◌<◌, ◌≤◌, length, drop}
+use Rattle.path_runs.specs.Gaps.{slashed_parts, IsPart}
+use Rattle.path_runs.proofs.canonical.written.parts_len.Given as goal
+
+-- what is left comes to what was counted
+abbrev pub invariant-loop-start : goal.invariant-loop-start
+invariant-loop-start l = record {
+  in_range : l.start ≤ length l.bytes;
+  part : l.start < length l.bytes → IsPart l.bytes l.start;
+  same : l.len + length (slashed_parts (drop l.start l.bytes))
+      ≡ length (slashed_parts (drop l.gap l.bytes));
+}
+
+abbrev pub decreases-loop-start : goal.decreases-loop-start
+decreases-loop-start l = length l.bytes - l.start

@@ -1,0 +1,61 @@
+use Rattle.std.proofs.Common.{[], ◌++◌, ◌-◌, ◌+◌, take, drop, length, refl, ap, ◌∙◌, arith}
+use Rattle.std.proofs.Common.{length-append, length-take-le}
+use Rattle.path_runs.specs.Gaps.{slashed_parts}
+use Rattle.path_runs.proofs.KeptLemmas.{nothing_left}
+use Rattle.path_runs.proofs.WritingLemmas.{writes_first, writes_stretch, writes_room}
+use Rattle.path_runs.proofs.WritingLemmas.{writes_last, writes_end}
+use Rattle.path_runs.proofs.canonical.written.write_stretches.Goals as goal
+
+pub place-requires : goal.place-requires
+place-requires c =
+    let s = c.args.bytes.now in
+    let gap = c.args.gap in
+    omega (arith, c.requires.room, length-append (take gap s) (slashed_parts (drop gap s)))
+
+pub loop-start-init : goal.loop-start-init
+loop-start-init c =
+    let s = c.args.bytes.now in
+    let gap = c.args.gap in
+    let left = c.past_gap-start.ensures in
+    record {
+      in_range = left.in_range;
+      part = left.part;
+      written = writes_stretch (take gap s) (slashed_parts (drop c.past_gap-start.result s))
+          (writes_first (take gap s ++ slashed_parts (drop gap s)) c.args.out.now refl)
+          (ap (λ u. take gap s ++ u) left.same) c.place.ensures
+          (omega (arith, length-take-le gap s c.requires.in_range));
+    }
+
+pub place-requires-in-loop-start : goal.place-requires-in-loop-start
+place-requires-in-loop-start c =
+    let stretch = c.stretch_at-stretch.result.now in
+    let end = c.loop-start.start - 1 + length stretch in
+    omega (
+      arith,
+      writes_room stretch (slashed_parts (drop end c.args.bytes.now))
+          c.loop-start.invariant.written c.stretch_at-stretch.ensures.same c.requires.room,
+    )
+
+pub loop-start-preserved : goal.loop-start-preserved
+loop-start-preserved c =
+    let stretch = c.stretch_at-stretch.result.now in
+    let left = c.past_gap-start-in-loop-start.ensures in
+    record {
+      in_range = left.in_range;
+      part = left.part;
+      written = writes_stretch stretch
+          (slashed_parts (drop c.past_gap-start-in-loop-start.result c.args.bytes.now))
+          c.loop-start.invariant.written
+          (c.stretch_at-stretch.ensures.same ∙ ap (λ u. stretch ++ u) left.same)
+          c.place-in-loop-start.ensures refl;
+    }
+
+pub returns-clause-out : goal.returns-clause-out
+returns-clause-out c =
+    writes_last c.loop-start.invariant.written
+    (nothing_left [] c.args.bytes.now c.loop-start.start (omega arith)) c.requires.room
+
+pub returns-clause-len : goal.returns-clause-len
+returns-clause-len c =
+    writes_end c.loop-start.invariant.written
+    (nothing_left [] c.args.bytes.now c.loop-start.start (omega arith))
