@@ -1,5 +1,5 @@
 //! Rows of canonical spellings.
-use path_runs::canonical::{canonical, collected, is_canonical};
+use path_runs::canonical::{canonical, collected, is_canonical, write_canonical};
 use std::alloc::{AllocError, Global};
 use unix_path::Path;
 use unix_path::bytes::UnixStr;
@@ -44,6 +44,51 @@ fn is_collected(alloc: Global, path: &str, want: &str) -> bool {
 fn rows_are_collected(rt: HostRuntime) {
     for row in ROWS.iter() {
         assert!(rt; is_collected(rt.alloc(), row.0, row.1), "{}", row.0);
+    }
+}
+
+// Whether the spelling's length is answered, and the spelling is written to the beginning of this
+// buffer, which is all `#`, if there is room for it; else nothing is.
+fn is_written(path: &str, want: &str, out: &mut [u8]) -> bool {
+    let len = write_canonical(Path::from_text(path), out);
+    let written = if want.len() <= out.len() { want } else { "" };
+    match out.strip_prefix(written.as_bytes()) {
+        Some(behind) => len == want.len() && behind.iter().all(|byte| *byte == b'#'),
+        None => false,
+    }
+}
+
+// Whether the spelling is written to buffers of 0 to 31 bytes that have room for it.
+fn is_written_in_every_room(path: &str, want: &str) -> bool {
+    for room in 0..32usize {
+        let mut buffer = [b'#'; 32];
+        if !is_written(path, want, &mut buffer[..room]) {
+            return false;
+        }
+    }
+    true
+}
+
+#[test]
+fn spellings_are_written(rt: HostRuntime) {
+    for row in ROWS.iter() {
+        assert!(rt; is_written_in_every_room(row.0, row.1), "{}", row.0);
+    }
+}
+
+// Paths with gaps among more than 16 bytes, and their spellings.
+static LONG_ROWS: [(&'static str, &'static str); 5] = [
+    ("//usr/lib/packages/object", "/usr/lib/packages/object"),
+    ("usr//lib/packages/object", "usr/lib/packages/object"),
+    ("usr/./lib/packages/./object/.", "usr/lib/packages/object"),
+    ("usr/lib/packages//object////", "usr/lib/packages/object"),
+    ("/usr/./lib//packages/./..//o", "/usr/lib/packages/../o"),
+];
+
+#[test]
+fn long_spellings_are_written(rt: HostRuntime) {
+    for row in LONG_ROWS.iter() {
+        assert!(rt; is_written_in_every_room(row.0, row.1), "{}", row.0);
     }
 }
 

@@ -1,7 +1,7 @@
 //! Random byte strings, each asked everything that a path answers, beside the plain reading.
 use super::plain::{Part, are_parts, first_dot, is_name, last_dot, left_between, parts_of};
 use crate::random::Random;
-use path_runs::canonical::canonical;
+use path_runs::canonical::{canonical, write_canonical};
 use std::alloc::{AllocError, Global};
 use std::test::Fail;
 use unix_path::bytes::UnixStr;
@@ -82,13 +82,24 @@ fn spelling(alloc: Global, parts: &[Part<'_>]) -> Result<Vec<u8>, AllocError> {
     Ok(bytes)
 }
 
+// Whether the spelling is written to a buffer that has just the room for it.
+fn is_written(alloc: Global, path: Path<'_>, want: &[u8]) -> Result<bool, AllocError> {
+    let mut out = vec![in alloc; b'#'; want.len()]?;
+    let len = write_canonical(path, out.as_mut_slice());
+    Ok(len == want.len() && out.as_slice() == want)
+}
+
 // Whether the canonical form is the parts with one slash between, and is its own.
 fn is_spelled(alloc: Global, path: Path<'_>, parts: &[Part<'_>]) -> Result<bool, AllocError> {
     let bytes = spelling(alloc, parts)?;
     let spelled = canonical(alloc, path)?;
     let again = canonical(alloc, spelled.as_path())?;
     let want = UnixStr::from_bytes(&bytes);
-    Ok(spelled.as_path().as_unix_str() == want && again.as_path().as_unix_str() == want)
+    Ok(
+        spelled.as_path().as_unix_str() == want
+            && again.as_path().as_unix_str() == want
+            && is_written(alloc, path, &bytes)?,
+    )
 }
 
 // Whether the path's JSON value is its text, or is refused if the path has none.

@@ -1,14 +1,14 @@
 //! Buffers, walks, spellings and edits need no memory for what promises so.
 use super::super::{drought, path};
 use super::{debug_has, hash_same};
-use path_runs::canonical::{canonical, collected, is_canonical};
+use path_runs::canonical::{canonical, collected, is_canonical, write_canonical};
 use path_runs::edits::{Edit, apply, rejoin};
 use path_runs::walk::{Turn, walk};
 use path_within::way::way;
 use std::alloc::Global;
 use std::test::Fail;
-use unix_path::PathBuf;
 use unix_path::bytes::UnixStr;
+use unix_path::{Path, PathBuf};
 
 // Where there is no room, there is none to give back.
 fn stays_full(mut full: PathBuf) -> bool {
@@ -58,6 +58,11 @@ fn spellings_are_told() -> bool {
     is_canonical(path("./a/b")) && !is_canonical(path("a//b"))
 }
 
+fn spelling_is_written() -> bool {
+    let mut out = [0_u8; 4];
+    write_canonical(path("/.//a/b/."), &mut out) == 4 && path("/a/b") == Path::from_bytes(&out)
+}
+
 fn joins_nothing(alloc: Global) -> bool {
     matches!(rejoin(alloc, path("a"), path("b")), Ok(None))
         && matches!(rejoin(alloc, path(""), path("")), Ok(Some(_)))
@@ -78,6 +83,7 @@ fn buffers_need_no_memory(rt: HostRuntime) -> Result<(), Fail> {
     assert!(rt; stays_full(full));
     assert!(rt; runs_over_nothing(alloc));
     assert!(rt; spellings_are_told());
+    assert!(rt; spelling_is_written());
     assert!(rt; joins_nothing(alloc));
     assert!(rt; leads_nowhere(alloc));
     assert!(rt; applies_nothing(alloc, &mut foo));
