@@ -7,14 +7,21 @@ import sys
 from repository import ROOT
 
 
+def version():
+    """What `rt version` says, or None if there is no toolchain."""
+    if not shutil.which("rt"):
+        return None
+    return subprocess.run(["rt", "version"], stdout=subprocess.PIPE, text=True).stdout.strip()
+
+
 def check_toolchain():
     """Stops if there is no toolchain, and warns of one that the proofs were not tried with."""
     with open(f"{ROOT}/rattle-toolchain", encoding="utf-8") as file:
         tried = file.read().splitlines()
-    if not shutil.which("rt"):
+    found = version()
+    if found is None:
         sys.exit("rt, the command of the Rattle toolchain, is not on the path.\n"
                  f"The crates were proved with these versions of it: {'; '.join(tried)}")
-    found = subprocess.run(["rt", "version"], stdout=subprocess.PIPE, text=True).stdout.strip()
     if found not in tried:
         print(f"the toolchain is {found}; the crates were proved with {'; '.join(tried)}",
               file=sys.stderr)
