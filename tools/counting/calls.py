@@ -1,0 +1,71 @@
+"""Counts the instructions of the calls from C, each on the families of paths that suit it.
+
+calls.c makes the calls. What they answer isn't looked at: tests do that.
+"""
+import os
+import re
+import shlex
+import shutil
+import struct
+import subprocess
+import sys
+import tempfile
+
+from counting import families
+from counting.callgrind import counts
+from repository import ROOT
+
+
+def compiler():
+    """The command of the C compiler, as words; None if it isn't there."""
+    words = shlex.split(os.environ.get("CC") or "cc")
+    return words if shutil.which(words[0]) else None
+
+
+def read_calls(checkout):
+    """The names of the calls that the header of a checkout declares."""
+    with open(f"{checkout}/include/unix_path.h", encoding="utf-8") as file:
+        return set(re.findall(r"^\w+ unix_path_(\w+)\(const", file.read(), re.M))
+
+
+def rows_of(checkout):
+    """The rows of the calls from C that a checkout has."""
+    calls = read_calls(checkout)
+    rows = families.rows(calls)
+    lacking = calls - {row.call for row in rows}
+    if lacking:
+        sys.exit(f"no family of tools/counting/families.py has these calls: {', '.join(lacking)}")
+    return rows
+
+
+def records_of(rows):
+    """What calls.c reads: the calls of these rows, with the paths of each."""
+    for row in rows:
+        for number, (first, second) in enumerate(row.pairs, 1):
+            yield struct.pack("<4I", len(row.call), len(first), len(second),
+                              number == len(row.pairs))
+            yield row.call.encode() + first + second
+
+
+def build_calls(checkout, library, program):
+    """Builds calls.c over the library. A checkout from before a call was there is counted
+    without it."""
+    linked = [] if checkout == ROOT else ["-Wl,--unresolved-symbols=ignore-all"]
+    subprocess.run([*compiler(), "-std=c11", "-O2", f"-I{ROOT}/include",
+                    f"{ROOT}/tools/counting/calls.c", library, *linked, "-o", program], check=True)
+
+
+def count_calls(checkout, library):
+    """The rows of the calls from C."""
+    rows = rows_of(checkout)
+    # Only what a call does counts, and not what the program around it does.
+    options = [f"--toggle-collect=unix_path_{it}" for it in sorted({row.call for row in rows})]
+    with tempfile.TemporaryDirectory() as folder:
+        program = f"{folder}/calls"
+        build_calls(checkout, library, program)
+        with open(f"{folder}/records", "wb") as file:
+            file.writelines(records_of(rows))
+        found = counts(program, ["records"], options=[*options, "--dump-after=end_row"])
+    if len(found) != len(rows) + 1:
+        sys.exit(f"{len(rows)} rows of calls from C were asked for, and {len(found) - 1} counted")
+    return {row.name: count for row, count in zip(rows, found)}

@@ -1,0 +1,178 @@
+"""The paths on which tools/count counts the calls from C: families, each of several sizes.
+
+A family makes two paths from a size; a call of one path gets the first. PAIRS and PATHS say which
+calls are counted on which family. A row is a call, a family and a size.
+"""
+import collections
+
+# A row: its name, the call, and the pairs of paths whose instructions are added up.
+Row = collections.namedtuple("Row", "name call pairs")
+
+# The sizes around each edge of a block, and one far behind the last edge.
+EDGES = {16: (15, 16, 17), 32: (31, 32, 33), 64: (63, 64, 65), 128: (127, 128, 129), 4000: (4000,)}
+SHORT = {16: EDGES[16]}
+DEPTHS = {depth: (depth,) for depth in (0, 1, 4)}
+LETTERS = {letters: (letters,) for letters in range(1, 7)}
+SCORES = {20: (20,), 200: (200,), 4000: (4000,)}
+
+FOLDERS = b"usr/share/doc/packages/lib/main/www/static/img/include/"
+
+
+def plain(size):
+    """So many bytes of parts that are names, without a root."""
+    path = (FOLDERS * (size // len(FOLDERS) + 1))[:size]
+    return path[:-1] + b"x" if path.endswith(b"/") else path
+
+
+def name(size):
+    """One name of so many bytes, and no name for less than one."""
+    return b"n" * max(size, 0)
+
+
+def cut(size, repeated):
+    """So many of these bytes, or a few less, in whole repetitions; at least one."""
+    return repeated * max(size // len(repeated), 1)
+
+
+def respelled_once(path):
+    """The path with its middle slash spelled otherwise, or the first one behind its middle."""
+    at = path.find(b"/", len(path) // 2)
+    at = path.find(b"/") if at < 0 else at
+    return path[:at] + b"/." + path[at:]
+
+
+def respelled_each(path):
+    return path.replace(b"/", b"/./")
+
+
+def behind_dots(size, dots):
+    """Two paths whose last names go on apart behind so many dots."""
+    common = b"x/" + name(size - dots - 3) + b"." * dots
+    return common + b"b", common + b"c"
+
+
+def dots_first(size, dots):
+    """Two paths whose last names begin with so many dots, and then go on apart."""
+    common = plain(size - dots - 2) + b"/" + b"." * dots
+    return common + b"b", common + b"c"
+
+
+def two_folders(size, letters):
+    """One last name, with so many letters behind its dot, in two folders."""
+    last = b"/conf." + b"jsonld"[:letters]
+    folder = plain(max(size - len(last), 1))
+    return folder + last, folder[:-1] + b"-" + last
+
+
+def above(size):
+    """The folder above a path of so many bytes."""
+    return plain(size).rpartition(b"/")[0]
+
+
+# Families of pairs: how both paths are made from a size, the sizes, and the calls.
+MOST = "equal compare starts_with ends_with strip_prefix"
+PREFIX = "starts_with strip_prefix compare"
+ORDER = "compare starts_with"
+PAIRS = [
+    ("same", lambda n: (plain(n), plain(n)), EDGES, MOST + " common_dir"),
+    ("next_listed", lambda n: (plain(n - 4) + b"-007", plain(n - 4) + b"-008"), EDGES,
+     MOST + " common_dir"),
+    ("respelled_once", lambda n: (plain(n), respelled_once(plain(n))), EDGES, MOST),
+    ("respelled_each", lambda n: (plain(n), respelled_each(plain(n))), EDGES, MOST),
+    ("ups_respelled", lambda n: (cut(n, b"../"), cut(n, b".././")), EDGES, MOST),
+    ("folder_above", lambda n: (plain(n), above(n)), EDGES, "equal " + PREFIX),
+    ("folder_above_slash", lambda n: (plain(n), above(n) + b"/"), EDGES, PREFIX),
+    ("folder_below", lambda n: (above(n), plain(n)), EDGES, ORDER),
+    ("folder_below_slash", lambda n: (above(n) + b"/", plain(n)), EDGES, "compare"),
+    ("slash_behind", lambda n: (plain(n), plain(n) + b"/"), EDGES, MOST),
+    ("empty_base", lambda n: (plain(n), b""), EDGES, "starts_with strip_prefix"),
+    ("one_dot", lambda n: behind_dots(n, 1), EDGES, ORDER),
+    ("two_dots", lambda n: behind_dots(n, 2), EDGES, ORDER),
+    ("three_dots", lambda n: behind_dots(n, 3), EDGES, ORDER),
+    ("dot_first", lambda n: dots_first(n, 1), EDGES, ORDER),
+    ("two_dots_first", lambda n: dots_first(n, 2), EDGES, ORDER),
+    ("three_dots_first", lambda n: dots_first(n, 3), EDGES, ORDER),
+    ("dots_or_letter", lambda n: (b"x/" + name(n - 6) + b"...b", b"x/" + name(n - 6) + b".c"),
+     EDGES, "equal " + ORDER),
+    ("dot_end", lambda n: (b"x/" + name(n - 3) + b".", b"x/" + name(n - 3) + b".b"), EDGES,
+     "equal " + ORDER),
+    ("up_or_dots", lambda n: (plain(n - 3) + b"/..", plain(n - 3) + b"/..b"), EDGES,
+     "equal " + ORDER),
+    ("up_or_name", lambda n: (b"../" * n + b"a/x", b"../" * n + b"../x"), DEPTHS,
+     PREFIX + " equal"),
+    ("root_or_name", lambda n: (b"/" + plain(n - 1), plain(n)), SHORT, "equal " + ORDER),
+    ("dot_or_name", lambda n: (b"./" + plain(n - 2), plain(n)), SHORT, "equal " + ORDER),
+    ("last_name", lambda n: two_folders(n, 2), EDGES, "equal ends_with"),
+    ("last_name_below", lambda n: (plain(n - 8) + b"/main.rs", b"src/main.rs"), EDGES,
+     "equal ends_with"),
+    ("letters_short", lambda n: (b"src/conf." + b"jsonld"[:n], b"lib/conf." + b"jsonld"[:n]),
+     LETTERS, "equal ends_with"),
+    ("letters_long", lambda n: two_folders(40, n), LETTERS, "equal ends_with"),
+    ("other_last_name", lambda n: (plain(n - 10) + b"/conf.json", b"app.json"), EDGES,
+     "equal ends_with"),
+    ("other_last_names", lambda n: (plain(n - 10) + b"/conf.json", plain(n - 9) + b"/app.json"),
+     EDGES, "equal ends_with compare"),
+    ("tail_slashes", lambda n: (b"a" + b"/" * n, b"a"), SCORES, MOST),
+    ("tail_dots", lambda n: (b"a" + b"/." * n, b"a"), SCORES, MOST),
+    ("front_respelled", lambda n: (b"x/" + name(n - 4) + b"/y", b"x/./" + name(n - 4)), EDGES,
+     "starts_with strip_prefix"),
+    ("slash_respelled", lambda n: (b"x/" + name(n - 3) + b"/", b"x/./" + name(n - 3)), EDGES,
+     "equal compare"),
+]
+
+# Families of paths, and of what goes with a path.
+SPELLED = "canonical resolved"
+PLACES = "parent file_name file_stem extension file_prefix"
+WALKS = "components next next_back as_path"
+PATHS = [
+    ("plain", lambda n: (plain(n), b"new.rs"), EDGES,
+     f"{SPELLED} {PLACES} {WALKS} hash is_utf8 to_string_lossy join with_file_name"),
+    ("plain", lambda n: (plain(n), b"rs"), EDGES, "with_extension"),
+    ("rooted", lambda n: (b"/" + plain(n - 1), b""), EDGES, f"{SPELLED} is_absolute"),
+    ("dotted_name", lambda n: (plain(n - 8) + b"/a.tar.gz", b"rs"), EDGES,
+     "file_stem extension file_prefix with_extension"),
+    ("broken_text", lambda n: (cut(n, b"caf\xe9/"), b""), EDGES, "is_utf8 to_string_lossy"),
+    ("accents", lambda n: (cut(n, b"caf\xc3\xa9/"), b""), EDGES, "is_utf8 to_string_lossy"),
+    ("gap_first", lambda n: (b"a//" + plain(n - 3), b""), EDGES, SPELLED),
+    ("gap_each", lambda n: (cut(n, b"a/./"), b""), EDGES, f"{SPELLED} next next_back hash parent"),
+    ("gap_each_name", lambda n: (respelled_each(plain(n)), b""), EDGES, SPELLED),
+    ("name_before_gap", lambda n: (name(n - 3) + b"/./a", b""), EDGES, SPELLED),
+    ("name_behind_gap", lambda n: (b"a//" + name(n - 3), b""), EDGES, SPELLED),
+    ("double_slashes", lambda n: (cut(n, b"abcdefghijklmnop//"), b""), EDGES, SPELLED),
+    ("tail_slashes", lambda n: (b"a" + b"/" * n, b"b"), SCORES,
+     f"{SPELLED} parent file_name components as_path"),
+    ("tail_dots", lambda n: (b"a" + b"/." * n, b"b"), SCORES,
+     f"{SPELLED} parent file_name components as_path with_file_name"),
+    ("comes_down", lambda n: (cut(n, b"a/../"), b""), EDGES, "resolved"),
+]
+
+# Families of requests, which `climbs` and `join_within` get.
+REQUESTS = [
+    ("plain", plain, EDGES),
+    ("slash_end", lambda n: plain(n - 1) + b"/", EDGES),
+    ("climbs_late", lambda n: name(n - 6) + b"/../..", EDGES),
+    ("climbs_first", lambda n: b"../" + plain(n - 3), SHORT),
+    ("comes_down", lambda n: cut(n, b"a/../"), EDGES),
+    ("name_comes_down", lambda n: name(n - 5) + b"/../a", EDGES),
+    ("double_slashes", lambda n: cut(n, b"abcdefghijklmnop//"), EDGES),
+    ("gap_each", lambda n: cut(n, b"a/./"), EDGES),
+    ("leading_dot", lambda n: b"./" + plain(n - 2), EDGES),
+]
+ROOT = b"/srv/www"
+
+
+def families():
+    """Each family: its name, how its paths are made, its sizes, and the calls."""
+    yield from PAIRS + PATHS
+    for title, make, sizes in REQUESTS:
+        yield title, lambda n, make=make: (make(n), b""), sizes, "climbs"
+        yield title, lambda n, make=make: (ROOT, make(n)), sizes, "join_within"
+    yield ("plain_root", lambda n: (b"/" + plain(n - 1), b"img/logo.png"), EDGES, "join_within")
+
+
+def rows(calls):
+    """The rows of these calls, each family's one after the other."""
+    return [Row(f"{call} {title} {size}", call, [make(length) for length in lengths])
+            for title, make, sizes, named in families()
+            for call in named.split() if call in calls
+            for size, lengths in sizes.items()]

@@ -1,0 +1,74 @@
+"""The figures of tools/count, and the file in which they stand."""
+import collections
+import os
+import re
+
+from repository import ROOT
+from toolchain import version
+
+FILE = f"{ROOT}/bench/counts.txt"
+# How far a figure may be from the file's, as a part of it.
+MOST = 0.03
+HEAD = """\
+# Instructions of the built programs, without those of the C library. tools/count writes this file,
+# says what a row is, and compares the column NOW with what it counts.
+"""
+HOLDS = re.compile(r"^# holds for: (.*)$", re.M)
+ROW = re.compile(r"^(\w[\w ]*\w) +(-|\d+) +(\d+) +(-|[\d.]+)$", re.M)
+
+# What the file says of a row.
+Figures = collections.namedtuple("Figures", "start now")
+
+
+def read_file():
+    """The figures of the file by row, and the toolchain that they hold for."""
+    if not os.path.exists(FILE):
+        return {}, version()
+    with open(FILE, encoding="utf-8") as file:
+        text = file.read()
+    rows = {name: Figures(None if start == "-" else int(start), int(now))
+            for name, start, now, _ in ROW.findall(text)}
+    return rows, HOLDS.search(text)[1]
+
+
+def ratio(figures):
+    """How many times as many instructions as at the start, or None."""
+    return figures.now / figures.start if figures.start else None
+
+
+def write_file(rows):
+    """Writes the figures of these rows, which hold for the toolchain that is here."""
+    with open(FILE, "w", encoding="utf-8") as file:
+        file.write(f"{HEAD}# holds for: {version()}\n#\n")
+        file.write(f"#{'row':37} {'START':>9} {'NOW':>9} {'NOW/START':>9}\n")
+        for name, figures in rows.items():
+            start = "-" if figures.start is None else figures.start
+            times = "-" if figures.start is None else f"{ratio(figures):.2f}"
+            file.write(f"{name:38} {start:>9} {figures.now:>9} {times:>9}\n")
+
+
+def fault(name, now, rows):
+    """What is wrong with a row's count, or None."""
+    if name not in rows:
+        return f"{now} instructions, and no row of the file"
+    before = rows[name].now
+    if abs(now - before) <= MOST * before:
+        return None
+    return f"{now} instructions, and {before} in the file, {100 * (now / before - 1):+.1f} in 100"
+
+
+def faults_of(found, left_out, rows):
+    """What is wrong, by row: with what was counted, and with rows that neither were counted nor
+    had to be left out."""
+    faults = {name: fault(name, now, rows) for name, now in found.items()}
+    gone = [name for name in rows if name not in found and name not in left_out]
+    faults.update(dict.fromkeys(gone, "a row of the file that is no longer counted"))
+    return {name: why for name, why in faults.items() if why}
+
+
+def list_risen(rows):
+    """Prints the rows that take more instructions than at the start, the most first."""
+    risen = {name: it for name, it in rows.items() if it.start and it.now > it.start}
+    for name, it in sorted(risen.items(), key=lambda item: -ratio(item[1])):
+        print(f"{name:38} {it.start:>9} {it.now:>9} {ratio(it):>9.2f}")
+    print(f"{len(risen)} of {len(rows)} rows are above the start's")

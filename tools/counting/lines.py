@@ -1,0 +1,106 @@
+"""Made-up lines for every command of pathtool, whose answers tools/count counts.
+
+The generator of random numbers stands here, so that the lines are the same with every Python.
+"""
+import re
+
+from repository import ROOT
+
+LINES = 300
+FOLDERS = b"usr share doc lib main www static img include .git node_modules src build".split()
+NAMES = b"main.rs conf.json app.json a.tar.gz README .bashrc caf\xc3\xa9.txt x\xff.c index".split()
+SPELLINGS = [b"//", b"/./", b"/.//"]
+MASK = (1 << 64) - 1
+
+
+class Lines:
+    """Random lines of one command."""
+
+    def __init__(self, seed):
+        self.state = seed
+
+    def below(self, limit):
+        """A number from 0 on below this, by Steele's SplitMix64."""
+        self.state = (self.state + 0x9E3779B97F4A7C15) & MASK
+        z = (self.state ^ (self.state >> 30)) * 0xBF58476D1CE4E5B9 & MASK
+        z = (z ^ (z >> 27)) * 0x94D049BB133111EB & MASK
+        return (z ^ (z >> 31)) % limit
+
+    def one_of(self, items):
+        return items[self.below(len(items))]
+
+    def respelled(self, path):
+        """The path with another spelling of its slashes, once in four times; else the path."""
+        return path.replace(b"/", self.one_of(SPELLINGS)) if self.below(4) == 0 else path
+
+    def path(self):
+        """A path of one name to nine, with a root or without, now and then with dots."""
+        parts = [self.one_of(FOLDERS) for _ in range(self.below(9))]
+        if self.below(8) == 0:
+            parts.insert(self.below(len(parts) + 1), self.one_of([b".", b".."]))
+        start = b"/" if self.below(2) else b""
+        return self.respelled(start + b"/".join([*parts, self.one_of(NAMES)]))
+
+    def one_path(self):
+        return [self.path()]
+
+    def joined(self):
+        return [self.path(), self.path()]
+
+    def with_base(self):
+        """A path, and a folder above it; or, once in three times, another path."""
+        path = self.path()
+        folder = path[:path.rfind(b"/") + 1 if self.below(2) else self.below(len(path))]
+        return [path, self.path() if self.below(3) == 0 else self.respelled(folder)]
+
+    def with_end(self):
+        """A path, and its last bytes; or, once in three times, another path."""
+        path = self.path()
+        end = path[self.below(len(path)):]
+        return [path, self.path() if self.below(3) == 0 else self.respelled(end)]
+
+    def compared(self):
+        """A path and the next one in its folder, the same path, or another one."""
+        path = self.path()
+        others = [path[:path.rfind(b"/") + 1] + self.one_of(NAMES), path, self.path()]
+        return [path, self.respelled(self.one_of(others))]
+
+    def walked(self):
+        return [self.path(), bytes(self.one_of(b"fb") for _ in range(self.below(10)))]
+
+    def edit(self):
+        names = self.one_of([b"name:", b"push:"]) + self.one_of(NAMES)
+        extensions = self.one_of([b"ext:", b"add:"]) + self.one_of([b"rs", b"tar", b"", b"a/b"])
+        return self.one_of([b"pop", b"clear", names, extensions, b"push:" + self.path()])
+
+    def edited(self):
+        return [self.path(), *(self.edit() for _ in range(self.below(9)))]
+
+    def under(self):
+        """A base and some paths, of which many start with it."""
+        base = self.one_of([b"/usr", b"/usr/share", b"src"])
+        return [base, *(self.respelled(base) + b"/" + self.path() if self.below(3) else self.path()
+                        for _ in range(self.below(40)))]
+
+
+# How the fields behind each command are made; `other` is no command.
+FIELDS = {
+    **dict.fromkeys(("parts", "back", "parent", "name", "stem", "ext", "ancestors", "canon",
+                     "show", "json"), Lines.one_path),
+    "join": Lines.joined, "strip": Lines.with_base, "starts": Lines.with_base,
+    "ends": Lines.with_end, "cmp": Lines.compared, "walk": Lines.walked, "edit": Lines.edited,
+    "under": Lines.under, "other": Lines.one_path,
+}
+
+
+def read_commands():
+    """The names of the commands, as the program's definition lists them, and one that is none."""
+    with open(f"{ROOT}/crates/pathtool/specs/Answers.antt", encoding="utf-8") as file:
+        return re.findall(r'^    (?:∷ )?\(codes "(\w+)", ', file.read(), re.M) + ["other"]
+
+
+def lines_of(command, seed):
+    """The lines of a command, as bytes."""
+    lines = Lines(seed)
+    return b"".join(b"\t".join([command.encode(), *FIELDS[command](lines)]) + b"\n"
+                    for _ in range(LINES))
