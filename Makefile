@@ -1,11 +1,12 @@
 PREFIX ?= /usr/local
 PROGRAM = crates/pathtool/out/pathtool
 LIBRARY = crates/unix_path_c/out/libunix_path_c.a
+JOBS = crates/path_jobs/out/path_jobs
 SOURCES := $(shell find crates.txt crates -name out -prune -o \
 	\( -name '*.rt' -o -name '*.antt' -o -name crates.txt \) -print)
 
 .PHONY: help run check test lib test-faces install install_program install_library bench \
-	bench_tools differential ends
+	bench_tools count differential ends
 
 help:
 	@echo 'make run           runs pathtool on standard input. Proves and builds it first'
@@ -15,6 +16,9 @@ help:
 	@echo 'make bench         times the calls and pathtool beside Rust, some three minutes.'
 	@echo '                   Proves and builds first; needs rustc. tools/bench/run lists its'
 	@echo '                   options, as in  make bench only=parts,eq corpus=deep reps=15'
+	@echo 'make count         counts the instructions of the jobs, of pathtool and of the calls from'
+	@echo '                   C, a quarter of a minute, and compares them with bench/counts.txt.'
+	@echo '                   Proves and builds first; needs valgrind and cc'
 	@echo 'make differential  asks pathtool and Rust the same random lines, a quarter of a minute'
 	@echo '                   for a million. Proves and builds first; needs rustc. Prints its'
 	@echo '                   seed, as in  make differential lines=1000000 seed=20'
@@ -29,8 +33,8 @@ help:
 	@echo
 	@echo 'A first proof of the program (run, bench, differential, ends, install_program) takes'
 	@echo 'four to seven minutes on four cores, and one of the library (lib, test-faces,'
-	@echo 'install_library) a little less; bench and install may prove a few crates more. After'
-	@echo 'that a change has its crate and those above it proved again.'
+	@echo 'install_library) a little less; bench, count and install may prove a few crates more.'
+	@echo 'After that a change has its crate and those above it proved again.'
 	@echo 'Each needs rt, the command of the Rattle toolchain, in one of these versions:'
 	@sed 's/^/  /' rattle-toolchain
 
@@ -55,6 +59,12 @@ bench_tools:
 
 bench: bench_tools $(if $(filter face,$(part)),$(if $(UNIX_PATH_LIB),,lib),$(PROGRAM))
 	@tools/bench/run $(BENCH)
+
+$(JOBS): $(SOURCES)
+	@tools/build path_jobs >&2
+
+count: $(JOBS) $(PROGRAM) $(if $(UNIX_PATH_LIB),,lib)
+	@tools/count
 
 differential: $(PROGRAM)
 	@tools/differential $(if $(lines),'lines=$(lines)') $(if $(seed),'seed=$(seed)')
