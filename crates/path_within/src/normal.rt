@@ -63,10 +63,13 @@ fn is_normal(parts: Components<'_>) -> bool
     }
 }
 
-// Whether the path is resolved as it stands: whether it is the one that `resolved` gives for it.
+// Whether the path is resolved as it stands: whether it is the one that `resolved` gives for it. It
+// isn't inlined, so that its callers stay small: they ask it of few paths.
+#[inline(never)]
 pub(crate) fn is_resolved(path: Path<'_>) -> bool
     ensures { IsTrue result
         ↔ (resolved_bytes_of path.entry.bytes.now ≡ path.entry.bytes.now) }
 {
-    is_normal(path.components()) && is_canonical(path)
+    // A gap is looked for 16 bytes at a time, so that is asked first.
+    is_canonical(path) && is_normal(path.components())
 }
