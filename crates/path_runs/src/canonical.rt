@@ -60,7 +60,7 @@ pub fn canonical(alloc: Global, path: Path<'_>) -> Result<PathBuf, AllocError>
 
 /// The parts that are left of a walk, each joined to those before it.
 ///
-/// It is the canonical spelling of these parts, in whatever order the others were taken from the two
+/// It is the canonical spelling of these parts, in whatever order the others were taken from both
 /// ends. For a fresh walk `canonical` gives the same bytes, in less time. Allocates as the path
 /// grows, or not at all if no part is left; fails if an allocation fails. As a `Components` of
 /// Rust's std that is collected into a `PathBuf`.

@@ -180,7 +180,7 @@ impl<'a> Path<'a> {
     /// What follows `base`, as a slice of this path's bytes, in the same memory, where `base`'s
     /// parts begin this path's.
     ///
-    /// Whole parts count: `foo/bar` has no prefix `foo/ba`. Where all parts match no bytes are left,
+    /// Whole parts count: `foo/bar` has no prefix `foo/ba`. If all parts match, no bytes are left,
     /// and the empty slice stands where this path's last part ends. Fails exactly where
     /// `starts_with` is false. Does not allocate. As Rust's `Path::strip_prefix`, whose empty slice
     /// may stand further on; `base` is a `Path`.
