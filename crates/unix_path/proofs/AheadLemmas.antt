@@ -1,4 +1,4 @@
--- Names that differ where two strings do, of which one may have a dot there.
+-- Names that first differ at the place at which two strings do, with a dot there in one of them.
 use Rattle.std.proofs.Common.{◌≡◌, ℕ, ◌+◌, ◌≤◌, eqb, ltb, List, length, get_or}
 use Rattle.std.proofs.Common.{take, sym, ap, ◌∙◌, arith, eqb-true, ltb-true, ltb-false}
 use Rattle.unix_path.specs.Steps.{piece_rank, NameAhead}
@@ -6,7 +6,7 @@ use Rattle.unix_path.proofs.ApartLemmas.{NamesDiffer, alike_from, byte_same, hol
 use Rattle.unix_path.proofs.CaseLemmas.{by_test}
 use Rattle.unix_path.proofs.SharedLemmas.{name_byte}
 
--- a byte of a name at i is one from i on
+-- if a byte of a name stands at i, a name goes on at i
 pub ahead_here : (s : List ℕ) (i : ℕ) → (piece_rank s i ≡ 0 → ⊥) → (piece_rank s i ≡ 47 → ⊥)
     → NameAhead s i
 ahead_here s i no_end no_dot =
@@ -20,7 +20,7 @@ ahead_here s i no_end no_dot =
       no_dot = here.no_dot;
     }
 
--- and so is one behind a dot at i
+-- and so it does if a byte of a name stands behind a dot at i
 pub ahead_behind_dot : (s : List ℕ) (i : ℕ) → get_or s i 0 ≡ 46
     → (piece_rank s (i + 1) ≡ 0 → ⊥) → (piece_rank s (i + 1) ≡ 47 → ⊥) → NameAhead s i
 ahead_behind_dot s i dot no_end no_dot =
@@ -39,7 +39,7 @@ ahead_behind_dot s i dot no_end no_dot =
       no_dot = next.no_dot;
     }
 
--- both strings have a byte of a name from n on, and differ there
+-- a name goes on at n in both strings, and they differ there
 pub differ_ahead : (a b : List ℕ) (n : ℕ) → n ≤ length a → n ≤ length b → take n a ≡ take n b
     → NameAhead a n → NameAhead b n → (piece_rank a n ≡ piece_rank b n → ⊥) → NamesDiffer a b n
 differ_ahead a b n in_a in_b same x y differs =

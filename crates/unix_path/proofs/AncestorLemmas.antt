@@ -16,11 +16,11 @@ use Rattle.unix_path.proofs.DepthLemmas.{depth_of-values, depth_of-none, depth_o
 use Rattle.unix_path.proofs.DepthLemmas.{depth_of-push}
 use Rattle.unix_path.proofs.ParentLemmas.{parent_of-alone, parent_of-deep}
 
--- the ancestors of a parent, where there is one
+-- the ancestors of a parent, if there is one
 abbrev pub ancestors_by : Option (List ℕ) → List (List ℕ)
 ancestors_by parent = option_map_or ancestors_of parent []
 
--- to leave out m + 1 parts behind is to leave out the last one and then m, for each m from a on
+-- to take m + 1 parts off the end is to take off the last one and then m, for each m from a on
 shift : (s : List ℕ) (a n : ℕ) → map (λ m. rest s 0 m) (range_with_len (a + 1) n)
     ≡ map (λ m. rest (rest s 0 1) 0 m) (range_with_len a n)
 shift s a zero = refl
@@ -76,7 +76,7 @@ length-ancestors_of s =
 abbrev ancestors_from : Option Path → List (List ℕ)
 ancestors_from next = option_map_or (λ path. ancestors_of path.bytes.now) next []
 
--- a parent has the same ancestors as a path and as its bytes
+-- a parent that is given as a path has the same ancestors as its bytes
 ancestors_by-bytes : (o : Option Path)
     → ancestors_by (option_map (λ path. path.bytes.now) o) ≡ ancestors_from o
 ancestors_by-bytes None = refl

@@ -1,4 +1,4 @@
--- Two strings that the bytes at one place tell apart, since names stand there.
+-- Two strings that are told apart by the bytes at one place, since these are in names.
 use Rattle.std.proofs.Common.{◌≡◌, ℕ, zero, suc, ◌+◌, ◌-◌, ◌<◌, ◌≤◌, false, eqb, List}
 use Rattle.std.proofs.Common.{[], ◌∷◌, ◌++◌, length, get_or, take, drop, map, sym, ap, ap₂}
 use Rattle.std.proofs.Common.{subst, ◌∙◌, arith, Equal, get_or-drop, length-drop, length-take-le}
@@ -23,7 +23,7 @@ use Rattle.unix_path.proofs.LastLemmas.{last_start}
 use Rattle.unix_path.proofs.PieceLemmas.{first_piece, position_or_len-other}
 use Rattle.unix_path.proofs.PrefixLemmas.{begins_tail}
 
--- where the first m bytes are no slashes, the first piece has as many
+-- if none of the first m bytes is a slash, the first piece has at least m bytes
 piece_reaches : (s : List ℕ) (m : ℕ) → m ≤ length s
     → ((k : ℕ) → k < m → eqb (get_or s k 0) 47 ≡ false) → m ≤ position_or_len is_slash s
 piece_reaches [] m l none = omega arith
@@ -34,7 +34,7 @@ piece_reaches (x ∷ s) (suc m) l none = omega (
   piece_reaches s m (omega arith) (λ k h. none (suc k) (omega arith)),
 )
 
--- a name stands behind d bytes, where the byte at `at`, in the same piece, is no dot
+-- a name stands behind d bytes, if the byte at `at`, in the same piece, is no dot
 pub holds_at : (s : List ℕ) (d at : ℕ) → d ≤ at → at < length s
     → ((k : ℕ) → d ≤ k → k ≤ at → eqb (get_or s k 0) 47 ≡ false)
     → eqb (get_or s at 0) 46 ≡ false → HoldsName (drop d s)
@@ -52,7 +52,7 @@ holds_at s d at l in_range no_slash no_dot =
       no_dot = ap (λ b. eqb b 46) (get_or-drop d s i 0 ∙ ap (λ k. get_or s k 0) back) ∙ no_dot;
     }
 
--- the same bytes stand in both strings before n, and from d on, where a piece begins, no slash
+-- both strings have the same first n bytes, a piece begins at d, and no slash stands from d up to n
 pub record Alike (a b : List ℕ) (d n : ℕ) : Type 0 where
   pub in_order : d ≤ n
   pub in_first : n ≤ length a
@@ -93,8 +93,8 @@ alike_from a b n in_a in_b same =
       },
     )
 
--- behind the same values a and b have names that differ, which the bytes at n tell apart: so these
--- bytes tell the order, and b doesn't begin a
+-- behind the same values, a and b have names that differ at place n: so the bytes there tell the
+-- order, and b doesn't begin a
 pub record NamesDiffer (a b : List ℕ) (n : ℕ) : Type 0 where
   pub order : nat_cmp (piece_rank a n) (piece_rank b n) ≡ values_cmp (values a) (values b)
   pub apart : Begins (values b) (values a) → ⊥
@@ -146,7 +146,8 @@ behind_differ a b (suc d) n m w p q alike busy_a busy_b first second pieces diff
     ∙ ap₂ (λ t vs. values t ++ vs) (sym front) second)
     pieces differs
 
--- where names stand behind d bytes of both, and the bytes at n differ, they tell the names apart
+-- if names stand behind d bytes of both, and the bytes at n differ, these bytes tell the names
+-- apart
 pub names_differ : (a b : List ℕ) (d n : ℕ) → Alike a b d n → HoldsName (drop d a)
     → HoldsName (drop d b) → (piece_rank a n ≡ piece_rank b n → ⊥) → NamesDiffer a b n
 names_differ a b d n alike first second differs =

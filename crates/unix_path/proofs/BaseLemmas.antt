@@ -1,4 +1,5 @@
--- A path that all bytes of its base begin, up to a slash or to the path's end.
+-- A path that begins with all bytes of its base, which stop at the end of a piece or behind a
+-- slash.
 use Rattle.std.proofs.Common.{◌≡◌, ℕ, ◌+◌, ◌-◌, ◌<◌, ◌≤◌, false, ltb, List, [], ◌++◌, length}
 use Rattle.std.proofs.Common.{get_or, ◌∷◌, take, drop, refl, sym, ap, ap₂, ◌∙◌, arith}
 use Rattle.std.proofs.Common.{append-nil, take_all, length-append, ltb-true, ltb-false}
@@ -20,7 +21,7 @@ use Rattle.unix_path.proofs.PartLemmas.{rest-nil, values-nil}
 use Rattle.unix_path.proofs.RestLemmas.{rest-none}
 use Rattle.unix_path.proofs.SharedLemmas.{shares-itself, shares-slash}
 
--- where a slash follows the base, the values up to that slash are those of the base
+-- if a slash follows the base, the values up to that slash are those of the base
 to_slash : (s base : List ℕ) → IsFront s base → length base < length s
     → get_or s (length base) 0 ≡ slash → values (take (length base + 1) s) ≡ values base
 to_slash s base h more is =
@@ -39,7 +40,7 @@ none_behind : (base : List ℕ) → values base ≡ values base ++ values []
 none_behind base =
     sym (ap (λ v. values base ++ v) values-nil ∙ append-nil (values base))
 
--- so t, which follows the slash without the bytes that don't count, is what is left behind the base
+-- so t, which follows the slash and the filler behind it, is what is left behind the base
 pub shares_slash : (s base t : List ℕ) → IsFront s base → length base < length s
     → get_or s (length base) 0 ≡ slash → PastIdle (drop (length base + 1) s) t
     → is_idle t 0 ≡ false → values t ≡ inner_values (drop (length base + 1) s)
@@ -62,7 +63,7 @@ shares_slash s base t h more is past busy same =
           ∙ ap (λ v. rest s (length v) 0) front;
     }
 
--- the same where the base ends with a slash, and t follows that
+-- the same if the base ends with a slash, and t follows it and the filler behind it
 pub shares_within : (s base t : List ℕ) → IsFront s base → get_or s (length base - 1) 0 ≡ slash
     → PastIdle (drop (length base) s) t → is_idle t 0 ≡ false
     → values t ≡ inner_values (drop (length base) s) → SharesFront s base t []
@@ -72,7 +73,7 @@ shares_within s base t h is past busy same =
     (h.same ∙ sym (take_all n base (omega arith))) is past busy same
     (values-nil ∙ sym (ap inner_values (drop-length base) ∙ inner_values-nil))
 
--- and where the base is all of the path, nothing is
+-- and if the base is all of the path, nothing is left
 pub shares_whole : (s base t : List ℕ) → IsFront s base → length base ≡ length s → t ≡ []
     → SharesFront s base t []
 shares_whole s base t h whole none =
@@ -121,13 +122,14 @@ begins_front s base h = by_test (ltb (length base) (length s))
 pub stripped_front : {s base t : List ℕ} → SharesFront s base t [] → rest t 0 0 ≡ stripped_of s base
 stripped_front {s} {base} {t} h = h.left ∙ ap (λ v. rest s (length v) 0) (front_is h)
 
--- the base comes before the path as no value comes before what is left behind it
+-- the order of the base and the path is that of no value and what is left of the path behind the
+-- base
 pub values_cmp-before : {s base t : List ℕ} → SharesFront s base t []
     → values_cmp (values []) (values t) ≡ values_cmp (values base) (values s)
 values_cmp-before {s} {base} {t} h =
     sym (ap₂ values_cmp h.second h.first ∙ values_cmp-common h.front (values []) (values t))
 
--- where nothing is left behind it, the path begins the base too, and nothing is left of the base
+-- if nothing is left behind it, the path begins the base too, and nothing is left of the base
 pub begins_back : {s base t : List ℕ} → SharesFront s base t [] → t ≡ []
     → Begins (values s) (values base)
 begins_back {s} {base} {t} h none =
@@ -143,7 +145,7 @@ stripped_back {s} {base} {t} h =
       length-append h.front (values t),
     )))
 
--- and where a value is left, it doesn't
+-- and if a value is left, the path doesn't begin the base
 pub begins_no_back : {s base t : List ℕ} → SharesFront s base t [] → 0 < length t
     → Begins (values s) (values base) → ⊥
 begins_no_back {s} {base} {t} h some begins =

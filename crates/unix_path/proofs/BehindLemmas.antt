@@ -39,8 +39,8 @@ values-behind s n some l is =
     ap values (sym (cut_behind s n some l is)) ∙ values-past_slash (take (n - 1) s) (drop n s)
     ∙ ap (λ t. values t ++ inner_values (drop n s)) (sym (take-past_slash s n some l is))
 
--- where a slash ends the first n bytes, and i more don't count, what follows has the rest of the
--- string after the parts of those n bytes
+-- if the first n bytes end with a slash, and i bytes of filler follow, what is behind these is the
+-- rest of the string after the parts of the first n bytes
 rest-behind_drop : (s : List ℕ) (n i : ℕ) → 0 < n → n ≤ length s → get_or s (n - 1) 0 ≡ slash
     → inner_parts 0 (drop n s) ≡ inner_parts (0 + i) (drop i (drop n s))
     → (0 < length (drop i (drop n s)) → is_idle (drop i (drop n s)) 0 ≡ false)
@@ -79,8 +79,8 @@ rest-behind_drop s n i some l is same busy =
     } in
     rest-middle u 0 0 h ∙ sym (rest-middle s k 0 behind)
 
--- where a slash ends the first n bytes, t follows, and i bytes of t don't count, what follows them
--- has the rest of the string after the parts of those n bytes
+-- if the first n bytes end with a slash, t follows, and the first i bytes of t are filler, what is
+-- behind these is the rest of the string after the parts of the first n bytes
 pub rest-behind : (s t : List ℕ) (n i : ℕ) → t ≡ drop n s → 0 < n → n ≤ length s
     → get_or s (n - 1) 0 ≡ slash → inner_parts 0 t ≡ inner_parts (0 + i) (drop i t)
     → (0 < length (drop i t) → is_idle (drop i t) 0 ≡ false)
@@ -91,12 +91,12 @@ rest-behind s t n i e some l is same busy =
     (subst (λ t. inner_parts 0 t ≡ inner_parts (0 + i) (drop i t)) e same)
     (subst (λ t. 0 < length (drop i t) → is_idle (drop i t) 0 ≡ false) e busy)
 
--- where a list begins another, it does so without what both begin with
+-- if a list begins another, it still does without values that both begin with
 pub begins_past : (v w x : List Value) → Begins (v ++ w) (v ++ x) → Begins w x
 begins_past [] w x h = h
 begins_past (y ∷ v) w x h = begins_past v w x (begins_tail y y (v ++ w) (v ++ x) h).1
 
--- where a list begins another, it does so with the same list in front of both
+-- if a list begins another, it still does with the same list in front of both
 begins_all : (v w x : List Value) → Begins w x → Begins (v ++ w) (v ++ x)
 begins_all [] w x h = h
 begins_all (y ∷ v) w x h = begins_more y (v ++ w) (v ++ x) (begins_all v w x h)

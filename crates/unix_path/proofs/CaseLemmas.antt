@@ -2,7 +2,7 @@
 use Rattle.std.proofs.Common.{◌≡◌, ℕ, suc, ◌+◌, Bool, true, false, List, ◌∷◌, take, drop, refl, ap}
 use Rattle.std.proofs.Common.{arith}
 
--- what holds whether b is true or false holds
+-- what holds if b is true, and holds if b is false, holds
 pub by_test : {G : Type 0} (b : Bool) → (b ≡ true → G) → (b ≡ false → G) → G
 by_test true holds fails = holds refl
 by_test false holds fails = fails refl

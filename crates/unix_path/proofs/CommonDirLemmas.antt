@@ -27,14 +27,15 @@ take-common (x ∷ a) (y ∷ b) (suc n) l = by_test (eqb x y)
     ap₂ (λ z zs. z ∷ zs) (eqb-true x y e) (take-common a b n (omega arith)))
     (λ e. let m : suc n ≤ 0 = rw e at l in absurd (omega arith))
 
--- strings of which the common prefix is all are the same
+-- two strings are the same if their common prefix is all of both
 pub common_prefix_len-whole : (a b : List ℕ) → common_prefix_len eqb a b ≡ length a
     → common_prefix_len eqb a b ≡ length b → a ≡ b
 common_prefix_len-whole a b e f =
     sym (take_all (length a) a (omega arith)) ∙ take-common a b (length a) (omega (arith, e))
     ∙ take_all (length a) b (omega (arith, e, f))
 
--- a place in the common prefix with a slash just before it, and none behind it, is the common dir
+-- a place in the common prefix with a slash just before it, if it isn't 0, and none behind it, is
+-- the common dir
 pub common_dir_of-is : (a b : List ℕ) (common n : ℕ) → common ≡ common_prefix_len eqb a b
     → n ≤ length (take common a) → (0 < n → get_or (take common a) (n - 1) 0 ≡ slash)
     → position_or_len is_slash (drop n (take common a)) ≡ length (drop n (take common a))
@@ -74,7 +75,7 @@ pub record CutsAlike (a b : List ℕ) (n : ℕ) : Type 0 where
   pub first_slash : get_or a (n - 1) 0 ≡ slash
   pub second_slash : get_or b (n - 1) 0 ≡ slash
 
--- where the common prefix has a slash, both strings can be cut just after it
+-- if the common prefix has a slash, both strings can be cut just after its last one
 pub common_dir_of-cuts : (a b : List ℕ) → 0 < common_dir_of a b → CutsAlike a b (common_dir_of a b)
 unfolding common_dir_of
 common_dir_of-cuts a b some =

@@ -57,7 +57,7 @@ values-past_slash f b =
     ∙ map-append (λ (p : Part). p.value) (parts g) (inner_parts (length g) b)
     ∙ ap (λ vs. map (λ (p : Part). p.value) (parts g) ++ vs) (values-inner_parts (length g) b)
 
--- what two lists both begin with doesn't count in their order
+-- values that two lists both begin with change nothing in their order
 pub values_cmp-common : (v w x : List Value) → values_cmp (v ++ w) (v ++ x) ≡ values_cmp w x
 values_cmp-common [] w x = refl
 values_cmp-common (y ∷ v) w x =
@@ -112,7 +112,7 @@ values_cmp-equal_strings a b e =
     sym (ap (λ t. values_cmp (values a) (values t)) (sym e)
     ∙ tied_itself values_cmp-total (values a))
 
--- what follows the first bytes that don't count has the inner values of the string
+-- what follows the filler at the beginning has the inner values of the string
 pub values-idle : (s : List ℕ) (n : ℕ) → inner_parts 0 s ≡ inner_parts (0 + n) (drop n s)
     → (0 < length (drop n s) → is_idle (drop n s) 0 ≡ false)
     → values (drop n s) ≡ inner_values s

@@ -16,7 +16,7 @@ use Rattle.unix_path.specs.Steps.{StepsFirst, is_idle}
 abbrev pub behind : List ℕ → ℕ → List ℕ
 behind s n = take (length s - n) (drop n s)
 
--- a step takes at least a byte
+-- behind a step, fewer bytes are left
 pub steps_smaller : {s : List ℕ} {n : ℕ} {v : Value} → StepsFirst s n v
     → length (behind s n) < length s
 steps_smaller {n = zero} h = absurd (omega (arith, ap length h.value))
@@ -29,25 +29,25 @@ pub lead_behind : {s : List ℕ} {n : ℕ} {v : Value} → StepsFirst s n v
 lead_behind {s} {n} h =
     not_idle (drop n s) h.busy ∙ ap (λ t. is_idle t 0) (sym (take_rest s n))
 
--- of two orders one after the other the first decides where it is not equal
+-- of two orders one after the other, the first decides if it is not equal
 then_differs : (o p : Ordering) → is_ne o ≡ true → o ≡ ordering_then o p
 then_differs Less p e = refl
 then_differs Equal p e = cc
 then_differs Greater p e = refl
 
--- of two orders one after the other the second decides where the first is equal
+-- of two orders one after the other, the second decides if the first is equal
 then_equal : (o p : Ordering) → is_ne o ≡ false → ordering_then o p ≡ p
 then_equal Less p e = cc
 then_equal Equal p e = refl
 then_equal Greater p e = cc
 
--- the first values decide, and where they are equal those behind them
+-- the first values decide, and if they are equal, those behind them
 values_cmp-steps : {s t : List ℕ} {n m : ℕ} {v w : Value} → StepsFirst s n v → StepsFirst t m w
     → values_cmp (values s) (values t)
     ≡ ordering_then (value_cmp v w) (values_cmp (values (drop n s)) (values (drop m t)))
 values_cmp-steps h k = ap₂ values_cmp h.value k.value
 
--- where the first values differ, their order is that of the strings
+-- if the first values differ, their order is that of the strings
 pub values_cmp-first : {s t : List ℕ} {n m : ℕ} {v w : Value} {o : Ordering} → StepsFirst s n v
     → StepsFirst t m w → o ≡ value_cmp v w → is_ne o ≡ true
     → o ≡ values_cmp (values s) (values t)
@@ -55,7 +55,7 @@ values_cmp-first {s} {t} {n} {m} {o = o} h k is differs =
     let rest = values_cmp (values (drop n s)) (values (drop m t)) in
     then_differs o rest differs ∙ ap (λ o. ordering_then o rest) is ∙ sym (values_cmp-steps h k)
 
--- where the first values are equal, the order of the strings is that of what follows them
+-- if the first values are equal, the order of the strings is that of what follows these values
 pub values_cmp-rest : {s t : List ℕ} {n m : ℕ} {v w : Value} {o : Ordering} → StepsFirst s n v
     → StepsFirst t m w → o ≡ value_cmp v w → is_ne o ≡ false
     → values_cmp (values (behind s n)) (values (behind t m)) ≡ values_cmp (values s) (values t)

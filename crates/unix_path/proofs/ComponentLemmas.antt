@@ -34,7 +34,7 @@ pub file_name_of-normal : {x : Component} {name : UnixStr} (s w : List ℕ)
 file_name_of-normal {x} s w last is =
     ap (λ x. name_of (value_of x)) (sym is) ∙ file_name_of-push s w (value_of x) last
 
--- where the last component is no `Normal` there is no file name
+-- if the last component is no `Normal`, there is no file name
 pub file_name_of-other : (s w : List ℕ) (x : Component)
     → values s ≡ values w ++ value_of x ∷ [] → ((name : UnixStr) → x ≡ Normal name → ⊥)
     → None ≡ file_name_of (values s)

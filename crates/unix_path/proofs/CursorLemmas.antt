@@ -26,7 +26,7 @@ GivesFirstPart = GivesFirst value_of cursor_values cursor_rest cursor_source
 abbrev pub GivesLastPart : Components → Option Component → Components → Type 0
 GivesLastPart = GivesLast value_of cursor_values cursor_rest cursor_source
 
--- where nothing is left `next` gives nothing, and leaves the cursor as it is
+-- if nothing is left, `next` gives nothing, and leaves the cursor as it is
 pub GivesFirst-none : (c : Components) → cursor_rest c ≡ [] → GivesFirstPart c None c
 GivesFirst-none c none =
     let no_value = ap values none ∙ values-nil in
@@ -36,7 +36,7 @@ GivesFirst-none c none =
       place_is = LiesIn-itself (cursor_source c);
     }
 
--- where nothing is left `next_back` gives nothing, and leaves the cursor as it is
+-- if nothing is left, `next_back` gives nothing, and leaves the cursor as it is
 pub GivesLast-none : (c : Components) → cursor_rest c ≡ [] → GivesLastPart c None c
 GivesLast-none c none =
     let no_value = ap values none ∙ values-nil in

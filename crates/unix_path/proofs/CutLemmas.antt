@@ -10,7 +10,7 @@ use Rattle.unix_path.proofs.PieceLemmas.{parts_of_piece, first_piece, slice_spli
 use Rattle.unix_path.specs.Parts.{CurDir, RootDir, inner_parts, cur_dir, is_slash, leading_part}
 use Rattle.unix_path.specs.Parts.{parts_of_pieces}
 
--- how many bytes pieces take with a slash behind each
+-- how many bytes these pieces have, with a slash behind each
 width : List (List ℕ) → ℕ
 width [] = 0
 width (p ∷ ps) = length p + 1 + width ps
@@ -54,7 +54,7 @@ width-slice_split (x ∷ s) = by_test (eqb x 47)
           (some_piece s),
     ))
 
--- the first piece of two lists is that of the first list, if it has one
+-- a byte put onto the first piece of two lists is put onto that of the first list, if it has one
 onto_first-append : (x : ℕ) (ps qs : List (List ℕ)) → 0 < length ps
     → onto_first x (ps ++ qs) ≡ onto_first x ps ++ qs
 onto_first-append x [] qs l = absurd (omega arith)
@@ -83,14 +83,14 @@ inner_parts-append at x y =
     ∙ ap (λ n. inner_parts at x ++ inner_parts n y) {x = at + width (slice_split is_slash x)}
     {y = at + length x + 1} (omega (arith, width-slice_split x))
 
--- what follows a slash leaves the first piece as it is
+-- the first piece doesn't depend on what follows a slash
 first_piece-append : (x y : List ℕ) → first_piece (x ++ 47 ∷ y) ≡ first_piece x
 first_piece-append x y =
     let cut = sym (slice_split-first (x ++ 47 ∷ y)) ∙ slice_split-append x y
     ∙ ap (λ ps. ps ++ slice_split is_slash y) (slice_split-first x) in
     cc
 
--- what follows a slash that is not the first byte leaves the leading part as it is
+-- the leading part doesn't depend on what follows a slash that is not the first byte
 pub leading_part-append : (x y : List ℕ) → 0 < length x
     → leading_part (x ++ 47 ∷ y) ≡ leading_part x
 unfolding leading_part

@@ -1,11 +1,11 @@
--- How many parts can be taken behind: the root only ever stands first.
+-- How many parts can be taken off the end: the root can stand nowhere but in front.
 use Rattle.std.proofs.Common.{◌≡◌, ℕ, suc, ◌-◌, ◌≤◌, List, [], ◌∷◌, ◌++◌, length, refl, ap, ◌∙◌}
 use Rattle.std.proofs.Common.{arith, length-append}
 use Rattle.unix_path.specs.Parts.{Value, RootDir, CurDir, ParentDir, Normal, values}
 use Rattle.unix_path.specs.Parents.{depth_of}
 use Rattle.unix_path.proofs.RootLemmas.{root_count, root_count-values, root_last}
 
--- a list has no more roots than values
+-- a list has at least as many values as roots
 root_count-le : (vs : List Value) → root_count vs ≤ length vs
 root_count-le [] = omega arith
 root_count-le (RootDir ∷ vs) = omega arith
@@ -25,7 +25,7 @@ root_count-push (CurDir ∷ vs) v differs = refl
 root_count-push (ParentDir ∷ vs) v differs = refl
 root_count-push (Normal name ∷ vs) v differs = refl
 
--- the depth is the number of values but for the root
+-- the depth is the number of values, without the root
 pub depth_of-values : (s : List ℕ) → depth_of s ≡ length (values s) - root_count (values s)
 depth_of-values s = ap (λ n. length (values s) - n) (root_count-values s)
 

@@ -26,7 +26,7 @@ piece_rank-slash x s e = rw e refl
 piece_rank-other : (x : ℕ) (s : List ℕ) → eqb x 47 ≡ false → piece_rank (x ∷ s) 0 ≡ 1 + x
 piece_rank-other x s e = rw e refl
 
--- numbers that differ are in the order that one more of each is in
+-- numbers that differ are in the same order as the numbers one more than each
 pub nat_cmp-differ : (x y : ℕ) (o : Ordering) → (x ≡ y → ⊥)
     → (ordering_then (nat_cmp x y) o ≡ nat_cmp x y) × (nat_cmp x y ≡ nat_cmp (1 + x) (1 + y))
 nat_cmp-differ x y o differs = by_test (ltb x y)

@@ -11,15 +11,15 @@ use Rattle.std.proofs.lemmas.Simd.{length-zip2, get_or-zip2}
 use Rattle.std.proofs.lemmas.Simd.{mask_l-mod, leading_from_mask_l}
 use Rattle.unix_path.proofs.CaseLemmas.{by_test}
 
--- all bits of a lane where the two bytes differ
+-- all bits of a lane if the two bytes differ, else none
 abbrev differ : ℕ → ℕ → ℕ
 differ x y = cond (not (eqb x y)) 255 0
 
--- all bits of a lane whose byte x, beside y, is neither a slash nor a dot beside a slash
+-- all bits of a lane if its byte x is neither a slash nor a dot beside a slash y, else none
 abbrev stops : ℕ → ℕ → ℕ
 stops x y = bit_and (differ x 47) (bit_or (differ x 46) (differ y 47))
 
--- a lane without its highest bit is of a slash, or of a dot beside a slash
+-- a lane whose highest bit isn't set is that of a slash, or of a dot beside a slash
 goes_on : (x y : ℕ) → not (top 7 (stops x y)) ≡ true
     → (eqb x 47 || (eqb x 46 && eqb y 47)) ≡ true
 goes_on x y h = by_test (eqb x 47)
@@ -83,7 +83,7 @@ module _ (here beside : List ℕ) (m : length here ≡ 16) (n : length beside �
       (omega (arith, length-same 46)) (omega (arith, length-beside))
       ∙ ap₂ bit_or (lane here m 46 i few) (lane beside n 47 i few))
 
-  -- where no bit is set, each of the 16 goes on
+  -- if no bit is set, each of the 16 bytes is a slash, or a dot beside a slash
   pub none_stops : mask_l (map (top 7) (stop_lanes here beside)) % 2 ^ 64 ≡ 0 → (i : ℕ) → i < 16
       → (eqb (get_or here i 0) 47 || (eqb (get_or here i 0) 46 && eqb (get_or beside i 0) 47))
       ≡ true

@@ -20,7 +20,7 @@ pub popped_of-some : (s : List ℕ) (len : ℕ) → Some (take len s) ≡ parent
 unfolding popped_of
 popped_of-some s len e = ap (λ o. unwrap_or o s) (sym e)
 
--- the path s with an extension behind the place `end`, or s where there is none
+-- the path s with an extension behind the place `end`, or s if there is no such place
 abbrev pub with_extension_at : List ℕ → List ℕ → Option ℕ → List ℕ
 with_extension_at s extension end =
     option_map_or (λ end. (take end s ++ dot_before extension) ++ extension) end s
@@ -43,24 +43,24 @@ with_extension_of-some s extension gap end e d =
     ap (with_extension_at s extension) (sym e)
     ∙ ap (λ gap. (take end s ++ gap) ++ extension) (sym d)
 
--- a function of what an option has changes nothing of whether it has something
+-- a map over an option changes nothing of whether it is `Some`
 pub is_some-option_map : {A B : Type 0} (f : A → B) (o : Option A)
     → is_some (option_map f o) ≡ is_some o
 is_some-option_map f None = refl
 is_some-option_map f (Some x) = refl
 
--- there is a stem exactly where there is a file name
+-- there is a stem exactly if there is a file name
 is_some-stem_end_of : (s : List ℕ) → is_some (stem_end_of s) ≡ is_some (file_name_of (values s))
 unfolding stem_end_of
 is_some-stem_end_of s =
     is_some-option_map _ (stem_of (values s)) ∙ is_some-option_map _ (file_name_of (values s))
 
--- where there is a stem there is a file name
+-- if there is a stem, there is a file name
 pub file_name_of-stem : (s : List ℕ) (end : ℕ) → Some end ≡ stem_end_of s
     → is_some (file_name_of (values s)) ≡ true
 file_name_of-stem s end e = sym (is_some-stem_end_of s) ∙ ap is_some (sym e)
 
--- where there is no stem there is no file name
+-- if there is no stem, there is no file name
 pub file_name_of-no_stem : (s : List ℕ) → None ≡ stem_end_of s
     → is_some (file_name_of (values s)) ≡ false
 file_name_of-no_stem s e = sym (is_some-stem_end_of s) ∙ ap is_some (sym e)

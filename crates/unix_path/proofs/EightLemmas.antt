@@ -1,4 +1,4 @@
--- The eights that a part feeds a hasher: first of its bytes, and last with the mark behind them.
+-- The writes of eight bytes that a part feeds a hasher: its bytes first, and the mark in the last.
 use Rattle.std.proofs.Common.{◌≡◌, ℕ, suc, ◌/◌, ◌<◌, ◌≤◌, List, [], ◌∷◌, ◌++◌}
 use Rattle.std.proofs.Common.{length, get_or, take, drop, map, refl, sym, ap, ap₂, ◌∙◌, arith}
 use Rattle.std.proofs.Common.{length-append, length-drop, zero, rules, Fits, w8, w64}
@@ -37,7 +37,7 @@ in_eights-last s h =
 abbrev pub AreBytes : List ℕ → Type 0
 AreBytes s = (i : ℕ) → Fits w8 (get_or s i 0)
 
--- two strings of bytes are one string of bytes
+-- two strings of bytes, one after the other, are a string of bytes
 AreBytes-append : (s t : List ℕ) → AreBytes s → AreBytes t → AreBytes (s ++ t)
 AreBytes-append [] t h k i = k i
 AreBytes-append (x ∷ s) t h k zero = h 0
@@ -50,7 +50,8 @@ AreBytes-take (suc n) [] h i = omega arith
 AreBytes-take (suc n) (x ∷ s) h zero = omega (arith, h 0)
 AreBytes-take (suc n) (x ∷ s) h (suc i) = AreBytes-take n s (λ i. h (suc i)) i
 
--- the number that is read off the first k bytes and the mark has these as its bytes
+-- a number that is read from the k bytes of s and the mark has the first eight of these as its
+-- bytes
 pub le_bytes-last : (s : List ℕ) (k n : ℕ) → length s ≡ k → AreBytes s
     → n ≡ from_le_bytes w64 (take 8 (map (λ i. get_or s i 0) (range_with_len 0 k) ++ end_mark))
     → le_bytes 8 n ≡ take 8 (s ++ end_mark)

@@ -12,13 +12,13 @@ use Rattle.std.proofs.lemmas.Nat.{leading_length}
 use Rattle.std.proofs.lemmas.Simd.{length-zip2, get_or-zip2, length-chunk, get_or-chunk}
 use Rattle.std.proofs.lemmas.Simd.{bit_mask_l, mask_l-lt, mask_l-mod}
 
--- of 64 digits of a number the first, at least 48, are zeros
+-- the first `zeros` of a number's 64 bits are not set, and these are at least 48
 record Leading (n zeros : ℕ) : Type 0 where
   at_least : 48 ≤ zeros
   at_most : zeros ≤ 64
   no_bit : (i : ℕ) → 64 ≤ zeros + i → n / 2 ^ i ≡ 0
 
--- a number of 16 bits has its highest bit below 16
+-- a number below 2 ^ 16 has no more than 16 binary digits
 at_most_16 : (n m : ℕ) → n < 2 ^ 16 → 2 ^ m ≤ 2 * n + 1 → m ≤ 16
 at_most_16 n m small low =
     ⊎_elim
@@ -49,18 +49,18 @@ is_clear : (b : Bool) → bit b ≡ 0 → b ≡ false
 is_clear true e = absurd (omega arith)
 is_clear false e = refl
 
--- all bits of a lane where the test is true
+-- all bits of a lane if the test is true, else none
 abbrev lane : Bool → ℕ
 lane b = cond b 255 0
 
--- a lane made of two has all bits where one of these has
+-- the `or` of two lanes has all bits exactly if one of these has
 or_lane : (a b : Bool) → bit_or (lane a) (lane b) ≡ lane (a || b)
 or_lane true true = refl
 or_lane true false = refl
 or_lane false true = refl
 or_lane false false = refl
 
--- a lane has its highest bit where the test is true
+-- a lane has its highest bit exactly if the test is true
 top_lane : (a : Bool) → top 7 (lane a) ≡ a
 top_lane true = refl
 top_lane false = refl
@@ -87,7 +87,7 @@ differ_lanes xs ys = zip2 (λ x y. lane (not (eqb x y))) xs ys
 abbrev slash_lanes : List ℕ → List ℕ
 slash_lanes xs = zip2 (λ x y. lane (eqb x y)) xs (replicate 16 47)
 
--- the lanes that tell where what two strings have in common stops
+-- the lanes that tell where the common end of two strings stops: at a difference or a slash
 abbrev stop_lanes : List ℕ → List ℕ → List ℕ
 stop_lanes xs ys = zip2 (λ x y. bit_or x y) (differ_lanes xs ys) (slash_lanes xs)
 
@@ -95,7 +95,7 @@ stop_lanes xs ys = zip2 (λ x y. bit_or x y) (differ_lanes xs ys) (slash_lanes x
 abbrev stops : ℕ → ℕ → Bool
 stops x y = not (eqb x y) || eqb x 47
 
--- a lane tells whether its bytes stop it
+-- a lane tells whether the common end stops at its bytes
 Tells-stops : (xs ys : List ℕ) (i : ℕ) → length xs ≡ 16 → length ys ≡ 16 → i < 16
     → Tells (stop_lanes xs ys) i (stops (get_or xs i 0) (get_or ys i 0))
 Tells-stops xs ys i m n few =
@@ -109,7 +109,7 @@ Tells-stops xs ys i m n few =
     differ.size slash.size few
     (ap₂ bit_or differ.is slash.is ∙ or_lane (not (eqb x y)) (eqb x 47))
 
--- bytes that don't stop it are the same, and no slash
+-- bytes at which it doesn't stop are the same, and no slash
 neither : (same slash : Bool) → (not same || slash) ≡ false → (same ≡ true) × (slash ≡ false)
 neither true true e = absurd (true≢false e)
 neither true false e = (refl, refl)
@@ -126,7 +126,7 @@ last_byte s k l few =
     get_or-chunk (length s - 16) 16 s (15 - k) 0 (omega arith)
     ∙ ap (λ i. get_or s i 0) {x = length s - 16 + (15 - k)} {y = length s - 1 - k} (omega arith)
 
--- the places at which what the last 16 bytes have in common stops
+-- the places among the last 16 bytes at which the common end stops
 abbrev stop_bits : List ℕ → List ℕ → List Bool
 stop_bits a b = map (top 7) (stop_lanes (last_16 a) (last_16 b))
 
@@ -134,7 +134,7 @@ stop_bits a b = map (top 7) (stop_lanes (last_16 a) (last_16 b))
 abbrev stop_mask : List ℕ → List ℕ → ℕ
 stop_mask a b = mask_l (stop_bits a b) % 2 ^ 64
 
--- the leading zeros but 48 count last bytes that are the same in both and no slashes
+-- `zeros` is 48 more than a number of last bytes that are the same in both and no slashes
 pub record CommonEnd (a b : List ℕ) (zeros : ℕ) : Type 0 where
   pub at_least : 48 ≤ zeros
   pub in_range : zeros - 48 ≤ 16
@@ -143,7 +143,7 @@ pub record CommonEnd (a b : List ℕ) (zeros : ℕ) : Type 0 where
   pub no_slash : (k : ℕ) → k < zeros - 48 → eqb (get_or a (length a - 1 - k) 0) 47 ≡ false
 
 module _ (a b : List ℕ) (m : 16 ≤ length a) (n : 16 ≤ length b) where
-  -- each lane tells whether its bytes stop what both have in common
+  -- each lane tells whether the common end stops at its bytes
   told : (i : ℕ) → i < 16 → Tells (stop_lanes (last_16 a) (last_16 b)) i
       (stops (get_or (last_16 a) i 0) (get_or (last_16 b) i 0))
   told i few = Tells-stops (last_16 a) (last_16 b) i
@@ -154,15 +154,15 @@ module _ (a b : List ℕ) (m : 16 ≤ length a) (n : 16 ≤ length b) where
   size : length (stop_bits a b) ≡ 16
   size = length-map (stop_lanes (last_16 a) (last_16 b)) (top 7) ∙ (told 0 (omega arith)).size
 
-  -- the mask has all bits
+  -- the mask loses no bits when it is cut to 64
   whole : stop_mask a b ≡ mask_l (stop_bits a b)
   whole = mask_l-mod (stop_bits a b) 64 (omega (arith, size))
 
-  -- and these are no more than 16
+  -- and it has no more than 16 bits
   small : stop_mask a b < 2 ^ 16
   small = rw whole (subst (λ k. mask_l (stop_bits a b) < 2 ^ k) size (mask_l-lt (stop_bits a b)))
 
-  -- where it has no bit, the bytes are the same and no slash
+  -- at a place whose bit isn't set, the bytes are the same and no slash
   goes_on : (i : ℕ) → i < 16 → stop_mask a b / 2 ^ i ≡ 0
       → (eqb (get_or (last_16 a) i 0) (get_or (last_16 b) i 0) ≡ true)
       × (eqb (get_or (last_16 a) i 0) 47 ≡ false)

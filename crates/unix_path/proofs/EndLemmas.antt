@@ -10,7 +10,7 @@ pub data Snoc {X : Type 0} (xs : List X) : Type 0 where
   Empty : xs ≡ [] → Snoc xs
   Push : (ys : List X) (y : X) → xs ≡ ys ++ y ∷ [] → Snoc xs
 
--- what stands last in a list stands last behind one more element in front, too
+-- with one more element in front, a list is still some elements and the same last one
 snoc-cons : {X : Type 0} (x : X) (xs : List X) → Snoc xs → Snoc (x ∷ xs)
 snoc-cons x xs (Empty e) = Push [] x (ap (λ ys. x ∷ ys) e)
 snoc-cons x xs (Push ys y e) = Push (x ∷ ys) y (ap (λ ys. x ∷ ys) e)
@@ -26,7 +26,7 @@ pub last_or-push : {X : Type 0} (o : Option X) (xs : List X) (y : X)
 last_or-push o [] y = refl
 last_or-push o (x ∷ xs) y = last_or-push (Some x) xs y
 
--- without its last element a list with one more behind it is the list
+-- a list with one more element behind it, without its last, is the list
 pub middle-push : {X : Type 0} (xs : List X) (y : X) → middle 0 1 (xs ++ y ∷ []) ≡ xs
 middle-push xs y =
     let n : length (xs ++ y ∷ []) - (0 + 1) ≡ length xs =

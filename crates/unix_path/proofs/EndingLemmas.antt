@@ -59,7 +59,7 @@ last_is_name s start h ends =
     ∙ map-append (λ (p : Part). p.value) (parts (take start s)) _
     ∙ ap (λ v. map (λ (p : Part). p.value) (parts (take start s)) ++ v ∷ []) name
 
--- a byte counted from the end of a string, in its last piece
+-- a byte of the last piece stands at the same place from the end in the string and in the piece
 from_end : (s : List ℕ) (start k : ℕ) → IsLastStart s start → k < length s - start
     → get_or s (length s - 1 - k) 0 ≡ get_or (drop start s) (length (drop start s) - 1 - k) 0
 from_end s start k h l =
@@ -77,7 +77,7 @@ from_end-no_slash s start k h l =
     ∙ fails_before_first is_slash p (length p - 1 - k) 0
     (omega (arith, h.no_slash, length-drop start s))
 
--- the byte before the last k is no slash
+-- if the byte before the last k bytes is no slash, its rank is one more than the byte
 rank_inside : (s : List ℕ) (k : ℕ) → k < length s
     → eqb (get_or s (length s - 1 - k) 0) 47 ≡ false
     → rank_before s k ≡ 1 + get_or s (length s - 1 - k) 0
@@ -87,7 +87,7 @@ rank_inside s k l no_slash =
     let other : eqb (get_or s i 47) 47 ≡ false = ap (λ z. eqb z 47) same ∙ no_slash in
     rw (lt-ltb k (length s) l, other) (ap (λ z. 1 + z) same)
 
--- k last bytes without a slash, at least as many as the last piece has, are as many
+-- if the last k bytes have no slash, and the last piece has no more than k bytes, it has k bytes
 last_len : (s : List ℕ) (d k : ℕ) → IsLastStart s d → length s - d ≤ k → k < length s
     → ((i : ℕ) → i < k → eqb (get_or s (length s - 1 - i) 0) 47 ≡ false)
     → k ≡ length s - d
@@ -104,7 +104,8 @@ last_len s d k start past more none = by_test (ltb (length s - d) k)
     absurd (cc))
     (λ l. omega (arith, past, ltb-false (length s - d) k l))
 
--- no byte of the last piece stands before k last bytes without a slash, if it has no more
+-- if the last k bytes have no slash, and the last piece has no more than k bytes, no byte of it
+-- stands before them
 rank_behind : (s : List ℕ) (d k : ℕ) → IsLastStart s d → length s - d ≤ k → k ≤ length s
     → ((i : ℕ) → i < k → eqb (get_or s (length s - 1 - i) 0) 47 ≡ false)
     → rank_before s k ≡ 0
@@ -121,8 +122,8 @@ rank_behind s d k start past inside none = by_test (ltb k (length s))
     rw (l, same) refl)
     (λ l. rw l refl)
 
--- where a name is the last piece of both, the bytes before k last ones that are the same and no
--- slashes are alike
+-- if both strings have the same last piece, and no slash is among the last k bytes of either, the
+-- bytes before these have the same rank
 rank_same : (a b : List ℕ) (d e k : ℕ) → IsLastStart a d → IsLastStart b e
     → drop d a ≡ drop e b → k ≤ length a → k ≤ length b
     → ((i : ℕ) → i < k → eqb (get_or a (length a - 1 - i) 0) 47 ≡ false)
@@ -147,8 +148,8 @@ rank_same a b d e k first second same in_a in_b none_a none_b = by_test (ltb k (
     rank_behind a d k first past in_a none_a
     ∙ sym (rank_behind b e k second (omega (arith, past, size)) in_b none_b))
 
--- strings that end in names, and have the same k last bytes, of which none is a slash, and other
--- bytes before these: neither ends the other
+-- if two strings end in names and have the same last k bytes, of which none is a slash, and the
+-- bytes before these differ, the second doesn't end the first
 pub ends_in_others : (a b : List ℕ) (k : ℕ) → EndsInName a → EndsInName b → k ≤ length a
     → k ≤ length b
     → ((i : ℕ) → i < k → get_or a (length a - 1 - i) 0 ≡ get_or b (length b - 1 - i) 0)

@@ -1,4 +1,4 @@
--- The first byte of a path, which tells its first value from that of a path with another one.
+-- The first byte of a path: paths with different first bytes have different first values.
 use Rattle.std.proofs.Common.{◌≡◌, ℕ, ◌<◌, false, eqb, List, [], ◌∷◌, length, get_or, map, sym}
 use Rattle.std.proofs.Common.{ap, subst, ◌∙◌, arith, eqb-true}
 use Rattle.std.specs.Str.{bytes_eq}
@@ -50,7 +50,7 @@ first_byte s l = by_test (eqb (get_or s 0 0) 47)
       byte = ap (λ b. get_or b 0 0) (value_bytes-first (first_piece s)) ∙ piece_byte s l e;
     })
 
--- so where the first bytes of both differ, neither begins the other
+-- so if the first bytes of both differ, neither begins the other
 pub no_beginning : (s t : List ℕ) → 0 < length s → 0 < length t
     → (get_or s 0 0 ≡ get_or t 0 0 → ⊥) → Begins (values t) (values s) → ⊥
 no_beginning s t some_s some_t differs begins =

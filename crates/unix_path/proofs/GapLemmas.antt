@@ -16,7 +16,7 @@ pub ruleset join_cases = (join_of_rooted, join_of_open, join_of_closed, take-len
 
 pub ruleset beginnings = (take-beginning, take-length)
 
--- several paths and one more are joined by joining the one to the join of the others
+-- to join several paths and one more is to join the one more to the join of the others
 pub join_all_of_snoc : (a : List ℕ) (paths : List Path) (path : Path)
     → join_all_of a (bytes_of_each (paths ++ path ∷ []))
     ≡ join_of (join_all_of a (bytes_of_each paths)) path.bytes.now

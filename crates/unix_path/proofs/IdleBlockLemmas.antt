@@ -9,7 +9,7 @@ use Rattle.unix_path.specs.Steps.{is_idle}
 use Rattle.unix_path.proofs.IdleLemmas.{inner_parts_idle_at}
 use Rattle.unix_path.proofs.DotLaneLemmas.{stop_lanes, none_stops}
 
--- where no bit is set, all 16 bytes from `at` on are slashes, or dots before slashes
+-- if no bit is set, all 16 bytes from `at` on are slashes, or dots before slashes
 pub idle_block : (s : List ℕ) (at : ℕ) → at + 16 < length s
     → mask_l (map (top 7) (stop_lanes (chunk at 16 s) (chunk (at + 1) 16 s))) % 2 ^ 64 ≡ 0
     → (k : ℕ) → at ≤ k → k < at + 16 → is_idle s k ≡ true

@@ -1,4 +1,4 @@
--- Bytes between two parts that don't count.
+-- The filler between two parts.
 use Rattle.std.proofs.Common.{◌≡◌, ℕ, suc, ◌+◌, ◌≤◌, ◌<◌, true, false, cond, ◌&&◌, ◌||◌, eqb, List}
 use Rattle.std.proofs.Common.{[], ◌∷◌, ◌++◌, length, get_or, drop, refl, sym, ap, ap₂, ◌∙◌}
 use Rattle.std.proofs.Common.{◌⊎◌, inl, inr, ⊎_elim, arith, eqb-true, get_or-drop, length-drop}
@@ -25,7 +25,7 @@ idle_from b s e =
     inr (eqb-true b 46 both.0, eqb-true (get_or s 0 47) 47 both.1))
     (or_cases (eqb b 47) (eqb b 46 && eqb (get_or s 0 47) 47) e)
 
--- a `.` before a slash or the end doesn't count
+-- a `.` before a slash or the end is filler
 inner_parts-dot_cut : (at : ℕ) (s : List ℕ) → get_or s 0 47 ≡ 47
     → inner_parts at (46 ∷ s) ≡ inner_parts (at + 1) s
 inner_parts-dot_cut at [] e = inner_parts-dot at ∙ sym (inner_parts-nil (at + 1))
@@ -33,7 +33,7 @@ inner_parts-dot_cut at (b ∷ s) e = ap (λ b. inner_parts at (46 ∷ b ∷ s)) 
     ∙ inner_parts-dot_slash at s
     ∙ sym (ap (λ b. inner_parts (at + 1) (b ∷ s)) e)
 
--- an idle first byte doesn't count
+-- an idle first byte is filler
 inner_parts_idle : (at : ℕ) (s : List ℕ) → 0 < length s → is_idle s 0 ≡ true
     → inner_parts at s ≡ inner_parts (at + 1) (drop 1 s)
 inner_parts_idle at [] l e = absurd (omega arith)
@@ -41,14 +41,14 @@ inner_parts_idle at (b ∷ s) l e =
     ⊎_elim (λ is. ap (λ b. inner_parts at (b ∷ s)) is ∙ inner_parts-slash at s)
     (λ is. ap (λ b. inner_parts at (b ∷ s)) is.0 ∙ inner_parts-dot_cut at s is.1) (idle_from b s e)
 
--- whether a byte is idle can be told from the bytes that follow it
+-- whether a byte is idle doesn't depend on what stands before it
 pub is_idle-drop : (s : List ℕ) (i : ℕ) → is_idle (drop i s) 0 ≡ is_idle s i
 is_idle-drop s i =
     let here : get_or (drop i s) 0 0 ≡ get_or s i 0 = get_or-drop i s 0 0
     ∙ ap (λ k. get_or s k 0) {x = i + 0} {y = i} (omega arith) in
     ap₂ (λ b next. eqb b 47 || (eqb b 46 && eqb next 47)) here (get_or-drop i s 1 47)
 
--- an idle byte at place i doesn't count
+-- an idle byte at place i is filler
 pub inner_parts_idle_at : (at : ℕ) (s : List ℕ) (i : ℕ) → i < length s → is_idle s i ≡ true
     → inner_parts (at + i) (drop i s) ≡ inner_parts (at + (i + 1)) (drop (i + 1) s)
 inner_parts_idle_at at s i l e =
@@ -56,7 +56,7 @@ inner_parts_idle_at at s i l e =
     inner_parts_idle (at + i) (drop i s) some (is_idle-drop s i ∙ e)
     ∙ ap₂ inner_parts {x = at + i + 1} {y = at + (i + 1)} (omega arith) (drop-drop 1 i s)
 
--- the first piece is empty exactly in an empty string or before a slash
+-- the first piece is empty exactly if the string is empty or begins with a slash
 pub first_piece_empty : (s : List ℕ) → bytes_eq (first_piece s) [] ≡ eqb (get_or s 0 47) 47
 first_piece_empty [] = refl
 first_piece_empty (b ∷ s) = by_test (eqb b 47)
@@ -100,14 +100,14 @@ parts-busy (b ∷ s) h =
     ∙ ap (λ t. cond t (record { start = 0; end = 1; value = CurDir } ∷ []) []) is.1 in
     ap (λ ps. ps ++ inner_parts 0 (b ∷ s)) none
 
--- the first `len` bytes don't count, and behind them stands nothing or a part
+-- the first `len` bytes are filler, and behind them stands nothing or a part
 pub record SkipsIdle (s : List ℕ) : Type 0 where
   pub len : ℕ
   pub in_range : len ≤ length s
   pub same : (at : ℕ) → inner_parts at s ≡ inner_parts (at + len) (drop len s)
   pub busy : 0 < length (drop len s) → is_idle (drop len s) 0 ≡ false
 
--- every string begins with some bytes, maybe none, that don't count
+-- every string begins with filler, which may be empty
 pub skips_idle : (s : List ℕ) → SkipsIdle s
 skips_idle [] = record {
   len = 0;

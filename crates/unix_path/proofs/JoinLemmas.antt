@@ -5,7 +5,7 @@ use Rattle.std.proofs.Common.{append-nil, length-append, ◌+◌}
 use Rattle.unix_path.specs.Parts.{is_rooted}
 use Rattle.unix_path.specs.Joins.{is_open, join_of}
 
--- whether a string is open is told by its last byte, where it has one
+-- whether a string is open is told by its last byte, if it has one
 pub is_open-at : (s : List ℕ) → is_open s ≡ eqb (get_or s (length s - 1) 47) 47
 is_open-at [] = refl
 is_open-at (b ∷ []) = refl

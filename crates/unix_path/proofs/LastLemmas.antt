@@ -74,7 +74,7 @@ last_after_slash s start h some named no_dot =
     ∙ ap₂ (λ a b. record { start = a; end = b; value = value_of_piece y } ∷ []) from to in
     ap parts is ∙ parts-append x y ∙ ap₂ ◌++◌ (sym (ap parts before)) one
 
--- the last piece of a string that ends in a part, where a slash stands before it, counts
+-- the last piece of a string that ends in a part counts, if a slash stands before it
 pub last_counts : (s : List ℕ) (start : ℕ) → IsLastStart s start → 0 < start → start < length s
     → EndsInPart s → (bytes_eq (drop start s) [] ≡ false)
     × (bytes_eq (drop start s) cur_dir ≡ false)
@@ -146,7 +146,7 @@ root_alone (b ∷ c ∷ s) l ends e =
     rw (lt-ltb 0 (length t - 1) (omega arith), e) refl in
     absurd (both_ways _ (ends l) hit)
 
--- behind one more byte in front, a last piece begins one place further on, or with that byte
+-- with one more byte in front, the last piece begins one place further on, or with that byte
 start_more : (b : ℕ) (s : List ℕ) (k : ℕ) → IsLastStart s k → (j : ℕ) × IsLastStart (b ∷ s) j
 start_more b s zero h = by_test (eqb b 47)
     (λ e. (

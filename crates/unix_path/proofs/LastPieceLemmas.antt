@@ -29,7 +29,7 @@ begins_piece s (suc k) h n =
     ∙ h.after_slash (omega arith) in
     by_test (eqb (length s) 2) (λ e. rw e refl) (λ e. rw (e, slash) refl)
 
--- the last piece is no `..` where `ends_with_parent` is false
+-- the last piece is no `..` if `ends_with_parent` is false
 no_parent_piece : (s : List ℕ) (start : ℕ) → IsLastStart s start → start < length s
     → ends_with_parent s ≡ false → bytes_eq (drop start s) parent_dir ≡ false
 no_parent_piece s start h l no_parent =

@@ -80,7 +80,7 @@ length-parent_first [] e = cc
 length-parent_first (b ∷ []) e = absurd (one_byte_no_parent b e)
 length-parent_first (b ∷ c ∷ s) e = omega arith
 
--- what is not idle doesn't begin with a slash
+-- a string that begins with no idle byte doesn't begin with a slash
 pub busy_no_slash : (s : List ℕ) → is_idle s 0 ≡ false → eqb (get_or s 0 0) 47 ≡ false
 busy_no_slash s e = (or_parts (eqb (get_or s 0 0) 47) _ e).0
 
@@ -101,7 +101,7 @@ first_value-name s l busy e =
     first_piece_parent s is.0 ∙ e in
     rw (is.1, no_parent) refl
 
--- a first part that ends at e, and d bytes behind it that don't count, are one step
+-- a first part that ends at e, and d bytes of filler behind it, are one step
 pub steps_first : (t : List ℕ) (e d : ℕ) (v : Value) → e ≤ length t
     → parts t ≡ record { start = 0; end = e; value = v } ∷ inner_parts e (drop e t)
     → d ≤ length (drop e t)

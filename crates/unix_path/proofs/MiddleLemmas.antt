@@ -13,7 +13,7 @@ use Rattle.unix_path.specs.Parts.{parts}
 use Rattle.unix_path.specs.Rest.{rest, span_of}
 use Rattle.unix_path.specs.Steps.{EndsInPart}
 
--- what stands at j in what stands at i in s stands at i + j in s
+-- if w stands at i in s, and v at j in w, then v stands at i + j in s
 pub stands_in : (s w v : List ℕ) (i j : ℕ) → take (length w) (drop i s) ≡ w
     → take (length v) (drop j w) ≡ v → take (length v) (drop (i + j) s) ≡ v
 stands_in s w v i j outer inner = by_test (ltb j (length w))
@@ -43,7 +43,7 @@ pub record Middle (s : List ℕ) (k m : ℕ) : Type 0 where
   pub is : middle k m (parts s) ≡ map (part_at at) (parts left)
   pub ends : EndsInPart left
 
--- after any number of parts is taken, a string is left that stands in s
+-- whatever number of parts is taken off both ends, the string that is left stands in s
 unfoldable pub middle_of : (s : List ℕ) (k m : ℕ) → Middle s k m
 middle_of s k m =
     let trim = trims_end s in
@@ -90,7 +90,7 @@ pub map-middle : {X Y : Type 0} (f : X → Y) (k m : ℕ) (xs : List X)
 map-middle f k m xs = ap₂ (λ n ys. take (n - (k + m)) ys) (length-map xs f) (drop-map f k xs)
     ∙ take-map f (length xs - (k + m)) (drop k xs)
 
--- elements that are left out at two times may be left out at once
+-- elements that are left out in two steps may be left out at once
 pub middle-middle : {X : Type 0} (k m i j : ℕ) (xs : List X)
     → middle i j (middle k m xs) ≡ middle (k + i) (m + j) xs
 middle-middle k m i j xs =

@@ -22,7 +22,7 @@ pub name_end_of-none : (s : List ℕ) → None ≡ file_name_of (values s) → N
 unfolding name_end_of
 name_end_of-none s e = ap (name_end_by s) e
 
--- the name ends where a fresh cursor's rest ends
+-- the file name ends where the last part of the path ends
 pub name_end_of-some : (s name : List ℕ) (end : ℕ) → Some name ≡ file_name_of (values s)
     → end ≡ length (rest s 0 0) → Some end ≡ name_end_of s
 unfolding name_end_of
@@ -35,7 +35,7 @@ name_end_of-some s name end e at =
 pub name_end-le : (s : List ℕ) (end : ℕ) → end ≡ length (rest s 0 0) → end ≤ length s
 name_end-le s end at = omega (arith, at, length-rest_whole-le s)
 
--- the path s with the extension x added at the place `end`, or s where there is none
+-- the path s with the extension x added at the place `end`, or s if there is no such place
 abbrev pub added_extension_at : List ℕ → List ℕ → Option ℕ → List ℕ
 added_extension_at s x end =
     cond (eqb (length x) 0) s (option_map_or (λ end. (take end s ++ 46 ∷ []) ++ x) end s)
@@ -58,17 +58,17 @@ pub added_extension_of-some : (s x : List ℕ) (end : ℕ) → Some end ≡ name
 unfolding added_extension_of
 added_extension_of-some s x end e h = ap (added_extension_at s x) (sym e) ∙ cond-false _ _ _ h
 
--- a name ends somewhere exactly where there is a file name
+-- there is a place where the file name ends exactly if there is a file name
 is_some-name_end_of : (s : List ℕ) → is_some (name_end_of s) ≡ is_some (file_name_of (values s))
 unfolding name_end_of
 is_some-name_end_of s = is_some-option_map _ (file_name_of (values s))
 
--- where a name ends there is a file name
+-- if there is a place where the file name ends, there is a file name
 pub file_name_of-name_end : (s : List ℕ) (end : ℕ) → Some end ≡ name_end_of s
     → is_some (file_name_of (values s)) ≡ true
 file_name_of-name_end s end e = sym (is_some-name_end_of s) ∙ ap is_some (sym e)
 
--- where no name ends there is no file name
+-- if there is no such place, there is no file name
 pub file_name_of-no_name_end : (s : List ℕ) → None ≡ name_end_of s
     → is_some (file_name_of (values s)) ≡ false
 file_name_of-no_name_end s e = sym (is_some-name_end_of s) ∙ ap is_some (sym e)

@@ -13,7 +13,8 @@ use Rattle.unix_path.proofs.CaseLemmas.{by_test}
 abbrev pub is_dot : ℕ → Bool
 is_dot b = b == dot
 
--- no byte passes from n on, and the byte before n does
+-- if no byte from n on passes p, and the byte before n does, n is the place just after the last
+-- that passes
 pub past_last-is : (p : ℕ → Bool) (s : List ℕ) (n : ℕ) → n ≤ length s
     → ((k : ℕ) → n ≤ k → k < length s → not (p (get_or s k 0)) ≡ true)
     → (0 < n → not (p (get_or s (n - 1) 0)) ≡ false) → n ≡ past_last p s
@@ -21,6 +22,7 @@ past_last-is p s n l after here =
     omega (arith, suffix_len_is (λ b. not (p b)) s n 0 l after here)
 
 -- a place just after a byte that is `byte`, with no such byte behind it, is just after the last
+-- such byte
 pub past_last-byte : (byte : ℕ) (s : List ℕ) (n : ℕ) → n ≤ length s
     → (0 < n → get_or s (n - 1) 0 ≡ byte)
     → position_or_len (λ b. b == byte) (drop n s) ≡ length (drop n s)
@@ -49,7 +51,7 @@ split_name-cut name n e l =
     rw (lt-ltb 1 (past_last is_dot name) (omega arith))
     (ap (λ k. (take (k - 1) name, Some (drop k name))) (sym e))
 
--- a beginning is read again by its length
+-- a beginning of s is the first bytes of s, as many as it has
 pub take-take_front : (n : ℕ) (s : List ℕ) → take (length (take n s)) s ≡ take n s
 take-take_front zero s = refl
 take-take_front (suc n) [] = refl

@@ -110,7 +110,7 @@ walks_forward c n v e step =
     steps_forward c.source.now c.start c.end n v c.fields.in_order c.fields.in_range c.fields.ends
     (subst (λ t. StepsFirst t n v) e step)
 
--- the last part is taken: what is left ends n bytes after its first
+-- the last part is taken: the first n bytes are left
 pub record StepsBack (s : List ℕ) (a b n : ℕ) (v : Value) : Type 0 where
   pub in_order : a + n ≤ b
   pub takes : TakesLast (slice_range s a b) (slice_range s a (a + n)) v
@@ -132,7 +132,7 @@ lead_first-push (CurDir ∷ vs) v some = refl
 lead_first-push (ParentDir ∷ vs) v some = refl
 lead_first-push (Normal name ∷ vs) v some = refl
 
--- what is left before the last part begins with a root or a `.` that counts where all of it did,
+-- what is left before the last part begins with a root or a `.` that counts if all of it did,
 -- unless nothing is left
 lead_before_last : (t u : List ℕ) (v : Value) (n : ℕ) → TakesLast t u v → length u ≡ n
     → (is_idle t 0 && ltb 0 n) ≡ is_idle u 0
@@ -179,7 +179,7 @@ walks_back c n v e l takes =
     steps_back c.source.now c.start c.end n v c.fields.in_order c.fields.in_range
     (subst (λ t. n ≤ length t) e l) (subst (λ t. TakesLast t (take n t) v) e takes)
 
--- what a fresh walk u takes behind is the last part of s, and it leaves w
+-- the last part of a fresh walk's rest u is the last part of s, and w is left before it
 pub has_last : {u w : List ℕ} (s : List ℕ) (before end : ℕ) (v : Value) → u ≡ rest s 0 0
     → values u ≡ values w ++ v ∷ [] → w ≡ rest u 0 1 → w ≡ take before s → length u ≡ end
     → before ≤ length s → HasLast s before end v

@@ -14,7 +14,7 @@ use Rattle.unix_path.proofs.RestLemmas.{values-rest, rest-rest}
 use Rattle.unix_path.proofs.EndLemmas.{last_or-push}
 use Rattle.unix_path.proofs.DepthLemmas.{depth_of-none, depth_of-root, depth_of-push}
 
--- the rest after no part has all values of the path
+-- the rest after no part is taken has all values of the path
 pub values-whole : (s u : List ℕ) → u ≡ rest s 0 0 → values u ≡ values s
 values-whole s u e = ap values e ∙ values-rest s 0 0
     ∙ take_all (length (values s) - (0 + 0)) (values s) (omega arith)
@@ -66,12 +66,12 @@ pub file_name_of-push : (s w : List ℕ) (v : Value) → values s ≡ values w +
     → name_of v ≡ file_name_of (values s)
 file_name_of-push s w v is = sym (ap file_name_of is ∙ file_name_of-last (values w) v)
 
--- a path without a file name is what stands before it
+-- if there is no file name, the path without it is all of the path
 pub before_name_of-none : (s : List ℕ) → None ≡ file_name_of (values s) → s ≡ before_name_of s
 unfolding before_name_of
 before_name_of-none s e = ap (λ o. cond (is_some o) (rest s 0 1) s) e
 
--- what is left before the last part stands before the file name
+-- if there is a file name, the path without it is what is left before the last part
 pub before_name_of-some : (s name : List ℕ) → Some name ≡ file_name_of (values s)
     → rest s 0 1 ≡ before_name_of s
 unfolding before_name_of

@@ -25,12 +25,12 @@ unfolding parts leading_part
 parts-root [] e = absurd (omega arith)
 parts-root (b ∷ s) e = ap (λ b. parts (b ∷ s)) e ∙ ap (λ ps. root ∷ ps) (inner_parts-slash 0 s)
 
--- whether a string is rooted is told by byte 0, where it has one
+-- whether a string is rooted is told by byte 0, if it has one
 pub is_rooted-at : (s : List ℕ) → is_rooted s ≡ eqb (get_or s 0 0) 47
 is_rooted-at [] = refl
 is_rooted-at (b ∷ s) = refl
 
--- a string that begins with no slash has a leading part only where its first piece is `.`
+-- a string that begins with no slash has a leading part exactly if its first piece is `.`
 pub leading_part-name : (s : List ℕ) → eqb (get_or s 0 0) 47 ≡ false
     → leading_part s ≡ cond (bytes_eq (first_piece s) cur_dir)
     (record { start = 0; end = 1; value = CurDir } ∷ []) []
@@ -94,7 +94,7 @@ root_first [] = false
 root_first (RootDir ∷ vs) = true
 root_first (_ ∷ vs) = false
 
--- the first value is the root exactly where byte 0 is a slash
+-- the first value is the root exactly if byte 0 is a slash
 pub root_first-values : (s : List ℕ) → root_first (values s) ≡ is_rooted s
 unfolding values
 root_first-values [] = ap (λ ps. root_first (map (λ p. p.value) ps)) parts-nil

@@ -36,7 +36,7 @@ inner_parts-dot_slash at s =
 abbrev pub first_piece : List ℕ → List ℕ
 first_piece = before_first is_slash
 
--- the pieces behind the slash that a string begins with; none where it is empty
+-- the pieces behind the slash that a string begins with; none if it is empty
 abbrev later_pieces : List ℕ → List (List ℕ)
 later_pieces [] = []
 later_pieces (b ∷ s) = slice_split is_slash s

@@ -1,4 +1,4 @@
--- Places move with the string, and values stay.
+-- If a string is moved, the places of its parts move with it, and the values stay.
 use Rattle.std.proofs.Common.{◌≡◌, ℕ, ◌+◌, List, [], ◌∷◌, length, map, refl}
 use Rattle.std.proofs.Common.{ap, ap₂, ◌∙◌, arith}
 use Rattle.std.specs.List.{slice_split}
@@ -7,11 +7,11 @@ use Rattle.unix_path.specs.Parts.{Part, inner_parts, counts, is_slash, parts_of_
 use Rattle.unix_path.specs.Parts.{value_of_piece}
 use Rattle.unix_path.specs.Rest.{last_end}
 
--- a part of a string that stands at d
+-- the part p, moved by d places
 abbrev pub part_at : ℕ → Part → Part
 part_at d p = record { start = p.start + d; end = p.end + d; value = p.value }
 
--- pieces that stand d places further on have parts that do
+-- if pieces are moved by d, so are their parts
 parts_of_pieces-add : (at d : ℕ) (ps : List (List ℕ))
     → parts_of_pieces (at + d) ps ≡ map (part_at d) (parts_of_pieces at ps)
 parts_of_pieces-add at d [] = refl
@@ -24,13 +24,13 @@ parts_of_pieces-add at d (p ∷ ps) =
     first next))
     (λ e. rw e next)
 
--- a string that stands d places further on has inner parts that do
+-- if a string is moved by d, so are its inner parts
 pub inner_parts-add : (at d : ℕ) (s : List ℕ)
     → inner_parts (at + d) s ≡ map (part_at d) (inner_parts at s)
 unfolding inner_parts
 inner_parts-add at d s = parts_of_pieces-add at d (slice_split is_slash s)
 
--- parts keep their values wherever their string stands
+-- parts that are moved keep their values
 pub values-part_at : (d : ℕ) (ps : List Part)
     → map (λ p. p.value) (map (part_at d) ps) ≡ map (λ p. p.value) ps
 values-part_at d [] = refl
@@ -43,13 +43,13 @@ values-inner_parts at s =
     ap (λ n. map (λ p. p.value) (inner_parts n s)) {x = at} {y = 0 + at} (omega arith)
     ∙ ap (map (λ p. p.value)) (inner_parts-add 0 at s) ∙ values-part_at at (inner_parts 0 s)
 
--- the last of parts of a string at d ends d places further on
+-- if parts are moved by d, so is the end of the last
 pub last_end-part_at : (d : ℕ) (p : Part) (ps : List Part)
     → last_end (part_at d p) (map (part_at d) ps) ≡ last_end p ps + d
 last_end-part_at d p [] = refl
 last_end-part_at d p (q ∷ qs) = last_end-part_at d q qs
 
--- a string at j in one that stands at i stands at i + j
+-- parts that are moved by j and then by i are moved by i + j
 pub part_at-part_at : (i j : ℕ) (ps : List Part)
     → map (part_at i) (map (part_at j) ps) ≡ map (part_at (i + j)) ps
 part_at-part_at i j [] = refl
@@ -60,7 +60,7 @@ part_at-part_at i j (p ∷ ps) =
     (λ s e. record { start = s; end = e; value = p.value } ∷ map (part_at i) (map (part_at j) ps))
     start end ∙ ap (λ ps. part_at (i + j) p ∷ ps) (part_at-part_at i j ps)
 
--- a part of a string that stands at 0 stays where it is
+-- parts that are moved by 0 stay where they are
 pub part_at-zero : (ps : List Part) → map (part_at 0) ps ≡ ps
 part_at-zero [] = refl
 part_at-zero (p ∷ ps) =

@@ -6,13 +6,13 @@ use Rattle.unix_path.specs.Prefixes.{Begins, stripped_of}
 use Rattle.unix_path.specs.Steps.{StripsOn}
 use Rattle.unix_path.proofs.RestLemmas.{rest-rest}
 
--- where a list begins another one, so do the lists without their first elements
+-- if a list begins another one, so do the lists without their first elements, which are the same
 pub begins_tail : (x y : Value) (v w : List Value) → Begins (x ∷ v) (y ∷ w) → (x ≡ y) × Begins v w
 begins_tail x y v w h =
     let e : x ∷ (v ++ h.0) ≡ y ∷ w = h.1 in
     (cc, (h.0, cc))
 
--- where a list begins another one, so do the lists with the same element in front
+-- if a list begins another one, so do the lists with the same element in front
 pub begins_more : (x : Value) (v w : List Value) → Begins v w → Begins (x ∷ v) (x ∷ w)
 begins_more x v w h = (h.0, ap (λ z. x ∷ z) h.1)
 
@@ -34,7 +34,7 @@ strips_step {s} {base} {u} {t} {x} {y} {left} {more} h l e r same =
           (subst (λ l. Begins l (values u)) l (h.back b)))).1;
     }
 
--- where nothing of the base's values is left, the base begins the path
+-- if nothing of the base's values is left, the base begins the path
 pub strips_end : {s base u : List ℕ} {left : List Value} → StripsOn s base u left → left ≡ []
     → Begins (values base) (values s) × (u ≡ stripped_of s base)
 strips_end {s} {base} {u} h l =

@@ -39,7 +39,7 @@ rest-rest s k m i j =
     ap (λ w. rest w i j) (rest-middle s k m h) ∙ rest-middle w i j g
     ∙ sym (rest-middle s (k + i) (m + j) together)
 
--- where all parts are taken, nothing is left
+-- if all parts are taken, nothing is left
 pub rest-none : (s : List ℕ) (k m : ℕ) → length (values s) ≤ k + m → rest s k m ≡ []
 unfolding rest values
 rest-none s k m l =
@@ -72,12 +72,12 @@ unfolding values
 length-values s = omega
     (arith, length-map (parts s) (λ p. p.value), few_parts (length s) s (omega arith))
 
--- where nothing is taken in front, what is left stands at place 0
+-- if nothing is taken in front, what is left stands at place 0
 pub middle_of-at : (s : List ℕ) (m : ℕ) → (middle_of s 0 m).at ≡ 0
 unfolding middle_of drops_to
 middle_of-at s m = refl
 
--- with nothing taken in front, what is left begins s
+-- if nothing is taken in front, what is left begins s
 pub take-rest : (s : List ℕ) (m : ℕ) → take (length (rest s 0 m)) s ≡ rest s 0 m
 take-rest s m =
     let h = middle_of s 0 m in

@@ -1,4 +1,4 @@
--- The root only ever stands first.
+-- The root can only be the first part.
 use Rattle.std.proofs.Common.{◌≡◌, ◌↔◌, ℕ, ◌+◌, ◌<◌, Bool, true, false, eqb, ltb, List, [], ◌∷◌}
 use Rattle.std.proofs.Common.{◌++◌, length, get_or, drop, map, cond, refl, sym, ap, subst, ◌∙◌}
 use Rattle.std.proofs.Common.{arith, eqb-true, length-append, ltb-true, ltb-false}
@@ -85,7 +85,7 @@ rooted-Begins s r e = (
   λ h. e ∙ sym (root_first-values s) ∙ sym (ap root_first h.1),
 )
 
--- 1 where the first value is the root, else 0
+-- 1 if the first value is the root, else 0
 abbrev pub root_count : List Value → ℕ
 root_count vs = cond (root_first vs) 1 0
 
@@ -93,7 +93,7 @@ root_count vs = cond (root_first vs) 1 0
 pub root_count-values : (s : List ℕ) → cond (is_rooted s) 1 0 ≡ root_count (values s)
 root_count-values s = ap (λ c. cond c 1 0) (sym (root_first-values s))
 
--- where none of the values is the root, the last is not
+-- if none of the values is the root, the last is not
 no_root_last : (vs : List Value) (v : Value) → NoRoot (vs ++ v ∷ []) → v ≡ RootDir → ⊥
 no_root_last [] v h r = subst (λ v. NoRoot (v ∷ [])) r h
 no_root_last (RootDir ∷ vs) v h r = h
@@ -101,7 +101,7 @@ no_root_last (CurDir ∷ vs) v h r = no_root_last vs v h r
 no_root_last (ParentDir ∷ vs) v h r = no_root_last vs v h r
 no_root_last (Normal name ∷ vs) v h r = no_root_last vs v h r
 
--- where no value behind v is the root, nothing stands before a last one that is
+-- if no value behind v is the root, nothing stands before a last value that is
 before_last_root : (v w : Value) (more vs : List Value) → NoRoot more → v ∷ more ≡ vs ++ w ∷ []
     → w ≡ RootDir → length vs ≡ 0
 before_last_root v w more [] h e r = refl
@@ -109,7 +109,7 @@ before_last_root v w more (x ∷ vs) h e r =
     let tail : more ≡ vs ++ w ∷ [] = cc in
     absurd (no_root_last vs w (subst NoRoot tail h) r)
 
--- where the root is the last value, it is the only one
+-- if the root is the last value, it is the only one
 pub root_last : (s : List ℕ) (vs : List Value) → values s ≡ vs ++ RootDir ∷ [] → length vs ≡ 0
 root_last s vs e = by_test (ltb 0 (length s))
     (λ some. by_test (eqb (get_or s 0 0) 47)

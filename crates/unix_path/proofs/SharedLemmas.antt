@@ -1,4 +1,5 @@
--- Names that differ where two strings do, and what is left behind the values that both begin with.
+-- Names that first differ at the place at which two strings do, and what is left behind the values
+-- that both begin with.
 use Rattle.std.proofs.Common.{◌≡◌, ℕ, ◌+◌, ◌-◌, ◌<◌, ◌≤◌, true, false, eqb, ltb, List, [], length}
 use Rattle.std.proofs.Common.{◌++◌, get_or, take, drop, refl, sym, ap, ap₂, subst, ◌∙◌, arith}
 use Rattle.std.proofs.Common.{ltb-true, append-nil}
@@ -37,7 +38,7 @@ pub record NameByte (s : List ℕ) (i : ℕ) : Type 0 where
   pub no_slash : eqb (get_or s i 0) 47 ≡ false
   pub no_dot : eqb (get_or s i 0) 46 ≡ false
 
--- so it is where the rank there is neither that of an end nor that of a dot
+-- so it does if the rank there is neither that of an end nor that of a dot
 pub name_byte : (s : List ℕ) (i : ℕ) → (piece_rank s i ≡ 0 → ⊥) → (piece_rank s i ≡ 47 → ⊥)
     → NameByte s i
 name_byte s i no_end no_dot = by_test (eqb (get_or s i 47) 47)
@@ -57,7 +58,7 @@ name_byte s i no_end no_dot = by_test (eqb (get_or s i 47) 47)
     (λ l. let past = get_or_past s i 47 (ltb-false i (length s) l) in
     let hit : eqb (get_or s i 47) 47 ≡ true = ap (λ b. eqb b 47) past in absurd (cc)))
 
--- both strings have a byte of a name just before n, and differ there
+-- both strings have a byte of a name just before n, and differ at n
 pub differ_behind : (a b : List ℕ) (n : ℕ) → n ≤ length a → n ≤ length b → take n a ≡ take n b
     → 0 < n → (piece_rank a (n - 1) ≡ 0 → ⊥) → (piece_rank a (n - 1) ≡ 47 → ⊥)
     → (piece_rank a n ≡ piece_rank b n → ⊥) → NamesDiffer a b n
@@ -114,8 +115,8 @@ rest-more s i j n e =
 pub shares-itself : (a b : List ℕ) → SharesFront a b a b
 shares-itself a b = record { front = []; first = refl; second = refl; left = refl }
 
--- what is left when both are cut just after a slash to which they are the same: t and u, which
--- follow without the bytes that don't count
+-- what is left if both are cut just after a slash up to which they are the same: t and u, which
+-- follow it and the filler behind it
 pub shares-slash : {a b x y t u : List ℕ} → SharesFront a b x y → (n : ℕ) → 0 < n → n ≤ length x
     → n ≤ length y → take n x ≡ take n y → get_or x (n - 1) 0 ≡ slash
     → PastIdle (drop n x) t → is_idle t 0 ≡ false
@@ -161,13 +162,13 @@ shares-end {a} {b} {x} {y} {t} {u} h same none other =
           ∙ sym (rest-none a (length v) 0 (omega (arith, ap length h.first)));
     }
 
--- what is left of two strings behind the same values is in their order
+-- what is left of two strings behind the same values is in the order of the strings
 pub values_cmp-shared : {a b x y : List ℕ} → SharesFront a b x y
     → values_cmp (values x) (values y) ≡ values_cmp (values a) (values b)
 values_cmp-shared {a} {b} {x} {y} h =
     sym (ap₂ values_cmp h.first h.second ∙ values_cmp-common h.front (values x) (values y))
 
--- where one path begins another, so does what is left of it behind the same values
+-- if one path begins another, so does what is left of it behind the same values
 pub begins-shared : {a b x y : List ℕ} → SharesFront a b x y → Begins (values b) (values a)
     → Begins (values y) (values x)
 begins-shared {a} {b} {x} {y} h begins =

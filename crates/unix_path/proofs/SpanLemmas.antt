@@ -12,7 +12,7 @@ use Rattle.unix_path.specs.Parts.{Part, Value, parts}
 use Rattle.unix_path.specs.Rest.{last_end, rest, span_of}
 use Rattle.unix_path.specs.Steps.{EndsInPart, parts_end}
 
--- the last of some parts and one more behind them is that one
+-- some parts with one more behind them end where that one does
 last_end-append : (p : Part) (ps : List Part) (q : Part) → last_end p (ps ++ q ∷ []) ≡ q.end
 last_end-append p [] q = refl
 last_end-append p (r ∷ ps) q = last_end-append r ps q
@@ -39,7 +39,7 @@ parts_end-whole s ends =
     let size : length s ≡ 0 = omega (arith, ltb-false _ _ none) in
     ap parts_end (parts-none s size) ∙ sym size))
 
--- parts of which the first begins at place 0 span a beginning of the string
+-- parts of which the first begins at place 0 span the string up to the end of the last
 from_zero : (t : List ℕ) {all : List Part} {v : Value} {e : ℕ} {ps : List Part}
     → all ≡ record { start = 0; end = e; value = v } ∷ ps → span_of t all ≡ take (parts_end all) t
 from_zero t {v = v} {e = e} {ps = ps} is =
@@ -48,7 +48,7 @@ from_zero t {v = v} {e = e} {ps = ps} is =
     {y = last_end (record { start = 0; end = e; value = v }) ps} (omega arith)
     ∙ ap (λ ps. take (parts_end ps) t) (sym is)
 
--- all parts of a string begin at its first byte
+-- all parts of a string span it from its first byte on
 pub span-parts : (t s : List ℕ) → span_of t (parts s) ≡ take (parts_end (parts s)) t
 span-parts t s = by_test (ltb 0 (length s))
     (λ some. by_test (eqb (get_or s 0 0) 47)
@@ -58,13 +58,14 @@ span-parts t s = by_test (ltb 0 (length s))
     let is = parts-none s (omega (arith, ltb-false _ _ none)) in
     ap (span_of t) is ∙ ap (λ ps. take (parts_end ps) t) (sym is))
 
--- where no part is taken, what is left ends where the last part ends
+-- if no part is taken, what is left ends where the last part ends
 pub rest-whole : (s : List ℕ) → rest s 0 0 ≡ take (parts_end (parts s)) s
 unfolding rest
 rest-whole s = ap (span_of s) (take_all (length (parts s) - (0 + 0)) (parts s) (omega arith))
     ∙ span-parts s s
 
--- the beginning of a string that has all its parts and ends in one is the rest of the string
+-- a beginning of a string that has all its parts and ends in one is what is left if no part is
+-- taken
 pub rest-trimmed : (s : List ℕ) (n : ℕ) → n ≤ length s → parts (take n s) ≡ parts s
     → EndsInPart (take n s) → rest s 0 0 ≡ take n s
 rest-trimmed s n l same ends = rest-whole s
@@ -75,7 +76,7 @@ rest-trimmed s n l same ends = rest-whole s
 abbrev pub StandsAt : List ℕ → ℕ → List ℕ → Type 0
 StandsAt s at w = take (length w) (drop at s) ≡ w
 
--- parts that span all of w span it in s, too, where w stands in s
+-- parts that span all of w span it in s, too, if w stands in s
 span_of-part_at : (s : List ℕ) (at : ℕ) (ps : List Part) (w : List ℕ)
     → span_of w ps ≡ take (parts_end ps) w → parts_end ps ≡ length w → StandsAt s at w
     → (ps ≡ [] → w ≡ []) → ((p : Part) (qs : List Part) → ps ≡ p ∷ qs → p.start ≡ 0)
@@ -100,7 +101,7 @@ first_start s p qs e = by_test (ltb 0 (length s))
     start_of : {p q : Part} {ps qs : List Part} → p ∷ ps ≡ q ∷ qs → p.start ≡ q.start
     start_of h = cc
 
--- the parts of w span it, where it stands in s
+-- if w stands in s, the parts of w span it there
 pub span_at : (s w : List ℕ) (at : ℕ) → StandsAt s at w → EndsInPart w
     → span_of s (map (part_at at) (parts w)) ≡ w
 span_at s w at stands ends =
@@ -115,7 +116,7 @@ pub record TrimsEnd (s : List ℕ) : Type 0 where
   pub same : parts (take len s) ≡ parts s
   pub ends : EndsInPart (take len s)
 
--- every string can lose what doesn't count at its end
+-- every string can lose the filler at its end
 pub trims_end : (s : List ℕ) → TrimsEnd s
 trims_end s =
     let trim = trims_to s (length s) (omega arith) in

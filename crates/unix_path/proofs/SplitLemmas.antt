@@ -24,7 +24,7 @@ pub record SplitsFirst (t : List ℕ) : Type 0 where
   pub in_range : len ≤ length t
   pub is : parts t ≡ first ∷ map (part_at len) (parts (drop len t))
 
--- a first part that ends at e is followed by what doesn't count, and then by the other parts
+-- a first part that ends at e is followed by filler, and then by the other parts
 splits_at : (t : List ℕ) (e : ℕ) (v : Value) → 0 < e → e ≤ length t
     → parts t ≡ record { start = 0; end = e; value = v } ∷ inner_parts e (drop e t) → SplitsFirst t
 splits_at t e v some l is =

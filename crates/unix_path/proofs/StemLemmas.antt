@@ -106,7 +106,7 @@ pub length-name : (s name : List ℕ) (end : ℕ) → Some name ≡ file_name_of
     → end ≡ length (rest s 0 0) → length name ≤ end
 length-name s name end e at = omega (arith, last_start_of-name s name e, at)
 
--- where the stem of this name ends in s
+-- the place where the stem of this name ends in s, if there is a name
 abbrev pub stem_end_by : List ℕ → Option (List ℕ) → Option ℕ
 stem_end_by s name = option_map (λ stem. last_start_of (parts s) + length stem)
     (option_map (λ name. (split_name name).0) name)

@@ -33,7 +33,7 @@ span_busy t (b ∷ u) i is l busy end =
     ap (span_of t) first ∙ ap (λ n. take (n - i) (drop i t)) (sym (ap parts_end first) ∙ reaches)
     ∙ take_all (length t - i) (drop i t) (omega arith) ∙ is
 
--- the first part is taken, which ends at e, and then d bytes that don't count
+-- the first part is taken, which ends at e, and then d bytes of filler
 pub takes_first : (t : List ℕ) (e d : ℕ) (v : Value) → EndsInPart t → e ≤ length t
     → d ≤ length (drop e t)
     → parts t ≡ record { start = 0; end = e; value = v } ∷ inner_parts e (drop e t)
@@ -90,7 +90,7 @@ takes_last_to t n at to v l all ends =
       ends = ends;
     }
 
--- the last piece is taken, and then what doesn't count before it
+-- the last piece is taken, and then the filler before it
 pub takes_last : (t : List ℕ) (start n : ℕ) → IsLastStart t start → start < length t → EndsInPart t
     → n ≤ start → parts (take n t) ≡ parts (take start t) → (0 < n → is_trailing t (n - 1) ≡ false)
     → TakesLast t (take n t) (first_value (drop start t))

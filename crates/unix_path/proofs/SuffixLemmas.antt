@@ -7,7 +7,8 @@ use Rattle.unix_path.specs.Rest.{rest}
 use Rattle.unix_path.specs.Prefixes.{Ends}
 use Rattle.unix_path.proofs.ParentLemmas.{values-whole}
 
--- the values of child that aren't in `left` end those of s, and u has those before them
+-- two walks from behind have u left of s and the values `left` left of child; child ends s exactly
+-- if `left` ends u
 pub record EndsOn (s child u : List ℕ) (left : List Value) : Type 0 where
   pub onward : Ends left (values u) → Ends (values child) (values s)
   pub back : Ends (values child) (values s) → Ends left (values u)
@@ -24,12 +25,12 @@ ends_start {s} {child} {u} {b} e f =
           (subst (λ v. Ends v (values s)) (sym child_whole) h);
     }
 
--- where a list ends another one, so do the lists with the same element behind
+-- if a list ends another one, so do the lists with the same element behind
 ends_more : (x : Value) (v w : List Value) → Ends v w → Ends (v ++ x ∷ []) (w ++ x ∷ [])
 ends_more x v w h =
     (h.0, sym (append_assoc h.0 v (x ∷ [])) ∙ ap (λ z. z ++ x ∷ []) h.1)
 
--- where a list ends another one, so do the lists without their last elements, which are the same
+-- if a list ends another one, so do the lists without their last elements, which are the same
 pub ends_before : (x y : Value) (v w : List Value) → Ends (v ++ x ∷ []) (w ++ y ∷ [])
     → (x ≡ y) × Ends v w
 ends_before x y v w h =
@@ -49,13 +50,13 @@ ends_step {s} {child} {u} {t} {x} {y} {left} {more} h l e same =
           (subst (λ l. Ends l (values u)) l (h.back b)))).1;
     }
 
--- where nothing of the child's values is left, the child ends the path
+-- if nothing of the child's values is left, the child ends the path
 pub ends_end : {s child u : List ℕ} {left : List Value} → EndsOn s child u left → left ≡ []
     → Ends (values child) (values s)
 ends_end {u = u} h l =
     h.onward (values u, ap (λ l. values u ++ l) l ∙ append-nil (values u))
 
--- where only the path has nothing left, the child doesn't end it
+-- if only the path has nothing left, the child doesn't end it
 pub ends_short : {s child u : List ℕ} {left : List Value} (x : Value) (more : List Value)
     → EndsOn s child u left → left ≡ more ++ x ∷ [] → values u ≡ []
     → Ends (values child) (values s) → ⊥
@@ -68,7 +69,7 @@ ends_short x more h l e b =
     not_empty [] x e = cc
     not_empty (y ∷ xs) x e = cc
 
--- where the last values left differ, the child doesn't end the path
+-- if the last values left differ, the child doesn't end the path
 pub ends_differs : {s child u : List ℕ} {x y : Value} {left : List Value} (t : List ℕ)
     (more : List Value) → EndsOn s child u left → left ≡ more ++ x ∷ []
     → values u ≡ values t ++ y ∷ [] → (y ≡ x → ⊥) → Ends (values child) (values s) → ⊥

@@ -9,7 +9,7 @@ use Rattle.unix_path.specs.Steps.{is_trailing}
 use Rattle.unix_path.proofs.DotLaneLemmas.{stop_lanes, none_stops}
 use Rattle.unix_path.proofs.TrimLemmas.{parts_trailing}
 
--- where no bit is set, all 16 bytes from `at` on are slashes, or dots after slashes
+-- if no bit is set, all 16 bytes from `at` on are slashes, or dots after slashes
 pub trailing_block : (s : List ℕ) (at : ℕ) → 0 < at → at + 16 ≤ length s
     → mask_l (map (top 7) (stop_lanes (chunk at 16 s) (chunk (at - 1) 16 s))) % 2 ^ 64 ≡ 0
     → (k : ℕ) → at ≤ k → k < at + 16 → is_trailing s k ≡ true
@@ -28,7 +28,7 @@ trailing_block s at some l none k from to =
     ap₂ (λ x y. eqb x 47 || (eqb x 46 && eqb y 47)) (sym here) (sym before) ∙ passes in
     rw (lt-ltb 0 k (omega arith), one) refl
 
--- without so many bytes that don't count at the end, the parts are the same
+-- without n bytes of filler at the end, the parts are the same
 pub parts_trailing_block : (s : List ℕ) (at n : ℕ) → at + n ≤ length s
     → ((k : ℕ) → at ≤ k → k < at + n → is_trailing s k ≡ true)
     → parts (take at s) ≡ parts (take (at + n) s)

@@ -1,4 +1,4 @@
--- Bytes behind the last part that don't count.
+-- The filler behind the last part.
 use Rattle.std.proofs.Common.{◌≡◌, ℕ, zero, suc, ◌+◌, ◌-◌, ◌≤◌, ◌<◌, true, false, ◌&&◌, ◌||◌, eqb}
 use Rattle.std.proofs.Common.{ltb, List, [], ◌∷◌, ◌++◌, length, get_or, take, drop, refl, sym, ap}
 use Rattle.std.proofs.Common.{ap₂, ◌∙◌, ◌⊎◌, inl, inr, ⊎_elim, arith, eqb-true, append-nil}
@@ -12,7 +12,7 @@ use Rattle.unix_path.proofs.PieceLemmas.{inner_parts-dot, inner_parts-nil}
 use Rattle.unix_path.specs.Parts.{inner_parts, leading_part, parts}
 use Rattle.unix_path.specs.Steps.{EndsInPart, is_trailing}
 
--- a slash at the end doesn't count
+-- a slash at the end, behind other bytes, is filler
 pub parts-slash : (x : List ℕ) → 0 < length x → parts (x ++ 47 ∷ []) ≡ parts x
 unfolding parts
 parts-slash x l = ap₂ ◌++◌ (leading_part-append x [] l)
@@ -39,7 +39,7 @@ parts-append x y =
     (sym (inner_parts-append 0 x [] ∙ ap (λ ps. inner_parts 0 x ++ ps) (inner_parts-nil n)
     ∙ append-nil (inner_parts 0 x)))
 
--- a `.` behind a slash doesn't count
+-- a `.` at the end, behind a slash, is filler
 parts-slash_dot : (x : List ℕ) → parts (x ++ 47 ∷ 46 ∷ []) ≡ parts (x ++ 47 ∷ [])
 parts-slash_dot x =
     parts-append x (46 ∷ []) ∙ ap (λ ps. parts (x ++ 47 ∷ []) ++ ps) (inner_parts-dot _)
@@ -59,7 +59,7 @@ trailing_from s i e =
           (eqb (get_or s i 0) 46 && eqb (get_or s (i - 1) 0) 47) both.1),
     )
 
--- a trailing byte at the end doesn't count
+-- a trailing byte at the end is filler
 pub parts_trailing : (s : List ℕ) (i : ℕ) → i < length s → is_trailing s i ≡ true
     → parts (take (i + 1) s) ≡ parts (take i s)
 parts_trailing s i l e =
@@ -81,7 +81,7 @@ parts_trailing s i l e =
     ∙ ap parts (sym before))
     is.1
 
--- the first n bytes without a last one that doesn't count have the same parts
+-- the first n bytes without a last one that is filler have the same parts
 pub parts_shorter : (s : List ℕ) (n : ℕ) → 0 < n → n ≤ length s → is_trailing s (n - 1) ≡ true
     → parts (take (n - 1) s) ≡ parts (take n s)
 parts_shorter s n some l e =
@@ -106,7 +106,7 @@ EndsInPart-drop s i l ends some =
     same ∙ ends (omega arith))
     (λ e. rw e refl)
 
--- the first n bytes end in a part where the last of them does
+-- the first n bytes end in a part if the last of them is no trailing byte
 pub EndsInPart-take : (s : List ℕ) (n : ℕ) → n ≤ length s → (0 < n → is_trailing s (n - 1) ≡ false)
     → EndsInPart (take n s)
 EndsInPart-take s n l ends some =
@@ -126,7 +126,7 @@ pub record TrimsTo (t : List ℕ) (n : ℕ) : Type 0 where
   pub same : parts (take len t) ≡ parts (take n t)
   pub ends : 0 < len → is_trailing t (len - 1) ≡ false
 
--- the first n bytes can lose what doesn't count at their end
+-- the first n bytes can lose the filler at their end
 pub trims_to : (t : List ℕ) (n : ℕ) → n ≤ length t → TrimsTo t n
 trims_to t zero l = record
     { len = 0; in_range = omega arith; same = refl; ends = λ l. absurd (omega arith) }

@@ -29,8 +29,8 @@ pub record JoinsAll {S : Type 0} (steps : S → Option Path → S → Type 0) (i
   pub all_items : Drains steps items paths
   pub bytes : new ≡ join_all_of old (bytes_of_each paths)
 
--- the items before one were joined to the old bytes, one after the other, and the join with that
--- one is longer than `most` bytes
+-- an iterator's first items were joined to the old bytes, one after the other, and the join with
+-- the item after them is longer than `most` bytes
 pub record JoinsBeginning {S : Type 0} (steps : S → Option Path → S → Type 0) (items : S)
     (old new : List ℕ) (most : ℕ) : Type 0 where
   pub paths : List Path

@@ -8,11 +8,11 @@ use Rattle.unix_path.specs.Names.{past_last}
 abbrev pub common_prefix : List ℕ → List ℕ → List ℕ
 common_prefix a b = take (common_prefix_len nat_eq a b) a
 
--- the place just after the last slash of the common prefix, or 0 where that has none
+-- the place just after the last slash of the common prefix, or 0 if that has none
 unfoldable pub common_dir_of : List ℕ → List ℕ → ℕ
 common_dir_of a b = past_last is_slash (common_prefix a b)
 
--- the values of the pieces that count: those of what follows a slash, where neither a root nor a
--- leading `.` does
+-- the values of a string that follows a slash: those of its pieces that count, without a root or a
+-- leading `.`
 abbrev pub inner_values : List ℕ → List Value
 inner_values s = map (λ p. p.value) (inner_parts 0 s)

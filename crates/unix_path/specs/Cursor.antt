@@ -1,4 +1,5 @@
--- What a cursor stands for, and what each of its calls gives and leaves.
+-- What a cursor, a walk over the parts of a path, stands for, and what each of its calls gives and
+-- leaves.
 use Rattle.std.specs.Prelude.{List, ℕ, ◌≡◌, Option, map, slice_range}
 use Rattle.std.specs.Borrow.{Bor}
 use Rattle.std.specs.Iterator.{YieldsFirstBy, YieldsLastBy}
@@ -32,16 +33,16 @@ iter_source it = cursor_source it.components
 abbrev pub iter_bytes : Iter → List (List ℕ)
 iter_bytes it = map value_bytes (cursor_values it.components)
 
--- the first of `left` was given, as `shows` sees it, and what follows the first part is left, in
--- the same memory
+-- a call gives the first of `left`, seen by `shows`, and leaves what follows the first part, in the
+-- same memory
 pub record GivesFirst {S A V : Type 0} (shows : A → V) (left : S → List V) (bytes : S → List ℕ)
     (source : S → Bor (List ℕ)) (old : S) (item : Option A) (new : S) : Type 0 where
   pub item_is : YieldsFirstBy shows left old item new
   pub rest_is : bytes new ≡ rest (bytes old) 1 0
   pub place_is : LiesIn (source new) (source old)
 
--- the last of `left` was given, as `shows` sees it, and what stands before the last part is left,
--- in the same memory
+-- a call gives the last of `left`, seen by `shows`, and leaves what stands before the last part, in
+-- the same memory
 pub record GivesLast {S A V : Type 0} (shows : A → V) (left : S → List V) (bytes : S → List ℕ)
     (source : S → Bor (List ℕ)) (old : S) (item : Option A) (new : S) : Type 0 where
   pub item_is : YieldsLastBy shows left old item new

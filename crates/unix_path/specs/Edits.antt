@@ -10,19 +10,20 @@ use Rattle.unix_path.specs.Joins.{join_of}
 use Rattle.unix_path.specs.Parents.{parent_of}
 use Rattle.unix_path.specs.Names.{file_name_of, stem_of}
 
--- the parent, or all of the path where there is none
+-- the parent, or all of the path if there is none
 unfoldable pub popped_of : List ℕ → List ℕ
 popped_of s = unwrap_or (parent_of s) s
 
--- what stands before the file name, or all of the path where there is none
+-- the path without its file name and the filler around it, or all of the path if there is no file
+-- name
 unfoldable pub before_name_of : List ℕ → List ℕ
 before_name_of s = if is_some (file_name_of (values s)) then rest s 0 1 else s
 
--- the name, joined to what stands before the file name
+-- the path without its file name, joined with the new name
 abbrev pub with_name_of : List ℕ → List ℕ → List ℕ
 with_name_of s name = join_of (before_name_of s) name
 
--- where the last of these parts starts, or 0 where there is none
+-- the place where the last of these parts starts, or 0 if there is none
 abbrev pub last_start_of : List Part → ℕ
 last_start_of ps = option_map_or (λ p. p.start) (last_or None ps) 0
 
@@ -30,11 +31,12 @@ last_start_of ps = option_map_or (λ p. p.start) (last_or None ps) 0
 unfoldable pub stem_end_of : List ℕ → Option ℕ
 stem_end_of s = option_map (λ stem. last_start_of (parts s) + length stem) (stem_of (values s))
 
--- a dot, or nothing where the extension is empty
+-- a dot, or nothing if the extension is empty
 abbrev pub dot_before : List ℕ → List ℕ
 dot_before extension = if length extension == 0 then [] else dot ∷ []
 
--- the path up to its stem's end, then the dot and the extension; all of it without a file name
+-- the path up to its stem's end, then the dot and the extension; all of the path if it has no file
+-- name
 unfoldable pub with_extension_of : List ℕ → List ℕ → List ℕ
 with_extension_of s extension =
     option_map_or (λ end. (take end s ++ dot_before extension) ++ extension) (stem_end_of s) s

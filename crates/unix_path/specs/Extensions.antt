@@ -18,8 +18,8 @@ has_slash s = list_any is_slash s
 unfoldable pub name_end_of : List ℕ → Option ℕ
 name_end_of s = option_map (λ name. last_start_of (parts s) + length name) (file_name_of (values s))
 
--- the path up to its file name's end, then a dot and the extension; all of it without a file name,
--- or for an empty extension
+-- the path up to its file name's end, then a dot and the extension; all of the path if it has no
+-- file name, or if the extension is empty
 unfoldable pub added_extension_of : List ℕ → List ℕ → List ℕ
 added_extension_of s extension =
     if length extension == 0 then s

@@ -9,11 +9,12 @@ use Rattle.unix_path.specs.Parts.{Value, slash, value_bytes}
 abbrev pub end_mark : List ℕ
 end_mark = slash ∷ repeat 7 (0 ∷ [])
 
--- the whole eights of these bytes, each in a write of its own
+-- these bytes in writes of eight each; fewer than eight at the end are left out
 unfoldable pub in_eights : List ℕ → HashWrites
 in_eights bytes = first_chunks 8 (length bytes / 8) bytes
 
--- the whole eights of the bytes that a value is written as with the end mark behind them
+-- the bytes that a value is written as, with the end mark behind them, in writes of eight each;
+-- fewer than eight at the end are left out
 abbrev pub value_input : Value → HashWrites
 value_input v = in_eights (value_bytes v ++ end_mark)
 

@@ -10,16 +10,16 @@ abbrev pub name_of : Value → Option (List ℕ)
 name_of (Normal name) = Some name
 name_of _ = None
 
--- the last value's bytes, where it is a name
+-- the last value's bytes, if it is a name
 unfoldable pub file_name_of : List Value → Option (List ℕ)
 file_name_of vs = option_and_then name_of (last_or None vs)
 
--- the place just after the last byte that passes p, or 0 where none does
+-- the place just after the last byte that passes p, or 0 if none does
 abbrev pub past_last : (ℕ → Bool) → List ℕ → ℕ
 past_last p s = length s - suffix_len (λ b. not (p b)) s
 
--- a name's bytes before and after its last dot; all of the name and None where that dot is the
--- first byte or there is none
+-- a name's bytes before and after its last dot; all of the name and None if it has no dot, or if
+-- its last dot is the first byte
 unfoldable pub split_name : List ℕ → List ℕ × Option (List ℕ)
 split_name name =
     let n = past_last (λ b. b == dot) name in
@@ -33,7 +33,7 @@ stem_of vs = option_map (λ name. (split_name name).0) (file_name_of vs)
 abbrev pub extension_of : List Value → Option (List ℕ)
 extension_of vs = option_and_then (λ name. (split_name name).1) (file_name_of vs)
 
--- a name up to its first dot at place 1 or later, or all of the name where it has none there
+-- a name up to its first dot at place 1 or later, or all of the name if it has none there
 abbrev pub name_prefix : List ℕ → List ℕ
 name_prefix name = take (1 + position_or_len (λ b. b == dot) (drop 1 name)) name
 

@@ -21,7 +21,8 @@ value_cmp = then_cmp (on rank nat_cmp) (on value_bytes (slice_cmp nat_cmp))
 abbrev pub same_value : Value → Value → Bool
 same_value v w = is_eq (value_cmp v w)
 
--- the order of two lists: by the first values that differ; a list comes before those it begins
+-- the order of two lists: by the first values that differ; a list comes before the longer ones that
+-- begin with it
 abbrev pub values_cmp : List Value → List Value → Ordering
 values_cmp = slice_cmp value_cmp
 

@@ -5,11 +5,11 @@ use Rattle.std.specs.List.{range_with_len}
 use Rattle.unix_path.specs.Parts.{values, is_rooted}
 use Rattle.unix_path.specs.Rest.{rest}
 
--- how many of the parts can be taken behind: all but the root
+-- how many parts can be taken off the end: all but the root
 abbrev pub depth_of : List ℕ → ℕ
 depth_of s = length (values s) - (if is_rooted s then 1 else 0)
 
--- what is left before the last part; none where there is no part or the last is the root
+-- what is left before the last part; None if there is no part, or if the last is the root
 unfoldable pub parent_of : List ℕ → Option (List ℕ)
 parent_of s = if depth_of s == 0 then None else Some (rest s 0 1)
 

@@ -1,5 +1,6 @@
 -- The parts of a path: it is cut at every slash, and the pieces that count are its parts
--- (POSIX.1-2017 section 4.13, and Rust's `Path::components`).
+-- (POSIX.1-2017 section 4.13, and Rust's `Path::components`). The bytes that are in no part,
+-- slashes and `.` pieces, are filler.
 use Rattle.std.specs.Prelude.{◌≡◌, ℕ, ◌+◌, Bool, false, ◌==◌, ◌||◌, not, List, [], ◌∷◌, ◌++◌}
 use Rattle.std.specs.Prelude.{map, length, slice_get, if◌then◌else◌}
 use Rattle.std.specs.Option.{option_map_or}
@@ -47,7 +48,7 @@ counts piece = not (bytes_eq piece [] || bytes_eq piece cur_dir)
 abbrev pub value_of_piece : List ℕ → Value
 value_of_piece bytes = if bytes_eq bytes parent_dir then ParentDir else Normal bytes
 
--- the parts of these pieces, with one byte between two of them, where the first begins at `at`
+-- the parts of these pieces: the first begins at `at`, and one byte stands between two of them
 abbrev pub parts_of_pieces : ℕ → List (List ℕ) → List Part
 parts_of_pieces at [] = []
 parts_of_pieces at (p ∷ ps) =

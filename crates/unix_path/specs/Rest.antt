@@ -7,7 +7,7 @@ abbrev pub last_end : Part → List Part → ℕ
 last_end p [] = p.end
 last_end p (q ∷ qs) = last_end q qs
 
--- s from the start of the first of these parts to the end of the last; nothing where there is none
+-- s from the start of the first of these parts to the end of the last; empty if there is none
 abbrev pub span_of : List ℕ → List Part → List ℕ
 span_of s [] = []
 span_of s (p ∷ ps) = slice_range s p.start (last_end p ps)

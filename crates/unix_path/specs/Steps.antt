@@ -45,11 +45,11 @@ pub record IsLastStart (s : List ℕ) (start : ℕ) : Type 0 where
   pub after_slash : 0 < start → slice_index s (start - 1) ≡ slash
   pub no_slash : position_or_len is_slash (drop start s) ≡ length (drop start s)
 
--- the value of a piece where a `.` counts, as it does at the beginning of a string
+-- the value of a piece at the beginning of a string, where a `.` counts
 abbrev pub first_value : List ℕ → Value
 first_value bytes = if bytes_eq bytes cur_dir then CurDir else value_of_piece bytes
 
--- the end of the last of these parts, or 0 where there is none
+-- the end of the last of these parts, or 0 if there is none
 abbrev pub parts_end : List Part → ℕ
 parts_end [] = 0
 parts_end (p ∷ ps) = last_end p ps
@@ -60,7 +60,7 @@ pub record TakesFirst (s t : List ℕ) (v : Value) : Type 0 where
   pub rest : rest s 1 0 ≡ t
   pub ends : EndsInPart t
 
--- the first part of s has the value v, and takes n bytes with what doesn't count after it
+-- the first part of s has the value v, and it and the filler behind it take n bytes
 pub record StepsFirst (s : List ℕ) (n : ℕ) (v : Value) : Type 0 where
   pub in_range : n ≤ length s
   pub value : values s ≡ v ∷ values (drop n s)
@@ -80,8 +80,8 @@ pub record HasLast (s : List ℕ) (before end : ℕ) (v : Value) : Type 0 where
   pub before_is : take before s ≡ rest s 0 1
   pub end_is : end ≡ length (rest s 0 0)
 
--- u is what is left of s after as many parts as base has before `left`, and those of both paths are
--- the same: so base begins s exactly where `left` begins u
+-- two walks from in front have taken the same number of parts: u is left of s, and the values
+-- `left` are left of base; base begins s exactly if `left` begins u
 pub record StripsOn (s base u : List ℕ) (left : List Value) : Type 0 where
   pub count : ℕ
   pub rest_is : u ≡ rest s count 0
@@ -89,11 +89,11 @@ pub record StripsOn (s base u : List ℕ) (left : List Value) : Type 0 where
   pub onward : Begins left (values u) → Begins (values base) (values s)
   pub back : Begins (values base) (values s) → Begins left (values u)
 
--- one more than the byte at i, or 0 where a piece ends there: at a slash, or at the end
+-- one more than the byte at i, or 0 if a piece ends there: at a slash, or at the end
 abbrev pub piece_rank : List ℕ → ℕ → ℕ
 piece_rank s i = let b = slice_index_or s i slash in if b == slash then 0 else 1 + b
 
--- the rank of the byte before the last k bytes, or 0 where they are all
+-- the rank of the byte before the last k bytes, or 0 if no byte stands before them
 abbrev pub rank_before : List ℕ → ℕ → ℕ
 rank_before s k = if nat_lt k (length s) then piece_rank s (length s - 1 - k) else 0
 
@@ -105,14 +105,14 @@ pub record NameAhead (s : List ℕ) (i : ℕ) : Type 0 where
   pub no_slash : (k : ℕ) → i ≤ k → k ≤ at → (slice_index s k == slash) ≡ false
   pub no_dot : (slice_index s at == dot) ≡ false
 
--- t is what follows some first bytes of s that don't count
+-- t is what follows some filler at the beginning of s
 pub record PastIdle (s t : List ℕ) : Type 0 where
   pub len : ℕ
   pub is : t ≡ drop len s
   pub idle : inner_parts 0 s ≡ inner_parts (0 + len) t
 
--- all bytes of `base`, of which there is one at least, begin s, and end with a slash, or a slash or
--- no byte follows them
+-- `base` is not empty, is a prefix of s, and stops at the end of a piece of s or just behind a
+-- slash
 pub record IsFront (s base : List ℕ) : Type 0 where
   pub some : 0 < length base
   pub inside : length base ≤ length s
@@ -128,7 +128,8 @@ pub record SharesFront (a b x y : List ℕ) : Type 0 where
   pub left : rest x 0 0 ≡ rest a (length front) 0
 
 -- what the fields of a walk say of each other: what is left stands between the two places and ends
--- in a part, and the flags tell whether a root or a `.` that counts stands first
+-- in a part, and the flags tell whether the source, and what is left of it, begins with a root or a
+-- `.` that counts
 pub record WalkFields (source : List ℕ) (start end : ℕ) (has_lead lead_left : Bool) : Type 0 where
   pub in_order : start ≤ end
   pub in_range : end ≤ length source
@@ -146,7 +147,7 @@ pub IsWalk-prop : (source : List ℕ) (start end : ℕ) (has_lead lead_left : Bo
 unfolding IsWalk
 IsWalk-prop source start end has_lead lead_left = hlevel props
 
--- the byte between what is kept and what is added, where there is one
+-- the byte between what is kept and what is added, if there is one
 abbrev pub gap_bytes : Option ℕ → List ℕ
 gap_bytes None = []
 gap_bytes (Some b) = b ∷ []

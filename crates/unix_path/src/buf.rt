@@ -21,8 +21,8 @@ use unix_bytes::bytes::{UnixStr, UnixString};
 /// An owned path: bytes, which slashes cut into parts, and which edits change.
 ///
 /// It keeps its allocator. An edit makes one allocation at most, before it cuts anything; if the
-/// allocation fails, the bytes stay as they were. `extend` is one push for each item, and where one
-/// fails the items before it stay joined; `into_boxed_path` drops the path if it fails. As Rust's
+/// allocation fails, the bytes stay as they were. `extend` pushes item by item, and if a push
+/// fails, the items before it stay joined. `into_boxed_path` drops the path if it fails. As Rust's
 /// `PathBuf` on Unix.
 ///
 /// `foo//bar/.` after `pop` is `foo`.

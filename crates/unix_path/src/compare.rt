@@ -13,8 +13,9 @@ use std::cmp::Ordering;
 use unix_bytes::search::common_len;
 
 // The order of two paths by the first values that differ; a path with no more values comes first.
-// Each flag tells whether the path before it begins with a root or with a `.` that counts. A
-// `Components` would look for the end of the last part at once, which mostly needn't be known.
+// `a_lead` and `b_lead` tell whether `a` and `b` begin with a root or with a `.` that counts. No
+// `Components` is used, since it would look for the end of the last part at once, which is seldom
+// needed.
 fn compare_parts(a: &[u8], a_lead: bool, b: &[u8], b_lead: bool) -> Ordering
     requires first_lead { a_lead ≡ is_idle a.now 0 }
     requires second_lead { b_lead ≡ is_idle b.now 0 }
@@ -38,8 +39,8 @@ fn compare_parts(a: &[u8], a_lead: bool, b: &[u8], b_lead: bool) -> Ordering
 }
 
 // The order of two paths by their parts, behind those that are written alike. The first `common`
-// bytes of the paths are the same. It isn't inlined, so that a comparison that is decided before
-// its call stays small.
+// bytes of the paths are the same. It isn't inlined, so that `compare` stays small for the paths
+// that it tells apart by itself.
 #[inline(never)]
 fn compare_shared(a: &[u8], b: &[u8], common: usize) -> Ordering
     requires in_first { common ≤ length a.now }
@@ -53,8 +54,8 @@ fn compare_shared(a: &[u8], b: &[u8], common: usize) -> Ordering
     if let Some(order) = order_ahead(a, b, common) {
         return order;
     }
-    // Where one is all of what both begin with, the other comes behind it, unless that has no more
-    // parts.
+    // If one path is a front of the other, the other comes after it, or is equal to it if it has no
+    // more parts.
     if is_front(a, b, common) {
         return behind_front(a, b).len().cmp(&0);
     }
@@ -69,8 +70,8 @@ fn compare_shared(a: &[u8], b: &[u8], common: usize) -> Ordering
     compare_parts(x, has_lead(x), y, has_lead(y))
 }
 
-// The order of two paths by their values. Where the first bytes that differ are in two names, they
-// decide.
+// The order of two paths by their values. If the first bytes that differ are in two names, these
+// bytes decide.
 pub(crate) fn compare(a: &[u8], b: &[u8]) -> Ordering
     ensures { result ≡ values_cmp (values a.now) (values b.now) }
 {
@@ -107,8 +108,8 @@ fn may_be_same(a: &[u8], b: &[u8]) -> bool
     is_same_part(x, y)
 }
 
-// Whether two paths have the same bytes. Their last bytes are compared first, since those mostly
-// differ where the paths do.
+// Whether two paths have the same bytes. Their lengths and last bytes are compared first: that
+// tells most paths apart.
 #[inline]
 fn has_same_bytes(a: &[u8], b: &[u8]) -> bool
     ensures { IsTrue result → a.now ≡ b.now }
@@ -120,9 +121,8 @@ fn has_same_bytes(a: &[u8], b: &[u8]) -> bool
     common_len(a, b) == len
 }
 
-// Whether two paths have the same values. Where they haven't, their last parts mostly differ, which
-// their last bytes mostly tell; else the last parts are found without a look at what stands before
-// them.
+// Whether two paths have the same values. Most paths that differ do so in their last parts. So the
+// last bytes are compared first, then the last parts, and all parts only if these are the same.
 pub(crate) fn is_same(a: &[u8], b: &[u8]) -> bool
     ensures { result ≡ is_eq (values_cmp (values a.now) (values b.now)) }
 {

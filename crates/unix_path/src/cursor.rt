@@ -1,4 +1,5 @@
-//! Walks over the parts of a path, from both ends.
+//! Walks over the parts of a path, from both ends. What they pass over, slashes and `.` pieces that
+//! are no part, is filler.
 mod component;
 mod hash;
 mod iter;

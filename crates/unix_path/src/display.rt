@@ -36,11 +36,10 @@ impl<'a> Display<'a> {
 }
 
 /// The lossy text: well-formed UTF-8 as it is (RFC 3629 section 4), and U+FFFD for each broken
-/// front.
+/// front, the longest beginning of a sequence that breaks off, or else one byte.
 ///
 /// Bytes that are UTF-8 are padded by width, precision, fill and alignment, as a `str` is; other
-/// bytes are printed without regard to these. Does not allocate, and fails only where the writer
-/// does.
+/// bytes are printed without regard to these. Does not allocate, and fails only if the writer does.
 ///
 /// The bytes 61 FF are printed as `a` and U+FFFD.
 impl fmt::Display for Display<'_> {
@@ -63,7 +62,7 @@ impl fmt::Debug for Display<'_> {
 }
 
 impl<'a> Path<'a> {
-    /// The path as text, or `None` where its bytes aren't UTF-8 (RFC 3629 section 4). Does not
+    /// The path as text, or `None` if its bytes aren't UTF-8 (RFC 3629 section 4). Does not
     /// allocate. As Rust's `Path::to_str`.
     ///
     /// For `/tmp` it is `/tmp`, and for the bytes 61 FF it is `None`.
@@ -76,9 +75,9 @@ impl<'a> Path<'a> {
         self.as_unix_str().to_str()
     }
 
-    /// The path as text, with U+FFFD for each broken front.
+    /// The path as text, with U+FFFD for each broken front, as `Display` prints it.
     ///
-    /// Where the bytes are UTF-8 the text is borrowed, and nothing is allocated. Otherwise it
+    /// If the bytes are UTF-8, the text is borrowed and nothing is allocated. Otherwise it
     /// allocates, and fails if an allocation fails. As Rust's `Path::to_string_lossy`.
     ///
     /// For the bytes 61 FF it is `a` and U+FFFD.

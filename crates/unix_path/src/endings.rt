@@ -8,7 +8,7 @@ ghost use Rattle.unix_path.specs.Steps.{rank_before};
 use crate::shared::piece_rank;
 use std::simd::prelude::*;
 
-// Whether the last byte is neither a slash nor a dot, so that a name ends there.
+// Whether there is a last byte that is neither a slash nor a dot. A name ends there then.
 #[inline]
 fn ends_in_name(bytes: &[u8]) -> bool
     ensures some { IsTrue result → 0 < length bytes.now }
@@ -21,7 +21,7 @@ fn ends_in_name(bytes: &[u8]) -> bool
     len > 0 && bytes[len - 1] != b'/' && bytes[len - 1] != b'.'
 }
 
-// How many of the last 16 bytes are the same in both and no slashes, counted from the end.
+// The length of the common end of both, cut behind its last slash: 16 bytes at most.
 #[inline]
 fn common_end_in_lanes(a: &[u8], b: &[u8]) -> usize
     requires in_first { 16 ≤ length a.now }
@@ -38,8 +38,8 @@ fn common_end_in_lanes(a: &[u8], b: &[u8]) -> usize
     stops.leading_zeros() as usize - 48
 }
 
-// How many of the last bytes are the same in both and no slashes, where one has fewer than 16: up
-// to 4, since names mostly differ before that.
+// As `common_end_in_lanes`, for when one has fewer than 16 bytes: 4 bytes at most, since names that
+// differ usually do so in these.
 #[inline]
 fn common_end_in_few(a: &[u8], b: &[u8]) -> usize
     ensures in_first { result ≤ length a.now }
@@ -60,8 +60,8 @@ fn common_end_in_few(a: &[u8], b: &[u8]) -> usize
     len
 }
 
-// How many of the last bytes are the same in both and no slashes: up to 16, since names mostly
-// differ before that.
+// The length of the common end of both, cut behind its last slash: 16 bytes at most, or 4 if one
+// has fewer than 16, since names that differ usually do so in these.
 #[inline]
 fn common_end_len(a: &[u8], b: &[u8]) -> usize
     ensures in_first { result ≤ length a.now }
@@ -77,8 +77,8 @@ fn common_end_len(a: &[u8], b: &[u8]) -> usize
     common_end_in_few(a, b)
 }
 
-// One more than the byte before the last `len` bytes, or 0 where a piece begins with these: behind
-// a slash, or where they are all.
+// One more than the byte before the last `len` bytes, or 0 if a piece begins with these: if a slash
+// stands before them, or nothing.
 #[inline]
 fn rank_before(bytes: &[u8], len: usize) -> u16
     ensures { result ≡ rank_before bytes.now len }
@@ -90,8 +90,8 @@ fn rank_before(bytes: &[u8], len: usize) -> u16
     }
 }
 
-// True only where both paths end in names, and these differ: their last bytes do, or the last ones
-// that aren't the same. Mostly this tells two last parts apart, and neither has to be found.
+// True only if both paths end in names that differ. No more than their last bytes are looked at:
+// that usually tells two last parts apart, and neither has to be found.
 #[inline]
 pub(crate) fn end_in_other_names(a: &[u8], b: &[u8]) -> bool
     ensures { IsTrue result → Ends (values b.now) (values a.now) → ⊥ }

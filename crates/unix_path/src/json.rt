@@ -14,7 +14,7 @@ use std::alloc::{AllocError, Global};
 use std::error::Error;
 use std::fmt;
 
-/// Why a path couldn't be written as JSON, or a JSON value read as a path.
+/// Why a path couldn't be written as JSON, or why a JSON value couldn't be read as a path.
 ///
 /// Each variant is printed as the text beside it, padded by width, precision, fill and alignment.
 /// Not in Rust's std.
@@ -54,9 +54,9 @@ impl Error for JsonError {}
 
 /// The path's text, as a JSON string.
 ///
-/// Allocates once, or not at all for no bytes. The error is `NotUtf8` exactly where the bytes are
-/// not UTF-8 (RFC 3629 section 4), before anything is allocated, and `Memory` where the allocation
-/// fails. Not in Rust's std; it stands for serde's `Serialize`.
+/// Allocates once, or not at all for no bytes. The error is `NotUtf8` exactly if the bytes are not
+/// UTF-8 (RFC 3629 section 4), and comes before anything is allocated; it is `Memory` if the
+/// allocation fails. Not in Rust's std; it takes the place of serde's `Serialize`.
 ///
 /// For `a//b` it is the string `a//b`.
 pub fn to_json(alloc: Global, path: Path<'_>) -> Result<Value, JsonError>
@@ -75,11 +75,12 @@ pub fn to_json(alloc: Global, path: Path<'_>) -> Result<Value, JsonError>
 
 /// The path that a JSON string holds.
 ///
-/// Allocates once, or not at all for no bytes. The error is `NotString` exactly for a value that
-/// isn't a string, as a number, before anything is allocated, and `Memory` where the allocation
-/// fails. Not in Rust's std; it stands for serde's `Deserialize`.
+/// Allocates once, or not at all for no bytes. The error is `NotString` exactly if the value isn't
+/// a string (a number, for instance), and comes before anything is allocated; it is `Memory` if the
+/// allocation fails. Not in Rust's std; it takes the place of serde's `Deserialize`.
 ///
-/// For the string `a//b` it is the path `a//b`; what `to_json` wrote has the same bytes again.
+/// For the string `a//b` it is the path `a//b`. What `to_json` wrote is read back as a path of the
+/// same bytes.
 pub fn from_json(alloc: Global, value: &Value) -> Result<PathBuf, JsonError>
     ensures value { IfOk result (λ path. IsString value.now (path_bytes path)) }
     ensures bytes { IfOk result

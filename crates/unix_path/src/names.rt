@@ -4,8 +4,8 @@ ghost use Rattle.unix_path.specs.Names.{split_name, name_prefix};
 
 use unix_bytes::search::{first_place, past_last};
 
-// The bytes of a file name before and after its last dot, as its stem and its extension. All of it
-// is the stem where that dot is the first byte or there is none.
+// The stem and the extension of a file name: its bytes before and after its last dot. All of it is
+// the stem if it has no dot, or if its last dot is the first byte.
 #[inline]
 pub(crate) fn split_name(name: &[u8]) -> (&[u8], Option<&[u8]>)
     ensures stem { result.0.now ≡ (split_name name.now).0 }
@@ -19,7 +19,7 @@ pub(crate) fn split_name(name: &[u8]) -> (&[u8], Option<&[u8]>)
     (&name[..after - 1], Some(&name[after..]))
 }
 
-// A file name up to the first dot that follows its first byte, or all of it where no dot does.
+// A file name up to the first dot behind its first byte, or all of it if there is no such dot.
 #[inline]
 pub(crate) fn name_prefix(name: &[u8]) -> &[u8]
     ensures { result.now ≡ name_prefix name.now }

@@ -1,4 +1,4 @@
-//! Equality, order and hash of paths, by their values.
+//! Equality, order and hash of paths, by the values of their parts.
 ghost use Rattle.std.specs.Prelude.{◌≡◌, ◌↔◌, IsTrue, Some, fold};
 ghost use Rattle.std.specs.Ordering.{is_eq};
 ghost use Rattle.std.specs.Cmp;
@@ -26,8 +26,8 @@ fn feed_parts<H: Hasher>(parts: Components<'_>, state: &mut H)
     }
 }
 
-/// Two paths are equal if their values are: `a//b` equals `a/b/.`, and `./a` doesn't equal `a`.
-/// Does not allocate. As `PartialEq` of Rust's `Path`.
+/// Two paths are equal if the values of their parts are: `a//b` equals `a/b/.`, and `./a` doesn't
+/// equal `a`. Does not allocate. As `PartialEq` of Rust's `Path`.
 impl PartialEq for Path<'_> {
     ghost eq = { λ x y. is_eq (values_cmp (values x.bytes.now) (values y.bytes.now)) };
 
@@ -59,8 +59,8 @@ impl PartialOrd for Path<'_> {
     }
 }
 
-/// Paths are ordered by their values: `a/b` comes before `a.b`, and `./a` before `a`. Does not
-/// allocate. As `Ord` of Rust's `Path`.
+/// Paths are ordered by the values of their parts: `a/b` comes before `a.b`, and `./a` before `a`.
+/// Does not allocate. As `Ord` of Rust's `Path`.
 impl Ord for Path<'_> {
     ghost cmp = { λ x y. values_cmp (values x.bytes.now) (values y.bytes.now) };
 
@@ -75,8 +75,8 @@ impl Ord for Path<'_> {
     }
 }
 
-/// A path feeds a hasher its values one after the other, each as `Component` does, so `a//b` feeds
-/// what `a/b` feeds. Does not allocate.
+/// A path feeds a hasher the values of its parts one after the other, each as `Component` does, so
+/// `a//b` feeds what `a/b` feeds. Does not allocate.
 impl Hash for Path<'_> {
     ghost hash_input = { λ path. hash_input_of (values path.bytes.now) };
 

@@ -37,8 +37,9 @@ use unix_bytes::bytes::UnixStr;
 
 /// A borrowed path: bytes, which slashes cut into parts.
 ///
-/// Any bytes are a path, the empty string too, and a `Path` keeps them all. Copying one copies the
-/// view and not the bytes. As Rust's `Path` on Unix, which stands behind a reference.
+/// Any bytes are a path, the empty string too, and a `Path` keeps them all. Slashes and `.` pieces
+/// that are no part are the path's filler. Copying one copies the view and not the bytes. As Rust's
+/// `Path` on Unix, which stands behind a reference.
 ///
 /// `///foo///bar` has three parts: the root, `foo` and `bar`.
 #[derive(Clone, Copy)]
@@ -165,7 +166,7 @@ impl<'a> Path<'a> {
         Components::new(self.bytes)
     }
 
-    /// A walk over the bytes of the parts, from both ends. Does not allocate. As Rust's
+    /// A walk over the parts, each as its bytes, from both ends. Does not allocate. As Rust's
     /// `Path::iter`.
     ///
     /// For `///foo///bar` it gives `/`, `foo` and `bar`.

@@ -1,4 +1,4 @@
-//! What two paths share in front: names that differ behind it, and what is left of both.
+//! What two paths share in front, the names that differ behind it, and what is left of both.
 ghost use Rattle.std.specs.Prelude.{◌≡◌, ◌≢◌, ◌+◌, ◌-◌, ◌<◌, ◌≤◌, false, [], length, take};
 ghost use Rattle.std.specs.Prelude.{slice_index, IsTrue, IsSome, IfSome};
 ghost use Rattle.unix_path.specs.CommonDir.{inner_values};
@@ -13,7 +13,7 @@ use crate::cursor::long_idle_len;
 use std::cmp::Ordering;
 use unix_bytes::search::{common_len, past_last};
 
-// What follows the bytes that don't count, of a string that stands behind a slash.
+// What follows the filler at the beginning of a string that stands behind a slash.
 #[inline]
 pub(crate) fn past_idle(bytes: &[u8]) -> &[u8]
     ensures values { values result.now ≡ inner_values bytes.now }
@@ -24,7 +24,7 @@ pub(crate) fn past_idle(bytes: &[u8]) -> &[u8]
     &bytes[long_idle_len(bytes)..]
 }
 
-// One more than the byte at `at`, or 0 where a piece ends there: at a slash, or at the end.
+// One more than the byte at `at`, or 0 if a piece ends there: at a slash, or at the end.
 #[inline]
 pub(crate) fn piece_rank(bytes: &[u8], at: usize) -> u16
     ensures { result ≡ piece_rank bytes.now at }
@@ -49,7 +49,8 @@ fn is_in_name(rank: u16) -> bool
     rank != 0 && rank != DOT_RANK
 }
 
-// Whether a byte of a name stands at `at`, or just behind a dot there, as in a hidden name.
+// Whether a byte that is neither a slash nor a dot stands at `at`, or just behind a dot there, as
+// in `.git`.
 #[inline]
 fn is_name_ahead(bytes: &[u8], at: usize) -> bool
     ensures { IsTrue result → NameAhead bytes.now at }
@@ -63,9 +64,10 @@ fn is_name_ahead(bytes: &[u8], at: usize) -> bool
     is_in_name(piece_rank(bytes, at + 1))
 }
 
-// The order of two paths, if the first bytes that differ, at `common`, are in two names, and so
-// tell it alone: those of both at `common`, or the one before them in both, are bytes of a name.
-// Mostly two paths differ so, and then no slash before these bytes has to be found.
+// The order of two paths, if the bytes at `common`, the first that differ, are in two names and so
+// decide it. They are if each is neither a slash nor a dot. They also are if the byte before them,
+// the same in both, is neither; one of the names may end at `common` then. Most paths that differ
+// are told apart like this, without a search for the slash before these bytes.
 #[inline]
 pub(crate) fn order_in_names(a: &[u8], b: &[u8], common: usize) -> Option<Ordering>
     requires in_first { common ≤ length a.now }
@@ -87,8 +89,9 @@ pub(crate) fn order_in_names(a: &[u8], b: &[u8], common: usize) -> Option<Orderi
     None
 }
 
-// The order of two paths, if names go on in both at the first bytes that differ, at `common`,
-// though one of these is a dot. `order_in_names` tells it mostly, and is asked first.
+// The order of two paths, if the bytes at `common`, the first that differ, are in two names though
+// one of them is a dot: a name goes on there in both. `order_in_names` is asked first, since it
+// decides more often.
 #[inline]
 pub(crate) fn order_ahead(a: &[u8], b: &[u8], common: usize) -> Option<Ordering>
     requires in_first { common ≤ length a.now }
@@ -123,7 +126,7 @@ fn order_by_names(a: &[u8], b: &[u8], common: usize) -> Option<Ordering>
     order_ahead(a, b, common)
 }
 
-// Whether the paths have first bytes, and these differ. So do their first parts then.
+// Whether each path has a first byte, and these differ. Then their first parts differ, too.
 #[inline]
 pub(crate) fn begin_apart(a: &[u8], b: &[u8]) -> bool
     ensures { IsTrue result → Begins (values b.now) (values a.now) → ⊥ }
@@ -134,9 +137,9 @@ pub(crate) fn begin_apart(a: &[u8], b: &[u8]) -> bool
     a[0] != b[0]
 }
 
-// Whether all bytes of `base` begin the path, and end with a slash, or a slash or the path's end
-// follows them there, so that all parts of `base` do. The first `common` bytes of both are the
-// same.
+// True if `base` is not empty, is a prefix of the path's bytes, and stops at the end of a piece or
+// just behind a slash. Then all parts of `base` begin the path's. The first `common` bytes of both
+// are known to be the same, and no others are compared.
 #[inline]
 pub(crate) fn is_front(path: &[u8], base: &[u8], common: usize) -> bool
     requires in_first { common ≤ length path.now }
@@ -153,8 +156,7 @@ pub(crate) fn is_front(path: &[u8], base: &[u8], common: usize) -> bool
     path[common] == b'/' || path[common - 1] == b'/'
 }
 
-// What a path has behind all bytes of `base`, which begin it as `is_front` says. The bytes that
-// don't count behind them are left out.
+// What follows `base` and the filler behind it in a path that `base` begins, as `is_front` says.
 #[inline]
 pub(crate) fn behind_front<'a>(path: &'a [u8], base: &[u8]) -> &'a [u8]
     requires { IsFront path.now base.now }
@@ -172,8 +174,9 @@ pub(crate) fn behind_front<'a>(path: &'a [u8], base: &[u8]) -> &'a [u8]
     }
 }
 
-// The place just after the last slash among the first `len` bytes, or 0 where there is none. Where
-// a path goes on otherwise behind these bytes since it is spelled otherwise, the slash is the last.
+// The place just after the last slash among the first `len` bytes, or 0 if there is none. The last
+// of these bytes is looked at first: it is that slash if two paths, the same up to here, only
+// differ in spelling behind it, as `a//b` and `a/b` do.
 #[inline]
 fn past_last_slash(bytes: &[u8], len: usize) -> usize
     requires { len ≤ length bytes.now }
@@ -194,14 +197,14 @@ pub(crate) struct Unshared<'a, 'b> {
     pub(crate) order: Option<Ordering>,
 }
 
-// What is left of two paths without parts that both begin with. The first `common` bytes of the
+// What is left of two paths behind parts that both begin with. The first `common` bytes of the
 // paths are the same.
 //
-// What is written alike is skipped at once, up to its last slash, and so is what doesn't count
-// behind that in one of them. So parts that are written alike are never taken one by one, even if
-// others before them are not. It ends where the first bytes that differ are in names, which tells
-// the order, where no slash is left in what both begin with, or where both are alike to their ends,
-// behind which nothing is left.
+// Each round skips the bytes that both begin with, up to the last slash among them, and then the
+// filler in each path. So parts that are written alike are never taken one by one, even behind
+// parts that differ in spelling. The rounds end if the first bytes that differ are in names, which
+// tells the order; if no slash is among the bytes that both begin with; or if both are the same to
+// their ends, and nothing is left.
 #[inline(never)]
 pub(crate) fn past_shared<'a, 'b>(a: &'a [u8], b: &'b [u8], common: usize) -> Unshared<'a, 'b>
     requires in_first { common ≤ length a.now }

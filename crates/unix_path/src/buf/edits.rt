@@ -52,7 +52,7 @@ fn join_cut(base: &[u8], path: Path<'_>) -> (usize, Option<u8>)
     (base.len(), join_gap(base, path))
 }
 
-// How many bytes the kept ones, the gap's byte if there is one, and the slice are in all.
+// The number of bytes in all: `keep`, the gap's byte if there is one, and those of the slice.
 #[inline]
 pub(super) fn total_len(keep: usize, gap: Option<u8>, more: &[u8]) -> usize
     requires { keep < 2 ^ 63 }
@@ -78,8 +78,8 @@ fn push_end(text: &mut UnixString, gap: Option<u8>, more: &[u8]) -> Result<(), A
     text.push(UnixStr::from_bytes(more))
 }
 
-// A copy of the base, the gap's byte if there is one, and the slice, by one allocation, or by none
-// if that is no byte at all.
+// A path of the base, the gap's byte if there is one, and the slice. Allocates once, or not at all
+// for no bytes.
 pub(super) fn copy_of(
     alloc: Global,
     base: &[u8],
@@ -95,11 +95,11 @@ pub(super) fn copy_of(
 }
 
 impl PathBuf {
-    /// Joins `path` to the end. It replaces all bytes if it begins with `/`; otherwise a `/` comes
-    /// between, unless there are no bytes or they end in one.
+    /// Joins `path` to the end. If `path` begins with `/`, it replaces all bytes; otherwise a `/`
+    /// comes between, unless there are no bytes or they end in `/`.
     ///
-    /// Allocates, once, only where the join is longer than the capacity. If the allocation fails,
-    /// the bytes stay as they were. As Rust's `PathBuf::push`.
+    /// Allocates only if the join is longer than the capacity, and then once. If the allocation
+    /// fails, the bytes stay as they were. As Rust's `PathBuf::push`.
     ///
     /// `/foo/bar` after a push of `./baz` is `/foo/bar/./baz`, and `foo` after a push of the empty
     /// path is `foo/`.
@@ -119,7 +119,7 @@ impl PathBuf {
         if is_open(self.as_path().bytes) {
             return self.inner.push(path.as_unix_str());
         }
-        // The room for both comes first, so that a refusal leaves the bytes as they were.
+        // The room for both comes first, so that a failed allocation leaves the bytes as they were.
         self.inner.reserve(1 + path.bytes.len())?;
         self.inner.push(UnixStr::from_bytes(b"/"))?;
         self.inner.push(path.as_unix_str())
@@ -136,8 +136,8 @@ impl PathBuf {
         self.replace_end(0, None, path.bytes)
     }
 
-    /// Cuts the path to its parent and returns true. Returns false where there is none, and then
-    /// leaves the bytes as they were.
+    /// Cuts the path to its parent and returns true. If there is no parent, leaves the bytes as
+    /// they were and returns false.
     ///
     /// What stands behind the last part goes with it. Does not allocate. As Rust's `PathBuf::pop`.
     ///
@@ -155,11 +155,11 @@ impl PathBuf {
         true
     }
 
-    /// Pops, where there is a file name, and then pushes the name.
+    /// Pops if there is a file name, and then pushes the name.
     ///
-    /// The name isn't looked into: one that begins with `/` replaces all bytes, and `..` stays.
-    /// Allocates, once, only where the result is longer than the capacity. If the allocation fails,
-    /// the bytes stay as they were. As Rust's `PathBuf::set_file_name`.
+    /// The name isn't checked: one that begins with `/` replaces all bytes, and `..` stays.
+    /// Allocates only if the result is longer than the capacity, and then once. If the allocation
+    /// fails, the bytes stay as they were. As Rust's `PathBuf::set_file_name`.
     ///
     /// `foo/.` with the file name `bar` is `bar`, and `foo/..` is `foo/../bar`.
     #[tactic(auto, using(crate::proofs::GapLemmas::beginnings))]
@@ -176,7 +176,7 @@ impl PathBuf {
     }
 
     // Keeps the first `keep` bytes, and puts the gap's byte and the slice behind them. It grows
-    // before it cuts, so that a refusal leaves the bytes as they were.
+    // before it cuts, so that a failed allocation leaves the bytes as they were.
     #[inline]
     pub(super) fn replace_end(
         &mut self,

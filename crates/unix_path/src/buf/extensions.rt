@@ -20,7 +20,7 @@ use unix_bytes::bytes::UnixStr;
 /// Why an extension couldn't be set or added.
 ///
 /// Each variant is printed as the text beside it, padded by width, precision, fill and alignment.
-/// Not in Rust's std, which panics where the extension holds a separator.
+/// Not in Rust's std, which panics if the extension holds a separator.
 ///
 /// `a` with the extension `x/y` is refused with `Separator`.
 #[derive(Debug, Drop)]
@@ -54,7 +54,7 @@ impl Error for ExtensionError {}
 
 /// `Memory`, with the error of the allocation. Does not allocate.
 ///
-/// With it `?` works on a `PathBuf::push` where the function returns an `ExtensionError`.
+/// With it `?` works on a `PathBuf::push` in a function whose error is an `ExtensionError`.
 impl From<AllocError> for ExtensionError {
     ghost use Rattle.unix_path.specs.declared.buf.extensions.ExtensionError.TheVariants.{Memory};
 
@@ -86,13 +86,13 @@ fn dot_before(extension: &[u8]) -> Option<u8>
 
 impl PathBuf {
     /// Replaces what stands behind the stem of the file name by a dot and the extension, or by
-    /// nothing for an empty extension, and returns true. Returns false where there is no file name,
-    /// and then leaves the bytes as they were.
+    /// nothing for an empty extension, and returns true. If there is no file name, leaves the bytes
+    /// as they were and returns false.
     ///
-    /// The error is `Separator` exactly where the extension holds a `/`, whether or not there is a
-    /// file name, and before anything is allocated; it is `Memory` where the allocation fails. Each
-    /// leaves the bytes as they were. Allocates, once, only where the result is longer than the
-    /// capacity. As Rust's `PathBuf::set_extension`, which panics for a separator.
+    /// The error is `Separator` exactly if the extension holds a `/`, whether or not there is a
+    /// file name, and comes before anything is allocated; it is `Memory` if the allocation fails.
+    /// Each leaves the bytes as they were. Allocates only if the result is longer than the
+    /// capacity, and then once. As Rust's `PathBuf::set_extension`, which panics for a separator.
     ///
     /// `foo.rs/.` with the extension `txt` is `foo.txt`.
     #[tactic(auto, using(crate::proofs::EditLemmas::extension_cases))]
@@ -124,14 +124,14 @@ impl PathBuf {
         Ok(true)
     }
 
-    /// Puts a dot and the extension behind the file name, and returns true; the empty extension
-    /// adds nothing. Returns false where there is no file name. In both of these cases the bytes
-    /// stay as they were; otherwise what stands behind the file name goes.
+    /// Replaces what stands behind the file name by a dot and the extension. The bytes stay as they
+    /// were if the extension is empty or there is no file name. Returns whether there is a file
+    /// name.
     ///
-    /// The error is `Separator` exactly where the extension holds a `/`, whether or not there is a
-    /// file name, and before anything is allocated; it is `Memory` where the allocation fails. Each
-    /// leaves the bytes as they were. Allocates, once, only where the result is longer than the
-    /// capacity. As Rust's `PathBuf::add_extension`, which panics for a separator.
+    /// The error is `Separator` exactly if the extension holds a `/`, whether or not there is a
+    /// file name, and comes before anything is allocated; it is `Memory` if the allocation fails.
+    /// Each leaves the bytes as they were. Allocates only if the result is longer than the
+    /// capacity, and then once. As Rust's `PathBuf::add_extension`, which panics for a separator.
     ///
     /// `foo.tar/.` with the extension `gz` added is `foo.tar.gz`.
     #[tactic(auto, using(crate::proofs::NameEndLemmas::added_cases))]
@@ -192,10 +192,10 @@ impl PathBuf {
 impl<'a> Path<'a> {
     /// A copy of the path, with this extension as `PathBuf::set_extension` sets it.
     ///
-    /// The error is `Separator` exactly where the extension holds a `/`, before anything is
-    /// allocated, and `Memory` where the allocation fails. Allocates once, or not at all for an
-    /// empty result. As Rust's `Path::with_extension`, but that panics for a separator, and for
-    /// `..a` it gives `..` whatever the extension.
+    /// The error is `Separator` exactly if the extension holds a `/`, and comes before anything is
+    /// allocated; it is `Memory` if the allocation fails. Allocates once, or not at all for an
+    /// empty result. As Rust's `Path::with_extension`, but that one panics for a separator, and
+    /// gives `..` for `..a` whatever the extension.
     ///
     /// `foo.rs` with the extension `txt` is `foo.txt`, and `..` stays `..`.
     #[tactic(auto, using(crate::proofs::EditLemmas::extension_cases))]
@@ -220,8 +220,8 @@ impl<'a> Path<'a> {
 
     /// A copy of the path, with this extension added as `PathBuf::add_extension` adds it.
     ///
-    /// The error is `Separator` exactly where the extension holds a `/`, before anything is
-    /// allocated, and `Memory` where the allocation fails. Allocates once, or not at all for an
+    /// The error is `Separator` exactly if the extension holds a `/`, and comes before anything is
+    /// allocated; it is `Memory` if the allocation fails. Allocates once, or not at all for an
     /// empty result. As Rust's `Path::with_added_extension`, which panics for a separator.
     ///
     /// `foo.tar` with the extension `gz` added is `foo.tar.gz`, and `..` stays `..`.
@@ -249,8 +249,8 @@ impl<'a> Path<'a> {
             .map_err(ExtensionError::from)
     }
 
-    // A copy of the path up to `end`, with the byte and the slice behind it; where there is no end,
-    // a copy of the whole path without them.
+    // A copy of the path up to `end`, with the gap's byte, if there is one, and the slice behind
+    // it. If `end` is `None`, a copy of the whole path without them.
     fn copy_with_end(
         &self,
         alloc: Global,

@@ -1,4 +1,4 @@
-//! The room of an owned path: what makes it before a push, and what gives it back.
+//! The room of an owned path: how it is made before a push, and how it is given back.
 ghost use Rattle.std.specs.Prelude.{◌≡◌, ◌≤◌, length, max, min, OnOk, IsOk};
 ghost use Rattle.unix_path.specs.Buffers.{path_bytes, room, capacity};
 
@@ -6,10 +6,10 @@ use crate::buf::PathBuf;
 use std::alloc::AllocError;
 
 impl PathBuf {
-    /// Makes room for at least `count` more bytes, and maybe for more where it grows.
+    /// Makes room for at least `count` more bytes, and maybe for more if it grows.
     ///
-    /// Allocates only where the room is less. If the allocation fails, the bytes stay as they were.
-    /// As Rust's `PathBuf::reserve`.
+    /// Allocates only if the room is less. If the allocation fails, the bytes stay as they were. As
+    /// Rust's `PathBuf::reserve`.
     ///
     /// After `reserve(6)` a push that adds 6 bytes does not allocate.
     pub fn reserve(&mut self, count: usize) -> Result<(), AllocError>
@@ -21,10 +21,10 @@ impl PathBuf {
         self.inner.reserve(count)
     }
 
-    /// Makes room for at least `count` more bytes, and for no more than that where it grows.
+    /// Makes room for at least `count` more bytes, and for no more than that if it grows.
     ///
-    /// Allocates only where the room is less. If the allocation fails, the bytes stay as they were.
-    /// As Rust's `PathBuf::reserve_exact`.
+    /// Allocates only if the room is less. If the allocation fails, the bytes stay as they were. As
+    /// Rust's `PathBuf::reserve_exact`.
     ///
     /// After `reserve_exact(6)` a push that adds 6 bytes does not allocate.
     pub fn reserve_exact(&mut self, count: usize) -> Result<(), AllocError>
@@ -38,7 +38,7 @@ impl PathBuf {
 
     /// Gives back the room.
     ///
-    /// Does not allocate where there is no room. Otherwise moving the bytes can fail, and then they
+    /// Does not allocate if there is no room. Otherwise moving the bytes can fail, and then they
     /// stay as they were, and the capacity is no greater than before. As Rust's
     /// `PathBuf::shrink_to_fit`.
     ///
@@ -52,9 +52,9 @@ impl PathBuf {
         self.inner.shrink_to_fit()
     }
 
-    /// Lowers the capacity to `least` bytes, or to the path's length where that is more.
+    /// Lowers the capacity to `least` bytes, or to the path's length if that is more.
     ///
-    /// Where the capacity is no more than that it stays, and nothing is allocated. Otherwise moving
+    /// If the capacity is no more than that, it stays and nothing is allocated. Otherwise moving
     /// the bytes can fail, and then they stay as they were, and the capacity is no greater than
     /// before. As Rust's `PathBuf::shrink_to`.
     ///

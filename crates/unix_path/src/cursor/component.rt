@@ -8,7 +8,7 @@ use unix_bytes::bytes::UnixStr;
 
 /// One part of a path.
 ///
-/// Two are equal if they are of one kind and, where they are names, have the same bytes. In their
+/// Two are equal if they are of one kind and, if they are names, have the same bytes. In their
 /// order `RootDir` comes first, then `CurDir`, then `ParentDir`, then the names by their bytes. A
 /// hasher is fed the part's bytes, a slash, and zeros up to a multiple of eight bytes. As Rust's
 /// `Component`, which also has `Prefix`.

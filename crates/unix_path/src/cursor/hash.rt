@@ -42,7 +42,7 @@ fn feed_bytes<H: Hasher>(bytes: &[u8], state: &mut H)
 }
 
 /// Feeds the bytes of `as_unix_str`, a slash, and zeros up to a multiple of eight bytes, eight in
-/// each write. So a hasher can read words, and since no name in a path has a slash, what is fed
+/// each write. So a hasher can read whole words. Since no name in a path has a slash, what is fed
 /// tells where a part ends. Does not allocate. The form is this crate's own.
 ///
 /// For `Component::ParentDir` it is `../` and five zeros.

@@ -1,4 +1,4 @@
-//! The walk over the bytes of a path's parts.
+//! The walk over a path's parts, each as its bytes.
 ghost use Rattle.std.specs.Prelude.{◌≡◌};
 ghost use Rattle.unix_path.specs.Places.{LiesIn};
 
@@ -8,7 +8,7 @@ use std::fmt;
 use std::iter::FusedIterator;
 use unix_bytes::bytes::UnixStr;
 
-/// A walk over the bytes of a path's parts, from both ends.
+/// A walk over a path's parts, each as its bytes, from both ends.
 ///
 /// It does not allocate, and copying it copies a view. A walk that has ended gives nothing more at
 /// either end. As Rust's `std::path::Iter`.
@@ -23,7 +23,7 @@ pub struct Iter<'a> {
 impl<'a> Iter<'a> {
     ghost use Rattle.unix_path.specs.Cursor.{cursor_rest, cursor_source, iter_rest, iter_source};
 
-    // The walk over the bytes of the parts that `components` has left.
+    // The walk over the parts that `components` has left, each as its bytes.
     #[inline]
     pub(crate) fn new(components: Components<'a>) -> Iter<'a>
         ensures rest { iter_rest result ≡ cursor_rest components.entry }
@@ -75,7 +75,7 @@ impl<'a> DoubleEndedIterator for Iter<'a> {
 
 impl FusedIterator for Iter<'_> {}
 
-// The bytes of the parts that are left, as a list.
+// The parts that are left, each as its bytes, in a list.
 #[derive(Clone, Copy)]
 struct ListedBytes<'a>(Iter<'a>);
 
@@ -85,7 +85,7 @@ impl fmt::Debug for ListedBytes<'_> {
     }
 }
 
-/// The bytes of the parts that are left, as `Iter(["/", "tmp"])`. Does not allocate.
+/// The parts that are left, each as its bytes: `Iter(["/", "tmp"])` for `/tmp`. Does not allocate.
 impl fmt::Debug for Iter<'_> {
     fn fmt<W: fmt::Write>(&self, f: &mut fmt::Formatter<W>) -> fmt::Result {
         f.debug_tuple("Iter").field(&ListedBytes(*self)).finish()

@@ -13,8 +13,8 @@ use crate::compare::{compare, is_same};
 use crate::cursor::Components;
 use std::cmp::Ordering;
 
-/// Two walks are equal if the values that they have left are: those over `a//b` and `a/b` are. Does
-/// not allocate. As `PartialEq` of Rust's `Components`.
+/// Two walks are equal if the values that they have left are: the walks over `a//b` and `a/b` are
+/// equal. Does not allocate. As `PartialEq` of Rust's `Components`.
 impl PartialEq for Components<'_> {
     ghost eq = { λ x y. is_eq (values_cmp (cursor_values x) (cursor_values y)) };
 
@@ -44,8 +44,8 @@ impl PartialOrd for Components<'_> {
     }
 }
 
-/// Walks are ordered by the first of the values left that differ, as `Component` orders them; where
-/// one has fewer left and none differs, it comes first. Does not allocate. As `Ord` of Rust's
+/// Walks are ordered by the first of their values left that differ, as `Component` orders these; if
+/// none differs, a walk with fewer left comes first. Does not allocate. As `Ord` of Rust's
 /// `Components`.
 ///
 /// The walk over `a/b` comes before that over `a.b`.

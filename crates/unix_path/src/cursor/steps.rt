@@ -22,7 +22,7 @@ fn is_idle(path: &[u8], i: usize) -> bool
     path[i] == b'/' || (path[i] == b'.' && (i + 1 == path.len() || path[i + 1] == b'/'))
 }
 
-// True only where each of the 16 bytes from `at` on is a slash, or a `.` before a slash.
+// True only if each of the 16 bytes from `at` on is a slash, or a `.` before a slash.
 #[inline]
 fn is_idle_block(path: &[u8], at: usize) -> bool
     requires { at + 16 < length path.now }
@@ -36,9 +36,9 @@ fn is_idle_block(path: &[u8], at: usize) -> bool
     other.to_bitmask() == 0
 }
 
-// How many bytes stand before the next part, or fewer: it stops at the first block of 16 bytes that
-// doesn't stand wholly before that part, and where 16 bytes or fewer are left. The bytes before
-// `start` are known not to count.
+// The length of the filler at the beginning, or less: `start` bytes, which are known to be filler,
+// and then 16 for each block of 16 bytes that are all filler. It stops if 16 bytes or fewer are
+// left.
 #[inline(never)]
 fn idle_blocks_len(path: &[u8], start: usize) -> usize
     requires { start ≤ length path.now }
@@ -54,7 +54,8 @@ fn idle_blocks_len(path: &[u8], start: usize) -> usize
     len
 }
 
-// How many bytes stand before the next part, looked at one by one, since they are mostly few.
+// The length of the filler at the beginning. Its bytes are looked at one by one, since it is
+// usually short.
 #[inline]
 pub(crate) fn idle_len(path: &[u8]) -> usize
     ensures in_range { result ≤ length path.now }
@@ -69,8 +70,8 @@ pub(crate) fn idle_len(path: &[u8]) -> usize
     len
 }
 
-// How many bytes stand before the next part, for where they may be many: behind the first eight,
-// blocks of 16 are looked at. `idle_len` is quicker where they are few, as between two parts.
+// The length of the filler at the beginning, for when it may be long: behind its first eight bytes,
+// blocks of 16 are looked at. `idle_len` is quicker for short filler, as between two parts.
 #[inline]
 pub(crate) fn long_idle_len(path: &[u8]) -> usize
     ensures in_range { result ≤ length path.now }
@@ -111,8 +112,7 @@ fn lead(path: &[u8]) -> Component<'_>
     }
 }
 
-// The root or the `.` that a path begins with, and how many bytes it takes with what doesn't count
-// after it.
+// The root or the `.` that a path begins with, and how many bytes it and the filler behind it take.
 #[inline]
 fn lead_step(path: &[u8]) -> (usize, Component<'_>)
     requires some { 0 < length path.now }
@@ -131,7 +131,7 @@ fn begins_with_parent(path: &[u8]) -> bool
     path[0] == b'.' && path.len() > 1 && path[1] == b'.' && (path.len() == 2 || path[2] == b'/')
 }
 
-// The `..` that a path begins with, and how many bytes it takes with what doesn't count after it.
+// The `..` that a path begins with, and how many bytes it and the filler behind it take.
 #[inline(always)]
 fn parent_step(path: &[u8]) -> (usize, Component<'_>)
     requires parent { begins_with_parent path.now ≡ true }
@@ -140,7 +140,7 @@ fn parent_step(path: &[u8]) -> (usize, Component<'_>)
     (2 + idle_len(&path[2..]), Component::ParentDir)
 }
 
-// The name that a path begins with, and how many bytes it takes with what doesn't count after it.
+// The name that a path begins with, and how many bytes it and the filler behind it take.
 #[inline(always)]
 fn name_step(path: &[u8]) -> (usize, Component<'_>)
     requires some { 0 < length path.now }
@@ -155,7 +155,7 @@ fn name_step(path: &[u8]) -> (usize, Component<'_>)
     (end + idle_len(&path[end..]), Component::Normal(name))
 }
 
-// The first part, and how many bytes it takes with what doesn't count after it.
+// The first part, and how many bytes it and the filler behind it take.
 #[inline(always)]
 pub(crate) fn first_step(path: &[u8], has_lead: bool) -> (usize, Component<'_>)
     requires some { 0 < length path.now }
@@ -171,8 +171,8 @@ pub(crate) fn first_step(path: &[u8], has_lead: bool) -> (usize, Component<'_>)
     }
 }
 
-// The first part, and how many bytes it takes with what doesn't count after it, for where many such
-// bytes may follow a root or a `.`.
+// The first part, and how many bytes it and the filler behind it take: as `first_step`, but quicker
+// if long filler stands behind a root or a `.`.
 #[inline(always)]
 pub(crate) fn long_first_step(path: &[u8], has_lead: bool) -> (usize, Component<'_>)
     requires some { 0 < length path.now }
@@ -195,8 +195,7 @@ fn is_trailing(path: &[u8], i: usize) -> bool
     0 < i && (path[i] == b'/' || (path[i] == b'.' && path[i - 1] == b'/'))
 }
 
-// True only where each of the 16 bytes from `at` on, which is not 0, is a slash, or a `.` after a
-// slash.
+// True only if each of the 16 bytes from `at` on is a slash, or a `.` after a slash. `at` is not 0.
 #[inline]
 fn is_trailing_block(path: &[u8], at: usize) -> bool
     requires behind { 0 < at }
@@ -211,9 +210,8 @@ fn is_trailing_block(path: &[u8], at: usize) -> bool
     other.to_bitmask() == 0
 }
 
-// Where the last part among the first `len` bytes ends, or further on: it stops at the first block
-// of 16 bytes, from behind, that doesn't stand wholly behind that part, and where 16 bytes or fewer
-// are left.
+// How many of the first `len` bytes are left if blocks of 16 bytes that are all filler are taken
+// off their end. It stops if 16 bytes or fewer are left.
 #[inline(never)]
 fn trimmed_blocks_len(path: &[u8], len: usize) -> usize
     requires { len ≤ length path.now }
@@ -227,8 +225,8 @@ fn trimmed_blocks_len(path: &[u8], len: usize) -> usize
     end
 }
 
-// Where the last part among the first `len` bytes ends. Blocks of 16 are looked at where eight
-// bytes or more stand behind that part, which is rare.
+// The place where the last part among the first `len` bytes ends. If eight bytes or more stand
+// behind that part, which is rare, blocks of 16 are looked at.
 #[inline]
 pub(crate) fn trimmed_len(path: &[u8], len: usize) -> usize
     requires { len ≤ length path.now }
@@ -256,8 +254,8 @@ fn ends_with_parent(path: &[u8]) -> bool
     path[len - 1] == b'.' && len > 1 && path[len - 2] == b'.' && (len == 2 || path[len - 3] == b'/')
 }
 
-// The root or the name that a path ends with, and how many bytes stand before it, without what
-// doesn't count there.
+// The root or the name that a path ends with, and how many bytes are left without it and the filler
+// before it.
 #[inline(always)]
 fn last_name_step(path: &[u8]) -> (usize, Component<'_>)
     requires some { 0 < length path.now }
@@ -277,7 +275,7 @@ fn last_name_step(path: &[u8]) -> (usize, Component<'_>)
     (trimmed_len(path, start), Component::Normal(name))
 }
 
-// The last part, and how many bytes stand before it, without what doesn't count there.
+// The last part, and how many bytes are left without it and the filler before it.
 #[inline(always)]
 pub(super) fn last_step(path: &[u8]) -> (usize, Component<'_>)
     requires some { 0 < length path.now }

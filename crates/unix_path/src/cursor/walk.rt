@@ -50,8 +50,8 @@ impl<'a> Components<'a> {
     ghost use Rattle.unix_path.specs.Cursor.{GivesFirst, GivesLast};
     ghost use Rattle.std.specs.Iterator.Runs.{EveryRun, ItemsMapTo, ItemsMapToReversed};
 
-    // The walk over the parts of a path. Bytes that don't count after the last part are left out at
-    // once: for `foo/` it stands for `foo`.
+    // The walk over the parts of a path. The filler behind the last part is left out at once: for
+    // `foo/` it stands for `foo`.
     #[inline]
     pub(crate) fn new(path: &'a [u8]) -> Components<'a>
         ensures rest { cursor_rest result ≡ rest path.now 0 0 }
@@ -84,8 +84,7 @@ impl<'a> Components<'a> {
     }
 
     /// The bytes that are left, as a slice of the source, from the first part not yet taken to the
-    /// end of the last; empty where none is left. Does not allocate. As Rust's
-    /// `Components::as_path`.
+    /// end of the last; empty if none is left. Does not allocate. As Rust's `Components::as_path`.
     ///
     /// For `/tmp//foo/` after one `next` it is `tmp//foo`.
     #[must_use]

@@ -49,8 +49,8 @@ impl BoxedPath {
 
     /// The bytes of the buffer, without its room.
     ///
-    /// Does not allocate where the buffer has no room. Otherwise moving the bytes can fail, and
-    /// then the buffer is dropped. As Rust's `From<PathBuf>` of `Box<Path>`.
+    /// Does not allocate if the buffer has no room. Otherwise moving the bytes can fail, and then
+    /// the buffer is dropped. As Rust's `From<PathBuf>` of `Box<Path>`.
     ///
     /// For `foo/` with the capacity 10 it is `foo/` in 4 bytes.
     pub fn from_path_buf(path: PathBuf) -> Result<BoxedPath, AllocError>
@@ -122,7 +122,7 @@ impl BoxedPath {
 impl PathBuf {
     /// The path's bytes in a box, without its room.
     ///
-    /// Does not allocate where there is no room. Otherwise moving the bytes can fail, and then the
+    /// Does not allocate if there is no room. Otherwise moving the bytes can fail, and then the
     /// path is dropped. As Rust's `PathBuf::into_boxed_path`.
     ///
     /// For `foo/` with the capacity 10 it is `foo/` in 4 bytes.

@@ -47,7 +47,7 @@ impl<'a> CowPath<'a> {
         }
     }
 
-    /// The path as a buffer: a copy where it is borrowed, and the buffer itself where it is owned.
+    /// The path as a buffer: a copy if it is borrowed, and the buffer itself if it is owned.
     ///
     /// Allocates once for a borrowed path with bytes, and fails if that allocation fails; otherwise
     /// it does not allocate. As Rust's `Cow::into_owned`.
@@ -63,7 +63,7 @@ impl<'a> CowPath<'a> {
         }
     }
 
-    /// The same view where the path is borrowed, and a copy where it is owned.
+    /// The same view if the path is borrowed, and a copy if it is owned.
     ///
     /// Allocates once for an owned path with bytes, and fails if that allocation fails; otherwise
     /// it does not allocate. As `Clone` of Rust's `Cow<Path>`.

@@ -70,8 +70,8 @@ impl RcPath {
 
     /// The same path, with one more owner.
     ///
-    /// Does not allocate. Fails where the count of owners is at its limit. As `Clone` of Rust's
-    /// `Rc<Path>`, which ends the process there.
+    /// Does not allocate. Fails if the count of owners is at its limit. As `Clone` of Rust's
+    /// `Rc<Path>`, which ends the process then.
     ///
     /// A clone of `foo/` is `foo/`.
     #[must_use]

@@ -6,12 +6,12 @@ use crate::path::Path;
 use unix_bytes::search::{common_len, past_last};
 
 impl<'a> Path<'a> {
-    /// The place just after the last `/` of the longest string that both paths begin with, or 0
-    /// where that string has none.
+    /// The place just after the last `/` of the longest string that both paths begin with, or 0 if
+    /// that string has none.
     ///
-    /// The place is a number of bytes, and not of parts. Where it isn't 0, the two paths compare as
-    /// what follows that place in each of them, where neither a root nor a leading `.` counts. Does
-    /// not allocate. Not in Rust's std.
+    /// The place is a number of bytes, and not of parts. If it isn't 0, the two paths compare as
+    /// what follows it in each of them; a `/` or a piece `.` that this begins with is filler there,
+    /// and no part. Does not allocate. Not in Rust's std.
     ///
     /// For `a/./b` and `a/b` it is 2, and for `a/b` and `ab` it is 0.
     #[must_use]

@@ -11,8 +11,9 @@ use crate::path::Path;
 use unix_bytes::bytes::UnixStr;
 
 impl<'a> Path<'a> {
-    /// The last part, where it is a name. `None` where there is no part, or the last is the root,
-    /// `.` or `..`. Does not allocate. As Rust's `Path::file_name`, whose words name `..` alone.
+    /// The last part, if it is a name. `None` if there is no part, or if the last is the root, `.`
+    /// or `..`. Does not allocate. As Rust's `Path::file_name`, whose documentation names only
+    /// `..`.
     ///
     /// For `foo.txt/.//` it is `foo.txt`.
     #[must_use]
@@ -30,8 +31,8 @@ impl<'a> Path<'a> {
         }
     }
 
-    /// The file name up to its last dot, or all of it where that dot is the first byte or there is
-    /// none. `None` where there is no file name. Does not allocate. As Rust's `Path::file_stem`.
+    /// The file name up to its last dot, or all of it if it has no dot, or if its last dot is the
+    /// first byte. `None` if there is no file name. Does not allocate. As Rust's `Path::file_stem`.
     ///
     /// For `foo.tar.gz` it is `foo.tar`, and for `.foo` it is `.foo`.
     #[must_use]
@@ -47,8 +48,8 @@ impl<'a> Path<'a> {
         }
     }
 
-    /// The file name's bytes after its last dot, without the dot. `None` where that dot is the
-    /// first byte, and where there is no dot or no file name. Does not allocate. As Rust's
+    /// The file name's bytes after its last dot, without the dot. `None` if there is no file name,
+    /// if it has no dot, or if its last dot is the first byte. Does not allocate. As Rust's
     /// `Path::extension`.
     ///
     /// For `foo.tar.gz` it is `gz`, and for `foo.` it is empty.
@@ -67,8 +68,8 @@ impl<'a> Path<'a> {
         }
     }
 
-    /// The file name up to the first dot that follows its first byte, or all of it where no dot
-    /// does. `None` where there is no file name. Does not allocate. As Rust's `Path::file_prefix`.
+    /// The file name up to the first dot behind its first byte, or all of it if there is no such
+    /// dot. `None` if there is no file name. Does not allocate. As Rust's `Path::file_prefix`.
     ///
     /// For `foo.tar.gz` it is `foo`, and for `.foo.rs` it is `.foo`.
     #[must_use]
@@ -85,7 +86,8 @@ impl<'a> Path<'a> {
         }
     }
 
-    // What stands before the file name, or all of the path where there is none.
+    // The path without its file name and the filler around it, or all of the path if there is no
+    // file name.
     #[inline]
     pub(crate) fn before_name(&self) -> Path<'a>
         ensures value { result.bytes.now ≡ before_name_of self.now.bytes.now }
@@ -102,7 +104,7 @@ impl<'a> Path<'a> {
         }
     }
 
-    // The place just after the stem of the file name, or `None` where there is no file name.
+    // The place just after the stem of the file name, or `None` if there is no file name.
     #[inline]
     pub(crate) fn stem_end(&self) -> Option<usize>
         ensures value { result ≡ stem_end_of self.now.bytes.now }
@@ -119,7 +121,7 @@ impl<'a> Path<'a> {
         }
     }
 
-    // The place just after the file name, or `None` where there is none.
+    // The place just after the file name, or `None` if there is none.
     #[inline]
     pub(crate) fn name_end(&self) -> Option<usize>
         ensures value { result ≡ name_end_of self.now.bytes.now }

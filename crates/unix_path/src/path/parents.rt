@@ -13,10 +13,10 @@ impl<'a> Path<'a> {
     ghost use Rattle.unix_path.specs.declared.path.Path.{Path};
 
     /// The path without its last part, as a slice of this path's bytes, in the same memory. `None`
-    /// where there is no part or the last is the root.
+    /// if there is no part, or if the last is the root.
     ///
     /// The parent of a single name is the empty path, which has no parent. Does not allocate. As
-    /// Rust's `Path::parent`, whose words name the root alone.
+    /// Rust's `Path::parent`.
     ///
     /// For `/tmp//foo/.` it is `/tmp`.
     #[must_use]
@@ -33,7 +33,7 @@ impl<'a> Path<'a> {
         }
     }
 
-    // How many bytes the parent has, or `None` where there is no parent. It isn't inlined, so that
+    // How many bytes the parent has, or `None` if there is no parent. It isn't inlined, so that
     // `parent` and `pop`, which call it, stay small.
     #[inline(never)]
     pub(crate) fn parent_len(&self) -> Option<usize>

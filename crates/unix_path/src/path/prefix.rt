@@ -25,7 +25,7 @@ use unix_bytes::search::common_len;
 /// It is printed as `prefix not found`, padded by width, precision, fill and alignment. As Rust's
 /// `StripPrefixError`.
 ///
-/// `strip_prefix` of `foo/bar` by the base `foo/baz` answers it.
+/// `strip_prefix` of `foo/bar` with the base `foo/baz` gives it.
 #[derive(Clone, Copy, Debug, PartialEq, Eq)]
 pub struct StripPrefixError(());
 
@@ -42,8 +42,9 @@ impl fmt::Display for StripPrefixError {
 
 impl Error for StripPrefixError {}
 
-// The walks over what is left of the path and of the base, without parts that both begin with, or
-// `None` where the first bytes that differ there are in two names. Both begin with `common` bytes.
+// The walks over what is left of the path and of the base behind parts that both begin with, or
+// `None` if the first bytes that differ there are in two names. The first `common` bytes of both
+// are the same.
 #[inline]
 fn past_common<'a, 'b>(
     path: &'a [u8],
@@ -65,9 +66,9 @@ fn past_common<'a, 'b>(
     Some((Components::new(left.first), Components::new(left.second)))
 }
 
-// The walk over what follows `base`, or `None` where the parts of `base` don't begin the path's.
-// Both begin with `common` bytes. It isn't inlined, so that what decides most calls before its call
-// stays small.
+// The walk over what follows `base`, or `None` if the parts of `base` don't begin the path's. The
+// first `common` bytes of both are the same. It isn't inlined, so that `after_prefix`, which
+// decides most calls without it, stays small.
 #[inline(never)]
 fn after_parts<'a>(path: &'a [u8], base: &[u8], common: usize) -> Option<Components<'a>>
     requires in_first { common ≤ length path.now }
@@ -99,9 +100,9 @@ fn after_parts<'a>(path: &'a [u8], base: &[u8], common: usize) -> Option<Compone
     Some(left)
 }
 
-// The walk over what follows `base`, or `None` where the parts of `base` don't begin the path's.
-// Both begin with `common` bytes. Mostly the first bytes that differ are in two names, or all of
-// `base` begins the path, and that alone tells it.
+// The walk over what follows `base`, or `None` if the parts of `base` don't begin the path's. The
+// first `common` bytes of both are the same. Most calls are decided at once: all of `base` begins
+// the path, or the first bytes that differ are in two names.
 #[inline]
 fn after_prefix<'a>(path: &'a [u8], base: &[u8], common: usize) -> Option<Components<'a>>
     requires in_first { common ≤ length path.now }
@@ -120,7 +121,8 @@ fn after_prefix<'a>(path: &'a [u8], base: &[u8], common: usize) -> Option<Compon
     after_parts(path, base, common)
 }
 
-// Whether `after_parts` gives a walk. The walk, which nobody reads, is kept in memory here alone.
+// Whether `after_parts` gives a walk. It isn't inlined, so that the walk, which isn't used, takes
+// memory in this function alone.
 #[inline(never)]
 fn has_parts(path: &[u8], base: &[u8], common: usize) -> bool
     requires in_first { common ≤ length path.now }
@@ -155,7 +157,8 @@ fn last_part_end(path: &[u8]) -> usize
     trimmed_len(path, path.len())
 }
 
-// Whether the parts of `child` end the path's. Mostly the last bytes of both tell that they don't.
+// Whether the parts of `child` end the path's. The last bytes of both are looked at first, since
+// they usually tell if they don't.
 #[inline]
 fn ends_with_parts(path: &[u8], child: &[u8]) -> bool
     ensures { IsTrue result ↔ Ends (values child.now) (values path.now) }
@@ -177,13 +180,13 @@ fn ends_with_parts(path: &[u8], child: &[u8]) -> bool
 }
 
 impl<'a> Path<'a> {
-    /// What follows `base`, as a slice of this path's bytes, in the same memory, where `base`'s
-    /// parts begin this path's.
+    /// What follows `base`, as a slice of this path's bytes, in the same memory, if `base`'s parts
+    /// begin this path's.
     ///
     /// Whole parts count: `foo/bar` has no prefix `foo/ba`. If all parts match, no bytes are left,
-    /// and the empty slice stands where this path's last part ends. Fails exactly where
-    /// `starts_with` is false. Does not allocate. As Rust's `Path::strip_prefix`, whose empty slice
-    /// may stand further on; `base` is a `Path`.
+    /// and the empty slice stands where this path's last part ends. Fails exactly if `starts_with`
+    /// is false. Does not allocate. As Rust's `Path::strip_prefix`, whose empty slice may stand
+    /// further on; `base` is a `Path`.
     ///
     /// For `/a//b/` and the base `/a` it is `b`.
     #[inline]
