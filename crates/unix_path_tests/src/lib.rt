@@ -1,4 +1,5 @@
-//! Tests of unix_bytes and unix_path, in a crate of their own: one with tests is proved twice.
+//! Tests of unix_bytes and unix_path, in a crate of their own, since a crate with tests is proved
+//! twice.
 #![tactic(auto)]
 
 #[cfg(test)]

@@ -1,4 +1,4 @@
-//! Rows of the calls' answers, and what no clause says.
+//! Tables of calls with their answers, and tests of what no clause says.
 mod buffers;
 mod bytes;
 mod debug_texts;

@@ -64,7 +64,8 @@ fn a_debug_text_is_quoted(rt: HostRuntime) -> Result<(), Fail> {
     Ok(())
 }
 
-// Whether room for 100 bytes behind `foo` is made, and given back but for 5 bytes in all.
+// Whether room for 100 bytes behind `foo` is made, and some given back, with a capacity of 5 or
+// more left.
 fn lends_room(buffer: &mut PathBuf) -> Result<bool, AllocError> {
     buffer.reserve(100)?;
     let is_made = buffer.capacity() >= 103;

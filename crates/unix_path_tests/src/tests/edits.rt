@@ -36,7 +36,7 @@ static JOINS: [(&str, &str, &str); 18] = [
     ("a", "", "a/"),
 ];
 
-// Whether a push makes `new` of `old` in place, and a join a copy.
+// Whether a push makes `new` of `old` in place, and a join makes it as a copy.
 fn joins(alloc: Global, old: &str, more: &str, new: &str) -> Result<bool, AllocError> {
     let mut buffer = PathBuf::from_text(alloc, old)?;
     buffer.push(path(more))?;
@@ -67,7 +67,7 @@ static POPS: [(&str, &str, bool); 12] = [
     ("foo//bar/.", "foo", true),
 ];
 
-// Whether a pop answers so, and leaves `new` of `old`.
+// Whether a pop of `old` gives `answer`, and leaves `new`.
 fn pops(alloc: Global, old: &str, new: &str, answer: bool) -> Result<bool, AllocError> {
     let mut buffer = PathBuf::from_text(alloc, old)?;
     Ok(buffer.pop() == answer && has_bytes(&buffer, new))

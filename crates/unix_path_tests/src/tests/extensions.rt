@@ -29,7 +29,7 @@ static EXTENSIONS_SET: [(&str, &str, &str, bool); 18] = [
     ("foo.rs/.", "txt", "foo.txt", true),
 ];
 
-// Whether a new extension makes `new` of `old` and answers so; as a copy it makes `new` too.
+// Whether a new extension makes `new` of `old`, in place with this answer, and as a copy.
 fn takes_extension(
     alloc: Global,
     old: &str,
@@ -84,7 +84,7 @@ static EXTENSIONS_ADDED: [(&str, &str, &str, bool); 13] = [
     ("", "x", "", false),
 ];
 
-// Whether an added extension makes `new` of `old` and answers so; as a copy it makes `new` too.
+// Whether an added extension makes `new` of `old`, in place with this answer, and as a copy.
 fn adds_extension(
     alloc: Global,
     old: &str,

@@ -3,7 +3,7 @@ use super::views::path;
 use unix_bytes::bytes::UnixStr;
 use unix_path::Component;
 
-// A path, how many parts are taken in front and behind, and what is left.
+// A path, how many parts are taken off the front and off the end, and what is left.
 static RESTS: [(&str, usize, usize, &str); 20] = [
     ("//", 0, 0, "/"),
     ("//", 0, 1, ""),
@@ -27,7 +27,8 @@ static RESTS: [(&str, usize, usize, &str); 20] = [
     ("", 0, 0, ""),
 ];
 
-// Whether a walk over components leaves these bytes after so many parts in front and behind.
+// Whether `rest` is left of a walk over components, with `front` parts taken first and `behind`
+// parts taken last.
 fn leaves(text: &str, front: usize, behind: usize, rest: &str) -> bool {
     let mut parts = path(text).components();
     let mut is_given = true;
@@ -40,7 +41,8 @@ fn leaves(text: &str, front: usize, behind: usize, rest: &str) -> bool {
     is_given && parts.as_path().as_unix_str() == UnixStr::new(rest)
 }
 
-// Whether a walk over texts leaves these bytes after so many parts in front and behind.
+// Whether `rest` is left of a walk over texts, with `front` parts taken first and `behind` parts
+// taken last.
 fn texts_leave(text: &str, front: usize, behind: usize, rest: &str) -> bool {
     let mut texts = path(text).iter();
     let mut is_given = true;

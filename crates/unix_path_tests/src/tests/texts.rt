@@ -35,7 +35,7 @@ pub(super) fn assert_debug_text<T: fmt::Debug>(
     assert_text(rt, format!(in alloc; "{value:?}"), wanted);
 }
 
-// The text of the error, and behind a bar the same in a field of this width.
+// The text of the error, a bar, and the text again in a field of this width.
 pub(super) fn text_of_error<E: Error>(
     alloc: Global,
     error: &E,

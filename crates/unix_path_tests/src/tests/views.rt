@@ -1,4 +1,4 @@
-//! What rows of paths are read as.
+//! The paths and bytes that the text in a table's row stands for.
 use unix_bytes::bytes::UnixStr;
 use unix_path::Path;
 

@@ -105,7 +105,8 @@ fn views(rt: HostRuntime) {
     assert!(rt; UnixStr::from_bytes(b"\x7F") < UnixStr::from_bytes(b"\xFF"));
 }
 
-// Equal names feed a hasher alike; where the second of two names begins makes a difference.
+// Equal names feed a hasher alike. Two names with the same bytes together feed it differently if
+// the second begins at another place.
 #[test]
 fn hashes(rt: HostRuntime) {
     assert_eq!(rt; hash_of("tmp", "a"), hash_of("tmp", "a"));

@@ -146,7 +146,7 @@ fn long_stretches(rt: HostRuntime) {
     }
 }
 
-// A sequence of each width, and where the sequence begins that stands at a place.
+// A sequence of each width, and in `STARTS`, for each place, where the sequence there begins.
 const WIDTHS: [u8; 10] = *b"a\xC3\xA9\xE7\x8E\xBB\xF0\x9F\xA6\x80";
 
 const STARTS: [usize; 10] = [0, 1, 1, 3, 3, 3, 6, 6, 6, 6];

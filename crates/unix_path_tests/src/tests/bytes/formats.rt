@@ -59,8 +59,8 @@ fn debug_texts(rt: HostRuntime) {
     }
 }
 
-// Display fails where the writer does, writes no more, and fails nowhere else. Each write fails in
-// some round, and in the last round none does.
+// Display fails if the writer does, writes no more then, and fails in no other case. Each write
+// fails in some round, and in the last round none does.
 #[test]
 fn failing_writers(rt: HostRuntime) -> Result<(), Fail> {
     let alloc = rt.alloc();
@@ -84,7 +84,7 @@ fn failing_writers(rt: HostRuntime) -> Result<(), Fail> {
     Ok(())
 }
 
-// The debug form fails where the writer does, writes no more, and fails nowhere else.
+// The debug form fails if the writer does, writes no more then, and fails in no other case.
 #[test]
 fn failing_writers_of_debug(rt: HostRuntime) -> Result<(), Fail> {
     let alloc = rt.alloc();
