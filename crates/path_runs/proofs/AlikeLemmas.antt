@@ -1,4 +1,4 @@
--- What equal paths answer alike.
+-- Questions that equal paths answer alike.
 use Rattle.std.proofs.Common.{◌≡◌, ◌↔◌, ℕ, zero, suc, ◌+◌, Bool, true, false, cond, eqb, List}
 use Rattle.std.proofs.Common.{◌∷◌, length, map, Some, None, option_map, refl, sym, ap, ap₂, subst}
 use Rattle.std.proofs.Common.{◌∙◌}
@@ -9,7 +9,7 @@ use Rattle.unix_path.specs.Parents.{parent_of, depth_of, ancestors_of}
 use Rattle.unix_path.specs.Prefixes.{Begins, Ends, stripped_of}
 use Rattle.path_runs.proofs.CongruenceLemmas.{depths_same, rests_same}
 
--- of equal paths both start with a base, or with one equal to it, or neither does
+-- a path starts with a base exactly if an equal path starts with an equal base
 pub prefixes_same : (s t base other : List ℕ) → SameValues s t → SameValues base other
     → Begins (values base) (values s) ↔ Begins (values other) (values t)
 prefixes_same s t base other e f = (
@@ -17,7 +17,7 @@ prefixes_same s t base other e f = (
   λ h. subst (λ v. Begins v (values s)) (sym f) (subst (Begins (values other)) (sym e) h),
 )
 
--- of equal paths both end with a child, or with one equal to it, or neither does
+-- a path ends with a child exactly if an equal path ends with an equal child
 pub suffixes_same : (s t child other : List ℕ) → SameValues s t → SameValues child other
     → Ends (values child) (values s) ↔ Ends (values other) (values t)
 suffixes_same s t child other e f = (
@@ -30,7 +30,7 @@ pub equality_same : (s t u w : List ℕ) → SameValues s t → SameValues u w
     → SameValues s u ↔ SameValues t w
 equality_same s t u w e f = (λ h. sym e ∙ h ∙ f, λ h. e ∙ h ∙ sym f)
 
--- equal paths q and r, or neither of them, have equal values, or none
+-- two equal paths, or none in place of both, have the same values
 parents_by : (c : Bool) (q r : List ℕ) → SameValues q r
     → option_map values (cond c None (Some q)) ≡ option_map values (cond c None (Some r))
 parents_by true q r e = refl

@@ -6,7 +6,7 @@ use Rattle.unix_path.specs.Joins.{is_open, join_of}
 use Rattle.unix_path.proofs.CaseLemmas.{by_test}
 use Rattle.unix_path.proofs.JoinLemmas.{join_of_rooted, join_of_open, join_of_closed}
 
--- what a join with a rootless path puts behind a: a slash, or nothing where a is open
+-- what a join with a rootless path puts behind a: a slash, or nothing if a is open
 abbrev pub separator : List ℕ → List ℕ
 separator a = cond (is_open a) [] (47 ∷ [])
 

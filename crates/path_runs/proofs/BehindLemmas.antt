@@ -39,7 +39,7 @@ single_part (p ∷ []) v e = (p, refl)
 single_part (p ∷ q ∷ ps) v e =
     absurd (let no : p.value ∷ q.value ∷ map value_of_part ps ≡ v ∷ [] = e in cc)
 
--- where b adds one value behind an open path, it adds one part
+-- if b adds one value behind an open path, it adds one part
 last_behind : (u b : List ℕ) (v : Value) → is_open u ≡ true
     → values (u ++ b) ≡ values u ++ v ∷ []
     → (p : Part) × (parts (u ++ b) ≡ parts u ++ p ∷ [])
@@ -60,7 +60,7 @@ take-parts_end : (u b : List ℕ) → take (parts_end (parts u)) (u ++ b) ≡ re
 take-parts_end u b =
     take-append-le (parts_end (parts u)) u b (parts_end-le u) ∙ sym (rest-whole u)
 
--- an open prefix and one more part, without that part, leave what the prefix alone leaves
+-- without the one part that b adds to an open path, that path's own rest is left
 pub rest-behind : (u b : List ℕ) (v : Value) → is_open u ≡ true
     → values (u ++ b) ≡ values u ++ v ∷ [] → rest (u ++ b) 0 1 ≡ rest u 0 0
 rest-behind u b v o e =

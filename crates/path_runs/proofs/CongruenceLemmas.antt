@@ -45,7 +45,7 @@ abbrev PopsAlike : List ℕ → List ℕ → Option (List ℕ) → Option (List 
 PopsAlike s t q r =
     SameValues (unwrap_or q s) (unwrap_or r t) × (Flag (is_some q) ≡ Flag (is_some r))
 
--- pops of equal paths whose parents are equal, or that have none, leave equal paths
+-- pops of equal paths, with equal parents or none, leave equal paths and answer the same
 pops_by : (c : Bool) (s t q r : List ℕ) → SameValues s t → SameValues q r
     → PopsAlike s t (cond c None (Some q)) (cond c None (Some r))
 pops_by true s t q r e f = (e, refl)
@@ -59,7 +59,7 @@ pop_same s t e =
     (depths_same s t e)
     (pops_by (eqb (depth_of s) 0) s t (rest s 0 1) (rest t 0 1) e (rests_same s t 0 1 e))
 
--- of equal paths the rests before the last parts are equal, and so are the paths themselves
+-- equal paths, both without their last part or both whole, are equal
 before_by : (s t : List ℕ) (named : Bool) → SameValues s t
     → SameValues (cond named (rest s 0 1) s) (cond named (rest t 0 1) t)
 before_by s t true e = rests_same s t 0 1 e
@@ -78,7 +78,7 @@ pub with_name_same : (s t n : List ℕ) → SameValues s t
 with_name_same s t n e =
     joins_same (before_name_of s) (before_name_of t) n n (before_same s t e) refl
 
--- f leaves a path without a file name as it is, and puts n of the file name in its place in others
+-- f leaves a path without a file name as it is; in others it puts n of the file name in its place
 record Renames (f : List ℕ → List ℕ) (n : List ℕ → List ℕ) : Type 0 where
   none : (s : List ℕ) → file_name_of (values s) ≡ None → f s ≡ s
   some : (s name : List ℕ) → file_name_of (values s) ≡ Some name → (c : NameCut s name)
@@ -120,11 +120,11 @@ added_extension_same s t x e = by_test (eqb (length x) 0)
       some = λ s name some c. values-added_extension_of s name x filled some c;
     }) s t (file_name_of (values t)) (ap file_name_of e) refl e)
 
--- what an edit of the extension x leaves of s and answers: u, unless x has a slash
+-- what an edit with the extension x leaves of s, and answers: u, or s itself if x has a slash
 abbrev pub unless_slash : List ℕ → List ℕ → List ℕ → List ℕ × Answer
 unless_slash s x u = cond (has_slash x) (s, Separator) (u, Flag (is_some (file_name_of (values s))))
 
--- an extension that leaves equal paths, or has a slash, answers the same on equal paths
+-- an edit with the extension x that leaves equal paths u and v answers the same on equal paths
 unless_slash_same : (s t x u v : List ℕ) → SameValues s t → SameValues u v
     → Alike (unless_slash s x u) (unless_slash t x v)
 unless_slash_same s t x u v e f = by_test (has_slash x)
@@ -144,7 +144,7 @@ one_same s t (AddExtension x) k =
     (added_extension_same s t x k)
 one_same s t Clear k = (refl, refl)
 
--- the same edit but for pushed paths, which are equal, leaves equal paths and answers the same
+-- the same edit, or a push of equal paths, leaves equal paths and answers the same
 edit_same : (s t : List ℕ) (d e : EditValue) → SameValues s t → SameEdit d e
     → Alike (edit_of s d) (edit_of t e)
 edit_same s t (Push b) (Push c) k h = (joins_same s t b c k h, refl)

@@ -13,14 +13,14 @@ use Rattle.path_runs.specs.Spelling.{spelling_of}
 use Rattle.path_runs.proofs.KeptLemmas.{nothing_left, part_stretch, slashed_stretch}
 use Rattle.path_runs.proofs.StretchLemmas.{spelling_of-short}
 
--- no byte, or one, is kept whole
+-- a path of at most one byte is kept whole
 pub spelling_of-single : (s : List ℕ) (n : ℕ) → length s < 2 → n ≡ length s
     → spelling_of (values s) ≡ take n s ++ slashed_parts (drop n s)
 spelling_of-single s n l e =
     let all : length s ≤ n = omega arith in
     spelling_of-short s l ∙ sym (nothing_left (take n s) s n all ∙ take_all n s all)
 
--- no gap begins where a string begins with a part
+-- a string that begins with a part doesn't begin with a gap
 gap_behind : (s : List ℕ) (n : ℕ) → 0 < length s → is_idle s 0 ≡ false → FirstGap s n → 0 < n
 gap_behind s zero l e h =
     let slash = (and_parts (eqb (get_or s 0 0) 47) _ (h.gap l)).0 in

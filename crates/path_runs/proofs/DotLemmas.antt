@@ -13,7 +13,7 @@ use Rattle.unix_path.proofs.NameLemmas.{is_dot, past_last-is, split_name-whole, 
 use Rattle.unix_path.proofs.NameLemmas.{split_name-stem}
 use Rattle.path_runs.specs.EditLaws.{HasNone}
 
--- where no byte is b, the byte at k isn't
+-- if no byte is b, the byte at k isn't b
 none_at : (s : List ℕ) (b k : ℕ) → HasNone b s → k < length s → eqb (get_or s k 0) b ≡ false
 none_at s b k h l =
     by_test (eqb (get_or s k 0) b) (λ e. absurd (h k 0 l (eqb-true _ _ e))) (λ e. e)
@@ -55,7 +55,7 @@ last_dot : (s : List ℕ) → LastDot s
 last_dot [] = NoDot (All-nil (λ c. c ≢ 46))
 last_dot (b ∷ s) = last_dot-cons b s (last_dot s)
 
--- a name is cut at its last dot where a byte stands before that
+-- a name is cut at its last dot if a byte stands before that
 pub split_name-dot : (f x : List ℕ) → 0 < length f → HasNone 46 x
     → split_name (f ++ 46 ∷ x) ≡ (f, Some x)
 split_name-dot f x l h =

@@ -30,7 +30,7 @@ pub record HasApplied (s : List ℕ) (edits : List Edit) (i : ℕ) (bytes : List
   pub bytes_are : bytes ≡ (edits_of s (map edit_value (take i edits))).0
   pub answers_are : answers ≡ (edits_of s (map edit_value (take i edits))).1
 
--- where edit i leaves u of t and answers a, the first i + 1 edits leave u and answer a too
+-- edit i, made on what the first i edits leave, gives what i + 1 edits leave, and one answer more
 pub HasApplied-more : (s : List ℕ) (es : List Edit) (i : ℕ) (d : Edit) (t u : List ℕ)
     (answers : List Answer) (a : Answer) → HasApplied s es i t answers → i < length es
     → u ≡ (edit_of t (edit_value (get_or es i d))).0

@@ -66,7 +66,7 @@ length-join_of_next old all xs x prefix at h =
     ap (join_all_of old) parts ∙ join_all_of-append old before onward in
     omega (arith, ap length all_is, length-join_all_of made (bytes_of_each rest) rootless.1)
 
--- where the join up to one of some rootless paths is longer than `most`, so is that of all
+-- if the join up to one of some rootless paths is longer than `most`, so is the join with all
 pub JoinsBeginning-exceeds : {S : Type 0} {steps : S → Option Path → S → Type 0} {items : S}
     {all : List Path} (old new : List ℕ) (most : ℕ) → YieldsList steps (λ x. x) items all
     → AllRootless (bytes_of_each all) → JoinsBeginning steps items old new most

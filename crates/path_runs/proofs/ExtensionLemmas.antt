@@ -69,7 +69,7 @@ values-open_name u name e = by (values u)
     by (v ∷ vs) = ap (λ ws. v ∷ vs ++ ws)
         (sym (drop_lead-values name) ∙ ap drop_lead e)
 
--- a path with an open prefix has that prefix's rest as its parent
+-- a path of an open prefix and one name has that prefix's rest as its parent
 parent_of-open : (s u b name : List ℕ) → s ≡ u ++ b → is_open u ≡ true
     → values s ≡ values u ++ Normal name ∷ [] → parent_of s ≡ Some (rest u 0 0)
 parent_of-open s u b name is o e =
@@ -107,7 +107,7 @@ set_extension s name [] e h = absurd (h.some refl)
 set_extension s name (b ∷ x) e h =
     new_extension-cut s name b x e (name_cut s name e) h.no_dot h.no_slash
 
--- where setting an extension answers true, there is a file name
+-- if setting an extension answers true, there is a file name
 some_name : (s : List ℕ) → Flag (is_some (file_name_of (values s))) ≡ Flag true
     → (name : List ℕ) × (file_name_of (values s) ≡ Some name)
 some_name s e = by (file_name_of (values s)) refl e
@@ -117,7 +117,7 @@ some_name s e = by (file_name_of (values s)) refl e
     by None is e = absurd (cc)
     by (Some name) is e = (name, is)
 
--- where setting an extension answers true, it has no slash, and the edit is `with_extension_of`
+-- if setting an extension answers true, it has no slash, and the edit is `with_extension_of`
 edit_of-set_extension : (s x t : List ℕ) → edit_of s (SetExtension x) ≡ (t, Flag true)
     → (with_extension_of s x ≡ t) × (Flag (is_some (file_name_of (values s))) ≡ Flag true)
 edit_of-set_extension s x t e =

@@ -9,18 +9,18 @@ use Rattle.std.specs.Simd.{first_chunks}
 use Rattle.unix_path.specs.Hashed.{end_mark, in_eights, value_input, hash_input_of}
 use Rattle.unix_path.specs.Parts.{slash, Value, value_bytes}
 
--- the first k eights are the first 8 * k
+-- the first k chunks of 8 bytes are the first 8 * k bytes
 concat-first_chunks : (k : ℕ) (xs : List ℕ) → concat (first_chunks 8 k xs) ≡ take (8 * k) xs
 concat-first_chunks zero xs = refl
 concat-first_chunks (suc k) xs =
     ap (λ ys. take 8 xs ++ ys) (concat-first_chunks k (drop 8 xs)) ∙ sym (take-add 8 (8 * k) xs)
     ∙ ap (λ n. take n xs) {x = 8 + 8 * k} {y = 8 * suc k} (omega arith)
 
--- the zeros behind a slash behind n bytes
+-- the zeros that follow n bytes and a slash
 zeros_behind : ℕ → List ℕ
 zeros_behind n = take (8 * ((n + 8) / 8) - (n + 1)) (repeat 7 (0 ∷ []))
 
--- the whole eights of bytes with an end mark are the bytes, a slash and zeros
+-- bytes with an end mark, in chunks of 8, are the bytes, a slash and zeros
 concat-in_eights : (b : List ℕ)
     → concat (in_eights (b ++ end_mark)) ≡ b ++ slash ∷ zeros_behind (length b)
 unfolding in_eights zeros_behind
@@ -32,7 +32,7 @@ concat-in_eights b =
     ∙ ap (λ k. take k (b ++ end_mark)) count
     ∙ take-append-add b end_mark (suc (8 * ((n + 8) / 8) - (n + 1)))
 
--- the zeros behind a value's bytes and a slash, and then others
+-- the zeros that follow a value's bytes and a slash, and then x
 pub with_zeros : Value → List ℕ → List ℕ
 with_zeros v x = zeros_behind (length (value_bytes v)) ++ x
 

@@ -101,7 +101,7 @@ pub record GaplessFrom (s : List ℕ) (at len : ℕ) : Type 0 where
 abbrev lanes : List ℕ → ℕ → List ℕ
 lanes s at = gap_lanes (chunk at 16 s) (chunk (at + 1) 16 s) (chunk (at + 2) 16 s)
 
--- the mask that the code computes of them
+-- the mask that the code computes from these lanes
 abbrev gap_mask : List ℕ → ℕ → ℕ
 gap_mask s at = mask_l (map (top 7) (lanes s at)) % 2 ^ 64
 
@@ -144,7 +144,8 @@ before_first s at len l is =
           ∙ not-true (top 7 (get_or (lanes s at) k 0)) passes;
     }
 
--- 16 where no bit is set, and else the place of the lowest, is that of the first lane
+-- the place of the lowest bit that is set, or 16 if none is, is the place of the first lane that
+-- tells a gap
 first_set : (s : List ℕ) (at : ℕ) → at + 18 ≤ length s
     → cond (eqb (gap_mask s at) 0) 16 (count_trailing_zeros 64 (gap_mask s at))
     ≡ prefix_len (λ x. not (top 7 x)) (lanes s at)
@@ -156,7 +157,7 @@ first_set s at l =
     (mask_l-mod (map (top 7) (lanes s at)) 64 few)
     ∙ first_set_mask_l (top 7) (lanes s at) 16 size (omega arith)
 
--- where no bit is set, no gap begins at the 16 bytes
+-- if no bit is set, no gap begins at the 16 bytes
 pub none_set : (s : List ℕ) (at : ℕ) → at + 18 ≤ length s → gap_mask s at ≡ 0
     → GaplessFrom s at 16
 none_set s at l none =
@@ -165,7 +166,7 @@ none_set s at l none =
     (sym (ap (λ c. cond c 16 (count_trailing_zeros 64 mask)) (eq-eqb mask 0 none))
     ∙ first_set s at l)
 
--- where a bit is set, no gap begins before the place of the lowest
+-- if a bit is set, no gap begins before the place of the lowest
 pub some_set : (s : List ℕ) (at : ℕ) → at + 18 ≤ length s → (gap_mask s at ≡ 0 → ⊥)
     → GaplessFrom s at (count_trailing_zeros 64 (gap_mask s at))
 some_set s at l some =

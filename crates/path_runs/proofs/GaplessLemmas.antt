@@ -82,7 +82,7 @@ gap_respelled s n l ends h some own =
       gap-longer s n some (h.gap some),
     )
 
--- a path that ends behind its last part isn't its own spelling
+-- a path with filler behind its last part isn't its own spelling
 pub tail_respelled : (s t : List ℕ) → t ≡ rest s 0 0 → values t ≡ values s → length t < length s
     → s ≡ spelling_of (values s) → ⊥
 tail_respelled s t e same l own = by (spelling_of-shortest s t same)
@@ -91,14 +91,14 @@ tail_respelled s t e same l own = by (spelling_of-shortest s t same)
     by (inl f) = omega (arith, ap length f, ap length own)
     by (inr h) = omega (arith, ap length own)
 
--- a path of which a fresh walk leaves out no byte is what that walk stands for
+-- if the rest of a fresh walk is as long as the path, it is the path
 pub rest-all : (s t : List ℕ) → t ≡ rest s 0 0 → length s ≤ length t → t ≡ s
 rest-all s t e l =
     let trim = trims_end s in
     let is = e ∙ rest-trimmed s trim.len trim.in_range trim.same trim.ends in
     is ∙ take_all trim.len s (omega (arith, ap length is, length-take-le trim.len s trim.in_range))
 
--- a path that ends in a part and has two bytes is its own spelling exactly if it has no gap
+-- a path of two bytes or more that ends in a part is its own spelling exactly if it has no gap
 pub own_if_gapless : (s : List ℕ) (n : ℕ) → 1 < length s → EndsInPart s → FirstGap s n
     → (IsTrue (nat_eq n (length s)) → s ≡ spelling_of (values s))
     × (s ≡ spelling_of (values s) → IsTrue (nat_eq n (length s)))

@@ -1,4 +1,4 @@
--- Value lists that begin alike stand side by side in the order, and what begins them stands before.
+-- Value lists that begin with a base stand side by side in the order, and the base before them.
 use Rattle.std.proofs.Common.{◌≡◌, true, true≢false, List, [], ◌∷◌, ◌++◌, refl, sym, ap, ap₂}
 use Rattle.std.proofs.Common.{◌∙◌, Ordering, Less, Equal, Greater}
 use Rattle.std.specs.Ordering.{is_le, ordering_then, ordering_reverse}

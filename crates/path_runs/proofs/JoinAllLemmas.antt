@@ -10,7 +10,7 @@ use Rattle.path_runs.proofs.SpellLemmas.{spelling_of-root}
 use Rattle.path_runs.proofs.PlainLemmas.{IsPlain, IsPlainValue, Shape, Rooted, Rootless}
 use Rattle.path_runs.proofs.PlainLemmas.{values-shape}
 
--- what stands before joined strings stands before the first of them
+-- what is put before the first of some strings stands before their join
 join_with_byte-onto : (x b : List ℕ) (bs : List (List ℕ))
     → join_with_byte slash ((x ++ b) ∷ bs) ≡ x ++ join_with_byte slash (b ∷ bs)
 join_with_byte-onto x b [] = refl

@@ -17,7 +17,7 @@ use Rattle.unix_path.proofs.PlaceLemmas.{values-inner_parts}
 use Rattle.unix_path.proofs.StemLemmas.{value_bytes-piece}
 use Rattle.path_runs.specs.Gaps.{is_gap, slashed_parts, FirstGap, IsPart}
 
--- a byte that doesn't count may be left out
+-- a byte of filler may be left out
 pub slashed_parts-idle : (s : List ℕ) (i : ℕ) → i < length s → is_idle s i ≡ true
     → slashed_parts (drop i s) ≡ slashed_parts (drop (i + 1) s)
 unfolding slashed_parts
@@ -26,7 +26,7 @@ slashed_parts-idle s i l e = ap (flat_map (λ v. slash ∷ value_bytes v))
     ∙ ap (map (λ (p : Part). p.value)) (inner_parts_idle_at 0 s i l e)
     ∙ values-inner_parts (0 + (i + 1)) (drop (i + 1) s))
 
--- what begins with a part has its first piece as its first part
+-- the first part of a string that begins with a part is its first piece
 slashed_parts-busy : (s : List ℕ) → 0 < length s → is_idle s 0 ≡ false
     → slashed_parts s ≡ slash ∷ (first_piece s ++ slashed_parts
     (drop (position_or_len is_slash s) s))
@@ -98,13 +98,13 @@ pub part_stretch : (s : List ℕ) (n : ℕ) → 0 < length s → is_idle s 0 ≡
     → slashed_parts s ≡ (slash ∷ take n s) ++ slashed_parts (drop n s)
 part_stretch s n l e h = slashed_parts-busy s l e ∙ ap (λ u. slash ∷ u) (kept_stretch s n h)
 
--- behind all bytes nothing is left
+-- from the end on no part is left
 pub nothing_left : (a s : List ℕ) (i : ℕ) → length s ≤ i → a ++ slashed_parts (drop i s) ≡ a
 unfolding slashed_parts inner_parts
 nothing_left a s i l =
     ap (λ u. a ++ slashed_parts u) (drop_all i s l) ∙ append-nil a
 
--- a part and those up to the gap behind them stand in a string with the slash before them
+-- the bytes from the slash before a part on are that slash and the bytes from the part on
 pub slashed_stretch : (s : List ℕ) (start n : ℕ) → start < length s → IsPart s start
     → slice_range s (start - 1) (start + n) ≡ slash ∷ take n (drop start s)
 slashed_stretch s start n l part =
@@ -114,7 +114,7 @@ slashed_stretch s start n l part =
     ap₂ take count (drop-cons s (start - 1) 0 (omega arith)
     ∙ ap₂ (λ b k. b ∷ drop k s) part.after_slash next)
 
--- what is left may be appended up to the gap behind its first parts
+-- of the parts that are left, those before the next gap may be appended first, as they stand
 pub append_stretch : (a s : List ℕ) (start n : ℕ) → start < length s → IsPart s start
     → FirstGap (drop start s) n
     → (a ++ slice_range s (start - 1) (start + n)) ++ slashed_parts (drop (start + n) s)

@@ -97,7 +97,7 @@ drop_lead-values s =
 same_tail : {x y : Value} {xs ys : List Value} → x ∷ xs ≡ y ∷ ys → xs ≡ ys
 same_tail e = cc
 
--- behind the first of some values, which is a lead or an inner value, stand inner values
+-- behind the first value, be it a lead or an inner value, stand inner values
 inner_lead : (c d : Bool) (vs : List Value) (x : Value) (xs : List Value)
     → AllByRecursion IsInner vs → lead_by c d ++ vs ≡ x ∷ xs → AllByRecursion IsInner xs
 inner_lead true d vs x xs h e = subst (AllByRecursion IsInner) (same_tail e) h

@@ -31,7 +31,7 @@ pub record IsName (name : List ℕ) : Type 0 where
   pub no_dot : bytes_eq name cur_dir ≡ false
   pub no_dots : bytes_eq name parent_dir ≡ false
 
--- s is an open prefix, the name, and what doesn't count behind it
+-- s is an open prefix, the name, and the filler behind it
 pub record NameCut (s name : List ℕ) : Type 0 where
   pub prefix : List ℕ
   pub back : List ℕ
@@ -41,7 +41,7 @@ pub record NameCut (s name : List ℕ) : Type 0 where
   pub before : values s ≡ values prefix ++ Normal name ∷ []
   pub is_name : IsName name
 
--- where a path has a file name, it is the last of its values
+-- if a path has a file name, it is the last of the path's values
 name_of_push : (s name : List ℕ) (vs : List Value) (v : Value) → values s ≡ vs ++ v ∷ []
     → file_name_of (values s) ≡ Some name → v ≡ Normal name
 name_of_push s name vs v is e =
@@ -68,7 +68,7 @@ name_piece y name h = by (bytes_eq y cur_dir) refl (bytes_eq y parent_dir) refl 
     by false e true k h = absurd (let no : ParentDir ≡ Normal name = h in cc)
     by false e false k h = record { same = cc; no_dot = e; no_dots = k }
 
--- a beginning of a string is open where a slash stands last in it
+-- a beginning of a string is open if it is empty or its last byte is a slash
 is_open-take : (t : List ℕ) (a : ℕ) → a ≤ length t → (0 < a → get_or t (a - 1) 0 ≡ 47)
     → is_open (take a t) ≡ true
 is_open-take t zero l h = refl

@@ -10,7 +10,7 @@ use Rattle.path_runs.specs.Buffer.{buffer_after}
 abbrev pub bytes_over : List ℕ → List ℕ → List ℕ
 bytes_over bytes old = bytes ++ drop (length bytes) old
 
--- what stands behind bytes at the beginning of a buffer is what stood there
+-- bytes put at the beginning of a buffer change nothing of what stands behind them
 drop-bytes_over : (first old : List ℕ) (n : ℕ)
     → drop (length first + n) (bytes_over first old) ≡ drop (length first + n) old
 drop-bytes_over first old n =
@@ -18,7 +18,7 @@ drop-bytes_over first old n =
     ∙ ap (drop n) (drop_at first (drop (length first) old) (length first) refl)
     ∙ drop-drop n (length first) old
 
--- bytes put at the beginning, and more put behind them, are both together put at the beginning
+-- to put bytes at the beginning, and then more behind them, is to put both there at once
 pub overlay-bytes_over : (first second old : List ℕ)
     → overlay (length first) second (bytes_over first old) ≡ bytes_over (first ++ second) old
 overlay-bytes_over first second old =

@@ -18,7 +18,7 @@ pub slice_range-behind_first : (s t : List ℕ) → s ≡ t → slice_range s 1 
 slice_range-behind_first s t e =
     ap (λ n. take n (drop 1 s)) (sym (length-drop 1 s)) ∙ take-length (drop 1 s) ∙ ap (drop 1) e
 
--- where the test of all pieces answers true, all count
+-- if the test of all pieces answers true, all count
 AllCount-list_all : (ps : List (List ℕ)) → list_all counts ps ≡ true → AllCount ps
 AllCount-list_all [] h = tt
 AllCount-list_all (p ∷ ps) h = (
@@ -41,7 +41,7 @@ lean_pieces-all (p ∷ ps) h = by (bytes_eq p cur_dir) refl
     by false d = subst (λ c. cond c (cur_dir ∷ filter counts ps) (filter counts (p ∷ ps)) ≡ p ∷ ps)
         (sym d) (filter-all (p ∷ ps) h)
 
--- a rooted path is its own spelling where all pieces of t, which follows the root, count
+-- a rooted path is its own spelling if all pieces of t, which follows the root, count
 pub spelling_of-own_rooted : (s t : List ℕ) → list_all counts (slice_split is_slash t) ≡ true
     → is_rooted s ≡ true → t ≡ drop 1 s → spelling_of (values s) ≡ s
 spelling_of-own_rooted s t h r e =
@@ -53,7 +53,7 @@ spelling_of-own_rooted s t h r e =
     ∙ ap (λ ps. slash ∷ join_with_byte slash ps) (filter-all ps (AllCount-list_all ps h))
     ∙ ap (λ u. slash ∷ u) (join_with_byte-pieces t ∙ same) ∙ sym u.1
 
--- a rootless path is its own spelling where all its pieces count
+-- a rootless path is its own spelling if all its pieces count
 pub spelling_of-own_rootless : (s t : List ℕ) → list_all counts (slice_split is_slash t) ≡ true
     → is_rooted s ≡ false → t ≡ s → spelling_of (values s) ≡ s
 spelling_of-own_rootless s t h r e =

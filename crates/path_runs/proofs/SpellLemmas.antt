@@ -17,7 +17,7 @@ bytes_of_pieces : (ps : List (List ℕ)) → map value_bytes (map value_of_piece
 bytes_of_pieces [] = refl
 bytes_of_pieces (p ∷ ps) = ap₂ (λ q qs. q ∷ qs) (value_bytes-piece p) (bytes_of_pieces ps)
 
--- the pieces that count, with slashes between, are what these names are spelled as
+-- the names of some pieces are spelled as those pieces that count, with slashes between
 pub slashed_bytes-names : (ps : List (List ℕ))
     → slashed_bytes (names_of ps) ≡ join_with_byte slash (filter counts ps)
 slashed_bytes-names ps = ap (join_with_byte slash) (bytes_of_pieces (filter counts ps))

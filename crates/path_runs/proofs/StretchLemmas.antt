@@ -56,7 +56,8 @@ spelling_of-name s l e =
     ∙ slashed_bytes-cons (first_value p) vs
     ∙ ap₂ (λ b ws. b ++ slash_each ws) (first_value-bytes p) (values-inner_parts n (drop n s))
 
--- a rooted path that has two bytes and ends in a part is spelled as its parts, each behind a slash
+-- a rooted path of two bytes or more that ends in a part is spelled as its parts, each behind a
+-- slash
 spelling_of-behind_root : (x : ℕ) (s : List ℕ) → eqb x 47 ≡ true → 1 < length (x ∷ s)
     → EndsInPart (x ∷ s) → spelling_of (values (x ∷ s)) ≡ slashed_parts s
 unfolding values slashed_parts
@@ -73,8 +74,8 @@ spelling_of-behind_root x s e l ends =
     by [] end = absurd (omega (arith, l))
     by (p ∷ ps) end = ap (λ u. slash ∷ u) (slashed_bytes-cons p.value (map (λ q. q.value) ps))
 
--- a path that ends in a part is spelled as its bytes up to the first gap, and then the parts behind
--- it, each behind a slash
+-- a path of two bytes or more that ends in a part is spelled as its bytes up to the first gap, and
+-- then the parts behind it, each behind a slash
 pub spelling_of-stretch : (s : List ℕ) (n : ℕ) → 1 < length s → EndsInPart s → FirstGap s n
     → spelling_of (values s) ≡ take n s ++ slashed_parts (drop n s)
 spelling_of-stretch [] n l ends h = absurd (omega arith)
@@ -83,7 +84,7 @@ spelling_of-stretch (x ∷ s) n l ends h = by_test (eqb x 47)
     ∙ sym (first_slash x s e) ∙ kept_stretch (x ∷ s) n h)
     (λ e. spelling_of-name (x ∷ s) (omega arith) e ∙ kept_stretch (x ∷ s) n h)
 
--- no byte, or one, is its own spelling
+-- a path of at most one byte is its own spelling
 pub spelling_of-short : (s : List ℕ) → length s < 2 → spelling_of (values s) ≡ s
 unfolding slashed_parts inner_parts
 spelling_of-short [] l = ap spelling_of values-nil ∙ spelling_of-nil
@@ -96,7 +97,7 @@ spelling_of-short (x ∷ []) l = by_test (eqb x 47)
     root = spelling_of-rooted []
 spelling_of-short (x ∷ y ∷ s) l = absurd (omega arith)
 
--- a path that ends in a part is its own spelling where it has no gap, or one byte at most
+-- a path that ends in a part is its own spelling if it has no gap, or one byte at most
 pub spelling_of-whole : (s : List ℕ) (n : ℕ) → EndsInPart s → FirstGap s n
     → (length s < 2) ⊎ ((2 ≤ length s) × (n ≡ length s)) → spelling_of (values s) ≡ s
 spelling_of-whole s n ends h (inl short) = spelling_of-short s short
@@ -104,7 +105,7 @@ spelling_of-whole s n ends h (inr whole) =
     let all : length s ≤ n = omega (arith, whole.1) in
     spelling_of-stretch s n whole.0 ends h ∙ nothing_left (take n s) s n all ∙ take_all n s all
 
--- what a fresh walk stands for ends in a part
+-- the rest of a fresh walk ends in a part
 pub rest-ends : (s t : List ℕ) → t ≡ rest s 0 0 → EndsInPart t
 rest-ends s t e =
     let trim = trims_end s in

@@ -16,14 +16,14 @@ use Rattle.path_runs.proofs.LeadLemmas.{drop_lead-values}
 use Rattle.unix_path.specs.CommonDir.{inner_values}
 use Rattle.path_runs.proofs.ValueLemmas.{some_values, append_values, values-join_of_rootless}
 
--- behind the values of vs stand those of ws
+-- of vs and then ws, ws is left behind vs
 middle-append : (vs ws : List Value) → middle (length vs) 0 (vs ++ ws) ≡ ws
 middle-append vs ws =
     let n = length vs in
     let size : length (vs ++ ws) - (n + 0) ≡ length ws = omega (arith, length-append vs ws) in
     ap₂ take size (drop_at vs ws n refl) ∙ take_all (length ws) ws (omega arith)
 
--- what is left of a path whose values begin with those of the base
+-- a path without its base has the values that follow the base's
 pub values-stripped_of : (s base : List ℕ) (more : List Value) → values base ++ more ≡ values s
     → values (stripped_of s base) ≡ more
 values-stripped_of s base more e =
@@ -60,7 +60,7 @@ pub values-join_of_stripped : (s base : List ℕ) → Begins (values base) (valu
     → values (join_of base (stripped_of s base)) ≡ values s
 values-join_of_stripped s base h = strip_join s base h.0 h.1
 
--- where `joined` is a path without its base, joined to that base, it is equal to the path
+-- if `joined` is a path without its base, joined to that base, it is equal to the path
 pub strip_then_join : (s base joined : List ℕ) → Begins (values base) (values s)
     → joined ≡ join_of base (stripped_of s base) → values joined ≡ values s
 strip_then_join s base joined h e = ap values e ∙ values-join_of_stripped s base h

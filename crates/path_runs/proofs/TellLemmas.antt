@@ -60,7 +60,7 @@ piece_told p h d e = record {
 values-told : (s : List ℕ) → AllByRecursion IsTold (values s)
 values-told s = values-hold IsTold root_told dot_told piece_told s
 
--- two strings that are the same have the same piece before their first slashes
+-- if two pieces, each with a slash and more behind it, make the same string, they are the same
 same_piece : (p q x y : List ℕ) → NoSlash p → NoSlash q → p ++ slash ∷ x ≡ q ++ slash ∷ y → p ≡ q
 same_piece p q x y h k e =
     let split : (r z : List ℕ) → NoSlash r
@@ -88,7 +88,7 @@ same_first v w x y m n e =
     let after = append_cancel_left (value_bytes v) _ _ whole in
     (same, with_zeros-cancel v x y (append_cancel_left (slash ∷ []) _ _ after))
 
--- where what some values feed begins what others feed, they begin the others
+-- if the bytes that some values feed begin those of others, the values begin the others
 begins-told : (vs ws : List Value) → AllByRecursion IsTold vs → AllByRecursion IsTold ws
     → (x : List ℕ) → concat (hash_input_of vs) ++ x ≡ concat (hash_input_of ws) ++ []
     → Begins vs ws
@@ -106,7 +106,7 @@ begins-told (v ∷ vs) (w ∷ ws) m n x e =
     let others = begins-told vs ws m.1 n.1 x first.1 in
     (others.0, ap₂ (λ u us. u ∷ us) first.0 others.1)
 
--- where what one path feeds begins what another feeds, its values begin the other's
+-- if the bytes that one path feeds begin another's, its values begin the other's
 pub bytes_fed-Begins : (s t x : List ℕ)
     → concat (hash_input_of (values s)) ++ x ≡ concat (hash_input_of (values t))
     → Begins (values s) (values t)

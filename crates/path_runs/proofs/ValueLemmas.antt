@@ -49,7 +49,8 @@ some_values s l = by_test (eqb (get_or s 0 0) 47)
     (λ e. (_, _, ap (map (λ (p : Part). p.value)) (parts-root s (eqb-true _ 47 e))))
     (λ e. (_, _, ap (map (λ (p : Part). p.value)) (parts-name s l e)))
 
--- the values of a join with b: what b adds is its inner values, or its own behind no value
+-- the values of a join with b: behind a value b adds its inner values, and behind none all of its
+-- values
 abbrev pub append_values : List Value → List ℕ → List Value
 append_values [] b = values b
 append_values (v ∷ vs) b = (v ∷ vs) ++ inner_values b

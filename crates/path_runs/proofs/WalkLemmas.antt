@@ -43,7 +43,7 @@ turns_total (t ∷ ts) =
     let backs = sum_by-cons (λ t. cond (is_back t) 1 0) t ts in
     omega (arith, one_turn t, turns_total ts, fronts, backs)
 
--- behind n turns or more, another is none of the first n
+-- behind n turns or more, one more turn isn't among the first n
 pub take-take_late : (n i : ℕ) (ts : List Turn) → n ≤ i
     → take n (take (i + 1) ts) ≡ take n (take i ts)
 take-take_late n i ts l = take-take n (i + 1) ts (omega arith) ∙ sym (take-take n i ts l)
@@ -52,7 +52,7 @@ take-take_late n i ts l = take-take n (i + 1) ts (omega arith) ∙ sym (take-tak
 pub take-take_early : (n i : ℕ) (ts : List Turn) → i ≤ n → take n (take i ts) ≡ take i ts
 take-take_early n i ts l = take_all n (take i ts) (omega (arith, length-take i ts))
 
--- where v stands first behind the first k values, it is the value at k
+-- if v stands first behind the first k values, it is the value at k
 pub get_or-first : (vs ws : List Value) (k n : ℕ) (v : Value) → v ∷ ws ≡ take n (drop k vs)
     → (0 < n) × (k < length vs) × (get_or vs k v ≡ v)
 get_or-first vs ws k n v e =
@@ -66,7 +66,7 @@ get_or-first vs ws k n v e =
           ∙ ap (λ l. get_or l 0 v) (sym e),
     )
 
--- where v stands last between the first k values and the last m, it is the value before these m
+-- if v stands last between the first k values and the last m, it is the value before these m
 pub get_or-last : (vs ws : List Value) (k m : ℕ) (v : Value) → ws ++ v ∷ [] ≡ middle k m vs
     → (k + m < length vs) × (get_or vs (length vs - 1 - m) v ≡ v)
 get_or-last vs ws k m v e =

@@ -88,7 +88,7 @@ HasWalked-back_some s ts i front left behind v after h l turn gives leaves =
           ∙ sym (take_more (reverse vs) m v place) ∙ ap (λ j. take j (reverse vs)) (sym backs);
     }
 
--- one more turn at either end takes nothing where no part is left
+-- one more turn at either end takes nothing if no part is left
 HasWalked-none : (s : List ℕ) (ts : List Turn) (i : ℕ) (front : List Value) (left : List ℕ)
     (behind : List Value) (after : List ℕ) (a b : ℕ) → HasWalked s ts i front left behind
     → values left ≡ [] → after ≡ rest left a b → HasWalked s ts (i + 1) front after behind

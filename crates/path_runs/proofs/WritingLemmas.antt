@@ -5,7 +5,7 @@ use Rattle.path_runs.specs.Overlay.{overlay}
 use Rattle.path_runs.specs.Buffer.{buffer_after}
 use Rattle.path_runs.proofs.OverlayLemmas.{bytes_over, overlay-bytes_over, buffer_after-fits}
 
--- the first `at` bytes of the whole are put at the beginning of the old, and `left` follows them
+-- `out` is `old` with the first `at` bytes of `whole` put at the beginning; `left` follows them
 pub record WritesOn (whole old : List ℕ) (at : ℕ) (out left : List ℕ) : Type 0 where
   pub start : List ℕ
   pub at_is : at ≡ length start
@@ -31,7 +31,7 @@ writes_stretch {whole} {old} {out} {left} {new} {at} {end} stretch more h e plac
           ∙ h.whole_is;
     }
 
--- where there is room for the whole, there is room for a stretch of what is left
+-- if there is room for the whole, there is room for a stretch of what is left
 pub writes_room : {whole old out left : List ℕ} {at : ℕ} (stretch more : List ℕ)
     → WritesOn whole old at out left → left ≡ stretch ++ more → length whole ≤ length old
     → at + length stretch ≤ length old
@@ -46,7 +46,7 @@ writes_room {whole} {old} {out} {left} {at} stretch more h e fits =
       fits,
     )
 
--- where nothing is left the whole is written
+-- if nothing is left, the whole is written
 pub writes_last : {whole old out left : List ℕ} {at : ℕ} → WritesOn whole old at out left
     → left ≡ [] → length whole ≤ length old → out ≡ buffer_after whole old
 writes_last {whole} {old} {out} {left} {at} h e fits =
@@ -54,7 +54,7 @@ writes_last {whole} {old} {out} {left} {at} h e fits =
     sym (append-nil h.start) ∙ ap (λ left. h.start ++ left) (sym e) ∙ h.whole_is in
     h.out_is ∙ ap (λ start. bytes_over start old) all ∙ sym (buffer_after-fits whole old fits)
 
--- where nothing is left as many bytes are written as the whole has
+-- if nothing is left, as many bytes are written as the whole has
 pub writes_end : {whole old out left : List ℕ} {at : ℕ} → WritesOn whole old at out left
     → left ≡ [] → at ≡ length whole
 writes_end {whole} {old} {out} {left} {at} h e =

@@ -26,11 +26,11 @@ EditsLeaveAlike =
     (s t : List ℕ) (ds es : List EditValue) → SameValues s t → AllZip SameEdit ds es
     → SameValues (edits_of s ds).0 (edits_of t es).0
 
--- the values of n are one name
+-- n has one value, which is this name
 abbrev pub IsOneName : List ℕ → List ℕ → Type 0
 IsOneName n name = values n ≡ Normal name ∷ []
 
--- a push of one name and a pop answer nothing and true
+-- a push of one name answers nothing, and a pop after it answers true
 abbrev pub PopAnswersTrue : Type 0
 PopAnswersTrue =
     (s n name : List ℕ) → IsOneName n name
@@ -41,7 +41,7 @@ abbrev pub PopUndoesPush : Type 0
 PopUndoesPush =
     (s n name : List ℕ) → IsOneName n name → SameValues (edits_of s (Push n ∷ Pop ∷ [])).0 s
 
--- one name, set in place of a file name, leaves the parent the same bytes
+-- one name, set in place of a file name, leaves the parent's bytes as they were
 abbrev pub NewNameKeepsParent : Type 0
 NewNameKeepsParent =
     (s old n name : List ℕ) → file_name_of (values s) ≡ Some old → IsOneName n name
@@ -76,6 +76,6 @@ NewExtensionKeepsStem =
 abbrev pub NewExtensionIsSet : Type 0
 NewExtensionIsSet = (s x t : List ℕ) → TakesExtension s x t → extension_of (values t) ≡ Some x
 
--- a plain extension that was set leaves the parent the same bytes
+-- a plain extension that was set leaves the parent's bytes as they were
 abbrev pub NewExtensionKeepsParent : Type 0
 NewExtensionKeepsParent = (s x t : List ℕ) → TakesExtension s x t → parent_of t ≡ parent_of s

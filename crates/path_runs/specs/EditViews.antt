@@ -19,7 +19,7 @@ edit_value (SetExtension extension) = edit_lists.SetExtension extension.bytes.no
 edit_value (AddExtension extension) = edit_lists.AddExtension extension.bytes.now
 edit_value Clear = edit_lists.Clear
 
--- what an edit of the extension answers, by what the call gives; none where an allocation failed
+-- what an edit of the extension answers, by the call's result; none if an allocation failed
 abbrev pub extension_answer : Result Bool ExtensionError → Option Answer
 extension_answer (Ok is_made) = Some (answers.Flag is_made)
 extension_answer (Err Separator) = Some answers.Separator

@@ -1,4 +1,5 @@
--- Words of the gaps between the parts of a path. No public clause cites them.
+-- The gaps of a path: its slashes with an empty piece or the piece `.` behind them. No public
+-- clause cites these words.
 use Rattle.std.specs.Prelude.{◌≡◌, ◌<◌, ◌≤◌, ℕ, ◌+◌, ◌-◌, ◌==◌, Bool, true, false, ◌||◌, ◌&&◌}
 use Rattle.std.specs.Prelude.{List, ◌∷◌, ◌++◌, length, drop, slice_index, slice_index_or}
 use Rattle.std.specs.List.{flat_map}
@@ -29,8 +30,8 @@ pub record IsPart (s : List ℕ) (at : ℕ) : Type 0 where
 unfoldable pub slashed_parts : List ℕ → List ℕ
 slashed_parts s = flat_map (λ v. slash ∷ value_bytes v) (inner_values s)
 
--- these bytes stand in s from the slash before the part at `start` on: that part and those behind
--- it, each behind a slash, up to a gap or to the end of s
+-- `stretch` is the part at `start` and some parts behind it, each behind a slash; as many bytes of
+-- s, from the slash before that part on, reach to another slash or to the end
 pub record IsCopied (s : List ℕ) (start : ℕ) (stretch : List ℕ) : Type 0 where
   pub more : 1 < length stretch
   pub in_range : start - 1 + length stretch ≤ length s

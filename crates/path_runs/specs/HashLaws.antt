@@ -13,7 +13,7 @@ bytes_fed s = concat (hash_input_of (values s))
 abbrev pub InputsTell : Type 0
 InputsTell = (s t : List ℕ) → bytes_fed s ≡ bytes_fed t → SameValues s t
 
--- the bytes that a path feeds begin those of another only where its values do
+-- the bytes that a path feeds begin another's only if its values begin the other's
 abbrev pub InputsBegin : Type 0
 InputsBegin =
     (s t : List ℕ) → Begins (bytes_fed s) (bytes_fed t) → Begins (values s) (values t)

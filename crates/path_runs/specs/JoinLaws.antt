@@ -26,7 +26,8 @@ abbrev pub drop_lead : List Value → List Value
 drop_lead (RootDir ∷ vs) = vs
 drop_lead vs = drop_dot vs
 
--- a join with a rootless b has the values of a, and then those of b without a leading dot
+-- a join of a, which isn't empty, with a rootless b has the values of a, and then those of b
+-- without a leading dot
 abbrev pub JoinAddsValues : Type 0
 JoinAddsValues =
     (a b : List ℕ) → a ≢ [] → is_rooted b ≡ false

@@ -10,23 +10,23 @@ use Rattle.unix_path.specs.Prefixes.{Begins}
 abbrev pub PrefixBothWays : Type 0
 PrefixBothWays = (v w : List Value) → Begins v w → Begins w v → v ≡ w
 
--- what lies between two value lists that begin with base begins with it too
+-- if two value lists begin with base, so does every one between them
 abbrev pub UnderIsInterval : Type 0
 UnderIsInterval =
     (base u v w : List Value) → Begins base u → Begins base w
     → is_le (values_cmp u v) ≡ true → is_le (values_cmp v w) ≡ true → Begins base v
 
--- a value list is not greater than any that it begins
+-- a value list is not greater than any that begins with it
 abbrev pub BaseBeforeUnder : Type 0
 BaseBeforeUnder = (base v : List Value) → Begins base v → is_le (values_cmp base v) ≡ true
 
--- two paths that begin with the same bytes and then a slash are in the order of what follows it
+-- two paths that begin with the same bytes and then a slash are ordered by what follows it
 abbrev pub OrderBehindSlash : Type 0
 OrderBehindSlash = (prefix s t : List ℕ)
     → values_cmp (values (prefix ++ slash ∷ s)) (values (prefix ++ slash ∷ t))
     ≡ values_cmp (inner_values s) (inner_values t)
 
--- two paths whose common prefix has a slash are in the order of what follows its last slash
+-- two paths whose common prefix has a slash are ordered by what follows its last slash
 abbrev pub OrderBehindCommonDir : Type 0
 OrderBehindCommonDir = (s t : List ℕ) → let n = common_dir_of s t in 0 < n
     → values_cmp (values s) (values t)

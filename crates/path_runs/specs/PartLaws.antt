@@ -15,6 +15,6 @@ without k m vs = take (length vs - (k + m)) (drop k vs)
 abbrev pub RestHasValues : Type 0
 RestHasValues = (s : List ℕ) (k m : ℕ) → values (rest s k m) ≡ without k m (values s)
 
--- the rest of a rest is the rest after as many parts in all, byte for byte
+-- the rest of a rest is the rest of the path without all of these parts, byte for byte
 abbrev pub RestOfRest : Type 0
 RestOfRest = (s : List ℕ) (k m i j : ℕ) → rest (rest s k m) i j ≡ rest s (k + i) (m + j)

@@ -28,7 +28,7 @@ abbrev pub ParentIsBefore : Type 0
 ParentIsBefore =
     (s parent : List ℕ) → parent_of s ≡ Some parent → IsBefore (values parent) (values s)
 
--- a path's parent, joined with its file name, is the path again
+-- a path's parent, joined with its file name, is equal to the path
 abbrev pub ParentJoinsName : Type 0
 ParentJoinsName =
     (s parent name : List ℕ) → parent_of s ≡ Some parent → file_name_of (values s) ≡ Some name

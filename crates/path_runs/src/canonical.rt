@@ -1,4 +1,4 @@
-//! The shortest path with the same values, and whether a path is that.
+//! The canonical spelling of a path: the shortest path that is equal to it.
 ghost use Rattle.std.specs.Prelude.{◌≡◌, ◌<◌, ◌≤◌, ◌++◌, ◌↔◌, true, length, drop};
 ghost use Rattle.std.specs.Prelude.{IfOk, OnOk, IsTrue};
 ghost use Rattle.unix_bytes.specs.Owned.{owned_bytes};
@@ -16,8 +16,8 @@ use unix_bytes::bytes::{UnixStr, UnixString};
 use unix_path::{Components, Path, PathBuf};
 pub use written::write_canonical;
 
-// Appends the parts behind the gap at `gap`, each behind a slash. The parts up to the next gap
-// already stand so in the path, and the slash before them too: they are copied as one.
+// Appends the parts behind the gap at `gap`, each with a slash before it. Parts with no gap between
+// them already stand in the path like that, and are copied together.
 fn push_parts(text: &mut UnixString, bytes: &[u8], gap: usize) -> Result<(), AllocError>
     requires in_range { gap ≤ length bytes.now }
     requires gap { gap < length bytes.now → is_gap bytes.now gap ≡ true }
@@ -48,7 +48,7 @@ pub fn canonical(alloc: Global, path: Path<'_>) -> Result<PathBuf, AllocError>
     let whole = path.components().as_path();
     let bytes = whole.as_unix_str().as_bytes();
     let gap = first_gap(bytes);
-    // Without a gap it is its own spelling, and so is a single byte, as the root.
+    // Bytes without a gap are their own spelling, and so is a single byte such as the root.
     if bytes.len() < 2 || gap == bytes.len() {
         return whole.to_path_buf(alloc);
     }
@@ -72,7 +72,7 @@ pub fn collected(alloc: Global, components: Components<'_>) -> Result<PathBuf, A
     PathBuf::from_iter(alloc, components.map(|part| part.as_path()))
 }
 
-/// Whether the path is in canonical form: whether it is the one that `canonical` gives for it.
+/// Whether the path is in canonical form: whether `canonical` gives the same bytes for it.
 ///
 /// Does not allocate. Not in Rust's std.
 ///
@@ -84,7 +84,7 @@ pub fn is_canonical(path: Path<'_>) -> bool
 {
     let whole = path.components().as_path();
     let bytes = whole.as_unix_str().as_bytes();
-    // What doesn't count behind the last part is left out of `whole`.
+    // The filler behind the last part is left out of `whole`.
     if bytes.len() < path.as_unix_str().len() {
         return false;
     }

@@ -1,4 +1,4 @@
-//! Edits of a path, as values, and lists of them applied.
+//! Edits of a path as values, and a function that makes a list of them.
 ghost use Rattle.std.specs.Prelude.{◌≡◌, ◌↔◌, ◌<◌, [], true, length, take, slice_get, MatchOption};
 ghost use Rattle.std.specs.Prelude.{map, IsSome, IsOk, IfOk, IfErr, IfSome, OnOk, OnErr};
 ghost use Rattle.std.specs.Result.{result_ok};
@@ -15,9 +15,9 @@ use unix_path::{ExtensionError, Path, PathBuf};
 
 /// One edit of a path, with the bytes that it holds.
 ///
-/// Each variant is the method of `PathBuf` of its name. Two pushes are equal if their paths are
-/// equal, and two other edits of one kind if they hold the same bytes. Copying an edit copies views
-/// and not bytes. Not in Rust's std.
+/// Each variant stands for the method of `PathBuf` with its name. Two pushes are equal if their
+/// paths are equal, and two other edits of one kind if they hold the same bytes. Copying an edit
+/// copies views and not bytes. Not in Rust's std.
 ///
 /// `Edit::Push(path)` joins `path` to the edited path.
 #[derive(Clone, Copy, Debug, PartialEq, Eq)]
@@ -49,8 +49,8 @@ pub enum Answer {
     Separator,
 }
 
-/// Why a list of edits ended early: an allocation failed. An edit that answers `Separator` is no
-/// error of the list. Not in Rust's std.
+/// Why a list of edits ended early: an allocation failed. An edit that answers `Separator` does not
+/// end the list. Not in Rust's std.
 ///
 /// `ApplyError { done: 1 }` says that the first edit was made, and that the second one failed.
 #[derive(Debug, Drop)]
@@ -101,14 +101,14 @@ fn apply_one(path: &mut PathBuf, edit: &Edit<'_>) -> Result<Answer, AllocError>
 /// Makes these edits one after the other, and returns the answer of each.
 ///
 /// Allocates once for all answers, before the first edit; then each edit allocates as the method of
-/// `PathBuf` of its name does. An empty list allocates nothing. If an allocation fails, the path
+/// `PathBuf` with its name does. An empty list allocates nothing. If an allocation fails, the path
 /// keeps what the edits before it left, and the error has their number: 0 if the answers could not
 /// be allocated. An edit whose extension holds a `/` does not fail: its answer is `Separator`, it
 /// leaves the bytes as they were, and the next edit is made. Not in Rust's std; each edit is the
-/// method of its name of Rust's `PathBuf`.
+/// method of Rust's `PathBuf` with its name.
 ///
-/// For `foo/.` with the extension `bar`, a pop and a pop it leaves the empty path, and answers
-/// true, true and false.
+/// On `foo/.`, setting the extension `bar` and then two pops leave the empty path, and answer true,
+/// true and false.
 pub fn apply(
     alloc: Global,
     path: &mut PathBuf,

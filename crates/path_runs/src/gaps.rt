@@ -1,4 +1,4 @@
-//! The gaps between the parts of a path, which its spelling leaves out.
+//! The gaps of a path: its slashes with an empty piece or the piece `.` behind them.
 ghost use Rattle.std.specs.Prelude.{◌≡◌, ℕ, ◌+◌, ◌<◌, ◌≤◌, length, drop, false, slice_index};
 ghost use Rattle.unix_path.specs.Parts.{slash};
 ghost use Rattle.unix_path.specs.Steps.{is_idle};
@@ -15,7 +15,7 @@ fn is_idle(bytes: &[u8], at: usize) -> bool
     bytes[at] == b'/' || (bytes[at] == b'.' && (at + 1 == bytes.len() || bytes[at + 1] == b'/'))
 }
 
-// Whether the byte at `at` is a slash, and the piece behind it doesn't count.
+// Whether the byte at `at` is a slash, and the piece behind it is empty or `.`.
 #[inline]
 fn is_gap(bytes: &[u8], at: usize) -> bool
     requires { at < length bytes.now }
@@ -24,8 +24,8 @@ fn is_gap(bytes: &[u8], at: usize) -> bool
     bytes[at] == b'/' && (at + 1 == bytes.len() || is_idle(bytes, at + 1))
 }
 
-// How many of the 16 bytes from `at` on stand before the first gap that begins at one of them, or
-// 16 where none does.
+// How many of the 16 bytes from `at` on stand before the first gap among them, or 16 if no gap
+// begins there.
 #[inline]
 fn gapless_in_lanes(bytes: &[u8], at: usize) -> usize
     requires { at + 18 ≤ length bytes.now }
@@ -45,8 +45,8 @@ fn gapless_in_lanes(bytes: &[u8], at: usize) -> usize
     }
 }
 
-// How many bytes stand before the first gap, or a few less: the last two bytes are not looked at,
-// and none of fewer than 18.
+// The place of the first gap, or of the last two bytes if no gap begins before these. It is 0 for
+// fewer than 18 bytes.
 #[inline]
 fn gapless_len(bytes: &[u8]) -> usize
     ensures in_range { result ≤ length bytes.now }
@@ -67,8 +67,8 @@ fn gapless_len(bytes: &[u8]) -> usize
     last + gapless_in_lanes(bytes, last)
 }
 
-// Where the first gap begins, or the length where there is none. Nearly all bytes are looked at 16
-// at a time, and only where that search ended one by one.
+// The place of the first gap, or the length if there is none. The bytes are searched 16 at a time,
+// and one by one from the place where that search ends.
 #[inline]
 pub(crate) fn first_gap(bytes: &[u8]) -> usize
     ensures { FirstGap bytes.now result }
@@ -80,7 +80,7 @@ pub(crate) fn first_gap(bytes: &[u8]) -> usize
     at
 }
 
-// Where the next part begins behind the gap at `gap`, or the length where none does.
+// The place of the next part behind the gap at `gap`, or the length if no part follows.
 #[inline]
 pub(crate) fn past_gap(bytes: &[u8], gap: usize) -> usize
     requires in_range { gap ≤ length bytes.now }

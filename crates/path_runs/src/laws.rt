@@ -1,4 +1,4 @@
-//! Laws of paths, over the definitions alone.
+//! Laws of paths: facts about the definitions alone, which a proof gets by calling them.
 mod edits;
 mod hashes;
 mod joins;

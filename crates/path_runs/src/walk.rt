@@ -22,8 +22,7 @@ pub enum Turn {
 
 /// What a walk took from each end of a path, and what it left between. Not in Rust's std.
 ///
-/// For `a/b/c` by a turn in front and one behind it has `a` in front, `b` as the rest, and `c`
-/// behind.
+/// For `a/b/c` and the turns front and back, `front` is `a`, `rest` is `b` and `behind` is `c`.
 #[derive(Debug, Drop)]
 pub struct Walked<'a> {
     /// The parts taken in front, in the order of the path.

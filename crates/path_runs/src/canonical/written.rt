@@ -1,4 +1,4 @@
-//! The canonical spelling, written to a buffer of the caller's.
+//! The canonical spelling, written to the caller's buffer.
 ghost use Rattle.std.specs.Prelude.{◌≡◌, ◌+◌, ◌<◌, ◌≤◌, ◌++◌, true, length, take, drop};
 ghost use Rattle.unix_path.specs.Parts.{values};
 ghost use Rattle.unix_path.specs.Steps.{EndsInPart};
@@ -10,7 +10,8 @@ ghost use Rattle.path_runs.specs.Spelling.{spelling_of};
 use crate::gaps::{first_gap, past_gap};
 use unix_path::Path;
 
-// How many bytes of a path that ends in a part begin its spelling: those before the first gap.
+// How many bytes of the path are kept at the beginning of its spelling: those before the first gap,
+// or a single byte. The path ends in a part.
 #[inline]
 fn kept_len(bytes: &[u8]) -> usize
     requires { EndsInPart bytes.now }
@@ -26,8 +27,8 @@ fn kept_len(bytes: &[u8]) -> usize
     first_gap(bytes)
 }
 
-// The part at `start` and those behind it up to the next gap, with the slash before them: these
-// bytes stand so in the spelling.
+// The bytes from the slash before the part at `start` up to the next gap or the end. The spelling
+// has them as they are.
 #[inline]
 fn stretch_at(bytes: &[u8], start: usize) -> &[u8]
     requires in_range { start < length bytes.now }
@@ -55,7 +56,7 @@ fn parts_len(bytes: &[u8], gap: usize) -> usize
     len
 }
 
-// Puts the bytes at `at`, in place of as many.
+// Overwrites the bytes of `out` from `at` on with `bytes`.
 #[inline]
 fn place(out: &mut [u8], at: usize, bytes: &[u8])
     requires { at + length bytes.now ≤ length out.old }
@@ -64,8 +65,8 @@ fn place(out: &mut [u8], at: usize, bytes: &[u8])
     out[at..at + bytes.len()].copy_from_slice(bytes);
 }
 
-// Writes the bytes before the gap at `gap`, and then the parts behind it, each with a slash before
-// it, to the beginning of the buffer, and gives how many bytes these are.
+// Writes to the beginning of `out` the bytes before the gap at `gap`, and then the parts behind it,
+// each with a slash before it. Returns how many bytes it wrote.
 #[inline]
 fn write_stretches(bytes: &[u8], gap: usize, out: &mut [u8]) -> usize
     requires in_range { gap ≤ length bytes.now }
@@ -88,11 +89,11 @@ fn write_stretches(bytes: &[u8], gap: usize, out: &mut [u8]) -> usize
     at
 }
 
-/// Writes the canonical spelling of a path to `out`, and gives how many bytes it has.
+/// Writes the canonical spelling of a path to the beginning of `out`, and returns its length.
 ///
-/// It is what `canonical` gives, never longer than the path. If `out` has room for all of it, it
-/// stands at the beginning of `out`, and the bytes behind stay; else nothing is written. Does not
-/// allocate. Not in Rust's std.
+/// The spelling is what `canonical` gives, and never longer than the path. The bytes of `out`
+/// behind it stay as they were. If `out` has no room for all of it, nothing is written, and the
+/// length that is returned is greater than that of `out`. Does not allocate. Not in Rust's std.
 ///
 /// For `.//a/./b/` it is `./a/b`, of 5 bytes.
 pub fn write_canonical(path: Path<'_>, out: &mut [u8]) -> usize
@@ -102,7 +103,8 @@ pub fn write_canonical(path: Path<'_>, out: &mut [u8]) -> usize
     let whole = path.components().as_path();
     let bytes = whole.as_unix_str().as_bytes();
     let gap = kept_len(bytes);
-    // The spelling is never longer than these bytes: no need to count it where they would fit.
+    // The spelling is never longer than these bytes: if they would fit, it needn't be counted
+    // first.
     if bytes.len() > out.len() {
         let len = gap + parts_len(bytes, gap);
         if len > out.len() {

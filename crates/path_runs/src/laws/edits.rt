@@ -7,8 +7,8 @@ ghost use Rattle.path_runs.specs.EditLaws.{NewExtensionKeepsParent};
 
 /// Equal paths stay equal under the same edits, and the edits give the same answers.
 ///
-/// Pushed paths need only be equal. Names and extensions are the same bytes, and may hold slashes
-/// and dots. Calling it does nothing. Not in Rust's std.
+/// Two pushes are the same edit if their paths are equal. Names and extensions have to be the same
+/// bytes, and may hold slashes and dots. Calling it does nothing. Not in Rust's std.
 ///
 /// `a/./..foo` and `a/..foo` are equal. With the empty extension they become `a/./.` and `a/.`,
 /// which are equal again.

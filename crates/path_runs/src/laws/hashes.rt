@@ -3,8 +3,9 @@ ghost use Rattle.path_runs.specs.HashLaws.{InputsTell, InputsBegin};
 
 /// Paths that feed a hasher the same bytes are equal.
 ///
-/// That holds however the bytes are cut into writes. What a path feeds begins what another path
-/// feeds only where its values begin the other's. Calling it does nothing. Not in Rust's std.
+/// That holds however the bytes are cut into writes. The bytes that one path feeds are a prefix of
+/// another's only if its values are a prefix of the other's. Calling it does nothing. Not in Rust's
+/// std.
 ///
 /// `ab` and `a/b` feed different bytes, and so do `/a`, `./a` and `a`.
 pub fn hash_inputs_tell()

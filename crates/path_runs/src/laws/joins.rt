@@ -12,7 +12,7 @@ ghost use Rattle.unix_path.specs.Parts.{is_rooted, values};
 /// A path joined with the empty one keeps its values, but may end in one slash more. Calling it
 /// does nothing. Not in Rust's std.
 ///
-/// `a` joined with `b`, and `a/b` joined with `c/`, is `a/b/c/`, and so is `a` joined with `b/c/`.
+/// `a` joined with `b` and then with `c/` is `a/b/c/`, and so is `a` joined with `b/c/`.
 pub fn join_associative()
     ensures bytes { JoinsAssociate }
     ensures left { EmptyJoins }
@@ -22,8 +22,8 @@ pub fn join_associative()
 /// A join has the values of the first path, and then those of the second.
 ///
 /// That holds if the first isn't empty and the second is rootless; a leading dot of the second is
-/// lost. Behind a slash any bytes add their values without a leading root or dot. Calling it does
-/// nothing. Not in Rust's std.
+/// lost. Bytes that are appended behind a slash add their values too, without a leading root or
+/// dot. Calling it does nothing. Not in Rust's std.
 ///
 /// `/a` joined with `./b` has the values of `/a` and then `b`, and so has `/a/` followed by `/b`.
 pub fn join_values()

@@ -28,17 +28,17 @@ pub fn prefix_both_ways()
     ensures { PrefixBothWays }
 {}
 
-/// What lies between two lists of values that begin with a third begins with it too.
+/// If two lists of values begin with a third, so does every list between them in the order.
 ///
 /// So in the order of paths those that start with a base stand side by side. Calling it does
 /// nothing. Not in Rust's std.
 ///
-/// What lies between `a/b` and `a/b/c/d` in the order starts with `a/b`.
+/// Every path between `a/b` and `a/b/c/d` in the order starts with `a/b`.
 pub fn under_is_interval()
     ensures { UnderIsInterval }
 {}
 
-/// A list of values is not greater than those that it begins.
+/// A list of values is not greater than any list that begins with it.
 ///
 /// So a base stands before all paths that start with it, except those that equal it. Calling it
 /// does nothing. Not in Rust's std.
@@ -48,13 +48,13 @@ pub fn base_before_under()
     ensures { BaseBeforeUnder }
 {}
 
-/// Two paths that begin with the same bytes and then a slash are in the order of what follows it,
-/// where neither a root nor a leading `.` counts.
+/// Two paths that begin with the same bytes and then a slash are ordered by what follows that
+/// slash, without a root or a leading `.`.
 ///
-/// So they are in the order of what follows their `common_dir`, unless that is 0. Calling it does
+/// So two paths are ordered by what follows their `common_dir`, unless that is 0. Calling it does
 /// nothing. Not in Rust's std.
 ///
-/// `x/./b` and `x//a` are in the order of `b` and `a`.
+/// `x/./b` and `x//a` are ordered as `b` and `a` are.
 pub fn order_behind_prefix()
     ensures slash { OrderBehindSlash }
     ensures common_dir { OrderBehindCommonDir }

@@ -27,10 +27,10 @@ pub fn parts_fit()
     ensures items { (s : List ℕ) → sum_by length (map value_bytes (values s)) ≤ length s }
 {}
 
-/// The rest of a path after some parts in front and some behind has the values that are left.
+/// The rest of a path without some parts in front and some behind has the values that are left.
 ///
-/// The rest of a rest is the rest after as many parts in all, byte for byte. Calling it does
-/// nothing. Not in Rust's std.
+/// The rest of a rest is the rest of the path without all of these parts, byte for byte. Calling it
+/// does nothing. Not in Rust's std.
 ///
 /// `/a/./b//c` without one part in front and one behind is `a/./b`, with the values `a` and `b`.
 /// `a/./b` without one in front is `b`, and so is `/a/./b//c` without two in front and one behind.

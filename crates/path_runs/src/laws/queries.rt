@@ -29,7 +29,7 @@ pub fn name_rejoined()
 /// A path's parent is less than the path, and joined with the file name it is equal to the path.
 ///
 /// The first holds for paths that have a parent, the second for those that have a file name too.
-/// The join may be spelled otherwise than the path. Calling it does nothing. Not in Rust's std.
+/// The join may be another spelling of the path. Calling it does nothing. Not in Rust's std.
 ///
 /// The parent of `/a//b` is `/a`, which is less; joined with `b` it is `/a/b`.
 pub fn parent_before()
@@ -49,7 +49,8 @@ pub fn ancestors_step()
     ensures prefixes { AncestorsArePrefixes }
 {}
 
-/// Equal paths have the same answer to every query about parts, or equal paths as answers.
+/// Equal paths give the same answer to each query about parts, or equal paths if the answer is a
+/// path.
 ///
 /// The other path of a query, as a base or a path to compare with, may be replaced by an equal one
 /// too. Queries for the bytes themselves, and `common_dir`, which counts bytes, are no part of the

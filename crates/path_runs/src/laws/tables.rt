@@ -5,9 +5,9 @@ ghost use Rattle.path_runs.specs.TableLaws.{view_bytes};
 
 /// A look-up by a path finds the entry of an equal path.
 ///
-/// The law sees a table as its rows, in which each key is replaced by its values: `rows_of`. A
-/// clause that speaks of the row at the values w writes std's `is_at (values_cmp w)`. Calling it
-/// does nothing. Not in Rust's std.
+/// The law speaks of a table's rows, `rows_of`: its entries, with each key replaced by the key's
+/// values. A clause finds the row at the values w by std's `is_at (values_cmp w)`. Calling it does
+/// nothing. Not in Rust's std.
 ///
 /// With 1 at `a/b`, a look-up by `a//b/` finds 1.
 pub fn lookup_by_values<V>()

@@ -2,7 +2,7 @@ use Rattle.std.proofs.Common.{◌≡◌, ◌-◌, ◌<◌, ◌≤◌, ◌++◌, 
 use Rattle.path_runs.specs.Gaps.{slashed_parts, IsPart}
 use Rattle.path_runs.proofs.canonical.push_parts.Given as goal
 
--- what is left comes behind what was appended
+-- what was appended, and then what is left, is all that is to be appended
 abbrev pub invariant-loop-start : goal.invariant-loop-start
 invariant-loop-start l = record {
   in_range : l.start ≤ length l.bytes;

@@ -2,7 +2,7 @@ use Rattle.std.proofs.Common.{◌≡◌, ◌+◌, ◌-◌, ◌<◌, ◌≤◌, l
 use Rattle.path_runs.specs.Gaps.{slashed_parts, IsPart}
 use Rattle.path_runs.proofs.canonical.written.parts_len.Given as goal
 
--- what is left comes to what was counted
+-- what was counted, and the length of what is left, make up the length of all parts
 abbrev pub invariant-loop-start : goal.invariant-loop-start
 invariant-loop-start l = record {
   in_range : l.start ≤ length l.bytes;
