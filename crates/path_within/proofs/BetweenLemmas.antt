@@ -1,4 +1,4 @@
--- The steps between what is left of two lists of values behind what both begin with.
+-- The steps from one list of values to another, both without the first values that they share.
 use Rattle.std.proofs.Common.{◌≡◌, Bool, true, false, List, [], ◌∷◌, ◌++◌, map, refl, sym, ◌∙◌}
 use Rattle.std.proofs.Common.{Some, None}
 use Rattle.std.specs.List.{list_all, list_any}
@@ -16,7 +16,7 @@ list_all-names (RootDir ∷ vs) h = absurd h
 list_all-names (CurDir ∷ vs) h = absurd h
 list_all-names (ParentDir ∷ vs) h = absurd h
 
--- the test for a root answers false where no value is the root
+-- the test for a root answers false if no value is the root
 pub list_any-roots : (vs : List Value) → NoRoot vs → list_any is_root vs ≡ false
 list_any-roots [] h = refl
 list_any-roots (RootDir ∷ vs) h = absurd h
@@ -24,7 +24,7 @@ list_any-roots (CurDir ∷ vs) h = list_any-roots vs h
 list_any-roots (ParentDir ∷ vs) h = list_any-roots vs h
 list_any-roots (Normal name ∷ vs) h = list_any-roots vs h
 
--- where the test for names answers true, all values are names
+-- if the test for names answers true, all values are names
 pub names_all : (vs : List Value) → list_all is_name vs ≡ true → AreNames vs
 names_all [] e = tt
 names_all (Normal name ∷ vs) e = names_all vs e
@@ -32,7 +32,7 @@ names_all (RootDir ∷ vs) e = absurd (let no : false ≡ true = e in cc)
 names_all (CurDir ∷ vs) e = absurd (let no : false ≡ true = e in cc)
 names_all (ParentDir ∷ vs) e = absurd (let no : false ≡ true = e in cc)
 
--- where the test for a root answers false, no value is the root
+-- if the test for a root answers false, no value is the root
 pub no_roots_any : (vs : List Value) → list_any is_root vs ≡ false → NoRoot vs
 no_roots_any [] e = tt
 no_roots_any (RootDir ∷ vs) e = absurd (let no : true ≡ false = e in cc)
@@ -55,7 +55,7 @@ pub record AreSteps (v w steps : List Value) : Type 0 where
   pub no_roots : NoRoot w
   pub steps_are : ups_of v ++ w ≡ steps
 
--- where there are steps, they go from names to values without a root
+-- if there are steps, they go from names to values without a root
 pub steps_between-is : (v w steps : List Value) → steps_between v w ≡ Some steps
     → AreSteps v w steps
 steps_between-is v w steps e = by (list_all is_name v) (list_any is_root w) refl refl

@@ -1,4 +1,5 @@
--- What climbs, read from the left by a depth, and what is kept behind values that don't climb.
+-- Values that climb, told by a depth that is counted from the left, and what is kept behind values
+-- that don't climb.
 use Rattle.std.proofs.Common.{◌≡◌, ℕ, suc, zero, ◌+◌, ◌<◌, Bool, true, false, cond}
 use Rattle.std.proofs.Common.{List, [], ◌∷◌, ◌++◌, length, take, refl, sym, ap, ap₂, ◌∙◌, arith}
 use Rattle.std.proofs.Common.{inl, inr, ⊎_elim, ◌⊎◌, ◌↔◌}
@@ -12,7 +13,7 @@ use Rattle.path_runs.proofs.LeadLemmas.{IsInner, inner-behind}
 use Rattle.path_within.specs.Resolved.{AreNames, kept_of}
 use Rattle.path_within.specs.Climbs.{Climbs, GoesAbove, is_name, is_parent}
 
--- read from depth n on, the values go above depth 0
+-- read behind n names, some `..` of these values finds no name left to take away
 abbrev pub above_from : ℕ → List Value → Bool
 above_from n [] = false
 above_from n (RootDir ∷ vs) = above_from n vs
@@ -21,7 +22,7 @@ above_from zero (ParentDir ∷ vs) = true
 above_from (suc n) (ParentDir ∷ vs) = above_from n vs
 above_from n (Normal name ∷ vs) = above_from (suc n) vs
 
--- some first values have more `..` than there are names in them and n
+-- some first values have more `..` than n and the number of their names together
 abbrev pub GoesAboveFrom : ℕ → List Value → Type 0
 GoesAboveFrom n vs =
     (k : ℕ) × (n + count_by is_name (take k vs) < count_by is_parent (take k vs))
@@ -36,14 +37,14 @@ parent_count : (v : Value) (vs : List Value)
     → count_by is_parent (v ∷ vs) ≡ cond (is_parent v) 1 0 + count_by is_parent vs
 parent_count v vs = sum_by-cons (λ v. cond (is_parent v) 1 0) v vs
 
--- one more value in front moves the depth by as much as it counts
+-- if v moves the depth from n to m, values that go above from m go above from n with v in front
 one_more : (n m : ℕ) (v : Value) (vs : List Value)
     → n + cond (is_name v) 1 0 ≡ m + cond (is_parent v) 1 0
     → GoesAboveFrom m vs → GoesAboveFrom n (v ∷ vs)
 one_more n m v vs e (k, h) =
     (suc k, omega (arith, name_count v (take k vs), parent_count v (take k vs)))
 
--- what goes above in the reading by depth has some first values with more `..`
+-- values that go above by the depth have some first values with more `..`
 above_from-goes : (n : ℕ) (vs : List Value) → above_from n vs ≡ true → GoesAboveFrom n vs
 above_from-goes n [] e = absurd (let d : false ≡ true = e in cc)
 above_from-goes n (RootDir ∷ vs) e = one_more n n RootDir vs refl (above_from-goes n vs e)
@@ -55,7 +56,7 @@ above_from-goes zero (ParentDir ∷ vs) e =
 above_from-goes (suc n) (ParentDir ∷ vs) e =
     one_more (suc n) n ParentDir vs (omega arith) (above_from-goes n vs e)
 
--- one value less in front moves the depth by as much as it counts
+-- if v moves the depth from n to m, first values that go above from n with v do so from m without
 one_less : (n m k : ℕ) (v : Value) (vs : List Value)
     → n + cond (is_name v) 1 0 ≡ m + cond (is_parent v) 1 0
     → n + count_by is_name (v ∷ take k vs) < count_by is_parent (v ∷ take k vs)
@@ -63,7 +64,7 @@ one_less : (n m k : ℕ) (v : Value) (vs : List Value)
 one_less n m k v vs e h =
     omega (arith, name_count v (take k vs), parent_count v (take k vs))
 
--- what has some first values with more `..` goes above in the reading by depth
+-- values of which some first ones have more `..` go above by the depth
 goes-above_from : (n k : ℕ) (vs : List Value)
     → n + count_by is_name (take k vs) < count_by is_parent (take k vs) → above_from n vs ≡ true
 goes-above_from n zero vs h = absurd (omega arith)
@@ -84,7 +85,7 @@ above_from-GoesAbove vs e = let found = above_from-goes 0 vs e in (found.0, omeg
 GoesAbove-above_from : (vs : List Value) → GoesAbove vs → above_from 0 vs ≡ true
 GoesAbove-above_from vs h = goes-above_from 0 h.0 vs (omega (arith, h.1))
 
--- a path climbs exactly if it has a root or goes above depth 0 in the reading by depth
+-- a path climbs exactly if it has a root or goes above by the depth, counted from 0
 pub climbs_by_depth : (s : List ℕ)
     → Climbs (values s) ↔ ((is_rooted s ≡ true) ⊎ (above_from 0 (values s) ≡ true))
 climbs_by_depth s = let root = rooted-Begins s (is_rooted s) refl in (
@@ -128,12 +129,12 @@ rootless-no_roots s r = by (values s) refl
     by (ParentDir ∷ vs) e = inner-no_roots vs (inner-behind s ParentDir vs e)
     by (Normal name ∷ vs) e = inner-no_roots vs (inner-behind s (Normal name) vs e)
 
--- the values vs leave ks, which was kept behind the names ns, as it is, and names stand before it
+-- read behind ks and then the names ns, the values vs leave ks as it is, and only names behind it
 pub record Stays (ks ns vs : List Value) : Type 0 where
   pub kept : kept_of (ns ++ ks) vs ≡ kept_of ns vs ++ ks
   pub names : AreNames (kept_of ns vs)
 
--- values without a root that never go above the depth of ns leave what was kept behind ns
+-- values without a root that never go above the names ns leave what is kept before ns as it is
 stays : (ks ns vs : List Value) → AreNames ns → NoRoot vs → above_from (length ns) vs ≡ false
     → Stays ks ns vs
 stays ks ns [] h r e = record { kept = refl; names = h }

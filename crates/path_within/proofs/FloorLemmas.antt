@@ -1,4 +1,4 @@
--- Where there is no way, no path without a root leads there.
+-- If there is no way, no path without a root leads there.
 use Rattle.std.proofs.Common.{◌≡◌, ◌⊎◌, ℕ, false, List, [], ◌∷◌, ◌++◌, drop, reverse}
 use Rattle.std.proofs.Common.{refl, sym, ap, subst, ◌∙◌, inl, inr, ⊎_elim}
 use Rattle.std.proofs.Common.{Some, None}
@@ -17,7 +17,7 @@ use Rattle.path_within.proofs.ResolveLemmas.{kept_of-join, values-resolved}
 use Rattle.path_within.proofs.SharedStartLemmas.{shared_count, leads}
 use Rattle.path_within.proofs.BetweenLemmas.{steps_between-some}
 
--- `..` takes nothing of the kept values ks away
+-- a `..` takes nothing away from the kept values ks
 abbrev pub IsFloor : List Value → Type 0
 IsFloor ks = (up_from ks ≡ ks) ⊎ (up_from ks ≡ ParentDir ∷ ks)
 
@@ -46,7 +46,7 @@ on_floor (Normal name ∷ ks) h = let more = on_floor ks h in record {
   is = ap (λ zs. Normal name ∷ zs) more.is;
 }
 
--- the kept values ks are a floor and no root behind it
+-- the kept values ks are a floor, with no root behind it
 pub record KeepsFloor (ks floor : List Value) : Type 0 where
   pub top : List Value
   pub no_roots : NoRoot top
@@ -102,7 +102,7 @@ no_roots_reverse (ParentDir ∷ vs) h = rw (reverse_onto vs ParentDir [])
 no_roots_reverse (Normal name ∷ vs) h = rw (reverse_onto vs (Normal name) [])
     (no_roots_append (reverse vs) (Normal name ∷ []) (no_roots_reverse vs h) tt)
 
--- where values without a root lead from one list to another, there is a way
+-- if values without a root lead from one list to another, there is a way
 some_way : (ks vs : List Value) → IsKept ks → NoRoot vs
     → (let v = reverse ks in let w = reverse (kept_of ks vs) in let n = shared_count v w in
     (steps : List Value) × (steps_between (drop n v) (drop n w) ≡ Some steps))
@@ -122,7 +122,7 @@ some_way ks vs h r =
     rw (v, w)
     (_, steps_between-some (drop n x) (drop n y) lead.names lead.no_roots)
 
--- where there is no way, no rootless path, joined to the first, resolves to the other
+-- if there is no way, no rootless path, joined to the first, resolves to the other
 pub no_way : (from to b : List ℕ) → way_of (values from) (values to) ≡ None
     → is_rooted b ≡ false → resolved_bytes_of (join_of from b) ≡ resolved_bytes_of to → ⊥
 unfolding way_of resolved_of

@@ -6,7 +6,7 @@ use Rattle.path_within.specs.Resolved.{up_from, keep, kept_of, resolved_of, AreN
 use Rattle.path_within.specs.Resolved.{AreUpsThenNames, IsNormal}
 use Rattle.path_within.specs.Steps.{AreUps, IsKept}
 
--- values that are all `..` are such as are kept
+-- values that are all `..` are kept ones
 pub IsKept-ups : (ks : List Value) → AreUps ks → IsKept ks
 IsKept-ups [] h = tt
 IsKept-ups (ParentDir ∷ ks) h = h
@@ -14,7 +14,7 @@ IsKept-ups (RootDir ∷ ks) h = absurd h
 IsKept-ups (CurDir ∷ ks) h = absurd h
 IsKept-ups (Normal name ∷ ks) h = absurd h
 
--- what is kept, after `..`, is such as is kept
+-- kept values, after one more `..`, are kept ones
 IsKept-up_from : (ks : List Value) → IsKept ks → IsKept (up_from ks)
 IsKept-up_from [] h = tt
 IsKept-up_from (RootDir ∷ ks) h = h
@@ -22,14 +22,14 @@ IsKept-up_from (CurDir ∷ ks) h = absurd h
 IsKept-up_from (ParentDir ∷ ks) h = h
 IsKept-up_from (Normal name ∷ ks) h = h
 
--- what is kept, after one more value, is such as is kept
+-- kept values, after one more value, are kept ones
 pub IsKept-keep : (ks : List Value) (v : Value) → IsKept ks → IsKept (keep ks v)
 IsKept-keep ks RootDir h = refl
 IsKept-keep ks CurDir h = h
 IsKept-keep ks ParentDir h = IsKept-up_from ks h
 IsKept-keep ks (Normal name) h = h
 
--- what is kept, after more values, is such as is kept
+-- kept values, after more values, are kept ones
 pub IsKept-kept_of : (ks vs : List Value) → IsKept ks → IsKept (kept_of ks vs)
 IsKept-kept_of ks [] h = h
 IsKept-kept_of ks (v ∷ vs) h = IsKept-kept_of (keep ks v) vs (IsKept-keep ks v h)
@@ -54,7 +54,7 @@ keep_last CurDir ks h = absurd h
 keep_last ParentDir ks h = up_behind ks h
 keep_last (Normal name) ks h = refl
 
--- the values before the last of kept ones are such as are kept
+-- the values before the last of kept ones are kept ones
 pub IsKept-tail : (v : Value) (ks : List Value) → IsKept (v ∷ ks) → IsKept ks
 IsKept-tail RootDir ks h = rw h tt
 IsKept-tail CurDir ks h = absurd h

@@ -39,8 +39,8 @@ values-behind_root t v ws e =
     let same : ws ≡ drop_lead (values (slash ∷ t)) = rw rooted (let h = sym rooted ∙ e in cc) in
     same ∙ drop_lead-values (slash ∷ t) ∙ inner_values-slash t
 
--- a walk over nothing, or over bytes behind a slash, that takes that slash as a root, has the inner
--- values of what follows it left
+-- a walk over no bytes, or over bytes that begin with a slash, has the inner values of what follows
+-- the slash left, once it has taken that as a root
 pub behind_slash : {A : Type 0} (view : A → Value) (b : List ℕ) (item : Option A)
     (ws vs : List Value) → values b ≡ vs → is_end b 0 ≡ true
     → MatchOption item ((vs ≡ []) × (ws ≡ [])) (λ x. vs ≡ view x ∷ ws)
@@ -77,7 +77,7 @@ resolved-nothing : spelling_of (resolved_of []) ≡ []
 unfolding resolved_of
 resolved-nothing = spelling_of-nil
 
--- a plain path with a byte has a value
+-- a plain path of a byte or more has a value
 plain_some : (s : List ℕ) → is_plain s ≡ true → 0 < length s → 0 < length (values s)
 plain_some s h some = by (values s) refl
   where
@@ -112,7 +112,7 @@ pub kept_of-stretch : (ks ws : List Value) (s : List ℕ) (n : ℕ)
 kept_of-stretch ks ws s n e =
     sym (kept_of-append ks (values (take n s)) ws) ∙ ap (kept_of ks) (sym e)
 
--- where a stretch is kept behind what is kept so far, what follows it is still to be kept
+-- if a stretch is kept behind what is kept so far, what follows it is still to be kept
 pub keeps_stretch : {ks all vs ws : List Value} {t u : List ℕ} (s w : List ℕ) (n : ℕ)
     → ((ks : List Value) → Spells t ks → Spells u (kept_of ks (values (take n s))))
     → ws ≡ values w → vs ≡ values s → values s ≡ values (take n s) ++ ws → KeepsOn ks t vs all

@@ -51,7 +51,7 @@ IsOne-piece p h e f =
 pub AllOne-values : (s : List ℕ) → AllOne (values s)
 AllOne-values s = values-hold IsOne IsOne-root IsOne-dot IsOne-piece s
 
--- what is kept, after `..`, is spelled value by value
+-- after one more `..`, each kept value is still spelled as a path of that value alone
 AllOne-up_from : (ks : List Value) → AllOne ks → AllOne (up_from ks)
 AllOne-up_from [] h = (IsOne-up, tt)
 AllOne-up_from (RootDir ∷ ks) h = h
@@ -59,14 +59,14 @@ AllOne-up_from (CurDir ∷ ks) h = (IsOne-up, h)
 AllOne-up_from (ParentDir ∷ ks) h = (IsOne-up, h)
 AllOne-up_from (Normal name ∷ ks) h = h.1
 
--- what is kept, after one more value, is spelled value by value
+-- after one more value, each kept value is still spelled as a path of that value alone
 pub AllOne-keep : (ks : List Value) (v : Value) → AllOne ks → IsOne v → AllOne (keep ks v)
 AllOne-keep ks RootDir h k = (IsOne-root, tt)
 AllOne-keep ks CurDir h k = h
 AllOne-keep ks ParentDir h k = AllOne-up_from ks h
 AllOne-keep ks (Normal name) h k = (k, h)
 
--- what is kept, after more values, is spelled value by value
+-- after more values, each kept value is still spelled as a path of that value alone
 pub AllOne-kept_of : (ks vs : List Value) → AllOne ks → AllOne vs → AllOne (kept_of ks vs)
 AllOne-kept_of ks [] h k = h
 AllOne-kept_of ks (v ∷ vs) h k = AllOne-kept_of (keep ks v) vs (AllOne-keep ks v h k.0) k.1
@@ -94,7 +94,7 @@ push_value : (ks : List Value) (v : Value) → IsInner v → IsOne v
 push_value ks v i e h = values-join_of_value (path_of ks) v i e
     ∙ ap (λ vs. vs ++ v ∷ []) h ∙ sym (reverse_onto ks v [])
 
--- the joins of kept values are read back as these, in the order of the path
+-- kept values, joined one by one, are read back in the order of the path
 pub values-path_of : (ks : List Value) → IsKept ks → AllOne ks → values (path_of ks) ≡ reverse ks
 values-path_of [] h k = values-nil
 values-path_of (RootDir ∷ ks) h k =
@@ -105,7 +105,7 @@ values-path_of (ParentDir ∷ ks) h k =
 values-path_of (Normal name ∷ ks) h k =
     push_value ks (Normal name) tt k.0 (values-path_of ks h k.1)
 
--- the joins of kept values are those of their bytes, in the order of the path
+-- `path_of` joins the bytes of the kept values in the order of the path
 join_all_of-reverse : (ks : List Value)
     → join_all_of [] (map value_bytes (reverse ks)) ≡ path_of ks
 join_all_of-reverse [] = refl
@@ -115,7 +115,7 @@ join_all_of-reverse (v ∷ ks) =
     ∙ join_all_of-append [] (map value_bytes (reverse ks)) (value_bytes v ∷ [])
     ∙ ap (λ a. join_of a (value_bytes v)) (join_all_of-reverse ks)
 
--- the joins of kept values are their spelling
+-- kept values, joined one by one, are their canonical spelling
 pub path_of-spelled : (ks : List Value) → IsKept ks → AllOne ks
     → path_of ks ≡ spelling_of (reverse ks)
 path_of-spelled ks h k =

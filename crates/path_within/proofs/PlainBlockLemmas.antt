@@ -22,7 +22,7 @@ same x y = cond (eqb x y) 255 0
 abbrev marks : ℕ → ℕ → ℕ
 marks x y = bit_and (same x 47) (bit_or (same y 47) (same y 46))
 
--- a lane without its highest bit is of no slash, or of one that neither a slash nor a dot follows
+-- if a lane's highest bit isn't set, its byte is no slash, or neither a slash nor a dot follows it
 unmarked : (x y : ℕ) → not (top 7 (marks x y)) ≡ true
     → (not (eqb x 47) || not (eqb y 47 || eqb y 46)) ≡ true
 unmarked x y h = by_test (eqb x 47)
@@ -79,7 +79,7 @@ module _ (here next : List ℕ) (m : length here ≡ 16) (n : length next ≡ 16
       i 0 0 0 (omega (arith, length-same next n 47)) (omega (arith, length-same next n 46))
       ∙ ap₂ bit_or (lane next n 47 i few) (lane next n 46 i few))
 
-  -- before the place of the lowest bit that is set, the lanes have no highest bit
+  -- no lane before the place of the lowest bit that is set has its highest bit set
   below_first : (i : ℕ) → i < 16
       → i < count_trailing_zeros 64 (mask_l (map (top 7) (mark_lanes here next)) % 2 ^ 64)
       → i < prefix_len (λ x. not (top 7 x)) (mark_lanes here next)
@@ -95,7 +95,7 @@ module _ (here next : List ℕ) (m : length here ≡ 16) (n : length next ≡ 16
       (λ e. omega (arith, sym (ap (λ c. cond c 16 (count_trailing_zeros 64 mask)) e) ∙ first))
       (λ e. omega (arith, sym (ap (λ c. cond c 16 (count_trailing_zeros 64 mask)) e) ∙ first))
 
-  -- before that place, each of the 16 is no slash, or neither a slash nor a dot follows it
+  -- each of the 16 bytes before that place is no slash, or neither a slash nor a dot follows it
   none_marked : (i : ℕ) → i < 16
       → i < count_trailing_zeros 64 (mask_l (map (top 7) (mark_lanes here next)) % 2 ^ 64)
       → (not (eqb (get_or here i 0) 47)
@@ -106,7 +106,7 @@ module _ (here next : List ℕ) (m : length here ≡ 16) (n : length next ≡ 16
       unmarked (get_or here i 0) (get_or next i 0)
       (ap (λ x. not (top 7 x)) (sym (mark_lane i few)) ∙ passes)
 
--- where neither a slash nor a dot follows a slash at k, a plain piece begins behind it
+-- if neither a slash nor a dot follows a slash at k, a plain piece begins behind it
 calm_plain : (s : List ℕ) (k : ℕ) → k + 1 < length s
     → (not (eqb (get_or s k 0) 47)
     || not (eqb (get_or s (k + 1) 0) 47 || eqb (get_or s (k + 1) 0) 46)) ≡ true

@@ -75,7 +75,7 @@ resolved_of-root vs h =
     ap reverse (kept_of-names (RootDir ∷ []) vs h ∙ sym (reverse_onto vs RootDir []))
     ∙ reverse-reverse (RootDir ∷ vs)
 
--- a rooted path is resolved as it stands where all pieces of t, which follows the root, are plain
+-- a rooted path is resolved as it stands if all pieces of t, which follows the root, are plain
 plain_rooted : (s t : List ℕ) → has_plain_pieces t ≡ true → is_rooted s ≡ true
     → t ≡ drop 1 s → resolved_bytes_of s ≡ s
 plain_rooted s t h r e =

@@ -1,4 +1,4 @@
--- The pieces are plain where each begins with plain bytes.
+-- All pieces are plain if each begins with plain bytes.
 use Rattle.std.proofs.Common.{◌≡◌, ℕ, suc, ◌<◌, Bool, true, false, eqb, ◌&&◌, ◌||◌, not}
 use Rattle.std.proofs.Common.{List, [], ◌∷◌, length, get_or, refl, sym, ap, ap₂, ◌∙◌}
 use native.Mathlib.Numerals.{unary_clauses}
@@ -26,7 +26,7 @@ first_piece_up (b ∷ s) = by_test (eqb b 47)
     (λ e. ap (λ p. bytes_eq p parent_dir) (first_piece-other b s e)
     ∙ ap (λ t. eqb b 46 && t) (first_piece_dot s))
 
--- neither at an end nor at dots: neither empty, nor `.`, nor `..`
+-- a piece that begins neither at an end nor at dots is neither empty, nor `.`, nor `..`
 no_dots : (end dot one up : Bool) → not (end || (dot && (one || up))) ≡ true
     → (not (end || (dot && one)) && not (dot && up)) ≡ true
 no_dots true dot one up h = absurd (let no : false ≡ true = h in cc)
@@ -55,21 +55,21 @@ behind_first-onto : (b : ℕ) (ps : List (List ℕ)) → behind_first (onto_firs
 behind_first-onto b [] = refl
 behind_first-onto b (p ∷ ps) = refl
 
--- where the first piece is plain and the others are, all are
+-- if the first piece is plain, and so are the others, all are
 with_first : (ps qs : List (List ℕ)) (p : List ℕ) → ps ≡ p ∷ qs → is_plain_piece p ≡ true
     → list_all is_plain_piece (behind_first ps) ≡ true → list_all is_plain_piece ps ≡ true
 with_first ps qs p e h k = ap (list_all is_plain_piece) e
     ∙ ap (λ c. c && list_all is_plain_piece qs) h
     ∙ sym (ap (λ ps. list_all is_plain_piece (behind_first ps)) e) ∙ k
 
--- where a string begins with plain bytes and the other pieces are plain, all are
+-- if a string begins with plain bytes, and its other pieces are plain, all its pieces are
 all_plain : (s : List ℕ) → begins_plain s 0 ≡ true
     → list_all is_plain_piece (behind_first (slice_split is_slash s)) ≡ true
     → has_plain_pieces s ≡ true
 all_plain s first others = with_first (slice_split is_slash s) _ (first_piece s)
     (slice_split-first s) (first_plain s first) others
 
--- where all bytes go on plain, all pieces but the first are plain
+-- if a plain piece begins behind each slash, all pieces but the first are plain
 others_plain : (s : List ℕ) → ((k : ℕ) → k < length s → goes_on_plain s k ≡ true)
     → list_all is_plain_piece (behind_first (slice_split is_slash s)) ≡ true
 others_plain [] h = refl
@@ -83,7 +83,7 @@ others_plain (b ∷ s) h =
     ∙ ap (list_all is_plain_piece) (behind_first-onto b (slice_split is_slash s))
     ∙ others_plain s later)
 
--- where plain bytes begin, and go on, all pieces are plain
+-- if a plain piece begins the string, and one begins behind each slash, all pieces are plain
 pub plain_pieces : (s : List ℕ) → begins_plain s 0 ≡ true
     → ((k : ℕ) → k < length s → goes_on_plain s k ≡ true) → has_plain_pieces s ≡ true
 plain_pieces s h k = all_plain s h (others_plain s k)

@@ -25,7 +25,7 @@ use Rattle.path_within.proofs.KeepLemmas.{ups_reverse}
 use Rattle.path_within.proofs.UpEndLemmas.{last_kept, not_up_last, up_last}
 use Rattle.path_within.proofs.PathOfLemmas.{IsOne-root, IsOne-up, path_of-spelled, values-path_of}
 
--- the bytes of kept values end where their last part does
+-- the bytes of kept values have no filler behind their last part
 rest-path_of : (ks : List Value) → IsKept ks → AllOne ks → rest (path_of ks) 0 0 ≡ path_of ks
 rest-path_of ks h k =
     let s = path_of ks in
@@ -102,7 +102,7 @@ spells_pop {s} {t} {ks} h no_up some e =
       is = e ∙ ap popped_of is ∙ popped_of-name ks name kept one.1 one.0;
     }
 
--- kept bytes that don't end with `..` and have no parent are as they were after a pop
+-- t, the path s after a pop that changes nothing, spells the values ks, which don't end in a name
 pub record StaysPopped (s t : List ℕ) (ks : List Value) : Type 0 where
   pub spells : Spells t ks
   pub nameless : ends_in_name ks ≡ false

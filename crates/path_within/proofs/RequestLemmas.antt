@@ -22,7 +22,7 @@ no_root_first (Normal name ∷ vs) e = refl
 pub request_rootless : (b : List ℕ) → has_root_or_up (values b) ≡ false → is_rooted b ≡ false
 request_rootless b e = sym (root_first-values b) ∙ no_root_first (values b) e
 
--- values without a root or a `..` go above nowhere
+-- values without a root or a `..` never go above
 above_from-plain : (n : ℕ) (vs : List Value) → has_root_or_up vs ≡ false
     → above_from n vs ≡ false
 above_from-plain n [] e = refl

@@ -60,7 +60,7 @@ unfolding resolved_of
 resolved_of-both a b =
     ap reverse (kept_of-join a b ∙ sym (kept_of-append [] (values a) (values b)))
 
--- resolving a join is resolving it with the first path resolved
+-- a join resolves to the same bytes if its first path is resolved before
 pub resolved_of-join : (a b : List ℕ)
     → resolved_bytes_of (join_of a b) ≡ resolved_bytes_of (join_of (resolved_bytes_of a) b)
 resolved_of-join a b = ap spelling_of (resolved_of-both a b

@@ -23,7 +23,7 @@ pub shared_count-no : (x y : Value) (xs ys : List Value) → same_value x y ≡ 
     → shared_count (x ∷ xs) (y ∷ ys) ≡ 0
 shared_count-no x y xs ys e = rw e refl
 
--- what two lists both begin with, which is each without what is left of it behind that
+-- what two lists both begin with: each list is this start, and then what is left of that list
 pub record SharedStart (v w : List Value) : Type 0 where
   pub start : List Value
   pub first : start ++ drop (shared_count v w) v ≡ v
@@ -70,7 +70,7 @@ pub record Leads (v w : List Value) : Type 0 where
   pub names : AreNames (drop (shared_count v w) v)
   pub no_roots : NoRoot (drop (shared_count v w) w)
 
--- behind what two lists begin with, names stay names and no root comes up
+-- a list that goes on with names behind f leads to one that goes on without a root behind f
 pub leads : (f x y : List Value) → AreNames x → NoRoot y → Leads (f ++ x) (f ++ y)
 leads [] x y h k = record {
   names = names-drop (shared_count x y) x h;

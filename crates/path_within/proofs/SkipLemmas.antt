@@ -34,7 +34,7 @@ skips_next v w left onward x y more rest h e f same =
     skips_cons v w x y more rest
     (subst (λ l. SkipsOn v w l (y ∷ rest)) e (subst (λ o. SkipsOn v w left o) f h)) same
 
--- where two lists share no first value, they are what is left
+-- if two lists share no first value, they are what is left
 skips_all_none : (v w left onward : List Value) → SkipsOn v w left onward
     → shared_count left onward ≡ 0 → SkipsAll v w left onward
 skips_all_none v w left onward h e = record {
@@ -42,7 +42,7 @@ skips_all_none v w left onward h e = record {
   second = sym (ap (λ k. drop k onward) e) ∙ h.second;
 }
 
--- where two lists begin with different values, they are what is left
+-- if two lists begin with different values, they are what is left
 pub skips_all_differ : (v w left onward : List Value) (x y : Value) (more rest : List Value)
     → SkipsOn v w left onward → left ≡ x ∷ more → onward ≡ y ∷ rest → same_value x y ≡ false
     → SkipsAll v w left onward

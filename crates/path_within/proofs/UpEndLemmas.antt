@@ -71,7 +71,7 @@ abbrev pub last_kept : List Value → Option Value
 last_kept [] = None
 last_kept (v ∷ ks) = Some v
 
--- kept bytes that end with `..` are kept values of which that is the last
+-- if kept bytes end with `..`, the last kept value is `..`
 pub up_last : {s : List ℕ} {ks : List Value} → Spells s ks → ends_with_parent s ≡ true
     → last_kept ks ≡ Some ParentDir
 up_last {s} {ks} h e = by ks ∙ ap (last_or None) (sym (ap values h.is
@@ -81,7 +81,7 @@ up_last {s} {ks} h e = by ks ∙ ap (last_or None) (sym (ap values h.is
     by [] = refl
     by (v ∷ ks) = sym (ap (last_or None) (reverse_onto ks v []) ∙ last_or-push None (reverse ks) v)
 
--- kept bytes that don't end with `..` are kept values of which that isn't the last
+-- if kept bytes don't end with `..`, the last kept value isn't `..`
 pub not_up_last : {s : List ℕ} {ks : List Value} → Spells s ks → ends_with_parent s ≡ false
     → last_kept ks ≡ Some ParentDir → ⊥
 not_up_last {s} {ks} h e = by ks h.is

@@ -46,7 +46,7 @@ kept_of-ups (RootDir ∷ ns) ks (v ∷ vs) h e = absurd h
 kept_of-ups (CurDir ∷ ns) ks (v ∷ vs) h e = absurd h
 kept_of-ups (ParentDir ∷ ns) ks (v ∷ vs) h e = absurd h
 
--- the first of kept values are such as are kept
+-- the first of kept values are kept ones
 IsKept-append : (xs ks : List Value) → IsKept (xs ++ ks) → IsKept ks
 IsKept-append [] ks h = h
 IsKept-append (x ∷ xs) ks h = IsKept-append xs ks (IsKept-tail x (xs ++ ks) h)

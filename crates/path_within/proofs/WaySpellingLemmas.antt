@@ -1,4 +1,4 @@
--- How a way is spelled, and that there is none.
+-- How a way is spelled, and when there is none.
 use Rattle.std.proofs.Common.{◌≡◌, ℕ, Bool, true, false, not, ◌&&◌, List, [], ◌++◌, drop}
 use Rattle.std.proofs.Common.{Some, None, option_map, reverse, refl, sym, ap, ap₂, ◌∙◌}
 use Rattle.std.proofs.Common.{append-nil}
@@ -38,13 +38,13 @@ AreLeft-resolved from to v w x y s t e f g h i j =
       second = j ∙ ap₂ (λ v w. drop (shared_count v w) w) first second;
     }
 
--- where a conjunction is true, both its sides are
+-- if `c && not d` is true, c is true and d is false
 both_hold : (c d : Bool) → (c && not d) ≡ true → (c ≡ true) × (d ≡ false)
 both_hold true false e = (refl, refl)
 both_hold true true e = absurd (let no : false ≡ true = e in cc)
 both_hold false d e = absurd (let no : false ≡ true = e in cc)
 
--- where names are left of the first path and no root of the other, what is kept is the way
+-- if names are left of the first path and no root of the other, what is kept is the way
 pub spelling_of-way : (from to : List ℕ) (x y : List Value) (t : List ℕ) → AreLeft from to x y
     → (list_all is_name x && not (list_any is_root y)) ≡ true
     → Spells t (kept_of (kept_of [] (ups_of x)) y)
@@ -65,7 +65,7 @@ spelling_of-way from to x y t left can spells =
     ∙ ap (λ ks. spelling_of (reverse ks)) all ∙ ap spelling_of (reverse-reverse steps) in
     ap Some same ∙ sym (ap (option_map spelling_of) some)
 
--- where more than names are left of the first path, or the root of the other, there is no way
+-- if more than names is left of the first path, or the root of the other, there is no way
 pub spelling_of-no_way : (from to : List ℕ) (x y : List Value) → AreLeft from to x y
     → (list_all is_name x && not (list_any is_root y)) ≡ false
     → None ≡ option_map spelling_of (way_of (values from) (values to))

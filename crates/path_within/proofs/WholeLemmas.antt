@@ -20,7 +20,7 @@ use Rattle.path_within.proofs.RequestLemmas.{request_stays}
 use Rattle.path_within.proofs.ResolveLemmas.{kept_of-rooted}
 use Rattle.path_within.proofs.StepLemmas.{spells_join, spells_nothing}
 
--- a join with paths that are joined, of which one is there, is a join with one after the other
+-- a join with the join of one path or more is a join with one after the other
 join_of-all : (a b : List ℕ) (bs : List (List ℕ))
     → join_of a (join_all_of b bs) ≡ join_all_of (join_of a b) bs
 join_of-all a b [] = refl
@@ -36,7 +36,7 @@ path_of-names ks (RootDir ∷ vs) h = absurd h
 path_of-names ks (CurDir ∷ vs) h = absurd h
 path_of-names ks (ParentDir ∷ vs) h = absurd h
 
--- joined names, of which one is there, are joined to a path as they are one after the other
+-- a join with the join of one name or more is a join with one after the other
 join_of-names : (a : List ℕ) (v : Value) (vs : List Value)
     → join_of a (join_all_of [] (map value_bytes (v ∷ vs)))
     ≡ join_all_of a (map value_bytes (v ∷ vs))
@@ -44,7 +44,7 @@ join_of-names a v vs =
     ap (λ b. join_of a (join_all_of b (map value_bytes vs))) (join_of-nil (value_bytes v))
     ∙ join_of-all a (value_bytes v) (map value_bytes vs)
 
--- where the bytes are those of what is kept, they spell it
+-- if bytes are those of what is kept, they spell it
 spells_kept : {s t : List ℕ} {ks : List Value} (b : List ℕ) → Spells s ks
     → t ≡ path_of (kept_of ks (values b)) → Spells t (kept_of ks (values b))
 spells_kept {s} {t} {ks} b h e = record {
@@ -58,7 +58,8 @@ spelling_of-nothing : spelling_of [] ≡ []
 unfolding spelling_of
 spelling_of-nothing = refl
 
--- a plain path without a root, joined whole, is spelled as if its parts were joined
+-- a plain path without a root, joined whole, gives the bytes that its parts, joined one by one,
+-- give
 whole_rootless : (ks : List Value) (b : List ℕ) → HasNames b
     → join_of (path_of ks) b ≡ path_of (kept_of ks (values b))
 whole_rootless ks b h = by (values b) refl h.names
@@ -72,7 +73,7 @@ whole_rootless ks b h = by (values b) refl h.names
         ∙ join_of-names (path_of ks) v vs
         ∙ sym (path_of-names ks (v ∷ vs) names) ∙ ap (λ vs. path_of (kept_of ks vs)) (sym e)
 
--- a plain path with a root, joined whole, is spelled as if its parts were joined
+-- a plain path with a root is the bytes that its parts, joined one by one, give
 whole_rooted : (ks : List Value) (b : List ℕ) → IsKept ks → AllOne ks → is_plain b ≡ true
     → is_rooted b ≡ true → b ≡ path_of (kept_of ks (values b))
 unfolding resolved_of

@@ -16,7 +16,7 @@ abbrev pub is_parent : Value → Bool
 is_parent ParentDir = true
 is_parent _ = false
 
--- some first of these values hold more `..` than names
+-- the first n of these values, for some n, have more `..` than names
 abbrev pub GoesAbove : List Value → Type 0
 GoesAbove vs = (n : ℕ) × (count_by is_name (take n vs) < count_by is_parent (take n vs))
 

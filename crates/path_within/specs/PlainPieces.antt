@@ -14,29 +14,29 @@ is_plain_piece piece = counts piece && not (bytes_eq piece parent_dir)
 abbrev pub has_plain_pieces : List ℕ → Bool
 has_plain_pieces s = list_all is_plain_piece (slice_split is_slash s)
 
--- all pieces are plain, but for that before the root, if there is one
+-- all pieces are plain, but for the empty one before the root, if there is a root
 abbrev pub is_plain : List ℕ → Bool
 is_plain s = has_plain_pieces (if is_rooted s then drop 1 s else s)
 
--- at i stands a slash, or no byte
+-- the byte at i is a slash, or there is none
 abbrev pub is_end : List ℕ → ℕ → Bool
 is_end s i = slice_index_or s i slash == slash
 
--- from i on stands `.`, or `..`, and then a slash or no byte
+-- the bytes from i on begin with `.` or `..`, and a slash or the end follows
 abbrev pub begins_dots : List ℕ → ℕ → Bool
 begins_dots s i =
     slice_index s i == dot
     && (is_end s (i + 1) || (slice_index s (i + 1) == dot && is_end s (i + 2)))
 
--- a plain piece begins at i, if any does
+-- the piece that begins at i is plain
 abbrev pub begins_plain : List ℕ → ℕ → Bool
 begins_plain s i = not (is_end s i || begins_dots s i)
 
--- no slash stands at i, or a plain piece begins behind it
+-- if the byte at i is a slash, a plain piece begins behind it
 abbrev pub goes_on_plain : List ℕ → ℕ → Bool
 goes_on_plain s i = not (is_slash (slice_index s i)) || begins_plain s (i + 1)
 
--- the first n bytes, of which there is one at least, are plain, and a slash or no byte follows them
+-- the first n bytes, one at least, are plain, and a slash or the end follows them
 pub record IsStretch (s : List ℕ) (n : ℕ) : Type 0 where
   pub some : 0 < n
   pub in_range : n ≤ length s

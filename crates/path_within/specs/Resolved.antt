@@ -1,11 +1,11 @@
--- Paths with each `..` taken against the name before it, by names alone (as Go's `path.Clean`,
--- which gives `.` where nothing is left).
+-- Paths resolved by names alone: each `..` takes away the name before it (as Go's `path.Clean`,
+-- which gives `.` if nothing is left).
 use Rattle.std.specs.Prelude.{ℕ, List, [], ◌∷◌, reverse, ⊤}
 use Rattle.unix_path.specs.Parts.{Value, RootDir, CurDir, ParentDir, Normal, values}
 use Rattle.path_runs.specs.Spelling.{spelling_of}
 
--- the values kept so far, the last first, after `..`: it takes a name away, is dropped behind the
--- root, and stays behind another `..` or where nothing is kept
+-- the values kept so far, the last first, after one more `..`: it takes a last name away, is
+-- dropped behind the root, and is kept behind another `..` or if nothing else is kept
 abbrev pub up_from : List Value → List Value
 up_from (Normal name ∷ kept) = kept
 up_from (RootDir ∷ kept) = RootDir ∷ kept
@@ -23,7 +23,7 @@ abbrev pub kept_of : List Value → List Value → List Value
 kept_of kept [] = kept
 kept_of kept (v ∷ vs) = kept_of (keep kept v) vs
 
--- the values with each `..` taken against the name before it
+-- the values that are left once each `..` has taken away the name before it
 unfoldable pub resolved_of : List Value → List Value
 resolved_of vs = reverse (kept_of [] vs)
 

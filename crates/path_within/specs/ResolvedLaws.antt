@@ -25,7 +25,7 @@ abbrev pub ResolvedCongruent : Type 0
 ResolvedCongruent =
     (s t : List ℕ) → SameValues s t → resolved_bytes_of s ≡ resolved_bytes_of t
 
--- resolving a join is resolving it with the first path resolved
+-- a join resolves to the same bytes if its first path is resolved before
 abbrev pub ResolvedOfJoin : Type 0
 ResolvedOfJoin =
     (a b : List ℕ)

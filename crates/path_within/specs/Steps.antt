@@ -1,4 +1,4 @@
--- What a resolved path is kept as while its parts are read. No public clause cites it.
+-- A path that is resolved part by part: what is kept so far. No public clause cites it.
 use Rattle.std.specs.Prelude.{◌≡◌, ℕ, List, [], ◌∷◌, ⊤}
 use Rattle.std.specs.List.{AllByRecursion}
 use Rattle.unix_path.specs.Joins.{join_of}
@@ -10,7 +10,7 @@ AreUps [] = ⊤
 AreUps (ParentDir ∷ vs) = AreUps vs
 AreUps vs = ⊥
 
--- these values, the last first, are such as are kept: names, and before them the root alone or `..`
+-- these values, the last first, are kept ones: names, and before them the root alone or only `..`
 abbrev pub IsKept : List Value → Type 0
 IsKept (Normal name ∷ ks) = IsKept ks
 IsKept (RootDir ∷ ks) = ks ≡ []

@@ -13,8 +13,8 @@ abbrev pub is_root : Value → Bool
 is_root RootDir = true
 is_root _ = false
 
--- from the directory v to the path w, which have no first value in common: `..` for each name of
--- v, and then w; none where a value of v is no name, or one of w is the root
+-- from the directory v to the path w, which have no first value in common: `..` for each name of v,
+-- and then w; none if a value of v is no name, or one of w is the root
 abbrev pub steps_between : List Value → List Value → Option (List Value)
 steps_between v w =
     if list_all is_name v && not (list_any is_root w) then Some (map (λ x. ParentDir) v ++ w)

@@ -12,13 +12,13 @@ WayReadsBack =
     (from to : List ℕ) (steps : List Value) → way_of (values from) (values to) ≡ Some steps
     → values (spelling_of steps) ≡ steps
 
--- where there is a way, the first path joined with it resolves to the other
+-- if there is a way, the first path joined with it resolves to the other
 abbrev pub WayLeads : Type 0
 WayLeads =
     (from to : List ℕ) (steps : List Value) → way_of (values from) (values to) ≡ Some steps
     → resolved_bytes_of (join_of from (spelling_of steps)) ≡ resolved_bytes_of to
 
--- where there is no way, no path without a root, joined to the first, resolves to the other
+-- if there is no way, no path without a root, joined to the first, resolves to the other
 abbrev pub NoWay : Type 0
 NoWay =
     (from to b : List ℕ) → way_of (values from) (values to) ≡ None → is_rooted b ≡ false

@@ -1,4 +1,4 @@
-//! Laws of resolved paths, over the definitions alone.
+//! Laws of resolved paths: facts about the definitions alone, which a proof gets by calling them.
 mod resolved;
 mod way;
 mod within;

@@ -18,7 +18,8 @@ fn is_name(part: Component<'_>) -> bool
     matches!(part, Component::Normal(_))
 }
 
-// Whether all these parts are names. They aren't looked at where what is left is plain.
+// Whether all these parts are names. If the path that is left is plain, they aren't looked at one
+// by one.
 #[inline]
 pub(crate) fn are_names(parts: Components<'_>) -> bool
     ensures { result ≡ list_all is_name (cursor_values parts.entry) }
@@ -63,13 +64,13 @@ fn is_normal(parts: Components<'_>) -> bool
     }
 }
 
-// Whether the path is resolved as it stands: whether it is the one that `resolved` gives for it. It
-// isn't inlined, so that its callers stay small: they ask it of few paths.
+// Whether the path is resolved as it stands: whether `resolved` gives the same bytes for it. It
+// isn't inlined: its callers ask it of few paths, and stay small.
 #[inline(never)]
 pub(crate) fn is_resolved(path: Path<'_>) -> bool
     ensures { IsTrue result
         ↔ (resolved_bytes_of path.entry.bytes.now ≡ path.entry.bytes.now) }
 {
-    // A gap is looked for 16 bytes at a time, so that is asked first.
+    // `is_canonical` looks for a gap 16 bytes at a time, so it is asked first.
     is_canonical(path) && is_normal(path.components())
 }

@@ -8,7 +8,7 @@ ghost use Rattle.path_within.specs.PlainPieces.{begins_plain, goes_on_plain, IsS
 use std::simd::prelude::*;
 use unix_path::Path;
 
-// Whether a slash stands at `i`, or no byte.
+// Whether the byte at `i` is a slash, or `i` is at the end or behind it.
 #[inline]
 fn is_end(bytes: &[u8], i: usize) -> bool
     ensures { result ≡ is_end bytes.now i }
@@ -16,7 +16,7 @@ fn is_end(bytes: &[u8], i: usize) -> bool
     i >= bytes.len() || bytes[i] == b'/'
 }
 
-// Whether `.` or `..` stands from `i` on, and then a slash or no byte.
+// Whether the bytes from `i` on begin with `.` or `..`, and a slash or the end follows.
 #[inline]
 fn begins_dots(bytes: &[u8], i: usize) -> bool
     requires { i < length bytes.now }
@@ -33,8 +33,8 @@ pub(crate) fn begins_plain(bytes: &[u8], i: usize) -> bool
     !(is_end(bytes, i) || begins_dots(bytes, i))
 }
 
-// A bit for each of the 16 bytes from `at` on, which is set where a slash or a dot follows a slash.
-// So a plain piece begins behind each slash before the place of the lowest bit that is set.
+// A bit for each of the 16 bytes from `at` on, set if the byte is a slash with a slash or a dot
+// behind it. A plain piece begins behind each slash before the place of the lowest bit that is set.
 #[inline]
 fn marks(bytes: &[u8], at: usize) -> u64
     requires { at + 16 < length bytes.now }
@@ -49,7 +49,7 @@ fn marks(bytes: &[u8], at: usize) -> u64
     other.to_bitmask()
 }
 
-// True only where neither a slash nor a dot follows a slash among the 16 bytes from `at` on.
+// Whether none of the 16 bytes from `at` on is a slash with a slash or a dot behind it.
 #[inline]
 fn is_calm_block(bytes: &[u8], at: usize) -> bool
     requires { at + 16 < length bytes.now }
@@ -58,7 +58,8 @@ fn is_calm_block(bytes: &[u8], at: usize) -> bool
     marks(bytes, at) == 0
 }
 
-// The place of the first slash among the 16 bytes from `at` on that a slash or a dot follows.
+// The place of the first of the 16 bytes from `at` on that is a slash with a slash or a dot behind
+// it.
 #[inline]
 pub(crate) fn first_mark(bytes: &[u8], at: usize) -> Option<usize>
     requires { at + 16 < length bytes.now }
@@ -72,8 +73,8 @@ pub(crate) fn first_mark(bytes: &[u8], at: usize) -> Option<usize>
     if calm < 16 { Some(at + calm) } else { None }
 }
 
-// Where the first slash stands behind which no plain piece begins, or the end where there is none,
-// if a plain piece begins behind each slash before `start`, and at most 17 bytes follow.
+// The place of the first slash with no plain piece behind it, or the length if there is none. Each
+// slash before `start` has a plain piece behind it, and at most 17 bytes are left from `start` on.
 #[inline]
 fn last_plain_end(bytes: &[u8], start: usize) -> usize
     requires in_range { start ≤ length bytes.now }
@@ -95,8 +96,8 @@ fn last_plain_end(bytes: &[u8], start: usize) -> usize
     len
 }
 
-// Where the first slash stands behind which no plain piece begins, or the end where there is none.
-// Blocks of 16 bytes are looked at, and then what is left, as a block too where it can be one.
+// The place of the first slash with no plain piece behind it, or the length if there is none. Looks
+// at 16 bytes at a time, and leaves the last 17 or fewer to `last_plain_end`.
 #[inline]
 fn plain_end(bytes: &[u8]) -> usize
     ensures in_range { result ≤ length bytes.now }
@@ -118,8 +119,8 @@ fn plain_end(bytes: &[u8]) -> usize
     last_plain_end(bytes, at)
 }
 
-// How many bytes of plain pieces these begin with, up to a slash behind which none begins or to the
-// end; 0 where none begins them.
+// How many bytes the plain pieces at the beginning have, up to the first slash with no plain piece
+// behind it or to the end. It is 0 if the first piece isn't plain.
 #[inline]
 fn plain_pieces_len(bytes: &[u8]) -> usize
     ensures in_range { result ≤ length bytes.now }
@@ -133,8 +134,9 @@ fn plain_pieces_len(bytes: &[u8]) -> usize
     }
 }
 
-// How long the stretch is that the path begins with: plain pieces, behind its root if it has one,
-// up to a slash behind which none begins or to the end. It is 0 where no plain piece comes first.
+// The length of the stretch that the path begins with: its root, if it has one, and plain pieces,
+// up to the first slash with no plain piece behind it or to the end. It is 0 if no plain piece
+// comes first.
 pub(crate) fn plain_len(path: Path<'_>) -> usize
     ensures { 0 < result → IsStretch path.entry.bytes.now result }
 {
@@ -146,8 +148,8 @@ pub(crate) fn plain_len(path: Path<'_>) -> usize
     if len > 0 { len + 1 } else { 0 }
 }
 
-// True only where the path is plain: the stretch of `len` bytes that it begins with, unless that is
-// 0, is all of it.
+// Whether the stretch of `len` bytes that the path begins with is all of it, and `len` isn't 0.
+// Then the path is plain.
 #[inline]
 pub(crate) fn is_whole(path: Path<'_>, len: usize) -> bool
     requires { 0 < len → IsStretch path.bytes.now len }
@@ -156,9 +158,9 @@ pub(crate) fn is_whole(path: Path<'_>, len: usize) -> bool
     len > 0 && len == path.as_unix_str().len()
 }
 
-// True only where no piece is empty, `.` or `..`, but for that before the root. Then the path is
-// resolved as it stands, and without a root it goes down by names alone. It is false for the empty
-// path and for `/`, which are resolved too.
+// True only if no piece is empty, `.` or `..`, but for the empty one before the root. Then the path
+// is resolved as it stands, and without a root it goes down by names alone. It is false for the
+// empty path and for `/`, which are resolved too.
 #[inline]
 pub(crate) fn is_plain(path: Path<'_>) -> bool
     ensures { IsTrue result → is_plain path.entry.bytes.now ≡ true }

@@ -1,4 +1,4 @@
-//! Paths with each `..` taken against the name before it.
+//! Paths resolved by names: each `..` takes away the name before it.
 ghost use Rattle.std.specs.Prelude.{◌≡◌, ◌++◌, ◌<◌, true, List, take, drop, IfOk, OnOk};
 ghost use Rattle.unix_path.specs.Buffers.{path_bytes};
 ghost use Rattle.unix_path.specs.CommonDir.{inner_values};
@@ -30,7 +30,7 @@ fn ends_with_parent(path: Path<'_>) -> bool
         && (len == 2 || bytes[len - 3] == b'/')
 }
 
-// Joins `..` to the end.
+// Joins `..` to what is kept.
 #[inline]
 fn push_up(kept: &mut PathBuf) -> Result<(), AllocError>
     ensures ok { OnOk result (path_bytes kept.new ≡ join_of (path_bytes kept.old) parent_dir) }
@@ -38,8 +38,9 @@ fn push_up(kept: &mut PathBuf) -> Result<(), AllocError>
     kept.push(Component::ParentDir.as_path())
 }
 
-// Takes `..` against what is kept: a name goes, the root stays, and any other end gets `..`. No `.`
-// is kept, so what has a parent ends in a name unless it ends in `..`.
+// Adds `..` to what is kept, the path resolved so far: a name at its end goes, the root alone
+// stays, and to any other path `..` is joined. What is kept has no `.`: if it has a parent and
+// doesn't end in `..`, it ends in a name.
 pub(crate) fn keep_up(kept: &mut PathBuf) -> Result<(), AllocError>
     ensures ok { OnOk result ((ks : List Value)
         → Spells (path_bytes kept.old) ks → Spells (path_bytes kept.new) (up_from ks)) }
@@ -56,7 +57,7 @@ pub(crate) fn keep_up(kept: &mut PathBuf) -> Result<(), AllocError>
     push_up(kept)
 }
 
-// Keeps one more part behind what is kept.
+// Adds one part to what is kept.
 fn keep(kept: &mut PathBuf, part: Component<'_>) -> Result<(), AllocError>
     ensures ok { OnOk result ((ks : List Value)
         → Spells (path_bytes kept.old) ks → IsOne (value_of part.entry)
@@ -69,8 +70,8 @@ fn keep(kept: &mut PathBuf, part: Component<'_>) -> Result<(), AllocError>
     }
 }
 
-// The walk over what follows the slash that these bytes begin with, or over nothing where there are
-// none. It takes that slash as a root.
+// A walk over what follows the slash that these bytes begin with, or over nothing if there are no
+// bytes. It reads that slash as a root, and takes it first.
 #[inline]
 fn behind_slash(bytes: &[u8]) -> Components<'_>
     requires { is_end bytes.now 0 ≡ true }
@@ -81,8 +82,8 @@ fn behind_slash(bytes: &[u8]) -> Components<'_>
     walk
 }
 
-// Keeps the stretch of `len` bytes that the path begins with behind what is kept, by one copy: its
-// names are all kept, and stand there with one slash between two. What follows it is left to walk.
+// Adds the stretch of `len` bytes that the path begins with to what is kept, in one copy: a stretch
+// is resolved as it stands. Returns a walk over what follows it.
 #[inline]
 fn keep_stretch<'a>(
     kept: &mut PathBuf,
@@ -100,9 +101,10 @@ fn keep_stretch<'a>(
     Ok(behind_slash(&bytes[len..]))
 }
 
-// How long the stretch is that the path begins with, as `plain_len` tells, or 0 where it is short
-// or seems so: where few bytes are left, or the first slash that a slash or a dot follows is near
-// and ends it. To search a stretch and to copy it takes as long as to keep two parts.
+// The length of the stretch that the path begins with, as `plain_len` gives it, or 0 if the stretch
+// may be short: if the path has fewer than 17 bytes, or if, among its first 16 bytes, the first
+// slash that a slash or a dot follows has no plain piece behind it. To look for a stretch and copy
+// it takes as long as to add two parts.
 #[inline]
 fn long_plain_len(path: Path<'_>) -> usize
     ensures { 0 < result → IsStretch path.entry.bytes.now result }
@@ -117,7 +119,7 @@ fn long_plain_len(path: Path<'_>) -> usize
     }
 }
 
-// Keeps these parts behind what is kept: stretch by stretch, and one part where no long one begins.
+// Adds these parts to what is kept: a stretch at a time, or one part if no long stretch comes next.
 fn keep_stretches(kept: &mut PathBuf, parts: Components<'_>) -> Result<(), AllocError>
     ensures ok { OnOk result ((ks : List Value) → Spells (path_bytes kept.old) ks
         → Spells (path_bytes kept.new) (kept_of ks (cursor_values parts.entry))) }
@@ -137,8 +139,8 @@ fn keep_stretches(kept: &mut PathBuf, parts: Components<'_>) -> Result<(), Alloc
     }
 }
 
-// Keeps the path's parts behind what is kept. It begins with a stretch of `len` bytes, unless that
-// is 0, whose end isn't looked for again.
+// Adds the path's parts to what is kept. If `len` isn't 0, the path begins with a stretch of `len`
+// bytes, whose end isn't looked for again.
 pub(crate) fn keep_path(kept: &mut PathBuf, path: Path<'_>, len: usize) -> Result<(), AllocError>
     requires { 0 < len → IsStretch path.bytes.now len }
     ensures ok { OnOk result ((ks : List Value) → Spells (path_bytes kept.old) ks
@@ -154,7 +156,7 @@ pub(crate) fn keep_path(kept: &mut PathBuf, path: Path<'_>, len: usize) -> Resul
     keep_stretches(kept, parts)
 }
 
-// The path as `resolved` gives it, borrowed where it is resolved as it stands.
+// The path as `resolved` gives it, borrowed if it is resolved as it stands.
 pub(crate) fn resolved_cow<'a>(alloc: Global, path: Path<'a>) -> Result<CowPath<'a>, AllocError>
     ensures { IfOk result (λ p. cow_bytes p ≡ resolved_bytes_of path.entry.bytes.now) }
 {
@@ -171,12 +173,14 @@ pub(crate) fn resolved_cow<'a>(alloc: Global, path: Path<'a>) -> Result<CowPath<
     Ok(CowPath::Owned(kept))
 }
 
-/// The path with each `..` taken against the name before it, and spelled canonically: `.` goes, and
-/// so does `..` behind the root. Without a root, `..` with no name before it stays in front.
+/// The path resolved by names, in canonical spelling: each `..` takes away the name before it.
 ///
-/// It goes by names alone: where a part before a `..` may be a link, only the system knows where
-/// that `..` leads. The empty path stands for the current directory. Allocates once, as many bytes
-/// as the path has, or not at all for the empty path; fails if the allocation fails. Not in Rust's
+/// Each `.` goes too, and so does a `..` behind the root. Without a root, a `..` with no name
+/// before it stays in front.
+///
+/// It goes by names alone: if a part before a `..` may be a link, only the system knows where that
+/// `..` leads. The empty path stands for the current directory. Allocates once, as many bytes as
+/// the path has, or not at all for the empty path; fails if the allocation fails. Not in Rust's
 /// std; as Go's `path.Clean`, which gives `.` where this gives the empty path.
 ///
 /// For `a/../..//b/.` it is `../b`, for `/../a` it is `/a`, and for `a/..` the empty path.

@@ -55,7 +55,7 @@ fn skip_shared<'a, 'b>(from: Components<'a>, to: Components<'b>) -> (Components<
     }
 }
 
-// Whether the root is among these parts, of which it can only be the first.
+// Whether the root is among these parts: it can only be the first.
 #[inline]
 fn has_root(parts: Components<'_>) -> bool
     ensures { result ≡ list_any is_root (cursor_values parts.entry) }
@@ -72,7 +72,7 @@ fn leads(left: Components<'_>, onward: Components<'_>) -> bool
     are_names(left) && !has_root(onward)
 }
 
-// Keeps `..` once for each of these parts behind what is kept.
+// Adds one `..` to what is kept for each of these parts.
 fn keep_ups(kept: &mut PathBuf, parts: Components<'_>) -> Result<(), AllocError>
     ensures ok { OnOk result ((ks : List Value) → Spells (path_bytes kept.old) ks
         → Spells (path_bytes kept.new)
@@ -85,7 +85,7 @@ fn keep_ups(kept: &mut PathBuf, parts: Components<'_>) -> Result<(), AllocError>
 }
 
 // How many bytes the way has: `..` and a slash for each part that is left of the first path, and
-// the rest of the other; or one more, if there is no rest.
+// the rest of the other. It is one more if there are such parts, but no rest.
 #[inline]
 fn way_len(left: Path<'_>, rest: Path<'_>) -> usize
     ensures { result ≡ min (2 ^ 64 - 1)
@@ -96,15 +96,16 @@ fn way_len(left: Path<'_>, rest: Path<'_>) -> usize
         .saturating_add(rest.as_unix_str().len())
 }
 
-/// The way by names from one path to another, both resolved: `..` for each name of the first behind
-/// what both begin with, and then what is left of the other.
+/// The way from one path to another by names: `..` for each name that is left of the first, and
+/// then what is left of the other.
 ///
-/// `None` exactly where one path has a root and the other has none, or where what is left of the
-/// first holds a `..`: then no path without a root leads there. For equal paths it is the empty
-/// path. It goes by names alone: where a part may be a link, only the system knows where `..`
-/// leads. Allocates the way, once, or not at all for the empty path, and before that each of the
-/// two paths that isn't resolved as it stands; fails if an allocation fails. Not in Rust's std; as
-/// Python's `PurePath.relative_to` with `walk_up`, which doesn't resolve.
+/// Both paths are resolved, and the parts that both then begin with are left out. `None` exactly if
+/// one path has a root and the other has none, or if what is left of the first holds a `..`: then
+/// no path without a root leads there. For equal paths it is the empty path. It goes by names
+/// alone: if a part may be a link, only the system knows where `..` leads. Allocates the way, once,
+/// or not at all if that is the empty path, and before that each of the two paths that isn't
+/// resolved as it stands; fails if an allocation fails. Not in Rust's std; as Python's
+/// `PurePath.relative_to` with `walk_up`, which doesn't resolve.
 ///
 /// From `/a/b/c` to `/a/d` it is `../../d`; from `../x` to `y` there is none.
 pub fn way(alloc: Global, from: Path<'_>, to: Path<'_>) -> Result<Option<PathBuf>, AllocError>

@@ -20,7 +20,7 @@ use unix_path::{Component, Path, PathBuf};
 
 /// Why a request couldn't be joined to its root.
 ///
-/// A display pads its text like any text. Not in Rust's std.
+/// When it is displayed, its text is padded as any text is. Not in Rust's std.
 #[derive(Debug, Drop)]
 pub enum WithinError {
     /// The request would leave the root or, for `join_plain`, has a root or a `..`. It is printed
@@ -52,7 +52,7 @@ impl Error for WithinError {}
 
 /// `Memory`, with the error of the allocation. Does not allocate.
 ///
-/// With it `?` works on a `Path::join` where the function returns a `WithinError`.
+/// With it `?` works on a `Path::join` in a function whose error is a `WithinError`.
 impl From<AllocError> for WithinError {
     ghost use Rattle.path_within.specs.declared.within.WithinError.TheVariants.{Memory};
 
@@ -63,10 +63,10 @@ impl From<AllocError> for WithinError {
     }
 }
 
-/// Whether the path has a root or, read from the left, ever goes above where it starts: some of its
-/// first parts then hold more `..` than names, even if names follow.
+/// Whether the path has a root or, read from the left, ever goes above where it starts: up to some
+/// part it has more `..` than names, whatever follows.
 ///
-/// It goes by names alone: where a part may be a link, only the system knows where `..` leads. Does
+/// It goes by names alone: if a part may be a link, only the system knows where `..` leads. Does
 /// not allocate. Not in Rust's std; Go's `filepath.IsLocal` is its opposite, but for the empty
 /// path, which doesn't climb.
 ///
@@ -78,8 +78,8 @@ pub fn climbs(path: Path<'_>) -> bool
     path.has_root() || climbs_unless(false, path)
 }
 
-// Whether a path without a root climbs, without a look at its parts where it is known to be plain:
-// it doesn't then.
+// Whether a path without a root climbs. If it is known to be plain it doesn't, and its parts aren't
+// looked at.
 fn climbs_unless(known_plain: bool, path: Path<'_>) -> bool
     requires plain { IsTrue known_plain → is_plain path.bytes.now ≡ true }
     requires rootless { is_rooted path.bytes.now ≡ false }
@@ -104,12 +104,12 @@ fn climbs_unless(known_plain: bool, path: Path<'_>) -> bool
     false
 }
 
-/// The request joined to the root, and resolved, so that it stays under the resolved root.
+/// The request joined to the root and resolved: a path that stays under the resolved root.
 ///
-/// The error is `Escapes` exactly where the request climbs, before anything is allocated, and
-/// `Memory` where the allocation fails. It goes by names alone: where a part of the root or of the
-/// request may be a link, take `join_plain` and let the system refuse links. Allocates once, one
-/// byte more than both paths have. Not in Rust's std.
+/// The error is `Escapes` exactly if the request climbs, before anything is allocated, and `Memory`
+/// if the allocation fails. It goes by names alone: if a part of the root or of the request may be
+/// a link, take `join_plain` and let the system refuse links. Allocates once, one byte more than
+/// both paths have together. Not in Rust's std.
 ///
 /// `/srv/www` with `a/../b` is `/srv/www/b`, and with `a/../../x` it is refused.
 pub fn join_within(alloc: Global, root: Path<'_>, request: Path<'_>) -> Result<PathBuf, WithinError>
@@ -120,7 +120,7 @@ pub fn join_within(alloc: Global, root: Path<'_>, request: Path<'_>) -> Result<P
     ensures within { IfOk result (λ p. Begins (values (resolved_bytes_of root.entry.bytes.now))
         (values (path_bytes p))) }
 {
-    // A root is refused before what follows it is looked at.
+    // A request with a root is refused before the rest of it is looked at.
     if request.has_root() {
         return Err(WithinError::Escapes);
     }
@@ -132,8 +132,8 @@ pub fn join_within(alloc: Global, root: Path<'_>, request: Path<'_>) -> Result<P
     let root_len = plain_len(root);
     let is_plain_root = is_whole(root, root_len);
     if is_plain_root && is_plain_request {
-        // The join is resolved as it stands, and has one byte more than both, since a plain root
-        // doesn't end in a slash.
+        // The join is resolved as it stands, and has one byte more than both together, since a
+        // plain root doesn't end in a slash.
         return Ok(root.join(alloc, request)?);
     }
     let len = root.as_unix_str().len() + 1 + request.as_unix_str().len();
@@ -151,8 +151,8 @@ fn is_root_or_up(part: Component<'_>) -> bool
     matches!(part, Component::RootDir | Component::ParentDir)
 }
 
-// Whether the root or a `..` is among the parts. A root tells it before what follows is looked at,
-// and a plain path without one has names alone.
+// Whether the root or a `..` is among the parts. If the path has a root, the rest of it isn't
+// looked at; a plain path without one has names alone.
 #[inline]
 fn has_root_or_up(path: Path<'_>) -> bool
     ensures { result ≡ has_root_or_up (values path.entry.bytes.now) }
@@ -166,13 +166,13 @@ fn has_root_or_up(path: Path<'_>) -> bool
     path.components().any(is_root_or_up)
 }
 
-/// The request joined to the root, both as they stand, where the request has neither a root nor a
+/// The request joined to the root, both as they stand, if the request has neither a root nor a
 /// `..`.
 ///
-/// It is for roots where links may stand: what is joined goes down by names alone, and no `..` of
-/// the root is touched. The error is `Escapes` exactly where the request has a root or any `..`,
-/// before anything is allocated, and `Memory` where the allocation fails. Allocates once, as many
-/// bytes as the join has, or not at all for an empty join. Not in Rust's std.
+/// It is for roots in or under which links may stand: the request goes down by names alone, and
+/// each `..` of the root stays. The error is `Escapes` exactly if the request has a root or any
+/// `..`, before anything is allocated, and `Memory` if the allocation fails. Allocates once, as
+/// many bytes as the join has, or not at all for an empty join. Not in Rust's std.
 ///
 /// `/srv/../www` with `./a` is `/srv/../www/./a`, and with `a/../b` it is refused.
 pub fn join_plain(alloc: Global, root: Path<'_>, request: Path<'_>) -> Result<PathBuf, WithinError>

@@ -4,7 +4,7 @@ ghost use Rattle.path_within.specs.ResolvedLaws.{ResolvedAgain, ResolvedCongruen
 
 /// A resolved path has no `.`, no `..` behind a name or the root, and a root only in front.
 ///
-/// Its spelling reads back as itself, and resolving it again changes no byte. Calling it does
+/// Its bytes have the resolved values, and resolving it again changes no byte. Calling it does
 /// nothing. Not in Rust's std.
 ///
 /// `a/../..//b/.` resolves to `../b`, which has the values `..` and `b` and resolves to itself.
@@ -23,10 +23,10 @@ pub fn resolved_congruent()
     ensures { ResolvedCongruent }
 {}
 
-/// Resolving a join is resolving it with the first path resolved.
+/// A join resolves to the same bytes if its first path is resolved before.
 ///
-/// The second path may not be resolved on its own before the join, since its `..` may take names of
-/// the first. Calling it does nothing. Not in Rust's std.
+/// A `..` of the second path may take away names of the first. The law says nothing of a second
+/// path that is resolved before. Calling it does nothing. Not in Rust's std.
 ///
 /// `a/./b` joined with `../c` resolves to `a/c`, and so does `a/b` joined with `../c`.
 pub fn resolved_of_join()

@@ -7,8 +7,9 @@ ghost use Rattle.path_within.specs.ResolvedLaws.{PlainBegins, PlainStripped};
 /// The resolved join with a request that doesn't climb stays under the resolved root.
 ///
 /// It has the values of the resolved root and then those of the resolved request, which are names
-/// alone. So it starts with the resolved root, and without it is equal to the resolved request.
-/// Links are not followed: it is a law of names. Calling it does nothing. Not in Rust's std.
+/// alone. So it starts with the resolved root, and without that root it is equal to the resolved
+/// request. Links are not followed: it is a law of names. Calling it does nothing. Not in Rust's
+/// std.
 ///
 /// `/srv/./www` joined with `a/../b` resolves to `/srv/www/b`, which is `/srv/www` and then `b`.
 pub fn stays_within()
@@ -22,8 +23,8 @@ pub fn stays_within()
 ///
 /// Such a request doesn't climb, and has names alone behind a leading dot. The join has the root's
 /// own values and then what the request adds: its values, without a leading dot unless the root is
-/// empty. So it starts with the root, and without it has what was added. Calling it does nothing.
-/// Not in Rust's std.
+/// empty. So it starts with the root, and without the root it has the values that were added.
+/// Calling it does nothing. Not in Rust's std.
 ///
 /// `/srv/..` joined with `./a` is `/srv/.././a`, which is `/srv/..` and then `a`.
 pub fn plain_stays_within()
