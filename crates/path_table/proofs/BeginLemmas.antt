@@ -1,4 +1,4 @@
--- The test whether values begin with a base's, and the fact.
+-- The test whether values begin with a base's answers true exactly if they do.
 use Rattle.std.proofs.Common.{◌≡◌, ◌++◌, ◌∙◌, true, false, List, sym, ap, drop, length}
 use Rattle.std.proofs.Common.{take-append-drop}
 use Rattle.std.proofs.Math.Seq.{take-append_seam}
@@ -11,20 +11,20 @@ use Rattle.unix_path.specs.OrderLaws.{values_cmp-total, is_eq-values_cmp}
 use Rattle.unix_path.specs.Parts.{Value}
 use Rattle.path_table.specs.Table.{is_under}
 
--- where the test answers true, values begin with base's
+-- if the test answers true, values begin with base's
 pub begins_from_under : (base v : List Value) → is_under base v ≡ true → Begins base v
 begins_from_under base v is =
     let n = length base in
     (drop n v, ap (λ t. t ++ drop n v) (is_eq-values_cmp base _ is) ∙ take-append-drop n v)
 
--- where values begin with base's, the test answers true
+-- if values begin with base's, the test answers true
 pub under_from_begins : (base v : List Value) → Begins base v → is_under base v ≡ true
 under_from_begins base v begins =
     ap (is_under base) (sym begins.1)
     ∙ ap (λ t. is_eq (values_cmp base t)) (take-append_seam base begins.0)
     ∙ ap is_eq (tied_itself values_cmp-total base)
 
--- where values don't begin with base's, the test answers false
+-- if values don't begin with base's, the test answers false
 pub not_under : (base v : List Value) → (Begins base v → ⊥) → is_under base v ≡ false
 not_under base v apart =
     false_from_ne_true (is_under base v) (λ is. apart (begins_from_under base v is))

@@ -28,7 +28,7 @@ module _ {V : Type 0} (old new : List (PathBuf × V)) where
       sorted_tail values_cmp (values (path_bytes e.0.now)) (paths_of new)
       (subst (λ es. IsStrictlySortedBy values_cmp (paths_of es)) some sorted)
 
-  -- where no path is before base, none is after a call of `next`
+  -- if no path is before base, none is before it after a call of `next`
   pub next_not_before : (base : List Value) (r : Option (Bor PathBuf × Bor V))
       → TakesFirst deref_pair old r new
       → NoneBefore base (paths_of old) → NoneBefore base (paths_of new)
@@ -38,7 +38,8 @@ module _ {V : Type 0} (old new : List (PathBuf × V)) where
       All-rest (λ v. is_le (values_cmp base v) ≡ true) (values (path_bytes e.0.now))
       (paths_of new) (paths_of old) (ap paths_of some) from
 
-  -- where the first of the paths left isn't under base, none of them is, nor of those behind it
+  -- if the first of the paths that are left isn't under base, none is, before the call of `next`
+  -- and after
   pub none_left : UnderIsInterval → (base : List Value) (e : PathBuf × V) → old ≡ e ∷ new
       → IsStrictlySortedBy values_cmp (paths_of old) → NoneBefore base (paths_of old)
       → (Begins base (values (path_bytes e.0)) → ⊥)

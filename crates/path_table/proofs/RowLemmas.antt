@@ -1,4 +1,4 @@
--- The rows of a table ascend, and what is left of its paths by their values is left of its rows.
+-- The rows of a table ascend, and a test of values keeps the rows of those entries that it keeps.
 use Rattle.std.proofs.Common.{◌≡◌, ◌∷◌, [], List, Bool, true, false, cond, refl, ap, Less}
 use Rattle.std.specs.List.{AllByRecursion, filter}
 use Rattle.std.specs.List.Sorted.{IsStrictlySortedBy}
@@ -12,14 +12,14 @@ use Rattle.unix_path.specs.declared.buf.PathBuf.{PathBuf}
 use Rattle.path_runs.specs.TableLaws.{rows_of}
 
 module _ {V : Type 0} where
-  -- where paths are greater than v, their rows are too
+  -- if paths are greater than v, so are their rows
   ascend_behind : (v : List Value) (entries : List (PathBuf × V))
       → AllByRecursion (λ p. values_cmp v (values (path_bytes p)) ≡ Less) (keys_of entries)
       → AllByRecursion (λ w. values_cmp v w ≡ Less) (keys_of (rows_of path_bytes entries))
   ascend_behind v [] behind = tt
   ascend_behind v (e ∷ entries) behind = (behind.0, ascend_behind v entries behind.1)
 
-  -- where paths ascend, their rows do too
+  -- if paths ascend, so do their rows
   pub sorted-rows_of : (entries : List (PathBuf × V))
       → IsStrictlySortedBy (on (λ p. values (path_bytes p)) values_cmp) (keys_of entries)
       → IsStrictlySortedBy values_cmp (keys_of (rows_of path_bytes entries))
@@ -28,7 +28,7 @@ module _ {V : Type 0} where
   sorted-rows_of (e ∷ entries) sorted =
       (ascend_behind (values (path_bytes e.0)) entries sorted.0, sorted-rows_of entries sorted.1)
 
-  -- a test of the values leaves of the entries what it leaves of the rows
+  -- the rows of the entries that pass a test of their values are the rows that pass it
   pub rows_of-filter : (test : List Value → Bool) (entries : List (PathBuf × V))
       → rows_of path_bytes (filter (λ e. test (values (path_bytes e.0))) entries)
       ≡ filter (λ row. test row.0) (rows_of path_bytes entries)
@@ -43,7 +43,7 @@ module _ {V : Type 0} where
         | false ↦ rows_of-filter test entries
       ]
 
-  -- a test of the values leaves of the rows' values what it leaves of the rows
+  -- the values of the rows that pass a test are the rows' values that pass it
   pub keys_of-filter : (test : List Value → Bool) (rows : List (List Value × V))
       → keys_of (filter (λ row. test row.0) rows) ≡ filter test (keys_of rows)
   keys_of-filter test [] = refl

@@ -1,11 +1,11 @@
--- What strip_prefix leaves of a path has the values that are left.
+-- The values of a path without its base.
 use Rattle.std.proofs.Common.{◌≡◌, ◌∙◌, ℕ, ◌+◌, ◌-◌, ◌≤◌, List, drop, length, length-drop, arith}
 use Rattle.std.proofs.lemmas.List.{take_all}
 use Rattle.unix_path.specs.Parts.{values}
 use Rattle.unix_path.specs.Prefixes.{stripped_of}
 use Rattle.path_runs.specs.PartLaws.{RestHasValues}
 
--- what is left of a path without its base has the values behind as many as the base has
+-- a path without its base has the path's values but for as many in front as the base has
 pub values-stripped_of : RestHasValues → (s base : List ℕ)
     → values (stripped_of s base) ≡ drop (length (values base)) (values s)
 values-stripped_of again s base =

@@ -35,7 +35,7 @@ module _ {V : Type 0} (base : List Value) where
       ap (λ b. map (row_under base) (cond b (row ∷ under rows) (under rows)))
       (not_under base row.0 apart)
 
-  -- where v isn't before base nor under it, no row that is greater than v is under base
+  -- if v is neither before base nor under it, no row that is greater than v is under base
   none_behind : UnderIsInterval → (v : List Value) (rows : List (List Value × V))
       → is_le (values_cmp base v) ≡ true → (Begins base v → ⊥)
       → AllByRecursion (λ w. values_cmp v w ≡ Less) (keys_of rows)
@@ -46,7 +46,7 @@ module _ {V : Type 0} (base : List Value) where
       (interval base base v row.0 ([], append-nil base) begins from (ap is_le behind.0)))
       ∙ none_behind interval v rows from apart behind.1
 
-  -- of rows in order, where the first isn't before base nor under it, none behind it is under it
+  -- if the first of rows in order is neither before base nor under it, none behind it is under base
   pub none_under : UnderIsInterval → (row : List Value × V) (rows : List (List Value × V))
       → IsStrictlySortedBy values_cmp (keys_of (row ∷ rows))
       → is_le (values_cmp base row.0) ≡ true → (Begins base row.0 → ⊥)

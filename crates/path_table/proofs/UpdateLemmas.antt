@@ -23,7 +23,7 @@ module _ {V : Type 0} (v w : List Value) (differ : v ≡ w → ⊥) where
       ap (λ b. cond b (Some x) (value_at v rows))
       (is_eq-differ v key (λ is. differ (is ∙ sym same)))
 
-  -- an insertion at w changes nothing at v, where it goes on behind the first row if that is less
+  -- an insertion at w changes nothing at v, be it before the first row, in its place, or further on
   value_at-match_ordering : (x : V) (row : List Value × V) (rows : List (List Value × V))
       (o : Ordering) → values_cmp w row.0 ≡ o
       → value_at v (insert_entry values_cmp rows w x) ≡ value_at v rows
@@ -43,7 +43,7 @@ module _ {V : Type 0} (v w : List Value) (differ : v ≡ w → ⊥) where
   value_at-insert_entry x (row ∷ rows) =
       value_at-match_ordering x row rows (values_cmp w row.0) refl (value_at-insert_entry x rows)
 
-  -- a removal at w changes nothing at v, where it goes on behind a first row at other values
+  -- a removal at w changes nothing at v, be it of the first row or further on
   value_at-cond : (row : List Value × V) (rows : List (List Value × V)) (b : Bool)
       → is_eq (values_cmp w row.0) ≡ b
       → value_at v (remove_entry (is_at (values_cmp w)) rows) ≡ value_at v rows

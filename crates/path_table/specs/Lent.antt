@@ -1,4 +1,4 @@
--- What becomes of a table once the borrow of a value of it ends. Not in Rust's std.
+-- What becomes of a table once the borrow of one of its values ends. Not in Rust's std.
 use Rattle.std.specs.Prelude.{◌≡◌, List, Option}
 use Rattle.std.specs.Borrow.{Fml, LendsSo, MutBor, RattleType}
 use Rattle.std.specs.BTreeMap.{is_at}
@@ -9,7 +9,8 @@ use Rattle.path_table.specs.Table.{table_of}
 use Rattle.path_table.specs.contracts.table.PathTable.{the_row}
 use Rattle.path_table.specs.declared.table.PathTable.{PathTable}
 
--- the table behind s has the last value behind r in the row at v, or is as it was if r is `None`
+-- the table behind s then has the last value behind r in the row at v; if r is `None`, it is as it
+-- was
 abbrev pub lends_value : (V : RattleType) → MutBor (PathTable V.Denot) → List Value
     → Option (MutBor V.Denot) → Fml
 lends_value V s v r = LendsSo (the_row V) V s r

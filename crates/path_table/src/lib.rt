@@ -1,4 +1,4 @@
-//! Tables of files by path, where equal paths are one key.
+//! Tables of files by path, in which equal paths are one key.
 #![tactic(auto)]
 
 pub mod table;

@@ -24,7 +24,7 @@ use std::fmt;
 pub use under::Under;
 use unix_path::PathBuf;
 
-/// Values by path, where equal paths are one key.
+/// Values by path: a table in which equal paths are one key.
 ///
 /// The paths stand in path order. A table with 1 at `a/b` has 1 at `a//b` too. Not in Rust's std;
 /// as a `BTreeMap<PathBuf, V>`.
@@ -92,10 +92,10 @@ impl<V> PathTable<V> {
         self.files.get(path)
     }
 
-    /// The value at the path that is equal to this one, to be written; `None` if there is no such
-    /// path. Does not allocate. As Rust's `BTreeMap::get_mut`.
+    /// A mutable reference to the value at the path that is equal to this one; `None` if there is
+    /// no such path. Does not allocate. As Rust's `BTreeMap::get_mut`.
     ///
-    /// With 1 at `a/b`, writing 2 through what it gives for `a//b` leaves 2 at `a/b`.
+    /// With 1 at `a/b`, writing 2 through the reference for `a//b` leaves 2 at `a/b`.
     pub fn get_mut(&mut self, path: &PathBuf) -> Option<&mut V>
         ensures* writes_back { sem 𝓛 (lends_value V.row self.entry
             (values (path_bytes path.now)) result) }
