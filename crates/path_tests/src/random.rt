@@ -22,7 +22,7 @@ impl Random {
         mixed ^ mixed >> 31
     }
 
-    // A letter in plain strings; else any byte, or a letter in one of four.
+    // In plain strings a letter; in others a letter one time in four, and else any byte.
     fn byte(&mut self, is_plain: bool) -> u8 {
         let word = self.next();
         let is_letter = is_plain || word >> 32 & 3 == 0;

@@ -8,7 +8,8 @@ fn with_letter(alloc: Global, string: &[u8], letter: u8) -> Result<Vec<u8>, Allo
     Ok(longer)
 }
 
-// The strings over these letters, shorter ones first; the first `shorter` of them are made longer.
+// The strings over these letters, shorter ones first: the empty one, and each of the first
+// `shorter` strings with each letter behind it.
 pub(crate) fn strings_over(
     alloc: Global,
     letters: &[u8],

@@ -10,7 +10,7 @@ use path_within::within::{join_plain, join_within};
 use std::alloc::Global;
 use unix_path::{Path, PathBuf};
 
-// Whether the join was made and has these bytes, or was refused where none are wanted.
+// Whether the join was made and has these bytes, or was refused and `want` is `None`.
 fn is_joined(joined: Result<PathBuf, WithinError>, want: Option<&[u8]>) -> bool {
     match joined {
         Ok(path) => want == Some(path.as_path().as_unix_str().as_bytes()),
@@ -19,8 +19,8 @@ fn is_joined(joined: Result<PathBuf, WithinError>, want: Option<&[u8]>) -> bool 
     }
 }
 
-// Whether the join within of the root and the request has these bytes, or is refused where none are
-// wanted.
+// Whether `join_within` of the root and the request gives these bytes, or refuses if `want` is
+// `None`.
 fn is_joined_within(alloc: Global, root: &[u8], request: &[u8], want: Option<&[u8]>) -> bool {
     is_joined(
         join_within(alloc, Path::from_bytes(root), Path::from_bytes(request)),
@@ -28,8 +28,8 @@ fn is_joined_within(alloc: Global, root: &[u8], request: &[u8], want: Option<&[u
     )
 }
 
-// Whether the plain join of the root and the request has these bytes, or is refused where none are
-// wanted.
+// Whether `join_plain` of the root and the request gives these bytes, or refuses if `want` is
+// `None`.
 fn is_joined_plain(alloc: Global, root: &[u8], request: &[u8], want: Option<&[u8]>) -> bool {
     is_joined(
         join_plain(alloc, Path::from_bytes(root), Path::from_bytes(request)),

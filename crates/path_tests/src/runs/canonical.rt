@@ -47,8 +47,8 @@ fn rows_are_collected(rt: HostRuntime) {
     }
 }
 
-// Whether the spelling's length is answered, and the spelling is written to the beginning of this
-// buffer, which is all `#`, if there is room for it; else nothing is.
+// Whether the call returns the spelling's length, and writes the spelling to the beginning of this
+// buffer of `#`, or nothing if there is no room for it.
 fn is_written(path: &str, want: &str, out: &mut [u8]) -> bool {
     let len = write_canonical(Path::from_text(path), out);
     let written = if want.len() <= out.len() { want } else { "" };
@@ -58,7 +58,7 @@ fn is_written(path: &str, want: &str, out: &mut [u8]) -> bool {
     }
 }
 
-// Whether the spelling is written to buffers of 0 to 31 bytes that have room for it.
+// Whether `is_written` is true for buffers of 0 to 31 bytes.
 fn is_written_in_every_room(path: &str, want: &str) -> bool {
     for room in 0..32usize {
         let mut buffer = [b'#'; 32];
@@ -92,7 +92,7 @@ fn long_spellings_are_written(rt: HostRuntime) {
     }
 }
 
-// Whether the spelling is in canonical form, and the path exactly if it is that spelling.
+// Whether the spelling is in canonical form, and the path is so exactly if it is that spelling.
 fn is_told(path: &str, spelled: &str) -> bool {
     is_canonical(Path::from_text(spelled))
         && is_canonical(Path::from_text(path)) == (path == spelled)
@@ -105,7 +105,7 @@ fn spellings_are_canonical(rt: HostRuntime) {
     }
 }
 
-// Paths of which some bytes don't count, in few bytes and in more than 16.
+// Paths with filler that their spelling leaves out, short ones and ones of more than 16 bytes.
 static RESPELLED: [&'static str; 7] = [
     "//",
     "a/",

@@ -47,7 +47,7 @@ fn list_back<'a>(alloc: Global, path: Path<'a>) -> Result<Vec<Component<'a>>, Al
     path.components().rev().collect(alloc)
 }
 
-// The walk after its first step.
+// The parts behind the first one.
 fn after_first<'a>(alloc: Global, path: Path<'a>) -> Result<Vec<Component<'a>>, AllocError>
     ensures { IfOk result (λ list. map value_of list.items
         ≡ drop 1 (values path.entry.bytes.now)) }

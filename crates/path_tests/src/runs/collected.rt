@@ -9,7 +9,7 @@ use unix_path::{Components, Path};
 // How many strings of at most 5 letters there are over three letters.
 const SHORTER_STRINGS: usize = 364;
 
-// How many lists of at most 3 turns there are, and of at most 4.
+// How many lists of at most 3 turns there are; below, of at most 4.
 const SHORTER_LISTS: usize = 15;
 
 const LISTS: usize = 31;
@@ -36,7 +36,8 @@ fn is_collected(alloc: Global, left: Components<'_>) -> Result<bool, AllocError>
     Ok(joined.as_path().as_unix_str() == spelled.as_path().as_unix_str())
 }
 
-// After how many of the lists of turns what is left of the path is collected to its spelling.
+// For how many of the lists of turns the rest that they leave of the path is collected to its
+// spelling.
 fn count_collected(alloc: Global, path: &[u8], lists: &[Vec<u8>]) -> Result<usize, AllocError> {
     let walk = Path::from_bytes(path).components();
     let mut count = 0_usize;

@@ -178,7 +178,8 @@ static LISTS_OF_EDITS: [ListRow; 5] = [
     ("a", &[], "a", &[]),
 ];
 
-// A path, a base, and what the path joined again to the base is, unless it is not below it.
+// A path, a base, and the path without the base, joined to the base; `None` if it doesn't start
+// with the base.
 type BaseRow = (&'static str, &'static str, Option<&'static str>);
 
 static JOINS_TO_A_BASE: [BaseRow; 6] = [
@@ -194,7 +195,7 @@ static JOINS_TO_A_BASE: [BaseRow; 6] = [
     ("foo/bar", "foo/bar/baz", None),
 ];
 
-// Whether the edits of this buffer leave these bytes and answer this.
+// Whether the edits leave these bytes in the buffer, and give these answers.
 fn edits_give(
     alloc: Global,
     buffer: &mut PathBuf,
@@ -230,7 +231,7 @@ fn list_gives(alloc: Global, row: &ListRow) -> Result<bool, AllocError> {
     Ok(edits_give(alloc, &mut buffer, row.1, row.2, row.3))
 }
 
-// Whether the path is joined again to the base as the row says, or not at all.
+// Whether `rejoin` gives what the row says.
 fn is_rejoined(alloc: Global, row: &BaseRow) -> bool {
     match rejoin(alloc, Path::from_text(row.0), Path::from_text(row.1)) {
         Ok(Some(joined)) => match row.2 {

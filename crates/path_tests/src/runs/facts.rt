@@ -1,4 +1,4 @@
-//! Callers of laws: a law that is called in a body is a fact there, and no function has a proof.
+//! Callers of laws: a law that is called in a body is a fact there, and no function needs a proof.
 ghost use Rattle.std.specs.Prelude.{◌≡◌, ◌≤◌, ◌↔◌, false, [], IfOk, IsTrue, length};
 ghost use Rattle.std.specs.List.{sum_by};
 ghost use Rattle.unix_path.specs.Buffers.{path_bytes};

@@ -14,7 +14,7 @@ fn repeat(alloc: Global, piece: &[u8], count: usize) -> Result<Vec<u8>, AllocErr
     Ok(bytes)
 }
 
-// Whether these bytes were given.
+// Whether the call gave these bytes.
 fn gives(answer: Option<UnixStr<'_>>, bytes: &[u8]) -> bool {
     match answer {
         Some(found) => found.as_bytes() == bytes,
@@ -31,7 +31,7 @@ fn has_one_part(path: Path<'_>, part: &[u8]) -> bool {
         && back.next_back().is_none()
 }
 
-// Whether the path is spelled so, and equals its spelling.
+// Whether these bytes are the path's canonical spelling, and the path is equal to it.
 fn is_spelled(alloc: Global, path: Path<'_>, bytes: &[u8]) -> bool {
     match canonical(alloc, path) {
         Ok(spelled) => {
@@ -49,14 +49,14 @@ static ROWS: [(&str, usize, &str); 4] = [
     ("/./", 50_000, "/"),
 ];
 
-// Whether the path has this part alone, is spelled so, and has no file name.
+// Whether the path has this part alone, which is its spelling too, and no file name.
 fn is_one_part(alloc: Global, path: Path<'_>, part: &str) -> bool {
     has_one_part(path, part.as_bytes())
         && is_spelled(alloc, path, part.as_bytes())
         && path.file_name().is_none()
 }
 
-// Whether the piece, `count` times, is so many bytes, and a path of this part alone.
+// Whether the piece, `count` times, has `count` times its length, and is a path of this part alone.
 fn repeats_as(alloc: Global, piece: &str, count: usize, part: &str) -> bool {
     match repeat(alloc, piece.as_bytes(), count) {
         Ok(bytes) => {
@@ -183,7 +183,7 @@ fn is_replaced(text: &str) -> bool {
     text.len() == 300_000 && replacements(text) == Some(100_000)
 }
 
-// Whether the path is displayed so.
+// Whether the path is displayed as this text.
 fn is_shown(alloc: Global, path: Path<'_>, text: &str) -> bool {
     match format!(in alloc; "{}", path.display()) {
         Ok(shown) => shown.as_str() == text,

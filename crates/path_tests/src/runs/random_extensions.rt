@@ -32,8 +32,8 @@ fn ends_of(alloc: Global, path: &[u8]) -> Result<Option<(usize, usize)>, AllocEr
     })
 }
 
-// The path up to this place, and then a dot and the extension, unless that is empty; with no place,
-// the path.
+// The path up to this place, and behind it a dot and the extension unless that is empty; the whole
+// path if there is no place.
 fn path_with_extension(
     alloc: Global,
     path: &[u8],
@@ -52,7 +52,7 @@ fn path_with_extension(
     Ok(bytes)
 }
 
-// Whether the call refuses the extension for its separator, or else answers this.
+// Whether the call refuses an extension that has a slash, and answers this for any other.
 fn is_answered(edited: Result<bool, ExtensionError>, has_slash: bool, answer: bool) -> bool {
     match edited {
         Ok(is_made) => !has_slash && is_made == answer,
@@ -61,7 +61,7 @@ fn is_answered(edited: Result<bool, ExtensionError>, has_slash: bool, answer: bo
     }
 }
 
-// Whether the call refuses the extension for its separator, or else gives these bytes.
+// Whether the call refuses an extension that has a slash, and gives these bytes for any other.
 fn is_copied(copied: Result<PathBuf, ExtensionError>, has_slash: bool, bytes: &[u8]) -> bool {
     match copied {
         Ok(path) => !has_slash && path.as_path().as_unix_str().as_bytes() == bytes,

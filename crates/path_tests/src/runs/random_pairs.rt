@@ -1,4 +1,4 @@
-//! Random pairs of byte strings, each asked what two paths answer, beside their lists of parts.
+//! Random pairs of byte strings: whether two paths answer as their lists of parts do.
 use super::plain::{left_between, parts_of};
 use crate::random::Random;
 use std::alloc::{AllocError, Global};
@@ -20,8 +20,8 @@ fn other_string(alloc: Global, random: &mut Random, bytes: &[u8]) -> Result<Vec<
     }
 }
 
-// Whether the first path begins with the second, ends with it and equals it where these lists of
-// the bytes of their parts do.
+// Whether the paths answer `starts_with`, `ends_with` and `==` as these lists of their parts' bytes
+// do.
 fn are_compared(p: Path<'_>, q: Path<'_>, v: &[&[u8]], w: &[&[u8]]) -> bool {
     p.starts_with(q) == v.starts_with(w) && p.ends_with(q) == v.ends_with(w) && (p == q) == (v == w)
 }
@@ -33,7 +33,7 @@ fn are_ordered(alloc: Global, p: Path<'_>, q: Path<'_>) -> Result<bool, AllocErr
     Ok(p.cmp(&q) == v.as_slice().cmp(w.as_slice()))
 }
 
-// Whether stripping the prefix leaves these bytes, or fails where there are none.
+// Whether stripping the prefix leaves these bytes, or fails if `left` is `None`.
 fn is_stripped(path: Path<'_>, prefix: Path<'_>, left: Option<&[u8]>) -> bool {
     match path.strip_prefix(prefix) {
         Ok(rest) => left == Some(rest.as_unix_str().as_bytes()),

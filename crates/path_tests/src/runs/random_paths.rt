@@ -1,4 +1,4 @@
-//! Random byte strings, each asked everything that a path answers, beside the plain reading.
+//! Random byte strings: whether each answer of a path is that of the plain reading.
 use super::plain::{Part, are_parts, first_dot, is_name, last_dot, left_between, parts_of};
 use crate::random::Random;
 use path_runs::canonical::{canonical, write_canonical};
@@ -17,7 +17,7 @@ fn bytes_of<'a>(text: Option<UnixStr<'a>>) -> Option<&'a [u8]> {
     }
 }
 
-// Whether the root and the parents go by the parts.
+// Whether the path's root, parent and ancestors are those that the parts give.
 fn has_parents<'a>(path: Path<'a>, parts: &[Part<'a>]) -> bool {
     let bytes = path.as_unix_str().as_bytes();
     let is_rooted = bytes.starts_with(b"/");
@@ -89,7 +89,7 @@ fn is_written(alloc: Global, path: Path<'_>, want: &[u8]) -> Result<bool, AllocE
     Ok(len == want.len() && out.as_slice() == want)
 }
 
-// Whether the canonical form is the parts with one slash between, and is its own.
+// Whether the canonical form is the parts with one slash between, and is its own canonical form.
 fn is_spelled(alloc: Global, path: Path<'_>, parts: &[Part<'_>]) -> Result<bool, AllocError> {
     let bytes = spelling(alloc, parts)?;
     let spelled = canonical(alloc, path)?;
@@ -111,7 +111,8 @@ fn has_json(alloc: Global, path: Path<'_>, text: Option<&str>) -> bool {
     }
 }
 
-// Whether the path gives its text or none, and is shown as its text or with replacement characters.
+// Whether the path gives its text and is shown as it, or has none and is shown with replacement
+// characters.
 fn is_lossy(path: Path<'_>, text: Option<&str>, shown: &str) -> bool {
     match text {
         Some(text) => path.to_str() == Some(text) && shown == text,
@@ -126,8 +127,8 @@ fn is_shown(alloc: Global, path: Path<'_>, text: Option<&str>) -> Result<bool, A
     Ok(is_lossy(path, text, shown.as_str()) && lossy.as_str() == shown.as_str())
 }
 
-// Whether the path of these bytes answers as the plain reading has it, and is text exactly where
-// `from_utf8` of std finds text.
+// Whether the path of these bytes answers as the plain reading has it, and is text exactly if std's
+// `from_utf8` says so.
 fn is_read(alloc: Global, bytes: &[u8]) -> Result<bool, AllocError> {
     let path = Path::from_bytes(bytes);
     let parts = parts_of(alloc, bytes)?;

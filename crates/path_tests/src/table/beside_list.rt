@@ -95,7 +95,8 @@ fn answers_alike(
     })
 }
 
-// How many calls of a table and a list answer alike, and leave as many files, before two do not.
+// How many calls of a table and a list answer alike, and leave as many files in both, before one
+// pair of calls doesn't.
 fn calls_alike(alloc: Global, seed: u64) -> Result<u32, AllocError> {
     let mut random = Random::new(seed);
     let mut table = PathTable::new(alloc);

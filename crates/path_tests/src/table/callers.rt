@@ -1,4 +1,4 @@
-//! Callers of tables, whose proofs need no line.
+//! Callers of tables that need no line of proof.
 ghost use Rattle.std.specs.Prelude.{◌≡◌, IfOk, IsSome, length};
 ghost use Rattle.std.specs.BTreeMap.{is_at};
 ghost use Rattle.std.specs.Map.{set_value};

@@ -16,7 +16,7 @@ fn is_idle(piece: &[u8]) -> bool {
     piece.is_empty() || piece == b".".as_slice()
 }
 
-// The pieces that are left of a path, but for its root, where each `..` takes a name away.
+// The pieces that are left of a path, but for its root, once each `..` has taken a name away.
 pub(super) fn pieces_left<'a>(alloc: Global, path: &'a [u8]) -> Result<Vec<&'a [u8]>, AllocError> {
     let mut pieces: Vec<&'a [u8]> = Vec::new(alloc);
     for piece in path.split(|byte| *byte == b'/') {

@@ -44,8 +44,8 @@ fn bytes_of(path: &PathBuf) -> &[u8] {
     path.as_path().as_unix_str().as_bytes()
 }
 
-// Whether the join within is what a plain reading resolves the join to, or is refused where the
-// request climbs; and whether it is the resolved root and behind it the resolved request.
+// Whether the join within is refused if the request climbs; else, whether it is what a plain
+// reading resolves the join to, and is the resolved root with the resolved request behind it.
 fn stays_within(
     alloc: Global,
     root: &ShortPath<'_>,
@@ -67,8 +67,8 @@ fn stays_within(
     Ok(is_behind && bytes_of(&joined) == want.as_slice())
 }
 
-// Whether the plain join is the join that `Path` makes, or is refused where the request has a root
-// or a `..`; and whether the join starts with the root.
+// Whether the plain join is refused if the request has a root or a `..`; else, whether it is the
+// join that `Path` makes, and starts with the root.
 fn stays_plain(
     alloc: Global,
     root: &ShortPath<'_>,
@@ -104,7 +104,7 @@ fn has_no_way(from: &ShortPath<'_>, to: &ShortPath<'_>) -> bool {
     plain::is_rooted(from.path.bytes) != plain::is_rooted(to.path.bytes) || is_above
 }
 
-// Whether the way leads from the first path to the other, or there is none.
+// Whether the way leads from the first path to the other, or there is none by a plain reading too.
 fn leads_there(
     alloc: Global,
     from: &ShortPath<'_>,

@@ -14,7 +14,8 @@ const STRINGS: usize = 1093;
 // How many strings of at most 5 letters there are over three letters.
 const SHORTER_STRINGS: usize = 364;
 
-// Whether no `.` is a part, no `..` stands behind a name or the root, and a root only in front.
+// Whether no part is `.`, no `..` stands behind a name or the root, and a root stands only in
+// front.
 fn is_normal(path: Path<'_>) -> bool {
     let mut is_normal = true;
     let mut before = Component::ParentDir;
@@ -44,7 +45,7 @@ fn stays(alloc: Global, bytes: &[u8]) -> Result<bool, AllocError> {
     Ok(is_normal(path) && spelled.as_path().as_unix_str().as_bytes() == bytes)
 }
 
-// Whether the path resolves to these bytes, and they to themselves, and so does its spelling.
+// Whether the path, these bytes, and the path's spelling all resolve to these bytes.
 fn all_resolve_to(alloc: Global, path: Path<'_>, want: &[u8]) -> Result<bool, AllocError> {
     let spelled = canonical(alloc, path)?;
     Ok(
@@ -54,8 +55,8 @@ fn all_resolve_to(alloc: Global, path: Path<'_>, want: &[u8]) -> Result<bool, Al
     )
 }
 
-// Whether the path resolves as it is read plainly, is normal then, and stays so; and whether it
-// climbs where it is read so.
+// Whether the path resolves to what the plain reading gives, which isn't longer than the path, is
+// normal, and resolves to itself; and whether the path climbs exactly if that reading says so.
 fn is_resolved(alloc: Global, bytes: &[u8]) -> Result<bool, AllocError> {
     let path = Path::from_bytes(bytes);
     let want = plain::resolved_of(alloc, bytes)?;

@@ -1,5 +1,5 @@
-//! Known bad requests of path traversal, each with the answer that its bytes give: an encoding is
-//! no `..`, and stays a name.
+//! Known bad requests of path traversal, each with the answer that its bytes give: an encoded `..`
+//! is a name.
 use super::{is_joined_plain, is_joined_within};
 use path_within::WithinError;
 use std::alloc::{AllocError, Global};
@@ -33,8 +33,8 @@ static REQUESTS: [(&'static [u8], Option<&'static [u8]>); 24] = [
     (b"\xC0\xAE\xC0\xAE/etc", Some(b"/www/\xC0\xAE\xC0\xAE/etc")),
 ];
 
-// What the plain join gives, where the join within gives this: it differs in the request alone that
-// has a `..` behind a name, and keeps all slashes.
+// What the plain join gives for a request whose join within is this. It refuses the one request
+// with a `..` behind a name, keeps the double slashes of another, and else gives the same.
 fn plain_want(request: &'static [u8], within: Option<&'static [u8]>) -> Option<&'static [u8]> {
     if request == b"a\0/../etc".as_slice() {
         None
@@ -62,7 +62,7 @@ fn bad_plain_requests(rt: HostRuntime) {
     }
 }
 
-// Whether the error's text is `text`, and `wide` in a field of 22.
+// Whether the error is displayed as `text`, and as `wide` in a field of 22 columns.
 fn is_shown(
     alloc: Global,
     error: &WithinError,
