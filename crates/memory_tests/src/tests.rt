@@ -27,7 +27,7 @@ fn holds(buffer: &PathBuf, text: &str) -> bool {
     buffer.as_path().as_unix_str() == UnixStr::new(text)
 }
 
-// Whether the call failed. It takes what the call gave, so that the caller has nothing to drop.
+// Whether the call failed. Takes the call's result, so that the caller has nothing to drop.
 fn fails<T: Drop, E: Drop>(given: Result<T, E>) -> bool {
     given.is_err()
 }
@@ -44,8 +44,8 @@ fn is_borrowed(given: Result<LossyText<'_>, AllocError>, text: &str) -> bool {
     }
 }
 
-// All memory, taken. An error where a request is still granted, so that no test passes without a
-// refusal that it saw.
+// Takes all memory. It is an error if a request is still granted, so that no test passes without a
+// refusal.
 fn drought(alloc: Global) -> Result<Drought, Fail> {
     let Some(drought) = Drought::begin(alloc)? else {
         return Err(Fail::new("more memory than can be held"));

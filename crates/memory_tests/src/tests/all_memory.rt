@@ -3,8 +3,8 @@ use super::is_refused;
 use memory_drought::Drought;
 use std::test::Fail;
 
-// With another allocator than the C library's, as that of a checker of memory, this and all other
-// tests that take a `Drought` fail.
+// With another allocator than the C library's, such as a memory checker's, this test and all others
+// that take a `Drought` fail.
 #[test]
 fn all_memory_is_taken_and_given_back(rt: HostRuntime) -> Result<(), Fail> {
     let alloc = rt.alloc();

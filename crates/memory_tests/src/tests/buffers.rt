@@ -58,7 +58,7 @@ fn a_path_longer_than_memory_is_an_error(rt: HostRuntime) -> Result<(), Fail> {
     Ok(())
 }
 
-// Whether the edits to `/foo.a.c` are made within the capacity of an empty path.
+// Whether edits turn an empty path into `/foo.a.c` without a change of its capacity.
 fn fits_edits(buffer: &mut PathBuf) -> bool {
     let capacity = buffer.capacity();
     buffer.push(path("/")).is_ok()
@@ -70,7 +70,7 @@ fn fits_edits(buffer: &mut PathBuf) -> bool {
         && buffer.capacity() == capacity
 }
 
-// Whether calls that ask for no other capacity keep it.
+// Whether calls that need no other capacity leave it as it is.
 fn keeps_its_capacity(buffer: &mut PathBuf) -> bool {
     let capacity = buffer.capacity();
     buffer.shrink_to(capacity).is_ok()
@@ -234,7 +234,8 @@ fn separators_are_refused_without_memory(rt: HostRuntime) -> Result<(), Fail> {
 }
 
 // Extends an empty path by these three, and marks in `seen` how many of them it holds then, told by
-// its length. False at any other length, or unless `extend` gives Ok exactly where it holds all.
+// its length. False for any other length, or if `extend` gives an error though it holds all, or no
+// error though it doesn't.
 fn extends_so_far(alloc: Global, paths: &[Path<'_>], seen: &mut [bool; 4]) -> bool {
     let mut buffer = PathBuf::new(alloc);
     let is_made = extends(&mut buffer, paths);
@@ -249,7 +250,7 @@ fn extends_so_far(alloc: Global, paths: &[Path<'_>], seen: &mut [bool; 4]) -> bo
     is_made == (pushed == 3)
 }
 
-// Each allocation of `extend` fails in some round, and what was pushed before that one stays.
+// Each allocation of `extend` fails in some round, and what was pushed before it stays.
 #[test]
 fn a_failed_extend_keeps_the_pushes_before(rt: HostRuntime) -> Result<(), Fail> {
     let alloc = rt.alloc();

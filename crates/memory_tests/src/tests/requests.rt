@@ -1,6 +1,6 @@
 //! One call a test, with ample memory here. `tools/check_requests` runs the tests with request
-//! number 1, 2, 3 and so on refused: then a test fails with `refused` where its call was refused
-//! and left what it should.
+//! number 1, 2, 3 and so on refused: then a test fails with `refused` if its call was refused and
+//! left what it should.
 mod copies;
 mod edits;
 mod kept;

@@ -48,8 +48,8 @@ fn answers_that_fail_leave_the_path(rt: HostRuntime) -> Result<(), Fail> {
     Ok(())
 }
 
-// Whether a walk, a spelling and a join to a base are refused, and a path that isn't below the base
-// is answered without memory.
+// Whether a walk, a spelling and a `rejoin` are refused, and a `rejoin` of a path that doesn't
+// start with the base gives `None` without memory.
 fn refuses_runs(alloc: Global) -> bool {
     fails(walk(alloc, path("/a"), [Turn::Back].as_slice()))
         && fails(canonical(alloc, path("/a")))

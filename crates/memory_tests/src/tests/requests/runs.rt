@@ -57,7 +57,7 @@ fn path_walked(rt: HostRuntime) -> Result<(), Fail> {
     }
 }
 
-// What `ab` is after so many of the edits.
+// What `ab` is after this many of the edits.
 fn edited_text(done: usize) -> &'static str {
     match done {
         0 => "ab",

@@ -1,4 +1,4 @@
-//! Boxed, shared, and borrowed or owned paths need no memory for what promises so.
+//! Calls that promise to need no memory, of boxed, shared, and borrowed or owned paths.
 use super::super::{drought, path};
 use super::{debug_has, display_has, hash_same, is_view};
 use std::alloc::{AllocError, Global};
@@ -29,7 +29,7 @@ fn is_borrowed(buffer: &PathBuf) -> bool {
         && hash_same(&borrowed, &path("foo"))
 }
 
-// An owned path without room is kept where it is.
+// An owned path with no spare capacity is kept where it is.
 fn is_kept(alloc: Global, first: PathBuf, second: PathBuf) -> bool {
     CowPath::from(first).into_owned(alloc).is_ok()
         && BoxedPath::from_cow(alloc, CowPath::from(second)).is_ok()

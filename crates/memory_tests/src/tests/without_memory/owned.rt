@@ -1,4 +1,4 @@
-//! Buffers, walks, spellings and edits need no memory for what promises so.
+//! Calls that promise to need no memory, of buffers, walks, spellings and edits.
 use super::super::{drought, path};
 use super::{debug_has, hash_same};
 use path_runs::canonical::{canonical, collected, is_canonical, write_canonical};
@@ -10,7 +10,7 @@ use std::test::Fail;
 use unix_path::bytes::UnixStr;
 use unix_path::{Path, PathBuf};
 
-// Where there is no room, there is none to give back.
+// A path with no spare capacity has none to give back.
 fn stays_full(mut full: PathBuf) -> bool {
     full.shrink_to_fit().is_ok()
         && full.shrink_to(0).is_ok()
@@ -27,7 +27,7 @@ fn is_read(buffer: &PathBuf) -> bool {
         && buffer.as_path() == path("foo")
 }
 
-// Within its length, an edit needs no room.
+// An edit whose result isn't longer than the path needs no memory.
 fn is_edited(mut buffer: PathBuf) -> bool {
     buffer.set_file_name(UnixStr::new("bar")).is_ok()
         && buffer.set_file_name(UnixStr::new("b")).is_ok()

@@ -1,4 +1,4 @@
-//! Tables need no memory for what promises so.
+//! Calls that promise to need no memory, of tables.
 use super::super::{drought, fails};
 use path_table::PathTable;
 use std::alloc::{AllocError, Global};
@@ -39,7 +39,7 @@ fn stays_empty(alloc: Global, path: &PathBuf, other: PathBuf) -> bool {
         && empty.remove(path).is_none()
 }
 
-// An equal path's value is replaced, and for another path there is no memory.
+// An equal path's value is replaced; there is no memory for another path.
 #[test]
 fn tables_are_read_and_emptied_without_memory(rt: HostRuntime) -> Result<(), Fail> {
     let alloc = rt.alloc();

@@ -1,4 +1,4 @@
-//! Byte strings and texts need no memory for what promises so.
+//! Calls that promise to need no memory, of byte strings and texts.
 use super::super::drought;
 use super::{debug_has, display_has, hash_same};
 use std::alloc::Global;
@@ -36,7 +36,7 @@ fn is_found() -> bool {
         && common_len(b"ab", b"ac") == 1
 }
 
-// A text of its own becomes a `String` where it is.
+// An owned text becomes a `String` without a copy.
 fn is_owned(alloc: Global, lossy: LossyText<'_>) -> bool {
     let is_read = lossy.as_str() == "a\u{fffd}"
         && lossy == LossyText::Borrowed("a\u{fffd}")
@@ -54,7 +54,7 @@ fn copies_nothing(alloc: Global) -> bool {
         && LossyText::Borrowed("").into_owned(alloc).is_ok()
 }
 
-// Where there is no room, there is none to give back.
+// A string with no spare capacity has none to give back.
 fn stays_full(mut full: UnixString) -> bool {
     full.shrink_to_fit().is_ok()
         && full.shrink_to(0).is_ok()

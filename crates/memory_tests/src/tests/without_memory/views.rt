@@ -1,4 +1,4 @@
-//! Views of paths need no memory for what promises so.
+//! Calls that promise to need no memory, of views of paths.
 use super::super::{drought, path};
 use super::{debug_has, display_has, hash_same, is_view};
 use std::cmp::Ordering;
