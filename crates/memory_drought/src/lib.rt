@@ -9,17 +9,17 @@ const BLOCKS: usize = 50_000;
 // How many blocks of `STEP` bytes can be given back one by one.
 const STEPS: usize = 200;
 
-// How many bytes a block has that can be given back alone: more than the blocks that the C library
-// keeps apart by their size, so that neighbouring blocks become one again.
+// How many bytes a block has that can be given back alone. The C library keeps smaller freed blocks
+// apart by their size; those of this size it joins again with free neighbours.
 const STEP: usize = 2048;
 
-// How many sizes of short blocks are taken, in steps of 16 bytes: no fewer than the C library keeps
-// apart by their size.
+// How many sizes of short blocks are taken, from 16 bytes on in steps of 16: no fewer than the C
+// library keeps apart.
 const SIZES: usize = 65;
 
 /// All memory that the process can still get. Dropping it gives the memory back.
 ///
-/// While it is held an allocation fails, except for a growth in place. It rests on the C library's
+/// While it is held an allocation fails, except for a growth in place. It relies on the C library's
 /// allocator and on a finite address space. Not in Rust's std.
 ///
 /// With `let _drought = Drought::begin(alloc)?;` in scope, `Vec::<u8>::with_capacity(alloc, 1)` is
@@ -31,12 +31,12 @@ pub struct Drought {
 }
 
 impl Drought {
-    /// Takes all memory, or gives `None` if the process can get more than 50,000 blocks.
+    /// Takes all memory, or gives `None` once it has taken 50,000 blocks.
     ///
     /// Allocates all that it can get. Fails if a list of its blocks, or one of the 200 blocks that
     /// `ease` gives back, can't be allocated; then no memory is held. Not in Rust's std.
     ///
-    /// Under an allocator that grants any request, as that of a checker of memory, it is `None`.
+    /// Under an allocator that grants any request, such as a memory checker's, it is `None`.
     pub fn begin(alloc: Global) -> Result<Option<Drought>, AllocError> {
         let mut steps = Vec::with_capacity(alloc, STEPS)?;
         for _ in 0..STEPS {
@@ -68,7 +68,8 @@ impl Drought {
     }
 }
 
-// Takes blocks of `len` bytes until an allocation fails. False if there are more than can be held.
+// Takes blocks of `len` bytes until an allocation fails. False if the list of blocks is full before
+// that.
 fn takes_all(blocks: &mut Vec<Vec<u8>>, alloc: Global, len: usize) -> bool {
     for _ in blocks.len()..blocks.capacity() {
         let Ok(block) = Vec::with_capacity(alloc, len) else {
