@@ -10,7 +10,7 @@ use Rattle.std.proofs.lemmas.List.{take-take}
 use Rattle.unix_bytes.specs.Utf8.{table, fits, is_sequence, IsSequence, BeginsSequence}
 use Rattle.unix_bytes.specs.Utf8.{begins_sequence}
 
--- what fits a row has a beginning that fits the row's beginning
+-- if bytes fit a row, their beginnings fit the row's beginnings
 fits_prefix : (row : List (ℕ × ℕ)) (t u : List ℕ)
     → fits row (t ++ u) ≡ true → fits (take (length t) row) t ≡ true
 fits_prefix row [] u h = refl
@@ -19,7 +19,7 @@ fits_prefix (r ∷ row) (b ∷ t) u h =
     let k : (fits row (t ++ u) ≡ true) × (is_in_range r.0 r.1 b ≡ true) = and_parts _ _ h in
     rw (fits_prefix row t u k.0, k.1) refl
 
--- if each element that passes p passes q, some passes q where some passes p
+-- if each element that passes p passes q, and some element passes p, some element passes q
 any_more : {X : Type 0} (p q : X → Bool) (xs : List X)
     → ((x : X) → p x ≡ true → q x ≡ true) → list_any p xs ≡ true → list_any q xs ≡ true
 any_more p q [] f h = h
@@ -61,7 +61,7 @@ fits_more (r ∷ row) (x ∷ t) b h =
     and_parts _ _ h in
     rw (fits_more row t k.1 j.0, j.1) refl
 
--- what fits the beginning of some row has a continuation that fits the whole of one
+-- bytes that fit the beginning of some row can be continued to fit the whole of a row
 some_row : (rows : List (List (ℕ × ℕ))) (t : List ℕ) → list_all has_bytes rows ≡ true
     → list_any (λ row. fits (take (length t) row) t) rows ≡ true
     → (u : List ℕ) × (list_any (λ row. fits row (t ++ u)) rows ≡ true)

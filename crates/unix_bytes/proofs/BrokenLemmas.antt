@@ -14,25 +14,25 @@ use Rattle.unix_bytes.proofs.StepLemmas.{none_of_two, none_of_three, none_of_fou
 use Rattle.unix_bytes.proofs.StepLemmas.{two_byte_sequence, three_byte_sequence, four_byte_sequence}
 use Rattle.unix_bytes.proofs.LossyLemmas.{is_sequence-longest_front_of}
 
--- of no bytes none are broken
+-- the empty byte string has no broken bytes
 pub broken_len-empty : (s : List ℕ) → length s ≡ 0 → broken_len s ≡ 0
 broken_len-empty [] e =
     cond-false _ _ _ (ap is_sequence longest_front_of-nil ∙ is_sequence-nil)
     ∙ ap length longest_front_of-nil
 broken_len-empty (b ∷ bs) e = absurd (omega arith)
 
--- where no sequence stands at the beginning, the longest front is broken
+-- if no sequence stands at the beginning, the longest front is broken
 pub broken_len-none : (s : List ℕ) → longest_len is_sequence s ≡ 0
     → broken_len s ≡ length (longest_front_of s)
 broken_len-none s z = cond-false _ _ _ (is_sequence-longest_front_of s z)
 
--- where no sequence stands at the beginning, the longest front is the broken bytes
+-- if no sequence stands at the beginning, the longest front is the broken bytes
 pub longest_front_of-none : (s : List ℕ) → longest_len is_sequence s ≡ 0
     → longest_front_of s ≡ take (broken_len s) s
 longest_front_of-none s z =
     longest_front_of-take s ∙ ap (λ k. take k s) (sym (broken_len-none s z))
 
--- where bytes are broken at the beginning, no sequence stands there
+-- if bytes are broken at the beginning, no sequence stands there
 pub no_sequence_first : (s : List ℕ) → 0 < broken_len s → longest_len is_sequence s ≡ 0
 no_sequence_first s some =
     let k = longest_len is_sequence s in
@@ -57,19 +57,19 @@ broken_len_within s =
     let e : broken_len s ≡ length (longest_front_of s) = cond-false _ _ _ f in
     omega (arith, longest_front_within s)) (cases_Bool (is_sequence (longest_front_of s)))
 
--- one byte is broken where the first two begin no sequence
+-- one byte is broken if the first two begin no sequence
 pub one_byte_broken : (s : List ℕ) → 0 < length s → (HasBegun s 2 → ⊥) → 0x80 ≤ slice_index s 0
     → broken_len s ≡ 1
 one_byte_broken s some end wide =
     broken_len-none s (none_of_two s end wide) ∙ one_byte_front s some end
 
--- two bytes are broken where they begin a sequence and the first three do not
+-- two bytes are broken if they begin a sequence and the first three do not
 pub two_byte_broken : (s : List ℕ) → HasBegun s 2 → (HasBegun s 3 → ⊥) → 0xE0 ≤ slice_index s 0
     → broken_len s ≡ 2
 two_byte_broken s h end wide =
     broken_len-none s (none_of_three s end wide) ∙ two_byte_front s h end
 
--- one byte is broken at a place, where no sequence of two or more may stand there
+-- one byte is broken at place i if it is not ASCII, and no two bytes there begin a sequence
 pub one_broken_at : (s r : List ℕ) (i : ℕ) → r ≡ drop i s → i < length s → 0x80 ≤ slice_index s i
     → (HasBegun r 2 → ⊥) → 1 ≡ broken_len r
 one_broken_at s r i rest some wide end =
@@ -77,7 +77,7 @@ one_broken_at s r i rest some wide end =
     ap (λ t. slice_index t 0) rest ∙ first_of_drop i s in
     sym (one_byte_broken r (omega (arith, ap length rest, length-drop i s)) end (omega arith))
 
--- three bytes are broken where they begin a sequence and the first four do not
+-- three bytes are broken if they begin a sequence and the first four do not
 pub three_byte_broken : (s : List ℕ) → HasBegun s 3 → (HasBegun s 4 → ⊥) → 0xF0 ≤ slice_index s 0
     → broken_len s ≡ 3
 three_byte_broken s h end wide =

@@ -81,7 +81,7 @@ chunk_some b bs =
     omega (arith, e, (front_within b bs).0))
     (cases_lt 0 n)
 
--- no bytes have no chunks
+-- the empty byte string has no chunks
 pub chunks_of-nil : chunks_of [] ≡ []
 unfolding chunks_of
 chunks_of-nil = ap (chunks_from []) fronts_of-nil
@@ -115,7 +115,7 @@ chunks_from-rest text (b ∷ bs) z some =
     ap (chunks_from text) (fronts_of-some b bs)
     ∙ cond-false _ _ _ (is_sequence-longest_front_of (b ∷ bs) z)
 
--- text and what follows it, where no sequence stands there, begin with one chunk of both
+-- if no sequence stands behind some text, the first chunk is that text and the front behind it
 chunks_of-append : (v t : List ℕ) → IsText v → longest_len is_sequence t ≡ 0
     → 0 < length (v ++ t)
     → chunks_of (v ++ t) ≡ record { valid = v; broken = longest_front_of t }
@@ -143,7 +143,7 @@ chunks_of-some b bs =
     ∙ ap (λ x. first_chunk_of s ∷ chunks_of x)
     (drop-drop k n s ∙ ap (λ j. drop (j + k) s) (sym e))
 
--- where no sequence stands at the beginning, U+FFFD is shown for the front, if there is one
+-- if no sequence stands at the beginning, U+FFFD is shown for the front, or nothing if it is empty
 lossy_of-rest : (t : List ℕ) → longest_len is_sequence t ≡ 0
     → lossy_of t ≡ replacement_for (longest_front_of t)
     ++ lossy_of (drop (length (longest_front_of t)) t)

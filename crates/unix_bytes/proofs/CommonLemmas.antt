@@ -12,7 +12,8 @@ use Rattle.std.proofs.lemmas.Simd.{tops_compared, mask_l-mod, first_set_mask_l}
 use Rattle.std.proofs.lemmas.Simd.{length-chunk, get_or-chunk}
 use Rattle.unix_bytes.proofs.HitLemmas.{in_window}
 
--- the bytes are the same up to n, where a string ends or they differ
+-- n is the length of the common prefix if the bytes before n are the same, and at n a string ends
+-- or the two differ
 pub common_prefix_len-is : (a b : List ℕ) (n : ℕ) → n ≤ length a → n ≤ length b
     → ((k : ℕ) → k < n → get_or a k 0 ≡ get_or b k 0)
     → (n < length a → n < length b → eqb (get_or a n 0) (get_or b n 0) ≡ false)
@@ -93,7 +94,7 @@ length-pairs [] b e = refl
 length-pairs (x ∷ a) [] e = absurd (omega arith)
 length-pairs (x ∷ a) (y ∷ b) e = ap (λ n. suc n) (length-pairs a b (omega arith))
 
--- a bit for each pair of bytes, the lowest for the first: set where they differ
+-- a bit for each pair of bytes, the lowest for the first: set if they differ
 abbrev other_mask : List ℕ → List ℕ → ℕ
 other_mask a b = mask_l (map (top 7) (zip2 (λ x y. cond (not (eqb x y)) 255 0) a b)) % 2 ^ 64
 
@@ -106,7 +107,7 @@ other_mask-pairs a b n few l m =
     ap (λ ts. mask_l ts % 2 ^ 64) (tops_compared w8 (λ x y. not (eqb x y)) a b ∙ zip2-pairs a b)
     ∙ mask_l-mod (map differ (pairs a b)) 64 size
 
--- n where no bit is set, and else the place of the lowest, is the length of the common prefix
+-- the length of the common prefix is n if no bit is set, and else the place of the lowest
 first_other : (a b : List ℕ) (n : ℕ) → n ≤ 64 → length a ≡ n → length b ≡ n
     → cond (eqb (other_mask a b) 0) n (count_trailing_zeros 64 (other_mask a b))
     ≡ common_prefix_len eqb a b
@@ -142,7 +143,7 @@ in_lanes a b n at len l m is =
           (omega (arith, length-chunk at n a l)) (omega (arith, length-chunk at n b m));
     }
 
--- where no bit is set, n bytes from `at` on are the same
+-- if no bit is set, n bytes from `at` on are the same
 pub none_other : (a b : List ℕ) (n at : ℕ) → n ≤ 64 → at + n ≤ length a → at + n ≤ length b
     → other_mask (chunk at n a) (chunk at n b) ≡ 0 → CommonInLanes a b n at n
 none_other a b n at few l m none =
@@ -152,7 +153,7 @@ none_other a b n at few l m none =
     ∙ first_other (chunk at n a) (chunk at n b) n few (length-chunk at n a l)
     (length-chunk at n b m))
 
--- where a bit is set, the lowest is that of the first pair that differs
+-- if a bit is set, the lowest is that of the first pair that differs
 pub some_other : (a b : List ℕ) (n at : ℕ) → n ≤ 64 → at + n ≤ length a → at + n ≤ length b
     → (other_mask (chunk at n a) (chunk at n b) ≡ 0 → ⊥)
     → CommonInLanes a b n at

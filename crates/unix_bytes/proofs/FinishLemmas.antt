@@ -39,7 +39,7 @@ text_keeps_finished (u ∷ us) all =
     sequence_keeps_finished u (concat us) (All-head IsSequence u us all)
     (text_keeps_finished us (All-tail IsSequence u us all))
 
--- where u and then three bytes of w end in finished sequences, these three do
+-- if u and then three bytes of w end in finished sequences, these three do
 IsFinished-last : (u w : List ℕ) (a b c : ℕ) → 3 ≤ length w → EndsFinished a b c (u ++ take 3 w)
     → IsFinished (slice_index w 0) (slice_index w 1) (slice_index w 2)
 IsFinished-last [] [] a b c l h = absurd (omega arith)

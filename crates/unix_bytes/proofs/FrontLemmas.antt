@@ -61,7 +61,7 @@ longest_front_of-sequence u s h =
     omega (arith, longest_len-begins_sequence u s h) in
     ap (λ n. take n (u ++ s)) e ∙ take_at u s (length u) refl
 
--- the longest front has n bytes where n begin a sequence, or n is 1, and the next does not
+-- the longest front has n bytes if n bytes begin a sequence or n is 1, and n + 1 bytes begin none
 pub length-longest_front_of : (s : List ℕ) (n : ℕ) → 1 ≤ n → n ≤ length s → (n ≡ 1) ⊎ HasBegun s n
     → (HasBegun s (suc n) → ⊥) → length (longest_front_of s) ≡ n
 unfolding longest_front_of
@@ -110,17 +110,17 @@ longest_front_of-take (b ∷ bs) =
     let k = length-take-le (max 1 l) (b ∷ bs) (omega arith) in
     ap (λ n. take n (b ∷ bs)) (sym k)
 
--- the longest front has one byte where the first two begin no sequence
+-- the longest front has one byte if the first two begin no sequence
 pub one_byte_front : (s : List ℕ) → 0 < length s → (HasBegun s 2 → ⊥)
     → length (longest_front_of s) ≡ 1
 one_byte_front s some end = length-longest_front_of s 1 (omega arith) (omega arith) (inl refl) end
 
--- the longest front has two bytes where they begin a sequence and the first three do not
+-- the longest front has two bytes if they begin a sequence and the first three do not
 pub two_byte_front : (s : List ℕ) → HasBegun s 2 → (HasBegun s 3 → ⊥)
     → length (longest_front_of s) ≡ 2
 two_byte_front s h end = length-longest_front_of s 2 (omega arith) h.0 (inr h) end
 
--- the longest front has three bytes where they begin one and the first four do not
+-- the longest front has three bytes if they begin one and the first four do not
 pub three_byte_front : (s : List ℕ) → HasBegun s 3 → (HasBegun s 4 → ⊥)
     → length (longest_front_of s) ≡ 3
 three_byte_front s h end = length-longest_front_of s 3 (omega arith) h.0 (inr h) end

@@ -16,7 +16,8 @@ use Rattle.unix_bytes.proofs.FrontLemmas.{longest_front_of-take}
 abbrev IsGrown : List ℕ → Type 0
 IsGrown u = (length u ≡ 1) ⊎ (begins_sequence u ≡ true)
 
--- one byte, or bytes that begin a sequence, are the longest front if with the next they begin none
+-- one byte, or bytes that begin a sequence, are the longest front if with the next byte they begin
+-- none
 longest_front_of-append : (u s : List ℕ) → 1 ≤ length u → IsGrown u
     → (HasBegun (u ++ s) (suc (length u)) → ⊥) → longest_front_of (u ++ s) ≡ u
 longest_front_of-append u s some at end =
@@ -32,7 +33,7 @@ longest_front_of-append u s some at end =
 abbrev longest_fronts : List ℕ → List (List ℕ)
 longest_fronts s = longest_front_of s ∷ fronts_of (drop (length (longest_front_of s)) s)
 
--- where u is the longest front, the fronts of what follows stand behind it
+-- if u is the longest front, the fronts of what follows stand behind it
 longest_fronts-append : (u s : List ℕ) → 1 ≤ length u → IsGrown u
     → (HasBegun (u ++ s) (suc (length u)) → ⊥) → longest_fronts (u ++ s) ≡ u ∷ fronts_of s
 longest_fronts-append u s some at end =
@@ -65,7 +66,7 @@ fronts_from-longest (b ∷ s) u some at =
     (λ e. fronts_from-longest s (push u b) (omega (arith, length-append u (b ∷ []))) (inr e))
     (begins_sequence (push u b)) refl
 
--- no bytes have no fronts
+-- the empty byte string has no fronts
 pub fronts_of-nil : fronts_of [] ≡ []
 unfolding fronts_of
 fronts_of-nil = refl

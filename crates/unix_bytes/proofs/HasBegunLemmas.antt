@@ -37,7 +37,7 @@ fourth_of : (x y z w : ℕ) (u : List ℕ) → IsSequence (x ∷ y ∷ z ∷ w �
 fourth_of x y z w [] h = let p = four_bytes x y z w h in (omega arith, (omega arith, omega arith))
 fourth_of x y z w (a ∷ u) h = let p = is_sequence-more x y z w a u in cc
 
--- two bytes that begin a sequence of three or more do so with any tail byte behind them
+-- two bytes that begin a sequence of three or more still begin one with any tail byte behind them
 third_begins : (x y z : ℕ) → begins_sequence (x ∷ y ∷ []) ≡ true → 0xE0 ≤ x → IsTail z
     → begins_sequence (x ∷ y ∷ z ∷ []) ≡ true
 third_begins x y z b g r =
@@ -47,7 +47,7 @@ third_begins x y z b g r =
     (⊎_elim (λ (l : x < 0xF0). ([], IsSequence-three x y z (grind arith)))
     (λ (k : 0xF0 ≤ x). (0x80 ∷ [], IsSequence-four x y z 0x80 (grind arith))) (cases_lt x 0xF0))
 
--- three bytes that begin a sequence of four do so with any tail byte behind them
+-- three bytes that begin a sequence of four still begin one with any tail byte behind them
 fourth_begins : (x y z w : ℕ) → begins_sequence (x ∷ y ∷ z ∷ []) ≡ true → 0xF0 ≤ x → IsTail w
     → begins_sequence (x ∷ y ∷ z ∷ w ∷ []) ≡ true
 fourth_begins x y z w b g r =
@@ -67,7 +67,7 @@ take-two (x ∷ y ∷ s) l = refl
 pub first_of_drop : (i : ℕ) (s : List ℕ) → slice_index (drop i s) 0 ≡ slice_index s i
 first_of_drop i s = get_or-drop i s 0 0 ∙ ap (slice_index s) (add-zero i)
 
--- the ranges of the first two bytes, where these begin a sequence
+-- the ranges of the first two bytes, if these begin a sequence
 pub pair_bounds : (s : List ℕ) → HasBegun s 2 → (0xC2 ≤ slice_index s 0)
     × (slice_index s 0 ≤ 0xF4) × (1 < length s) × IsTail (slice_index s 1)
 pair_bounds [] h = absurd (omega arith)
@@ -85,7 +85,7 @@ HasBegun-three (x ∷ []) h g l t = absurd (omega arith)
 HasBegun-three (x ∷ y ∷ []) h g l t = absurd (omega arith)
 HasBegun-three (x ∷ y ∷ z ∷ s) h g l t = (omega arith, third_begins x y z h.1 g t)
 
--- the ranges of the first and the third byte, where three bytes begin a sequence
+-- the ranges of the first and the third byte, if three bytes begin a sequence
 pub third_byte_bounds : (s : List ℕ) → HasBegun s 3
     → (0xE0 ≤ slice_index s 0) × (2 < length s) × IsTail (slice_index s 2)
 third_byte_bounds [] h = absurd (omega arith)
@@ -105,7 +105,7 @@ HasBegun-four (x ∷ y ∷ []) h g l t = absurd (omega arith)
 HasBegun-four (x ∷ y ∷ z ∷ []) h g l t = absurd (omega arith)
 HasBegun-four (x ∷ y ∷ z ∷ w ∷ s) h g l t = (omega arith, fourth_begins x y z w h.1 g t)
 
--- the ranges of the first and the fourth byte, where four bytes begin a sequence
+-- the ranges of the first and the fourth byte, if four bytes begin a sequence
 pub fourth_byte_bounds : (s : List ℕ) → HasBegun s 4
     → (0xF0 ≤ slice_index s 0) × (3 < length s) × IsTail (slice_index s 3)
 fourth_byte_bounds [] h = absurd (omega arith)
@@ -117,7 +117,7 @@ fourth_byte_bounds (x ∷ y ∷ z ∷ w ∷ s) h =
     let t = fourth_of x y z w u is in
     (t.0, omega arith, t.1)
 
--- where four bytes begin a sequence, the first three do
+-- if four bytes begin a sequence, the first three do
 pub HasBegun-three_of_four : (s : List ℕ) → HasBegun s 4 → HasBegun s 3
 HasBegun-three_of_four [] h = absurd (omega arith)
 HasBegun-three_of_four (x ∷ []) h = absurd (omega arith)
@@ -127,7 +127,7 @@ HasBegun-three_of_four (x ∷ y ∷ z ∷ w ∷ s) h =
     let (u, is) = BeginsSequence-from (x ∷ y ∷ z ∷ w ∷ []) h.1 in
     (omega arith, begins_sequence-from (x ∷ y ∷ z ∷ []) (w ∷ u, is))
 
--- where three bytes begin a sequence, the first two do
+-- if three bytes begin a sequence, the first two do
 pub HasBegun-two_of_three : (s : List ℕ) → HasBegun s 3 → HasBegun s 2
 HasBegun-two_of_three [] h = absurd (omega arith)
 HasBegun-two_of_three (x ∷ []) h = absurd (omega arith)
@@ -140,5 +140,6 @@ HasBegun-two_of_three (x ∷ y ∷ z ∷ s) h =
 pub ruleset beginnings =
     (take-two, pair_bounds, HasBegun-three, third_byte_bounds, HasBegun-four, fourth_byte_bounds)
 
--- how far a sequence has begun, by the bytes at each place and where more bytes begin one
+-- how far a sequence has begun, by the bytes at each place, and that fewer bytes begin one if more
+-- do
 pub ruleset all_beginnings = (beginnings, HasBegun-two_of_three, HasBegun-three_of_four)

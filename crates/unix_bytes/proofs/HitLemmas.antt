@@ -14,8 +14,8 @@ use Rattle.std.proofs.lemmas.Simd.{bit_mask_l, mask_l-lt, run_in_chunk_fails, ru
 use Rattle.unix_bytes.specs.Lanes.{hit_mask}
 use Rattle.unix_bytes.proofs.MaskLemmas.{bit, is_clear}
 
--- where the byte stands nowhere before `at`, it stands nowhere before the first place of it in a
--- window that begins at `at` or earlier
+-- if the byte stands nowhere before `at`, it stands nowhere before its first place in a window that
+-- begins at `at` or earlier
 pub none_before : (byte : ℕ) (s : List ℕ) (at from n : ℕ) → from ≤ at → from + 16 ≤ length s
     → n ≡ position_or_len (λ b. b == byte) (take 16 (drop from s))
     → ((k : ℕ) → k < at → (get_or s k 0 == byte) ≡ false)
@@ -25,8 +25,8 @@ none_before byte s at from n order fits is none k l =
     (λ (more : at ≤ k).
     run_in_chunk_fails (λ b. b == byte) s from 16 n 0 fits is k (omega arith) l) (cases_lt k at)
 
--- where the byte stands nowhere before `at`, the first place of it in a window that begins at `at`
--- or earlier is the first of all
+-- if the byte stands nowhere before `at`, its first place in a window that begins at `at` or
+-- earlier is its first of all
 pub first_after : (byte : ℕ) (s : List ℕ) (at from n : ℕ) → from ≤ at → from + 16 ≤ length s
     → n ≡ position_or_len (λ b. b == byte) (take 16 (drop from s)) → n ≤ 16
     → ((k : ℕ) → k < at → (get_or s k 0 == byte) ≡ false) → (from + n < length s → n < 16)
@@ -54,7 +54,7 @@ bit_of byte xs k l =
     bit_mask_l (map (λ b. b == byte) xs) k
     ∙ ap bit (get_or-map (λ b. b == byte) xs k 0 false l)
 
--- a bit that is 1 says true
+-- a test whose bit is 1 is true
 is_set : (t : Bool) → bit t ≡ 1 → t ≡ true
 is_set true e = refl
 is_set false e = absurd (omega arith)
@@ -78,7 +78,7 @@ at_most_16 a m small low =
 halves : (m : ℕ) → 0 < m → 2 ^ m ≡ 2 * 2 ^ (m - 1)
 halves m some = ap (λ k. 2 ^ k) {x = m} {y = suc (m - 1)} (omega arith) ∙ pow-succ' 2 (m - 1)
 
--- the leading zeros of the mask of 16 bytes say where the last stands that is the byte
+-- the leading zeros of the mask of 16 bytes tell the last place of the byte
 pub last_hit : (byte : ℕ) (xs : List ℕ) → length xs ≡ 16
     → LastHit byte xs (64 - count_leading_zeros 64 (hit_mask byte xs))
 last_hit byte xs l =
@@ -101,7 +101,7 @@ last_hit byte xs l =
           is_clear _ (sym (bit_of byte xs k (omega arith)) ∙ ap (λ n. n % 2) (no_bit a k m high h));
     })
 
--- where the byte stands nowhere from `from` on, the search there finds none
+-- if the byte stands nowhere from `from` on, the search there finds none
 pub none_from : (byte : ℕ) (s : List ℕ) (from : ℕ) → from ≤ length s
     → ((k : ℕ) → from ≤ k → k < length s → (get_or s k 0 == byte) ≡ false)
     → position_or_len (λ b. b == byte) (drop from s) ≡ length (drop from s)
@@ -112,7 +112,7 @@ none_from byte s from l none =
     ∙ none (from + k) (omega arith) (omega arith))
     (λ few. absurd (omega arith))
 
--- a byte of a window of n bytes is the byte of the whole at its place
+-- each byte of a window of n bytes is the byte of the whole string at the same place
 pub in_window : (at n : ℕ) (s : List ℕ) (k : ℕ) → at ≤ k → k < at + n
     → get_or (take n (drop at s)) (k - at) 0 ≡ get_or s k 0
 in_window at n s k l h =

@@ -37,13 +37,13 @@ narrow_prefix xs =
     rw (get_or-take n xs k d few)
     (narrow_bound (get_or xs k d) (prefix_len_passes is_narrow xs k d few)))
 
--- where no bit of their mask is set, all bytes are ASCII
+-- if no bit of their mask is set, all bytes are ASCII
 ascii_from_mask : (xs : List ℕ) → wide_mask xs ≡ 0 → IsAscii xs
 ascii_from_mask xs none =
     let e = leading_from_mask_l is_wide xs none in
     subst IsAscii (take_all (prefix_len is_narrow xs) xs (omega arith)) (narrow_prefix xs)
 
--- where the code sets no bit for n bytes from i on, they are ASCII
+-- if the code sets no bit for n bytes from i on, they are ASCII
 pub ascii_block : (s : List ℕ) (i n : ℕ) → n ≤ 64 → i + n ≤ length s
     → least_bits 0x80 n (take n (drop i s)) ≡ 0 → IsAscii (take n (drop i s))
 ascii_block s i n few l none =
@@ -54,14 +54,14 @@ ascii_block s i n few l none =
 pub fewer_ascii : (s : List ℕ) (i j : ℕ) → i ≤ j → IsAscii (take j s) → IsAscii (take i s)
 fewer_ascii s i j le h = subst IsAscii (take-take i j s le) (IsAscii-take (take j s) i h)
 
--- ASCII up to i, and n more bytes of ASCII from there on
+-- bytes of ASCII up to i, and n more bytes of ASCII, are ASCII up to i + n
 pub more_ascii : (s : List ℕ) (i n : ℕ) → IsAscii (take i s) → IsAscii (take n (drop i s))
     → IsAscii (take (i + n) s)
 more_ascii s i n before here =
     subst IsAscii (sym (take-add i n s))
     (IsAscii-append (take i s) (take n (drop i s)) before here)
 
--- at most 16 bytes are ASCII where the first 8 and the last 8 are
+-- at most 16 bytes are ASCII if the first 8 and the last 8 are
 pub eight_and_eight : (s : List ℕ) (i : ℕ) → i ≡ length s - 8 → 8 ≤ length s → length s ≤ 16
     → IsAscii (take 8 (drop 0 s)) → IsAscii (take 8 (drop i s)) → IsAscii s
 eight_and_eight s i e long short first last =
@@ -69,7 +69,8 @@ eight_and_eight s i e long short first last =
     subst IsAscii (take_all (i + 8) s (omega arith))
     (more_ascii s i 8 (fewer_ascii s i 8 (omega arith) first) last)
 
--- ASCII up to i, and 16 more bytes with no bit set in their mask
+-- if the bytes up to i are ASCII and the next 16 have no bit set in their mask, all of them are
+-- ASCII
 pub ascii_window : (s : List ℕ) (i m : ℕ) → i + 16 ≤ length s → IsAscii (take i s)
     → m ≡ wide_mask (take 16 (drop i s)) → m ≡ 0 → IsAscii (take (i + 16) s)
 ascii_window s i m l before mask none =
@@ -85,7 +86,7 @@ count_trailing_zeros-wide_mask s i m l mask some =
     let nonzero : 0 < wide_mask xs = omega arith in
     ap (count_trailing_zeros 64) mask ∙ trailing_mask_l is_wide 64 xs (omega arith) nonzero
 
--- where the first byte is ASCII, bytes of ASCII stand before the first other
+-- if the first byte is ASCII, at least one byte stands before the first that is not
 narrow_some : (s : List ℕ) → 0 < length s → slice_index s 0 < 128
     → 0 < prefix_len is_narrow (take 16 (drop 0 s))
 narrow_some [] some h = absurd (omega arith)
@@ -93,7 +94,7 @@ narrow_some (x ∷ s) some h =
     let e : is_narrow x ≡ true = grind (arith, nat_tests) in
     rw e (omega arith)
 
--- where the first byte is ASCII, some bytes stand before the lowest bit
+-- if the first byte is ASCII, at least one byte stands before the lowest bit
 some_ascii : (s : List ℕ) (i m : ℕ) → i + 16 ≤ length s
     → m ≡ wide_mask (take 16 (drop i s)) → (m ≡ 0 → ⊥) → slice_index s 0 < 128
     → 0 < i + count_trailing_zeros 64 m
@@ -103,8 +104,8 @@ some_ascii s zero m l mask some h =
     omega arith
 some_ascii s (suc i) m l mask some h = omega arith
 
--- ASCII up to i, and as many more bytes as stand before the lowest bit in the mask of the next 16;
--- these are some bytes where the first is ASCII
+-- if the bytes up to i are ASCII, so are all before the lowest bit in the mask of the next 16;
+-- these are at least one byte if the first byte is ASCII
 pub ascii_prefix : (s : List ℕ) (i m : ℕ) → i + 16 ≤ length s → IsAscii (take i s)
     → m ≡ wide_mask (take 16 (drop i s)) → (m ≡ 0 → ⊥)
     → let n = i + count_trailing_zeros 64 m in
@@ -122,7 +123,7 @@ ascii_prefix s i m l before mask some =
       some_ascii s i m l mask some,
     )
 
--- the lowest bit in the mask of the first 16 bytes says where the first stands that is not ASCII
+-- the lowest bit in the mask of the first 16 bytes tells the place of the first that is not ASCII
 pub first_wide : (s : List ℕ) (m : ℕ) → 16 ≤ length s → m ≡ wide_mask (take 16 (drop 0 s))
     → (m ≡ 0 → ⊥) → (count_trailing_zeros 64 m ≤ 16)
     × (count_trailing_zeros 64 m < 16 → 0x80 ≤ slice_index s (count_trailing_zeros 64 m))
@@ -141,5 +142,5 @@ first_wide s m l mask some =
           (subst (λ b. 0x80 ≤ b) (get_or-take 16 s n 0 within) wide),
     )
 
--- one byte of ASCII behind others of it
+-- one more byte of ASCII behind bytes of ASCII
 pub ruleset one_more_ascii = IsAscii-more

@@ -85,7 +85,7 @@ front_is_longest s =
     subst (λ u. IsLongest BeginsSequence u s) (sym (front_of-longest s))
     (longest_front_is_longest s)
 
--- where the bytes begin with no sequence, the longest sequence at the beginning has length 0
+-- if the bytes begin with no sequence, the longest sequence at the beginning has length 0
 longest_len-BeginsWithNoSequence : (s : List ℕ) → BeginsWithNoSequence s
     → longest_len is_sequence s ≡ 0
 longest_len-BeginsWithNoSequence s none =
@@ -112,7 +112,7 @@ shown_front_is_sequence u =
     (λ f. ap is_sequence (cond-false _ _ _ f) ∙ replacement_is_sequence)
     (cases_Bool (is_sequence u))
 
--- where no sequence stands at the beginning, what begins one has three bytes at most
+-- if no sequence stands at the beginning, what begins one has three bytes at most
 beginning_is_short : (s : List ℕ) → longest_len is_sequence s ≡ 0
     → max 1 (longest_len begins_sequence s) ≤ 3
 beginning_is_short s z =
@@ -133,7 +133,7 @@ beginning_is_short s z =
         let four = (sequence_len (take n s ++ x ∷ u) is).1 in
         omega (arith, length-append (take n s) (x ∷ u))
 
--- where no sequence stands at the beginning, the longest front has three bytes at most
+-- if no sequence stands at the beginning, the longest front has three bytes at most
 pub longest_front_is_short : (s : List ℕ) → longest_len is_sequence s ≡ 0
     → length (longest_front_of s) ≤ 3
 unfolding longest_front_of

@@ -6,7 +6,8 @@ use Rattle.std.proofs.lemmas.Bool.{cases_lt, cond-true, cond-false, true≢false
 use Rattle.std.proofs.lemmas.List.{take_at}
 use Rattle.unix_bytes.specs.Steps.{longest_len_to, longest_len}
 
--- n is the longest length up to m where n bytes pass, or n is 0, and no more of m bytes do
+-- the longest length up to m is n if the first n bytes pass or n is 0, and no more bytes up to m
+-- pass
 longest_len_to-is : (m n : ℕ) (test : List ℕ → Bool) (s : List ℕ) → n ≤ m
     → (n ≡ 0) ⊎ (test (take n s) ≡ true)
     → ((k : ℕ) → n < k → k ≤ m → test (take k s) ≡ false) → longest_len_to m test s ≡ n
@@ -22,20 +23,20 @@ longest_len_to-is (suc m) n test s le at above =
     (λ t. cond-true _ _ _ (subst (λ j. test (take j s) ≡ true) e t) ∙ sym e) at)
     (cases_lt n (suc m))
 
--- n is the longest length where n bytes pass, or n is 0, and no more bytes do
+-- the longest length is n if the first n bytes pass or n is 0, and no more bytes pass
 pub longest_len-is : (test : List ℕ → Bool) (s : List ℕ) (n : ℕ) → n ≤ length s
     → (n ≡ 0) ⊎ (test (take n s) ≡ true)
     → ((k : ℕ) → n < k → k ≤ length s → test (take k s) ≡ false) → longest_len test s ≡ n
 unfolding longest_len
 longest_len-is test s n le at above = longest_len_to-is (length s) n test s le at above
 
--- n is no more than m, n bytes pass unless n is 0, and no more of m bytes do
+-- n is at most m, the first n bytes pass or n is 0, and no more bytes up to m pass
 pub record Longest (test : List ℕ → Bool) (s : List ℕ) (n m : ℕ) : Type 0 where
   pub within : n ≤ m
   pub passes : (n ≡ 0) ⊎ (test (take n s) ≡ true)
   pub longest : (k : ℕ) → n < k → k ≤ m → test (take k s) ≡ false
 
--- what `Longest` says of m bytes it says of one more
+-- if `Longest` holds of the search among m bytes, it holds of that among m + 1
 one_more : (m : ℕ) (test : List ℕ → Bool) (s : List ℕ)
     → Longest test s (longest_len_to m test s) m
     → Longest test s (longest_len_to (suc m) test s) (suc m)

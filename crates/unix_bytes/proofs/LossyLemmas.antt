@@ -40,7 +40,7 @@ fronts_of-concat (u ∷ us) s h =
     ap fronts_of (append_assoc u (concat us) s) ∙ fronts_of-sequence u (concat us ++ s) k.0
     ∙ ap (λ fs. u ∷ fs) (fronts_of-concat us s k.1)
 
--- of at most n + 1 bytes, of which one or more are dropped, at most n are left
+-- if at least one of at most n + 1 bytes is dropped, at most n are left
 pub length-drop-some : (n k b : ℕ) (bs : List ℕ) → 1 ≤ k → length (b ∷ bs) ≤ suc n
     → length (drop k (b ∷ bs)) ≤ n
 length-drop-some n k b bs some le = omega (arith, length-drop k (b ∷ bs))
@@ -120,14 +120,14 @@ lossy_of-text s t =
     ap lossy_of (sym (append-nil s)) ∙ lossy_of-append s [] t
     ∙ ap (λ x. s ++ x) lossy_of-nil ∙ append-nil s
 
--- where no sequence stands at the beginning, no prefix is one
+-- if no sequence stands at the beginning, no prefix is one
 pub no_sequence : (s u v : List ℕ) → longest_len is_sequence s ≡ 0 → s ≡ u ++ v → IsSequence u → ⊥
 no_sequence s u v z e h =
     let some = sequence_len u h in
     let few = longest_len-prefix is_sequence s u v h e in
     absurd (omega arith)
 
--- where no sequence stands at the beginning, the longest front is no sequence
+-- if no sequence stands at the beginning, the longest front is no sequence
 pub is_sequence-longest_front_of : (s : List ℕ) → longest_len is_sequence s ≡ 0
     → is_sequence (longest_front_of s) ≡ false
 is_sequence-longest_front_of s z =
@@ -137,7 +137,7 @@ is_sequence-longest_front_of s z =
     false_from_ne_true (is_sequence (longest_front_of s))
     (no_sequence s (longest_front_of s) (drop k s) z e)
 
--- where no sequence stands at the beginning, U+FFFD is shown for the longest front
+-- if no sequence stands at the beginning, U+FFFD is shown for the longest front
 pub lossy_of-none : (b : ℕ) (bs : List ℕ) → longest_len is_sequence (b ∷ bs) ≡ 0
     → lossy_of (b ∷ bs)
     ≡ replacement ++ lossy_of (drop (length (longest_front_of (b ∷ bs))) (b ∷ bs))
@@ -148,7 +148,7 @@ lossy_of-none b bs z =
     ∙ ap (λ f. f ++ flat_map shown_front (fronts_of (drop (length (longest_front_of s)) s)))
     (cond-false _ _ _ (is_sequence-longest_front_of s z))
 
--- where no sequence stands at the beginning, the only prefix that is text is the empty one
+-- if no sequence stands at the beginning, the only prefix that is text is the empty one
 pub no_text : (s : List ℕ) (k : ℕ) → IsText (take k s) → 0 < k → k ≤ length s
     → longest_len is_sequence s ≡ 0 → ⊥
 no_text s k (us, h, e) some within z =

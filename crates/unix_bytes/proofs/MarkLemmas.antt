@@ -13,7 +13,7 @@ abbrev unfinished_mark : ℕ → ℕ → ℕ → ℕ
 unfinished_mark a b c =
     cond (nat_le 0xF0 a) 255 (cond (nat_le 0xE0 b) 255 (cond (nat_le 0xC0 c) 255 0))
 
--- the mark has its highest bit set where a sequence is not finished
+-- the mark has its highest bit set if a sequence is not finished
 unfinished_mark-set : (a b c : ℕ) → IsUnfinished a b c → nat_le 0x80 (unfinished_mark a b c) ≡ true
 unfinished_mark-set a b c h = by (nat_le 0xF0 a) (nat_le 0xE0 b) (nat_le 0xC0 c) refl refl refl
   where
@@ -27,7 +27,7 @@ unfinished_mark-set a b c h = by (nat_le 0xF0 a) (nat_le 0xE0 b) (nat_le 0xC0 c)
         (λ k. ⊎_elim (λ i. let l = leb-false 0xE0 b f in absurd (omega arith))
         (λ i. let l = leb-false 0xC0 c g in absurd (omega arith)) k) h
 
--- the mark has its highest bit clear where all sequences are finished
+-- the mark has its highest bit clear if all sequences are finished
 unfinished_mark-clear : (a b c : ℕ) → IsFinished a b c → nat_le 0x80 (unfinished_mark a b c) ≡ false
 unfinished_mark-clear a b c h =
     rw (lt-leb 0xF0 a h.0, lt-leb 0xE0 b h.1, lt-leb 0xC0 c h.2) refl
@@ -37,7 +37,7 @@ record Adds (o p q : Bool) (n m k : ℕ) : Type 0 where
   bits : bit o + bit p ≡ bit q
   rest : n + m ≡ k
 
--- where two numbers add up with no carry from the lowest bit, so do the lowest bits and the others
+-- if two numbers add up with no carry from the lowest bit, so do the lowest bits and the others
 adds : (o p q : Bool) (n m k : ℕ) → (p ≡ true → q ≡ true)
     → (bit o + 2 * n) + (bit p + 2 * m) ≡ bit q + 2 * k → Adds o p q n m k
 adds true true true n m k h e = absurd (omega arith)
@@ -49,7 +49,7 @@ adds false true false n m k h e = absurd (omega arith)
 adds false false true n m k h e = absurd (omega arith)
 adds false false false n m k h e = record { bits = refl; rest = omega arith }
 
--- equal numbers have the same lowest bit and the same others
+-- equal numbers have the same lowest bit, and the same other bits
 same_bit : (p q : Bool) (n m : ℕ) → bit p + 2 * n ≡ bit q + 2 * m → (p ≡ q) × (n ≡ m)
 same_bit true true n m e = (refl, omega arith)
 same_bit true false n m e = absurd (omega arith)
@@ -64,8 +64,8 @@ bit_on t h = ap bit h
 bit_off : (t : Bool) → t ≡ false → bit t ≡ 0
 bit_off t h = ap bit h
 
--- a byte goes on if it is neither C0 nor C1, and the bit for a sequence that is not finished and
--- that for C0 or more add up to that for 80 or more
+-- a byte goes on if it is neither C0 nor C1, and two bits, for an unfinished sequence and for C0 or
+-- more, add up to the bit for 80 or more
 goes_on : (a b c d : ℕ)
     → bit (nat_le 0x80 (unfinished_mark a b c)) + bit (nat_le 0xC0 d) ≡ bit (nat_le 0x80 d)
     → nat_le 0xC0 d ≡ nat_le 0xC2 d → GoesOn a b c d
@@ -114,7 +114,7 @@ unfinished_lanes s t u =
 above_beginning : (d : ℕ) → nat_le 0xC0 d ≡ true → nat_le 0x80 d ≡ true
 above_beginning d h = let k = leb-true 0xC0 d h in le-leb 0x80 d (omega arith)
 
--- each byte goes on where two of the masks add up to the third
+-- each byte goes on if two of the masks add up to the third
 pub go_on : (s t u v : List ℕ)
     → mask_l (map (nat_le 0x80) (unfinished_lanes s t u)) + mask_l (map (nat_le 0xC0) v)
     ≡ mask_l (map (nat_le 0x80) v)

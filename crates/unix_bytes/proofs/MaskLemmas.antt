@@ -32,19 +32,19 @@ mask_bound k xs e =
 abbrev pub bit : Bool → ℕ
 bit t = cond t 1 0
 
--- a bit that is 0 says false
+-- a test whose bit is 0 is false
 pub is_clear : (t : Bool) → bit t ≡ 0 → t ≡ false
 is_clear true e = absurd (omega arith)
 is_clear false e = refl
 
--- where no bit is set, no byte is less than its bound
+-- if no bit is set, no byte is less than its bound
 none_less : (xs ys : List ℕ) → mask_l (zip2 ltb xs ys) ≡ 0 → AreAbove xs ys
 none_less [] ys e = tt
 none_less (x ∷ xs) [] e = tt
 none_less (x ∷ xs) (y ∷ ys) e =
     (ltb-false x y (is_clear (ltb x y) (omega arith)), none_less xs ys (omega arith))
 
--- where the code sets no bit, no byte is less than its bound
+-- if the code sets no bit, no byte is less than its bound
 pub none_below : (xs ys : List ℕ) → length xs ≡ 16 → length ys ≡ 16
     → mask_l (map (top 7) (zip2 (λ a b. cond (ltb a b) 255 0) xs ys)) % 2 ^ 64 ≡ 0 → AreAbove xs ys
 none_below xs ys p q e =

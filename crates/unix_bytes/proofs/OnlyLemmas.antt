@@ -19,7 +19,7 @@ pub first_chunk_is : (s : List ℕ) (c : Chunk) (cs : List Chunk) → chunks_of 
 first_chunk_is [] c cs e = let h = chunks_of-nil in cc
 first_chunk_is (b ∷ bs) c cs e = let h = chunks_of-some b bs in cc
 
--- where none of the first chunk is broken, its text is all bytes
+-- if the first chunk has no broken bytes, its text is all of the bytes
 pub only_chunk : (s : List ℕ) (c : Chunk) (cs : List Chunk) → chunks_of s ≡ c ∷ cs
     → c.broken ≡ [] → c.valid ≡ s
 only_chunk s c cs e z =
@@ -28,7 +28,7 @@ only_chunk s c cs e z =
     sym (append-nil c.valid) ∙ ap (λ b. c.valid ++ b) (sym z) ∙ sym (append-nil (bytes c))
     ∙ ap (flat_map bytes) (ap (λ t. c ∷ t) (sym none) ∙ sym e) ∙ chunks_partition s
 
--- where none of the first chunk is broken, the bytes are text
+-- if the first chunk has no broken bytes, all of the bytes are text
 pub only_text : (s : List ℕ) (c : Chunk) (cs : List Chunk) → chunks_of s ≡ c ∷ cs
     → c.broken ≡ [] → IsText s
 only_text s c cs e z =

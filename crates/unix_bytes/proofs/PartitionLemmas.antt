@@ -127,7 +127,7 @@ short_within (suc n) (b ∷ bs) l =
 pub chunks_are_short : ChunksAreShort
 chunks_are_short s = short_within (length s) s (le_refl (length s))
 
--- bytes whose longest front is empty are none
+-- only the empty byte string has an empty longest front
 longest_front_of-empty : (s : List ℕ) → longest_front_of s ≡ [] → s ≡ []
 longest_front_of-empty [] e = refl
 longest_front_of-empty (b ∷ bs) e =
@@ -135,7 +135,7 @@ longest_front_of-empty (b ∷ bs) e =
     let none : length (longest_front_of (b ∷ bs)) ≡ 0 = ap length e in
     absurd (omega arith)
 
--- where none of the first chunk is broken, nothing follows
+-- if the first chunk has no broken bytes, nothing follows it
 nothing_follows : (s : List ℕ) → (first_chunk_of s).broken ≡ []
     → drop (chunk_len (first_chunk_of s)) s ≡ []
 unfolding first_chunk_of

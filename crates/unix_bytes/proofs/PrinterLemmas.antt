@@ -61,7 +61,7 @@ shows_more s t before middle after n k e p q = record {
   text = λ h. q.text (p.text h);
 }
 
--- behind other bytes, a buffer and the lossy text of what was not read are all of it
+-- items, a buffer, and the lossy text of what was not read are the items and all of the lossy text
 pub pushes_buffer : (items buffer s t : List ℕ) (n : ℕ) → t ≡ drop n s → Shows s [] n buffer
     → (items ++ buffer) ++ lossy_of t ≡ items ++ lossy_of s
 pushes_buffer items buffer s t n e p =
@@ -72,20 +72,20 @@ pushes_buffer items buffer s t n e p =
 pub buffer_is_utf8 : (s buffer : List ℕ) (n : ℕ) → Shows s [] n buffer → IsUtf8 buffer
 buffer_is_utf8 s buffer n p = IsUtf8-from_IsText buffer (p.text IsText-nil)
 
--- where nothing is left, what was written is the whole
+-- if nothing is left, what was written is the whole
 pub writes_whole : (items s whole : List ℕ) → length s ≡ 0 → items ++ lossy_of s ≡ whole
     → items ≡ whole
 writes_whole items s whole z e =
     sym (append-nil items)
     ∙ ap (λ u. items ++ u) (sym (ap lossy_of (nil_from_length s z) ∙ lossy_of-nil)) ∙ e
 
--- where nothing is left behind the last buffer, what was written with it is the whole
+-- if nothing is left behind the last buffer, what was written with it is the whole
 pub writes_last : (items buffer s t whole : List ℕ) (n : ℕ) → t ≡ drop n s → length t ≡ 0
     → Shows s [] n buffer → items ++ lossy_of s ≡ whole → items ++ buffer ≡ whole
 writes_last items buffer s t whole n cut z p e =
     writes_whole (items ++ buffer) t whole z (pushes_buffer items buffer s t n cut p ∙ e)
 
--- where n bytes were written at a place, the first k of them stand there
+-- if n bytes were written at a place, the first k of them stand there
 pub takes_fewer : (out old s : List ℕ) (at n k : ℕ) → k ≤ n → at ≤ length old
     → take (at + n) out ≡ take at old ++ take n s → take (at + k) out ≡ take at old ++ take k s
 takes_fewer out old s at n k few within e =

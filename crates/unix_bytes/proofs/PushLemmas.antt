@@ -47,7 +47,7 @@ rest_is_shorter {s = x ∷ xs} {valid} {broken} {rest} some p =
       length-drop k (drop n s),
     )
 
--- where nothing is broken, all is text
+-- if nothing is broken, all is text
 pub all_is_text : {s valid broken rest : List ℕ} → Splits s valid broken rest
     → length broken ≡ 0 → (valid ≡ s) × IsText s
 all_is_text {s = []} p none =
@@ -73,7 +73,7 @@ none_is_broken {s = x ∷ xs} {valid} {broken} {rest} p t =
     ap length
     (text_has_none_broken s c (chunks_of rest) (splits_first_chunk (omega arith) p) t)
 
--- bytes of which some are broken are no text
+-- bytes of which some are broken are not text
 pub not_text : {s valid broken rest : List ℕ} → Splits s valid broken rest
     → eqb (length broken) 0 ≡ false → IsText s → ⊥
 not_text {broken = broken} p some t =
@@ -111,7 +111,8 @@ pub shows_lossy_text : (pad : List ℕ → List ℕ) {s valid broken rest : List
 shows_lossy_text pad {s} {valid} {broken} p some =
     sym (cond-false _ _ _ (is_text-not s (not_text p some)))
 
--- behind other bytes, the first chunk as it is shown and the lossy text of the rest are all of it
+-- items, the first chunk as it is shown, and the lossy text of the rest are the items and all of
+-- the lossy text
 pub pushes_split : (items : List ℕ) {s valid broken rest : List ℕ} → Splits s valid broken rest
     → ((items ++ take (length valid) s) ++ replacement_for broken) ++ lossy_of rest
     ≡ items ++ lossy_of s
@@ -144,7 +145,7 @@ lossy_is_utf8 text broken rest h =
     (IsUtf8-append text (replacement_for broken) h (replacement_for_is_utf8 broken))
     (IsUtf8-from_IsText (lossy_of rest) (lossy_is_text rest))
 
--- the first of sixteen bytes that were added
+-- if the first sixteen bytes were added and all but n of them cut off again, the first n were added
 pub first_of_sixteen : (items s : List ℕ) (k n : ℕ) → k ≡ length items → n ≤ 16
     → take (k + n) (items ++ take 16 s) ≡ items ++ take n s
 first_of_sixteen items s k n e few =

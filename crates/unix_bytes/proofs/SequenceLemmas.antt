@@ -85,7 +85,7 @@ pub IsSequence-four : (a b c d : ℕ) → Four a b c d → IsSequence (a ∷ b �
 unfolding is_sequence
 IsSequence-four a b c d h = grind (arith, nat_tests)
 
--- no bytes are no sequence
+-- the empty byte string is no sequence
 pub is_sequence-nil : is_sequence [] ≡ false
 unfolding is_sequence
 is_sequence-nil = refl

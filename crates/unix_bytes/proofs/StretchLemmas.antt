@@ -40,13 +40,13 @@ sequence_is_text s n some e =
 pub sequence_within : (s : List ℕ) → longest_len is_sequence s ≤ length s
 sequence_within s = (longest_len-longest is_sequence s).within
 
--- text, and a stretch of text behind it
+-- text up to i, and n more bytes of text, are text up to i + n
 pub more_text : (s : List ℕ) (i n : ℕ) → IsText (take i s) → IsText (take n (drop i s))
     → IsText (take (i + n) s)
 more_text s i n before here =
     subst IsText (sym (take-add i n s)) (IsText-append (take i s) (take n (drop i s)) before here)
 
--- text, and a sequence of two bytes behind it
+-- text up to i, and a sequence of two bytes, are text up to i + 2
 pub pair_at : (s : List ℕ) (i : ℕ) → i + 2 ≤ length s
     → (0xC2 ≤ slice_index s i) × (slice_index s i ≤ 0xDF)
     → (0x80 ≤ slice_index s (i + 1)) × (slice_index s (i + 1) ≤ 0xBF)
@@ -59,7 +59,7 @@ pair_at s i l lead tail before =
     let two = take-two r (omega (arith, length-drop i s)) in
     more_text s i 2 before (IsText-sequence (take 2 r) (subst IsSequence (sym two) pair))
 
--- where all bytes are text, they are the longest prefix that is text
+-- if all bytes are text, they are the longest prefix that is text
 pub text_to_end : (s : List ℕ) (i : ℕ) → length s ≤ i → i ≤ length s → IsText (take i s)
     → i ≡ longest_len is_text s
 text_to_end s i ge le h =
@@ -84,7 +84,7 @@ text_until s i le h z =
         (text_rest (take i s) (take j (drop i s)) h (subst IsText cut t))
         (omega arith) (omega (arith, length-drop i s)) z
 
--- text up to i, and behind it what is found in the rest r
+-- the bytes up to i are text, and r are the bytes from i on
 module _ (s r : List ℕ) (i : ℕ) (rest : r ≡ drop i s) (before : IsText (take i s)) where
   pub after_text : (n : ℕ) → i ≤ length s → n ≤ length r → IsText (take n r)
       → (i + n ≤ length s) × IsText (take (i + n) s)
@@ -119,7 +119,7 @@ pub record TextBefore (s r : List ℕ) : Type 0 where
   pub rest : r ≡ drop (place_of s r) s
   pub text : IsText (take (place_of s r) s)
 
--- the slice of the bytes from the n-th on, as its bounds say it
+-- the bytes from place n on, as a slice is defined by its bounds
 abbrev pub slice_from : ℕ → List ℕ → List ℕ
 slice_from n s = take (length s - n) (drop n s)
 
@@ -139,7 +139,7 @@ text_before s r n h bound here =
       text = subst (λ k. IsText (take k s)) (sym place) more.1;
     }
 
--- what follows a sequence in the rest, whose length is n and k, is a rest again
+-- what follows a sequence of n bytes in the rest is a rest again; k is another name for n
 pub sequence_before : (s r : List ℕ) (n k : ℕ) → TextBefore s r
     → (0 < n) × (n ≡ longest_len is_sequence r) → n ≡ k → TextBefore s (slice_from k r)
 sequence_before s r n k h (some, is) same =
@@ -153,13 +153,13 @@ pub sequences_before : (s r : List ℕ) (n k m : ℕ) → TextBefore s r
 sequences_before s r n k m h found same bound here =
     text_before s (slice_from k r) m (sequence_before s r n k h found same) bound here
 
--- where the rest begins with a broken front, the longest prefix that is text ends there
+-- if the rest begins with a broken front, the longest prefix that is text ends there
 pub broken_rest : (s r : List ℕ) (n : ℕ) → TextBefore s r → (0 < n) × (n ≡ broken_len r)
     → place_of s r ≡ longest_len is_text s
 broken_rest s r n h found =
     text_before_broken s r (place_of s r) h.rest h.text n (omega arith) found
 
--- where no rest is left, all is text
+-- if no rest is left, all is text
 pub no_rest : (s r : List ℕ) → TextBefore s r → eqb (length r) 0 ≡ true
     → length s ≡ longest_len is_text s
 no_rest s r h none =
@@ -183,11 +183,11 @@ prefix_is_utf8 s n e =
     subst (λ j. IsUtf8 (take j s)) (sym e)
     (IsUtf8-from_IsText (take (longest_len is_text s) s) (text_prefix s))
 
--- bytes that are no more than their longest prefix that is text are UTF-8
+-- bytes that are no longer than their longest prefix that is text are UTF-8
 pub whole_is_utf8 : (s : List ℕ) (n : ℕ) → n ≡ longest_len is_text s → length s ≤ n → IsUtf8 s
 whole_is_utf8 s n e le = subst IsUtf8 (take_all n s le) (prefix_is_utf8 s n e)
 
--- bytes that are no more than their longest prefix that is text are text
+-- bytes that are no longer than their longest prefix that is text are text
 pub whole_is_text : (s : List ℕ) (n : ℕ) → n ≡ longest_len is_text s → length s ≤ n → IsText s
 whole_is_text s n e le = IsText-from_IsUtf8 s (whole_is_utf8 s n e le)
 

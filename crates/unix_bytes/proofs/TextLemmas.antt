@@ -1,4 +1,4 @@
--- Text by the table is the library's UTF-8.
+-- Text by the table is UTF-8 as Rattle's std defines it.
 use Rattle.std.proofs.Common.{◌≡◌, ℕ, ◌+◌, ◌/◌, ◌%◌, ◌<◌, List, [], ◌∷◌, ◌++◌, map, true, ⊎_elim}
 use Rattle.std.proofs.Common.{inl, inr, refl, ap, ◌∙◌, subst, arith}
 use Rattle.std.specs.List.{concat, list_all}

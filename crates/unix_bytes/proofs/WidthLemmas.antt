@@ -8,14 +8,14 @@ use Rattle.unix_bytes.proofs.SequenceLemmas.{one_byte, two_bytes, three_bytes, f
 use Rattle.unix_bytes.proofs.SequenceLemmas.{IsSequence-one, IsSequence-two, IsSequence-three}
 use Rattle.unix_bytes.proofs.SequenceLemmas.{IsSequence-four, is_sequence-nil, is_sequence-more}
 
--- n is the length that the first byte b says
+-- n is the length of a sequence, by its first byte b
 pub record HasWidth (b n : ℕ) : Type 0 where
   pub one : b < 0xC2 → (b ≤ 0x7F) × (n ≡ 1)
   pub two : 0xC2 ≤ b → b ≤ 0xDF → n ≡ 2
   pub three : 0xE0 ≤ b → b ≤ 0xEF → n ≡ 3
   pub four : 0xF0 ≤ b → (b ≤ 0xF4) × (n ≡ 4)
 
--- the first byte of a sequence says its length
+-- the first byte of a sequence tells its length
 pub has_width : (b : ℕ) (u : List ℕ) → IsSequence (b ∷ u) → HasWidth b (suc (length u))
 has_width b [] h =
     let p = one_byte b h in
@@ -51,7 +51,7 @@ has_width b (x ∷ y ∷ z ∷ []) h =
     }
 has_width b (x ∷ y ∷ z ∷ w ∷ u) h = let p = is_sequence-more b x y z w u in cc
 
--- the first byte says one length alone
+-- the first byte tells only one length
 same_width : (b n m : ℕ) → HasWidth b n → HasWidth b m → n ≡ m
 same_width b n m p q =
     ⊎_elim (λ (l : b < 0xC2). (p.one l).1 ∙ sym (q.one l).1)
@@ -95,7 +95,7 @@ begins_four b h k =
     (λ (g : 0xF1 ≤ b). (0x80 ∷ 0x80 ∷ 0x80 ∷ [], IsSequence-four b 0x80 0x80 0x80 (grind arith)))
     (cases_lt b 0xF1)
 
--- where a byte begins a sequence, a width that is not 0 fits it
+-- if a byte begins a sequence, a width that is not 0 fits it
 pub some_width : (b n : ℕ) → 0 < n → BeginsSequence (b ∷ [])
     → (n ≡ 0) ↔ ¬ (BeginsSequence (b ∷ []))
 some_width b n some begins = (λ e. absurd (omega arith), λ none. absurd (none begins))

@@ -14,7 +14,7 @@ use Rattle.unix_bytes.proofs.SequenceLemmas.{IsSequence-one, IsSequence-two, IsS
 use Rattle.unix_bytes.proofs.SequenceLemmas.{IsSequence-four}
 use Rattle.unix_bytes.proofs.TextLemmas.{IsText-nil, IsText-append, IsText-sequence}
 
--- how many of the last bytes are of a sequence that is not finished, behind three others
+-- how many of the last bytes, after a, b and c, are of a sequence that is not finished
 abbrev unfinished_after : ℕ → ℕ → ℕ → List ℕ → ℕ
 unfinished_after a b c [] = unfinished_len a b c
 unfinished_after a b c (d ∷ s) = unfinished_after b c d s
@@ -29,7 +29,7 @@ record TextPrefix (a b c : ℕ) (s : List ℕ) : Type 0 where
 unfinished_len-finished : (a b c : ℕ) → IsFinished a b c → unfinished_len a b c ≡ 0
 unfinished_len-finished a b c h = rw (lt-leb 0xC0 c h.2, lt-leb 0xE0 b h.1, lt-leb 0xF0 a h.0) refl
 
--- no bound of a byte behind another is more than F4
+-- the upper bound of a second byte is never more than F4
 most_bound : (c : ℕ) → most_second c ≤ 0xF4
 most_bound c = by (c == 0xED) (c == 0xF4)
   where
@@ -38,11 +38,11 @@ most_bound c = by (c == 0xED) (c == 0xF4)
     by false true = omega arith
     by false false = omega arith
 
--- where all bytes are of a sequence that is not finished, they begin with empty text
+-- if all bytes are of a sequence that is not finished, the text that they begin with is empty
 no_prefix : (a b c : ℕ) (s : List ℕ) → unfinished_after a b c s ≡ length s → TextPrefix a b c s
 no_prefix a b c s e = record { len = 0; whole = omega (arith, e); text = IsText-nil }
 
--- a sequence before bytes that begin with text
+-- a sequence, and the text that the bytes behind it begin with, are text at the beginning of all
 more_prefix : (u s : List ℕ) (a b c x y z n : ℕ) → IsSequence u → length u ≡ n → TextPrefix x y z s
     → unfinished_after a b c (u ++ s) ≡ unfinished_after x y z s → TextPrefix a b c (u ++ s)
 more_prefix u s a b c x y z n h l f e = record {
@@ -82,7 +82,7 @@ HasPrefixUpTo n =
     → TextPrefix a b c s
 
 module _ (n : ℕ) (fewer : HasPrefixUpTo n) (a b c d : ℕ) (k : IsFinished a b c) where
-  -- at most n + 1 bytes that may follow begin with text, where the first leads two
+  -- at most n + 1 bytes that may follow begin with text, if the first leads two
   two_byte_prefix : (s : List ℕ) → length s ≤ n → 0xC2 ≤ d → d ≤ 0xDF → FitAfter b c d s
       → TextPrefix a b c (d ∷ s)
   two_byte_prefix [] le g l hs = no_prefix _ _ _ _ (unfinished_len-one b c d (omega arith))
@@ -91,7 +91,7 @@ module _ (n : ℕ) (fewer : HasPrefixUpTo n) (a b c d : ℕ) (k : IsFinished a b
       more_prefix (d ∷ e ∷ []) s a b c c d e 2 (IsSequence-two d e (g, l, lo, hi)) refl
       (fewer c d e s (omega arith) (omega arith, omega arith, omega arith) hs) refl
 
-  -- at most n + 1 bytes that may follow begin with text, where the first leads three
+  -- at most n + 1 bytes that may follow begin with text, if the first leads three
   three_byte_prefix : (s : List ℕ) → length s ≤ n → 0xE0 ≤ d → d ≤ 0xEF → FitAfter b c d s
       → TextPrefix a b c (d ∷ s)
   three_byte_prefix [] le g l hs = no_prefix _ _ _ _ (unfinished_len-one b c d (omega arith))
@@ -106,7 +106,7 @@ module _ (n : ℕ) (fewer : HasPrefixUpTo n) (a b c d : ℕ) (k : IsFinished a b
       (IsSequence-three d e f (g, l, lo, hi, lo2, hi2, second.0, second.1)) refl
       (fewer d e f s (omega arith) (omega arith, omega arith, omega arith) hs) refl
 
-  -- at most n + 1 bytes that may follow begin with text, where the first leads four
+  -- at most n + 1 bytes that may follow begin with text, if the first leads four
   four_byte_prefix : (s : List ℕ) → length s ≤ n → 0xF0 ≤ d → d ≤ 0xF4 → FitAfter b c d s
       → TextPrefix a b c (d ∷ s)
   four_byte_prefix [] le g l hs = no_prefix _ _ _ _ (unfinished_len-one b c d (omega arith))

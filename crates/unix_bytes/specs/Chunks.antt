@@ -21,7 +21,7 @@ chunks_from text (u ∷ us) =
 unfoldable pub chunks_of : List ℕ → List Chunk
 chunks_of s = chunks_from [] (fronts_of s)
 
--- U+FFFD, unless nothing is broken
+-- U+FFFD for broken bytes, and nothing if there are none
 abbrev pub replacement_for : List ℕ → List ℕ
 replacement_for broken = if length broken == 0 then [] else replacement
 
@@ -29,7 +29,7 @@ replacement_for broken = if length broken == 0 then [] else replacement
 abbrev pub shown_chunk : Chunk → List ℕ
 shown_chunk c = c.valid ++ replacement_for c.broken
 
--- what a `Utf8LossyChunk` says, as bytes
+-- the bytes of a `Utf8LossyChunk`
 abbrev pub chunk_of : Utf8LossyChunk → Chunk
 chunk_of x = record { valid = x.valid.now; broken = x.broken.now }
 

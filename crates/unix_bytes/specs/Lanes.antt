@@ -6,10 +6,10 @@ use Rattle.std.specs.Simd.Lanes.{mask_l}
 abbrev pub is_wide : ℕ → Bool
 is_wide b = nat_le 0x80 b
 
--- a bit for each byte, the lowest for the first: set where the byte is not ASCII
+-- a bit for each byte, the lowest for the first: set if the byte is not ASCII
 abbrev pub wide_mask : List ℕ → ℕ
 wide_mask bytes = mask_l (map is_wide bytes)
 
--- a bit for each byte, the lowest for the first: set where the byte equals the given one
+-- a bit for each byte, the lowest for the first: set if the byte equals the given one
 abbrev pub hit_mask : ℕ → List ℕ → ℕ
 hit_mask byte bytes = mask_l (map (λ b. b == byte) bytes)

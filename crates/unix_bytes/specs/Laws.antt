@@ -7,7 +7,7 @@ use Rattle.unix_bytes.specs.Utf8.{IsSequence, IsText, BeginsSequence, begins_seq
 use Rattle.unix_bytes.specs.Lossy.{fronts_of, front_of, is_text, lossy_of, replacement}
 use Rattle.unix_bytes.specs.Chunks.{Chunk, chunks_of, shown_chunk}
 
--- text by the table is what the library means by UTF-8
+-- text by the table is UTF-8 as Rattle's std defines it
 abbrev pub TextIsUtf8 : Type 0
 TextIsUtf8 = (s : List ℕ) → IsText s ↔ IsUtf8 s
 
@@ -43,7 +43,7 @@ FrontIsLongest = (s : List ℕ) → IsLongest BeginsSequence (front_of s) s
 abbrev pub BeginsWithNoSequence : List ℕ → Type 0
 BeginsWithNoSequence s = (u : List ℕ) → IsSequence u → ¬ (Begins u s)
 
--- the first front has three bytes at most where the bytes begin with no sequence
+-- the first front has three bytes at most if the bytes begin with no sequence
 abbrev pub BrokenIsShort : Type 0
 BrokenIsShort = (s : List ℕ) → BeginsWithNoSequence s → length (front_of s) ≤ 3
 
@@ -51,7 +51,7 @@ BrokenIsShort = (s : List ℕ) → BeginsWithNoSequence s → length (front_of s
 abbrev pub LossyOfSequence : Type 0
 LossyOfSequence = (u s : List ℕ) → IsSequence u → lossy_of (u ++ s) ≡ u ++ lossy_of s
 
--- where the bytes begin with no sequence, U+FFFD stands for the first front
+-- if the bytes begin with no sequence, U+FFFD stands for the first front
 abbrev pub LossyOfBroken : Type 0
 LossyOfBroken =
     (s : List ℕ) → 0 < length s → BeginsWithNoSequence s
@@ -65,7 +65,7 @@ LossyOfText = (s : List ℕ) → IsText s → lossy_of s ≡ s
 abbrev pub LossyIsText : Type 0
 LossyIsText = (s : List ℕ) → IsText (lossy_of s)
 
--- no bytes have no chunks
+-- the empty byte string has no chunks
 abbrev pub ChunksOfNothing : Type 0
 ChunksOfNothing = chunks_of [] ≡ []
 

@@ -3,7 +3,7 @@ use Rattle.std.specs.Prelude.{ℕ, Bool, List, [], ◌∷◌, take, if◌then◌
 use Rattle.std.specs.List.{concat, flat_map, list_all, push}
 use Rattle.unix_bytes.specs.Utf8.{is_sequence, begins_sequence}
 
--- u and then s, cut into fronts: a byte joins the front before it if some sequence begins so
+-- u and then s, cut into fronts: a byte joins the front before it if some sequence begins with both
 abbrev pub fronts_from : List ℕ → List ℕ → List (List ℕ)
 fronts_from u [] = u ∷ []
 fronts_from u (b ∷ s) =
@@ -14,7 +14,7 @@ unfoldable pub fronts_of : List ℕ → List (List ℕ)
 fronts_of [] = []
 fronts_of (b ∷ s) = fronts_from (b ∷ []) s
 
--- the first front: the longest prefix that begins some sequence, or one byte where none does
+-- the first front: the longest prefix that begins some sequence, or one byte if none does
 abbrev pub front_of : List ℕ → List ℕ
 front_of s = concat (take 1 (fronts_of s))
 

@@ -1,4 +1,5 @@
--- How far the code looks at a time. No public clause cites these words.
+-- What the code finds at the beginning of some bytes, and how it splits them. No public clause
+-- cites these words.
 use Rattle.std.specs.Prelude.{ℕ, zero, suc, ◌+◌, ◌≤◌, ◌≡◌, Bool, true, List, length, take, drop}
 use Rattle.std.specs.Prelude.{max, if◌then◌else◌}
 use Rattle.unix_bytes.specs.Utf8.{is_sequence, begins_sequence}
@@ -14,7 +15,7 @@ longest_len_to (suc m) test s = if test (take (suc m) s) then suc m else longest
 unfoldable pub longest_len : (List ℕ → Bool) → List ℕ → ℕ
 longest_len test s = longest_len_to (length s) test s
 
--- the longest prefix that begins some sequence, or one byte where none does
+-- the longest prefix that begins some sequence, or one byte if none does
 unfoldable pub longest_front_of : List ℕ → List ℕ
 longest_front_of s = take (max 1 (longest_len begins_sequence s)) s
 
@@ -22,7 +23,8 @@ longest_front_of s = take (max 1 (longest_len begins_sequence s)) s
 abbrev pub HasBegun : List ℕ → ℕ → Type 0
 HasBegun s n = (n ≤ length s) × (begins_sequence (take n s) ≡ true)
 
--- how many bytes are broken at the beginning: none where a sequence or nothing stands there
+-- how many bytes are broken at the beginning: 0 if a sequence stands there, or if there are no
+-- bytes
 abbrev pub broken_len : List ℕ → ℕ
 broken_len s = let u = longest_front_of s in if is_sequence u then 0 else length u
 

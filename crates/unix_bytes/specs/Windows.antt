@@ -1,4 +1,4 @@
--- Windows of text: each byte, by the three before it.
+-- Windows of text: which byte may follow the three before it.
 use Rattle.std.specs.Prelude.{◌≤◌, ◌<◌, ◌⊎◌, ◌==◌, ℕ, List, [], ◌∷◌, take, if◌then◌else◌, ⊤}
 use Rattle.std.specs.Prelude.{nat_le}
 
@@ -18,12 +18,13 @@ IsUnfinished a b c = (0xF0 ≤ a) ⊎ ((0xE0 ≤ b) ⊎ (0xC0 ≤ c))
 abbrev pub IsFinished : ℕ → ℕ → ℕ → Type 0
 IsFinished a b c = (a < 0xF0) × (b < 0xE0) × (c < 0xC0)
 
--- d, behind a, b and c, continues a sequence that is not finished, or else is ASCII or C2 or more
+-- d, after a, b and c: a tail byte if they leave a sequence unfinished, and else ASCII, or C2 or
+-- more
 pub record GoesOn (a b c d : ℕ) : Type 0 where
   pub within : IsUnfinished a b c → (0x80 ≤ d) × (d ≤ 0xBF)
   pub begins : IsFinished a b c → (d < 0x80) ⊎ (0xC2 ≤ d)
 
--- each byte of the last list goes on behind those of the same place in the first three lists
+-- each byte of the last list goes on after the bytes at its place in the first three lists
 abbrev pub GoOn : List ℕ → List ℕ → List ℕ → List ℕ → Type 0
 GoOn (a ∷ s) (b ∷ t) (c ∷ u) (d ∷ v) = GoesOn a b c d × GoOn s t u v
 GoOn s t u v = ⊤

@@ -95,7 +95,7 @@ impl<'a> UnixStr<'a> {
         self.bytes.is_empty()
     }
 
-    /// The bytes as text, or `None` where they are not UTF-8. Does not allocate.
+    /// The bytes as text, or `None` if they are not UTF-8. Does not allocate.
     ///
     /// As Rust's `OsStr::to_str`; UTF-8 is that of RFC 3629, section 4.
     ///
@@ -147,15 +147,15 @@ impl Hash for UnixStr<'_> {
 }
 
 /// The debug form of the lossy text, which for UTF-8 is the text itself. Does not allocate, and
-/// fails only where the writer does. The form is this crate's own.
+/// fails only if the writer does. The form is this crate's own.
 impl fmt::Debug for UnixStr<'_> {
     fn fmt<W: fmt::Write>(&self, f: &mut fmt::Formatter<W>) -> fmt::Result {
         fmt::Debug::fmt(&Utf8Lossy::from_bytes(self.bytes), f)
     }
 }
 
-// The text, then U+FFFD unless nothing is broken, then the lossy text of the rest. Where that fits
-// one buffer, the capacity is known at once.
+// The text, then U+FFFD if `broken` has bytes, then the lossy text of the rest. If one buffer takes
+// all of that lossy text, the capacity is known at once.
 fn lossy_string(alloc: Global, text: &str, broken: &[u8], rest: &[u8]) -> Result<String, AllocError>
     ensures { let whole = (text.now ++ replacement_for broken.now) ++ lossy_of rest.now in
         IfOk result (λ lossy. string_bytes lossy ≡ whole) }
@@ -189,8 +189,8 @@ fn push_lossy(bytes: &mut Vec<u8>, source: &[u8], buffer: &mut [u8]) -> Result<(
     Ok(())
 }
 
-// Appends the first `len` bytes of the source. In place of fewer than sixteen, sixteen are copied,
-// which is one move, and the rest of them is cut off again.
+// Appends the first `len` bytes of the source. If `len` is at most sixteen and the source has
+// sixteen bytes, these are copied in one move, and those past `len` are cut off again.
 #[inline(always)]
 fn push_prefix(bytes: &mut Vec<u8>, source: &[u8], len: usize) -> Result<(), AllocError>
     requires { len ≤ length source.now }
@@ -208,7 +208,7 @@ fn push_prefix(bytes: &mut Vec<u8>, source: &[u8], len: usize) -> Result<(), All
     Ok(())
 }
 
-// Appends U+FFFD unless nothing is broken.
+// Appends U+FFFD if `broken` has bytes.
 #[inline(always)]
 fn push_broken(bytes: &mut Vec<u8>, broken: &[u8]) -> Result<(), AllocError>
     ensures { OnOk result (bytes.new.items ≡ bytes.old.items ++ replacement_for broken.now) }

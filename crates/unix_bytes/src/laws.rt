@@ -6,7 +6,7 @@ ghost use Rattle.unix_bytes.specs.Laws.{LossyOfBroken, LossyOfText, LossyIsText,
 ghost use Rattle.unix_bytes.specs.Laws.{ChunksOfSome, ChunksPartition, ChunksAreShort};
 ghost use Rattle.unix_bytes.specs.Laws.{WholeChunkIsLast, ChunksShowLossy};
 
-/// Text by the table of RFC 3629, section 4, is what the library means by UTF-8.
+/// Text by the table of RFC 3629, section 4, is UTF-8 as Rattle's std defines it.
 pub fn text_is_utf8()
     ensures { TextIsUtf8 }
 {}
@@ -28,8 +28,8 @@ pub fn fronts_one_by_one()
     ensures next { FrontsOneByOne }
 {}
 
-/// A front is the longest prefix that begins some sequence, or one byte where none does. The first
-/// front has at most three bytes where the bytes begin with no sequence.
+/// A front is the longest prefix that begins some sequence, or one byte if none does. The first
+/// front has at most three bytes if the bytes begin with no sequence.
 pub fn broken_front()
     ensures begins { FrontsBegin }
     ensures longest { FrontIsLongest }
@@ -57,8 +57,8 @@ pub fn lossy_is_text()
     ensures { LossyIsText }
 {}
 
-/// No bytes have no chunks. Of others, the first chunk is the longest prefix that is text with the
-/// front behind it, and then come the chunks of what follows these two.
+/// The empty byte string has no chunks. Of any other, the first chunk is the longest prefix that is
+/// text and the front behind it; then come the chunks of what follows these two.
 pub fn chunks_one_by_one()
     ensures nothing { ChunksOfNothing }
     ensures some { ChunksOfSome }
@@ -72,7 +72,7 @@ pub fn chunks_partition()
     ensures last { WholeChunkIsLast }
 {}
 
-/// The chunks, each shown by itself, show the lossy text.
+/// The chunks as they are shown, one after the other, are the lossy text.
 pub fn chunks_show_lossy()
     ensures { ChunksShowLossy }
 {}

@@ -1,4 +1,4 @@
-//! Bytes shown as text where they may not be UTF-8: U+FFFD stands for what is broken.
+//! Bytes that may not be UTF-8, shown as text: U+FFFD stands for each broken front.
 ghost use Rattle.std.specs.Prelude.{◌≡◌, ◌↔◌, ◌<◌, ◌^◌, ℕ, ◌∷◌, List, [], Some, length};
 ghost use Rattle.std.specs.Prelude.{if◌then◌else◌};
 ghost use Rattle.std.specs.Fmt.{WritesOnOk, WritesStyledOnOk, padded};
@@ -14,8 +14,8 @@ use crate::utf8::split_text;
 use std::iter::FusedIterator;
 use std::{fmt, str};
 
-/// How many bytes the well-formed sequences have that begin with `b`: 1 to 4, or 0 where no
-/// sequence begins with it.
+/// How many bytes the well-formed sequences have that begin with `b`: 1 to 4, or 0 if no sequence
+/// begins with it.
 ///
 /// Does not allocate. By the table of RFC 3629, section 4.
 ///
@@ -59,7 +59,7 @@ impl<'a> Utf8Lossy<'a> {
 
     /// The chunks of the bytes: text as far as it goes, and the broken front behind it.
     ///
-    /// No bytes have no chunks. Neither this nor the iterator allocates.
+    /// The empty byte string has no chunks. Neither this nor the iterator allocates.
     /// As Rust's `<[u8]>::utf8_chunks`.
     ///
     /// For the bytes 61 FF 62 there are two: `a` with FF, and `b` with nothing.
@@ -82,10 +82,10 @@ impl<'a> Utf8Lossy<'a> {
 /// As Rust's `Utf8Chunk`.
 #[derive(Clone, Copy, Debug, PartialEq, Eq)]
 pub struct Utf8LossyChunk<'a> {
-    /// The sequences; empty where the chunk begins with what is broken.
+    /// The sequences; empty if the chunk begins with its broken front.
     pub valid: &'a str,
-    /// What begins a sequence without being one, or one byte that begins none: at most 3 bytes.
-    /// Empty in no chunk but the last.
+    /// The broken front: bytes that begin a sequence but are none, or one byte that begins none; at
+    /// most 3 bytes. Only that of the last chunk can be empty.
     pub broken: &'a [u8],
 }
 
@@ -175,8 +175,8 @@ fn write_lossy<W: fmt::Write>(source: &[u8], f: &mut fmt::Formatter<W>) -> fmt::
 
 /// The lossy text: the sequences as they are, and U+FFFD for each broken front.
 ///
-/// Bytes that are wholly UTF-8 are padded as a text is, by width, precision, fill and alignment;
-/// any others ignore these. Does not allocate, and fails only where the writer does.
+/// Bytes that are all UTF-8 are padded as a `str` is, by width, precision, fill and alignment; any
+/// others ignore these. Does not allocate, and fails only if the writer does.
 impl fmt::Display for Utf8Lossy<'_> {
     ghost output = { λ d. Some (lossy_of d.bytes.now) };
 
@@ -199,7 +199,7 @@ impl fmt::Display for Utf8Lossy<'_> {
 }
 
 /// The debug form of the lossy text: in quotes, with its escapes. Does not allocate, and fails only
-/// where the writer does. The form is this crate's own.
+/// if the writer does. The form is this crate's own.
 impl fmt::Debug for Utf8Lossy<'_> {
     fn fmt<W: fmt::Write>(&self, f: &mut fmt::Formatter<W>) -> fmt::Result {
         f.write_char('"')?;
@@ -228,7 +228,7 @@ fn write_escaped<W: fmt::Write>(text: &str, f: &mut fmt::Formatter<W>) -> fmt::R
     text.chars().try_for_each(|c| write_escaped_char(c, f))
 }
 
-// Writes the character as the debug form of a text has it, where a `'` stands as it is.
+// Writes the character as the debug form of a text has it, which leaves a `'` as it is.
 fn write_escaped_char<W: fmt::Write>(c: char, f: &mut fmt::Formatter<W>) -> fmt::Result {
     if c == '\'' {
         return f.write_char(c);

@@ -68,8 +68,8 @@ fn show_front(source: &[u8], out: &mut [u8], at: usize) -> (usize, usize)
 
 // Writes 16 bytes of ASCII, or else those before the first front that is not ASCII and the lossy
 // text of that front. Gives how many bytes were read, and where in `out` the written bytes end.
-// Reads nothing where 64 bytes are ASCII, or where other text may go on: a long text is read faster
-// at once.
+// Reads nothing if the first 64 bytes are ASCII, or if a longer text that is not ASCII seems to
+// begin: a long text is read faster all at once.
 #[inline(always)]
 fn show_many(source: &[u8], out: &mut [u8], at: usize) -> (usize, usize)
     requires some { 20 ≤ length source.now }
@@ -100,8 +100,8 @@ fn show_many(source: &[u8], out: &mut [u8], at: usize) -> (usize, usize)
     (ascii + size, end)
 }
 
-// Writes the lossy text of the first front, of which fewer than four bytes may be there. Gives how
-// many bytes were read, and where in `out` the written bytes end.
+// Writes the lossy text of the first front, whose first byte is not ASCII; the source may have
+// fewer than four bytes. Gives how many bytes were read, and where in `out` the written bytes end.
 #[inline(never)]
 #[tactic(auto, using(crate::proofs::PrinterLemmas::front_bounds))]
 fn show_last_front(source: &[u8], out: &mut [u8], at: usize) -> (usize, usize)
@@ -122,8 +122,8 @@ fn show_last_front(source: &[u8], out: &mut [u8], at: usize) -> (usize, usize)
     }
 }
 
-// Writes the first byte where it is ASCII, or else the lossy text of the first front. Gives how
-// many bytes were read, and where in `out` the written bytes end.
+// Writes the first byte if it is ASCII, or else the lossy text of the first front. Gives how many
+// bytes were read, and where in `out` the written bytes end.
 #[inline(always)]
 fn show_few(source: &[u8], out: &mut [u8], at: usize) -> (usize, usize)
     requires some { 0 < length source.now }
@@ -141,7 +141,7 @@ fn show_few(source: &[u8], out: &mut [u8], at: usize) -> (usize, usize)
 }
 
 // Writes the lossy text of the first bytes. Gives how many bytes were read, and how many written.
-// Ends where fewer than 20 bytes of `out` are left, or where a long text begins.
+// Stops if fewer than 20 bytes of `out` are left, or where a long text begins.
 pub(crate) fn show_first(source: &[u8], out: &mut [u8]) -> (usize, usize)
     ensures len { length out.new ≡ length out.old }
     ensures read { result.0 ≤ length source.now }

@@ -6,7 +6,7 @@ ghost use Rattle.unix_bytes.specs.Lanes.{hit_mask};
 
 use std::simd::prelude::*;
 
-// A bit for each of the 16 bytes from `at` on: set where the byte is `byte`.
+// A bit for each of the 16 bytes from `at` on: set if the byte is `byte`.
 #[inline]
 fn hits(bytes: &[u8], at: usize, byte: u8) -> u64
     requires { at + 16 ≤ length bytes.now }
@@ -17,7 +17,7 @@ fn hits(bytes: &[u8], at: usize, byte: u8) -> u64
         .to_bitmask()
 }
 
-// Where the first `byte` stands among fewer than 16 bytes, or their number.
+// The place of the first `byte`, or the length if there is none, looked for byte by byte.
 #[inline]
 fn first_in_few(bytes: &[u8], byte: u8) -> usize
     ensures value { result ≡ position_or_len (λ b. b == byte) bytes.now }
@@ -31,7 +31,8 @@ fn first_in_few(bytes: &[u8], byte: u8) -> usize
     bytes.len()
 }
 
-// Where the first `byte` stands among the 16 bytes from `at` on, or 16 where there is none.
+// The place of the first `byte` among the 16 bytes from `at` on, counted from `at`, or 16 if there
+// is none.
 #[inline]
 fn first_in_lanes(bytes: &[u8], at: usize, byte: u8) -> usize
     requires { at + 16 ≤ length bytes.now }
@@ -46,8 +47,8 @@ fn first_in_lanes(bytes: &[u8], at: usize, byte: u8) -> usize
     }
 }
 
-/// Where the first `byte` stands, or the length where there is none. Does not allocate. Not in
-/// Rust's std; as the crate `memchr`.
+/// The place of the first `byte`, or the length if there is none. Does not allocate. Not in Rust's
+/// std; as the crate `memchr`.
 ///
 /// `first_place(b"a:b:c", b':')` is 1.
 #[must_use]
@@ -71,7 +72,7 @@ pub fn first_place(bytes: &[u8], byte: u8) -> usize
     last + first_in_lanes(bytes, last, byte)
 }
 
-// The place just after the last `byte` among the first `len` bytes, or 0 where there is none.
+// The place just after the last `byte` among the first `len` bytes, or 0 if there is none.
 #[inline]
 fn past_last_in_few(bytes: &[u8], len: usize, byte: u8) -> usize
     requires { len ≤ length bytes.now }
@@ -87,8 +88,8 @@ fn past_last_in_few(bytes: &[u8], len: usize, byte: u8) -> usize
     past
 }
 
-// The place just after the last `byte` among the 16 bytes from `at` on, counted from `at`, or 0
-// where there is none.
+// The place just after the last `byte` among the 16 bytes from `at` on, counted from `at`, or 0 if
+// there is none.
 #[inline]
 fn past_last_in_lanes(bytes: &[u8], at: usize, byte: u8) -> usize
     requires { at + 16 ≤ length bytes.now }
@@ -100,7 +101,7 @@ fn past_last_in_lanes(bytes: &[u8], at: usize, byte: u8) -> usize
     64 - hits(bytes, at, byte).leading_zeros() as usize
 }
 
-/// The place just after the last `byte`, or 0 where there is none. Does not allocate. Not in Rust's
+/// The place just after the last `byte`, or 0 if there is none. Does not allocate. Not in Rust's
 /// std; as one more than `memrchr` of the crate `memchr`.
 ///
 /// `past_last(b"a:b:c", b':')` is 4.
@@ -123,7 +124,7 @@ pub fn past_last(bytes: &[u8], byte: u8) -> usize
     past_last_in_few(bytes, end, byte)
 }
 
-// How many bytes both begin with, where one has fewer than 16. The lesser length is `most`.
+// How many bytes both begin with, compared byte by byte; the lesser length is `most`.
 #[inline]
 fn common_in_few(a: &[u8], b: &[u8], most: usize) -> usize
     requires { most ≡ min (length a.now) (length b.now) }
@@ -137,7 +138,7 @@ fn common_in_few(a: &[u8], b: &[u8], most: usize) -> usize
     len
 }
 
-// How many of the 16 places from `at` on come before the first at which the two differ, or 16 where
+// How many of the 16 places from `at` on come before the first at which the two differ, or 16 if
 // there is none.
 #[inline]
 fn common_in_lanes(a: &[u8], b: &[u8], at: usize) -> usize
@@ -171,7 +172,7 @@ fn is_common_block(a: &[u8], b: &[u8], at: usize) -> bool
     other.to_bitmask() == 0
 }
 
-// How many bytes both begin with, in whole blocks of 64.
+// How many bytes both begin with, in whole blocks of 64; the lesser length is `most`.
 #[inline]
 fn common_blocks_len(a: &[u8], b: &[u8], most: usize) -> usize
     requires { most ≡ min (length a.now) (length b.now) }

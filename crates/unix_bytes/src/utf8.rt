@@ -11,7 +11,7 @@ mod classes;
 pub(crate) mod fronts;
 mod scans;
 
-// The bytes as text, where they are text.
+// The bytes as text, or `None` if they are not text.
 #[tactic(auto, using(crate::proofs::StretchLemmas::text_ends))]
 pub(crate) fn to_text(bytes: &[u8]) -> Option<&str>
     ensures value { IsSome result ↔ IsText bytes.now }

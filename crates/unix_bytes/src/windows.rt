@@ -46,7 +46,7 @@ fn most_after(bytes: u8x16) -> u8x16
     bound_lanes(bytes, 0xED, 0x9F, four)
 }
 
-// A bit for each byte, the lowest for the first: set where the byte is not less than `least`.
+// A bit for each byte, the lowest for the first: set if the byte is not less than `least`.
 #[inline(always)]
 pub(crate) fn at_least(bytes: u8x16, least: u8) -> u64
     ensures bits { result ≡ mask_l (map (nat_le least) bytes) }
@@ -63,9 +63,8 @@ fn are_above(bytes: u8x16, bounds: u8x16) -> bool
     bytes.simd_lt(bounds).to_bitmask() == 0
 }
 
-// Whether each byte continues the sequence before it where that is not finished, and elsewhere is
-// ASCII or C2 or more. The three bytes before it stand in the same lane of `first`, `second` and
-// `third`.
+// Whether each byte is a tail byte if the sequence before it is not finished, and else is ASCII, or
+// C2 or more. The three bytes before it stand in the same lane of `first`, `second` and `third`.
 #[inline(always)]
 fn go_on(first: u8x16, second: u8x16, third: u8x16, bytes: u8x16) -> bool
     ensures { IsTrue result → GoOn first second third bytes }
@@ -110,8 +109,8 @@ fn unfinished_len(window: &[u8]) -> usize
     }
 }
 
-// How many of the 16 bytes behind the first three are known to be text, where those three are the
-// end of finished sequences. It is 0 where one of the 16 may not follow the three before it.
+// How many of the 16 bytes behind the first three are known to be text. Those three leave no
+// sequence unfinished. It is 0 if one of the 16 may not follow the three before it.
 #[inline(always)]
 pub(crate) fn window_len(window: &[u8]) -> usize
     requires some { 19 ≤ length window.now }

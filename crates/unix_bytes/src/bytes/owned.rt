@@ -71,8 +71,8 @@ impl UnixString {
 
     /// Appends the bytes.
     ///
-    /// Allocates only where `more` is longer than the room. If the allocation fails, the bytes stay
-    /// as they were. The capacity never shrinks. As Rust's `OsString::push`.
+    /// Allocates only if `more` is longer than the room. If the allocation fails, the bytes stay as
+    /// they were. The capacity never shrinks. As Rust's `OsString::push`.
     ///
     /// `foo` after a push of `bar` is `foobar`.
     #[inline]
@@ -122,10 +122,10 @@ impl UnixString {
         self.bytes.truncate(len);
     }
 
-    /// Makes room for at least `count` more bytes, and maybe for more where it grows.
+    /// Makes room for at least `count` more bytes; if it has to grow, maybe for more than that.
     ///
-    /// Allocates only where the room is less. If the allocation fails, the bytes stay as they were.
-    /// As Rust's `OsString::reserve`.
+    /// Allocates only if the room is less. If the allocation fails, the bytes stay as they were. As
+    /// Rust's `OsString::reserve`.
     ///
     /// After `reserve(6)` a push of 6 bytes does not allocate.
     pub fn reserve(&mut self, count: usize) -> Result<(), AllocError>
@@ -137,10 +137,10 @@ impl UnixString {
         self.bytes.reserve(count)
     }
 
-    /// Makes room for at least `count` more bytes, and for no more than that where it grows.
+    /// Makes room for at least `count` more bytes; if it has to grow, for no more than that.
     ///
-    /// Allocates only where the room is less. If the allocation fails, the bytes stay as they were.
-    /// As Rust's `OsString::reserve_exact`.
+    /// Allocates only if the room is less. If the allocation fails, the bytes stay as they were. As
+    /// Rust's `OsString::reserve_exact`.
     ///
     /// After `reserve_exact(6)` a push of 6 bytes does not allocate.
     pub fn reserve_exact(&mut self, count: usize) -> Result<(), AllocError>
@@ -154,7 +154,7 @@ impl UnixString {
 
     /// Gives back the room, so that the capacity is the length.
     ///
-    /// Does not allocate where there is no room. Otherwise moving the bytes can fail, and then the
+    /// Does not allocate if there is no room. Otherwise moving the bytes can fail, and then the
     /// bytes stay as they were, and the capacity is no greater than before. As Rust's
     /// `OsString::shrink_to_fit`.
     ///
@@ -168,9 +168,9 @@ impl UnixString {
         self.shrink_to(0)
     }
 
-    /// Lowers the capacity to `least` bytes, or to the length where that is more.
+    /// Lowers the capacity to `least` bytes, or to the length if that is more.
     ///
-    /// Where the capacity is no more than that already, does not allocate and changes nothing.
+    /// If the capacity is no more than that already, does not allocate and changes nothing.
     /// Otherwise moving the bytes can fail, and then the bytes stay as they were, and the capacity
     /// is no greater than before. As Rust's `OsString::shrink_to`.
     ///
@@ -245,7 +245,7 @@ impl From<String> for UnixString {
     }
 }
 
-/// The hash of `as_unix_str`, which is the same for a view and a copy of `tmp`.
+/// The hash of `as_unix_str`: a view of `tmp` and an owned `tmp` have the same.
 impl Hash for UnixString {
     ghost use Rattle.unix_bytes.specs.Hashed.{name_input};
     ghost use Rattle.std.specs.Cmp.Lexicographic.{bytes_decides};

@@ -16,7 +16,7 @@ use std::cmp::Ordering;
 use std::fmt;
 use std::hash::{Hash, Hasher};
 
-/// Text that was read from bytes: borrowed from them where they are UTF-8, and new otherwise.
+/// Text that was read from bytes: borrowed from them if they are UTF-8, and new otherwise.
 ///
 /// It is compared, hashed and printed as the text, whichever of the two it is.
 /// It stands for Rust's `Cow<str>`.
@@ -43,10 +43,10 @@ impl LossyText<'_> {
         }
     }
 
-    /// The text as a `String`: a copy where it is borrowed, and the text itself where it is owned.
+    /// The text as a `String`: a copy if it is borrowed, and the text itself if it is owned.
     ///
     /// A copy allocates once, as many bytes as the text has, or not at all for no bytes; fails if
-    /// the allocation fails. An owned text does not allocate. As Rust's `Cow::into_owned`.
+    /// the allocation fails. For an owned text nothing is allocated. As Rust's `Cow::into_owned`.
     ///
     /// For what was read from `ab` it is another `ab`.
     pub fn into_owned(self, alloc: Global) -> Result<String, AllocError>
@@ -117,8 +117,8 @@ impl Hash for LossyText<'_> {
     }
 }
 
-/// The text, padded as a text is, by width, precision, fill and alignment. Does not allocate, and
-/// fails only where the writer does.
+/// The text, padded as a `str` is, by width, precision, fill and alignment. Does not allocate, and
+/// fails only if the writer does.
 impl fmt::Display for LossyText<'_> {
     ghost output = { λ text. Some (text_bytes text) };
 
@@ -129,7 +129,7 @@ impl fmt::Display for LossyText<'_> {
     }
 }
 
-/// The debug form of the text: in quotes, with its escapes. Does not allocate, and fails only where
+/// The debug form of the text: in quotes, with its escapes. Does not allocate, and fails only if
 /// the writer does.
 impl fmt::Debug for LossyText<'_> {
     ghost debug_output = { λ text. debug_str (text_bytes text) };

@@ -6,7 +6,7 @@ ghost use Rattle.unix_bytes.specs.Lanes.{wide_mask};
 use crate::windows::at_least;
 use std::simd::{u8x8, u8x16, u8x64};
 
-// A bit for each of the 16 bytes from `at` on: set where the byte is not ASCII.
+// A bit for each of the 16 bytes from `at` on: set if the byte is not ASCII.
 #[inline(always)]
 pub(crate) fn wide_bits(source: &[u8], at: usize) -> u64
     requires { at + 16 ≤ length source.now }
@@ -96,8 +96,8 @@ fn is_short_ascii(source: &[u8]) -> bool
     is_ascii_eight(source, 0) && is_ascii_eight(source, source.len() - 8)
 }
 
-// How many of the first bytes are ASCII, where the first is: 1 is enough where there are fewer than
-// 8, or where the second is not.
+// How many of the first bytes are ASCII, of which the first is. Just 1 if there are fewer than 8
+// bytes, or if the second is not ASCII.
 #[inline(always)]
 pub(crate) fn ascii_prefix_len(source: &[u8]) -> usize
     requires some { 0 < length source.now }

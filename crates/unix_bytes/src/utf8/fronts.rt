@@ -6,7 +6,7 @@ ghost use Rattle.unix_bytes.specs.Steps.{longest_len, HasBegun, broken_len};
 
 use crate::utf8::classes::{is_lead, is_tail, leads_four, leads_three, leads_two, may_follow};
 
-// Whether the bytes may begin with a sequence of two or more, by the ranges of the first two.
+// Whether the bytes may begin with a sequence of two bytes or more, by the ranges of the first two.
 #[inline(always)]
 #[tactic(auto, using(crate::proofs::HasBegunLemmas::pair_bounds))]
 pub(crate) fn may_begin(source: &[u8]) -> bool
@@ -16,7 +16,7 @@ pub(crate) fn may_begin(source: &[u8]) -> bool
     is_lead(source[0]) && 1 < source.len() && is_tail(source[1])
 }
 
-// Whether there are two bytes that begin some sequence.
+// Whether the first two bytes begin some sequence; false if there is only one.
 #[inline(always)]
 #[tactic(auto, using(crate::proofs::HasBegunLemmas::beginnings))]
 fn begins_two(source: &[u8]) -> bool
@@ -26,7 +26,8 @@ fn begins_two(source: &[u8]) -> bool
     1 < source.len() && may_follow(source[0], source[1])
 }
 
-// Whether there are three bytes that begin some sequence, where the first leads three or more.
+// Whether the first three bytes begin some sequence; false if there are fewer. The first byte is E0
+// or more.
 #[inline(always)]
 #[tactic(auto, using(crate::proofs::HasBegunLemmas::all_beginnings))]
 fn begins_three(source: &[u8]) -> bool
@@ -37,7 +38,8 @@ fn begins_three(source: &[u8]) -> bool
     2 < source.len() && begins_two(source) && is_tail(source[2])
 }
 
-// Whether there are four bytes that begin some sequence, where the first leads four.
+// Whether the first four bytes begin some sequence; false if there are fewer. The first byte is F0
+// or more.
 #[inline(always)]
 #[tactic(auto, using(crate::proofs::HasBegunLemmas::all_beginnings))]
 pub(crate) fn begins_four(source: &[u8]) -> bool

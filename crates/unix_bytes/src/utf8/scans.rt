@@ -10,7 +10,7 @@ use crate::utf8::fronts::{begins_four, may_begin, wide_front};
 use crate::windows::window_len;
 
 // The lengths of the longest prefix that is text, and of the broken front behind it. A byte that is
-// broken alone is found at once where fewer than 16 bytes of ASCII stand before it.
+// broken alone is found at once if fewer than 16 bytes of ASCII stand before it.
 #[inline(always)]
 #[tactic(auto, using(crate::proofs::StretchLemmas::none_is_text))]
 pub(crate) fn scan_text(source: &[u8]) -> (usize, usize)
@@ -27,8 +27,8 @@ pub(crate) fn scan_text(source: &[u8]) -> (usize, usize)
     scan_wide(source, at)
 }
 
-// The lengths of the longest prefix that is text, and of the broken front behind it, where the
-// bytes up to `at` are text and the byte there is not ASCII.
+// The lengths of the longest prefix that is text, and of the broken front behind it. The bytes up
+// to `at` are text, and the byte there is not ASCII.
 #[inline(always)]
 fn scan_wide(source: &[u8], at: usize) -> (usize, usize)
     requires some { at < length source.now }
@@ -43,8 +43,8 @@ fn scan_wide(source: &[u8], at: usize) -> (usize, usize)
     (at, 1)
 }
 
-// The lengths of the longest prefix that is text, and of the broken front behind it, where the
-// bytes up to `from` are text.
+// The lengths of the longest prefix that is text, and of the broken front behind it. The bytes up
+// to `from` are text.
 #[inline(always)]
 pub(crate) fn scan(source: &[u8], from: usize) -> (usize, usize)
     requires bound { from ≤ length source.now }
@@ -59,8 +59,8 @@ pub(crate) fn scan(source: &[u8], from: usize) -> (usize, usize)
     }
 }
 
-// The lengths of the longest prefix that is text, and of the broken front behind it, where the
-// bytes up to `from` are text. Reads sequence by sequence, which is faster for few bytes.
+// The lengths of the longest prefix that is text, and of the broken front behind it. The bytes up
+// to `from` are text. Reads sequence by sequence, which is faster for few bytes.
 #[inline(never)]
 fn scan_few(source: &[u8], from: usize) -> (usize, usize)
     requires bound { from ≤ length source.now }
@@ -116,9 +116,9 @@ fn quads_len(source: &[u8]) -> usize
     source.len() - rest.len()
 }
 
-// The lengths of the longest prefix that is text, and of the broken front behind it, where the
-// bytes up to `from` are text. Tries windows behind each sequence that is not ASCII, which is
-// faster for many bytes.
+// The lengths of the longest prefix that is text, and of the broken front behind it. The bytes up
+// to `from` are text. Tries windows behind each sequence that is not ASCII, which is faster for
+// many bytes.
 #[inline(never)]
 fn scan_many(source: &[u8], from: usize) -> (usize, usize)
     requires bound { from ≤ length source.now }
@@ -140,9 +140,9 @@ fn scan_many(source: &[u8], from: usize) -> (usize, usize)
     (at, 0)
 }
 
-// How far the text that reaches `from` goes on, as far as windows tell. Stops where fewer than 16
-// bytes are left, and at a window that is all ASCII or in which a byte may not follow the three
-// before it. Goes nowhere where fewer than three bytes stand before `from`.
+// A place up to which the bytes are text, found by windows; those up to `from` are text. Stops if
+// fewer than 16 bytes are left, and at a window that is all ASCII or in which a byte may not follow
+// the three before it. It is `from` if fewer than three bytes stand before that.
 #[inline(always)]
 fn text_end(source: &[u8], from: usize) -> usize
     requires bound { from ≤ length source.now }

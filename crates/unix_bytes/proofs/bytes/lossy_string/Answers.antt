@@ -8,7 +8,7 @@ use Rattle.unix_bytes.proofs.PrinterLemmas.{pushes_buffer}
 use Rattle.unix_bytes.proofs.bytes.lossy_string.Goals as goal
 use Rattle.unix_bytes.proofs.bytes.lossy_string.Goals.{In_ok-push_lossy}
 
--- the bytes are the text, then U+FFFD unless nothing is broken, then the lossy text of the rest
+-- the bytes are the text, then U+FFFD if bytes are broken, then the lossy text of the rest
 whole_bytes : (c : In_ok-push_lossy) → c.push_lossy.new.bytes.items
     ≡ (c.args.text.now ++ replacement_for c.args.broken.now) ++ lossy_of c.args.rest.now
 whole_bytes c =

@@ -1,7 +1,7 @@
 use Rattle.std.proofs.Common.{◌≡◌, ◌==◌, ℕ, ◌+◌, ◌-◌, ◌<◌, get_or, false}
 use Rattle.unix_bytes.proofs.search.first_place.Given as goal
 
--- the byte stands nowhere so far
+-- the byte stands at no place before `at`
 abbrev pub invariant-loop-at : goal.invariant-loop-at
 invariant-loop-at l = record {
   in_range : l.at < l.last + 16;

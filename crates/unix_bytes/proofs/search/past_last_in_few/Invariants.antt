@@ -1,7 +1,7 @@
 use Rattle.std.proofs.Common.{◌≡◌, ℕ, ◌<◌, ◌≤◌, ◌==◌, false, get_or}
 use Rattle.unix_bytes.proofs.search.past_last_in_few.Given as goal
 
--- the byte stands nowhere behind
+-- the byte stands at no place from `past` on, up to `len`
 abbrev pub invariant-loop-past : goal.invariant-loop-past
 invariant-loop-past l = record {
   in_range : l.past ≤ l.len;
