@@ -32,7 +32,7 @@ pub record Between (path : List ℕ) (walk : Walk) (s : List ℕ) : Type 0 where
   pub is : s ≡ slice_range path walk.front walk.back
   pub size : length s ≡ walk.back - walk.front
 
--- where a byte is left, the walk's places lie in the path, in order
+-- if a byte is left, the walk's places lie in the path, in order
 pub stands_between : (path : List ℕ) (walk : Walk) → 0 < length (bytes_left path walk)
     → Between path walk (bytes_left path walk)
 unfolding bytes_left
@@ -53,7 +53,7 @@ stands_between path walk some =
     let none : length (bytes_left path walk) ≡ 0 = ap (λ c. length (cond c s [])) e in
     absurd (omega (arith, some, none)))
 
--- where the walk's places lie in the path, in order, the bytes between them are left
+-- if the walk's places lie in the path, in order, the bytes between them are left
 pub bytes_left-in_range : (path : List ℕ) (walk : Walk) → walk.front ≤ walk.back
     → walk.back ≤ length path → bytes_left path walk ≡ slice_range path walk.front walk.back
 unfolding bytes_left
@@ -61,7 +61,7 @@ bytes_left-in_range path walk in_order in_range =
     ap₂ (λ a b. cond (a && b) (slice_range path walk.front walk.back) [])
     (le-leb walk.front walk.back in_order) (le-leb walk.back (length path) in_range)
 
--- where the walk's places are out of order or past the path's end, nothing is left
+-- if the walk's places are out of order or past the path's end, nothing is left
 pub bytes_left-outside : (path : List ℕ) (walk : Walk)
     → (walk.back < walk.front) ⊎ (length path < walk.back) → bytes_left path walk ≡ []
 unfolding bytes_left
@@ -114,7 +114,7 @@ kind_of-lt CurDir = omega arith
 kind_of-lt ParentDir = omega arith
 kind_of-lt (Normal name) = omega arith
 
--- a part of v's kind, at v's bytes, tells v
+-- a part that has v's kind and v's bytes has the value v
 pub part_value-is : (path : List ℕ) (part : Part) (v : Value) → part.kind ≡ kind_of v
     → part_bytes path part ≡ value_bytes v → part_value path part ≡ v
 part_value-is path part v kind bytes = ap₂ value_of_kind kind bytes ∙ value_of_kind-kind_of v
@@ -151,7 +151,7 @@ is_fresh path walk front back =
       in_range = in_range;
     }
 
--- the place of what is left, without what doesn't count at its end
+-- the place of what is left, without the filler at its end
 pub record HoldsLeft (path : List ℕ) (walk : Walk) (place : Place) : Type 0 where
   pub bytes : place_bytes path place ≡ rest (bytes_left path walk) 0 0
   pub same : values (place_bytes path place) ≡ values (bytes_left path walk)

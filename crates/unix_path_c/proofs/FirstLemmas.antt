@@ -14,7 +14,8 @@ use Rattle.unix_path.proofs.SpanLemmas.{length-rest_whole, parts_end-whole}
 use Rattle.unix_path.proofs.StemLemmas.{length-rest_whole-le}
 use Rattle.unix_path_c.proofs.FollowLemmas.{BeginsWith, Follow, begins_with}
 
--- v is the first value of s, whose parts end at n: its bytes begin s, and the m up to n are left
+-- v is the first value of s, whose parts end at n: v's bytes begin s, and behind v the last m of
+-- the n bytes are left
 pub record TakesInFront (s : List ℕ) (v : Value) (n m : ℕ) : Type 0 where
   pub is : parts s ≡ record { start = 0; end = length (value_bytes v); value = v }
       ∷ map (part_at (n - m)) (parts (rest s 1 0))

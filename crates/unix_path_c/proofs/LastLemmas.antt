@@ -20,7 +20,8 @@ use Rattle.unix_path.proofs.StemLemmas.{length-rest_whole-le}
 use Rattle.unix_path_c.proofs.FollowLemmas.{BeginsWith, Follow, Follow-parts, begins_with}
 use Rattle.unix_path_c.proofs.FollowLemmas.{ends_with}
 
--- v is the last value of s, whose parts end at n: its bytes end there, and the first m are left
+-- v is the last value of s, whose parts end at n: v's bytes end there, and before v the first m
+-- bytes are left
 pub record TakesBehind (s : List ℕ) (v : Value) (n m : ℕ) : Type 0 where
   pub is : parts s ≡ parts (rest s 0 1)
       ++ record { start = n - length (value_bytes v); end = n; value = v } ∷ []

@@ -81,7 +81,7 @@ module _ (s : List ℕ) (start : ℕ) (some : 0 < length s) (last : IsPlain s (l
       (λ _. ap (is_trailing s) {x = start - 1 - 1} {y = start - 2} (omega arith)
       ∙ is_trailing-plain s (start - 2) plain)
 
--- what ends in a part is its own rest after no parts
+-- a string that ends in a part is what is left of it before any step
 pub rest-ends : (s : List ℕ) → EndsInPart s → rest s 0 0 ≡ s
 rest-ends s ends =
     let all = take_all (length s) s (omega arith) in

@@ -25,7 +25,7 @@ use Rattle.unix_path_c.proofs.StretchLemmas.{Stands, stands, range_stands}
 use Rattle.unix_path_c.proofs.StretchLemmas.{stands-beginning, stands-end, EndsAt, nothing_ends}
 use Rattle.unix_path_c.proofs.StretchLemmas.{range_ends}
 
--- a parent begins its path
+-- a parent is a prefix of its path
 pub parent_stands : (s parent : List ℕ) → Some parent ≡ parent_of s → Stands s 0 parent
 parent_stands s parent e =
     let is = parent_of-some s parent (sym e) in
@@ -135,7 +135,7 @@ extension_ends s extension start n l named e =
           (stands-end s name start part.from (range_stands s start n (omega arith)) in_range));
     }
 
--- the last part stays the last while some are left
+-- the last part stays the last if fewer parts than all are dropped in front
 parts_end-drop : (k : ℕ) (ps : List Part) → k < length ps → parts_end (drop k ps) ≡ parts_end ps
 parts_end-drop zero ps l = refl
 parts_end-drop (suc k) [] l = absurd (omega arith)

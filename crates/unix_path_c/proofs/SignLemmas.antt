@@ -20,11 +20,11 @@ order_of-sign_of Less = refl
 order_of-sign_of Equal = refl
 order_of-sign_of Greater = refl
 
--- a sign says which order it is of
+-- an order is known from its sign
 order_from : (o : Ordering) (n : ℤ) → n ≡ sign_of o → o ≡ order_of n
 order_from o n e = sym (order_of-sign_of o) ∙ ap order_of (sym e)
 
--- the sign is -1 exactly where the first list comes before the second
+-- the sign is -1 exactly if the first list comes before the second
 pub sign-less : (v w : List Value) (n : ℤ) → n ≡ sign_of (values_cmp v w)
     → (n ≡ negsuc 0) ↔ IsBefore v w
 sign-less v w n e = (
@@ -32,7 +32,7 @@ sign-less v w n e = (
   λ before. e ∙ ap sign_of before,
 )
 
--- the sign is 0 exactly where the lists are equal
+-- the sign is 0 exactly if the lists are equal
 pub sign-equal : (v w : List Value) (n : ℤ) → n ≡ sign_of (values_cmp v w)
     → (n ≡ pos 0) ↔ (v ≡ w)
 sign-equal v w n e = (
@@ -41,7 +41,7 @@ sign-equal v w n e = (
       ∙ tied_itself values_cmp-total v),
 )
 
--- the sign is 1 exactly where the second list comes before the first
+-- the sign is 1 exactly if the second list comes before the first
 pub sign-greater : (v w : List Value) (n : ℤ) → n ≡ sign_of (values_cmp v w)
     → (n ≡ pos 1) ↔ IsBefore w v
 sign-greater v w n e = (

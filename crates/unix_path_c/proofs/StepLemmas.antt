@@ -12,7 +12,7 @@ use Rattle.unix_path_c.proofs.TakeFirstLemmas.{taken_in_front}
 use Rattle.unix_path_c.proofs.BytesLeftLemmas.{stands_between}
 use Rattle.unix_path_c.proofs.NameLemmas.{rest-ends}
 
--- what is left has a byte, if bytes that are the same aren't empty
+-- a byte is left if bytes equal to those left aren't empty
 pub some_left : {s left : List ℕ} → left ≡ s → eqb (length left) 0 ≡ false → 0 < length s
 some_left same some = subst (λ s. 0 < length s) same (omega (arith, eqb-false _ 0 some))
 

@@ -77,7 +77,7 @@ taken_in_front path old new part v e start size kind back front =
       );
     }
 
--- the whole rest of a string is that of any string that is the same
+-- equal strings have the same bytes left before any step
 pub rest-same : {s t left : List ℕ} → left ≡ rest t 0 0 → t ≡ s → left ≡ rest s 0 0
 rest-same is same = is ∙ ap (λ u. rest u 0 0) same
 
@@ -94,7 +94,7 @@ values-first : (s : List ℕ) (old new : Components) (x : Component)
 values-first s old new x whole h = sym (values-whole s (cursor_rest old) whole) ∙ h.item_is
     ∙ ap (λ u. value_of x ∷ values u) (cursor_rest-first s old new (Some x) whole h)
 
--- a fresh cursor that gives nothing stands for no byte
+-- a fresh cursor that gives no part in front is over the empty string
 pub nothing_first : (s : List ℕ) (old new : Components) → cursor_rest old ≡ rest s 0 0
     → GivesFirstPart old None new → s ≡ []
 nothing_first s old new whole h =

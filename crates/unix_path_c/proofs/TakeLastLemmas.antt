@@ -88,7 +88,7 @@ values-last : (s : List ℕ) (old new : Components) (x : Component)
 values-last s old new x whole h = sym (values-whole s (cursor_rest old) whole) ∙ h.item_is
     ∙ ap (λ u. values u ++ value_of x ∷ []) (cursor_rest-last s old new (Some x) whole h)
 
--- a fresh cursor that gives nothing stands for no byte
+-- a fresh cursor that gives no part behind is over the empty string
 pub nothing_last : (s : List ℕ) (old new : Components) → cursor_rest old ≡ rest s 0 0
     → GivesLastPart old None new → s ≡ []
 nothing_last s old new whole h =

@@ -18,6 +18,6 @@ place_bytes path place = take place.length (drop place.start path)
 unfoldable pub name_start_of : List ℕ → Option ℕ
 name_start_of s = option_map (λ name. last_start_of (parts s)) (file_name_of (values s))
 
--- the place where the last part ends, or 0 where there is none
+-- the place where the last part ends, or 0 if there is none
 abbrev pub last_end_of : List ℕ → ℕ
 last_end_of s = length (rest s 0 0)

@@ -8,8 +8,8 @@ use Rattle.unix_path_c.specs.Walks.{part_value, parts_left}
 use Rattle.unix_path_c.specs.declared.walks.Part.{Part}
 use Rattle.unix_path_c.specs.declared.walks.Walk.{Walk}
 
--- s ends where its last part ends, and its first part has `size` bytes and this kind; with what
--- doesn't count behind it that part takes `step` bytes
+-- s ends where its last part ends, and its first part has `size` bytes and this kind; that part and
+-- the filler behind it take `step` bytes
 pub record BeginsInPart (s : List ℕ) (size step kind : ℕ) : Type 0 where
   pub ends : EndsInPart s
   pub value : Value

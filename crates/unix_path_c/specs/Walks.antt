@@ -12,13 +12,13 @@ InOrder [] = Unit {0}
 InOrder (m ∷ []) = Unit {0}
 InOrder (m ∷ n ∷ places) = (m ≤ n) × InOrder (n ∷ places)
 
--- the bytes between the walk's places; none where these don't lie in the path, in order
+-- the bytes between the walk's places; none if these are out of order or past the path's end
 unfoldable pub bytes_left : List ℕ → Walk → List ℕ
 bytes_left path walk =
     if nat_le walk.front walk.back && nat_le walk.back (length path)
     then slice_range path walk.front walk.back else []
 
--- a part of a string that stands at this place of a path
+-- the part p of a string that stands at place `at` of a path, by its places in the path
 abbrev pub part_from : ℕ → paths.Part → paths.Part
 part_from at p = record { start = p.start + at; end = p.end + at; value = p.value }
 
@@ -47,11 +47,11 @@ part_end part = part.start + part.length
 abbrev pub part_bytes : List ℕ → Part → List ℕ
 part_bytes path part = take part.length (drop part.start path)
 
--- the value that the part tells
+-- the value of the part, by its kind and its bytes
 abbrev pub part_value : List ℕ → Part → Value
 part_value path part = value_of_kind part.kind (part_bytes path part)
 
--- the part, as the words of paths see it
+-- the part in the form that the specs of paths use
 abbrev pub part_in : List ℕ → Part → paths.Part
 part_in path part =
     record { start = part.start; end = part_end part; value = part_value path part }

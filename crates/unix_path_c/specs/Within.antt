@@ -1,4 +1,4 @@
--- What a call that allocates answers where it gives no path.
+-- What a call that allocates answers if it gives no path.
 use Rattle.std.specs.Prelude.{ℕ, ◌-◌, ◌<◌, ◌^◌}
 
 -- `SIZE_MAX - 1`: the request would leave its root

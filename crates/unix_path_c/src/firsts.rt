@@ -1,5 +1,5 @@
-//! A quick step over the first part that is left of a walk, where what is left ends in a part and
-//! begins with neither the root nor a `.`. After a walk's first step it does.
+//! A quick step over the first part that is left of a walk. It works if what is left ends in a
+//! part, and begins with neither the root nor a `.`; after a walk's first step that is so.
 ghost use Rattle.std.specs.Prelude.{◌≡◌, ℕ, ◌+◌, ◌<◌, ◌≤◌, true, false, IfSome};
 ghost use Rattle.std.specs.Prelude.{length, drop, take};
 ghost use Rattle.unix_path.specs.Parts.{inner_parts, Normal, ParentDir};
@@ -44,7 +44,7 @@ fn begins_with_parent(bytes: &[u8]) -> bool
         && (bytes.len() == 2 || bytes[2] == b'/')
 }
 
-// How many bytes stand before the next part, all of them slashes and pieces that are `.`.
+// How many bytes of filler stand before the next part: slashes, and pieces that are `.`.
 #[inline]
 fn idle_len(bytes: &[u8]) -> usize
     ensures in_range { result ≤ length bytes.now }
@@ -59,7 +59,8 @@ fn idle_len(bytes: &[u8]) -> usize
     len
 }
 
-// How many bytes a step over the first part takes, where that is `..`.
+// How many bytes a step over the first part takes, which is `..`: the part and the filler behind
+// it.
 #[inline]
 fn parent_step(bytes: &[u8]) -> usize
     requires { begins_with_parent bytes.now ≡ true }
@@ -68,7 +69,7 @@ fn parent_step(bytes: &[u8]) -> usize
     2 + idle_len(&bytes[2..])
 }
 
-// How many bytes the first part has, where that is a name, and how many a step over it takes.
+// How many bytes the first part has, which is a name, and how many a step over it takes.
 #[inline]
 fn name_step(bytes: &[u8]) -> (usize, usize)
     requires some { 0 < length bytes.now }

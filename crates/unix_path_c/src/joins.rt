@@ -12,11 +12,11 @@ use crate::places::last_end;
 use crate::writing::{gap_len, place, place_gap};
 use unix_path::{Component, Path};
 
-/// What `unix_path_with_extension` answers where the extension has a slash. No buffer has as many
+/// What `unix_path_with_extension` answers if the extension has a slash. No buffer has as many
 /// bytes.
 pub const SEPARATOR: usize = usize::MAX;
 
-// What an answer is made of: a beginning, a gap of one byte or none behind it, and an end.
+// What an answer is made of: a beginning, then a gap of one byte or none, and an end.
 #[derive(Clone, Copy)]
 struct Layout<'a> {
     beginning: &'a [u8],
@@ -89,7 +89,7 @@ fn join_layout<'a>(base: Path<'a>, path: Path<'a>) -> Layout<'a>
     }
 }
 
-// What stands before the file name, or all of the path where there is none.
+// What stands before the file name, or all of the path if there is none.
 #[inline]
 fn before_name(path: Path<'_>) -> Path<'_>
     ensures { result.bytes.now ≡ before_name_of path.entry.bytes.now }
@@ -151,7 +151,7 @@ fn extension_layout<'a>(path: Path<'a>, extension: &'a [u8]) -> Layout<'a>
 
 /// Writes the join of two paths to `out`, and gives how many bytes the join has.
 ///
-/// It is `path` alone where that begins with `/`; otherwise `base`, a `/` unless `base` is empty or
+/// It is `path` alone if that begins with `/`; otherwise `base`, a `/` unless `base` is empty or
 /// ends in one, and `path`. If `out` has room for all of it, the join stands at its beginning, and
 /// the bytes behind stay; else nothing is written. Lengths are in bytes. `out` overlaps neither
 /// path, and no pointer is null. Does not allocate. As Rust's `Path::join`.
@@ -167,8 +167,8 @@ pub extern "C" fn unix_path_join(base: &[u8], path: &[u8], out: &mut [u8]) -> us
 
 /// Writes the path with another file name to `out`, and gives how many bytes it has then.
 ///
-/// The name is joined to what stands before the file name, or to all of the path where there is
-/// none. It isn't looked into: one that begins with `/` replaces all bytes, and `..` stays. If
+/// The name is joined to what stands before the file name, or to all of the path if there is none.
+/// The name may be any bytes: one that begins with `/` replaces the whole path, and `..` stays. If
 /// `out` has room for all of it, the answer stands at its beginning, and the bytes behind stay;
 /// else nothing is written. Lengths are in bytes. `out` overlaps neither slice, and no pointer is
 /// null. Does not allocate. As Rust's `Path::with_file_name`.
@@ -186,12 +186,12 @@ pub extern "C" fn unix_path_with_file_name(path: &[u8], name: &[u8], out: &mut [
 /// Writes the path with another extension to `out`, and gives how many bytes it has then.
 ///
 /// The extension, with a dot before it unless it is empty, replaces what stands behind the stem of
-/// the file name; a path without a file name stays as it is. Where the extension has a `/`, the
-/// answer is `UNIX_PATH_SEPARATOR`, and nothing is written. If `out` has room for all of it, the
-/// answer stands at its beginning, and the bytes behind stay; else nothing is written. Lengths are
-/// in bytes. `out` overlaps neither slice, and no pointer is null. Does not allocate. As Rust's
-/// `Path::with_extension`, but that panics for a separator, and gives `..` for `..a` whatever the
-/// extension is.
+/// the file name; a path without a file name stays as it is. If the extension has a `/`, the answer
+/// is `UNIX_PATH_SEPARATOR`, and nothing is written. If `out` has room for all of it, the answer
+/// stands at its beginning, and the bytes behind stay; else nothing is written. Lengths are in
+/// bytes. `out` overlaps neither slice, and no pointer is null. Does not allocate. As Rust's
+/// `Path::with_extension`, except that Rust's panics for a separator, and gives `..` for `..a`
+/// whatever the extension is.
 ///
 /// `foo.rs/.` with the extension `txt` is `foo.txt`, of 7 bytes, and `..` stays `..`.
 #[unsafe(no_mangle)]

@@ -8,7 +8,7 @@ ghost use Rattle.path_runs.specs.Buffer.{buffer_after};
 use crate::writing::place_both;
 use unix_bytes::lossy::Utf8Lossy;
 
-// What is shown for a broken front: U+FFFD, or nothing where nothing is broken.
+// What is shown for these broken bytes: U+FFFD, or nothing if there are none.
 #[inline]
 fn replacement_for(broken: &[u8]) -> &'static [u8]
     ensures { result.now ≡ replacement_for broken.now }
@@ -49,11 +49,11 @@ fn write_lossy(path: &[u8], out: &mut [u8])
 
 /// Writes the lossy text of a path to `out`, and gives how many bytes it has.
 ///
-/// It is the path itself where that is UTF-8 (RFC 3629 section 4); otherwise U+FFFD, of 3 bytes,
+/// It is the path itself if that is UTF-8 (RFC 3629 section 4); otherwise U+FFFD, of 3 bytes,
 /// stands for each broken front. If `out` has room for all of it, it stands at the beginning of
-/// `out`, and the bytes behind stay; else nothing is written. Lengths are in bytes; one above
-/// `SIZE_MAX`, which only a path longer than a third of that can have, is answered as `SIZE_MAX`,
-/// and no buffer has room for it. `out` doesn't overlap the path, and no pointer is null. Does not
+/// `out`, and the bytes behind stay; else nothing is written. Lengths are in bytes. A length above
+/// `SIZE_MAX` is answered as `SIZE_MAX`; only a path longer than a third of that can have one, and
+/// no buffer has room for it. `out` doesn't overlap the path, and no pointer is null. Does not
 /// allocate. As Rust's `Path::to_string_lossy`.
 ///
 /// For the bytes 61 FF it is `a` and U+FFFD, of 4 bytes.

@@ -1,5 +1,5 @@
-//! A quick step over the last part that is left of a walk, where the bytes end in a name and a few
-//! of them tell what is left before it.
+//! A quick step over the last part that is left of a walk. It works if neither the last byte nor
+//! the one before the last slash is a slash or a dot: the last part is then a name.
 ghost use Rattle.std.specs.Prelude.{◌≡◌, ◌<◌, ◌==◌, false, length, IfSome, IsTrue};
 ghost use Rattle.unix_path.specs.Parts.{dot, slash};
 ghost use Rattle.unix_path_c.specs.Steps.{EndsInName};
@@ -15,8 +15,8 @@ fn is_plain(byte: u8) -> bool
     byte != b'/' && byte != b'.'
 }
 
-// Where what is left before the last part ends, and where the last part begins, which is a name.
-// `None` if the last byte, or the one before the last slash, is a slash or a dot.
+// Two places: where what is left before the last part ends, and where the last part, a name,
+// begins. `None` if the last byte, or the one before the last slash, is a slash or a dot.
 #[inline(always)]
 pub(crate) fn last_name(bytes: &[u8]) -> Option<(usize, usize)>
     requires { 0 < length bytes.now }

@@ -16,7 +16,7 @@ use unix_path::Path;
 ///
 /// Not in Rust's std, which gives slices.
 ///
-/// For `tmp` in `/tmp//foo/` it is from 1 on, of 3 bytes.
+/// That of `tmp` in `/tmp//foo/` starts at 1 and has 3 bytes.
 #[derive(Clone, Copy)]
 #[repr(C)]
 pub struct Place {
@@ -38,7 +38,7 @@ fn place_at_end(end: usize, bytes: &[u8]) -> Place
     }
 }
 
-// Where the last part ends.
+// Where the last part ends, or 0 if there is none.
 #[inline]
 pub(crate) fn last_end(path: Path<'_>) -> usize
     ensures { result ≡ last_end_of path.entry.bytes.now }
@@ -61,11 +61,11 @@ fn name_place(path: Path<'_>) -> Option<Place>
     Some(place_at_end(last_end(path), name.bytes))
 }
 
-/// Puts the place of the parent into `place`: the path without its last part. False where there is
-/// no part or the last is the root, and then `place` stays as it was.
+/// Puts the place of the parent into `place`: the path without its last part. False if there is no
+/// part or the last is the root, and then `place` stays as it was.
 ///
-/// The parent begins the path; that of a single name is empty. `path` isn't null, even where its
-/// length is 0. Does not allocate. As Rust's `Path::parent`.
+/// The parent is a prefix of the path; that of a single name is empty. `path` isn't null, even if
+/// its length is 0. Does not allocate. As Rust's `Path::parent`.
 ///
 /// For `/tmp//foo/.` it starts at 0 and has 4 bytes: `/tmp`.
 #[unsafe(no_mangle)]
@@ -86,10 +86,10 @@ pub extern "C" fn unix_path_parent(path: &[u8], place: &mut Place) -> bool
     true
 }
 
-/// Puts the place of the last part into `place`, if it is a name. False where there is no part or
-/// the last is the root, `.` or `..`, and then `place` stays as it was.
+/// Puts the place of the last part into `place`, if it is a name. False if there is no part or the
+/// last is the root, `.` or `..`, and then `place` stays as it was.
 ///
-/// `path` isn't null, even where its length is 0. Does not allocate. As Rust's `Path::file_name`.
+/// `path` isn't null, even if its length is 0. Does not allocate. As Rust's `Path::file_name`.
 ///
 /// For `a//foo.txt/.` it starts at 3 and has 7 bytes: `foo.txt`.
 #[unsafe(no_mangle)]
@@ -108,12 +108,12 @@ pub extern "C" fn unix_path_file_name(path: &[u8], place: &mut Place) -> bool
     true
 }
 
-/// Puts the place of the stem into `place`: the file name up to its last dot, or all of it where
-/// that is its first byte or there is no dot. False where there is no file name, and then `place`
+/// Puts the place of the stem into `place`: the file name up to its last dot, or all of it if that
+/// dot is its first byte, or if there is no dot. False if there is no file name, and then `place`
 /// stays as it was.
 ///
-/// The stem starts where the file name does. `path` isn't null, even where its length is 0. Does
-/// not allocate. As Rust's `Path::file_stem`.
+/// The stem starts where the file name does. `path` isn't null, even if its length is 0. Does not
+/// allocate. As Rust's `Path::file_stem`.
 ///
 /// For `a/foo.tar.gz` it starts at 2 and has 7 bytes: `foo.tar`.
 #[unsafe(no_mangle)]
@@ -139,12 +139,12 @@ pub extern "C" fn unix_path_file_stem(path: &[u8], place: &mut Place) -> bool
     true
 }
 
-/// Puts the place of the extension into `place`: the file name's bytes after its last dot. False
-/// where that dot is its first byte, or there is no dot or no file name, and then `place` stays as
-/// it was.
+/// Puts the place of the extension into `place`: the file name's bytes after its last dot. False if
+/// that dot is its first byte, or there is no dot or no file name, and then `place` stays as it
+/// was.
 ///
-/// The extension ends where the file name does; that of `foo.` is empty. `path` isn't null, even
-/// where its length is 0. Does not allocate. As Rust's `Path::extension`.
+/// The extension ends where the file name does; that of `foo.` is empty. `path` isn't null, even if
+/// its length is 0. Does not allocate. As Rust's `Path::extension`.
 ///
 /// For `a/foo.tar.gz` it starts at 10 and has 2 bytes: `gz`.
 #[unsafe(no_mangle)]
@@ -168,11 +168,11 @@ pub extern "C" fn unix_path_extension(path: &[u8], place: &mut Place) -> bool
 }
 
 /// Puts the place of the prefix into `place`: the file name up to its first dot after its first
-/// byte, or all of it where there is none. False where there is no file name, and then `place`
-/// stays as it was.
+/// byte, or all of it if there is none. False if there is no file name, and then `place` stays as
+/// it was.
 ///
-/// The prefix starts where the file name does. `path` isn't null, even where its length is 0. Does
-/// not allocate. As Rust's `Path::file_prefix`.
+/// The prefix starts where the file name does. `path` isn't null, even if its length is 0. Does not
+/// allocate. As Rust's `Path::file_prefix`.
 ///
 /// For `a/foo.tar.gz` it starts at 2 and has 3 bytes: `foo`.
 #[unsafe(no_mangle)]
@@ -199,12 +199,12 @@ pub extern "C" fn unix_path_file_prefix(path: &[u8], place: &mut Place) -> bool
 }
 
 /// Puts the place of what follows `base` into `place`, if the parts of `base` begin those of the
-/// path. False where they don't, and then `place` stays as it was.
+/// path. False if they don't, and then `place` stays as it was.
 ///
 /// Whole parts count: `foo/bar` has no prefix `foo/ba`. What follows ends where the path's last
-/// part does, and where all parts match it has no bytes. Neither pointer is null, even where its
-/// length is 0. Does not allocate. As Rust's `Path::strip_prefix`, whose empty slice may start
-/// further on: for `a/b/` by `a/b` at 4, and here at 3.
+/// part does. If all parts match, it has no bytes. Neither pointer is null, even if its length is
+/// 0. Does not allocate. As Rust's `Path::strip_prefix`, whose empty slice may start further on:
+/// for `a/b/` by `a/b` at 4, and here at 3.
 ///
 /// For `/a//b/` by `/a` it starts at 4 and has 1 byte: `b`.
 #[unsafe(no_mangle)]

@@ -41,7 +41,7 @@ pub extern "C" fn unix_path_ends_with(path: &[u8], child: &[u8]) -> bool
 }
 
 /// The place just after the last `/` of the longest string that both paths begin with, in bytes, or
-/// 0 where that string has none.
+/// 0 if that string has none.
 ///
 /// Both paths begin with the same bytes up to that place. Does not allocate. Not in Rust's std.
 ///
@@ -99,8 +99,8 @@ pub extern "C" fn unix_path_compare(a: &[u8], b: &[u8]) -> i32
 /// same.
 ///
 /// It is SipHash-1-3 with both keys 0, so whoever chooses the paths can find many of the same hash.
-/// Does not allocate. As Rust's `DefaultHasher::new()` fed a `Path`, but for what a path feeds,
-/// which is this library's own.
+/// Does not allocate. As Rust's `DefaultHasher::new()` fed a `Path`, except that what a path feeds
+/// is this library's own.
 ///
 /// For `a//b` and `a/b` it is the same.
 #[tactic(auto, unfolding(crate::specs::Queries::path_hash))]
@@ -127,10 +127,10 @@ pub extern "C" fn unix_path_is_utf8(path: &[u8]) -> bool
     Path::from_bytes(path).to_str().is_some()
 }
 
-/// Whether the path has a root or, read from the left, ever goes above where it starts: some of its
-/// first parts then hold more `..` than names, even if later names come down again.
+/// Whether the path has a root or, read from the left, ever goes above where it starts: up to some
+/// part it then has more `..` than names, even if later names come down again.
 ///
-/// It goes by names alone: where a part may be a link, only the system knows where `..` leads. Does
+/// It goes by names alone: if a part may be a link, only the system knows where `..` leads. Does
 /// not allocate. Not in Rust's std.
 ///
 /// For `a/../../root/x` and `/a` it is true; for `a/../..foo` it is false.

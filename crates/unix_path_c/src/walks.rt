@@ -32,7 +32,7 @@ pub struct Walk {
 
 /// A part of a path: where the part stands, and its kind. As Rust's `Component`.
 ///
-/// For `foo` in `/tmp//foo/` it is from 6 on, of 3 bytes and kind 3.
+/// That of `foo` in `/tmp//foo/` starts at 6, and has 3 bytes and the kind 3.
 #[derive(Clone, Copy)]
 #[repr(C)]
 pub struct Part {
@@ -117,10 +117,10 @@ fn take_last(path: &[u8], walk: &mut Walk, part: &mut Part) -> bool
     true
 }
 
-/// Begins a walk over the parts of a path: before it all parts are left.
+/// Begins a walk over the parts of a path, all of which are left.
 ///
 /// What is left stands between `front` and `back`, in bytes from the beginning of the path, and
-/// ends where the last part ends. What the walk was before doesn't matter. Does not allocate. As
+/// ends where the last part ends. What `walk` held before doesn't matter. Does not allocate. As
 /// Rust's `Path::components`.
 ///
 /// For `/tmp//foo/` the walk is from 0 to 9.
@@ -221,7 +221,7 @@ pub extern "C" fn unix_path_next_back(path: &[u8], walk: &mut Walk, part: &mut P
 
 /// Where the bytes that are left stand, from the first part not yet taken to the end of the last.
 ///
-/// The place is in bytes from the beginning of the path. Where no part is left its length is 0. No
+/// The place is in bytes from the beginning of the path. If no part is left, its length is 0. No
 /// byte outside the path is read, whatever the walk's places are. Does not allocate. As Rust's
 /// `Components::as_path`.
 ///

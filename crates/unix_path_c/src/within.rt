@@ -15,22 +15,23 @@ use path_within::within::join_within;
 use std::alloc::Global;
 use unix_path::Path;
 
-// The answer where a request would leave its root.
+// The answer if a request would leave its root.
 const ESCAPES: usize = usize::MAX - 1;
 
-// The answer where an allocation failed.
+// The answer if an allocation failed.
 const NO_MEMORY: usize = usize::MAX - 2;
 
-/// The path with each `..` taken against the name before it, and spelled canonically: `.` goes, and
-/// so does `..` behind the root. Without a root, `..` with no name before it stays in front.
+/// The path with each `..` dropped together with the name before it, in canonical spelling: `.` is
+/// dropped too, and so is `..` behind the root. Without a root, a `..` with no name before it stays
+/// in front.
 ///
 /// The answer is how many bytes that is. If `out` has room for them all they stand at its
 /// beginning, and what stood behind them stays; else nothing is written. `UNIX_PATH_NO_MEMORY` is
-/// the answer where an allocation fails, and then nothing is written either. `out` may not overlap
-/// the path.
+/// the answer if an allocation fails, and then nothing is written either. `out` may not overlap the
+/// path.
 ///
-/// It goes by names alone: where a part before a `..` may be a link, only the system knows where
-/// that `..` leads. An answer of no bytes stands for the current directory. Allocates once, as many
+/// It goes by names alone: if a part before a `..` may be a link, only the system knows where that
+/// `..` leads. An answer of no bytes stands for the current directory. Allocates once, as many
 /// bytes as the path has, or not at all for the empty path, and frees what it allocates. C passes
 /// nothing for `alloc`. Not in Rust's std; as Go's `path.Clean`, which gives `.` where this answers
 /// 0.
@@ -54,12 +55,12 @@ pub extern "C" fn unix_path_resolved(alloc: Global, path: &[u8], out: &mut [u8])
 ///
 /// The answer is how many bytes that is. If `out` has room for them all they stand at its
 /// beginning, and what stood behind them stays; else nothing is written. `UNIX_PATH_ESCAPES` is the
-/// answer exactly where the request climbs, before anything is allocated, and `UNIX_PATH_NO_MEMORY`
-/// where the allocation fails; then nothing is written either. `out` may overlap neither path.
+/// answer exactly if the request climbs, before anything is allocated, and `UNIX_PATH_NO_MEMORY` if
+/// the allocation fails; in both cases nothing is written. `out` may overlap neither path.
 ///
-/// It goes by names alone: where a part of the root or of the request may be a link, only the
-/// system knows where the join leads. Allocates once, one byte more than both paths have, and frees
-/// what it allocates. C passes nothing for `alloc`. Not in Rust's std.
+/// It goes by names alone: if a part of the root or of the request may be a link, only the system
+/// knows where the join leads. Allocates once, one byte more than both paths have, and frees what
+/// it allocates. C passes nothing for `alloc`. Not in Rust's std.
 ///
 /// `/srv/www` with `a/../b` is `/srv/www/b`, and with `a/../../x` it is refused.
 #[unsafe(no_mangle)]

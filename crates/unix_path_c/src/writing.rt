@@ -4,7 +4,7 @@ ghost use Rattle.unix_path.specs.Steps.{gap_bytes};
 ghost use Rattle.path_runs.specs.Buffer.{buffer_after};
 ghost use Rattle.path_runs.specs.Overlay.{overlay};
 
-// Puts the bytes at `at`, in place of as many.
+// Writes the bytes from `at` on, over as many bytes.
 #[inline]
 pub(crate) fn place(out: &mut [u8], at: usize, bytes: &[u8])
     requires { at + length bytes.now ≤ length out.old }
@@ -49,8 +49,8 @@ pub(crate) fn gap_len(gap: Option<u8>) -> usize
     }
 }
 
-// Puts both stretches, one behind the other, at `at`, in place of as many bytes, and gives where
-// they end.
+// Writes both stretches, one behind the other, from `at` on, over as many bytes. Gives where they
+// end.
 #[inline]
 pub(crate) fn place_both(out: &mut [u8], at: usize, first: &[u8], second: &[u8]) -> usize
     requires { at + length first.now + length second.now ≤ length out.old }

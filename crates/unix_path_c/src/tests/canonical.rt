@@ -34,7 +34,7 @@ static SPELLINGS: [(&'static [u8], &'static [u8]); 27] = [
     (b"/./a\xffb", b"/a\xffb"),
 ];
 
-// Whether the path's canonical spelling is written, where there is room for it.
+// Whether the path's canonical spelling is written, if there is room for it.
 fn is_spelled(row: &(&[u8], &[u8])) -> bool {
     is_answered(|out| unix_path_canonical(row.0, out), row.1.len(), row.1)
 }

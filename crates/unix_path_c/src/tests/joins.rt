@@ -63,7 +63,7 @@ static EXTENSIONS: [(&'static str, &'static str, &'static str); 19] = [
     ("/", "foo", "/"),
 ];
 
-// Whether the join is written, where there is room for it.
+// Whether the join is written, if there is room for it.
 fn is_joined(row: &(&str, &str, &str)) -> bool {
     let call = |out: &mut [u8]| unix_path_join(row.0.as_bytes(), row.1.as_bytes(), out);
     is_answered(call, row.2.len(), row.2.as_bytes())
@@ -76,7 +76,7 @@ fn joins_in_every_room(rt: HostRuntime) {
     }
 }
 
-// Whether the path with that file name is written, where there is room for it.
+// Whether the path with that file name is written, if there is room for it.
 fn has_name(row: &(&str, &str, &str)) -> bool {
     let call = |out: &mut [u8]| unix_path_with_file_name(row.0.as_bytes(), row.1.as_bytes(), out);
     is_answered(call, row.2.len(), row.2.as_bytes())
@@ -89,7 +89,7 @@ fn names_in_every_room(rt: HostRuntime) {
     }
 }
 
-// Whether the path with that extension is written, where there is room for it.
+// Whether the path with that extension is written, if there is room for it.
 fn has_extension(row: &(&str, &str, &str)) -> bool {
     let call = |out: &mut [u8]| unix_path_with_extension(row.0.as_bytes(), row.1.as_bytes(), out);
     is_answered(call, row.2.len(), row.2.as_bytes())

@@ -41,7 +41,7 @@ static TEXTS: [(&'static [u8], &'static [u8]); 19] = [
     (b"", b""),
 ];
 
-// Whether the path's lossy text is written, where there is room for it.
+// Whether the path's lossy text is written, if there is room for it.
 fn is_shown(row: &(&[u8], &[u8])) -> bool {
     is_answered(
         |out| unix_path_to_string_lossy(row.0, out),

@@ -21,7 +21,7 @@ static WALKS: [(&'static str, &'static [PartFields]); 8] = [
     ("/./", &[(0, 1, 0)]),
 ];
 
-// Places to begin and to end at, with which a walk over `PATH` begins and ends anywhere.
+// Places at which a walk over `PATH` may begin and end: in it, at its ends and past its end.
 static PLACES: [usize; 9] = [0, 1, 2, 4, 7, 10, 11, 1 << 63, usize::MAX];
 
 static PATH: &'static [u8] = b"/a/./..//b";
@@ -29,7 +29,8 @@ static PATH: &'static [u8] = b"/a/./..//b";
 // How many strings of at most 4 of three bytes there are.
 const SHORTER_STRINGS: usize = 121;
 
-// The strings over these letters, shorter ones first; the first `shorter` of them are made longer.
+// Strings over these letters, shorter ones first: the empty one, and the first `shorter` of them
+// with each letter behind them.
 fn strings_over(alloc: Global, letters: &[u8], shorter: usize) -> Result<Vec<Vec<u8>>, AllocError> {
     let mut strings = Vec::new(alloc);
     strings.push(Vec::new(alloc))?;
@@ -46,7 +47,7 @@ fn strings_over(alloc: Global, letters: &[u8], shorter: usize) -> Result<Vec<Vec
     Ok(strings)
 }
 
-// A plain reading: the parts of bytes that stand at this place, cut at every slash.
+// A plain reading: the parts of these bytes, which stand at this place, cut at every slash.
 fn parts_at(alloc: Global, at: usize, bytes: &[u8]) -> Result<Vec<PartFields>, AllocError> {
     let mut parts = Vec::new(alloc);
     let mut start = at;
@@ -186,8 +187,8 @@ fn all_short_paths(rt: HostRuntime) -> Result<(), Fail> {
     Ok(())
 }
 
-// Whether a walk between these places gives the parts that a plain reading finds there, or none
-// where no bytes lie between them.
+// Whether a walk between these places gives the parts that a plain reading finds there, or none if
+// no bytes lie between them.
 fn is_safe(alloc: Global, front: usize, back: usize) -> Result<bool, AllocError> {
     let parts = match PATH.get(front..back) {
         Some(left) => parts_at(alloc, front, left)?,

@@ -6,7 +6,7 @@ use std::alloc::Global;
 // The answer to a request that would leave its root.
 const ESCAPES: usize = usize::MAX - 1;
 
-// A path, and what it resolves to, as Go's `path.Clean` has it; where that gives `.`, nothing.
+// A path, and what it resolves to, as Go's `path.Clean` has it; if that gives `.`, nothing.
 static RESOLUTIONS: [(&'static str, &'static str); 12] = [
     ("", ""),
     (".", ""),
@@ -39,13 +39,13 @@ static JOINS: [(&'static str, &'static str, Option<&'static str>); 13] = [
     ("/", "a\0/../etc", Some("/etc")),
 ];
 
-// Whether what the path resolves to is written, where there is room for it.
+// Whether what the path resolves to is written, if there is room for it.
 fn is_resolved(alloc: Global, row: &(&str, &str)) -> bool {
     let call = |out: &mut [u8]| unix_path_resolved(alloc, row.0.as_bytes(), out);
     is_answered(call, row.1.len(), row.1.as_bytes())
 }
 
-// Whether the join is written, where there is room for it, or is refused if none is wanted.
+// Whether the join is written, if there is room for it, or is refused if none is wanted.
 fn is_joined(alloc: Global, row: &(&str, &str, Option<&str>)) -> bool {
     let call = |out: &mut [u8]| unix_path_join_within(
         alloc,

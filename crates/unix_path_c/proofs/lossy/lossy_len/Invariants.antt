@@ -5,7 +5,8 @@ use Rattle.unix_bytes.specs.Lossy.{lossy_of}
 use Rattle.unix_path_c.specs.SaturatedSize.{saturated_size}
 use Rattle.unix_path_c.proofs.lossy.lossy_len.Given as goal
 
--- the bytes counted and those that the chunks left show are the lossy text's, or both too many
+-- the bytes counted, and those that the chunks left show, are as many as the lossy text has, or
+-- both numbers are at least the greatest `usize`
 abbrev pub invariant-loop-chunk : goal.invariant-loop-chunk
 invariant-loop-chunk l =
     (goal.iterator-loop-chunk).can_next l.chunk-iterator
