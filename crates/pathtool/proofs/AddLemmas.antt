@@ -2,12 +2,12 @@
 use Rattle.std.proofs.Common.{◌≡◌, ℕ, List, ◌++◌, Result, Ok, Err, OnOk, ap, subst, append_assoc}
 use Rattle.std.proofs.Common.{◌∙◌}
 
--- where some bytes were added, bytes that are equal to them were added
+-- if some bytes were added, so were bytes that are equal to them
 pub adds : {T E : Type 0} (r : Result T E) (new old : List ℕ) {said bytes : List ℕ} → said ≡ bytes
     → OnOk r (new ≡ old ++ said) → OnOk r (new ≡ old ++ bytes)
 adds r new old e h = subst (λ bs. OnOk r (new ≡ old ++ bs)) e h
 
--- these bytes were added behind some that were added before
+-- if bytes were added, and then others, the bytes of both together were added
 pub adds_behind : {T E : Type 0} (r : Result T E) (new mid old front said : List ℕ)
     {bytes : List ℕ} → mid ≡ old ++ front → front ++ said ≡ bytes → OnOk r (new ≡ mid ++ said)
     → OnOk r (new ≡ old ++ bytes)

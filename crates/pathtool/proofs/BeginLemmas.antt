@@ -24,14 +24,14 @@ ends_with-Decides w v = let (to, from) = ends_is same_value-Decides w v _ refl i
   λ (before, e). from before (sym e),
 )
 
--- the answer where the base begins the path
+-- the answer if the base begins the path
 pub strip_answer-ok : (path base left : List ℕ) → Begins (values base) (values path)
     → left ≡ stripped_of path base → optional (Some left) ≡ strip_answer path base
 strip_answer-ok path base left h e =
     let test = (starts_with-Decides (values path) (values base)).1 h in
     rw test (ap (λ bytes. optional (Some bytes)) e)
 
--- the answer where the base doesn't begin the path
+-- the answer if the base doesn't begin the path
 pub strip_answer-refused : (path base : List ℕ) → (Begins (values base) (values path) → ⊥)
     → codes "prefix not found" ≡ strip_answer path base
 strip_answer-refused path base h = by_test (starts_with same_value (values path) (values base))

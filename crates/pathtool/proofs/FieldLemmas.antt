@@ -24,7 +24,7 @@ map_before : (done : List EditValue) (edit : EditValue) (o : Option (List EditVa
 map_before done edit None = refl
 map_before done edit (Some edits) = ap Some (sym (append_assoc done (edit ∷ []) edits))
 
--- the field at a place names an edit, or none
+-- one field more: the edit that it names, if any, before those that the fields behind it name
 edits_then-next : (done : List EditValue) (fields : List (List ℕ)) (n : ℕ) (field : List ℕ)
     (said : Option EditValue) → (n < length fields) × (field ≡ get_or fields n field)
     → said ≡ edit_of_field field → edits_then done (drop n fields)
@@ -36,7 +36,7 @@ edits_then-next done fields n field said h e =
     (edit_before said (edits_of_fields (drop (n + 1) fields))))
     (ap edit_of_field (sym h.1) ∙ sym e)
 
--- the edits so far, and then those that the fields left name, are all
+-- the edits so far, and then those that the fields left name, are the edits of all fields
 module _ {A : Type 0} (shown : A → List ℕ) (fields : List (List ℕ)) (taken : List A)
     (edits : List Edit) (so_far : edits_then (map edit_value edits) (drop (length taken) fields)
     ≡ edits_of_fields fields) where
@@ -77,7 +77,7 @@ module _ {A : Type 0} (shown : A → List ℕ) (fields : List (List ℕ)) (taken
 abbrev are_edits : List (List ℕ) → Bool
 are_edits fields = list_all (λ field. is_some (edit_of_field field)) fields
 
--- a field before others
+-- the edit of one field before those of others, if all of these are known
 edit_before-known : (edit : Option EditValue) (known : Bool) (edits : List EditValue)
     → edit_before edit (if known then Some edits else None)
     ≡ (if is_some edit && known then Some (cons_option edit edits) else None)

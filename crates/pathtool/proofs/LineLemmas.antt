@@ -56,7 +56,7 @@ pub output_of-nil : output_of [] ≡ []
 unfolding output_of
 output_of-nil = refl
 
--- where no input is left, what was written is all
+-- if no input is left, what was written is all
 pub output_of-done : (done left all : List ℕ) → left ≡ [] → done ++ output_of left ≡ all
     → done ≡ all
 output_of-done done left all none e =

@@ -31,7 +31,7 @@ is_not_first : (items : List (List ℕ)) (item : List ℕ) → false ≡ has_non
 is_not_first [] item = refl
 is_not_first (x ∷ items) item = refl
 
--- where a list was added, and then an item, the list with that item was added, and isn't empty
+-- if a list was added, and then an item, the list with that item was added, and it isn't empty
 pub adds_item : (items : List (List ℕ)) (item : List ℕ) {more : List (List ℕ)} (is_first : Bool)
     (old said new : List ℕ) → more ≡ items ++ item ∷ [] → is_first ≡ has_none items
     → said ≡ old ++ tabs items → new ≡ said ++ (if is_first then item else tab ∷ item)
@@ -43,7 +43,7 @@ adds_item items item is_first old said new all first so_far is = (
       ∙ ap (λ said. old ++ said) (sym (tabs-push items item) ∙ ap tabs (sym all)),
 )
 
--- where the names that an iterator gave up to its end were added, the list that it yields was
+-- if the names that an iterator gave up to its end were added, the list that it yields was added
 pub adds_list : {T E S : Type 0} (r : Result T E) (new old : List ℕ) {all : List (List ℕ)} {s : S}
     {steps : S → Option UnixStr → S → Type 0} → YieldsList steps (λ name. name.bytes.now) s all
     → OnOk r ((names : List UnixStr) × Drains steps s names

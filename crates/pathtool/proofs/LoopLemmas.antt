@@ -4,7 +4,7 @@ use Rattle.std.specs.Iterator.{Yields}
 use Rattle.std.proofs.lemmas.Iterator.{YieldsList}
 use Rattle.std.proofs.lemmas.Iterator.Consumers.{YieldsList-turn, YieldsList-end}
 
--- an item is the next of the list, and where none comes the list is at its end
+-- an item is the next of the list, and if none comes the list is at its end
 abbrev pub IsStep : {A B : Type 0} → (A → B) → List B → List A → Option A → Type 0
 IsStep v all xs (Some x) = (length xs < length all) × (v x ≡ get_or all (length xs) (v x))
 IsStep v all xs None = length xs ≡ length all

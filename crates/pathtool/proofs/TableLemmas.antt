@@ -15,7 +15,7 @@ use Rattle.pathtool.specs.Tables.{entries_with, under_answer}
 use Rattle.pathtool.specs.Steps.{row_spelling}
 use Rattle.pathtool.proofs.LoopLemmas.{IsStep}
 
--- these entries with the paths that are left are all
+-- these entries, with the paths that are left put in, are all entries
 module _ {A : Type 0} (shown : A → List ℕ) (paths : List (List ℕ)) (yielded : List A)
     (entries all : List (List Value × Unit {0}))
     (so_far : entries_with entries (drop (length yielded) paths) ≡ all) where

@@ -21,13 +21,13 @@ use Rattle.pathtool.specs.Fields.{tabs, bad_command}
 use Rattle.pathtool.specs.Steps.{tab, components_bytes, walked_items}
 use Rattle.pathtool.specs.Walks.{part_bytes, turn_of, walk_items, walk_answer}
 
--- the items behind the first one
+-- a list of two or more items is the first, a tab, and the list of the others
 tabs-cons : (item : List ℕ) (xs : List (List ℕ)) (y : List ℕ) (ys : List (List ℕ))
     → tabs (item ∷ (xs ++ y ∷ ys)) ≡ item ++ tab ∷ tabs (xs ++ y ∷ ys)
 tabs-cons item [] y ys = refl
 tabs-cons item (x ∷ xs) y ys = refl
 
--- the counts, and then the other items
+-- two counts with a tab behind each, and the list of the other items, are one list
 pub tabs-counted : (k m : List ℕ) (front : List (List ℕ)) (rest : List ℕ)
     (behind : List (List ℕ))
     → (((k ++ tab ∷ []) ++ m) ++ tab ∷ []) ++ tabs ((front ++ rest ∷ []) ++ behind)

@@ -14,7 +14,7 @@ tabs-words bytes [] = sym (append-nil bytes)
 tabs-words bytes (answer ∷ answers) =
     ap (λ more. bytes ++ tab ∷ more) (tabs-words (answer_word answer) answers)
 
--- bytes, a tab and the next word, before the words that follow, are the bytes before all of them
+-- bytes, a tab, the next word, and then the words that follow are the bytes and all words left
 pub words-push : (bytes : List ℕ) (answers : List Answer) (n : ℕ) (d : Answer) → n < length answers
     → ((bytes ++ tab ∷ []) ++ answer_word (get_or answers n d)) ++ words_of (drop (n + 1) answers)
     ≡ bytes ++ words_of (drop n answers)

@@ -28,7 +28,7 @@ AppendsBeginning-then a b c done next left all h (n, k) e =
     ∙ ap (λ l. done ++ l) (sym (append_assoc front (drop n next) left)
     ∙ ap (λ l. l ++ left) (take-append-drop n next)) ∙ e)
 
--- a fact that holds anyway holds where the result is an error
+-- a fact that holds anyway holds if the result is an error
 pub OnErr-of : {T E P : Type 0} (r : Result T E) → P → OnErr r P
 OnErr-of (Ok x) h = tt
 OnErr-of (Err e) h = h

@@ -38,12 +38,12 @@ strip_answer path base =
     then optional (Some (stripped_of path base))
     else codes "prefix not found"
 
--- the answer of a command of a path, if no field follows
+-- the answer of a command that takes one path, or `None` if a field follows the path
 abbrev pub path_answer : (List ℕ → List ℕ) → List ℕ → List (List ℕ) → Option (List ℕ)
 path_answer answer p [] = Some (answer p)
 path_answer answer p _ = None
 
--- the answer of a command of a path and one more field, if just one follows
+-- the answer of a command that takes a path and one more field, or `None` if not just one follows
 abbrev pub pair_answer : (List ℕ → List ℕ → List ℕ) → List ℕ → List (List ℕ) → Option (List ℕ)
 pair_answer answer p (q ∷ []) = Some (answer p q)
 pair_answer answer p _ = None
@@ -81,7 +81,7 @@ answer_to _ = bad_command
 unfoldable pub answer_of : List ℕ → List ℕ
 answer_of line = answer_to (fields_of line)
 
--- these stretches without the last, where that is empty
+-- these stretches, but without the last one if that is empty
 abbrev pub without_empty_last : List (List ℕ) → List (List ℕ)
 without_empty_last [] = []
 without_empty_last ([] ∷ []) = []

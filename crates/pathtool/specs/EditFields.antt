@@ -10,7 +10,7 @@ use Rattle.path_runs.specs.declared.edits.Answer.{Answer}
 use Rattle.path_runs.specs.declared.edits.Answer.TheVariants.{Plain, Flag, Separator}
 use Rattle.pathtool.specs.Fields.{tabs, bad_command, truth}
 
--- the edits by what their fields begin with, and what each is with the bytes behind that
+-- the edits by the names that their fields begin with, each as a function of the bytes behind it
 abbrev pub edits_by_name : List (List ℕ × (List ℕ → EditValue))
 edits_by_name =
     (codes "push:", Push)
@@ -20,7 +20,7 @@ edits_by_name =
     ∷ (codes "add:", AddExtension)
     ∷ (codes "clear", λ _. Clear) ∷ []
 
--- the edit that a field names, up to its first colon, unless it names none
+-- the edit that a field names up to its first colon, or `None` if it names none
 abbrev pub edit_of_field : List ℕ → Option EditValue
 edit_of_field field =
     let n = position_or_len (λ b. b == byte ":") field + 1 in
@@ -32,7 +32,7 @@ answer_word Plain = codes "ok"
 answer_word (Flag is_so) = truth is_so
 answer_word Separator = codes "separator"
 
--- the bytes after these edits, and then what each of them answers
+-- the path's bytes after these edits, and then the word that each edit answers
 abbrev pub edit_items : List ℕ → List EditValue → List (List ℕ)
 edit_items path edits = let done = edits_of path edits in done.0 ∷ map answer_word done.1
 

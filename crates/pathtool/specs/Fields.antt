@@ -1,4 +1,4 @@
--- Lines as fields between tabs, and what stands in several commands' answers.
+-- Lines as fields between tabs, and words that the answers of several commands use.
 use Rattle.std.specs.Prelude.{ℕ, Bool, ◌==◌, List, codes, if◌then◌else◌}
 use Rattle.std.specs.List.{slice_split, join_with_byte}
 use Rattle.std.specs.Str.{byte}
@@ -11,10 +11,10 @@ fields_of line = slice_split (λ b. b == byte "\t") line
 abbrev pub tabs : List (List ℕ) → List ℕ
 tabs items = join_with_byte (byte "\t") items
 
--- the answer where a command, an edit or a turn is unknown, or fields are missing or too many
+-- the answer if a command, an edit or a turn is unknown, or fields are missing or too many
 abbrev pub bad_command : List ℕ
 bad_command = codes "bad command"
 
--- the answer to whether something is so
+-- the word for a truth value
 abbrev pub truth : Bool → List ℕ
 truth is_so = if is_so then codes "true" else codes "false"

@@ -10,7 +10,7 @@ other_fields None = []
 other_fields (One field) = field.now ∷ []
 other_fields (Several fields) = fields_of fields.now
 
--- how many fields follow a path at least
+-- the least number of fields that follow a path
 abbrev pub least_count : Others → ℕ
 least_count None = 0
 least_count (One field) = 1

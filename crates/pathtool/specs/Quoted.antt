@@ -1,9 +1,9 @@
--- A path as compact JSON text (RFC 8259, section 7). Strings are quoted as the library says.
+-- A path as compact JSON text (RFC 8259, section 7). Strings are quoted by the crate `json`.
 use Rattle.std.specs.Prelude.{ℕ, List, codes, if◌then◌else◌}
 use Rattle.json.specs.Print.{quoted}
 use Rattle.unix_bytes.specs.Lossy.{is_text}
 
--- the bytes between quotes, where they are text
+-- the JSON string of the path if its bytes are text, and else the refusal
 abbrev pub json_of : List ℕ → List ℕ
 json_of path =
     if is_text path then quoted path else codes "path contains invalid UTF-8 characters"

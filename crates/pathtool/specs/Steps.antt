@@ -49,18 +49,18 @@ walked_items walked =
 abbrev pub row_spelling : Path × Bor (Unit {0}) → List ℕ
 row_spelling found = spelling_of (values found.0.bytes.now)
 
--- an edit before others, where both are known
+-- an edit before others, if both are known
 abbrev pub edit_before : Option EditValue → Option (List EditValue) → Option (List EditValue)
 edit_before (Some edit) (Some edits) = Some (edit ∷ edits)
 edit_before (Some edit) None = None
 edit_before None edits = None
 
--- the edits that these fields name, unless one names none
+-- the edits that these fields name, or `None` if one of them names none
 abbrev pub edits_of_fields : List (List ℕ) → Option (List EditValue)
 edits_of_fields [] = Some []
 edits_of_fields (field ∷ fields) = edit_before (edit_of_field field) (edits_of_fields fields)
 
--- the answer to edits by fields, where `None` says that a field names no edit
+-- the answer to these edits; `None` stands for fields of which one names no edit
 abbrev pub edited_answer : List ℕ → Option (List EditValue) → List ℕ
 edited_answer path None = bad_command
 edited_answer path (Some edits) = tabs (edit_items path edits)

@@ -8,13 +8,14 @@ use Rattle.path_runs.specs.Spelling.{spelling_of}
 use Rattle.path_table.specs.Table.{entries_under}
 use Rattle.pathtool.specs.Fields.{tabs}
 
--- these entries, and each of the paths at its values where these aren't there yet
+-- these entries, and a new one for each path whose values have none yet
 abbrev pub entries_with : List (List Value × Unit {0}) → List (List ℕ)
     → List (List Value × Unit {0})
 entries_with entries paths =
     fold (λ entries path. insert_entry values_cmp entries (values path) tt) entries paths
 
--- of the paths that start with the base what follows it, in order, each spelled the shortest way
+-- for each path that starts with the base, what follows it: in order, equal ones once, each in its
+-- shortest spelling
 abbrev pub under_answer : List ℕ → List (List ℕ) → List ℕ
 under_answer base paths =
     tabs (map (λ entry. spelling_of entry.0) (entries_under (values base) (entries_with [] paths)))

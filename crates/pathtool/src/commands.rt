@@ -68,8 +68,8 @@ fn push_answer(line: &[u8], answer: &mut Vec<u8>) -> Result<(), AllocError>
 /// Adds the answer to `line`, and a newline, to `answer`.
 ///
 /// An unknown command, one with too few or too many fields, or an unknown edit or turn is answered
-/// `bad command`. Allocates as the command's function does; if an allocation fails, the answer is
-/// left in any state. Not in Rust's std.
+/// `bad command`. Allocates as the command's function does; if an allocation fails, what `answer`
+/// holds is unspecified.
 ///
 /// `parts`, a tab and `a//b` is answered `a`, a tab and `b`.
 pub fn push_answer_line(line: &[u8], answer: &mut Vec<u8>) -> Result<(), AllocError>

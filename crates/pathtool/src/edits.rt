@@ -18,7 +18,8 @@ use unix_bytes::bytes::UnixStr;
 use unix_bytes::search::first_place;
 use unix_path::Path;
 
-// The edit whose field begins with that name, and which holds these bytes if any.
+// The edit with this name, such as `push:` or `pop`, and with these bytes if it takes any; `None`
+// if no edit has the name.
 fn edit_by_name<'a>(name: &[u8], held: &'a [u8]) -> Option<Edit<'a>>
     ensures { option_map edit_value result
         ≡ option_map (λ edit. edit held.now) (lookup (bytes_eq name.now) edits_by_name) }
@@ -41,7 +42,7 @@ fn edit_by_name<'a>(name: &[u8], held: &'a [u8]) -> Option<Edit<'a>>
     }
 }
 
-// The edit that a field names, unless it names none.
+// The edit that a field names, or `None` if it names none.
 fn edit_from(field: &[u8]) -> Option<Edit<'_>>
     ensures { option_map edit_value result ≡ edit_of_field field.now }
 {
@@ -53,7 +54,7 @@ fn edit_from(field: &[u8]) -> Option<Edit<'_>>
     }
 }
 
-// The edits that these fields name, unless one names none.
+// The edits that these fields name, or `None` if one of them names none.
 fn edits_from(alloc: Global, fields: &[u8]) -> Result<Option<Vec<Edit<'_>>>, AllocError>
     ensures { IfOk result (λ edits. option_map (λ es. map edit_value es.items) edits
         ≡ edits_of_fields (fields_of fields.now)) }
@@ -91,7 +92,7 @@ fn push_words(answers: &[Answer], answer: &mut Vec<u8>) -> Result<(), AllocError
     Ok(())
 }
 
-// Adds the bytes after these edits, and then what each of them answers.
+// Adds the path's bytes after these edits, and then what each edit answers.
 fn push_edited(path: Path<'_>, edits: &[Edit<'_>], answer: &mut Vec<u8>) -> Result<(), AllocError>
     ensures { OnOk result (answer.new.items ≡ answer.old.items
         ++ edited_answer path.entry.bytes.now (Some (map edit_value edits.now))) }
@@ -120,7 +121,7 @@ fn push_edits(path: Path<'_>, fields: &[u8], answer: &mut Vec<u8>) -> Result<(),
 ///
 /// Without fields it adds the path as it is; for a field that names no edit it adds `bad command`
 /// alone. Allocates for the edits, their answers, the path and for what it adds; if an allocation
-/// fails, the answer is left in any state. Not in Rust's std.
+/// fails, what `answer` holds is unspecified.
 ///
 /// `foo/.` and the fields `ext:bar` and `pop` add the empty path, a tab, `true`, a tab and `true`.
 pub fn push_edit(path: Path<'_>, others: Others<'_>, answer: &mut Vec<u8>) -> Result<(), AllocError>

@@ -10,9 +10,7 @@ ghost use Rattle.pathtool.specs.Others.{other_fields, least_count};
 use unix_bytes::search::first_place;
 use unix_path::Path;
 
-/// The bytes before the first `end`, and those after it where there is one.
-///
-/// Does not allocate. Not in Rust's std.
+/// The bytes before the first `end`, and those after it if there is one.
 ///
 /// `cut(b"a:b:c", b':')` is `a` and `b:c`.
 pub fn cut(bytes: &[u8], end: u8) -> (&[u8], Option<&[u8]>)
@@ -30,8 +28,6 @@ pub fn cut(bytes: &[u8], end: u8) -> (&[u8], Option<&[u8]>)
 
 /// The first line of an input that isn't empty, and what follows it.
 ///
-/// Does not allocate. Not in Rust's std.
-///
 /// `first_line(b"a\nb")` is `a` and `b`.
 #[tactic(auto, using(crate::proofs::LineLemmas::cut_lines, crate::proofs::LineLemmas::only_line))]
 pub fn first_line(input: &[u8]) -> (&[u8], &[u8])
@@ -46,7 +42,7 @@ pub fn first_line(input: &[u8]) -> (&[u8], &[u8])
     }
 }
 
-/// Whether a field is that name. Does not allocate. Not in Rust's std.
+/// Whether a field is this name.
 ///
 /// `is(b"pop", b"pop")` is true.
 pub fn is(field: &[u8], name: &[u8]) -> bool
@@ -55,7 +51,7 @@ pub fn is(field: &[u8], name: &[u8]) -> bool
     field == name
 }
 
-/// The fields of a line that follow its path. Not in Rust's std.
+/// The fields of a line that follow its path.
 ///
 /// For `pop` alone it is `One`, and for `pop`, a tab and `pop` it is `Several`.
 #[derive(Clone, Copy)]
@@ -68,7 +64,7 @@ pub enum Others<'a> {
     Several(&'a [u8]),
 }
 
-/// A line as its command, its path and the fields that follow. Not in Rust's std.
+/// A line as its command, its path and the fields that follow.
 ///
 /// For `parts`, a tab and `a` they are `parts`, `a` and no other field.
 #[derive(Clone, Copy)]
@@ -95,8 +91,6 @@ fn others_from(fields: &[u8]) -> Others<'_>
 }
 
 /// The command, the path and the other fields of a line, or `None` for a line without a tab.
-///
-/// Does not allocate. Not in Rust's std.
 ///
 /// For `join`, a tab, `a`, a tab and `b` they are `join`, `a` and the one field `b`.
 pub fn line_from(line: &[u8]) -> Option<Line<'_>>

@@ -42,8 +42,7 @@ pub(crate) fn push_list<'a, I: Iterator<Item = UnixStr<'a>>>(
 
 /// Adds the bytes of the path's parts to `answer`, as a list.
 ///
-/// Allocates only for what it adds; if the allocation fails, the answer is left in any state.
-/// Not in Rust's std.
+/// Allocates only for what it adds; if the allocation fails, what `answer` holds is unspecified.
 ///
 /// `a//b` adds `a`, a tab and `b`.
 pub fn push_parts(path: Path<'_>, answer: &mut Vec<u8>) -> Result<(), AllocError>
@@ -55,8 +54,7 @@ pub fn push_parts(path: Path<'_>, answer: &mut Vec<u8>) -> Result<(), AllocError
 
 /// Adds the bytes of the path's parts to `answer`, as a list with the last part first.
 ///
-/// Allocates only for what it adds; if the allocation fails, the answer is left in any state.
-/// Not in Rust's std.
+/// Allocates only for what it adds; if the allocation fails, what `answer` holds is unspecified.
 ///
 /// `a//b` adds `b`, a tab and `a`.
 pub fn push_back(path: Path<'_>, answer: &mut Vec<u8>) -> Result<(), AllocError>
@@ -68,8 +66,8 @@ pub fn push_back(path: Path<'_>, answer: &mut Vec<u8>) -> Result<(), AllocError>
 
 /// Adds the path and each path above it to `answer`, as a list.
 ///
-/// Allocates only for what it adds; if the allocation fails, the answer is left in any state.
-/// By Rust's `Path::ancestors`.
+/// Allocates only for what it adds; if the allocation fails, what `answer` holds is unspecified. By
+/// Rust's `Path::ancestors`.
 ///
 /// `/a` adds `/a`, a tab and `/`.
 pub fn push_ancestors(path: Path<'_>, answer: &mut Vec<u8>) -> Result<(), AllocError>

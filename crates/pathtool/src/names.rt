@@ -10,8 +10,7 @@ use unix_path::Path;
 
 /// Adds `+` and the bytes to `answer`, or `-` for `None`.
 ///
-/// Allocates only for what it adds; if the allocation fails, the answer is left in any state.
-/// Not in Rust's std.
+/// Allocates only for what it adds; if the allocation fails, what `answer` holds is unspecified.
 ///
 /// `Some` of `a` adds `+a`.
 pub fn push_optional(found: Option<UnixStr<'_>>, answer: &mut Vec<u8>) -> Result<(), AllocError>
@@ -29,8 +28,8 @@ pub fn push_optional(found: Option<UnixStr<'_>>, answer: &mut Vec<u8>) -> Result
 
 /// Adds `+` and the path's file name to `answer`, or `-` if it has none.
 ///
-/// Allocates only for what it adds; if the allocation fails, the answer is left in any state.
-/// By Rust's `Path::file_name`.
+/// Allocates only for what it adds; if the allocation fails, what `answer` holds is unspecified. By
+/// Rust's `Path::file_name`.
 ///
 /// `a/b.c` adds `+b.c`, and `..` adds `-`.
 #[tactic(auto, using(crate::proofs::SayLemmas::adds_found))]
@@ -43,8 +42,8 @@ pub fn push_name(path: Path<'_>, answer: &mut Vec<u8>) -> Result<(), AllocError>
 
 /// Adds `+` and the stem of the path's file name to `answer`, or `-` if it has none.
 ///
-/// Allocates only for what it adds; if the allocation fails, the answer is left in any state.
-/// By Rust's `Path::file_stem`.
+/// Allocates only for what it adds; if the allocation fails, what `answer` holds is unspecified. By
+/// Rust's `Path::file_stem`.
 ///
 /// `a/b.c` adds `+b`, and `..` adds `-`.
 #[tactic(auto, using(crate::proofs::SayLemmas::adds_found))]
@@ -57,8 +56,8 @@ pub fn push_stem(path: Path<'_>, answer: &mut Vec<u8>) -> Result<(), AllocError>
 
 /// Adds `+` and the extension of the path's file name to `answer`, or `-` if it has none.
 ///
-/// Allocates only for what it adds; if the allocation fails, the answer is left in any state.
-/// By Rust's `Path::extension`.
+/// Allocates only for what it adds; if the allocation fails, what `answer` holds is unspecified. By
+/// Rust's `Path::extension`.
 ///
 /// `a/b.c` adds `+c`, and `b` adds `-`.
 #[tactic(auto, using(crate::proofs::SayLemmas::adds_found))]

@@ -13,8 +13,8 @@ use unix_path::Path;
 
 /// Adds the bytes of `base`, joined with `path`, to `answer`.
 ///
-/// Allocates for the join and for what it adds; if an allocation fails, the answer is left in any
-/// state. By Rust's `Path::join`.
+/// Allocates for the join and for what it adds; if an allocation fails, what `answer` holds is
+/// unspecified. By Rust's `Path::join`.
 ///
 /// `a` with the empty path adds `a/`.
 pub fn push_join(base: Path<'_>, path: Path<'_>, answer: &mut Vec<u8>) -> Result<(), AllocError>
@@ -28,7 +28,7 @@ pub fn push_join(base: Path<'_>, path: Path<'_>, answer: &mut Vec<u8>) -> Result
 /// Adds the canonical spelling of the path to `answer`.
 ///
 /// The empty path adds nothing. Allocates for the spelling and for what it adds; if an allocation
-/// fails, the answer is left in any state. Not in Rust's std.
+/// fails, what `answer` holds is unspecified.
 ///
 /// `.//a/./b/` adds `./a/b`.
 pub fn push_canon(path: Path<'_>, answer: &mut Vec<u8>) -> Result<(), AllocError>
@@ -41,8 +41,8 @@ pub fn push_canon(path: Path<'_>, answer: &mut Vec<u8>) -> Result<(), AllocError
 
 /// Adds `+` and the path's parent to `answer`, or `-` if it has none.
 ///
-/// Allocates only for what it adds; if the allocation fails, the answer is left in any state.
-/// By Rust's `Path::parent`.
+/// Allocates only for what it adds; if the allocation fails, what `answer` holds is unspecified. By
+/// Rust's `Path::parent`.
 ///
 /// `a/b` adds `+a`, and `/` adds `-`.
 #[tactic(auto, using(crate::proofs::SayLemmas::adds_some, crate::proofs::SayLemmas::adds_none))]
@@ -59,8 +59,8 @@ pub fn push_parent(path: Path<'_>, answer: &mut Vec<u8>) -> Result<(), AllocErro
 /// Adds `+` and what is left of the path after the parts of `base` to `answer`, or `prefix not
 /// found` if the path's first parts aren't those of `base`.
 ///
-/// Allocates only for what it adds; if the allocation fails, the answer is left in any state.
-/// By Rust's `Path::strip_prefix`.
+/// Allocates only for what it adds; if the allocation fails, what `answer` holds is unspecified. By
+/// Rust's `Path::strip_prefix`.
 ///
 /// `a/b` with `a` adds `+b`.
 #[tactic(auto, using(crate::proofs::SayLemmas::adds_rest, crate::proofs::SayLemmas::adds_other))]

@@ -18,8 +18,7 @@ use std::io::{Read, Write};
 
 /// Why a run gave up.
 ///
-/// Displayed as `read error`, `write error` or `out of memory`, padded as text is. Not in Rust's
-/// std.
+/// Displayed as `read error`, `write error` or `out of memory`, padded as text is.
 ///
 /// `RunError::Memory` is displayed as `out of memory`.
 #[derive(Clone, Copy, Debug, PartialEq, Eq)]
@@ -134,8 +133,7 @@ fn write_answers<W: Write>(
 /// An input without lines is answered with nothing. Allocates for the input and for each answer; a
 /// failed allocation is `Memory`. A failed read is `Read`, and then nothing was written. A failed
 /// write or flush, or a write that takes none of some bytes, is `Write`. After `Write` or `Memory`
-/// a beginning of the output was written, and nothing if the input wasn't read to its end. Not in
-/// Rust's std.
+/// a beginning of the output was written, and nothing if the input wasn't read to its end.
 ///
 /// The input `parts`, a tab, `a//b` and a newline is answered `a`, a tab, `b` and a newline.
 pub fn run<R: Read, W: Write>(
@@ -152,7 +150,7 @@ pub fn run<R: Read, W: Write>(
     ensures ended { OnOk result (IsTrue (has_ended reader.new)) }
     ensures flushed { OnOk result (IsTrue (is_flushed writer.new)) }
 
-    // `Read` comes exactly where the reader has failed, and `Write` where the writer has.
+    // `Read` comes exactly if the reader has failed, and `Write` exactly if the writer has.
     ensures read { IsErrOf result RunError.Read ↔ IsTrue (has_failed reader.new) }
     ensures write { IsErrOf result RunError.Write ↔ IsTrue (has_failed writer.new) }
 

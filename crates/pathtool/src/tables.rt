@@ -74,11 +74,11 @@ fn push_all(paths: &[(Path<'_>, &())], answer: &mut Vec<u8>) -> Result<(), Alloc
     Ok(())
 }
 
-/// Adds to `answer` what follows `base` in those of the paths that start with it, as a list.
+/// Adds a list to `answer`: for each of the paths that starts with `base`, what follows `base`.
 ///
-/// The list is in the order of paths, has equal paths once, and each in its canonical spelling.
+/// The list is in the order of paths. It has equal paths once, each in its canonical spelling.
 /// Allocates for copies of `base` and of each path, for the table, the list and each spelling, and
-/// for what it adds; if an allocation fails, the answer is left in any state. Not in Rust's std.
+/// for what it adds; if an allocation fails, what `answer` holds is unspecified.
 ///
 /// `/a` with `/a.b` and `/a/b` adds `b`.
 pub fn push_under(

@@ -29,7 +29,7 @@ fn is_answered(alloc: Global, line: &[u8], answer: &[u8]) -> Result<bool, AllocE
     Ok(is_written(alloc, input.as_slice(), output.as_slice()))
 }
 
-// Each line is answered so.
+// Checks that each line has its answer.
 fn are_answered(rt: &impl Abort, alloc: Global, rows: &[(&[u8], &[u8])]) -> Result<(), Fail> {
     for (line, answer) in rows {
         assert!(rt; is_answered(alloc, line, answer)?, "at {line:?}");

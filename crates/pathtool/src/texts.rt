@@ -35,7 +35,7 @@ fn push_chunk(chunk: Utf8LossyChunk<'_>, answer: &mut Vec<u8>) -> Result<(), All
 /// Adds the path as text to `answer`, with U+FFFD for each broken front.
 ///
 /// Bytes that are UTF-8 are added as they are. Allocates only for what it adds; if the allocation
-/// fails, the answer is left in any state. By Rust's `Path::display`.
+/// fails, what `answer` holds is unspecified. By Rust's `Path::display`.
 ///
 /// The bytes 61 FF add `a` and U+FFFD.
 pub fn push_show(path: Path<'_>, answer: &mut Vec<u8>) -> Result<(), AllocError>
@@ -56,7 +56,7 @@ fn json_text(alloc: Global, path: Path<'_>) -> Result<String, JsonError>
     value.to_string(alloc).map_err(JsonError::Memory)
 }
 
-// Adds that the bytes aren't UTF-8.
+// Adds the refusal of a path whose bytes aren't UTF-8.
 fn push_refusal(answer: &mut Vec<u8>) -> Result<(), AllocError>
     ensures { OnOk result (answer.new.items
         ≡ answer.old.items ++ codes "path contains invalid UTF-8 characters") }
@@ -64,10 +64,10 @@ fn push_refusal(answer: &mut Vec<u8>) -> Result<(), AllocError>
     answer.extend_from_slice(b"path contains invalid UTF-8 characters")
 }
 
-/// Adds the path as a JSON string to `answer`, or that its bytes aren't UTF-8.
+/// Adds the path as a JSON string to `answer`, or a refusal if its bytes aren't UTF-8.
 ///
 /// The string is compact, by RFC 8259, section 7. Allocates for a JSON value, for its text and for
-/// what it adds; if an allocation fails, the answer is left in any state. Not in Rust's std.
+/// what it adds; if an allocation fails, what `answer` holds is unspecified.
 ///
 /// `a"b` adds `"a\"b"`, and FF adds `path contains invalid UTF-8 characters`.
 #[tactic(auto, using(crate::proofs::SayLemmas::adds_quoted))]
@@ -77,7 +77,7 @@ pub fn push_json(path: Path<'_>, answer: &mut Vec<u8>) -> Result<(), AllocError>
     match json_text(*answer.allocator(), path) {
         Ok(text) => answer.extend_from_slice(text.as_bytes()),
         Err(JsonError::NotUtf8) => push_refusal(answer),
-        // What else `to_json` can answer is that an allocation failed.
+        // Any other error is a failed allocation.
         Err(_) => Err(AllocError),
     }
 }

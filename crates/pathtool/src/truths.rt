@@ -1,4 +1,4 @@
-//! Answers that are a truth or an order.
+//! Answers that are `true` or `false`, or an order.
 ghost use Rattle.std.specs.Prelude.{◌≡◌, ◌++◌, OnOk};
 ghost use Rattle.std.specs.List.{starts_with, ends_with};
 ghost use Rattle.unix_path.specs.Parts.{values};
@@ -21,10 +21,10 @@ fn push_truth(is_so: bool, answer: &mut Vec<u8>) -> Result<(), AllocError>
     }
 }
 
-/// Adds to `answer` whether the path's first parts are those of `base`.
+/// Adds `true` to `answer` if the path's first parts are those of `base`, and else `false`.
 ///
-/// Allocates only for what it adds; if the allocation fails, the answer is left in any state.
-/// By Rust's `Path::starts_with`.
+/// Allocates only for what it adds; if the allocation fails, what `answer` holds is unspecified. By
+/// Rust's `Path::starts_with`.
 ///
 /// `a/b` with `a` adds `true`.
 #[tactic(auto, using(crate::proofs::SayLemmas::adds_starts))]
@@ -36,10 +36,10 @@ pub fn push_starts(path: Path<'_>, base: Path<'_>, answer: &mut Vec<u8>) -> Resu
     push_truth(path.starts_with(base), answer)
 }
 
-/// Adds to `answer` whether the path's last parts are those of `child`.
+/// Adds `true` to `answer` if the path's last parts are those of `child`, and else `false`.
 ///
-/// Allocates only for what it adds; if the allocation fails, the answer is left in any state.
-/// By Rust's `Path::ends_with`.
+/// Allocates only for what it adds; if the allocation fails, what `answer` holds is unspecified. By
+/// Rust's `Path::ends_with`.
 ///
 /// `a/b` with `b` adds `true`.
 #[tactic(auto, using(crate::proofs::SayLemmas::adds_ends))]
@@ -53,8 +53,8 @@ pub fn push_ends(path: Path<'_>, child: Path<'_>, answer: &mut Vec<u8>) -> Resul
 
 /// Adds the order of the two paths to `answer`: `less`, `equal` or `greater`.
 ///
-/// Allocates only for what it adds; if the allocation fails, the answer is left in any state.
-/// By Rust's `Path::cmp`.
+/// Allocates only for what it adds; if the allocation fails, what `answer` holds is unspecified. By
+/// Rust's `Path::cmp`.
 ///
 /// `a` with `b` adds `less`.
 pub fn push_order(path: Path<'_>, other: Path<'_>, answer: &mut Vec<u8>) -> Result<(), AllocError>

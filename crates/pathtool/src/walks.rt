@@ -61,7 +61,7 @@ fn push_counts(walked: &Walked<'_>, answer: &mut Vec<u8>) -> Result<(), AllocErr
     Ok(())
 }
 
-// Adds what a walk took, and what it left between.
+// Adds what a walk took at each end, and what it left in between.
 fn push_walked(walked: &Walked<'_>, answer: &mut Vec<u8>) -> Result<(), AllocError>
     ensures { OnOk result (answer.new.items
         ≡ answer.old.items ++ tabs (walked_items walked.now)) }
@@ -77,10 +77,11 @@ fn push_walked(walked: &Walked<'_>, answer: &mut Vec<u8>) -> Result<(), AllocErr
 
 /// Adds what the turns take of the path to `answer`, as a list.
 ///
-/// The letters are `f` for a part in front and `b` for one behind; others add `bad command`. The
-/// list has the counts of parts in front and behind, the parts in front, the rest, and the parts
-/// behind in the order of taking. Allocates for the turns, the parts, the text of each count and
-/// for what it adds; if an allocation fails, the answer is left in any state. Not in Rust's std.
+/// The letter `f` takes a part in front, and `b` takes one behind. If there is any other letter, it
+/// adds `bad command`. The list has the counts of parts in front and behind, the parts in front,
+/// the rest, and the parts behind in the order of taking. Allocates for the turns, the parts, the
+/// text of each count and for what it adds; if an allocation fails, what `answer` holds is
+/// unspecified.
 ///
 /// `//` with `bf` adds `0`, `1`, the empty path and `/`, with tabs between them.
 pub fn push_walk(path: Path<'_>, letters: &[u8], answer: &mut Vec<u8>) -> Result<(), AllocError>

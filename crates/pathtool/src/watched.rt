@@ -10,9 +10,9 @@ use std::io::{Read, Write};
 
 /// A reader or a writer, and whether it has failed, has ended or is flushed.
 ///
-/// It has failed from the first call on that failed, or write of some bytes that took none. It has
-/// ended from the first read on that had room for a byte and found none. It is flushed from a flush
-/// that was Ok to the next write or flush. Not in Rust's std.
+/// It has failed once a call has failed, or a write of some bytes took none. It has ended once a
+/// read with room for a byte found none. It is flushed after a flush that was Ok, until the next
+/// write or flush.
 ///
 /// `Watched::new(b"a".as_slice())` has ended after two reads.
 #[derive(Drop)]
@@ -25,8 +25,6 @@ pub struct Watched<T> {
 
 impl<T> Watched<T> {
     /// Watches `inner`, as one that hasn't failed, hasn't ended and isn't flushed.
-    ///
-    /// Does not allocate. Not in Rust's std.
     ///
     /// `Watched::new(reader).has_failed()` is false.
     pub fn new(inner: T) -> Watched<T>
@@ -45,8 +43,6 @@ impl<T> Watched<T> {
 
     /// Whether a call has failed, or a write of some bytes took none.
     ///
-    /// Does not allocate. Not in Rust's std.
-    ///
     /// It is true after a `flush` that failed.
     pub fn has_failed(&self) -> bool
         ensures { result ≡ has_failed self.now }
@@ -56,8 +52,6 @@ impl<T> Watched<T> {
     }
 
     /// Whether a read with room for a byte found none.
-    ///
-    /// Does not allocate. Not in Rust's std.
     ///
     /// It is false after a read into an empty slice.
     pub fn has_ended(&self) -> bool
@@ -69,8 +63,6 @@ impl<T> Watched<T> {
 
     /// Whether a flush was Ok, and nothing was written or flushed since.
     ///
-    /// Does not allocate. Not in Rust's std.
-    ///
     /// It is false after a `write`.
     pub fn is_flushed(&self) -> bool
         ensures { result ≡ is_flushed self.now }
@@ -80,8 +72,6 @@ impl<T> Watched<T> {
     }
 
     /// Gives back the reader or the writer.
-    ///
-    /// Does not allocate. Not in Rust's std.
     ///
     /// `Watched::new(7).into_inner()` is 7.
     pub fn into_inner(self) -> T

@@ -41,7 +41,7 @@ fn paths_are_shown(rt: HostRuntime) -> Result<(), Fail> {
     Ok(())
 }
 
-// Paths, and the JSON strings of them, or the message where a path isn't text.
+// Paths, and the JSON strings of them, or the message if a path isn't text.
 static JSON_STRINGS: [(&[u8], &str); 13] = [
     (b"", "\"\""),
     (b"a//b", "\"a//b\""),

@@ -6,7 +6,7 @@ use std::io;
 use std::io::{Read, Write};
 use std::test::Fail;
 
-// Gives a newline a call until `left` were given, and fails at its call number `faulty` alone.
+// Gives a newline at each call until `left` of them are given. Fails at call number `faulty` alone.
 #[derive(Drop)]
 struct OnceFailingReader {
     left: u32,
@@ -39,7 +39,7 @@ enum Fault {
     None,
 }
 
-// Takes one byte a call, and meets its fault at its write or flush number `faulty` alone.
+// Takes one byte at each call. Meets its fault at write or flush number `faulty` alone.
 #[derive(Drop)]
 struct OnceFaultyWriter {
     writes: u32,
@@ -84,7 +84,7 @@ fn faulty_writer(alloc: Global, fault: Fault, faulty: u32) -> OnceFaultyWriter {
     }
 }
 
-// A reader of so many newlines that fails at its call number `faulty`, and has not been called.
+// A reader of `left` newlines that fails at call number `faulty`, and has not been called yet.
 fn failing_reader(left: u32, faulty: u32) -> OnceFailingReader {
     OnceFailingReader {
         left,
@@ -112,8 +112,8 @@ fn one_failed_read_ends_the_run(rt: HostRuntime) {
     }
 }
 
-// Whether a run over two lines ends as this fault of its writer has it: with `Write`, or with Ok
-// for no fault, the input read, this output written, and so many writes and flushes made.
+// Whether a run over two lines, with this fault of its writer, ends in `Write`, or in Ok for no
+// fault; and has then read the input, written this output, and made so many writes and flushes.
 fn is_ended(alloc: Global, fault: Fault, faulty: u32, output: &[u8], calls: (u32, u32)) -> bool {
     let mut reader = Watched::new(b"parts\ta/b\nparts\t./c\n".as_slice());
     let mut writer = Watched::new(faulty_writer(alloc, fault, faulty));

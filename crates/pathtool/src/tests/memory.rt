@@ -14,8 +14,8 @@ const OUTPUT: &[u8] = b"/\tfoo\tbar\n2\t2\t/\ta\tb\tc\t..\nprefix not found\n\
 // What stands under a base, of three paths of which two are equal.
 const UNDER: &[u8] = b"under\t/a\t/a//b/./c\t/d\t/a/b/c\n";
 
-// The whole output is written; where tools/check_requests refuses a request for memory, a beginning
-// of it.
+// Checks that the whole output is written, or a beginning of it if `tools/check_requests` refuses a
+// request for memory.
 fn check_answers(alloc: Global, input: &[u8], output: &[u8]) -> Result<(), Fail> {
     let mut reader = Watched::new(input);
     let mut writer = Watched::new(Vec::<u8>::with_capacity(alloc, 128)?);

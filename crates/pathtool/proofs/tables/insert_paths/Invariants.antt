@@ -4,7 +4,7 @@ use Rattle.pathtool.specs.Fields.{fields_of}
 use Rattle.pathtool.specs.Tables.{entries_with}
 use Rattle.pathtool.proofs.tables.insert_paths.Given as goal
 
--- what the table holds, with the fields that are left, is all
+-- the table's entries, with the fields that are left put in, are those of all fields
 abbrev pub invariant-loop-bytes : goal.invariant-loop-bytes
 invariant-loop-bytes l =
     let fields = fields_of l.fields in

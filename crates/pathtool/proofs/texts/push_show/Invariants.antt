@@ -4,7 +4,7 @@ use Rattle.unix_bytes.specs.Lossy.{lossy_of}
 use Rattle.unix_bytes.specs.Chunks.{shown_chunk, chunks_left}
 use Rattle.pathtool.proofs.texts.push_show.Given as goal
 
--- the answer so far, and then what the chunks left say, is the whole
+-- the answer so far, and then the chunks left as they are shown, are the whole
 abbrev pub invariant-loop-chunk : goal.invariant-loop-chunk
 invariant-loop-chunk l =
     l.answer.items ++ flat_map shown_chunk (chunks_left l.chunk-iterator)
