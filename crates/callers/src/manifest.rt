@@ -60,8 +60,8 @@ pub fn normalise(alloc: Global, paths: &[Path<'_>]) -> Result<BTreeSet<PathBuf>,
     ensures same { IfOk result (λ set. (p : PathBuf) →
         contains paths_cmp set p ≡ list_any (is_same p) paths.now) }
 {
-    // A search in a node of the set goes up from the node's first path, so a path that comes before
-    // all others finds its place soonest. So a list in order is added from its end.
+    // A search in a node of the set goes up from the node's first path: a path that comes before
+    // all others finds its place soonest. A list in order is therefore added from its end.
     if paths.first() < paths.last() {
         from_last(alloc, paths)
     } else {

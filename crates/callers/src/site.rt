@@ -14,10 +14,10 @@ use unix_path::{Path, PathBuf};
 
 /// The file that a URL's path names: what follows the prefix, joined within the document root.
 ///
-/// `None` if the path doesn't start with the prefix. Nothing is decoded, and each `..` is taken
-/// against the name before it. The error is `Escapes` exactly if what follows the prefix climbs,
-/// before anything is allocated, and `Memory` if the allocation fails. Allocates once, or not at
-/// all for `None`. Not in Rust's std.
+/// `None` if the path doesn't start with the prefix. Nothing is decoded, and each `..` is dropped
+/// together with the name before it. The error is `Escapes` exactly if what follows the prefix
+/// climbs, before anything is allocated, and `Memory` if the allocation fails. Allocates once, or
+/// not at all for `None`. Not in Rust's std.
 ///
 /// With the prefix `/static` and the root `/srv/www`, for `/static/css/../a.css` it is
 /// `/srv/www/a.css`; `/static/../a` is refused.

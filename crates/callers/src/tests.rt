@@ -33,8 +33,8 @@ static URLS: [(&'static str, Option<&'static str>); 5] = [
     ("/static/../a", None),
 ];
 
-// A URL's path, and its file with the prefix `/static` and the root `/srv/./www`, with `..` taken
-// against the name before it; `refused` where it would leave the root.
+// A URL's path, and its file with the prefix `/static` and the root `/srv/./www`, with each `..`
+// dropped together with the name before it; `refused` if it would leave the root.
 static FILES: [(&'static str, Option<&'static str>); 7] = [
     ("/static/css/../a.css", Some("/srv/www/a.css")),
     ("/static//x/./y/", Some("/srv/www/x/y")),
@@ -54,7 +54,7 @@ fn is(found: Option<PathBuf>, want: Option<&str>) -> bool {
     }
 }
 
-// Whether the row's join is found, and the request told to stay below exactly if there is one.
+// Whether the row's join is found, and `stays_below` is true exactly if the row has a join.
 fn is_joined(alloc: Global, row: &(&str, &str, Option<&str>)) -> Result<bool, AllocError> {
     let request = Path::from_text(row.1);
     let is_told = stays_below(request) == row.2.is_some();
@@ -112,8 +112,8 @@ static MANIFEST: [&str; 6] = ["b", "a//b/.", "./a", "a.b", "a/b", "b/"];
 
 static NORMALISED: [&str; 4] = ["./a", "a/b", "a.b", "b"];
 
-// Whether the manifest, its paths so many times over, is normalised to these paths, spelled as they
-// are and in this order.
+// Whether the manifest, with its paths repeated `times` times, is normalised to `want`: these
+// bytes, in this order.
 fn is_normalised(alloc: Global, times: usize, want: &[&str]) -> Result<bool, AllocError> {
     let mut paths = Vec::new(alloc);
     for _ in 0..times {
@@ -158,7 +158,8 @@ fn letters(alloc: Global, falls: bool) -> Result<Vec<PathBuf>, AllocError> {
     Ok(paths)
 }
 
-// Whether these paths, and a last one before all of them or none, are normalised to `want`.
+// Whether these paths are normalised to `want`. If there is a `last`, it is added to them, and
+// comes before all of them in the set.
 fn are_ordered(
     alloc: Global,
     given: &[PathBuf],
@@ -183,7 +184,7 @@ fn listings_are_ordered(rt: HostRuntime) -> Result<(), Fail> {
     let falling = letters(rt.alloc(), true)?;
     assert!(rt; are_ordered(rt.alloc(), &rising, None, &rising)?);
     assert!(rt; are_ordered(rt.alloc(), &falling, None, &rising)?);
-    // With it the first path comes behind the last, and the list still rises up to that.
+    // With `/` as the last path, the first comes behind the last, although the list rises up to it.
     assert!(rt; are_ordered(rt.alloc(), &rising, Some(Path::from_text("/")), &rising)?);
     Ok(())
 }

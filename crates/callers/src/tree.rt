@@ -1,4 +1,4 @@
-//! Trees of files in memory: values by path, where equal paths are one key.
+//! Trees of files in memory: values by path. Equal paths are one key.
 ghost use Rattle.std.specs.Prelude.{◌≡◌, IfOk, OnOk, OnErr, []};
 ghost use Rattle.std.specs.BTreeMap.{insert_entry, is_at};
 ghost use Rattle.std.specs.Map.{lookup, remove_entry};
@@ -13,7 +13,7 @@ use std::alloc::{AllocError, Global};
 use std::collections::BTreeMap;
 use unix_path::{Path, PathBuf};
 
-/// Values by path, where equal paths are one key.
+/// Values by path. Equal paths are one key.
 ///
 /// A tree with 1 at `a/b` has 1 at `a//b` too. Not in Rust's std; as a `BTreeMap<PathBuf, V>`.
 #[derive(Drop)]
