@@ -1,12 +1,12 @@
-//! Paths that are made of others, in a buffer of the caller.
+//! Paths that are made of others, in a buffer that the caller passes.
 //!
-//! The answer stands at the beginning of the buffer, and the bytes behind it stay as they were.
-//! Where a call fails nothing is written.
+//! The answer stands at the beginning of the buffer, and the bytes behind it stay as they were. If
+//! a call fails, nothing is written.
 use crate::error::Error;
 use crate::ffi::{Make, MakeOfTwo};
 
-/// `path` joined to `base`: `path` alone where it has a root; else `base` and `path`, with a slash
-/// between them where one is missing.
+/// `path` joined to `base`: `path` alone if it has a root; else `base` and `path`, with a slash
+/// between them if one is missing.
 ///
 /// Fails only with `Short`. Does not allocate. As Rust's `Path::join`.
 ///
@@ -20,7 +20,7 @@ pub fn join<'o>(base: &[u8], path: &[u8], out: &'o mut [u8]) -> Result<&'o [u8],
     MakeOfTwo::JOIN.write(base, path, out)
 }
 
-/// The path with `name` in place of its file name, or joined with it where it has none.
+/// The path with `name` in place of its file name, or with `name` joined to it if it has none.
 ///
 /// Fails only with `Short`. Does not allocate. As Rust's `Path::with_file_name`.
 ///
@@ -33,12 +33,12 @@ pub fn with_file_name<'o>(path: &[u8], name: &[u8], out: &'o mut [u8]) -> Result
     MakeOfTwo::WITH_FILE_NAME.write(path, name, out)
 }
 
-/// The path with `extension` in place of its own, or added where it has none. An empty `extension`
+/// The path with `extension` in place of its own, or added if it has none. An empty `extension`
 /// takes the old one away. A path without a file name stays as it is.
 ///
-/// Fails with `Separator` exactly where the extension has a slash, and with `Short`. Does not
-/// allocate. As Rust's `Path::with_extension`, but that panics for a separator, and gives `..` for
-/// `..a` whatever the extension is.
+/// Fails with `Separator` exactly if the extension has a slash, and with `Short`. Does not
+/// allocate. As Rust's `Path::with_extension`, except that Rust's panics for a separator, and gives
+/// `..` for `..a` whatever the extension is.
 ///
 /// ```
 /// use unix_path_rattle::{with_extension, Error};
@@ -84,13 +84,14 @@ pub fn to_string_lossy<'o>(path: &[u8], out: &'o mut [u8]) -> Result<&'o [u8], E
     Make::TO_STRING_LOSSY.write(path, out)
 }
 
-/// The path with each `..` taken against the name before it, and spelled canonically: `.` goes, and
-/// so does `..` behind the root. An answer of no bytes stands for the current directory.
+/// The path with each `..` dropped together with the name before it, in canonical spelling: `.` is
+/// dropped too, and so is `..` behind the root. Without a root, a `..` with no name before it stays
+/// in front. An answer of no bytes stands for the current directory.
 ///
-/// It goes by names alone: where a part before a `..` may be a link, only the system knows where
-/// that `..` leads. It has at most as many bytes as the path. Allocates once, as many bytes as the
-/// path has, or not at all for the empty path, and frees what it allocates. Fails with `NoMemory`
-/// where the allocation failed, and with `Short`. Not in Rust's std.
+/// It goes by names alone: if a part before a `..` may be a link, only the system knows where that
+/// `..` leads. It has at most as many bytes as the path. Allocates once, as many bytes as the path
+/// has, or not at all for the empty path, and frees what it allocates. Fails with `NoMemory` if the
+/// allocation failed, and with `Short`. Not in Rust's std.
 ///
 /// ```
 /// let mut out = [0; 16];
@@ -104,11 +105,11 @@ pub fn resolved<'o>(path: &[u8], out: &'o mut [u8]) -> Result<&'o [u8], Error> {
 
 /// The request joined to the root, and resolved, so that it stays under the resolved root.
 ///
-/// Fails with `Escapes` exactly where the request [climbs](crate::climbs), before anything is
+/// Fails with `Escapes` exactly if the request [climbs](crate::climbs), before anything is
 /// allocated. Else it allocates once, one byte more than both paths have, and frees what it
-/// allocates; it fails with `NoMemory` where the allocation failed, and with `Short`. It goes by
-/// names alone: where a part of the root or of the request may be a link, let the system refuse
-/// links. Not in Rust's std.
+/// allocates; it fails with `NoMemory` if the allocation failed, and with `Short`. It goes by names
+/// alone: if a part of the root or of the request may be a link, let the system refuse links. Not
+/// in Rust's std.
 ///
 /// ```
 /// use unix_path_rattle::{join_within, Error};

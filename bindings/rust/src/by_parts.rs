@@ -1,4 +1,4 @@
-//! Paths as keys of maps: equal where their parts are.
+//! Paths as keys of maps: equal if their parts are.
 use core::cmp::Ordering;
 use core::hash::{Hash, Hasher};
 

@@ -1,14 +1,15 @@
-//! The calls of `libunix_path_c`, by what they are given and answer: all `unsafe` code there is.
+//! The calls of `libunix_path_c`, by what they take and answer. All `unsafe` code of this crate is
+//! here.
 //!
 //! A type of this module is a shape of calls, and its constants are the calls of that shape, as
 //! `include/unix_path.h` declares them. Only this module makes values of these types.
 //!
 //! Each `unsafe` block rests on the same promises of the library: a call reads the slices that it
 //! is given and writes the record or the buffer that it is given, and touches nothing else; it
-//! keeps no pointer; it returns. Slices of Rust are what it asks for: never null, even where they
-//! are empty, at most `isize::MAX` bytes, and one that is written shares no byte with the others.
-//! The library also promises that a call wrote as many bytes as it answers: each `Vec` that a call
-//! fills rests on that.
+//! keeps no pointer; it returns. Rust's slices are what the library asks for: they are never null,
+//! even if empty; they have at most `isize::MAX` bytes; and one that is written shares no byte with
+//! the others. The library also promises that a call wrote as many bytes as it answers: each `Vec`
+//! that a call fills rests on that.
 mod raw;
 
 use crate::error::Error;
@@ -50,7 +51,7 @@ fn fill(bytes: &mut Vec<u8>, call: impl FnOnce(*mut u8, usize) -> usize) -> Resu
     Ok(())
 }
 
-/// The bytes from `start` on, or `None` where they don't all lie in the path: no place is trusted.
+/// The bytes from `start` on, or `None` if they don't all lie in the path: no place is trusted.
 #[inline]
 fn cut(path: &[u8], start: usize, length: usize) -> Option<&[u8]> {
     path.get(start..start.checked_add(length)?)

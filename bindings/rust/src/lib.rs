@@ -1,7 +1,7 @@
 //! Unix paths as plain bytes, over `libunix_path_c`, a static library whose calls are proved.
 //!
-//! Paths are `&[u8]`, on any platform that the library is built for. What is found in a path lies
-//! in it; what is made of paths is written into a buffer of the caller:
+//! Paths are `&[u8]`, on any platform that the library is built for. What is found in a path is a
+//! slice of it; what is made of paths is written into a buffer that the caller passes:
 //!
 //! ```
 //! use unix_path_rattle::{components, join, parent, Component, Error};

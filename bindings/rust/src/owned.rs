@@ -1,6 +1,6 @@
 //! The calls that make a path, with the answer in a new `Vec` or `String`.
 //!
-//! Each fails with [`Error::NoMemory`] where an allocation failed, and never with
+//! Each fails with [`Error::NoMemory`] if an allocation failed, and never with
 //! [`Error::Short`].
 use crate::error::Error;
 use crate::ffi::{Make, MakeOfTwo};
@@ -19,7 +19,7 @@ where
 }
 
 /// What the call writes into a new vector that has room for `room` bytes, or for as many as the
-/// call needs where these are more.
+/// call needs if that is more.
 fn vec_of<F>(room: usize, fill: F) -> Result<Vec<u8>, Error>
 where
     F: Fn(&mut Vec<u8>) -> Result<(), Error>,

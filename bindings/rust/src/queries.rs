@@ -5,8 +5,8 @@ use core::cmp::Ordering;
 
 /// The parts of the path, one by one from either end.
 ///
-/// Slashes in a row are one, a trailing slash is dropped, and so is each `.` but one that stands
-/// first. As Rust's `Path::components`.
+/// Slashes in a row count as one. A trailing slash is dropped, and so is each `.` except one that
+/// stands first. As Rust's `Path::components`.
 ///
 /// ```
 /// use unix_path_rattle::{components, Component::*};
@@ -45,7 +45,7 @@ pub fn file_name(path: &[u8]) -> Option<&[u8]> {
     Find::FILE_NAME.find(path)
 }
 
-/// The file name up to its last dot; all of it where it has no dot, or where that dot is first.
+/// The file name up to its last dot; all of it if it has no dot, or if that dot is first.
 ///
 /// As Rust's `Path::file_stem`.
 ///
@@ -59,7 +59,7 @@ pub fn file_stem(path: &[u8]) -> Option<&[u8]> {
     Find::FILE_STEM.find(path)
 }
 
-/// The file name behind its last dot; `None` where it has no dot, or where that dot is first.
+/// The file name behind its last dot; `None` if it has no dot, or if that dot is first.
 ///
 /// As Rust's `Path::extension`.
 ///
@@ -74,7 +74,7 @@ pub fn extension(path: &[u8]) -> Option<&[u8]> {
     Find::EXTENSION.find(path)
 }
 
-/// The file name up to its first dot behind its first byte; all of it where there is no such dot.
+/// The file name up to its first dot behind its first byte; all of it if there is no such dot.
 ///
 /// As Rust's `Path::file_prefix`.
 ///
@@ -88,7 +88,7 @@ pub fn file_prefix(path: &[u8]) -> Option<&[u8]> {
     Find::FILE_PREFIX.find(path)
 }
 
-/// What follows `base` in `path`; `None` where [`starts_with`] is false.
+/// What follows `base` in `path`; `None` if [`starts_with`] is false.
 ///
 /// As Rust's `Path::strip_prefix`, except that an answer of no bytes may stand elsewhere in the
 /// path.
@@ -154,7 +154,7 @@ pub fn compare(a: &[u8], b: &[u8]) -> Ordering {
 
 /// A number that equal paths share, the same in every run and on every machine.
 ///
-/// It has no key: where an attacker may choose the paths, hash their [canonical](crate::canonical)
+/// It has no key: if an attacker may choose the paths, hash their [canonical](crate::canonical)
 /// bytes with a hasher that has one. Not in Rust's std, whose `Path` feeds a hasher.
 ///
 /// ```
@@ -192,8 +192,8 @@ pub fn is_absolute(path: &[u8]) -> bool {
 
 /// Whether the path has a root or, read from the left, ever goes above where it starts.
 ///
-/// It goes by names alone: where a part may be a link, only the system knows where `..` leads. Not
-/// in Rust's std.
+/// It goes by names alone: if a part may be a link, only the system knows where `..` leads. Not in
+/// Rust's std.
 ///
 /// ```
 /// assert!(unix_path_rattle::climbs(b"a/../../root/x"));
@@ -207,7 +207,7 @@ pub fn climbs(path: &[u8]) -> bool {
 }
 
 /// The bytes of `a` up to and with the last slash of the longest string that both begin with; none
-/// where that string has no slash.
+/// if that string has no slash.
 ///
 /// Not in Rust's std.
 ///

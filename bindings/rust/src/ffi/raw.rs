@@ -80,5 +80,5 @@ extern "C" {
 pub const SEPARATOR: usize = usize::MAX;
 /// What `unix_path_join_within` answers for a request that climbs.
 pub const ESCAPES: usize = usize::MAX - 1;
-/// What `unix_path_resolved` and `unix_path_join_within` answer where an allocation failed.
+/// What `unix_path_resolved` and `unix_path_join_within` answer if an allocation failed.
 pub const NO_MEMORY: usize = usize::MAX - 2;
