@@ -3,7 +3,7 @@ use crate::calls::Start;
 use crate::std_calls::{digest_of_path, path_of};
 use std::path::{Component, Path, PathBuf};
 
-/// The path with each `..` taken against the name before it.
+/// The path with each `..` dropped together with the name before it.
 pub unsafe extern "C" fn resolved(path: Start, len: usize) -> u64 {
     digest_of_path(&resolved_path(path_of(path, len)))
 }
