@@ -4,11 +4,13 @@
  * needs none behind it. Its parts are the root, a leading `.`, and then each name and each `..`;
  * paths are equal if their parts are. No file is touched, and `..` is a part like a name. Only
  * unix_path_resolved, unix_path_join_within and unix_path_climbs let `..` undo the name before it.
+ * Cast a `char *` to `const uint8_t *`. No answer ends in a NUL.
  *
  * For every call:
  *  - It returns, whatever the bytes are, and reads nothing but the bytes and records given to it.
  *  - Lengths and places count bytes. A length is at most PTRDIFF_MAX.
- *  - No pointer is null, even if the length beside it is 0.
+ *  - No pointer is null, even if the length beside it is 0: for an empty std::string_view, whose
+ *    data() may be null, pass "".
  *  - What a call writes (walk, part, place, out) overlaps nothing else that the call is given.
  *  - If a call answers false, the records that it would write to stay as they were.
  *  - No call keeps anything, so threads may call at the same time. None allocates except
@@ -178,8 +180,9 @@ size_t unix_path_resolved(const uint8_t *path, size_t path_length, uint8_t *out,
 
 /* The request joined to the root and resolved, so that it stays under the resolved root.
  * UNIX_PATH_ESCAPES exactly if the request climbs, before anything is allocated, and
- * UNIX_PATH_NO_MEMORY only if an allocation failed. It goes by names alone. `/srv` with
- * `a/../b` gives `/srv/b`. */
+ * UNIX_PATH_NO_MEMORY only if an allocation failed. It goes by names alone: if a
+ * part may be a link, refuse a request in which unix_path_next gives a root or a `..`, and take
+ * unix_path_join. `/srv` with `a/../b` gives `/srv/b`. */
 size_t unix_path_join_within(const uint8_t *root, size_t root_length, const uint8_t *request,
                              size_t request_length, uint8_t *out, size_t out_length);
 

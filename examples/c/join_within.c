@@ -10,10 +10,11 @@
 #include <unix_path.h>
 
 static const uint8_t root[] = {'/', 's', 'r', 'v'};
+static const size_t root_length = sizeof root;
 
 static void answer(const uint8_t *request, size_t request_length) {
     uint8_t out[64];
-    size_t length = unix_path_join_within(root, sizeof root, request, request_length, out,
+    size_t length = unix_path_join_within(root, root_length, request, request_length, out,
                                           sizeof out);
     if (length == UNIX_PATH_ESCAPES) {
         puts("refused");
