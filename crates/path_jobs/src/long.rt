@@ -1,5 +1,4 @@
-//! Long and awkward paths: a thousand parts, stretches that don't count, lists of edits, and text
-//! that is broken.
+//! Long and awkward paths: a thousand parts, stretches of filler, lists of edits, and broken text.
 use crate::digest::Digest;
 use crate::random::Random;
 use path_runs::canonical::canonical;
@@ -13,7 +12,7 @@ use unix_path::{Component, Path, PathBuf};
 // How many names a deep path has, of about 4,096 bytes.
 const NAMES: usize = 850;
 
-// Pieces that don't count, and some that do.
+// What long stretches repeat: filler, a name and a `..`.
 static IDLE: [&str; 8] = ["/.", "./", "//", "/./", "/", "/./././", "/a", "/.."];
 
 // Text of several scripts, and what is no UTF-8: Latin-1, cut short, a surrogate.
@@ -49,7 +48,7 @@ fn make_deep(bytes: &mut Vec<u8>, random: &mut Random) -> Result<(), AllocError>
     Ok(())
 }
 
-// Sets the bytes to 16 stretches, mostly of what doesn't count, of some 24,000 bytes in all.
+// Sets the bytes to 16 stretches of some 24,000 bytes in all, three in four of them of filler.
 fn make_idle(bytes: &mut Vec<u8>, random: &mut Random) -> Result<(), AllocError> {
     bytes.clear();
     bytes.extend_from_slice(b"x")?;
@@ -125,7 +124,7 @@ fn compare(alloc: Global, path: Path<'_>, digest: &mut Digest) -> Result<(), All
     Ok(())
 }
 
-// The edits that a random word stands for: one of them mostly, since each third word is a pop.
+// The edit that a random word stands for. Nearly one in three is a pop.
 fn edit_of(word: u64) -> Edit<'static> {
     match word & 15 {
         0..=4 => Edit::Pop,
@@ -179,8 +178,8 @@ fn show(alloc: Global, path: Path<'_>, digest: &mut Digest) -> Result<(), AllocE
     Ok(())
 }
 
-// Does all this for so many deep paths, with twenty texts beside each, and for a fraction of idle
-// ones and of lists of edits.
+// Walks and compares `count` deep paths, and shows twenty texts with each. With one in 32 it also
+// applies a list of edits, and walks and compares a path of long stretches.
 pub(crate) fn run(alloc: Global, seed: u64, count: u64) -> Result<u64, AllocError> {
     let mut digest = Digest::new();
     let mut random = Random::new(seed);

@@ -8,7 +8,7 @@ use path_runs::canonical::canonical;
 use std::alloc::{AllocError, Global};
 use unix_path::{Path, PathBuf};
 
-// Of the words, one in five respells a path.
+// The noise for a path: one word in five gives the path another spelling.
 fn noise(word: u64) -> u64 {
     if word % 5 == 0 {
         noise_of(word >> 8)
@@ -17,7 +17,7 @@ fn noise(word: u64) -> u64 {
     }
 }
 
-// The paths of `count` files as a walk over the tree gives them, and then as many that are shuffled,
+// The paths of `count` files as a walk over the tree gives them, and then as many in another order,
 // of which one in ten is a file of the walk in another spelling.
 fn listing(alloc: Global, tree: Tree<'_>, seed: u64, count: u64) -> Result<Lines, AllocError> {
     let mut random = Random::new(seed);
@@ -64,7 +64,7 @@ fn order_list(alloc: Global, paths: &[Path<'_>], digest: &mut Digest) -> Result<
     Ok(())
 }
 
-// Orders two manifests, of twice so many paths each, one as a set and one as a list.
+// Orders two manifests of twice `count` paths each, one as a set and one as a list.
 pub(crate) fn run(alloc: Global, seed: u64, count: u64) -> Result<u64, AllocError> {
     let mut digest = Digest::new();
     let packages = listing(alloc, Tree::new("usr/lib/packages", seed), seed, count)?;

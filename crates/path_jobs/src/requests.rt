@@ -19,10 +19,10 @@ static ROOTS: [&str; 8] = [
     "/",
 ];
 
-// What mostly stands in front of a request whose name is hidden.
+// Hidden folders, of which one stands in front of some requests.
 static HIDDEN: [&str; 4] = [".well-known/acme", ".git/objects", ".config/app", ".cache"];
 
-// What climbs, or doesn't, in front of a request.
+// Beginnings of requests with `..`, `.` or a root; some of them climb.
 static UPS: [&str; 8] = [
     "../",
     "a/../../",
@@ -51,8 +51,8 @@ fn push_hostile(out: &mut Vec<u8>, random: &mut Random, place: u64) -> Result<()
     Ok(())
 }
 
-// Adds a request: mostly a plain path, at times with a hidden name in front; one in ten has `.`,
-// `..` or `//`, a few climb, and a few are hostile. The place makes it another than all before.
+// Adds a request. Most are plain paths, some with a hidden name in front; one in ten has `.`, `..`
+// or `//`, a few climb, and a few are hostile. No two requests are the same: `place` is in each.
 fn push_request(
     out: &mut Vec<u8>,
     tree: Tree<'_>,
@@ -83,8 +83,8 @@ fn push_request(
     tree.push_short(out, number, noise, place)
 }
 
-// Answers a request: where it leads below the root, and what is left of that behind the root; 0
-// where it leaves the root.
+// Adds the answer to a request: the join within the root, and what follows the root in it; 0 if the
+// request leaves the root.
 fn answer(
     alloc: Global,
     root: Path<'_>,
@@ -104,7 +104,8 @@ fn answer(
     Ok(())
 }
 
-// Answers a request as those do that trust no link: the join as it stands, if it goes down by names.
+// Adds the answer of those who trust no link: the plain join, if the request has no root and no
+// `..`.
 fn answer_plain(
     alloc: Global,
     root: Path<'_>,
@@ -120,7 +121,8 @@ fn answer_plain(
     Ok(())
 }
 
-// Answers a request as a mapper of links does: what it resolves to, and the way there from a page.
+// Adds the answer of a mapper of links: what the request resolves to, and the way to it from a
+// page.
 fn answer_link(
     alloc: Global,
     page: Path<'_>,
@@ -135,8 +137,8 @@ fn answer_link(
     Ok(())
 }
 
-// Answers so many requests, each under three roots, and each as a link on the page that was asked
-// for before.
+// Answers `count` requests: each under three roots, and each as a link on the page of the request
+// before it.
 pub(crate) fn run(alloc: Global, seed: u64, count: u64) -> Result<u64, AllocError> {
     let mut digest = Digest::new();
     let mut random = Random::new(seed);

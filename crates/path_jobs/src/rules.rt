@@ -11,7 +11,7 @@ const BASES: u64 = 40;
 
 const SUFFIXES: u64 = 20;
 
-// The folders that rules are for, one in four spelled otherwise than its sources.
+// The folders that rules are for, one in four of them in another spelling than its sources.
 fn bases(alloc: Global, tree: Tree<'_>, random: &mut Random) -> Result<Vec<PathBuf>, AllocError> {
     let mut bases = Vec::new(alloc);
     let mut bytes = Vec::new(alloc);
@@ -120,7 +120,7 @@ fn add_place(source: Path<'_>, before: Path<'_>, digest: &mut Digest) {
     digest.add(source.common_dir(before) as u64);
 }
 
-// Matches so many sources against the rules.
+// Matches `count` sources against the rules.
 pub(crate) fn run(alloc: Global, seed: u64, count: u64) -> Result<u64, AllocError> {
     let mut digest = Digest::new();
     let mut random = Random::new(seed);

@@ -21,7 +21,7 @@ fn path_of(
     PathBuf::from_unix_str(alloc, UnixStr::from_bytes(buffer))
 }
 
-// A table of `count` files, put in in an order that looks random.
+// A table of `count` files, inserted in an order that looks random.
 fn filled(
     alloc: Global,
     tree: Tree<'_>,
@@ -37,8 +37,8 @@ fn filled(
     Ok(table)
 }
 
-// Looks up the files' paths, each spelled otherwise than its key; one in three is the path of a file
-// beside it that isn't there.
+// Looks up each file by another spelling of its path. One look-up in three is of a path in the same
+// folder at which no file stands.
 fn look_up(
     alloc: Global,
     tree: Tree<'_>,
@@ -79,7 +79,7 @@ fn remove(
     Ok(sum)
 }
 
-// Lists what is below some folders: one in eight of those of 16 files, and all large ones.
+// Lists what is below some folders: all large ones, and one in eight of those with 16 files.
 fn list_below(
     alloc: Global,
     tree: Tree<'_>,
@@ -102,8 +102,8 @@ fn list_below(
     Ok(())
 }
 
-// Finds each file's number by hash, for another spelling of its path; one in three is the path of a
-// file beside it that isn't there.
+// Looks up each file's number in a map by hash, by another spelling of its path. One look-up in
+// three is of a path in the same folder at which no file stands.
 fn find_by_hash(
     alloc: Global,
     tree: Tree<'_>,
@@ -127,8 +127,8 @@ fn find_by_hash(
     Ok(sum)
 }
 
-// Fills a table with so many files, looks up each, lists some folders, removes some files, and finds
-// the others by hash.
+// Fills a table with `count` files, looks up each, lists some folders, removes some files, and
+// looks up the others by hash.
 pub(crate) fn run(alloc: Global, seed: u64, count: u64) -> Result<u64, AllocError> {
     let mut digest = Digest::new();
     let mut random = Random::new(seed ^ 1 << 32);

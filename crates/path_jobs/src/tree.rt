@@ -21,17 +21,17 @@ static ENDINGS: [&str; 16] = [
     ".o", ".txt", ".so.1", ".js",
 ];
 
-// A tree of 2^20 files below one folder; the seed makes their names. The numbers of a folder's files
-// follow each other, and so do those of all files below a folder: a walk over the tree that gives
-// the names of each folder in order gives the files in the order of their numbers.
+// A tree of 2^20 files below one folder, whose names the seed makes. The files below a folder have
+// numbers that follow each other. So a walk over the tree, with the names of each folder in order,
+// gives the files in the order of their numbers.
 #[derive(Clone, Copy)]
 pub(crate) struct Tree<'a> {
     front: &'a str,
     seed: u64,
 }
 
-// What stands between two names, or behind the last one, where the lowest three bits of `noise`
-// respell it.
+// What stands between two names or behind the last one: `/`, or more if the lowest three bits of
+// `noise` are 5 or greater.
 #[inline]
 fn gap(noise: u64) -> &'static str {
     match noise & 7 {
@@ -42,8 +42,8 @@ fn gap(noise: u64) -> &'static str {
     }
 }
 
-// Noise that respells one or two of the places where names end; one of them is the end of the path,
-// or stands before its first or its second name.
+// Noise that gives a path another spelling, in one or two places: at the end of the path or before
+// its first or its second name, and maybe at one other.
 #[inline]
 pub(crate) fn noise_of(random: u64) -> u64 {
     let first = match random >> 8 & 3 {
@@ -123,8 +123,8 @@ impl<'a> Tree<'a> {
         self.push_name(out, 6 << 32 | number >> 4, (number >> 4 & 7) << 3, 8)
     }
 
-    // Whether the file stands in a folder of 8,192 files, as an eighth of the files do. Others stand
-    // in folders of 16.
+    // Whether the file stands in a folder of 8,192 files, as one in eight does. The others stand in
+    // folders of 16.
     pub(crate) fn is_in_large(self, number: u64) -> bool {
         mix(self.seed ^ number >> 13) & 7 == 0
     }
@@ -159,9 +159,9 @@ impl<'a> Tree<'a> {
         push_text(out, ENDINGS[(random >> 32 & 15) as usize])
     }
 
-    // Adds the path of a file behind the folder of the tree, which begins with a gap. Without noise
-    // the spelling is canonical; three bits of noise, from the lowest on, are for each gap, and those
-    // from the 22nd on for what stands behind the file's name.
+    // Adds what follows the folder of the tree in the path of a file; it begins with a gap. Without
+    // noise the spelling is canonical. Each gap has three bits of the noise, from the lowest on,
+    // and what stands behind the file's name those from the 22nd on.
     pub(crate) fn push_below(
         self,
         out: &mut Vec<u8>,
@@ -211,8 +211,8 @@ impl<'a> Tree<'a> {
     }
 }
 
-// The number of a file that is not given again for other places below 2^19: these give the even
-// numbers in an order that looks random.
+// The number of a file, another one for each place below 2^19. These places give all even numbers,
+// in an order that looks random.
 #[inline]
 pub(crate) fn shuffled(place: u64, seed: u64) -> u64 {
     (place.wrapping_mul(0x9E37_79B9).wrapping_add(seed) & 0x7_FFFF) << 1
