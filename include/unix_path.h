@@ -180,9 +180,9 @@ size_t unix_path_resolved(const uint8_t *path, size_t path_length, uint8_t *out,
 
 /* The request joined to the root and resolved, so that it stays under the resolved root.
  * UNIX_PATH_ESCAPES exactly if the request climbs, before anything is allocated, and
- * UNIX_PATH_NO_MEMORY only if an allocation failed. It goes by names alone: if a
- * part may be a link, refuse a request in which unix_path_next gives a root or a `..`, and take
- * unix_path_join. `/srv` with `a/../b` gives `/srv/b`. */
+ * UNIX_PATH_NO_MEMORY only if an allocation failed. It goes by names alone: if a part may be a
+ * link, refuse a request in which unix_path_next gives a root or a `..`, and take unix_path_join.
+ * An empty answer stands for `.`. `/srv` with `a/../b` gives `/srv/b`. */
 size_t unix_path_join_within(const uint8_t *root, size_t root_length, const uint8_t *request,
                              size_t request_length, uint8_t *out, size_t out_length);
 

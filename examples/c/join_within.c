@@ -6,24 +6,25 @@
 #define _POSIX_C_SOURCE 200809L
 #include <stdio.h>
 #include <stdlib.h>
+#include <string.h>
 #include <sys/types.h>
 #include <unix_path.h>
 
-static const uint8_t root[] = {'/', 's', 'r', 'v'};
-static const size_t root_length = sizeof root;
-
-static void answer(const uint8_t *request, size_t request_length) {
-    uint8_t out[64];
-    size_t length = unix_path_join_within(root, root_length, request, request_length, out,
-                                          sizeof out);
+static void answer(const char *root, const char *request, size_t request_length) {
+    char out[64];
+    size_t room = sizeof out - 1;
+    size_t length = unix_path_join_within((const uint8_t *)root, strlen(root),
+                                          (const uint8_t *)request, request_length,
+                                          (uint8_t *)out, room);
     if (length == UNIX_PATH_ESCAPES) {
         puts("refused");
     } else if (length == UNIX_PATH_NO_MEMORY) {
         puts("out of memory");
-    } else if (length > sizeof out) {
+    } else if (length > room) {
         puts("too long");
     } else {
-        printf("%.*s\n", (int)length, (const char *)out);
+        out[length] = '\0';
+        puts(out);
     }
 }
 
@@ -32,7 +33,7 @@ int main(void) {
     size_t space = 0;
     ssize_t length;
     while ((length = getline(&line, &space, stdin)) > 0) {
-        answer((const uint8_t *)line, (size_t)length - (line[length - 1] == '\n'));
+        answer("/srv", line, (size_t)length - (line[length - 1] == '\n'));
     }
     free(line);
     return fflush(stdout) != 0;
