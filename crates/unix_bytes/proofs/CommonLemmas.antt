@@ -31,7 +31,7 @@ common_prefix_len-is (x ∷ a) (y ∷ b) (suc n) l m same differs =
     rw first total
 
 -- two strings have the same byte at each place of their common prefix
-common_prefix_len-same : (a b : List ℕ) (k : ℕ) → k < common_prefix_len eqb a b
+pub common_prefix_len-same : (a b : List ℕ) (k : ℕ) → k < common_prefix_len eqb a b
     → get_or a k 0 ≡ get_or b k 0
 common_prefix_len-same [] b k l = absurd (omega arith)
 common_prefix_len-same (x ∷ a) [] k l = absurd (omega arith)
@@ -48,7 +48,7 @@ common_prefix_len-same (x ∷ a) (y ∷ b) (suc k) l =
     (cases_Bool (eqb x y))
 
 -- two strings that go on behind their common prefix differ there
-common_prefix_len-differs : (a b : List ℕ) (n : ℕ) → n ≡ common_prefix_len eqb a b → n < length a
+pub common_prefix_len-differs : (a b : List ℕ) (n : ℕ) → n ≡ common_prefix_len eqb a b → n < length a
     → n < length b → eqb (get_or a n 0) (get_or b n 0) ≡ false
 common_prefix_len-differs [] b n e l m = absurd (omega arith)
 common_prefix_len-differs (x ∷ a) [] n e l m = absurd (omega arith)

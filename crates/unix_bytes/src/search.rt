@@ -160,6 +160,47 @@ fn common_in_lanes(a: &[u8], b: &[u8], at: usize) -> usize
     }
 }
 
+// As `common_in_lanes`, for 8 places.
+#[inline]
+fn common_in_eight(a: &[u8], b: &[u8], at: usize) -> usize
+    requires in_first { at + 8 ≤ length a.now }
+    requires in_second { at + 8 ≤ length b.now }
+    ensures in_range { result ≤ 8 }
+    ensures same { (k : ℕ) → at ≤ k → k < at + result →
+        slice_index a.now k ≡ slice_index b.now k }
+    ensures differs { result < 8 →
+        (slice_index a.now (at + result) == slice_index b.now (at + result)) ≡ false }
+{
+    let other = u8x8::from_slice(&a[at..])
+        .simd_ne(u8x8::from_slice(&b[at..]))
+        .to_bitmask();
+    if other == 0 {
+        8
+    } else {
+        other.trailing_zeros() as usize
+    }
+}
+
+// How many bytes both begin with, if the lesser length, `most`, is below 16: from eight bytes on,
+// the first eight are compared at once, and then the last eight.
+#[inline]
+fn common_in_short(a: &[u8], b: &[u8], most: usize) -> usize
+    requires lesser { most ≡ min (length a.now) (length b.now) }
+    requires short { most < 16 }
+    ensures value { result ≡ common_prefix_len nat_eq a.now b.now }
+    ensures in_range { result ≤ most }
+{
+    if most < 8 {
+        return common_in_few(a, b, most);
+    }
+    let first = common_in_eight(a, b, 0);
+    if first < 8 {
+        return first;
+    }
+    let last = most - 8;
+    last + common_in_eight(a, b, last)
+}
+
 // Whether the 64 bytes from `at` on are the same in both.
 #[inline(always)]
 fn is_common_block(a: &[u8], b: &[u8], at: usize) -> bool
@@ -199,7 +240,7 @@ pub fn common_len(a: &[u8], b: &[u8]) -> usize
 {
     let most = a.len().min(b.len());
     if most < 16 {
-        return common_in_few(a, b, most);
+        return common_in_short(a, b, most);
     }
     let last = most - 16;
     let mut len = common_blocks_len(a, b, most);
@@ -211,4 +252,26 @@ pub fn common_len(a: &[u8], b: &[u8]) -> usize
         len += 16;
     }
     last + common_in_lanes(a, b, last)
+}
+
+/// As `common_len`, but quicker if the first bytes that differ stand among the first 16. Does not
+/// allocate. Not in Rust's std.
+///
+/// `near_common_len(b"a/b", b"a/c")` is 2.
+#[must_use]
+#[inline]
+pub fn near_common_len(a: &[u8], b: &[u8]) -> usize
+    ensures value { result ≡ common_prefix_len nat_eq a.now b.now }
+    ensures in_first { result ≤ length a.now }
+    ensures in_second { result ≤ length b.now }
+{
+    let most = a.len().min(b.len());
+    if most < 16 {
+        return common_in_short(a, b, most);
+    }
+    let first = common_in_lanes(a, b, 0);
+    if first < 16 {
+        return first;
+    }
+    common_len(a, b)
 }

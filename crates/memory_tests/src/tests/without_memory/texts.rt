@@ -5,7 +5,7 @@ use std::alloc::Global;
 use std::test::Fail;
 use unix_bytes::bytes::{LossyText, UnixStr, UnixString};
 use unix_bytes::lossy::{Utf8Lossy, utf8_char_width};
-use unix_bytes::search::{common_len, first_place, past_last};
+use unix_bytes::search::{common_len, first_place, near_common_len, past_last};
 
 fn is_view() -> bool {
     let foo = UnixStr::new("foo");
@@ -34,6 +34,7 @@ fn is_found() -> bool {
         && first_place(b"a/b", b'/') == 1
         && past_last(b"a/b", b'/') == 2
         && common_len(b"ab", b"ac") == 1
+        && near_common_len(b"ab", b"ac") == 1
 }
 
 // An owned text becomes a `String` without a copy.

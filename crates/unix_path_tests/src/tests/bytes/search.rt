@@ -1,6 +1,6 @@
 //! Rows of places of bytes, and of how long a common beginning is.
 use std::process::Abort;
-use unix_bytes::search::{common_len, first_place, past_last};
+use unix_bytes::search::{common_len, first_place, near_common_len, past_last};
 
 // Asserts where `:` stands first, and which place is just after the last one.
 fn assert_places(rt: &impl Abort, bytes: &[u8], first: usize, past: usize) {
@@ -53,7 +53,10 @@ static COMMON_PREFIXES: [(&[u8], &[u8], usize); 12] = [
 ];
 
 fn is_common(a: &[u8], b: &[u8], len: usize) -> bool {
-    common_len(a, b) == len && common_len(b, a) == len
+    common_len(a, b) == len
+        && common_len(b, a) == len
+        && near_common_len(a, b) == len
+        && near_common_len(b, a) == len
 }
 
 #[test]
