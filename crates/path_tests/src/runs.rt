@@ -10,7 +10,9 @@ mod collected;
 mod congruent;
 mod edits;
 mod facts;
+mod families;
 mod fits;
+mod listed;
 mod long_stretches;
 mod loops;
 mod maps;
@@ -19,6 +21,7 @@ mod plain;
 mod random_extensions;
 mod random_pairs;
 mod random_paths;
+mod short_pairs;
 mod short_walks;
 mod walks;
 
