@@ -1,23 +1,17 @@
--- Pieces that differ, and pieces that are names.
+-- First pieces that differ, and their order.
 use Rattle.std.proofs.Common.{◌≡◌, ℕ, zero, suc, ◌+◌, ◌-◌, ◌<◌, ◌≤◌, false, true, eqb, ltb, List}
-use Rattle.std.proofs.Common.{[], ◌∷◌, length, get_or, drop, map, refl, sym, ap, ap₂, ◌∙◌}
-use Rattle.std.proofs.Common.{arith, Ordering, Less, Greater, ltb-true, ltb-false, get_or-drop}
-use Rattle.std.proofs.Common.{length-take-le, ◌==◌, if◌then◌else◌, not}
+use Rattle.std.proofs.Common.{[], ◌∷◌, length, get_or, drop, refl, sym, ap, ap₂, ◌∙◌, arith}
+use Rattle.std.proofs.Common.{Ordering, Less, Greater, ltb-true, ltb-false, get_or-drop, eqb-true}
+use Rattle.std.proofs.Common.{◌==◌, if◌then◌else◌}
 use Rattle.std.specs.Cmp.{nat_cmp_is}
 use Rattle.std.specs.Cmp.Lexicographic.{slice_cmp}
-use Rattle.std.specs.List.{position_or_len}
 use Rattle.std.specs.Ordering.{nat_cmp, ordering_then}
-use Rattle.std.specs.Str.{bytes_eq}
+use Rattle.std.proofs.lemmas.Bool.{and_parts, eqb-false, false≢true}
 use Rattle.std.proofs.lemmas.Cmp.{tied_itself, nat_cmp_total}
-use Rattle.std.proofs.lemmas.List.{get_or-take}
-use Rattle.std.proofs.lemmas.List.Sums.{fails_before_first, prefix_len-le-length}
-use Rattle.unix_path.specs.CommonDir.{inner_values}
-use Rattle.unix_path.specs.Steps.{piece_rank}
-use Rattle.unix_path.specs.Parts.{Part, Value, Normal, parent_dir, value_of_piece, inner_parts}
-use Rattle.unix_path.specs.Parts.{is_slash, slash}
-use Rattle.unix_path.specs.Steps.{is_idle}
+use Rattle.std.proofs.lemmas.List.{get_or_default, get_or_past}
+use Rattle.unix_path.specs.Parts.{slash}
+use Rattle.unix_path.specs.Steps.{begins_with_parent, is_idle, piece_rank}
 use Rattle.unix_path.proofs.CaseLemmas.{by_test}
-use Rattle.unix_path.proofs.IdleLemmas.{inner_parts_busy}
 use Rattle.unix_path.proofs.PieceLemmas.{first_piece, first_piece-other, first_piece-slash}
 
 piece_rank-slash : (x : ℕ) (s : List ℕ) → eqb x 47 ≡ true → piece_rank (x ∷ s) 0 ≡ 0
@@ -94,68 +88,113 @@ pieces_differ (x ∷ s) (y ∷ t) (suc n) l m same none differs =
     ∙ pieces_differ s t n (omega arith) (omega arith) (λ k h. same (suc k) (omega arith))
     (λ k h. none (suc k) (omega arith)) differs
 
--- the first piece is no longer than the string
-pub piece-le : (s : List ℕ) → position_or_len is_slash s ≤ length s
-piece-le s = prefix_len-le-length (λ b. not (is_slash b)) s
+-- a piece ends at i if the rank there is 0
+pub rank_end : (s : List ℕ) (i : ℕ) → piece_rank s i ≡ 0 → get_or s i 47 ≡ 47
+rank_end s i e = by_test (eqb (get_or s i 47) 47)
+    (λ h. eqb-true (get_or s i 47) 47 h)
+    (λ h. let rank : piece_rank s i ≡ 1 + get_or s i 47 = rw h refl in absurd (omega (arith, e, rank)))
 
--- the first piece has a byte that is no dot, which makes it a name
-pub record HoldsName (s : List ℕ) : Type 0 where
-  pub at : ℕ
-  pub inside : at < position_or_len is_slash s
-  pub no_dot : eqb (get_or s at 0) 46 ≡ false
+-- and the rank there is 0 if a piece ends
+pub ends_rank : (s : List ℕ) (i : ℕ) → get_or s i 47 ≡ 47 → piece_rank s i ≡ 0
+ends_rank s i e = rw e refl
 
--- a string with a byte that is no dot isn't `..`
-no_parent : (p : List ℕ) (at : ℕ) → at < length p → eqb (get_or p at 0) 46 ≡ false
-    → bytes_eq p parent_dir ≡ false
-no_parent [] at l e = refl
-no_parent (x ∷ []) at l e = by_test (eqb x 46) (λ h. rw h refl) (λ h. rw h refl)
-no_parent (x ∷ y ∷ []) zero l e = rw e refl
-no_parent (x ∷ y ∷ []) (suc zero) l e =
-    by_test (eqb x 46) (λ h. rw (h, e) refl) (λ h. rw h refl)
-no_parent (x ∷ y ∷ []) (suc (suc n)) l e = absurd (omega arith)
-no_parent (x ∷ y ∷ z ∷ p) at l e = by_test (eqb x 46)
-    (λ h. by_test (eqb y 46) (λ k. rw (h, k) refl) (λ k. rw (h, k) refl))
-    (λ h. rw h refl)
+-- a byte that is no slash stands at i
+pub record GoesOn (s : List ℕ) (i : ℕ) : Type 0 where
+  pub inside : i < length s
+  pub no_slash : eqb (get_or s i 0) 47 ≡ false
+  pub rank : piece_rank s i ≡ 1 + get_or s i 0
 
--- a dot before a byte of the same piece isn't idle
-dot_busy : (x : ℕ) (s : List ℕ) (at : ℕ) → at < position_or_len is_slash (x ∷ s)
-    → eqb (get_or (x ∷ s) at 0) 46 ≡ false → eqb x 46 ≡ true → eqb x 47 ≡ false
-    → is_idle (x ∷ s) 0 ≡ false
-dot_busy x s zero l e dot slash = absurd (cc)
-dot_busy x [] (suc n) l e dot slash =
-    absurd (omega (arith, l, piece-le (x ∷ [])))
-dot_busy x (y ∷ s) (suc n) l e dot slash =
-    let next : eqb y 47 ≡ false =
-    fails_before_first is_slash (x ∷ y ∷ s) 1 0 (omega (arith, l)) in
-    rw (slash, dot, next) refl
+-- so it does if the rank there isn't 0
+pub goes_on : (s : List ℕ) (i : ℕ) → (piece_rank s i ≡ 0 → ⊥) → GoesOn s i
+goes_on s i some = by_test (eqb (get_or s i 47) 47)
+    (λ e. absurd (some (rw e refl)))
+    (λ e. by_test (ltb i (length s))
+    (λ l.
+    let inside = ltb-true i (length s) l in
+    let same : get_or s i 47 ≡ get_or s i 0 = get_or_default s i 47 0 inside in
+    let rank : piece_rank s i ≡ 1 + get_or s i 47 = rw e refl in
+    record {
+      inside = inside;
+      no_slash = ap (λ b. eqb b 47) (sym same) ∙ e;
+      rank = rank ∙ ap (λ b. 1 + b) same;
+    })
+    (λ l. absurd (false≢true (sym e
+    ∙ ap (λ b. eqb b 47) (get_or_past s i 47 (ltb-false i (length s) l))))))
 
--- a string whose first piece is a name begins with no idle byte
-pub holds_busy : (s : List ℕ) → HoldsName s → is_idle s 0 ≡ false
-holds_busy [] name = absurd (omega (arith, name.inside, piece-le []))
-holds_busy (x ∷ s) name =
-    let slash : eqb x 47 ≡ false =
-    fails_before_first is_slash (x ∷ s) 0 0 (omega (arith, name.inside)) in
-    by_test (eqb x 46) (λ dot. dot_busy x s name.at name.inside name.no_dot dot slash)
-    (λ dot. rw (slash, dot) refl)
+-- the first piece of s counts, and if it is `..`, a piece ends at i
+pub record Counts (s : List ℕ) (i : ℕ) : Type 0 where
+  pub some : 0 < length s
+  pub busy : is_idle s 0 ≡ false
+  pub parent : begins_with_parent s ≡ true → piece_rank s i ≡ 0
 
--- the first inner value of a string that begins with a name is its first piece
-pub inner_values-name : (s : List ℕ) → HoldsName s
-    → (more : List Value) × (inner_values s ≡ Normal (first_piece s) ∷ more)
-inner_values-name s name =
-    let n = position_or_len is_slash s in
-    let more = map (λ (p : Part). p.value) (inner_parts (0 + n) (drop n s)) in
-    let fits = piece-le s in
-    let here : get_or (first_piece s) name.at 0 ≡ get_or s name.at 0 =
-    get_or-take n s name.at 0 name.inside in
-    let other : bytes_eq (first_piece s) parent_dir ≡ false =
-    no_parent (first_piece s) name.at (omega (arith, name.inside, length-take-le n s fits))
-    (ap (λ b. eqb b 46) here ∙ name.no_dot) in
-    let value : value_of_piece (first_piece s) ≡ Normal (first_piece s) = rw other refl in
-    let some : 0 < length s = omega (arith, name.inside, fits) in (
-      more,
-      ap (map (λ (p : Part). p.value)) (inner_parts_busy 0 s some (holds_busy s name))
-          ∙ ap (λ v. v ∷ more) value,
-    )
+-- it does if a byte at k that is neither a slash nor a dot is in it
+pub counts_byte : (s : List ℕ) (i k : ℕ) → k < length s
+    → ((j : ℕ) → j ≤ k → eqb (get_or s j 0) 47 ≡ false) → eqb (get_or s k 0) 46 ≡ false
+    → Counts s i
+counts_byte s i k inside no_slash no_dot = record {
+  some = omega arith;
+  busy = busy s k inside no_slash no_dot;
+  parent = λ e. absurd (no_parent s k inside no_slash no_dot e);
+}
+  where
+    busy : (s : List ℕ) (k : ℕ) → k < length s
+        → ((j : ℕ) → j ≤ k → eqb (get_or s j 0) 47 ≡ false) → eqb (get_or s k 0) 46 ≡ false
+        → is_idle s 0 ≡ false
+    busy [] k inside no_slash no_dot = absurd (omega arith)
+    busy (x ∷ s) zero inside no_slash no_dot = rw (no_slash 0 (omega arith), no_dot) refl
+    busy (x ∷ []) (suc k) inside no_slash no_dot = absurd (omega arith)
+    busy (x ∷ y ∷ s) (suc k) inside no_slash no_dot =
+        let first : eqb x 47 ≡ false = no_slash 0 (omega arith) in
+        let next : eqb y 47 ≡ false = no_slash 1 (omega arith) in
+        by_test (eqb x 46) (λ e. rw (first, e, next) refl) (λ e. rw (first, e) refl)
+
+    no_parent : (s : List ℕ) (k : ℕ) → k < length s
+        → ((j : ℕ) → j ≤ k → eqb (get_or s j 0) 47 ≡ false) → eqb (get_or s k 0) 46 ≡ false
+        → begins_with_parent s ≡ true → ⊥
+    no_parent [] k inside no_slash no_dot e = absurd (omega arith)
+    no_parent (x ∷ s) zero inside no_slash no_dot e =
+        let f : eqb x 46 ≡ false = no_dot in false≢true (rw f at e)
+    no_parent (x ∷ []) (suc k) inside no_slash no_dot e = absurd (omega arith)
+    no_parent (x ∷ y ∷ s) (suc zero) inside no_slash no_dot e =
+        let f : eqb y 46 ≡ false = no_dot in
+        let first = and_parts (eqb x 46) _ e in
+        let second = and_parts (eqb y 46) _ first.1 in
+        false≢true (sym f ∙ second.0)
+    no_parent (x ∷ y ∷ []) (suc (suc k)) inside no_slash no_dot e = absurd (omega arith)
+    no_parent (x ∷ y ∷ z ∷ s) (suc (suc k)) inside no_slash no_dot e =
+        let f : eqb z 47 ≡ false = no_slash 2 (omega arith) in
+        let first = and_parts (eqb x 46) _ e in
+        let second = and_parts (eqb y 46) _ first.1 in
+        false≢true (sym f ∙ second.1)
+
+-- or if it has two bytes before i
+pub counts_two : (s : List ℕ) (i : ℕ) → 2 ≤ i → i ≤ length s
+    → ((j : ℕ) → j < i → eqb (get_or s j 0) 47 ≡ false) → Counts s i
+counts_two [] i two inside no_slash = absurd (omega arith)
+counts_two (x ∷ []) i two inside no_slash = absurd (omega arith)
+counts_two (x ∷ y ∷ s) i two inside no_slash =
+    let first : eqb x 47 ≡ false = no_slash 0 (omega arith) in
+    let next : eqb y 47 ≡ false = no_slash 1 (omega arith) in
+    record {
+      some = omega arith;
+      busy = by_test (eqb x 46) (λ e. rw (first, e, next) refl) (λ e. rw (first, e) refl);
+      parent = λ e. by_test (eqb i 2)
+          (λ is.
+          let one = and_parts (eqb x 46) _ e in
+          let other = and_parts (eqb y 46) (eqb (get_or s 0 47) 47) one.1 in
+          ap (piece_rank (x ∷ y ∷ s)) (eqb-true i 2 is) ∙ rw other.1 refl)
+          (λ more. absurd (third s i two inside no_slash e (eqb-false i 2 more)));
+    }
+  where
+    third : (s : List ℕ) (i : ℕ) → 2 ≤ i → i ≤ length (x ∷ y ∷ s)
+        → ((j : ℕ) → j < i → eqb (get_or (x ∷ y ∷ s) j 0) 47 ≡ false)
+        → begins_with_parent (x ∷ y ∷ s) ≡ true → (i ≡ 2 → ⊥) → ⊥
+    third [] i two inside no_slash e more = absurd (more (omega arith))
+    third (z ∷ s) i two inside no_slash e more =
+        let f : eqb z 47 ≡ false = no_slash 2 (omega (arith, more)) in
+        let one = and_parts (eqb x 46) _ e in
+        let other = and_parts (eqb y 46) (eqb z 47) one.1 in
+        false≢true (sym f ∙ other.1)
 
 -- the rank at place n is that at place n - d of what follows d bytes
 pub piece_rank-drop : (s : List ℕ) (d n : ℕ) → d ≤ n

@@ -48,6 +48,15 @@ is_idle-drop s i =
     ∙ ap (λ k. get_or s k 0) {x = i + 0} {y = i} (omega arith) in
     ap₂ (λ b next. eqb b 47 || (eqb b 46 && eqb next 47)) here (get_or-drop i s 1 47)
 
+-- a slash is idle
+pub idle_slash : (s : List ℕ) (i : ℕ) → get_or s i 0 ≡ 47 → is_idle s i ≡ true
+idle_slash s i e = rw e refl
+
+-- and so is a `.` that a slash or the end follows
+pub idle_dot : (s : List ℕ) (i : ℕ) → get_or s i 0 ≡ 46 → get_or s (i + 1) 47 ≡ 47
+    → is_idle s i ≡ true
+idle_dot s i e next = rw (e, next) refl
+
 -- an idle byte at place i is filler
 pub inner_parts_idle_at : (at : ℕ) (s : List ℕ) (i : ℕ) → i < length s → is_idle s i ≡ true
     → inner_parts (at + i) (drop i s) ≡ inner_parts (at + (i + 1)) (drop (i + 1) s)

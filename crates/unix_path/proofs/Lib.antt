@@ -39,12 +39,11 @@ pub mod NameEndLemmas
 pub mod CommonPrefixLemmas
 pub mod CommonDirLemmas
 pub mod BehindLemmas
+pub mod FirstLemmas
 pub mod DifferLemmas
 pub mod ComparisonLemmas
 pub mod ApartLemmas
-pub mod SharedLemmas
-pub mod AheadLemmas
-pub mod EndLaneLemmas
 pub mod EndingLemmas
-pub mod BaseLemmas
-pub mod FirstByteLemmas
+pub mod KindLemmas
+pub mod PairLemmas
+pub mod StripLemmas

@@ -1,7 +1,9 @@
 -- Slices that lie in others.
-use Rattle.std.proofs.Common.{List, ℕ, ◌∙◌, refl, arith}
+use Rattle.std.proofs.Common.{◌≡◌, ◌≤◌, ◌+◌, ◌-◌, List, ℕ, length, take, drop, ◌∙◌, refl}
+use Rattle.std.proofs.Common.{ap, arith, drop-drop, length-drop}
+use Rattle.std.proofs.lemmas.List.{take_rest}
 use Rattle.std.specs.Borrow.{Bor}
-use Rattle.unix_path.specs.Places.{LiesIn}
+use Rattle.unix_path.specs.Places.{IsTail, LiesIn}
 
 -- a slice lies in itself
 pub LiesIn-itself : (slice : Bor (List ℕ)) → LiesIn slice slice
@@ -15,3 +17,53 @@ LiesIn-trans part middle whole h k = record {
   start = omega (arith, h.start, k.start);
   end = omega (arith, h.end, k.end);
 }
+
+-- the end of a slice's end is its end
+pub IsTail-trans : (part middle whole : Bor (List ℕ)) → IsTail part middle → IsTail middle whole
+    → IsTail part whole
+IsTail-trans part middle whole h k =
+    let m = length part.now in
+    let n = length middle.now in
+    let l = length whole.now in
+    record {
+      short = omega (arith, h.short, k.short);
+      bytes = h.bytes ∙ ap (drop (n - m)) k.bytes ∙ drop-drop (n - m) (l - n) whole.now
+          ∙ ap (λ i. drop i whole.now) {x = l - n + (n - m)} {y = l - m}
+          (omega (arith, h.short, k.short));
+      block = h.block ∙ k.block;
+      place = h.place ∙ k.place;
+    }
+
+-- a slice is its own end
+pub IsTail-itself : (slice : Bor (List ℕ)) → IsTail slice slice
+IsTail-itself slice = record {
+  short = omega arith;
+  bytes = ap (λ i. drop i slice.now) {x = 0} {y = length slice.now - length slice.now} (omega arith);
+  block = refl;
+  place = refl;
+}
+
+-- a slice's end lies in it
+pub LiesIn-tail : (part whole : Bor (List ℕ)) → IsTail part whole → LiesIn part whole
+LiesIn-tail part whole h = record {
+  block = h.block;
+  start = omega (arith, h.place, h.short);
+  end = omega (arith, h.place);
+}
+
+-- a slice from one of its places on is its end
+pub IsTail-from : (part whole : Bor (List ℕ)) (n : ℕ) → n ≤ length whole.now
+    → part.now ≡ take (length whole.now - n) (drop n whole.now)
+    → part.ref_ptr.0 ≡ whole.ref_ptr.0 → part.ref_ptr.1 ≡ whole.ref_ptr.1 + n
+    → IsTail part whole
+IsTail-from part whole n inside bytes block place =
+    let is : part.now ≡ drop n whole.now = bytes ∙ take_rest whole.now n in
+    let size : length part.now ≡ length whole.now - n =
+    ap length is ∙ length-drop n whole.now in
+    record {
+      short = omega (arith, size);
+      bytes = is ∙ ap (λ i. drop i whole.now) {x = n} {y = length whole.now - length part.now}
+          (omega (arith, size, inside));
+      block = block;
+      place = omega (arith, place, size, inside);
+    }

@@ -1,7 +1,7 @@
 -- Two walks side by side from behind: whether one path's values end the other's.
 use Rattle.std.proofs.Common.{◌≡◌, ℕ, List, [], ◌∷◌, ◌++◌, sym, ap, subst, ◌∙◌, append_assoc}
 use Rattle.std.proofs.Common.{append-nil}
-use Rattle.std.proofs.lemmas.List.{same_from_push}
+use Rattle.std.proofs.lemmas.List.{append_cancel_right, same_from_push}
 use Rattle.unix_path.specs.Parts.{Value, values}
 use Rattle.unix_path.specs.Rest.{rest}
 use Rattle.unix_path.specs.Prefixes.{Ends}
@@ -13,16 +13,32 @@ pub record EndsOn (s child u : List ℕ) (left : List Value) : Type 0 where
   pub onward : Ends left (values u) → Ends (values child) (values s)
   pub back : Ends (values child) (values s) → Ends left (values u)
 
--- both walks begin with all parts
-pub ends_start : {s child u b : List ℕ} → u ≡ rest s 0 0 → b ≡ rest child 0 0
-    → EndsOn s child u (values b)
-ends_start {s} {child} {u} {b} e f =
-    let child_whole : values b ≡ values child = values-whole child b f in
-    let whole : values u ≡ values s = values-whole s u e in
+-- if a list ends another one, so do both with the same values behind
+ends_all : (v w last : List Value) → Ends v w → Ends (v ++ last) (w ++ last)
+ends_all v w last h = (h.0, sym (append_assoc h.0 v last) ∙ ap (λ z. z ++ last) h.1)
+
+-- and without these
+ends_without : (v w last : List Value) → Ends (v ++ last) (w ++ last) → Ends v w
+ends_without v w last h =
+    (h.0, append_cancel_right (h.0 ++ v) w last (append_assoc h.0 v last ∙ h.1))
+
+-- both walks begin with all parts but the last that both share
+pub ends_start : {s child u b : List ℕ} (x y : List ℕ) (last : List Value)
+    → values s ≡ values x ++ last → values child ≡ values y ++ last → u ≡ rest x 0 0
+    → b ≡ rest y 0 0 → EndsOn s child u (values b)
+ends_start {s} {child} {u} {b} x y last first second e f =
+    let own : values u ≡ values x = values-whole x u e in
+    let other : values b ≡ values y = values-whole y b f in
     record {
-      onward = λ h. subst (λ v. Ends v (values s)) child_whole (subst (Ends (values b)) whole h);
-      back = λ h. subst (Ends (values b)) (sym whole)
-          (subst (λ v. Ends v (values s)) (sym child_whole) h);
+      onward = λ h. subst (λ v. Ends v (values s)) (sym second)
+          (subst (Ends (values y ++ last)) (sym first)
+          (ends_all (values y) (values x) last
+          (subst (λ v. Ends v (values x)) other (subst (Ends (values b)) own h))));
+      back = λ h. subst (λ v. Ends v (values u)) (sym other)
+          (subst (Ends (values y)) (sym own)
+          (ends_without (values y) (values x) last
+          (subst (λ v. Ends v (values x ++ last)) second
+          (subst (Ends (values child)) first h))));
     }
 
 -- if a list ends another one, so do the lists with the same element behind

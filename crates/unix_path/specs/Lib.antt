@@ -18,3 +18,4 @@ pub mod Hashed
 pub mod OrderLaws
 pub mod Places
 pub mod CommonDir
+pub mod Pairs

@@ -1,5 +1,5 @@
 -- Where slices of bytes lie in memory.
-use Rattle.std.specs.Prelude.{◌≡◌, ◌≤◌, ◌+◌, ℕ, List, length}
+use Rattle.std.specs.Prelude.{◌≡◌, ◌≤◌, ◌+◌, ◌-◌, ℕ, List, length, drop}
 use Rattle.std.specs.Borrow.{Bor}
 
 -- every byte of `part` lies among those of `whole`, in the same memory
@@ -11,3 +11,10 @@ pub record LiesIn (part whole : Bor (List ℕ)) : Type 0 where
 -- the slice `part` begins `at` bytes behind the beginning of `whole`
 abbrev pub BeginsAt : Bor (List ℕ) → Bor (List ℕ) → ℕ → Type 0
 BeginsAt part whole at = part.ref_ptr.1 ≡ whole.ref_ptr.1 + at
+
+-- `part` is the end of `whole`, in the same memory
+pub record IsTail (part whole : Bor (List ℕ)) : Type 0 where
+  pub short : length part.now ≤ length whole.now
+  pub bytes : part.now ≡ drop (length whole.now - length part.now) whole.now
+  pub block : part.ref_ptr.0 ≡ whole.ref_ptr.0
+  pub place : part.ref_ptr.1 + length part.now ≡ whole.ref_ptr.1 + length whole.now

@@ -2,10 +2,12 @@
 use Rattle.std.specs.Prelude.{◌≡◌, ◌<◌, ◌≤◌, nat_lt, ℕ, ◌+◌, ◌-◌, ◌==◌, Bool, true, false, ◌||◌}
 use Rattle.std.specs.Prelude.{◌&&◌, List, [], ◌∷◌, ◌++◌, length, take, drop, slice_index}
 use Rattle.std.specs.Prelude.{slice_index_or, slice_range}
-use Rattle.std.specs.Prelude.{Option, Some, None, if◌then◌else◌}
+use Rattle.std.specs.Prelude.{Option, Some, None, if◌then◌else◌, nat_eq}
+use Rattle.std.specs.declared.cmp.Ordering.{Ordering}
 use Rattle.std.proofs.Props.{props}
-use Rattle.std.specs.List.{position_or_len}
+use Rattle.std.specs.List.{common_prefix_len, position_or_len}
 use Rattle.std.specs.Str.{bytes_eq}
+use Rattle.unix_path.specs.Order.{values_cmp}
 use Rattle.unix_path.specs.Parts.{slash, is_slash, dot, cur_dir, Part, Value, CurDir}
 use Rattle.unix_path.specs.Parts.{inner_parts, value_of_piece, values}
 use Rattle.unix_path.specs.Prefixes.{Begins}
@@ -80,45 +82,64 @@ pub record HasLast (s : List ℕ) (before end : ℕ) (v : Value) : Type 0 where
   pub before_is : take before s ≡ rest s 0 1
   pub end_is : end ≡ length (rest s 0 0)
 
--- two walks from in front have taken the same number of parts: u is left of s, and the values
--- `left` are left of base; base begins s exactly if `left` begins u
-pub record StripsOn (s base u : List ℕ) (left : List Value) : Type 0 where
-  pub count : ℕ
-  pub rest_is : u ≡ rest s count 0
-  pub counts : count + length left ≡ length (values base)
-  pub onward : Begins left (values u) → Begins (values base) (values s)
-  pub back : Begins (values base) (values s) → Begins left (values u)
-
 -- one more than the byte at i, or 0 if a piece ends there: at a slash, or at the end
 abbrev pub piece_rank : List ℕ → ℕ → ℕ
 piece_rank s i = let b = slice_index_or s i slash in if b == slash then 0 else 1 + b
+
+-- a piece begins at i: at 0, or behind a slash
+abbrev pub begins_piece : List ℕ → ℕ → Bool
+begins_piece s i = i == 0 || slice_index s (i - 1) == slash
 
 -- the rank of the byte before the last k bytes, or 0 if no byte stands before them
 abbrev pub rank_before : List ℕ → ℕ → ℕ
 rank_before s k = if nat_lt k (length s) then piece_rank s (length s - 1 - k) else 0
 
--- a byte that is neither a slash nor a dot stands at i or behind that, with no slash between
-pub record NameAhead (s : List ℕ) (i : ℕ) : Type 0 where
-  pub at : ℕ
-  pub from : i ≤ at
-  pub inside : at < length s
-  pub no_slash : (k : ℕ) → i ≤ k → k ≤ at → (slice_index s k == slash) ≡ false
-  pub no_dot : (slice_index s at == dot) ≡ false
+-- s can be cut at n, which is not 0: a slash stands just before n, or a piece ends there
+pub record CanCut (s : List ℕ) (n : ℕ) : Type 0 where
+  pub some : 0 < n
+  pub in_range : n ≤ length s
+  pub here : (slice_index s (n - 1) == slash || slice_index_or s n slash == slash) ≡ true
 
--- t is what follows some filler at the beginning of s
-pub record PastIdle (s t : List ℕ) : Type 0 where
+-- t is what follows the filler at the beginning of s
+pub record PastFiller (s t : List ℕ) : Type 0 where
   pub len : ℕ
   pub is : t ≡ drop len s
   pub idle : inner_parts 0 s ≡ inner_parts (0 + len) t
+  pub busy : is_idle t 0 ≡ false
 
--- `base` is not empty, is a prefix of s, and stops at the end of a piece of s or just behind a
--- slash
-pub record IsFront (s base : List ℕ) : Type 0 where
-  pub some : 0 < length base
+-- a and b are what stands behind a place at which s and t can be cut, and up to which they are alike
+pub record BehindCut (s t a b : List ℕ) : Type 0 where
+  pub at : ℕ
+  pub first : CanCut s at
+  pub second : CanCut t at
+  pub same : take at s ≡ take at t
+  pub first_is : a ≡ drop at s
+  pub second_is : b ≡ drop at t
+
+-- all bytes of `base` begin s, which can be cut behind them
+pub record IsWrittenPrefix (s base : List ℕ) : Type 0 where
   pub inside : length base ≤ length s
   pub same : take (length base) s ≡ base
-  pub here : length base < length s
-      → (slice_index s (length base) == slash || slice_index s (length base - 1) == slash) ≡ true
+  pub here : 0 < length base → CanCut s (length base)
+
+-- the longest string that a and b both begin with has n bytes, as a fact that no search unfolds
+unfoldable pub IsAlike : List ℕ → List ℕ → ℕ → Type 0
+IsAlike a b n = n ≡ common_prefix_len nat_eq a b
+
+-- `IsAlike` has no more than one proof
+pub IsAlike-prop : (a b : List ℕ) (n : ℕ) → IsProp (IsAlike a b n)
+unfolding IsAlike
+IsAlike-prop a b n = hlevel props
+
+-- a and b, which begin with `common` bytes alike, can both be cut at n, if that is not 0, and share
+-- at most a dot behind it
+pub record CutFields (a b : List ℕ) (common n : ℕ) : Type 0 where
+  pub first : 0 < n → CanCut a n
+  pub second : 0 < n → CanCut b n
+  pub inside : n ≤ common
+  pub near : common ≤ n + 1
+  pub shared_dot : n < common → slice_index a n ≡ dot
+  pub at_ends : piece_rank a common ≡ piece_rank b common → n ≡ common
 
 -- x and y are what is left of a and b behind the same values
 pub record SharesFront (a b x y : List ℕ) : Type 0 where
@@ -126,6 +147,25 @@ pub record SharesFront (a b x y : List ℕ) : Type 0 where
   pub first : values a ≡ front ++ values x
   pub second : values b ≡ front ++ values y
   pub left : rest x 0 0 ≡ rest a (length front) 0
+
+-- b doesn't begin a, and the first values that differ are in this order
+pub record AreApart (a b : List ℕ) (order : Ordering) : Type 0 where
+  pub order_is : order ≡ values_cmp (values a) (values b)
+  pub no_prefix : Begins (values b) (values a) → ⊥
+
+-- b has all values of a and then more
+pub record HasMore (a b : List ℕ) : Type 0 where
+  pub more : List Value
+  pub some : 0 < length more
+  pub is : values b ≡ values a ++ more
+
+-- behind the last n bytes of a and of b the same values are left out: at most a last value
+pub record SharesEnd (a b : List ℕ) (n : ℕ) : Type 0 where
+  pub in_first : n ≤ length a
+  pub in_second : n ≤ length b
+  pub last : List Value
+  pub first : values a ≡ values (take (length a - n) a) ++ last
+  pub second : values b ≡ values (take (length b - n) b) ++ last
 
 -- what the fields of a walk say of each other: what is left stands between the two places and ends
 -- in a part, and the flags tell whether the source, and what is left of it, begins with a root or a

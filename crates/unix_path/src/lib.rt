@@ -10,8 +10,8 @@ pub mod json;
 pub mod kept;
 mod names;
 mod order;
+mod pair;
 pub mod path;
-mod shared;
 
 pub use buf::{ExtensionError, PathBuf};
 pub use cursor::{Ancestors, Component, Components, Iter};

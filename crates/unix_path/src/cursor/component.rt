@@ -1,5 +1,5 @@
 //! The parts that a walk gives.
-ghost use Rattle.std.specs.Prelude.{◌≡◌};
+ghost use Rattle.std.specs.Prelude.{◌≡◌, ◌↔◌, IsTrue};
 ghost use Rattle.unix_path.specs.Parts.{value_bytes};
 ghost use Rattle.unix_path.specs.Views.{value_of};
 
@@ -53,5 +53,13 @@ impl<'a> Component<'a> {
         ensures { result.bytes.now ≡ value_bytes (value_of self.entry) }
     {
         Path::new(self.as_unix_str())
+    }
+
+    // Whether two components have the same value.
+    #[inline]
+    pub(crate) fn has_same_value(self, other: Component<'_>) -> bool
+        ensures { IsTrue result ↔ (value_of self.entry ≡ value_of other.entry) }
+    {
+        self == other
     }
 }

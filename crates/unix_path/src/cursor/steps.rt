@@ -39,7 +39,7 @@ fn is_idle_block(path: &[u8], at: usize) -> bool
 // The length of the filler at the beginning, or less: `start` bytes, which are known to be filler,
 // and then 16 for each block of 16 bytes that are all filler. It stops if 16 bytes or fewer are
 // left.
-#[inline(never)]
+#[inline]
 fn idle_blocks_len(path: &[u8], start: usize) -> usize
     requires { start ≤ length path.now }
     ensures forward { start ≤ result }
@@ -70,7 +70,46 @@ pub(crate) fn idle_len(path: &[u8]) -> usize
     len
 }
 
-// The length of the filler at the beginning, for when it may be long: behind its first eight bytes,
+// As `long_idle_len`, for filler of which `start` bytes are known: it looks at blocks of 16. It isn't
+// inlined, since most filler is short.
+#[inline(never)]
+fn idle_len_from(path: &[u8], start: usize) -> usize
+    requires { start ≤ length path.now }
+    ensures in_range { result ≤ length path.now }
+    ensures idle { (at : ℕ) → inner_parts (at + start) (drop start path.now)
+        ≡ inner_parts (at + result) (drop result path.now) }
+    ensures busy { result < length path.now → is_idle path.now result ≡ false }
+{
+    let mut len = idle_blocks_len(path, start);
+    while len < path.len() && is_idle(path, len) {
+        len += 1;
+    }
+    len
+}
+
+// How many bytes of filler begin at `i`: a slash, a `.` and the slash behind it, or a `.` at the
+// end. 0 if a part begins there.
+#[inline]
+fn idle_step(path: &[u8], i: usize) -> usize
+    requires { i < length path.now }
+    ensures in_range { i + result ≤ length path.now }
+    ensures idle { (at : ℕ) → inner_parts (at + i) (drop i path.now)
+        ≡ inner_parts (at + (i + result)) (drop (i + result) path.now) }
+    ensures busy { result ≡ 0 → is_idle path.now i ≡ false }
+{
+    if path[i] == b'/' {
+        return 1;
+    }
+    if path[i] != b'.' {
+        return 0;
+    }
+    if i + 1 == path.len() {
+        return 1;
+    }
+    if path[i + 1] == b'/' { 2 } else { 0 }
+}
+
+// The length of the filler at the beginning, for when it may be long: behind its first four bytes,
 // blocks of 16 are looked at. `idle_len` is quicker for short filler, as between two parts.
 #[inline]
 pub(crate) fn long_idle_len(path: &[u8]) -> usize
@@ -80,10 +119,14 @@ pub(crate) fn long_idle_len(path: &[u8]) -> usize
     ensures busy { result < length path.now → is_idle path.now result ≡ false }
 {
     let mut len = 0;
-    while len < path.len() && is_idle(path, len) {
-        len += 1;
-        if len == 8 {
-            len = idle_blocks_len(path, len);
+    while len < path.len() {
+        let step = idle_step(path, len);
+        if step == 0 {
+            return len;
+        }
+        len += step;
+        if len > 3 {
+            return idle_len_from(path, len);
         }
     }
     len
@@ -168,21 +211,6 @@ pub(crate) fn first_step(path: &[u8], has_lead: bool) -> (usize, Component<'_>)
         parent_step(path)
     } else {
         name_step(path)
-    }
-}
-
-// The first part, and how many bytes it and the filler behind it take: as `first_step`, but quicker
-// if long filler stands behind a root or a `.`.
-#[inline(always)]
-pub(crate) fn long_first_step(path: &[u8], has_lead: bool) -> (usize, Component<'_>)
-    requires some { 0 < length path.now }
-    requires lead { has_lead ≡ is_idle path.now 0 }
-    ensures { StepsFirst path.now result.0 (value_of result.1) }
-{
-    if has_lead {
-        (1 + long_idle_len(&path[1..]), lead(path))
-    } else {
-        first_step(path, false)
     }
 }
 

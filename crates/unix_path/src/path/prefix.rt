@@ -1,24 +1,17 @@
 //! Whether the parts of one path begin or end those of another, and what follows them.
-ghost use Rattle.std.specs.Prelude.{◌≡◌, ◌≤◌, ◌↔◌, [], length, take, IsTrue, IsOk, IfOk};
-ghost use Rattle.std.specs.Prelude.{IsSome, IfSome, Some, None, codes};
+ghost use Rattle.std.specs.Prelude.{◌≡◌, ◌↔◌, [], length, IsTrue, IsOk, IfOk, Some, codes};
 ghost use Rattle.std.specs.Fmt.{padded};
-ghost use Rattle.unix_path.specs.Cursor.{cursor_rest, cursor_source, cursor_values};
 ghost use Rattle.unix_path.specs.Prefixes.{Begins, Ends, stripped_of};
 ghost use Rattle.unix_path.specs.Parts.{values};
 ghost use Rattle.unix_path.specs.Rest.{rest};
-ghost use Rattle.unix_path.specs.Steps.{StripsOn};
 ghost use Rattle.unix_path.specs.Places.{BeginsAt, LiesIn};
 
-use crate::compare::is_same_part;
 use crate::cursor::{Components, trimmed_len};
-use crate::endings::end_in_other_names;
+use crate::endings::shared_last_len;
+use crate::pair::{Comparison, Difference, Pair, past_filler};
 use crate::path::Path;
-use crate::shared::{
-    begin_apart, behind_front, is_front, order_ahead, order_in_names, past_shared,
-};
 use std::error::Error;
 use std::fmt;
-use unix_bytes::search::common_len;
 
 /// The refusal of `Path::strip_prefix`: the parts of the base don't begin those of the path.
 ///
@@ -42,143 +35,6 @@ impl fmt::Display for StripPrefixError {
 
 impl Error for StripPrefixError {}
 
-// The walks over what is left of the path and of the base behind parts that both begin with, or
-// `None` if the first bytes that differ there are in two names. The first `common` bytes of both
-// are the same.
-#[inline]
-fn past_common<'a, 'b>(
-    path: &'a [u8],
-    base: &'b [u8],
-    common: usize,
-) -> Option<(Components<'a>, Components<'b>)>
-    requires in_first { common ≤ length path.now }
-    requires in_second { common ≤ length base.now }
-    requires same { take common path.now ≡ take common base.now }
-    ensures none { result ≡ None → Begins (values base.now) (values path.now) → ⊥ }
-    ensures strips { IfSome result (λ left.
-        StripsOn path.now base.now (cursor_rest left.0) (cursor_values left.1)) }
-    ensures place { IfSome result (λ left. LiesIn (cursor_source left.0) path.entry) }
-{
-    let left = past_shared(path, base, common);
-    if left.order.is_some() {
-        return None;
-    }
-    Some((Components::new(left.first), Components::new(left.second)))
-}
-
-// The walk over what follows `base`, or `None` if the parts of `base` don't begin the path's. The
-// first `common` bytes of both are the same. It isn't inlined, so that `after_prefix`, which
-// decides most calls without it, stays small.
-#[inline(never)]
-fn after_parts<'a>(path: &'a [u8], base: &[u8], common: usize) -> Option<Components<'a>>
-    requires in_first { common ≤ length path.now }
-    requires in_second { common ≤ length base.now }
-    requires same { take common path.now ≡ take common base.now }
-    ensures ok { IsSome result ↔ Begins (values base.now) (values path.now) }
-    ensures value { IfSome result (λ left. cursor_rest left ≡ stripped_of path.now base.now) }
-    ensures place { IfSome result (λ left. LiesIn (cursor_source left) path.entry) }
-{
-    if begin_apart(path, base) || order_ahead(path, base, common).is_some() {
-        return None;
-    }
-    if is_front(base, path, common) {
-        return if behind_front(base, path).is_empty() {
-            Some(Components::new(&path[path.len()..]))
-        } else {
-            None
-        };
-    }
-    let (mut left, base_parts) = past_common(path, base, common)?;
-    for part in base_parts {
-        let Some(own) = left.next() else {
-            return None;
-        };
-        if !is_same_part(own, part) {
-            return None;
-        }
-    }
-    Some(left)
-}
-
-// The walk over what follows `base`, or `None` if the parts of `base` don't begin the path's. The
-// first `common` bytes of both are the same. Most calls are decided at once: all of `base` begins
-// the path, or the first bytes that differ are in two names.
-#[inline]
-fn after_prefix<'a>(path: &'a [u8], base: &[u8], common: usize) -> Option<Components<'a>>
-    requires in_first { common ≤ length path.now }
-    requires in_second { common ≤ length base.now }
-    requires same { take common path.now ≡ take common base.now }
-    ensures ok { IsSome result ↔ Begins (values base.now) (values path.now) }
-    ensures value { IfSome result (λ left. cursor_rest left ≡ stripped_of path.now base.now) }
-    ensures place { IfSome result (λ left. LiesIn (cursor_source left) path.entry) }
-{
-    if is_front(path, base, common) {
-        return Some(Components::new(behind_front(path, base)));
-    }
-    if order_in_names(path, base, common).is_some() {
-        return None;
-    }
-    after_parts(path, base, common)
-}
-
-// Whether `after_parts` gives a walk. It isn't inlined, so that the walk, which isn't used, takes
-// memory in this function alone.
-#[inline(never)]
-fn has_parts(path: &[u8], base: &[u8], common: usize) -> bool
-    requires in_first { common ≤ length path.now }
-    requires in_second { common ≤ length base.now }
-    requires same { take common path.now ≡ take common base.now }
-    ensures { IsTrue result ↔ Begins (values base.now) (values path.now) }
-{
-    after_parts(path, base, common).is_some()
-}
-
-// Whether the parts of `base` begin the path's: what `after_prefix` tells, without a walk.
-#[inline]
-fn has_prefix(path: &[u8], base: &[u8]) -> bool
-    ensures { IsTrue result ↔ Begins (values base.now) (values path.now) }
-{
-    let common = common_len(path, base);
-    if is_front(path, base, common) {
-        return true;
-    }
-    if order_in_names(path, base, common).is_some() {
-        return false;
-    }
-    has_parts(path, base, common)
-}
-
-// Where the last part of the path ends. It isn't inlined, so that `strip_prefix` stays small.
-#[cold]
-fn last_part_end(path: &[u8]) -> usize
-    ensures value { result ≡ length (rest path.now 0 0) }
-    ensures in_range { result ≤ length path.now }
-{
-    trimmed_len(path, path.len())
-}
-
-// Whether the parts of `child` end the path's. The last bytes of both are looked at first, since
-// they usually tell if they don't.
-#[inline]
-fn ends_with_parts(path: &[u8], child: &[u8]) -> bool
-    ensures { IsTrue result ↔ Ends (values child.now) (values path.now) }
-{
-    if end_in_other_names(path, child) {
-        return false;
-    }
-    let mut left = Components::new(path);
-    let mut child_parts = Components::new(child);
-    while let Some(part) = child_parts.next_back() {
-        let Some(own) = left.next_back() else {
-            return false;
-        };
-        if !is_same_part(own, part) {
-            return false;
-        }
-    }
-    true
-}
-
 impl<'a> Path<'a> {
     /// What follows `base`, as a slice of this path's bytes, in the same memory, if `base`'s parts
     /// begin this path's.
@@ -199,18 +55,29 @@ impl<'a> Path<'a> {
         ensures empty { IfOk result (λ left. left.bytes.now ≡ []
             → BeginsAt left.bytes self.now.bytes (length (rest self.now.bytes.now 0 0))) }
     {
-        let common = common_len(self.bytes, base.bytes);
-        let Some(left) = after_prefix(self.bytes, base.bytes, common) else {
-            return Err(StripPrefixError(()));
-        };
-        let left = left.as_path();
-        if left.bytes.is_empty() {
-            let end = last_part_end(self.bytes);
+        // The filler behind the last part goes first, so that what is left ends where that does.
+        let end = trimmed_len(self.bytes, self.bytes.len());
+        let pair = Pair::new(&self.bytes[..end], base.bytes);
+        if pair.has_written_prefix() {
+            let len = base.bytes.len();
             return Ok(Path {
-                bytes: &self.bytes[end..end],
+                bytes: if len == 0 {
+                    pair.first
+                } else {
+                    past_filler(&pair.first[len..])
+                },
             });
         }
-        Ok(left)
+        let Difference::Behind(place) = pair.first_difference() else {
+            return Err(StripPrefixError(()));
+        };
+        if place == 0 {
+            return Err(StripPrefixError(()));
+        }
+        match Comparison::left_behind_cut(&pair.first[place..], &base.bytes[place..]) {
+            Some(bytes) => Ok(Path { bytes }),
+            None => Err(StripPrefixError(())),
+        }
     }
 
     /// Whether `base`'s parts begin this path's. Every path begins with the empty one. Does not
@@ -223,7 +90,20 @@ impl<'a> Path<'a> {
         ensures { IsTrue result
             ↔ Begins (values base.entry.bytes.now) (values self.now.bytes.now) }
     {
-        has_prefix(self.bytes, base.bytes)
+        let pair = Pair::new(self.bytes, base.bytes);
+        if pair.has_written_prefix() {
+            return true;
+        }
+        match pair.first_difference() {
+            Difference::InParts(_) => false,
+            Difference::Behind(place) => {
+                place > 0
+                    && Comparison::left_behind_cut(
+                        &self.bytes[place..],
+                        &base.bytes[place..],
+                    ).is_some()
+            }
+        }
     }
 
     /// Whether `child`'s parts end this path's. Does not allocate. As Rust's `Path::ends_with`;
@@ -236,6 +116,20 @@ impl<'a> Path<'a> {
         ensures { IsTrue result
             ↔ Ends (values child.entry.bytes.now) (values self.now.bytes.now) }
     {
-        ends_with_parts(self.bytes, child.bytes)
+        let Some(shared) = shared_last_len(self.bytes, child.bytes) else {
+            return false;
+        };
+        // The last part that both end in is known to be the same.
+        let mut left = Components::new(&self.bytes[..self.bytes.len() - shared]);
+        let mut child_parts = Components::new(&child.bytes[..child.bytes.len() - shared]);
+        while let Some(part) = child_parts.next_back() {
+            let Some(own) = left.next_back() else {
+                return false;
+            };
+            if !own.has_same_value(part) {
+                return false;
+            }
+        }
+        true
     }
 }

@@ -1,0 +1,286 @@
+//! Two paths side by side: what each is to the other, told by where their bytes first differ.
+ghost use Rattle.std.specs.Prelude.{◌≡◌, ◌≢◌, ◌+◌, ◌<◌, ◌≤◌, false, [], length, IsTrue};
+ghost use Rattle.std.specs.Ordering.{nat_cmp};
+ghost use Rattle.unix_path.specs.CommonDir.{inner_values};
+ghost use Rattle.unix_path.specs.Order.{values_cmp};
+ghost use Rattle.unix_path.specs.Parts.{dot, values};
+ghost use Rattle.unix_path.specs.Places.{IsTail};
+ghost use Rattle.unix_path.specs.Steps.{begins_piece, is_idle, piece_rank, PastFiller};
+ghost use Rattle.unix_path.specs.Steps.{IsAlike, IsAlike-prop};
+
+use crate::cursor::long_idle_len;
+use std::cmp::Ordering;
+use unix_bytes::search::{common_len, near_common_len};
+
+// What two paths are to each other.
+#[derive(Clone, Copy)]
+pub(crate) enum Comparison<'a> {
+    // The order of their first parts that differ.
+    Differ(Ordering),
+    // The first path starts with the second. What it has left behind that begins with a part.
+    StartsWith(&'a [u8]),
+    // The first path is a prefix of the second, which has more parts.
+    IsPrefix,
+}
+
+// What the first bytes that differ in two paths tell.
+#[derive(Clone, Copy)]
+pub(crate) enum Difference {
+    // They are in two parts that differ, and tell the order of these.
+    InParts(Ordering),
+    // Both paths can be cut at this place, up to which they are written alike; or it is 0, and
+    // their first parts differ.
+    Behind(usize),
+}
+
+// Two paths, and how many bytes both begin with.
+#[derive(Clone, Copy)]
+pub(crate) struct Pair<'a, 'b> {
+    pub(crate) first: &'a [u8],
+    pub(crate) second: &'b [u8],
+    pub(crate) common: usize,
+    ghost alike: { IsAlike first.now second.now common } by { IsAlike-prop _ _ _ },
+}
+
+// The kinds of parts, in their order.
+#[derive(Clone, Copy, PartialEq, Eq, PartialOrd, Ord)]
+enum Kind {
+    RootDir,
+    CurDir,
+    ParentDir,
+    Name,
+}
+
+// What follows the filler at the beginning of a string that stands behind a cut.
+#[inline]
+pub(crate) fn past_filler(bytes: &[u8]) -> &[u8]
+    ensures values { values result.now ≡ inner_values bytes.now }
+    ensures lead { is_idle result.now 0 ≡ false }
+    ensures behind { PastFiller bytes.now result.now }
+    ensures tail { IsTail result bytes.entry }
+{
+    &bytes[long_idle_len(bytes)..]
+}
+
+// How many bytes follow the filler behind a cut: none exactly if no part follows. It isn't inlined,
+// nor are the calls below, so that their callers stay small.
+#[inline(never)]
+pub(crate) fn left_len(bytes: &[u8]) -> usize
+    ensures behind { nat_cmp result 0 ≡ values_cmp (inner_values bytes.now) [] }
+    ensures before { nat_cmp 0 result ≡ values_cmp [] (inner_values bytes.now) }
+{
+    past_filler(bytes).len()
+}
+
+// One more than the byte at `at`, or 0 if a piece ends there: at a slash, or at the end.
+#[inline]
+fn piece_rank(bytes: &[u8], at: usize) -> u16
+    ensures { result ≡ piece_rank bytes.now at }
+{
+    if at < bytes.len() && bytes[at] != b'/' {
+        1 + u16::from(bytes[at])
+    } else {
+        0
+    }
+}
+
+// The rank of a dot.
+const DOT_RANK: u16 = 1 + b'.' as u16;
+
+// Whether the rank is that of a byte that is neither a slash nor a dot. A piece with such a byte is
+// a name.
+#[inline]
+fn is_in_name(rank: u16) -> bool
+    ensures no_end { IsTrue result → rank ≢ 0 }
+    ensures no_dot { IsTrue result → rank ≢ 1 + dot }
+{
+    rank != 0 && rank != DOT_RANK
+}
+
+// Whether a piece begins at `at`: at 0, or behind a slash.
+#[inline]
+pub(crate) fn begins_piece(bytes: &[u8], at: usize) -> bool
+    requires { at ≤ length bytes.now }
+    ensures { result ≡ begins_piece bytes.now at }
+{
+    at == 0 || bytes[at - 1] == b'/'
+}
+
+impl Kind {
+    ghost use Rattle.std.specs.Prelude.{◌∷◌, List};
+    ghost use Rattle.unix_path.specs.Order.{rank};
+    ghost use Rattle.unix_path.specs.Parts.{Value, values};
+    ghost use Rattle.unix_path.specs.Pairs.{kind_rank};
+
+    // The kind of a path's first part: three bytes tell it.
+    #[inline]
+    fn of_first(path: &[u8]) -> Kind
+        requires { 0 < length path.now }
+        ensures { (first : Value) → (others : List Value) → values path.now ≡ first ∷ others
+            → rank first ≡ kind_rank result }
+    {
+        if path[0] == b'/' {
+            return Kind::RootDir;
+        }
+        if path[0] != b'.' {
+            return Kind::Name;
+        }
+        if piece_rank(path, 1) == 0 {
+            return Kind::CurDir;
+        }
+        if piece_rank(path, 1) != DOT_RANK {
+            return Kind::Name;
+        }
+        if piece_rank(path, 2) == 0 {
+            Kind::ParentDir
+        } else {
+            Kind::Name
+        }
+    }
+}
+
+// Let `n` be the place of the first difference, and look at the pieces around it, which have the
+// same bytes before `n`. If these are two bytes, or one that isn't a dot, or if at `n` each has a
+// byte that isn't a dot, both are names, or one is the `..` that ends at `n`: the bytes at `n` tell
+// the order, and an end comes first. Otherwise both pieces begin or end at `n`, or begin with a dot
+// just before it. There both paths are cut: what stands before the cut is written alike and has the
+// same parts, and what filler stands behind it is dropped. If a part is left of one path alone,
+// that is the longer one; if of neither, they are equal. Otherwise the rest is compared in the same
+// way, until the cut is at its beginning: there the first parts differ. They differ in their kinds,
+// which three bytes tell, or are names, whose order the bytes at `n` tell. No part is taken twice,
+// since each cut leaves fewer bytes.
+impl<'a, 'b> Pair<'a, 'b> {
+    ghost use Rattle.unix_path.specs.Pairs.{Tells};
+    ghost use Rattle.unix_path.specs.Steps.{CutFields, IsWrittenPrefix};
+
+    #[inline]
+    pub(crate) fn new(first: &'a [u8], second: &'b [u8]) -> Pair<'a, 'b>
+        ensures first { result.first ≡ first.entry }
+        ensures second { result.second ≡ second.entry }
+    {
+        Pair {
+            first,
+            second,
+            common: common_len(first, second),
+        }
+    }
+
+    // Whether all bytes of the second path begin the first, which can be cut behind them.
+    #[inline]
+    pub(crate) fn has_written_prefix(self) -> bool
+        ensures written { IsTrue result
+            → IsWrittenPrefix self.entry.first.now self.entry.second.now }
+        ensures empty { length self.entry.second.now ≡ 0 → IsTrue result }
+    {
+        if self.common < self.second.len() {
+            return false;
+        }
+        if piece_rank(self.first, self.common) == 0 {
+            return true;
+        }
+        begins_piece(self.first, self.common)
+    }
+
+    // What the first difference tells.
+    #[inline(always)]
+    pub(crate) fn first_difference(self) -> Difference
+        ensures { Tells self.entry result }
+    {
+        let (first, common) = (self.first, self.common);
+        let (x, y) = (piece_rank(first, common), piece_rank(self.second, common));
+        if is_in_name(x) && is_in_name(y) {
+            return Difference::InParts(x.cmp(&y));
+        }
+        if x == y || begins_piece(first, common) {
+            return Difference::Behind(common);
+        }
+        if first[common - 1] == b'.' && begins_piece(first, common - 1) {
+            return Difference::Behind(common - 1);
+        }
+        Difference::InParts(x.cmp(&y))
+    }
+
+    // The order of the paths, whose first parts differ or of which one has none.
+    #[inline]
+    pub(crate) fn first_parts_order(self) -> Ordering
+        requires { CutFields self.first.now self.second.now self.common 0 }
+        ensures { result ≡ values_cmp (values self.entry.first.now)
+            (values self.entry.second.now) }
+    {
+        if self.first.is_empty() || self.second.is_empty() {
+            return self.first.len().cmp(&self.second.len());
+        }
+        let by_kind = Kind::of_first(self.first).cmp(&Kind::of_first(self.second));
+        if by_kind.is_ne() {
+            return by_kind;
+        }
+        piece_rank(self.first, self.common).cmp(&piece_rank(self.second, self.common))
+    }
+}
+
+impl<'a> Comparison<'a> {
+    ghost use Rattle.std.specs.Prelude.{◌↔◌, List, ℕ, IsSome, IfSome};
+    ghost use Rattle.unix_path.specs.Pairs.{Compared, IsLeft, LeavesTail};
+    ghost use Rattle.unix_path.specs.Prefixes.{Begins};
+    ghost use Rattle.unix_path.specs.Steps.{BehindCut};
+
+    // What two paths are to each other of which `a` and `b` stand behind a cut.
+    #[inline(always)]
+    fn behind_cut(a: &'a [u8], b: &[u8]) -> Comparison<'a>
+        ensures paths { (s t : List ℕ) → BehindCut s t a.now b.now → Compared s t result }
+        ensures tail { LeavesTail a.entry result }
+    {
+        let mut rests = (a, b);
+        loop {
+            let (first, second) = (past_filler(rests.0), past_filler(rests.1));
+            if second.is_empty() {
+                return Comparison::StartsWith(first);
+            }
+            let pair = Pair {
+                first,
+                second,
+                common: near_common_len(first, second),
+            };
+            match pair.first_difference() {
+                Difference::InParts(order) => return Comparison::Differ(order),
+                Difference::Behind(place) => {
+                    if place == 0 {
+                        return if first.is_empty() {
+                            Comparison::IsPrefix
+                        } else {
+                            Comparison::Differ(pair.first_parts_order())
+                        };
+                    }
+                    rests = (&first[place..], &second[place..]);
+                }
+            }
+        }
+    }
+
+    // The order of two paths of which `a` and `b` stand behind a cut.
+    #[inline(never)]
+    pub(crate) fn order_behind_cut(a: &[u8], b: &[u8]) -> Ordering
+        ensures { (s t : List ℕ) → BehindCut s t a.now b.now
+            → result ≡ values_cmp (values s) (values t) }
+    {
+        match Comparison::behind_cut(a, b) {
+            Comparison::Differ(order) => order,
+            Comparison::StartsWith(left) => left.len().cmp(&0),
+            Comparison::IsPrefix => Ordering::Less,
+        }
+    }
+
+    // What is left of the first of two paths behind the second, if it starts with that; `a` and `b`
+    // stand behind a cut.
+    #[inline(never)]
+    pub(crate) fn left_behind_cut(a: &'a [u8], b: &[u8]) -> Option<&'a [u8]>
+        ensures some { (s t : List ℕ) → BehindCut s t a.now b.now
+            → IsSome result ↔ Begins (values t) (values s) }
+        ensures left { IfSome result (λ left. IsLeft a.entry b.now left) }
+    {
+        match Comparison::behind_cut(a, b) {
+            Comparison::StartsWith(left) => Some(left),
+            _ => None,
+        }
+    }
+}
