@@ -23,3 +23,4 @@ pub mod UpEndLemmas
 pub mod LeadTestLemmas
 pub mod PushLemmas
 pub mod KeepStretchLemmas
+pub mod NamesBelowLemmas

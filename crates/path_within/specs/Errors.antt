@@ -1,9 +1,17 @@
--- What the refusal of a join is printed as. Not in Rust's std.
+-- What the refusals of joins and requests are printed as. Not in Rust's std.
 use Rattle.std.specs.Prelude.{ℕ, List, codes}
 use Rattle.path_within.specs.declared.within.WithinError.{WithinError}
 use Rattle.path_within.specs.declared.within.WithinError.TheVariants.{Escapes, Memory}
+use Rattle.path_within.specs.declared.request.RequestError.{RequestError}
+use Rattle.path_within.specs.declared.request.RequestError.TheVariants.{Rooted, Climbs, Nul}
 
--- what an error is printed as
+-- what an error of a join is printed as
 abbrev pub within_error_text : WithinError → List ℕ
 within_error_text Escapes = codes "path leaves its root"
 within_error_text (Memory error) = codes "out of memory"
+
+-- what an error of a request is printed as
+abbrev pub request_error_text : RequestError → List ℕ
+request_error_text Rooted = codes "path has a root"
+request_error_text Climbs = codes "path leaves its root"
+request_error_text Nul = codes "path has a NUL byte"

@@ -6,3 +6,5 @@ pub mod WayLaws
 pub mod Steps
 pub mod PlainPieces
 pub mod Errors
+pub mod Below
+pub mod Requests

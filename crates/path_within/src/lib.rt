@@ -4,8 +4,10 @@
 pub mod laws;
 mod normal;
 mod plain;
+mod request;
 pub mod resolved;
 pub mod way;
 pub mod within;
 
+pub use request::{Request, RequestError};
 pub use within::WithinError;

@@ -1,0 +1,266 @@
+//! Requests: paths from outside, checked once.
+ghost use Rattle.std.specs.Prelude.{◌≡◌, ◌↔◌, ◌≤◌, true, false, not, [], length, option_map};
+ghost use Rattle.std.specs.Prelude.{IfOk, IfSome, IsErrOf, IsTrue, Some, None};
+ghost use Rattle.std.specs.List.{position_or_len};
+ghost use Rattle.std.specs.Fmt.{padded};
+ghost use Rattle.unix_path.specs.Names.{file_name_of};
+ghost use Rattle.unix_path.specs.Parts.{is_rooted, is_slash, values};
+ghost use Rattle.path_within.specs.Climbs.{Climbs};
+ghost use Rattle.path_within.specs.PlainPieces.{is_plain};
+ghost use Rattle.path_within.specs.Resolved.{resolved_of};
+ghost use Rattle.path_within.specs.Below.{names_below, has_nul, behind_slashes, ends_in_slash};
+
+use crate::plain::is_plain;
+use crate::within::climbs;
+use std::error::Error;
+use std::fmt;
+use unix_bytes::bytes::UnixStr;
+use unix_bytes::search::first_place;
+use unix_path::{Component, Path};
+
+/// Why a path is no request.
+///
+/// When it is displayed, its text is padded as any text is. Not in Rust's std.
+#[derive(Clone, Copy, Debug, PartialEq, Eq)]
+pub enum RequestError {
+    /// The path has a root. It is printed as `path has a root`.
+    Rooted,
+    /// The path has no root, and would go above where it starts. It is printed as `path leaves its
+    /// root`.
+    Climbs,
+    /// The path neither has a root nor climbs, and has a NUL byte. It is printed as `path has a NUL
+    /// byte`.
+    Nul,
+}
+
+/// The text of each variant, padded by width, precision, fill and alignment. Does not allocate.
+///
+/// `RequestError::Rooted` is printed as `path has a root`.
+impl fmt::Display for RequestError {
+    ghost use Rattle.path_within.specs.Errors.{request_error_text};
+
+    ghost output = { λ error. Some (request_error_text error) };
+
+    ghost styled_output = { λ error spec. Some (padded spec (request_error_text error)) };
+
+    fn fmt<W: fmt::Write>(&self, f: &mut fmt::Formatter<W>) -> fmt::Result {
+        f.pad(match self {
+            RequestError::Rooted => "path has a root",
+            RequestError::Climbs => "path leaves its root",
+            RequestError::Nul => "path has a NUL byte",
+        })
+    }
+}
+
+impl Error for RequestError {}
+
+// Whether a byte is NUL. Looks at 16 bytes at a time.
+#[inline]
+fn has_nul(bytes: &[u8]) -> bool
+    ensures { result ≡ has_nul bytes.now }
+{
+    first_place(bytes, 0) < bytes.len()
+}
+
+// How many slashes stand in front.
+#[inline]
+fn slashes_len(bytes: &[u8]) -> usize
+    ensures value { result ≡ position_or_len (λ b. not (is_slash b)) bytes.now }
+    ensures in_range { result ≤ length bytes.now }
+{
+    for (place, byte) in bytes.iter().enumerate() {
+        if *byte != b'/' {
+            return place;
+        }
+    }
+    bytes.len()
+}
+
+// Whether a path without a root is its names as it is spelled, or `None` if it climbs. One that is
+// its names as it is spelled doesn't climb, so its parts aren't walked over.
+#[inline]
+fn is_spelled_unless_climbs(path: Path<'_>) -> Option<bool>
+    requires { is_rooted path.bytes.now ≡ false }
+    ensures none { result ≡ None ↔ Climbs (values path.entry.bytes.now) }
+    ensures spelled { IfSome result (λ is. IsTrue is → is_plain path.entry.bytes.now ≡ true) }
+{
+    if is_plain(path) {
+        return Some(true);
+    }
+    if climbs(path) {
+        return None;
+    }
+    Some(false)
+}
+
+// The last name of a path that is resolved behind `/`.
+fn last_name(path: Path<'_>) -> Option<UnixStr<'_>>
+    ensures { option_map (λ name. name.bytes.now) result
+        ≡ file_name_of (names_below (values path.entry.bytes.now)) }
+{
+    let mut left = path.components();
+    // How many of the names that are left are taken away by the `..` behind them.
+    let mut ups = 0_usize;
+    while let Some(part) = left.next_back() {
+        match part {
+            Component::Normal(name) => {
+                if ups == 0 {
+                    return Some(name);
+                }
+                ups -= 1;
+            }
+            Component::ParentDir => ups += 1,
+            Component::CurDir => {}
+            Component::RootDir => return None,
+        }
+    }
+    None
+}
+
+/// A path from outside that was checked: it stands for names, which go down from any root.
+///
+/// The names are those of the path resolved behind `/`: each `..` takes away the name before it. It
+/// goes by names alone: links are not followed. The path has neither a root nor a NUL. Copying it
+/// copies a view. Not in Rust's std.
+///
+/// `a/../b` stands for the name `b`, and `a/..` for no name.
+#[derive(Clone, Copy)]
+pub struct Request<'a> {
+    path: Path<'a>,
+    // True only if the path is its names as it is spelled. A join then copies it as one, and looks
+    // at none of its bytes.
+    is_spelled: bool,
+    ghost rootless: { is_rooted path.bytes.now ≡ false },
+    ghost no_nul: { has_nul path.bytes.now ≡ false },
+    ghost spelled: { IsTrue is_spelled → is_plain path.bytes.now ≡ true },
+}
+
+impl<'a> Request<'a> {
+    ghost use Rattle.path_within.specs.Requests.{request_bytes, request_names};
+
+    // The request of a path without a root and a NUL.
+    #[inline]
+    pub(crate) fn of_rootless(path: Path<'a>, is_spelled: bool) -> Request<'a>
+        requires rootless { is_rooted path.bytes.now ≡ false }
+        requires no_nul { has_nul path.bytes.now ≡ false }
+        requires spelled { IsTrue is_spelled → is_plain path.bytes.now ≡ true }
+        ensures { request_bytes result ≡ path.entry.bytes.now }
+    {
+        Request { path, is_spelled }
+    }
+
+    /// The request of a path that doesn't climb.
+    ///
+    /// It stands for the names of the path, resolved. The error is `Rooted` if the path has a root,
+    /// else `Climbs` if it goes above where it starts, else `Nul` if it has a NUL byte; what tells
+    /// one is read before what tells the next. Does not allocate. Not in Rust's std; as Go's
+    /// `filepath.IsLocal`, which refuses the empty path and lets a NUL through.
+    ///
+    /// For `a//../b` it stands for `b`; `/a`, `a/../..` and `a\0.png` are refused.
+    pub fn new(path: Path<'a>) -> Result<Request<'a>, RequestError>
+        ensures rooted { IsErrOf result RequestError.Rooted
+            ↔ (is_rooted path.entry.bytes.now ≡ true) }
+        ensures climbs { IsErrOf result RequestError.Climbs
+            ↔ ((is_rooted path.entry.bytes.now ≡ false)
+            × Climbs (values path.entry.bytes.now)) }
+        ensures nul { IsErrOf result RequestError.Nul
+            ↔ ((Climbs (values path.entry.bytes.now) → ⊥)
+            × (has_nul path.entry.bytes.now ≡ true)) }
+        ensures bytes { IfOk result (λ r. request_bytes r ≡ path.entry.bytes.now) }
+        ensures names { IfOk result (λ r.
+            request_names r ≡ resolved_of (values path.entry.bytes.now)) }
+    {
+        // The first byte tells a root, before any other is read.
+        if path.has_root() {
+            return Err(RequestError::Rooted);
+        }
+        let Some(is_spelled) = is_spelled_unless_climbs(path) else {
+            return Err(RequestError::Climbs);
+        };
+        if has_nul(path.bytes) {
+            return Err(RequestError::Nul);
+        }
+        Ok(Request { path, is_spelled })
+    }
+
+    /// The request of a path as a root directory reads it: leading slashes are dropped, and a `..`
+    /// at the top stays at the top. It is for the paths of URLs and archives.
+    ///
+    /// It stands for the names of the path resolved behind `/`. The error is `Nul` exactly if the
+    /// path has a NUL byte. Does not allocate. Not in Rust's std; as Go's `path.Clean` of the path
+    /// behind a `/`.
+    ///
+    /// For `//a/../../b` it stands for `b`, and for `/` for no name.
+    pub fn below(path: Path<'a>) -> Result<Request<'a>, RequestError>
+        ensures rooted { IsErrOf result RequestError.Rooted → ⊥ }
+        ensures climbs { IsErrOf result RequestError.Climbs → ⊥ }
+        ensures nul { IsErrOf result RequestError.Nul ↔ (has_nul path.entry.bytes.now ≡ true) }
+        ensures bytes { IfOk result (λ r. request_bytes r ≡ behind_slashes path.entry.bytes.now) }
+        ensures names { IfOk result (λ r.
+            request_names r ≡ names_below (values path.entry.bytes.now)) }
+    {
+        if has_nul(path.bytes) {
+            return Err(RequestError::Nul);
+        }
+        let left = Path::from_bytes(&path.bytes[slashes_len(path.bytes)..]);
+        Ok(Request {
+            path: left,
+            is_spelled: is_plain(left),
+        })
+    }
+
+    /// The path that the request was made of, as it is spelled; for `below` without its leading
+    /// slashes. Does not allocate. Not in Rust's std.
+    ///
+    /// For the request of `a/../b/` it is `a/../b/`.
+    #[must_use]
+    #[inline]
+    pub fn as_path(&self) -> Path<'a>
+        ensures { result.bytes.now ≡ request_bytes self.now }
+    {
+        self.path
+    }
+
+    /// The last of the names. `None` if there is no name. Does not allocate. Not in Rust's std.
+    ///
+    /// For the request of `a/b/..` it is `a`.
+    #[must_use]
+    pub fn file_name(&self) -> Option<UnixStr<'a>>
+        ensures { option_map (λ name. name.bytes.now) result
+            ≡ file_name_of (request_names self.now) }
+    {
+        last_name(self.path)
+    }
+
+    /// Whether there is no name: a join with the request is the root itself. Does not allocate. Not
+    /// in Rust's std.
+    ///
+    /// For the requests of `a/..` and the empty path it is true, and for that of `.foo` false.
+    #[must_use]
+    pub fn is_root(&self) -> bool
+        ensures { IsTrue result ↔ (request_names self.now ≡ []) }
+    {
+        self.file_name().is_none()
+    }
+
+    /// Whether a slash or a `/.` stands behind the path's last part, and that is a name. A system
+    /// call takes such a path for one of a directory; a join leaves out what stands behind names.
+    ///
+    /// If the path's last part is a `..`, it is false. Does not allocate. Not in Rust's std.
+    ///
+    /// For the requests of `a/` and `a/.` it is true, and for that of `a` false.
+    #[must_use]
+    pub fn ends_in_slash(&self) -> bool
+        ensures { result ≡ ends_in_slash (request_bytes self.now) }
+    {
+        let end = self.path.components().as_path().as_unix_str().len();
+        self.path.file_name().is_some() && end < self.path.as_unix_str().len()
+    }
+}
+
+/// The debug form of `as_path`: for the request of `a/b` it is `"a/b"`. Does not allocate.
+impl fmt::Debug for Request<'_> {
+    fn fmt<W: fmt::Write>(&self, f: &mut fmt::Formatter<W>) -> fmt::Result {
+        fmt::Debug::fmt(&self.as_path(), f)
+    }
+}
