@@ -24,3 +24,9 @@ pub mod LeadTestLemmas
 pub mod PushLemmas
 pub mod KeepStretchLemmas
 pub mod NamesBelowLemmas
+pub mod ResultLemmas
+pub mod NulLemmas
+pub mod EndsPartLemmas
+pub mod BelowLemmas
+pub mod BelowValueLemmas
+pub mod BelowLawLemmas

@@ -12,7 +12,7 @@ use Rattle.unix_path.specs.Parts.{Value, RootDir, CurDir, ParentDir, Normal, is_
 use Rattle.unix_path.specs.Parts.{is_rooted, values}
 use Rattle.unix_path.proofs.CaseLemmas.{by_test}
 use Rattle.unix_path.proofs.ParentLemmas.{file_name_of-last}
-use Rattle.path_runs.specs.JoinLaws.{drop_lead}
+use Rattle.path_runs.specs.JoinLaws.{drop_dot, drop_lead}
 use Rattle.path_runs.proofs.LeadLemmas.{drop_lead-values}
 use Rattle.path_runs.proofs.PieceValueLemmas.{inner_values-pieces, names_of, values-rooted}
 use Rattle.path_within.specs.Resolved.{AreNames, keep, kept_of, resolved_of, up_from}
@@ -77,8 +77,17 @@ names_below-drop_lead (CurDir ∷ vs) = refl
 names_below-drop_lead (ParentDir ∷ vs) = refl
 names_below-drop_lead (Normal name ∷ vs) = refl
 
+-- a leading dot changes none of them
+pub names_below-drop_dot : (vs : List Value) → names_below (drop_dot vs) ≡ names_below vs
+unfolding names_below resolved_of
+names_below-drop_dot [] = refl
+names_below-drop_dot (RootDir ∷ vs) = refl
+names_below-drop_dot (CurDir ∷ vs) = refl
+names_below-drop_dot (ParentDir ∷ vs) = refl
+names_below-drop_dot (Normal name ∷ vs) = refl
+
 -- a slash in front changes none of them
-names_below-slash : (t : List ℕ) → names_below (values (slash ∷ t)) ≡ names_below (values t)
+pub names_below-slash : (t : List ℕ) → names_below (values (slash ∷ t)) ≡ names_below (values t)
 names_below-slash t =
     ap names_below (values-rooted t)
     ∙ sym (names_below-drop_lead (RootDir ∷ names_of (slice_split is_slash t)))

@@ -8,3 +8,4 @@ pub mod PlainPieces
 pub mod Errors
 pub mod Below
 pub mod Requests
+pub mod BelowLaws

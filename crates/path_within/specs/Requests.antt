@@ -1,8 +1,10 @@
 -- What the clauses on requests and roots speak of.
 use Rattle.std.specs.Prelude.{ℕ, List}
+use Rattle.unix_path.specs.Buffers.{path_bytes}
 use Rattle.unix_path.specs.Parts.{Value, values}
 use Rattle.path_within.specs.Below.{names_below}
 use Rattle.path_within.specs.declared.request.Request.{Request}
+use Rattle.path_within.specs.declared.root.Root.{Root}
 
 -- the bytes of a request, as they are spelled
 abbrev pub request_bytes : Request → List ℕ
@@ -11,3 +13,7 @@ request_bytes r = r.path.bytes.now
 -- the names that a request stands for
 abbrev pub request_names : Request → List Value
 request_names r = names_below (values (request_bytes r))
+
+-- the bytes of a root
+abbrev pub root_bytes : Root → List ℕ
+root_bytes r = path_bytes r.path

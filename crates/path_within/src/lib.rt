@@ -6,8 +6,10 @@ mod normal;
 mod plain;
 mod request;
 pub mod resolved;
+mod root;
 pub mod way;
 pub mod within;
 
 pub use request::{Request, RequestError};
+pub use root::{Root, StripError};
 pub use within::WithinError;

@@ -56,7 +56,7 @@ impl Error for RequestError {}
 
 // Whether a byte is NUL. Looks at 16 bytes at a time.
 #[inline]
-fn has_nul(bytes: &[u8]) -> bool
+pub(crate) fn has_nul(bytes: &[u8]) -> bool
     ensures { result ≡ has_nul bytes.now }
 {
     first_place(bytes, 0) < bytes.len()
@@ -216,9 +216,19 @@ impl<'a> Request<'a> {
     #[must_use]
     #[inline]
     pub fn as_path(&self) -> Path<'a>
-        ensures { result.bytes.now ≡ request_bytes self.now }
+        ensures bytes { result.bytes.now ≡ request_bytes self.now }
+        ensures rootless { is_rooted result.bytes.now ≡ false }
+        ensures no_nul { has_nul result.bytes.now ≡ false }
     {
         self.path
+    }
+
+    // True only if the path is its names as it is spelled.
+    #[inline]
+    pub(crate) fn is_spelled(&self) -> bool
+        ensures { IsTrue result → is_plain (request_bytes self.now) ≡ true }
+    {
+        self.is_spelled
     }
 
     /// The last of the names. `None` if there is no name. Does not allocate. Not in Rust's std.

@@ -1,0 +1,298 @@
+//! Roots: directories below which requests are joined.
+ghost use Rattle.std.specs.Prelude.{◌≡◌, ◌↔◌, ◌+◌, ◌-◌, ◌≤◌, ℕ, List, true, false, length, drop};
+ghost use Rattle.std.specs.Prelude.{IfOk, IfSome, OnOk, OnErr, IsOk, IsErrOf, IsTrue, Some, None};
+ghost use Rattle.std.specs.Fmt.{padded};
+ghost use Rattle.unix_path.specs.Buffers.{path_bytes, capacity};
+ghost use Rattle.unix_path.specs.Parts.{Value, is_rooted, values};
+ghost use Rattle.unix_path.specs.Prefixes.{Begins, stripped_of};
+ghost use Rattle.unix_path.specs.Views.{value_of};
+ghost use Rattle.path_within.specs.Below.{below_of, has_nul, names_below, GoesDown, IsBelow};
+ghost use Rattle.path_within.specs.Below.{StandsOn};
+ghost use Rattle.path_within.specs.Climbs.{has_root_or_up, is_root_or_up};
+ghost use Rattle.path_within.specs.PlainPieces.{is_plain};
+ghost use Rattle.path_within.specs.Resolved.{resolved_bytes_of};
+
+use crate::plain::is_plain;
+use crate::request::{Request, has_nul};
+use crate::resolved::resolved;
+use std::alloc::{AllocError, Global};
+use std::error::Error;
+use std::fmt;
+use unix_path::{Component, Path, PathBuf};
+
+/// Why a path is not below a root.
+///
+/// When it is displayed, its text is padded as any text is. Not in Rust's std.
+#[derive(Clone, Copy, Debug, PartialEq, Eq)]
+pub enum StripError {
+    /// The path's parts aren't those of the root and then neither a root nor a `..`. It is printed
+    /// as `path is outside its root`.
+    Outside,
+    /// A NUL byte stands behind the root. It is printed as `path has a NUL byte`.
+    Nul,
+}
+
+/// The text of each variant, padded by width, precision, fill and alignment. Does not allocate.
+///
+/// `StripError::Outside` is printed as `path is outside its root`.
+impl fmt::Display for StripError {
+    ghost use Rattle.path_within.specs.Errors.{strip_error_text};
+
+    ghost output = { λ error. Some (strip_error_text error) };
+
+    ghost styled_output = { λ error spec. Some (padded spec (strip_error_text error)) };
+
+    fn fmt<W: fmt::Write>(&self, f: &mut fmt::Formatter<W>) -> fmt::Result {
+        f.pad(match self {
+            StripError::Outside => "path is outside its root",
+            StripError::Nul => "path has a NUL byte",
+        })
+    }
+}
+
+impl Error for StripError {}
+
+// Whether the part is the root or `..`.
+#[inline]
+fn is_root_or_up(part: Component<'_>) -> bool
+    ensures { result ≡ is_root_or_up (value_of part.entry) }
+{
+    matches!(part, Component::RootDir | Component::ParentDir)
+}
+
+// Whether a path is its names as it is spelled, or `None` if the root or a `..` is among its parts.
+fn is_spelled_unless_up(path: Path<'_>) -> Option<bool>
+    ensures none { result ≡ None ↔ (has_root_or_up (values path.entry.bytes.now) ≡ true) }
+    ensures spelled { IfSome result (λ is. IsTrue is → is_plain path.entry.bytes.now ≡ true) }
+{
+    if path.has_root() {
+        return None;
+    }
+    if is_plain(path) {
+        return Some(true);
+    }
+    if path.components().any(is_root_or_up) {
+        return None;
+    }
+    Some(false)
+}
+
+/// A directory below which requests are joined: a path that is resolved once, or kept as it stands.
+///
+/// A join has the root's bytes in front and names alone behind them, and only want of memory refuses
+/// it. It goes by names: if a part may be a link, the system has to refuse links below the root. Not
+/// in Rust's std.
+///
+/// Below the root `/srv/./www/` the request `a/../b` is `/srv/www/b`.
+#[derive(Debug, Drop)]
+pub struct Root {
+    path: PathBuf,
+}
+
+impl Root {
+    ghost use Rattle.path_within.specs.Requests.{request_bytes, request_names, root_bytes};
+
+    /// The root with this path, resolved by names.
+    ///
+    /// If a part before a `..` may be a link, take `kept`. Allocates once, as many bytes as the
+    /// path has, or not at all for the empty path, which stands for the current directory; fails if
+    /// the allocation fails. Not in Rust's std.
+    ///
+    /// For `/srv/a/../www/` it is the root `/srv/www`.
+    pub fn new(alloc: Global, path: Path<'_>) -> Result<Root, AllocError>
+        ensures { IfOk result (λ r. root_bytes r ≡ resolved_bytes_of path.entry.bytes.now) }
+    {
+        let path = resolved(alloc, path)?;
+        Ok(Root { path })
+    }
+
+    /// The root with this path as it stands, for roots whose parts may be links: each `..` leads
+    /// where the system says.
+    ///
+    /// Allocates once, as many bytes as the path has, or not at all for the empty path; fails if
+    /// the allocation fails. Not in Rust's std.
+    ///
+    /// For `/srv/a/../www/` it is the root `/srv/a/../www/`.
+    pub fn kept(alloc: Global, path: Path<'_>) -> Result<Root, AllocError>
+        ensures { IfOk result (λ r. root_bytes r ≡ path.entry.bytes.now) }
+    {
+        let path = path.to_path_buf(alloc)?;
+        Ok(Root { path })
+    }
+
+    /// The path of the root. Does not allocate. Not in Rust's std.
+    ///
+    /// For the root made of `/srv/./www/` by `new` it is `/srv/www`.
+    #[must_use]
+    #[inline]
+    pub fn as_path(&self) -> Path<'_>
+        ensures { result.bytes.now ≡ root_bytes self.now }
+    {
+        self.path.as_path()
+    }
+
+    // Makes the buffer, which has room for the root, hold the root alone.
+    #[inline]
+    fn restart(&self, buffer: &mut PathBuf)
+        requires { length (root_bytes self.now) ≤ capacity buffer.old }
+        ensures bytes { path_bytes buffer.new ≡ root_bytes self.now }
+        ensures capacity { capacity buffer.old ≤ capacity buffer.new }
+    {
+        buffer.clear();
+        let _ = buffer.push(self.as_path());
+    }
+
+    // Takes the last of `depth` names behind the root away, if there is one. Returns how many are
+    // left.
+    fn drop_name(&self, buffer: &mut PathBuf, depth: usize) -> usize
+        requires { length (root_bytes self.now) ≤ capacity buffer.old }
+        ensures names { (ns : List Value) → depth ≡ length ns
+            → StandsOn (root_bytes self.now) (path_bytes buffer.old) ns
+            → StandsOn (root_bytes self.now) (path_bytes buffer.new) (drop 1 ns) }
+        ensures depth { result ≡ depth - 1 }
+        ensures capacity { capacity buffer.old ≤ capacity buffer.new }
+    {
+        if depth == 0 {
+            return 0;
+        }
+        if depth == 1 {
+            // A `pop` could take away what stands behind the root's last part.
+            self.restart(buffer);
+            return 0;
+        }
+        buffer.pop();
+        depth - 1
+    }
+
+    // Joins the names of a path to the root, which the buffer holds. It has room for both.
+    fn push_names(&self, buffer: &mut PathBuf, path: Path<'_>)
+        requires root { path_bytes buffer.old ≡ root_bytes self.now }
+        requires rootless { is_rooted path.bytes.now ≡ false }
+        requires room { length (root_bytes self.now) + 1 + length path.bytes.now
+            ≤ capacity buffer.old }
+        ensures { path_bytes buffer.new
+            ≡ below_of (root_bytes self.now) (names_below (values path.entry.bytes.now)) }
+    {
+        let mut depth = 0_usize;
+        let mut left = path.components();
+        while let Some(part) = left.next() {
+            match part {
+                Component::Normal(name) => {
+                    let _ = buffer.push(Path::new(name));
+                    depth += 1;
+                }
+                Component::ParentDir => depth = self.drop_name(buffer, depth),
+                Component::RootDir | Component::CurDir => {}
+            }
+        }
+    }
+
+    // Joins a request to the root, in a buffer with room for both.
+    #[inline]
+    fn fill(&self, buffer: &mut PathBuf, request: Request<'_>)
+        requires { length (root_bytes self.now) + 1 + length (request_bytes request)
+            ≤ capacity buffer.old }
+        ensures { path_bytes buffer.new
+            ≡ below_of (root_bytes self.now) (request_names request.entry) }
+    {
+        self.restart(buffer);
+        if request.is_spelled() {
+            // Its bytes are its names, and none of them is looked at again.
+            let _ = buffer.push(request.as_path());
+            return;
+        }
+        self.push_names(buffer, request.as_path());
+    }
+
+    // As many bytes as a join with the request has at most.
+    #[inline]
+    fn most_bytes(&self, request: Request<'_>) -> usize
+        ensures { result ≡ length (root_bytes self.now) + 1 + length (request_bytes request.entry) }
+    {
+        self.as_path().as_unix_str().len() + 1 + request.as_path().as_unix_str().len()
+    }
+
+    /// The request joined to the root: the root's bytes, and behind them the request's names, with
+    /// a `/` between two of them and, where one is wanted, behind the root.
+    ///
+    /// What stands behind the root has no `..`, no `.` and no NUL, and no slash at its end; if the
+    /// request has no name, the join is the root itself. Allocates once, one byte more than the
+    /// root and the request have; fails only if the allocation fails. Not in Rust's std.
+    ///
+    /// Below `/srv/www` the request `a/../b/` is `/srv/www/b`.
+    #[must_use]
+    pub fn join(&self, alloc: Global, request: Request<'_>) -> Result<PathBuf, AllocError>
+        ensures bytes { IfOk result (λ p. path_bytes p
+            ≡ below_of (root_bytes self.now) (request_names request.entry)) }
+        ensures begins { IfOk result (λ p. Begins (root_bytes self.now) (path_bytes p)) }
+        ensures below { IfOk result (λ p. IsBelow (root_bytes self.now) (path_bytes p)) }
+    {
+        let mut joined = PathBuf::with_capacity(alloc, self.most_bytes(request))?;
+        self.fill(&mut joined, request);
+        Ok(joined)
+    }
+
+    /// The request joined to the root, as `join` gives it, in place of what the buffer held.
+    ///
+    /// If the buffer can hold one byte more than the root and the request have, doesn't allocate
+    /// and succeeds; else allocates once. If the allocation fails, the buffer stays as it was. Not
+    /// in Rust's std.
+    ///
+    /// Below `/srv/www` the request `a` makes `/srv/www/a` of a buffer that held `/tmp`.
+    pub fn join_into(&self, buffer: &mut PathBuf, request: Request<'_>) -> Result<(), AllocError>
+        ensures bytes { OnOk result (path_bytes buffer.new
+            ≡ below_of (root_bytes self.now) (request_names request.entry)) }
+        ensures begins { OnOk result (Begins (root_bytes self.now) (path_bytes buffer.new)) }
+        ensures below { OnOk result (IsBelow (root_bytes self.now) (path_bytes buffer.new)) }
+        ensures err { OnErr result (path_bytes buffer.new ≡ path_bytes buffer.old) }
+        ensures succeeds { length (root_bytes self.now) + 1 + length (request_bytes request.entry)
+            ≤ capacity buffer.old → IsOk result }
+    {
+        let held = buffer.as_path().as_unix_str().len();
+        // All the room comes first, so that a failed allocation leaves the buffer as it was.
+        buffer.reserve(self.most_bytes(request).saturating_sub(held))?;
+        self.fill(buffer, request);
+        Ok(())
+    }
+
+    /// What stands behind the root in a path: the inverse of `join`.
+    ///
+    /// The error is `Outside` exactly if the path's parts aren't those of the root and then neither
+    /// a root nor a `..`, else `Nul` exactly if a NUL byte stands behind the root. It goes by names
+    /// as they are spelled: a path with a `..` behind the root is to be resolved before. Does not
+    /// allocate. Not in Rust's std.
+    ///
+    /// For `/srv//www/a/` and the root `/srv/www` it is the request `a`; `/srv/www2` and
+    /// `/srv/www/a/../b` are refused.
+    pub fn strip<'a>(&self, path: Path<'a>) -> Result<Request<'a>, StripError>
+        ensures ok { IsOk result ↔ IsBelow (root_bytes self.now) path.entry.bytes.now }
+        ensures nul { IsErrOf result StripError.Nul
+            ↔ (GoesDown (root_bytes self.now) path.entry.bytes.now
+            × (has_nul (stripped_of path.entry.bytes.now (root_bytes self.now)) ≡ true)) }
+        ensures bytes { IfOk result (λ r.
+            request_bytes r ≡ stripped_of path.entry.bytes.now (root_bytes self.now)) }
+    {
+        let Ok(left) = path.strip_prefix(self.as_path()) else {
+            return Err(StripError::Outside);
+        };
+        let Some(is_spelled) = is_spelled_unless_up(left) else {
+            return Err(StripError::Outside);
+        };
+        if has_nul(left.bytes) {
+            return Err(StripError::Nul);
+        }
+        Ok(Request::of_rootless(left, is_spelled))
+    }
+
+    /// Whether the path is below the root: its parts are those of the root and then neither a root
+    /// nor a `..`, and no NUL byte stands behind the root. The root itself is below the root. Does
+    /// not allocate. Not in Rust's std.
+    ///
+    /// For the root `/srv/www` and `/srv/www/a` it is true; for `/srv/www2` it is false.
+    #[must_use]
+    pub fn contains(&self, path: Path<'_>) -> bool
+        ensures { IsTrue result ↔ IsBelow (root_bytes self.now) path.entry.bytes.now }
+    {
+        self.strip(path).is_ok()
+    }
+}
