@@ -1,8 +1,10 @@
 //! Rows of paths from outside, and the laws on all short paths.
 mod plain;
+mod requests;
 mod rows;
 mod short_pairs;
 mod short_paths;
+mod short_requests;
 mod traversal;
 
 use path_within::WithinError;

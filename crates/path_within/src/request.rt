@@ -263,8 +263,9 @@ impl<'a> Request<'a> {
     pub fn ends_in_slash(&self) -> bool
         ensures { result ≡ ends_in_slash (request_bytes self.now) }
     {
-        let end = self.path.components().as_path().as_unix_str().len();
-        self.path.file_name().is_some() && end < self.path.as_unix_str().len()
+        let path = self.path;
+        let end = path.components().as_path().as_unix_str().len();
+        path.file_name().is_some() && end < path.as_unix_str().len()
     }
 }
 

@@ -81,3 +81,55 @@ pub(super) fn climbs(path: &[u8]) -> bool {
 pub(super) fn has_root_or_up(path: &[u8]) -> bool {
     is_rooted(path) || path.split(|byte| *byte == b'/').any(is_up)
 }
+
+// The names that are left of a path behind a root, at which a `..` stays.
+pub(super) fn names_below<'a>(alloc: Global, path: &'a [u8]) -> Result<Vec<&'a [u8]>, AllocError> {
+    let mut names: Vec<&'a [u8]> = Vec::new(alloc);
+    for piece in path.split(|byte| *byte == b'/') {
+        if is_up(piece) {
+            names.pop();
+        } else if !is_idle(piece) {
+            names.push(piece)?;
+        }
+    }
+    Ok(names)
+}
+
+// The root's bytes, and each name behind a slash, unless nothing or a slash stands before it.
+pub(super) fn joined(alloc: Global, root: &[u8], names: &[&[u8]]) -> Result<Vec<u8>, AllocError> {
+    let mut bytes = Vec::from_slice(alloc, root)?;
+    for name in names {
+        if !bytes.is_empty() && bytes.last() != Some(&b'/') {
+            bytes.push(b'/')?;
+        }
+        bytes.extend_from_slice(name)?;
+    }
+    Ok(bytes)
+}
+
+// Whether the last piece but for idle ones is a name, and idle ones stand behind it.
+pub(super) fn ends_in_slash(path: &[u8]) -> bool {
+    let mut is_name_last = false;
+    let mut is_behind = false;
+    for piece in path.split(|byte| *byte == b'/') {
+        is_behind = is_idle(piece);
+        if !is_behind {
+            is_name_last = !is_up(piece);
+        }
+    }
+    is_name_last && is_behind
+}
+
+// The root or a leading `.`, if there is one, and then the pieces that are neither empty nor `.`.
+pub(super) fn parts<'a>(alloc: Global, path: &'a [u8]) -> Result<Vec<&'a [u8]>, AllocError> {
+    let mut parts: Vec<&'a [u8]> = Vec::new(alloc);
+    if is_rooted(path) {
+        parts.push(b"/")?;
+    }
+    for (at, piece) in path.split(|byte| *byte == b'/').enumerate() {
+        if !is_idle(piece) || at == 0 && !piece.is_empty() {
+            parts.push(piece)?;
+        }
+    }
+    Ok(parts)
+}
