@@ -1,36 +1,61 @@
 //! Rows of calls, each of which shows a rule.
+use crate::archive::{UnpackError, target_of};
 use crate::index::{place_of, value_at};
 use crate::manifest::normalise;
-use crate::safe::{safe_join, stays_below};
+use crate::safe::stays_below;
+use crate::server::find_file;
 use crate::site::file_of;
 use crate::tree::Tree;
 use crate::url::map_url;
-use path_within::WithinError;
+use path_within::{RequestError, Root, WithinError};
 use std::alloc::{AllocError, Global};
 use std::collections::BTreeMap;
 use std::test::Fail;
 use unix_path::bytes::UnixStr;
 use unix_path::{Path, PathBuf};
 
-// A root, a request, and their safe join.
-static JOINS: [(&'static str, &'static str, Option<&'static str>); 8] = [
-    ("/srv", "a//b", Some("/srv/a//b")),
-    ("/srv/", "./a", Some("/srv/./a")),
-    ("/srv", "", Some("/srv/")),
-    ("", "./a", Some("./a")),
-    ("/srv", "..a/...", Some("/srv/..a/...")),
-    ("/srv", "a/../b", None),
-    ("/srv", "..", None),
-    ("/srv", "/etc/passwd", None),
+// A request, and whether it stays below whatever it is joined to.
+static BELOW: [(&'static str, bool); 8] = [
+    ("a//b", true),
+    ("./a", true),
+    ("", true),
+    ("..a/...", true),
+    ("a/../b", false),
+    ("..", false),
+    ("/etc/passwd", false),
+    ("./..", false),
+];
+
+// A request, and its file below `/srv/www`, if it is found.
+static SERVED: [(&'static str, Option<&'static str>); 6] = [
+    ("/index.html", Some("/srv/www/index.html")),
+    ("/a/../../b.html", Some("/srv/www/b.html")),
+    ("//..foo//./x/", Some("/srv/www/..foo/x")),
+    ("/", Some("/srv/www")),
+    ("", Some("/srv/www")),
+    ("/shell.php\0.png", None),
+];
+
+// An entry of an archive, and where it goes below `/tmp/x`, or why it is refused.
+static ENTRIES: [(&'static str, Result<&'static str, RequestError>); 7] = [
+    ("a/./b", Ok("/tmp/x/a/b")),
+    ("a/../b/", Ok("/tmp/x/b")),
+    ("./", Ok("/tmp/x")),
+    ("/etc/passwd", Err(RequestError::Rooted)),
+    ("../b", Err(RequestError::Climbs)),
+    ("a/../../b\0", Err(RequestError::Climbs)),
+    ("a\0b", Err(RequestError::Nul)),
 ];
 
 // A URL's path, and its file with the prefix `/static` and the root `/srv/www`.
-static URLS: [(&'static str, Option<&'static str>); 5] = [
+static URLS: [(&'static str, Option<&'static str>); 7] = [
     ("/static/css/a.css", Some("/srv/www/css/a.css")),
-    ("/static", Some("/srv/www/")),
+    ("/static//css/../a.css", Some("/srv/www/a.css")),
+    ("/static", Some("/srv/www")),
     ("/static//x", Some("/srv/www/x")),
+    ("/static/../a", Some("/srv/www/a")),
     ("/staticx/a", None),
-    ("/static/../a", None),
+    ("/static/a\0", None),
 ];
 
 // A URL's path, and its file with the prefix `/static` and the root `/srv/./www`, with each `..`
@@ -54,18 +79,44 @@ fn is(found: Option<PathBuf>, want: Option<&str>) -> bool {
     }
 }
 
-// Whether the row's join is found, and `stays_below` is true exactly if the row has a join.
-fn is_joined(alloc: Global, row: &(&str, &str, Option<&str>)) -> Result<bool, AllocError> {
-    let request = Path::from_text(row.1);
-    let is_told = stays_below(request) == row.2.is_some();
-    let found = safe_join(alloc, Path::from_text(row.0), request)?;
-    Ok(is_told && is(found, row.2))
+#[test]
+fn requests_stay_below(rt: HostRuntime) {
+    for row in BELOW.iter() {
+        assert!(rt; stays_below(Path::from_text(row.0)) == row.1, "{}", row.0);
+    }
+}
+
+// Whether the request finds its file, or leaves the buffer as it was.
+fn is_served(alloc: Global, root: &Root, row: &(&str, Option<&str>)) -> Result<bool, AllocError> {
+    let mut file = PathBuf::from_text(alloc, "as it was")?;
+    let is_found = find_file(root, &mut file, Path::from_text(row.0))?;
+    let want = row.1.unwrap_or("as it was");
+    Ok(is_found == row.1.is_some() && has_bytes(&file, want))
 }
 
 #[test]
-fn requests_stay_below(rt: HostRuntime) -> Result<(), Fail> {
-    for row in JOINS.iter() {
-        assert!(rt; is_joined(rt.alloc(), row)?, "{}", row.1);
+fn requests_find_files(rt: HostRuntime) -> Result<(), Fail> {
+    let root = Root::new(rt.alloc(), Path::from_text("/srv/www/"))?;
+    for row in SERVED.iter() {
+        assert!(rt; is_served(rt.alloc(), &root, row)?, "{}", row.0);
+    }
+    Ok(())
+}
+
+// Whether the entry goes where it should, or is refused as it should be.
+fn is_unpacked(alloc: Global, root: &Root, row: &(&str, Result<&str, RequestError>)) -> bool {
+    match (target_of(alloc, root, Path::from_text(row.0)), row.1) {
+        (Ok(target), Ok(want)) => has_bytes(&target, want),
+        (Err(UnpackError::Refused(error)), Err(want)) => error == want,
+        _ => false,
+    }
+}
+
+#[test]
+fn entries_are_unpacked(rt: HostRuntime) -> Result<(), Fail> {
+    let root = Root::kept(rt.alloc(), Path::from_text("/tmp/x"))?;
+    for row in ENTRIES.iter() {
+        assert!(rt; is_unpacked(rt.alloc(), &root, row), "{}", row.0);
     }
     Ok(())
 }
@@ -93,16 +144,21 @@ fn urls_name_files(rt: HostRuntime) {
 }
 
 // Whether the row's URL is mapped to its file.
-fn is_mapped(alloc: Global, row: &(&str, Option<&str>)) -> Result<bool, AllocError> {
-    let (prefix, root) = (Path::from_text("/static"), Path::from_text("/srv/www"));
-    let found = map_url(alloc, prefix, root, Path::from_text(row.0))?;
+fn is_mapped(alloc: Global, root: &Root, row: &(&str, Option<&str>)) -> Result<bool, AllocError> {
+    let found = map_url(
+        alloc,
+        Path::from_text("/static"),
+        root,
+        Path::from_text(row.0),
+    )?;
     Ok(is(found, row.1))
 }
 
 #[test]
 fn urls_are_mapped(rt: HostRuntime) -> Result<(), Fail> {
+    let root = Root::new(rt.alloc(), Path::from_text("/srv/./www"))?;
     for row in URLS.iter() {
-        assert!(rt; is_mapped(rt.alloc(), row)?, "{}", row.0);
+        assert!(rt; is_mapped(rt.alloc(), &root, row)?, "{}", row.0);
     }
     Ok(())
 }

@@ -1,11 +1,11 @@
 //! Requests for memory of calls that make resolved paths, ways and joins within.
 use super::super::{holds, path};
 use super::{report, report_path};
-use path_within::WithinError;
 use path_within::resolved::resolved;
 use path_within::way::way;
 use path_within::within::{join_plain, join_within};
-use std::alloc::AllocError;
+use path_within::{Request, Root, WithinError};
+use std::alloc::{AllocError, Global};
 use std::test::Fail;
 use unix_path::PathBuf;
 
@@ -84,4 +84,60 @@ fn way_between_paths_above_found(rt: HostRuntime) -> Result<(), Fail> {
 #[test]
 fn way_from_above_found(rt: HostRuntime) -> Result<(), Fail> {
     report_way(way(rt.alloc(), path(".."), path("../..")), "..")
+}
+
+#[test]
+fn root_resolved(rt: HostRuntime) -> Result<(), Fail> {
+    match Root::new(rt.alloc(), path("/srv/a/../www/")) {
+        Ok(root) => report(true, root.as_path() == path("/srv/www")),
+        Err(AllocError) => report(false, true),
+    }
+}
+
+#[test]
+fn root_kept(rt: HostRuntime) -> Result<(), Fail> {
+    match Root::kept(rt.alloc(), path("/srv/a/../www/")) {
+        Ok(root) => report(true, root.as_path() == path("/srv/a/../www/")),
+        Err(AllocError) => report(false, true),
+    }
+}
+
+// The request of this path.
+fn request(text: &str) -> Result<Request<'_>, Fail> {
+    match Request::new(path(text)) {
+        Ok(request) => Ok(request),
+        Err(_) => Err(Fail::new("wrong")),
+    }
+}
+
+#[test]
+fn request_joined(rt: HostRuntime) -> Result<(), Fail> {
+    let root = Root::kept(rt.alloc(), path("/srv/www"))?;
+    report_path(root.join(rt.alloc(), request("a/../b/c")?), "/srv/www/b/c")
+}
+
+#[test]
+fn plain_request_joined(rt: HostRuntime) -> Result<(), Fail> {
+    let root = Root::kept(rt.alloc(), path("/srv/www"))?;
+    report_path(root.join(rt.alloc(), request("b/c")?), "/srv/www/b/c")
+}
+
+// The result of a test that joins the request in place of `/tmp`.
+fn report_joined_into(alloc: Global, text: &str) -> Result<(), Fail> {
+    let root = Root::kept(alloc, path("/srv/www"))?;
+    let mut buffer = PathBuf::from_text(alloc, "/tmp")?;
+    match root.join_into(&mut buffer, request(text)?) {
+        Ok(()) => report(true, holds(&buffer, "/srv/www/b/c")),
+        Err(AllocError) => report(false, holds(&buffer, "/tmp")),
+    }
+}
+
+#[test]
+fn request_joined_into(rt: HostRuntime) -> Result<(), Fail> {
+    report_joined_into(rt.alloc(), "a/../b/c")
+}
+
+#[test]
+fn plain_request_joined_into(rt: HostRuntime) -> Result<(), Fail> {
+    report_joined_into(rt.alloc(), "b/c")
 }

@@ -5,6 +5,7 @@ use path_runs::canonical::{canonical, collected, is_canonical, write_canonical};
 use path_runs::edits::{Edit, apply, rejoin};
 use path_runs::walk::{Turn, walk};
 use path_within::way::way;
+use path_within::{Request, Root};
 use std::alloc::Global;
 use std::test::Fail;
 use unix_path::bytes::UnixStr;
@@ -54,6 +55,32 @@ fn leads_nowhere(alloc: Global) -> bool {
         .all(|same| matches!(way(alloc, *same, *same), Ok(Some(_))))
 }
 
+// A join below a root needs no memory if the buffer has room for both and a byte more.
+fn is_joined_into(root: &Root, buffer: &mut PathBuf, text: &str) -> bool {
+    match Request::below(path(text)) {
+        Ok(request) => {
+            root.join_into(buffer, request).is_ok()
+                && root.contains(buffer.as_path())
+                && root.strip(buffer.as_path()).is_ok()
+        }
+        Err(_) => false,
+    }
+}
+
+fn requests_are_read() -> bool {
+    let is_refused = Request::new(path("..")).is_err() && Request::below(path("\0")).is_err();
+    match Request::new(path("a/../b/")) {
+        Ok(request) => {
+            is_refused
+                && request.file_name() == Some(UnixStr::new("b"))
+                && !request.is_root()
+                && request.ends_in_slash()
+                && debug_has(&request, 8)
+        }
+        Err(_) => false,
+    }
+}
+
 fn spellings_are_told() -> bool {
     is_canonical(path("./a/b")) && !is_canonical(path("a//b"))
 }
@@ -78,11 +105,16 @@ fn buffers_need_no_memory(rt: HostRuntime) -> Result<(), Fail> {
     let alloc = rt.alloc();
     let mut foo = PathBuf::from_text(alloc, "foo")?;
     let full = PathBuf::from_text(alloc, "foo")?;
+    let root = Root::kept(alloc, path("/srv/./www/"))?;
+    let mut file = PathBuf::with_capacity(alloc, 20)?;
     let _dry = drought(alloc)?;
     assert!(rt; is_read(&foo));
     assert!(rt; stays_full(full));
     assert!(rt; runs_over_nothing(alloc));
     assert!(rt; spellings_are_told());
+    assert!(rt; requests_are_read());
+    assert!(rt; is_joined_into(&root, &mut file, "a/../b/"));
+    assert!(rt; is_joined_into(&root, &mut file, "/a/b.html"));
     assert!(rt; spelling_is_written());
     assert!(rt; joins_nothing(alloc));
     assert!(rt; leads_nowhere(alloc));
