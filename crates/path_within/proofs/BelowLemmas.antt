@@ -124,7 +124,7 @@ length-path_from root (CurDir ∷ ns) h k = absurd h
 length-path_from root (ParentDir ∷ ns) h k = absurd h
 
 -- the values and their slashes, counted from the first on
-slashed_len-cons : (v : Value) (vs : List Value)
+pub slashed_len-cons : (v : Value) (vs : List Value)
     → slashed_len (v ∷ vs) ≡ (1 + length (value_bytes v)) + slashed_len vs
 slashed_len-cons v vs = sum_by-cons (λ v. 1 + length (value_bytes v)) v vs
 
@@ -250,7 +250,7 @@ goes_last {root} {s} {depth} {most} {left} {all} h e =
     stands_below all h.ns h.stands (sym h.onward ∙ ap (kept_of (behind_root h.ns)) e)
 
 -- one value or more have one byte less if a slash stands only between them
-length-slashed_bytes : (v : Value) (vs : List Value)
+pub length-slashed_bytes : (v : Value) (vs : List Value)
     → slashed_len (v ∷ vs) ≡ 1 + length (slashed_bytes (v ∷ vs))
 length-slashed_bytes v [] = omega (arith, slashed_len-cons v [])
 length-slashed_bytes v (w ∷ vs) = omega (
@@ -270,7 +270,7 @@ spelling_of-no_root ParentDir vs h = refl
 spelling_of-no_root RootDir vs h = absurd h
 
 -- a rootless path and a slash have room for its values and their slashes
-slashed_len-values : (s : List ℕ) → is_rooted s ≡ false → slashed_len (values s) ≤ 1 + length s
+pub slashed_len-values : (s : List ℕ) → is_rooted s ≡ false → slashed_len (values s) ≤ 1 + length s
 slashed_len-values s r = by (values s) refl (rootless-no_roots s r)
   where
     fits : length (spelling_of (values s)) ≤ length s

@@ -30,3 +30,4 @@ pub mod EndsPartLemmas
 pub mod BelowLemmas
 pub mod BelowValueLemmas
 pub mod BelowLawLemmas
+pub mod BoundLemmas

@@ -1,5 +1,5 @@
 -- Laws of resolved paths, and of joins that stay within. Not in Rust's std.
-use Rattle.std.specs.Prelude.{◌≡◌, ◌++◌, ℕ, List, false}
+use Rattle.std.specs.Prelude.{◌≡◌, ◌≤◌, ◌+◌, ◌++◌, ℕ, List, length, false}
 use Rattle.unix_path.specs.Joins.{join_of}
 use Rattle.unix_path.specs.Parts.{values, SameValues}
 use Rattle.unix_path.specs.Prefixes.{Begins, stripped_of}
@@ -30,6 +30,15 @@ abbrev pub ResolvedOfJoin : Type 0
 ResolvedOfJoin =
     (a b : List ℕ)
     → resolved_bytes_of (join_of a b) ≡ resolved_bytes_of (join_of (resolved_bytes_of a) b)
+
+-- a resolved path has no more bytes than the path
+abbrev pub ResolvedIsShort : Type 0
+ResolvedIsShort = (s : List ℕ) → length (resolved_bytes_of s) ≤ length s
+
+-- a join, resolved, has at most one byte more than both paths
+abbrev pub ResolvedJoinIsShort : Type 0
+ResolvedJoinIsShort =
+    (a b : List ℕ) → length (resolved_bytes_of (join_of a b)) ≤ length a + 1 + length b
 
 -- a join with a request that doesn't climb has the resolved values of the root, and then those of
 -- the request

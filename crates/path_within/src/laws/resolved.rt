@@ -1,6 +1,7 @@
 //! Laws of paths that are resolved by names.
 ghost use Rattle.path_within.specs.ResolvedLaws.{ResolvedIsNormal, ResolvedReadsBack};
 ghost use Rattle.path_within.specs.ResolvedLaws.{ResolvedAgain, ResolvedCongruent, ResolvedOfJoin};
+ghost use Rattle.path_within.specs.ResolvedLaws.{ResolvedIsShort, ResolvedJoinIsShort};
 
 /// A resolved path has no `.`, no `..` behind a name or the root, and a root only in front.
 ///
@@ -31,4 +32,16 @@ pub fn resolved_congruent()
 /// `a/./b` joined with `../c` resolves to `a/c`, and so does `a/b` joined with `../c`.
 pub fn resolved_of_join()
     ensures { ResolvedOfJoin }
+{}
+
+/// A resolved path has at most as many bytes as the path, and a resolved join at most one more than
+/// both paths.
+///
+/// A caller can size a buffer by it. Calling it does nothing. Not in Rust's std.
+///
+/// `/srv/./www` has 10 bytes and resolves to `/srv/www`, of 8; joined with `a` it resolves to
+/// `/srv/www/a`.
+pub fn resolved_is_short()
+    ensures path { ResolvedIsShort }
+    ensures join { ResolvedJoinIsShort }
 {}
