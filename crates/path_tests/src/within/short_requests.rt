@@ -23,8 +23,27 @@ fn has_names(request: Request<'_>, path: &[u8], names: &[&[u8]]) -> bool {
         && request.ends_in_slash() == plain::ends_in_slash(path)
 }
 
-// Whether the joins of the request are the root and these names, and the root contains them and
-// strips them to these names.
+// Whether the root contains the path, and these names are left of it without the root.
+fn is_stripped(
+    alloc: Global,
+    root: &Root,
+    path: Path<'_>,
+    names: &[&[u8]],
+) -> Result<bool, AllocError> {
+    let Ok(request) = root.strip(path) else {
+        return Ok(false);
+    };
+    let left = plain::names_below(alloc, request.as_path().bytes)?;
+    let is_same = left.len() == names.len()
+        && left
+            .iter()
+            .zip(names.iter())
+            .all(|(first, second)| first == second);
+    Ok(is_same && root.contains(path))
+}
+
+// Whether the joins of the request are the root and these names, and without the root these names
+// are left of them.
 fn is_joined(
     alloc: Global,
     root: &Root,
@@ -35,19 +54,9 @@ fn is_joined(
     let want = plain::joined(alloc, root.as_path().bytes, names)?;
     let joined = root.join(alloc, request)?;
     root.join_into(buffer, request)?;
-    let is_back = match root.strip(buffer.as_path()) {
-        Ok(left) => {
-            let names_left = plain::names_below(alloc, left.as_path().bytes)?;
-            names_left.as_slice() == names
-        }
-        Err(_) => false,
-    };
-    Ok(
-        joined.as_path().bytes == want.as_slice()
-            && buffer.as_path().bytes == want.as_slice()
-            && root.contains(buffer.as_path())
-            && is_back,
-    )
+    let is_made = joined.as_path().bytes == want.as_slice()
+        && buffer.as_path().bytes == want.as_slice();
+    Ok(is_made && is_stripped(alloc, root, buffer.as_path(), names)?)
 }
 
 // Why `new` refuses the path by a plain reading, if it does.
