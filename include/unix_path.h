@@ -3,7 +3,8 @@
  * A path is a pointer to its bytes and how many there are. It may hold any byte, NUL too, and
  * needs none behind it. Its parts are the root, a leading `.`, and then each name and each `..`;
  * paths are equal if their parts are. No file is touched, and `..` is a part like a name. Only
- * unix_path_resolved, unix_path_join_within and unix_path_climbs let `..` undo the name before it.
+ * unix_path_resolved, unix_path_join_within, unix_path_climbs and unix_path_check_request let `..`
+ * undo the name before it.
  * Cast a `char *` to `const uint8_t *`. No answer ends in a NUL.
  *
  * For every call:
@@ -138,6 +139,10 @@ bool unix_path_is_absolute(const uint8_t *path, size_t path_length);
 /* Whether the path has a root or ever goes above where it starts, even if later names come down
  * again. True for `/a` and `a/../../b`, and false for `a/../b`. */
 bool unix_path_climbs(const uint8_t *path, size_t path_length);
+
+/* Why a path from outside is no request that stays below a root by names: 1 if it has a root, else
+ * 2 if it climbs, else 3 if it has a NUL byte, at which a system call cuts it; 0 if it is one. */
+int32_t unix_path_check_request(const uint8_t *path, size_t path_length);
 
 /* The place just behind the last slash of the longest string that both begin with; 0 if that
  * string has none. It counts bytes, not parts. For `a/./b` and `a/b` it is 2. */

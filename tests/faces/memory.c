@@ -107,6 +107,7 @@ static void ask(view a, view b) {
     unix_path_is_utf8(a.bytes, a.length);
     unix_path_is_absolute(a.bytes, a.length);
     unix_path_climbs(a.bytes, a.length);
+    unix_path_check_request(a.bytes, a.length);
 }
 
 static void cut(view path, view base) {

@@ -126,6 +126,20 @@ static void truths(void) {
     }
 }
 
+static void requests(void) {
+    static const struct {
+        const char *path;
+        size_t length;
+        int32_t answer;
+    } rows[] = {
+        {"", 0, 0}, {"a/../b", 6, 0}, {"/../a", 5, 1}, {"/\0", 2, 1}, {"a/../..", 7, 2},
+        {"..\0/../..", 9, 2}, {"a\0.png", 6, 3},
+    };
+    for (size_t row = 0; row < sizeof rows / sizeof *rows; row++)
+        CHECK(unix_path_check_request((const uint8_t *)rows[row].path, rows[row].length)
+              == rows[row].answer, "row %zu", row);
+}
+
 static void orders_hashes_and_common_dirs(void) {
     CHECK(compare(view_of("a/b"), view_of("a.b")) == -1, "less");
     CHECK(compare(view_of("a/./b//"), view_of("a/b")) == 0, "equal");

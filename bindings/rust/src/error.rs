@@ -37,3 +37,27 @@ impl fmt::Display for Error {
 
 #[cfg(feature = "std")]
 impl std::error::Error for Error {}
+
+/// Why a path is no request. Its text is that of the Rattle crate's `RequestError`.
+#[derive(Clone, Copy, Debug, PartialEq, Eq)]
+pub enum RequestError {
+    /// The path has a root.
+    Rooted,
+    /// The path has no root, and would go above where it starts.
+    Climbs,
+    /// The path neither has a root nor climbs, and has a NUL byte.
+    Nul,
+}
+
+impl fmt::Display for RequestError {
+    fn fmt(&self, f: &mut fmt::Formatter<'_>) -> fmt::Result {
+        f.pad(match self {
+            RequestError::Rooted => "path has a root",
+            RequestError::Climbs => "path leaves its root",
+            RequestError::Nul => "path has a NUL byte",
+        })
+    }
+}
+
+#[cfg(feature = "std")]
+impl std::error::Error for RequestError {}

@@ -202,6 +202,12 @@ pub(crate) fn hash(path: &[u8]) -> u64 {
 }
 
 #[inline]
+pub(crate) fn check_request(path: &[u8]) -> i32 {
+    // SAFETY: the slice is read.
+    unsafe { unix_path_check_request(path.as_ptr(), path.len()) }
+}
+
+#[inline]
 pub(crate) fn common_dir(a: &[u8], b: &[u8]) -> usize {
     // SAFETY: the slices are read.
     unsafe { unix_path_common_dir(a.as_ptr(), a.len(), b.as_ptr(), b.len()) }

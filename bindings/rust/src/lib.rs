@@ -62,8 +62,8 @@ pub use buffers::{
 };
 pub use by_parts::ByParts;
 pub use components::{Component, Components};
-pub use error::Error;
+pub use error::{Error, RequestError};
 pub use queries::{
-    climbs, common_dir, compare, components, ends_with, equal, extension, file_name, file_prefix,
-    file_stem, hash, is_absolute, is_utf8, parent, starts_with, strip_prefix,
+    check_request, climbs, common_dir, compare, components, ends_with, equal, extension, file_name,
+    file_prefix, file_stem, hash, is_absolute, is_utf8, parent, starts_with, strip_prefix,
 };

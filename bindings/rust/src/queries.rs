@@ -1,5 +1,6 @@
 //! Questions about a path or about two. Answers lie in the path, and no call allocates.
 use crate::components::Components;
+use crate::error::RequestError;
 use crate::ffi::{self, Ask, AskTwo, Find};
 use core::cmp::Ordering;
 
@@ -204,6 +205,27 @@ pub fn is_absolute(path: &[u8]) -> bool {
 #[inline]
 pub fn climbs(path: &[u8]) -> bool {
     Ask::CLIMBS.ask(path)
+}
+
+/// Whether a path from outside is a request that stays below any root by names, or why it is none.
+///
+/// What tells one refusal is read before what tells the next. Not in Rust's std.
+///
+/// ```
+/// use unix_path_rattle::{check_request, RequestError};
+/// assert_eq!(check_request(b"a/../b"), Ok(()));
+/// assert_eq!(check_request(b"/../a"), Err(RequestError::Rooted));
+/// assert_eq!(check_request(b"a/../.."), Err(RequestError::Climbs));
+/// assert_eq!(check_request(b"a\0.png"), Err(RequestError::Nul));
+/// ```
+#[inline]
+pub fn check_request(path: &[u8]) -> Result<(), RequestError> {
+    match ffi::check_request(path) {
+        0 => Ok(()),
+        1 => Err(RequestError::Rooted),
+        2 => Err(RequestError::Climbs),
+        _ => Err(RequestError::Nul),
+    }
 }
 
 /// The bytes of `a` up to and with the last slash of the longest string that both begin with; none

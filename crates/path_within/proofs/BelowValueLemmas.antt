@@ -207,7 +207,8 @@ join_of-spelled : (root b : List ℕ) → (b ≡ [] → ⊥) → spelling_of (va
 unfolding below_of spelling_of
 join_of-spelled root b some own = by (values b) refl
   where
-    by : (vs : List Value) → values b ≡ vs → join_of root b ≡ join_all_of root (map value_bytes (values b))
+    by : (vs : List Value) → values b ≡ vs
+        → join_of root b ≡ join_all_of root (map value_bytes (values b))
     by [] e = absurd (some (sym own ∙ ap spelling_of e))
     by (v ∷ vs) e =
         ap (join_of root) (sym (join_all_of-values b ∙ own)

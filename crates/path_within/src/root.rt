@@ -79,9 +79,9 @@ fn is_spelled_unless_up(path: Path<'_>) -> Option<bool>
 
 /// A directory below which requests are joined: a path that is resolved once, or kept as it stands.
 ///
-/// A join has the root's bytes in front and names alone behind them, and only want of memory refuses
-/// it. It goes by names: if a part may be a link, the system has to refuse links below the root. Not
-/// in Rust's std.
+/// A join has the root's bytes in front and names alone behind them, and only want of memory
+/// refuses it. It goes by names: if a part may be a link, the system has to refuse links below the
+/// root. Not in Rust's std.
 ///
 /// Below the root `/srv/./www/` the request `a/../b` is `/srv/www/b`.
 #[derive(Debug, Drop)]

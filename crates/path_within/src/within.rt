@@ -107,9 +107,11 @@ fn climbs_unless(known_plain: bool, path: Path<'_>) -> bool
 /// The request joined to the root and resolved: a path that stays under the resolved root.
 ///
 /// The error is `Escapes` exactly if the request climbs, before anything is allocated, and `Memory`
-/// if the allocation fails. It goes by names alone: if a part of the root or of the request may be
-/// a link, take `join_plain` and let the system refuse links. Allocates once, one byte more than
-/// both paths have together. Not in Rust's std.
+/// if the allocation fails. A slash at the end of the request goes, a NUL passes, and the answer
+/// may be the root itself. A request with a leading slash is refused: for paths of URLs take
+/// `Request::below`. It goes by names alone: if a part of the root or of the request may be a link,
+/// take `join_plain` and let the system refuse links. Allocates once, one byte more than both paths
+/// have together. Not in Rust's std.
 ///
 /// `/srv/www` with `a/../b` is `/srv/www/b`, and with `a/../../x` it is refused.
 pub fn join_within(alloc: Global, root: Path<'_>, request: Path<'_>) -> Result<PathBuf, WithinError>
@@ -171,8 +173,10 @@ fn has_root_or_up(path: Path<'_>) -> bool
 ///
 /// It is for roots in or under which links may stand: the request goes down by names alone, and
 /// each `..` of the root stays. The error is `Escapes` exactly if the request has a root or any
-/// `..`, before anything is allocated, and `Memory` if the allocation fails. Allocates once, as
-/// many bytes as the join has, or not at all for an empty join. Not in Rust's std.
+/// `..`, before anything is allocated, and `Memory` if the allocation fails. A slash at the end of
+/// the request stays, a NUL passes, and the answer may be the root itself, with a slash behind it.
+/// A request with a leading slash is refused: for paths of URLs take `Request::below`. Allocates
+/// once, as many bytes as the join has, or not at all for an empty join. Not in Rust's std.
 ///
 /// `/srv/../www` with `./a` is `/srv/../www/./a`, and with `a/../b` it is refused.
 pub fn join_plain(alloc: Global, root: Path<'_>, request: Path<'_>) -> Result<PathBuf, WithinError>

@@ -1,15 +1,18 @@
 //! Questions about a path, or about two.
-ghost use Rattle.std.specs.Prelude.{◌≡◌, ◌↔◌, ◌≤◌, ℕ, IsTrue, List, [], ◌∷◌, length, pos, negsuc};
+ghost use Rattle.std.specs.Prelude.{◌≡◌, ◌↔◌, ◌≤◌, ◌⊎◌, ℕ, IsTrue, List, [], ◌∷◌, length};
+ghost use Rattle.std.specs.Prelude.{pos, negsuc, true, false};
 ghost use Rattle.std.specs.Ordering.{is_eq};
 ghost use Rattle.unix_bytes.specs.Utf8.{IsText};
 ghost use Rattle.unix_path.specs.CommonDir.{common_dir_of};
 ghost use Rattle.unix_path.specs.Order.{values_cmp, IsBefore};
 ghost use Rattle.unix_path.specs.Parts.{RootDir, SameValues, is_rooted, values};
 ghost use Rattle.unix_path.specs.Prefixes.{Begins, Ends};
+ghost use Rattle.path_within.specs.Below.{has_nul};
 ghost use Rattle.path_within.specs.Climbs.{Climbs};
 ghost use Rattle.unix_path_c.specs.Queries.{path_hash, sign_of};
 
 use path_within::within::climbs;
+use path_within::{Request, RequestError};
 use std::cmp::Ordering;
 use std::hash::{DefaultHasher, Hash, Hasher};
 use unix_path::Path;
@@ -139,6 +142,31 @@ pub extern "C" fn unix_path_climbs(path: &[u8]) -> bool
     ensures { IsTrue result ↔ Climbs (values path.now) }
 {
     climbs(Path::from_bytes(path))
+}
+
+/// Why a path is no request from outside: 1 if it has a root, else 2 if it ever goes above where it
+/// starts, else 3 if it has a NUL byte. 0 if it is a request: joined to a root and resolved by
+/// names, it stays below that.
+///
+/// What tells one is read before what tells the next. Does not allocate. Not in Rust's std.
+///
+/// For `a/../b` it is 0, for `/../a` it is 1, for `a/../..` it is 2, and for `a\0.png` it is 3.
+#[unsafe(no_mangle)]
+pub extern "C" fn unix_path_check_request(path: &[u8]) -> i32
+    ensures rooted { (result ≡ pos 1) ↔ (is_rooted path.now ≡ true) }
+    ensures climbs { (result ≡ pos 2)
+        ↔ ((is_rooted path.now ≡ false) × Climbs (values path.now)) }
+    ensures nul { (result ≡ pos 3)
+        ↔ ((Climbs (values path.now) → ⊥) × (has_nul path.now ≡ true)) }
+    ensures answers { (result ≡ pos 0)
+        ⊎ ((result ≡ pos 1) ⊎ ((result ≡ pos 2) ⊎ (result ≡ pos 3))) }
+{
+    match Request::new(Path::from_bytes(path)) {
+        Ok(_) => 0,
+        Err(RequestError::Rooted) => 1,
+        Err(RequestError::Climbs) => 2,
+        Err(RequestError::Nul) => 3,
+    }
 }
 
 /// Whether the path begins with the root.

@@ -58,6 +58,7 @@ extern "C" {
     pub fn unix_path_is_utf8(path: Start, path_length: usize) -> bool;
     pub fn unix_path_is_absolute(path: Start, path_length: usize) -> bool;
     pub fn unix_path_climbs(path: Start, path_length: usize) -> bool;
+    pub fn unix_path_check_request(path: Start, path_length: usize) -> i32;
     pub fn unix_path_common_dir(a: Start, a_length: usize, b: Start, b_length: usize) -> usize;
 
     pub fn unix_path_join(base: Start, base_length: usize, path: Start, path_length: usize,

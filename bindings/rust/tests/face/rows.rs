@@ -93,6 +93,24 @@ fn truths() {
     }
     for staying in [&b""[..], b"a/..", b"..foo", b"a/b/../..", b"...", b"./a"] {
         assert!(!paths::climbs(staying));
+        assert_eq!(paths::check_request(staying), Ok(()));
+    }
+}
+
+#[test]
+fn requests() {
+    use paths::RequestError::{Climbs, Nul, Rooted};
+    for (path, why, text) in [
+        (&b"/\0"[..], Rooted, "path has a root"),
+        (b"..\0/../..", Climbs, "path leaves its root"),
+        (
+            b"a/long/name/in/front/shell.php\0.png",
+            Nul,
+            "path has a NUL byte",
+        ),
+    ] {
+        assert_eq!(paths::check_request(path), Err(why));
+        assert_eq!(why.to_string(), text);
     }
 }
 

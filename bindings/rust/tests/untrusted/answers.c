@@ -93,6 +93,7 @@ ASK(unix_path_climbs)
 ASK_TWO(unix_path_starts_with)
 ASK_TWO(unix_path_ends_with)
 ASK_TWO(unix_path_equal)
+int32_t unix_path_check_request(ONE) { return NONE_OF_ONE, (int32_t)any(); }
 int32_t unix_path_compare(TWO) { return NONE_OF_TWO, (int32_t)any(); }
 uint64_t unix_path_hash(ONE) { return NONE_OF_ONE, any(); }
 size_t unix_path_common_dir(TWO) { return NONE_OF_TWO, any_size(); }

@@ -39,6 +39,7 @@ fn places() {
             paths::strip_prefix(PATH, b"/a"),
             Some(paths::common_dir(PATH, b"/a//c")),
         ];
+        let _ = paths::check_request(PATH);
         assert!(found
             .into_iter()
             .flatten()

@@ -1,5 +1,5 @@
-//! Rows of requests, roots and joins below them, and known bad requests of path traversal, each with
-//! the answer of each call.
+//! Rows of requests, roots and joins below them, and known bad requests of path traversal, each
+//! with the answer of each call.
 use path_within::{Request, RequestError, Root, StripError};
 use std::alloc::{AllocError, Global};
 use std::test::Fail;

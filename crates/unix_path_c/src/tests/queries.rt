@@ -1,7 +1,7 @@
 //! Rows of questions about a path, or about two.
 use crate::queries::{
-    unix_path_climbs, unix_path_common_dir, unix_path_compare, unix_path_ends_with,
-    unix_path_equal, unix_path_hash, unix_path_is_absolute, unix_path_is_utf8,
+    unix_path_check_request, unix_path_climbs, unix_path_common_dir, unix_path_compare,
+    unix_path_ends_with, unix_path_equal, unix_path_hash, unix_path_is_absolute, unix_path_is_utf8,
     unix_path_starts_with,
 };
 
@@ -129,5 +129,26 @@ fn is_told(row: &(&[u8], bool, bool, bool)) -> bool {
 fn rows_of_one_path(rt: HostRuntime) {
     for row in SINGLE_PATHS.iter() {
         assert!(rt; is_told(row), "{:?}", row.0);
+    }
+}
+
+// A path, and why it is no request.
+static REQUESTS: [(&'static [u8], i32); 9] = [
+    (b"", 0),
+    (b"a/../b/", 0),
+    (b"..foo", 0),
+    (b"/../a", 1),
+    (b"/\0", 1),
+    (b"a/../..", 2),
+    (b"..\0/../..", 2),
+    (b"a\0.png", 3),
+    (b"a/long/name/in/front/shell.php\0.png", 3),
+];
+
+#[test]
+fn rows_of_requests(rt: HostRuntime) {
+    for row in REQUESTS.iter() {
+        let answer = unix_path_check_request(row.0);
+        assert!(rt; answer == row.1, "{:?}: {answer}", row.0);
     }
 }

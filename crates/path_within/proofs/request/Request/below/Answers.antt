@@ -14,7 +14,8 @@ pub invariant_of-result : goal.invariant_of-result
 invariant_of-result c =
     let s = c.args.path.bytes.now in
     let same : c.from_bytes-left.result.bytes.now ≡ behind_slashes s =
-    c.from_bytes-left.ensures ∙ behind s c.slashes_len.result ∙ ap (λ n. drop n s) c.slashes_len.ensures.value in
+    c.from_bytes-left.ensures ∙ behind s c.slashes_len.result
+    ∙ ap (λ n. drop n s) c.slashes_len.ensures.value in
     record {
       rootless = ap is_rooted same ∙ behind_slashes-rootless s;
       no_nul = ap has_nul same
@@ -26,5 +27,6 @@ pub returns-clause-names : goal.returns-clause-names
 returns-clause-names c =
     let s = c.args.path.bytes.now in
     let same : c.from_bytes-left.result.bytes.now ≡ behind_slashes s =
-    c.from_bytes-left.ensures ∙ behind s c.slashes_len.result ∙ ap (λ n. drop n s) c.slashes_len.ensures.value in
+    c.from_bytes-left.ensures ∙ behind s c.slashes_len.result
+    ∙ ap (λ n. drop n s) c.slashes_len.ensures.value in
     ap (λ t. names_below (values t)) same ∙ names_below-behind_slashes s
