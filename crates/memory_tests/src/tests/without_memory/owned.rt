@@ -75,7 +75,7 @@ fn requests_are_read() -> bool {
                 && request.file_name() == Some(UnixStr::new("b"))
                 && !request.is_root()
                 && request.ends_in_slash()
-                && debug_has(&request, 8)
+                && debug_has(&request, 9)
         }
         Err(_) => false,
     }
