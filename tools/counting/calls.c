@@ -58,6 +58,7 @@ CALL(hash, unix_path_hash(A))
 CALL(is_utf8, unix_path_is_utf8(A))
 CALL(is_absolute, unix_path_is_absolute(A))
 CALL(climbs, unix_path_climbs(A))
+CALL(check_request, unix_path_check_request(A))
 CALL(common_dir, unix_path_common_dir(A, B))
 CALL(join, unix_path_join(A, B, OUT))
 CALL(with_file_name, unix_path_with_file_name(A, B, OUT))
@@ -73,9 +74,9 @@ static const call calls[] = {
     NAMED(components), NAMED(next), NAMED(next_back), NAMED(as_path), NAMED(parent),
     NAMED(file_name), NAMED(file_stem), NAMED(extension), NAMED(file_prefix), NAMED(strip_prefix),
     NAMED(starts_with), NAMED(ends_with), NAMED(equal), NAMED(compare), NAMED(hash),
-    NAMED(is_utf8), NAMED(is_absolute), NAMED(climbs), NAMED(common_dir), NAMED(join),
-    NAMED(with_file_name), NAMED(with_extension), NAMED(canonical), NAMED(to_string_lossy),
-    NAMED(resolved), NAMED(join_within),
+    NAMED(is_utf8), NAMED(is_absolute), NAMED(climbs), NAMED(check_request), NAMED(common_dir),
+    NAMED(join), NAMED(with_file_name), NAMED(with_extension), NAMED(canonical),
+    NAMED(to_string_lossy), NAMED(resolved), NAMED(join_within),
 };
 
 /* The call whose name has these bytes; NULL if there is none. */

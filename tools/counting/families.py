@@ -146,7 +146,7 @@ PATHS = [
     ("comes_down", lambda n: (cut(n, b"a/../"), b""), EDGES, "resolved"),
 ]
 
-# Families of requests, which `climbs` and `join_within` get.
+# Families of requests, which `climbs`, `check_request` and `join_within` get.
 REQUESTS = [
     ("plain", plain, EDGES),
     ("slash_end", lambda n: plain(n - 1) + b"/", EDGES),
@@ -165,7 +165,7 @@ def families():
     """Each family: its name, how its paths are made, its sizes, and the calls."""
     yield from PAIRS + PATHS
     for title, make, sizes in REQUESTS:
-        yield title, lambda n, make=make: (make(n), b""), sizes, "climbs"
+        yield title, lambda n, make=make: (make(n), b""), sizes, "climbs check_request"
         yield title, lambda n, make=make: (ROOT, make(n)), sizes, "join_within"
     yield ("plain_root", lambda n: (b"/" + plain(n - 1), b"img/logo.png"), EDGES, "join_within")
 
