@@ -159,6 +159,7 @@ int main(void) {
     run("prefixes", prefixes);
     run("relations", relations);
     run("truths", truths);
+    run("requests", requests);
     run("orders, hashes and common dirs", orders_hashes_and_common_dirs);
     return finish();
 }
