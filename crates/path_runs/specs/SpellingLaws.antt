@@ -1,5 +1,5 @@
 -- Laws of the canonical spelling. Not in Rust's std.
-use Rattle.std.specs.Prelude.{◌≡◌, ◌↔◌, ◌⊎◌, ◌<◌, ℕ, List, [], length, map}
+use Rattle.std.specs.Prelude.{◌≡◌, ◌↔◌, ◌⊎◌, ◌<◌, ◌≤◌, ℕ, List, [], length, map}
 use Rattle.unix_path.specs.Joins.{join_all_of}
 use Rattle.unix_path.specs.Parts.{value_bytes, values, SameValues}
 use Rattle.path_runs.specs.Spelling.{spelling_of}
@@ -13,6 +13,10 @@ abbrev pub SpellingIsShortest : Type 0
 SpellingIsShortest =
     (s t : List ℕ) → SameValues t s
     → (t ≡ spelling_of (values s)) ⊎ (length (spelling_of (values s)) < length t)
+
+-- the spelling of a path's values has no more bytes than the path
+abbrev pub SpellingFits : Type 0
+SpellingFits = (s : List ℕ) → length (spelling_of (values s)) ≤ length s
 
 -- two paths have the same values exactly if their spellings have the same bytes
 abbrev pub SpellingsTell : Type 0

@@ -14,6 +14,7 @@ pub mod FinishLemmas
 pub mod TextLemmas
 pub mod WindowLemmas
 pub mod LossyLemmas
+pub mod LossyBoundLemmas
 pub mod BrokenLemmas
 pub mod ChunkLemmas
 pub mod StretchLemmas

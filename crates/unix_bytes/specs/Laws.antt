@@ -1,5 +1,6 @@
 -- Laws of text and of lossy text, each carried by a function of the module `laws`.
-use Rattle.std.specs.Prelude.{◌≡◌, ◌↔◌, ◌⊎◌, ℕ, ◌<◌, ◌≤◌, List, [], ◌∷◌, ◌++◌, true, length, drop}
+use Rattle.std.specs.Prelude.{◌≡◌, ◌↔◌, ◌⊎◌, ℕ, ◌<◌, ◌≤◌, ◌*◌, List, [], ◌∷◌, ◌++◌, true}
+use Rattle.std.specs.Prelude.{length, drop}
 use Rattle.std.specs.List.{All, concat, flat_map}
 use Rattle.std.specs.Str.{IsUtf8}
 use Rattle.unix_bytes.specs.Begins.{Begins, IsLongest}
@@ -64,6 +65,10 @@ LossyOfText = (s : List ℕ) → IsText s → lossy_of s ≡ s
 -- the lossy text is text
 abbrev pub LossyIsText : Type 0
 LossyIsText = (s : List ℕ) → IsText (lossy_of s)
+
+-- the lossy text has at most three times as many bytes
+abbrev pub LossyIsShort : Type 0
+LossyIsShort = (s : List ℕ) → length (lossy_of s) ≤ 3 * length s
 
 -- the empty byte string has no chunks
 abbrev pub ChunksOfNothing : Type 0

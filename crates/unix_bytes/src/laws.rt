@@ -2,9 +2,9 @@
 ghost use Rattle.unix_bytes.specs.Laws.{TextIsUtf8, SequencesStandAlone, BeginningIsTested};
 ghost use Rattle.unix_bytes.specs.Laws.{TextIsTested, FrontsPartition, FrontsOneByOne, FrontsBegin};
 ghost use Rattle.unix_bytes.specs.Laws.{FrontIsLongest, BrokenIsShort, LossyOfSequence};
-ghost use Rattle.unix_bytes.specs.Laws.{LossyOfBroken, LossyOfText, LossyIsText, ChunksOfNothing};
-ghost use Rattle.unix_bytes.specs.Laws.{ChunksOfSome, ChunksPartition, ChunksAreShort};
-ghost use Rattle.unix_bytes.specs.Laws.{WholeChunkIsLast, ChunksShowLossy};
+ghost use Rattle.unix_bytes.specs.Laws.{LossyOfBroken, LossyOfText, LossyIsText, LossyIsShort};
+ghost use Rattle.unix_bytes.specs.Laws.{ChunksOfNothing, ChunksOfSome, ChunksPartition};
+ghost use Rattle.unix_bytes.specs.Laws.{ChunksAreShort, WholeChunkIsLast, ChunksShowLossy};
 
 /// Text by the table of RFC 3629, section 4, is UTF-8 as Rattle's std defines it.
 pub fn text_is_utf8()
@@ -55,6 +55,15 @@ pub fn lossy_of_text()
 /// The lossy text of any bytes is text.
 pub fn lossy_is_text()
     ensures { LossyIsText }
+{}
+
+/// The lossy text of bytes has at most three times as many bytes.
+///
+/// A caller can size a buffer by it. Calling it does nothing. Not in Rust's std.
+///
+/// The byte FF is shown by the three bytes EF BF BD, and `tmp` by its own.
+pub fn lossy_is_short()
+    ensures { LossyIsShort }
 {}
 
 /// The empty byte string has no chunks. Of any other, the first chunk is the longest prefix that is

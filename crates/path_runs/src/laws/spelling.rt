@@ -1,6 +1,6 @@
 //! Laws of the canonical spelling.
 ghost use Rattle.path_runs.specs.SpellingLaws.{SpellingReadsBack, SpellingIsShortest};
-ghost use Rattle.path_runs.specs.SpellingLaws.{SpellingsTell, JoinsAreSpelling};
+ghost use Rattle.path_runs.specs.SpellingLaws.{SpellingFits, SpellingsTell, JoinsAreSpelling};
 
 /// The canonical spelling of a path's values is the one shortest path with these values.
 ///
@@ -12,6 +12,15 @@ pub fn canonical_form()
     ensures reads_back { SpellingReadsBack }
     ensures shortest { SpellingIsShortest }
     ensures tells { SpellingsTell }
+{}
+
+/// The canonical spelling of a path has at most as many bytes as the path.
+///
+/// A caller can size a buffer by it. Calling it does nothing. Not in Rust's std.
+///
+/// `.//a/./b/` has 9 bytes, and its spelling `./a/b` has 5.
+pub fn canonical_is_short()
+    ensures { SpellingFits }
 {}
 
 /// A path's parts, each joined to those before it, are the canonical spelling of the path.

@@ -1,6 +1,6 @@
 //! Byte strings that own their bytes.
 ghost use Rattle.std.specs.Prelude.{◌≡◌, ◌+◌, ◌<◌, ◌≤◌, [], ◌++◌, length, take, max, min};
-ghost use Rattle.std.specs.Prelude.{IfOk, OnOk, OnErr, IsOk, string_bytes};
+ghost use Rattle.std.specs.Prelude.{IfOk, OnOk, OnErr, IsOk, string_bytes, vec_capacity};
 ghost use Rattle.unix_bytes.specs.Owned.{owned_bytes, owned_capacity, owned_room};
 
 use crate::bytes::UnixStr;
@@ -197,7 +197,8 @@ impl UnixString {
     /// For `tmp` it has 3 bytes.
     #[inline]
     pub fn into_bytes(self) -> Vec<u8>
-        ensures { result.items ≡ owned_bytes self }
+        ensures bytes { result.items ≡ owned_bytes self }
+        ensures capacity { vec_capacity result ≡ owned_capacity self }
     {
         self.bytes
     }

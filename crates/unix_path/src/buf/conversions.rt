@@ -1,7 +1,7 @@
 //! Owned paths from bytes and text, and back.
 ghost use Rattle.std.specs.Prelude.{◌≡◌, IfOk, string_bytes};
-ghost use Rattle.unix_bytes.specs.Owned.{owned_bytes};
-ghost use Rattle.unix_path.specs.Buffers.{path_bytes};
+ghost use Rattle.unix_bytes.specs.Owned.{owned_bytes, owned_capacity};
+ghost use Rattle.unix_path.specs.Buffers.{path_bytes, capacity};
 
 use crate::buf::PathBuf;
 use crate::path::Path;
@@ -41,7 +41,8 @@ impl PathBuf {
     #[must_use]
     #[inline]
     pub fn into_unix_string(self) -> UnixString
-        ensures { owned_bytes result ≡ path_bytes self }
+        ensures bytes { owned_bytes result ≡ path_bytes self }
+        ensures capacity { owned_capacity result ≡ capacity self }
     {
         self.inner
     }
