@@ -1,8 +1,10 @@
 //! Roots: directories below which requests are joined.
-ghost use Rattle.std.specs.Prelude.{◌≡◌, ◌↔◌, ◌+◌, ◌-◌, ◌≤◌, ℕ, List, true, false, length, drop};
+ghost use Rattle.std.specs.Prelude.{◌≡◌, ◌↔◌, ◌+◌, ◌-◌, ◌≤◌, ℕ, List, ◌++◌, true, false};
+ghost use Rattle.std.specs.Prelude.{length, drop, vec_capacity};
 ghost use Rattle.std.specs.Prelude.{IfOk, IfSome, OnOk, OnErr, IsOk, IsErrOf, IsTrue, Some, None};
 ghost use Rattle.std.specs.Fmt.{padded};
 ghost use Rattle.unix_path.specs.Buffers.{path_bytes, capacity};
+ghost use Rattle.unix_path.specs.Joins.{is_open, join_of};
 ghost use Rattle.unix_path.specs.Parts.{Value, is_rooted, values};
 ghost use Rattle.unix_path.specs.Prefixes.{Begins, stripped_of};
 ghost use Rattle.unix_path.specs.Views.{value_of};
@@ -15,9 +17,11 @@ ghost use Rattle.path_within.specs.Resolved.{resolved_bytes_of};
 use crate::plain::is_plain;
 use crate::request::{Request, has_nul};
 use crate::resolved::resolved;
+use core::mem::replace_with;
 use std::alloc::{AllocError, Global};
 use std::error::Error;
 use std::fmt;
+use unix_bytes::bytes::UnixString;
 use unix_path::{Component, Path, PathBuf};
 
 /// Why a path is not below a root.
@@ -75,6 +79,46 @@ fn is_spelled_unless_up(path: Path<'_>) -> Option<bool>
         return None;
     }
     Some(false)
+}
+
+// Whether there is no byte, or the last is a slash.
+#[inline]
+fn is_open(path: &[u8]) -> bool
+    ensures { result ≡ is_open path.now }
+{
+    path.is_empty() || path[path.len() - 1] == b'/'
+}
+
+// Appends bytes for which there is room. The test never fails; where it stands, no code is built
+// that makes room, and what the vector holds stays in registers.
+#[inline]
+fn append(bytes: &mut Vec<u8>, more: &[u8])
+    requires { length bytes.old.items + length more.now ≤ vec_capacity bytes.old }
+    ensures bytes { bytes.new.items ≡ bytes.old.items ++ more.now }
+    ensures capacity { vec_capacity bytes.old ≤ vec_capacity bytes.new }
+{
+    if bytes.capacity() - bytes.len() < more.len() {
+        return;
+    }
+    let _ = bytes.extend_from_slice(more);
+}
+
+// The join of two paths, the second without a root, in the memory of a path with room for both.
+#[inline]
+fn joined_in(held: PathBuf, both: (Path<'_>, Path<'_>)) -> (PathBuf, ())
+    requires rootless { is_rooted both.1.bytes.now ≡ false }
+    requires room { length both.0.bytes.now + 1 + length both.1.bytes.now ≤ capacity held }
+    ensures { path_bytes result.0 ≡ join_of both.entry.0.bytes.now both.entry.1.bytes.now }
+{
+    let (root, path) = both;
+    let mut bytes = held.into_unix_string().into_bytes();
+    bytes.clear();
+    append(&mut bytes, root.bytes);
+    if !is_open(root.bytes) {
+        append(&mut bytes, b"/");
+    }
+    append(&mut bytes, path.bytes);
+    (PathBuf::from(UnixString::from(bytes)), ())
 }
 
 /// A directory below which requests are joined: a path that is resolved once, or kept as it stands.
@@ -188,19 +232,19 @@ impl Root {
     }
 
     // Joins a request to the root, in a buffer with room for both.
-    #[inline]
+    #[inline(always)]
     fn fill(&self, buffer: &mut PathBuf, request: Request<'_>)
         requires { length (root_bytes self.now) + 1 + length (request_bytes request)
             ≤ capacity buffer.old }
         ensures { path_bytes buffer.new
             ≡ below_of (root_bytes self.now) (request_names request.entry) }
     {
-        self.restart(buffer);
         if request.is_spelled() {
             // Its bytes are its names, and none of them is looked at again.
-            let _ = buffer.push(request.as_path());
+            replace_with(buffer, (self.as_path(), request.as_path()), joined_in);
             return;
         }
+        self.restart(buffer);
         self.push_names(buffer, request.as_path());
     }
 
@@ -210,6 +254,23 @@ impl Root {
         ensures { result ≡ length (root_bytes self.now) + 1 + length (request_bytes request.entry) }
     {
         self.as_path().as_unix_str().len() + 1 + request.as_path().as_unix_str().len()
+    }
+
+    // Makes room in the buffer for a join with the request. If there is room, nothing is called.
+    #[inline(always)]
+    fn make_room(&self, buffer: &mut PathBuf, request: Request<'_>) -> Result<(), AllocError>
+        ensures bytes { path_bytes buffer.new ≡ path_bytes buffer.old }
+        ensures ok { OnOk result (length (root_bytes self.now) + 1
+            + length (request_bytes request.entry) ≤ capacity buffer.new) }
+        ensures succeeds { length (root_bytes self.now) + 1 + length (request_bytes request.entry)
+            ≤ capacity buffer.old → IsOk result }
+    {
+        let most = self.most_bytes(request);
+        if most <= buffer.capacity() {
+            return Ok(());
+        }
+        let held = buffer.as_path().as_unix_str().len();
+        buffer.reserve(most.saturating_sub(held))
     }
 
     /// The request joined to the root: the root's bytes, and behind them the request's names, with
@@ -239,6 +300,7 @@ impl Root {
     /// in Rust's std.
     ///
     /// Below `/srv/www` the request `a` makes `/srv/www/a` of a buffer that held `/tmp`.
+    #[inline(always)]
     pub fn join_into(&self, buffer: &mut PathBuf, request: Request<'_>) -> Result<(), AllocError>
         ensures bytes { OnOk result (path_bytes buffer.new
             ≡ below_of (root_bytes self.now) (request_names request.entry)) }
@@ -248,9 +310,8 @@ impl Root {
         ensures succeeds { length (root_bytes self.now) + 1 + length (request_bytes request.entry)
             ≤ capacity buffer.old → IsOk result }
     {
-        let held = buffer.as_path().as_unix_str().len();
         // All the room comes first, so that a failed allocation leaves the buffer as it was.
-        buffer.reserve(self.most_bytes(request).saturating_sub(held))?;
+        self.make_room(buffer, request)?;
         self.fill(buffer, request);
         Ok(())
     }
