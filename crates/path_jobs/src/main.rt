@@ -1,7 +1,7 @@
 //! The jobs that users of paths wait for, on made-up inputs, for timing.
 //!
-//! `path_jobs JOB SEED COUNT` runs one of the jobs `manifest`, `table`, `requests`, `rules` and
-//! `long` on so many inputs, which the seed makes, and prints a digest of all its answers.
+//! `path_jobs JOB SEED COUNT` runs one of the jobs `manifest`, `table`, `requests`, `rules`, `long`
+//! and `server` on so many inputs, which the seed makes, and prints a digest of all its answers.
 //! `path_jobs all SEED COUNT` runs each. The same words print the same.
 #![tactic(auto)]
 
@@ -12,6 +12,7 @@ mod manifest;
 mod random;
 mod requests;
 mod rules;
+mod server;
 mod table;
 mod tree;
 
@@ -19,7 +20,7 @@ use std::alloc::{AllocError, Global};
 use std::process::ExitCode;
 use std::{env, io};
 
-// The names of the jobs.
+// The names of the jobs of bench/workloads.txt.
 static JOBS: [&str; 5] = ["manifest", "table", "requests", "rules", "long"];
 
 // The digest of a job's answers; `None` for an unknown job.
@@ -30,6 +31,7 @@ fn digest_of(alloc: Global, job: &str, seed: u64, count: u64) -> Result<Option<u
         "requests" => requests::run(alloc, seed, count)?,
         "rules" => rules::run(alloc, seed, count)?,
         "long" => long::run(alloc, seed, count)?,
+        "server" => server::run(alloc, seed, count)?,
         _ => return Ok(None),
     };
     Ok(Some(digest))
@@ -51,6 +53,7 @@ fn run_all(rt: &HostRuntime, seed: u64, count: u64) -> io::Result<bool> {
             return Ok(false);
         }
     }
+    let _is_job = run(rt, "server", seed, count)?;
     Ok(true)
 }
 

@@ -8,7 +8,7 @@ use path_within::within::{WithinError, climbs, join_plain, join_within};
 use std::alloc::{AllocError, Global};
 use unix_path::Path;
 
-static ROOTS: [&str; 8] = [
+pub(crate) static ROOTS: [&str; 8] = [
     "/srv/www/site/public",
     "/var/lib/tenant/7f/files",
     "/home/build/sandbox/work",
@@ -53,7 +53,9 @@ fn push_hostile(out: &mut Vec<u8>, random: &mut Random, place: u64) -> Result<()
 
 // Adds a request. Most are plain paths, some with a hidden name in front; one in ten has `.`, `..`
 // or `//`, a few climb, and a few are hostile. No two requests are the same: `place` is in each.
-fn push_request(
+// Two jobs make requests, and each has this in its loop.
+#[inline(always)]
+pub(crate) fn push_request(
     out: &mut Vec<u8>,
     tree: Tree<'_>,
     random: &mut Random,

@@ -187,6 +187,7 @@ impl<'a> Tree<'a> {
     }
 
     // Adds one to five names that go by the number, each with a gap before it, a tag and an ending.
+    #[inline(always)]
     pub(crate) fn push_short(
         self,
         out: &mut Vec<u8>,

@@ -1,0 +1,91 @@
+//! Requests are joined below roots as a server does that makes its roots once, checks each request
+//! once, and joins it in a buffer that it keeps.
+use crate::digest::Digest;
+use crate::random::Random;
+use crate::requests::{ROOTS, push_request};
+use crate::tree::Tree;
+use path_within::{Request, RequestError, Root};
+use std::alloc::{AllocError, Global};
+use unix_path::{Path, PathBuf};
+
+// The roots of the job `requests`, resolved and as they stand.
+#[derive(Drop)]
+struct Roots {
+    resolved: Vec<Root>,
+    kept: Vec<Root>,
+}
+
+impl Roots {
+    fn new(alloc: Global) -> Result<Roots, AllocError> {
+        let mut resolved = Vec::with_capacity(alloc, ROOTS.len())?;
+        let mut kept = Vec::with_capacity(alloc, ROOTS.len())?;
+        for root in ROOTS.iter() {
+            resolved.push(Root::new(alloc, Path::from_text(root))?)?;
+            kept.push(Root::kept(alloc, Path::from_text(root))?)?;
+        }
+        Ok(Roots { resolved, kept })
+    }
+}
+
+// Adds the join below a resolved root, and what follows the root in it.
+fn answer(
+    root: &Root,
+    file: &mut PathBuf,
+    request: Request<'_>,
+    digest: &mut Digest,
+) -> Result<(), AllocError> {
+    root.join_into(file, request)?;
+    digest.add_path(file.as_path());
+    if let Ok(rest) = file.as_path().strip_prefix(root.as_path()) {
+        digest.add_path(rest);
+    }
+    Ok(())
+}
+
+// Adds the answers to a request: its joins below three resolved roots, and below one as it stands.
+fn answer_all(
+    roots: &Roots,
+    file: &mut PathBuf,
+    request: Request<'_>,
+    place: u64,
+    digest: &mut Digest,
+) -> Result<(), AllocError> {
+    for turn in 0..3 {
+        if let Some(root) = roots.resolved.get((place.wrapping_add(turn) & 7) as usize) {
+            answer(root, file, request, digest)?;
+        }
+    }
+    if let Some(root) = roots.kept.get((place.wrapping_add(3) & 7) as usize) {
+        root.join_into(file, request)?;
+        digest.add_path(file.as_path());
+    }
+    Ok(())
+}
+
+// What stands for the error in the digest.
+fn number_of(error: RequestError) -> u64 {
+    match error {
+        RequestError::Rooted => 1,
+        RequestError::Climbs => 2,
+        RequestError::Nul => 3,
+    }
+}
+
+// Answers the requests of the job `requests` with this seed and count, each below the same roots.
+pub(crate) fn run(alloc: Global, seed: u64, count: u64) -> Result<u64, AllocError> {
+    let mut digest = Digest::new();
+    let mut random = Random::new(seed);
+    let tree = Tree::new("", seed);
+    let roots = Roots::new(alloc)?;
+    let mut file = PathBuf::new(alloc);
+    let mut bytes = Vec::new(alloc);
+    for place in 0..count {
+        bytes.clear();
+        push_request(&mut bytes, tree, &mut random, place)?;
+        match Request::new(Path::from_bytes(&bytes)) {
+            Ok(request) => answer_all(&roots, &mut file, request, place, &mut digest)?,
+            Err(error) => digest.add(number_of(error)),
+        }
+    }
+    Ok(digest.get())
+}
