@@ -1,91 +1,9 @@
-//! Rows of requests, roots and joins below them, and known bad requests of path traversal, each
-//! with the answer of each call.
+//! Rows of requests, roots and joins below them.
 use path_within::{Request, RequestError, Root, StripError};
 use std::alloc::{AllocError, Global};
 use std::test::Fail;
 use unix_bytes::bytes::UnixStr;
 use unix_path::{Path, PathBuf};
-
-// What `new` answers for a request below `/www`: the join, or why it is refused.
-type Answer = Result<&'static [u8], RequestError>;
-
-const ROOTED: Answer = Err(RequestError::Rooted);
-
-const CLIMBS: Answer = Err(RequestError::Climbs);
-
-const NUL: Answer = Err(RequestError::Nul);
-
-// A request, what `new` answers for it, and its join as `below` reads it, unless it has a NUL. An
-// encoded `..` is a name.
-static BAD_REQUESTS: [(&'static [u8], Answer, Option<&'static [u8]>); 27] = [
-    (b"../../../../etc/passwd", CLIMBS, Some(b"/www/etc/passwd")),
-    (b"a/b/../../../etc/passwd", CLIMBS, Some(b"/www/etc/passwd")),
-    (b"./../etc/passwd", CLIMBS, Some(b"/www/etc/passwd")),
-    (b".//..//etc/passwd", CLIMBS, Some(b"/www/etc/passwd")),
-    (b"//etc/passwd", ROOTED, Some(b"/www/etc/passwd")),
-    (b"/../etc/passwd", ROOTED, Some(b"/www/etc/passwd")),
-    (b"/www/../etc/passwd", ROOTED, Some(b"/www/etc/passwd")),
-    (b"/..\0/x", ROOTED, None),
-    (b"a/../../www/x", CLIMBS, Some(b"/www/www/x")),
-    (b"..", CLIMBS, Some(b"/www")),
-    (b"../", CLIMBS, Some(b"/www")),
-    (b"../\0", CLIMBS, None),
-    (
-        b"..%2f..%2fetc",
-        Ok(b"/www/..%2f..%2fetc"),
-        Some(b"/www/..%2f..%2fetc"),
-    ),
-    (
-        b"%2e%2e/etc",
-        Ok(b"/www/%2e%2e/etc"),
-        Some(b"/www/%2e%2e/etc"),
-    ),
-    (
-        b"%2e%2e%2fetc",
-        Ok(b"/www/%2e%2e%2fetc"),
-        Some(b"/www/%2e%2e%2fetc"),
-    ),
-    (
-        b"..%252fetc",
-        Ok(b"/www/..%252fetc"),
-        Some(b"/www/..%252fetc"),
-    ),
-    (
-        b"..%c0%afetc",
-        Ok(b"/www/..%c0%afetc"),
-        Some(b"/www/..%c0%afetc"),
-    ),
-    (
-        b"....//....//etc",
-        Ok(b"/www/..../..../etc"),
-        Some(b"/www/..../..../etc"),
-    ),
-    (
-        b"..../\\etc",
-        Ok(b"/www/..../\\etc"),
-        Some(b"/www/..../\\etc"),
-    ),
-    (
-        b"..\\..\\etc",
-        Ok(b"/www/..\\..\\etc"),
-        Some(b"/www/..\\..\\etc"),
-    ),
-    (
-        b"C:\\..\\etc",
-        Ok(b"/www/C:\\..\\etc"),
-        Some(b"/www/C:\\..\\etc"),
-    ),
-    (b"..;/etc", Ok(b"/www/..;/etc"), Some(b"/www/..;/etc")),
-    (b".. /etc", Ok(b"/www/.. /etc"), Some(b"/www/.. /etc")),
-    (b"..\0/etc", NUL, None),
-    (b"a\0/../etc", NUL, None),
-    (b"a/long/name/in/front/shell.php\0.png", NUL, None),
-    (
-        b"\xC0\xAE\xC0\xAE/etc",
-        Ok(b"/www/\xC0\xAE\xC0\xAE/etc"),
-        Some(b"/www/\xC0\xAE\xC0\xAE/etc"),
-    ),
-];
 
 // What is asked of a request: its path, its file name, and whether it has no name and ends in a
 // slash.
@@ -167,41 +85,6 @@ fn is_joined(
     let joined = root.join(alloc, request)?;
     root.join_into(buffer, request)?;
     Ok(holds(&joined, want) && holds(buffer, want))
-}
-
-// Whether both readings of the bad request give what they should.
-fn is_answered(
-    alloc: Global,
-    root: &Root,
-    buffer: &mut PathBuf,
-    row: &(&[u8], Answer, Option<&[u8]>),
-) -> Result<bool, AllocError> {
-    let path = Path::from_bytes(row.0);
-    let is_new = match (Request::new(path), row.1) {
-        (Ok(request), Ok(want)) => is_joined(alloc, root, request, buffer, want)?,
-        (Err(error), Err(want)) => error == want,
-        _ => false,
-    };
-    let is_below = match (Request::below(path), row.2) {
-        (Ok(request), Some(want)) => is_joined(alloc, root, request, buffer, want)?,
-        (Err(error), None) => error == RequestError::Nul,
-        _ => false,
-    };
-    Ok(is_new && is_below)
-}
-
-#[test]
-fn bad_requests_answered(rt: HostRuntime) -> Result<(), Fail> {
-    let root = Root::new(rt.alloc(), Path::from_text("/www"))?;
-    let mut buffer = PathBuf::from_text(rt.alloc(), "what was held before")?;
-    for row in BAD_REQUESTS.iter() {
-        assert!(rt;
-            is_answered(rt.alloc(), &root, &mut buffer, row)?,
-            "{:?}",
-            row.0
-        );
-    }
-    Ok(())
 }
 
 // Whether the request of the row has what is asked of it.
