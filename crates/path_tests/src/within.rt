@@ -1,4 +1,5 @@
 //! Rows of paths from outside, and the laws on all short paths.
+mod bounds;
 mod plain;
 mod requests;
 mod rows;
