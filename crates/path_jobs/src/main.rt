@@ -53,6 +53,7 @@ fn run_all(rt: &HostRuntime, seed: u64, count: u64) -> io::Result<bool> {
             return Ok(false);
         }
     }
+    // That of bench/later.txt.
     let _is_job = run(rt, "server", seed, count)?;
     Ok(true)
 }

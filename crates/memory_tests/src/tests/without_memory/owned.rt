@@ -106,6 +106,7 @@ fn buffers_need_no_memory(rt: HostRuntime) -> Result<(), Fail> {
     let mut foo = PathBuf::from_text(alloc, "foo")?;
     let full = PathBuf::from_text(alloc, "foo")?;
     let root = Root::kept(alloc, path("/srv/./www/"))?;
+    let closed_root = Root::new(alloc, path("/srv/www"))?;
     let mut file = PathBuf::with_capacity(alloc, 20)?;
     let _dry = drought(alloc)?;
     assert!(rt; is_read(&foo));
@@ -115,6 +116,7 @@ fn buffers_need_no_memory(rt: HostRuntime) -> Result<(), Fail> {
     assert!(rt; requests_are_read());
     assert!(rt; is_joined_into(&root, &mut file, "a/../b/"));
     assert!(rt; is_joined_into(&root, &mut file, "/a/b.html"));
+    assert!(rt; is_joined_into(&closed_root, &mut file, "img/ab.html"));
     assert!(rt; spelling_is_written());
     assert!(rt; joins_nothing(alloc));
     assert!(rt; leads_nowhere(alloc));
