@@ -104,7 +104,7 @@ below_of-cons : (root name : List ℕ) (vs : List Value)
 unfolding below_of
 below_of-cons root name vs = refl
 
-below_of-nil : (root : List ℕ) → below_of root [] ≡ root
+pub below_of-nil : (root : List ℕ) → below_of root [] ≡ root
 unfolding below_of
 below_of-nil root = refl
 
@@ -195,7 +195,7 @@ begins-join root b e = subst (Begins root) (sym e) (begins-below_of root (names_
 -- ---- a path that is its names as it is spelled
 
 -- a join with the join of one path or more is a join with one after the other
-join_of-all : (a b : List ℕ) (bs : List (List ℕ))
+pub join_of-all : (a b : List ℕ) (bs : List (List ℕ))
     → join_of a (join_all_of b bs) ≡ join_all_of (join_of a b) bs
 join_of-all a b [] = refl
 join_of-all a b (c ∷ bs) = join_of-all a (join_of b c) bs

@@ -31,3 +31,5 @@ pub mod BelowLemmas
 pub mod BelowValueLemmas
 pub mod BelowLawLemmas
 pub mod BoundLemmas
+pub mod TakeNameLemmas
+pub mod WrittenLemmas

@@ -9,3 +9,4 @@ pub mod Errors
 pub mod Below
 pub mod Requests
 pub mod BelowLaws
+pub mod Written

@@ -9,6 +9,7 @@ pub mod resolved;
 mod root;
 pub mod way;
 pub mod within;
+mod written;
 
 pub use request::{Request, RequestError};
 pub use root::{Root, StripError};
