@@ -1,17 +1,20 @@
 //! Paths from outside: resolved, and joined so that they stay under a root.
-ghost use Rattle.std.specs.Prelude.{◌≡◌, ◌↔◌, ◌⊎◌, length};
+ghost use Rattle.std.specs.Prelude.{◌≡◌, ◌↔◌, ◌⊎◌, true, false, length, IfOk, IsErrOf};
 ghost use Rattle.unix_path.specs.Joins.{join_of};
-ghost use Rattle.unix_path.specs.Parts.{values};
+ghost use Rattle.unix_path.specs.Parts.{is_rooted, values};
 ghost use Rattle.unix_path.specs.Prefixes.{Begins};
 ghost use Rattle.path_within.specs.Resolved.{resolved_bytes_of};
+ghost use Rattle.path_within.specs.Below.{below_of, has_nul, names_below, IsBelow};
 ghost use Rattle.path_within.specs.Climbs.{Climbs};
-ghost use Rattle.unix_path_c.specs.Within.{IsLength, escapes, no_memory};
+ghost use Rattle.path_within.specs.Requests.{request_names};
+ghost use Rattle.unix_path_c.specs.Within.{IsLength, buffer_size, escapes, no_memory};
+ghost use Rattle.unix_path_c.specs.Within.{nul_in_request};
 ghost use Rattle.path_runs.specs.Buffer.{buffer_after};
 
 use crate::writing::place_whole;
-use path_within::WithinError;
 use path_within::resolved::resolved;
 use path_within::within::join_within;
+use path_within::{Request, RequestError, WithinError};
 use std::alloc::Global;
 use unix_path::Path;
 
@@ -20,6 +23,12 @@ const ESCAPES: usize = usize::MAX - 1;
 
 // The answer if an allocation failed.
 const NO_MEMORY: usize = usize::MAX - 2;
+
+// The answer if a request has a NUL byte.
+const NUL_IN_REQUEST: usize = usize::MAX - 3;
+
+// One byte more than the longest buffer has.
+const NO_BUFFER: usize = 1 << 63;
 
 /// The path with each `..` dropped together with the name before it, in canonical spelling: `.` is
 /// dropped too, and so is `..` behind the root. Without a root, a `..` with no name before it stays
@@ -85,5 +94,84 @@ pub extern "C" fn unix_path_join_within(
         Ok(joined) => place_whole(out, joined.as_path().bytes),
         Err(WithinError::Escapes) => ESCAPES,
         Err(WithinError::Memory(_)) => NO_MEMORY,
+    }
+}
+
+// The request of a path from outside: as the path of a URL, or one that has to stay below where it
+// starts.
+#[inline]
+fn read_request(path: Path<'_>, as_url: bool) -> Result<Request<'_>, RequestError>
+    ensures rooted { IsErrOf result RequestError.Rooted
+        ↔ ((as_url ≡ false) × (is_rooted path.entry.bytes.now ≡ true)) }
+    ensures climbs { IsErrOf result RequestError.Climbs
+        ↔ ((as_url ≡ false) × ((is_rooted path.entry.bytes.now ≡ false)
+        × Climbs (values path.entry.bytes.now))) }
+    ensures nul { IsErrOf result RequestError.Nul
+        ↔ ((has_nul path.entry.bytes.now ≡ true)
+        × (as_url ≡ false → Climbs (values path.entry.bytes.now) → ⊥)) }
+    ensures names { IfOk result (λ r.
+        request_names r ≡ names_below (values path.entry.bytes.now)) }
+{
+    if as_url {
+        return Request::below(path);
+    }
+    Request::new(path)
+}
+
+// The length of a join as it is told: no buffer has more than `NO_BUFFER` bytes.
+#[inline]
+fn told_len(len: usize) -> usize
+    ensures { result ≡ buffer_size len }
+{
+    if len < NO_BUFFER { len } else { NO_BUFFER }
+}
+
+/// The request joined below the root: the root's bytes as they stand, and behind them the request's
+/// names, resolved, with a `/` between two of them and, where one is wanted, behind the root.
+///
+/// The answer is how many bytes that is; a length above `PTRDIFF_MAX`, of which no buffer has as
+/// many bytes, is answered as `PTRDIFF_MAX + 1`. If `out` has room for them all they stand at its
+/// beginning, and what stood behind them stays; else nothing is written. `out` may overlap neither
+/// path.
+///
+/// If `as_url` is false, the answer is `UNIX_PATH_ESCAPES` exactly if the request climbs: it has a
+/// root, or goes above where it starts. If `as_url` is true, the request is read as the path of a
+/// URL: leading slashes are dropped, and a `..` at the top stays at the top. In both readings it is
+/// else `UNIX_PATH_NUL_IN_REQUEST` exactly if the request has a NUL byte. What is refused writes
+/// nothing.
+///
+/// It goes by names alone: if a part below the root may be a link, the system has to refuse links.
+/// A request with no name gives the root itself, and a slash at the request's end goes. Does not
+/// allocate. Not in Rust's std; as `path_within`'s `Root::kept` and `Root::join`.
+///
+/// `/srv/www` with `a/../b` is `/srv/www/b`; with `/../a` it is `/srv/www/a` as a URL, and else
+/// refused.
+#[unsafe(no_mangle)]
+pub extern "C" fn unix_path_join_below(
+    root: &[u8],
+    request: &[u8],
+    as_url: bool,
+    out: &mut [u8],
+) -> usize
+    ensures answers { IsLength result ⊎ ((result ≡ escapes) ⊎ (result ≡ nul_in_request)) }
+    ensures escapes { (result ≡ escapes)
+        ↔ ((as_url ≡ false) × Climbs (values request.now)) }
+    ensures nul { (result ≡ nul_in_request)
+        ↔ ((has_nul request.now ≡ true)
+        × (as_url ≡ false → Climbs (values request.now) → ⊥)) }
+    ensures length { IsLength result → result
+        ≡ buffer_size (length (below_of root.now (names_below (values request.now)))) }
+    ensures out { IsLength result
+        → out.new ≡ buffer_after (below_of root.now (names_below (values request.now))) out.old }
+    ensures below { IsLength result
+        → IsBelow root.now (below_of root.now (names_below (values request.now))) }
+    ensures escaped { result ≡ escapes → out.new ≡ out.old }
+    ensures refused { result ≡ nul_in_request → out.new ≡ out.old }
+{
+    match read_request(Path::from_bytes(request), as_url) {
+        Ok(request) => told_len(request.write_below(Path::from_bytes(root), out)),
+        Err(RequestError::Rooted) => ESCAPES,
+        Err(RequestError::Climbs) => ESCAPES,
+        Err(RequestError::Nul) => NUL_IN_REQUEST,
     }
 }

@@ -1,10 +1,13 @@
 //! Rows of resolved paths and of joins that stay under a root, in buffers of 0 to 31 bytes.
 use crate::tests::rooms::is_answered;
-use crate::within::{unix_path_join_within, unix_path_resolved};
+use crate::within::{unix_path_join_below, unix_path_join_within, unix_path_resolved};
 use std::alloc::Global;
 
 // The answer to a request that would leave its root.
 const ESCAPES: usize = usize::MAX - 1;
+
+// The answer to a request with a NUL byte.
+const NUL: usize = usize::MAX - 3;
 
 // A path, and what it resolves to, as Go's `path.Clean` has it; if that gives `.`, nothing.
 static RESOLUTIONS: [(&'static str, &'static str); 12] = [
@@ -39,6 +42,85 @@ static JOINS: [(&'static str, &'static str, Option<&'static str>); 13] = [
     ("/", "a\0/../etc", Some("/etc")),
 ];
 
+// What is answered for a request below a root: the join, or the number that refuses it.
+type Answer = Result<&'static [u8], usize>;
+
+// A root, a request, and the answer if it has to stay below where it starts, and as that of a URL.
+type Below = (&'static [u8], &'static [u8], Answer, Answer);
+
+static BELOW: [Below; 30] = [
+    (
+        b"/srv",
+        b"index.html",
+        Ok(b"/srv/index.html"),
+        Ok(b"/srv/index.html"),
+    ),
+    (
+        b"/srv",
+        b"/index.html",
+        Err(ESCAPES),
+        Ok(b"/srv/index.html"),
+    ),
+    (b"/srv", b"//a/../../b", Err(ESCAPES), Ok(b"/srv/b")),
+    (b"/srv", b"a/../b/", Ok(b"/srv/b"), Ok(b"/srv/b")),
+    (
+        b"/srv",
+        b"a/b/./c//d/../..",
+        Ok(b"/srv/a/b"),
+        Ok(b"/srv/a/b"),
+    ),
+    (b"/srv", b"", Ok(b"/srv"), Ok(b"/srv")),
+    (b"/srv", b"/", Err(ESCAPES), Ok(b"/srv")),
+    (b"/srv", b"a/..", Ok(b"/srv"), Ok(b"/srv")),
+    (b"/srv", b".", Ok(b"/srv"), Ok(b"/srv")),
+    (b"/srv/", b"a/b", Ok(b"/srv/a/b"), Ok(b"/srv/a/b")),
+    (b"/srv/", b"./a", Ok(b"/srv/a"), Ok(b"/srv/a")),
+    (b"/srv/", b"a/..", Ok(b"/srv/"), Ok(b"/srv/")),
+    (b"/", b"a//b", Ok(b"/a/b"), Ok(b"/a/b")),
+    (b"/", b"..", Err(ESCAPES), Ok(b"/")),
+    (b"//", b"a", Ok(b"//a"), Ok(b"//a")),
+    (b"", b"a/b", Ok(b"a/b"), Ok(b"a/b")),
+    (b"", b"a/./b", Ok(b"a/b"), Ok(b"a/b")),
+    (b"", b"/../a", Err(ESCAPES), Ok(b"a")),
+    (b"", b"", Ok(b""), Ok(b"")),
+    (b"s", b"./a", Ok(b"s/a"), Ok(b"s/a")),
+    (
+        b"/x/./y/../z//.",
+        b"a/",
+        Ok(b"/x/./y/../z//./a"),
+        Ok(b"/x/./y/../z//./a"),
+    ),
+    (
+        b"..",
+        b"..foo/...",
+        Ok(b"../..foo/..."),
+        Ok(b"../..foo/..."),
+    ),
+    (b"/w\0w", b"a/./b", Ok(b"/w\0w/a/b"), Ok(b"/w\0w/a/b")),
+    (
+        b"/www",
+        b"../../etc/passwd",
+        Err(ESCAPES),
+        Ok(b"/www/etc/passwd"),
+    ),
+    (b"/www", b"a/../../www/x", Err(ESCAPES), Ok(b"/www/www/x")),
+    (
+        b"/www",
+        b"..%2f..%2fetc",
+        Ok(b"/www/..%2f..%2fetc"),
+        Ok(b"/www/..%2f..%2fetc"),
+    ),
+    (
+        b"/www",
+        b"..\\..\\etc",
+        Ok(b"/www/..\\..\\etc"),
+        Ok(b"/www/..\\..\\etc"),
+    ),
+    (b"/www", b"a.php\0.png", Err(NUL), Err(NUL)),
+    (b"/www", b"/\0", Err(ESCAPES), Err(NUL)),
+    (b"/www", b"../\0", Err(ESCAPES), Err(NUL)),
+];
+
 // Whether what the path resolves to is written, if there is room for it.
 fn is_resolved(alloc: Global, row: &(&str, &str)) -> bool {
     let call = |out: &mut [u8]| unix_path_resolved(alloc, row.0.as_bytes(), out);
@@ -70,5 +152,22 @@ fn rows_resolved(rt: HostRuntime) {
 fn rows_joined_within(rt: HostRuntime) {
     for row in JOINS.iter() {
         assert!(rt; is_joined(rt.alloc(), row), "{} {}", row.0, row.1);
+    }
+}
+
+// Whether the request of the row is answered like this in one reading.
+fn is_below(row: &Below, as_url: bool, answer: Answer) -> bool {
+    let call = |out: &mut [u8]| unix_path_join_below(row.0, row.1, as_url, out);
+    match answer {
+        Ok(want) => is_answered(call, want.len(), want),
+        Err(refusal) => is_answered(call, refusal, b""),
+    }
+}
+
+#[test]
+fn rows_joined_below(rt: HostRuntime) {
+    for row in BELOW.iter() {
+        assert!(rt; is_below(row, false, row.2), "{:?} {:?}", row.0, row.1);
+        assert!(rt; is_below(row, true, row.3), "{:?} {:?}", row.0, row.1);
     }
 }
