@@ -3,8 +3,8 @@
  * A path is a pointer to its bytes and how many there are. It may hold any byte, NUL too, and
  * needs none behind it. Its parts are the root, a leading `.`, and then each name and each `..`;
  * paths are equal if their parts are. No file is touched, and `..` is a part like a name. Only
- * unix_path_resolved, unix_path_join_within, unix_path_climbs and unix_path_check_request let `..`
- * undo the name before it.
+ * unix_path_resolved, unix_path_join_within, unix_path_join_below, unix_path_climbs and
+ * unix_path_check_request let `..` undo the name before it.
  * Cast a `char *` to `const uint8_t *`. No answer ends in a NUL.
  *
  * For every call:
@@ -34,11 +34,14 @@ extern "C" {
 
 /* What unix_path_with_extension answers if the extension has a slash. Nothing is written. */
 #define UNIX_PATH_SEPARATOR SIZE_MAX
-/* What unix_path_join_within answers if the request climbs. Nothing is written or allocated. */
+/* What unix_path_join_within and unix_path_join_below answer if the request climbs. Nothing is
+ * written or allocated. */
 #define UNIX_PATH_ESCAPES (SIZE_MAX - 1)
 /* What unix_path_resolved and unix_path_join_within answer if an allocation failed. Nothing is
  * written. */
 #define UNIX_PATH_NO_MEMORY (SIZE_MAX - 2)
+/* What unix_path_join_below answers if the request has a NUL byte. Nothing is written. */
+#define UNIX_PATH_NUL_IN_REQUEST (SIZE_MAX - 3)
 
 /* What is left of a walk over a path: the bytes from front up to back. Nothing is left if front is
  * greater than back, or back is greater than the path's length: a record may hold anything. */
@@ -190,6 +193,23 @@ size_t unix_path_resolved(const uint8_t *path, size_t path_length, uint8_t *out,
  * An empty answer stands for `.`. `/srv` with `a/../b` gives `/srv/b`. */
 size_t unix_path_join_within(const uint8_t *root, size_t root_length, const uint8_t *request,
                              size_t request_length, uint8_t *out, size_t out_length);
+
+/* The request joined below the root: the root as it stands, byte for byte, and behind it the names
+ * that the request resolves to, with a slash between two of them and, where one is wanted, behind
+ * the root. Behind the root stand no `..`, no `.`, no NUL and no slash at the end; if the request
+ * has no name, the answer is the root alone, and if that is empty too, it stands for `.`.
+ *
+ * as_url says how the request is read. If it is false, the answer is UNIX_PATH_ESCAPES exactly if
+ * the request climbs; unix_path_check_request tells whether by a root. If it is true, as for the
+ * decoded path of a URL, leading slashes are dropped, and a `..` at the top stays at the top. Else
+ * the answer is UNIX_PATH_NUL_IN_REQUEST exactly if the request has a NUL, at which a system call
+ * cuts it.
+ *
+ * It goes by names alone: if a part below the root may be a link, let the system refuse links. A
+ * length above PTRDIFF_MAX is returned as PTRDIFF_MAX + 1. `/srv/` with `a/../b` gives `/srv/b`;
+ * with `/../b` it gives `/srv/b` as a URL, and else UNIX_PATH_ESCAPES. */
+size_t unix_path_join_below(const uint8_t *root, size_t root_length, const uint8_t *request,
+                            size_t request_length, bool as_url, uint8_t *out, size_t out_length);
 
 #ifdef __cplusplus
 }

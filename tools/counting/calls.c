@@ -67,6 +67,8 @@ CALL(canonical, unix_path_canonical(A, OUT))
 CALL(to_string_lossy, unix_path_to_string_lossy(A, OUT))
 CALL(resolved, unix_path_resolved(A, OUT))
 CALL(join_within, unix_path_join_within(A, B, OUT))
+/* A request with a root is one of a URL. */
+CALL(join_below, unix_path_join_below(A, B, b.length > 0 && b.bytes[0] == '/', OUT))
 
 #define NAMED(name) {#name, name}
 
@@ -76,7 +78,7 @@ static const call calls[] = {
     NAMED(starts_with), NAMED(ends_with), NAMED(equal), NAMED(compare), NAMED(hash),
     NAMED(is_utf8), NAMED(is_absolute), NAMED(climbs), NAMED(check_request), NAMED(common_dir),
     NAMED(join), NAMED(with_file_name), NAMED(with_extension), NAMED(canonical),
-    NAMED(to_string_lossy), NAMED(resolved), NAMED(join_within),
+    NAMED(to_string_lossy), NAMED(resolved), NAMED(join_within), NAMED(join_below),
 };
 
 /* The call whose name has these bytes; NULL if there is none. */

@@ -146,7 +146,7 @@ PATHS = [
     ("comes_down", lambda n: (cut(n, b"a/../"), b""), EDGES, "resolved"),
 ]
 
-# Families of requests, which `climbs`, `check_request` and `join_within` get.
+# Families of requests, which `climbs`, `check_request`, `join_within` and `join_below` get.
 REQUESTS = [
     ("plain", plain, EDGES),
     ("slash_end", lambda n: plain(n - 1) + b"/", EDGES),
@@ -160,13 +160,23 @@ REQUESTS = [
 ]
 ROOT = b"/srv/www"
 
+# Families of requests that `join_below` gets as paths of URLs, since they have a root.
+URLS = [
+    ("rooted", lambda n: b"/" + plain(n - 1), EDGES),
+    ("rooted_slash_end", lambda n: b"/" + plain(n - 2) + b"/", EDGES),
+    ("rooted_climbs_late", lambda n: b"/" + name(n - 7) + b"/../..", EDGES),
+    ("rooted_climbs_first", lambda n: b"/../" + plain(n - 4), SHORT),
+]
+
 
 def families():
     """Each family: its name, how its paths are made, its sizes, and the calls."""
     yield from PAIRS + PATHS
     for title, make, sizes in REQUESTS:
         yield title, lambda n, make=make: (make(n), b""), sizes, "climbs check_request"
-        yield title, lambda n, make=make: (ROOT, make(n)), sizes, "join_within"
+        yield title, lambda n, make=make: (ROOT, make(n)), sizes, "join_within join_below"
+    for title, make, sizes in URLS:
+        yield title, lambda n, make=make: (ROOT, make(n)), sizes, "join_below"
     yield ("plain_root", lambda n: (b"/" + plain(n - 1), b"img/logo.png"), EDGES, "join_within")
 
 

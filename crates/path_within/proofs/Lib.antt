@@ -32,4 +32,6 @@ pub mod BelowValueLemmas
 pub mod BelowLawLemmas
 pub mod BoundLemmas
 pub mod TakeNameLemmas
+pub mod WritesBackLemmas
+pub mod OpenedLemmas
 pub mod WrittenLemmas

@@ -157,6 +157,7 @@ impl<'a> Request<'a> {
     /// `filepath.IsLocal`, which refuses the empty path and lets a NUL through.
     ///
     /// For `a//../b` it stands for `b`; `/a`, `a/../..` and `a\0.png` are refused.
+    #[inline]
     pub fn new(path: Path<'a>) -> Result<Request<'a>, RequestError>
         ensures rooted { IsErrOf result RequestError.Rooted
             ↔ (is_rooted path.entry.bytes.now ≡ true) }

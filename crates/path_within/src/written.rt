@@ -9,16 +9,18 @@ ghost use Rattle.path_runs.specs.Buffer.{buffer_after};
 ghost use Rattle.path_runs.specs.Overlay.{overlay};
 ghost use Rattle.path_runs.specs.Spelling.{slashed_bytes};
 ghost use Rattle.path_within.specs.Below.{below_of, names_below, slashed_len, IsBelow};
-ghost use Rattle.path_within.specs.Requests.{request_bytes, request_names};
-ghost use Rattle.path_within.specs.Written.{opened};
+ghost use Rattle.path_within.specs.Requests.{request_names};
+ghost use Rattle.path_within.specs.Written.{opened, AreSpelled};
 
+use crate::plain::is_plain;
 use crate::request::Request;
 use unix_bytes::bytes::UnixStr;
 use unix_path::{Component, Components, Path};
 
 // Takes the last name that is left of a walk, as it is resolved behind `/`, and what stands behind
-// that name: each `..` with the name that it takes away, and each `.`.
-#[inline]
+// that name: each `..` with the name that it takes away, and each `.`. Always inlined, so that a
+// loop over the names keeps the walk in registers.
+#[inline(always)]
 fn take_name<'a>(left: &mut Components<'a>) -> Option<UnixStr<'a>>
     requires { slashed_len (cursor_values left.old) < 2 ^ 64 }
     ensures none { result ≡ None → names_below (cursor_values left.old) ≡ [] }
@@ -45,21 +47,54 @@ fn take_name<'a>(left: &mut Components<'a>) -> Option<UnixStr<'a>>
     None
 }
 
-// How many bytes the names of a request have, with a slash for each.
-fn names_len(request: Request<'_>) -> usize
-    ensures len { result ≡ slashed_len (request_names request.entry) }
-    ensures fits { result ≤ 1 + length (request_bytes request.entry) }
+// How many bytes the names of a path have, as it is resolved behind `/`, with a slash for each.
+fn resolved_len(path: Path<'_>) -> usize
+    requires { is_rooted path.bytes.now ≡ false }
+    ensures len { result ≡ slashed_len (names_below (values path.entry.bytes.now)) }
+    ensures fits { result ≤ 1 + length path.entry.bytes.now }
 {
-    let path = request.as_path();
-    if request.is_spelled() {
-        return 1 + path.bytes.len();
-    }
     let mut left = path.components();
     let mut len = 0_usize;
     while let Some(name) = take_name(&mut left) {
         len += 1 + name.bytes.len();
     }
     len
+}
+
+// The path without the `.` that it may begin with, and without the filler behind its last part.
+#[inline]
+fn trimmed(path: Path<'_>) -> Path<'_>
+    requires { is_rooted path.bytes.now ≡ false }
+    ensures names { names_below (values result.bytes.now)
+        ≡ names_below (values path.entry.bytes.now) }
+    ensures rootless { is_rooted result.bytes.now ≡ false }
+{
+    let mut left = path.components();
+    let whole = left.as_path();
+    // A first name isn't looked at.
+    if whole.bytes.is_empty() || whole.bytes[0] != b'.' {
+        return whole;
+    }
+    match left.next() {
+        Some(Component::CurDir) => left.as_path(),
+        _ => whole,
+    }
+}
+
+// The bytes of a request that are its names as they are spelled, or `None` if there is no name, or
+// they don't stand side by side with a slash between two of them.
+#[inline]
+fn spelled_names(request: Request<'_>) -> Option<&[u8]>
+    ensures { IfSome result (λ names. AreSpelled names.now (request_names request.entry)) }
+{
+    if request.is_spelled() {
+        return Some(request.as_path().bytes);
+    }
+    let path = trimmed(request.as_path());
+    if is_plain(path) {
+        return Some(path.bytes);
+    }
+    None
 }
 
 // Overwrites the bytes of `out` from `at` on with `bytes`.
@@ -93,7 +128,7 @@ fn place_before(out: &mut [u8], at: usize, name: &[u8]) -> usize
 
 // Writes the names of a path, as it is resolved behind `/`, with a slash between two of them, over
 // all of `out`. They are found from the last to the first.
-fn place_resolved(path: Path<'_>, out: &mut [u8])
+fn fill_resolved(out: &mut [u8], path: Path<'_>)
     requires rootless { is_rooted path.bytes.now ≡ false }
     requires room { length out.old ≡ length (slashed_bytes (names_below (values path.bytes.now))) }
     ensures { out.new ≡ slashed_bytes (names_below (values path.entry.bytes.now)) }
@@ -105,20 +140,17 @@ fn place_resolved(path: Path<'_>, out: &mut [u8])
     }
 }
 
-// Overwrites the bytes of `out` from `start` up to `end` with the names of a request, with a slash
-// between two of them.
+// Overwrites the bytes of `out` from `start` up to `end` with the names of a path, as it is
+// resolved behind `/`, with a slash between two of them.
 #[inline]
-fn place_names(out: &mut [u8], start: usize, end: usize, request: Request<'_>)
-    requires end { end ≡ start + length (slashed_bytes (request_names request)) }
+fn place_resolved(out: &mut [u8], start: usize, end: usize, path: Path<'_>)
+    requires rootless { is_rooted path.bytes.now ≡ false }
+    requires end { end ≡ start + length (slashed_bytes (names_below (values path.bytes.now))) }
     requires room { end ≤ length out.old }
-    ensures { out.new ≡ overlay start (slashed_bytes (request_names request.entry)) out.old }
+    ensures { out.new
+        ≡ overlay start (slashed_bytes (names_below (values path.entry.bytes.now))) out.old }
 {
-    if request.is_spelled() {
-        // Its bytes are its names, and none of them is looked at again.
-        place(out, start, request.as_path().bytes);
-        return;
-    }
-    place_resolved(request.as_path(), &mut out[start..end]);
+    fill_resolved(&mut out[start..end], path);
 }
 
 // Whether a name follows the bytes with no slash between them.
@@ -154,7 +186,24 @@ fn place_opened(root: &[u8], len: usize, out: &mut [u8])
     }
 }
 
-// Writes a join of the root and no name.
+// Writes a join of the root and names that are spelled to the beginning of `out`, if it has room
+// for all of it, and gives how many bytes the join has.
+#[inline]
+fn write_spelled(root: &[u8], names: &[u8], out: &mut [u8]) -> usize
+    ensures out { out.new ≡ buffer_after (opened root.now ++ names.now) out.old }
+    ensures length { result ≡ length (opened root.now ++ names.now) }
+{
+    let start = opened_len(root);
+    let len = start + names.len();
+    if len <= out.len() {
+        place_opened(root, start, out);
+        place(out, start, names);
+    }
+    len
+}
+
+// Writes the root to the beginning of `out` if it has room for all of it, and gives how many bytes
+// it has.
 #[inline]
 fn write_root(root: &[u8], out: &mut [u8]) -> usize
     ensures out { out.new ≡ buffer_after root.now out.old }
@@ -166,25 +215,40 @@ fn write_root(root: &[u8], out: &mut [u8]) -> usize
     root.len()
 }
 
-// Writes a join of the root and the request to the beginning of `out` if it has room for all of it,
-// and gives how many bytes the join has.
-fn write_join(root: &[u8], request: Request<'_>, out: &mut [u8]) -> usize
+// Writes a join of the root and the names of a path, as it is resolved behind `/`, to the beginning
+// of `out` if it has room for all of it, and gives how many bytes the join has.
+fn write_resolved(root: &[u8], path: Path<'_>, out: &mut [u8]) -> usize
+    requires { is_rooted path.bytes.now ≡ false }
     ensures out { out.new
-        ≡ buffer_after (below_of root.now (request_names request.entry)) out.old }
-    ensures length { result ≡ length (below_of root.now (request_names request.entry)) }
+        ≡ buffer_after (below_of root.now (names_below (values path.entry.bytes.now))) out.old }
+    ensures length { result
+        ≡ length (below_of root.now (names_below (values path.entry.bytes.now))) }
 {
-    let names_len = names_len(request);
+    let names_len = resolved_len(path);
     if names_len == 0 {
         return write_root(root, out);
     }
     let start = opened_len(root);
     let len = start + (names_len - 1);
-    if len > out.len() {
-        return len;
+    if len <= out.len() {
+        place_opened(root, start, out);
+        place_resolved(out, start, len, path);
     }
-    place_opened(root, start, out);
-    place_names(out, start, len, request);
     len
+}
+
+// Writes a join of the root and the request to the beginning of `out` if it has room for all of it,
+// and gives how many bytes the join has.
+#[inline]
+fn write_join(root: &[u8], request: Request<'_>, out: &mut [u8]) -> usize
+    ensures out { out.new
+        ≡ buffer_after (below_of root.now (request_names request.entry)) out.old }
+    ensures length { result ≡ length (below_of root.now (request_names request.entry)) }
+{
+    match spelled_names(request) {
+        Some(names) => write_spelled(root, names, out),
+        None => write_resolved(root, request.as_path(), out),
+    }
 }
 
 impl Request<'_> {

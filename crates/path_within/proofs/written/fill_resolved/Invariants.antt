@@ -3,8 +3,8 @@ use Rattle.unix_path.specs.Cursor.{cursor_values}
 use Rattle.unix_path.specs.Parts.{values}
 use Rattle.path_runs.specs.Spelling.{slashed_bytes}
 use Rattle.path_within.specs.Below.{names_below, slashed_len}
-use Rattle.path_within.proofs.WrittenLemmas.{WritesBack}
-use Rattle.path_within.proofs.written.place_resolved.Given as goal
+use Rattle.path_within.proofs.WritesBackLemmas.{WritesBack}
+use Rattle.path_within.proofs.written.fill_resolved.Given as goal
 
 abbrev pub invariant-loop-name : goal.invariant-loop-name
 invariant-loop-name l = record {

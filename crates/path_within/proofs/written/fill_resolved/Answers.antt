@@ -3,8 +3,8 @@ use Rattle.unix_path.specs.Cursor.{cursor_values}
 use Rattle.unix_path.specs.Parts.{values}
 use Rattle.path_within.specs.Below.{names_below, slashed_len}
 use Rattle.path_within.proofs.BelowLemmas.{slashed_len-values}
-use Rattle.path_within.proofs.WrittenLemmas.{back_first, back_name, back_room, back_last}
-use Rattle.path_within.proofs.written.place_resolved.Goals as goal
+use Rattle.path_within.proofs.WritesBackLemmas.{back_first, back_name, back_room, back_last}
+use Rattle.path_within.proofs.written.fill_resolved.Goals as goal
 
 pub loop-name-init : goal.loop-name-init
 loop-name-init c =

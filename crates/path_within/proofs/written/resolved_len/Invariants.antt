@@ -2,13 +2,13 @@ use Rattle.std.proofs.Common.{◌≡◌, ◌+◌, ◌≤◌, length}
 use Rattle.unix_path.specs.Cursor.{cursor_values}
 use Rattle.unix_path.specs.Parts.{values}
 use Rattle.path_within.specs.Below.{names_below, slashed_len}
-use Rattle.path_within.proofs.written.names_len.Given as goal
+use Rattle.path_within.proofs.written.resolved_len.Given as goal
 
 abbrev pub invariant-loop-name : goal.invariant-loop-name
 invariant-loop-name l = record {
   counted : l.len + slashed_len (names_below (cursor_values l.left))
-      ≡ slashed_len (names_below (values l.fn.request.path.bytes.now));
-  fits : l.len + slashed_len (cursor_values l.left) ≤ 1 + length l.fn.request.path.bytes.now;
+      ≡ slashed_len (names_below (values l.fn.path.bytes.now));
+  fits : l.len + slashed_len (cursor_values l.left) ≤ 1 + length l.fn.path.bytes.now;
 }
 
 abbrev pub decreases-loop-name : goal.decreases-loop-name
