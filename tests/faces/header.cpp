@@ -1,4 +1,5 @@
 // The header in C++: each call has the type that it says, and links by its name.
+#include <algorithm>
 #include <array>
 #include <cstdio>
 #include <string>
@@ -74,6 +75,8 @@ using Remainder = bool (*)(const uint8_t *, size_t, const uint8_t *, size_t, uni
 using Order = int32_t (*)(const uint8_t *, size_t, const uint8_t *, size_t);
 using Length = size_t (*)(const uint8_t *, size_t, const uint8_t *, size_t);
 using Hash = uint64_t (*)(const uint8_t *, size_t);
+using Reason = int32_t (*)(const uint8_t *, size_t);
+using Below = size_t (*)(const uint8_t *, size_t, const uint8_t *, size_t, bool, uint8_t *, size_t);
 
 constexpr Begin components = unix_path_components;
 constexpr Left as_path = unix_path_as_path;
@@ -81,6 +84,21 @@ constexpr Remainder strip_prefix = unix_path_strip_prefix;
 constexpr Order compare = unix_path_compare;
 constexpr Length common_dir = unix_path_common_dir;
 constexpr Hash hash = unix_path_hash;
+constexpr Reason check_request = unix_path_check_request;
+constexpr Below join_below = unix_path_join_below;
+
+// Whether a request with a root is refused as it stands, and joined as that of a URL.
+bool is_joined_below() {
+    std::string_view root = "/srv", request = "/a/../b", want = "/srv/b";
+    std::array<uint8_t, 8> out{};
+    auto join = [&](bool as_url) {
+        return join_below(bytes(root), root.size(), bytes(request), request.size(), as_url,
+                          out.data(), out.size());
+    };
+    return check_request(bytes(request), request.size()) == 1
+           && join(false) == UNIX_PATH_ESCAPES && join(true) == want.size()
+           && std::equal(want.begin(), want.end(), out.begin());
+}
 
 // Whether the calls that have a type of their own are right.
 bool other_calls_are_right() {
@@ -95,7 +113,7 @@ bool other_calls_are_right() {
            && compare(bytes(path), path.size(), bytes(base), base.size()) == 1
            && common_dir(bytes(path), path.size(), bytes(base), base.size()) == 2
            && hash(bytes(path), path.size()) == hash(bytes(spelling), spelling.size())
-           && output_of(unix_path_canonical, path) == spelling;
+           && output_of(unix_path_canonical, path) == spelling && is_joined_below();
 }
 
 }  // namespace

@@ -28,6 +28,11 @@ static void call_all_of_one(view path) {
         CHECK(same_bytes(as_view(&answer), (view){out, room}), "call %zu", at);
         free(answer.bytes);
     }
+    size_t below = unix_path_join_below(path.bytes, path.length, path.bytes, path.length, true,
+                                        second_fence.begin, 0);
+    uint8_t *end = second_fence.begin + second_fence.size;
+    CHECK(unix_path_join_below(path.bytes, path.length, path.bytes, path.length, true, end - below,
+                               below) == below, "join below");
     unix_path_climbs(path.bytes, path.length);
     unix_path_is_utf8(path.bytes, path.length);
     unix_path_is_absolute(path.bytes, path.length);
@@ -44,6 +49,26 @@ static void nothing_beside_is_read(void) {
     first_fence = new_fence();
     second_fence = new_fence();
     each_string("/.a\xE2\x82", 4, call_fenced);
+}
+
+// A request is refused below a root exactly if it climbs, and if it isn't read as that of a URL. If
+// it doesn't climb, the join below the resolved root is the join within.
+static void joins_below(view root, view request, bool climbs) {
+    uint8_t resolved[16], below[16], within[16];
+    size_t length = unix_path_resolved(root.bytes, root.length, resolved, sizeof resolved);
+    size_t strict = unix_path_join_below(resolved, length, request.bytes, request.length, false,
+                                         below, sizeof below);
+    CHECK((strict == UNIX_PATH_ESCAPES) == climbs, "escapes below");
+    size_t as_url = unix_path_join_below(resolved, length, request.bytes, request.length, true,
+                                         within, sizeof within);
+    CHECK(as_url <= length + 1 + request.length, "as a URL");
+    if (climbs) {
+        return;
+    }
+    CHECK(same_bytes((view){below, strict}, (view){within, as_url}), "both readings");
+    size_t joined = unix_path_join_within(root.bytes, root.length, request.bytes, request.length,
+                                          within, sizeof within);
+    CHECK(same_bytes((view){below, strict}, (view){within, joined}), "below and within");
 }
 
 static view first_of_pair;
@@ -72,6 +97,7 @@ static void pair_with(view path) {
     }
     bool climbs = unix_path_climbs(b.bytes, b.length);
     CHECK(add_two(&second, unix_path_join_within, a, b) == !climbs, "escapes");
+    joins_below(a, b, climbs);
     add_two(&first, unix_path_with_file_name, a, b);
     add_two(&first, unix_path_with_extension, a, b);
     free(first.bytes);

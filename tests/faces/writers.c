@@ -104,10 +104,69 @@ static void refusals(void) {
     }
 }
 
+// A root, a request, and the answer in both readings, where a NULL is a refusal as the number says.
+static const struct {
+    const char *root, *request;
+    size_t length;
+    const char *strict, *as_url;
+    size_t strict_refusal, url_refusal;
+} requests[] = {
+    {"/srv", "index.html", 10, "/srv/index.html", "/srv/index.html", 0, 0},
+    {"/srv", "/index.html", 11, NULL, "/srv/index.html", UNIX_PATH_ESCAPES, 0},
+    {"/srv", "a/../b/", 7, "/srv/b", "/srv/b", 0, 0},
+    {"/srv", "./a//b/../c/.", 13, "/srv/a/c", "/srv/a/c", 0, 0},
+    {"/srv", "", 0, "/srv", "/srv", 0, 0},
+    {"/srv", "a/..", 4, "/srv", "/srv", 0, 0},
+    {"/srv", "//a/../../b", 11, NULL, "/srv/b", UNIX_PATH_ESCAPES, 0},
+    {"/srv/", "a/b", 3, "/srv/a/b", "/srv/a/b", 0, 0},
+    {"/srv/", ".", 1, "/srv/", "/srv/", 0, 0},
+    {"/", "a//b", 4, "/a/b", "/a/b", 0, 0},
+    {"/", "../a", 4, NULL, "/a", UNIX_PATH_ESCAPES, 0},
+    {"", "a/b", 3, "a/b", "a/b", 0, 0},
+    {"", "/", 1, NULL, "", UNIX_PATH_ESCAPES, 0},
+    {"", "", 0, "", "", 0, 0},
+    {"/x/../y//.", "a/b/", 4, "/x/../y//./a/b", "/x/../y//./a/b", 0, 0},
+    {"/www", "../../etc/passwd", 16, NULL, "/www/etc/passwd", UNIX_PATH_ESCAPES, 0},
+    {"/www", "a/../../www/x", 13, NULL, "/www/www/x", UNIX_PATH_ESCAPES, 0},
+    {"/www", "..%2f..%2fetc", 13, "/www/..%2f..%2fetc", "/www/..%2f..%2fetc", 0, 0},
+    {"/www", "..\\..\\etc", 9, "/www/..\\..\\etc", "/www/..\\..\\etc", 0, 0},
+    {"/www", "..\0/etc", 7, NULL, NULL, UNIX_PATH_NUL_IN_REQUEST, UNIX_PATH_NUL_IN_REQUEST},
+    {"/www", "a.php\0.png", 10, NULL, NULL, UNIX_PATH_NUL_IN_REQUEST, UNIX_PATH_NUL_IN_REQUEST},
+    {"/www", "/\0", 2, NULL, NULL, UNIX_PATH_ESCAPES, UNIX_PATH_NUL_IN_REQUEST},
+    {"/www", "../\0", 4, NULL, NULL, UNIX_PATH_ESCAPES, UNIX_PATH_NUL_IN_REQUEST},
+};
+
+// Checks a row in one reading, in this much room of the fence.
+static void request_in_room(fence around, size_t row, bool as_url, size_t room) {
+    view root = view_of(requests[row].root);
+    const char *text = as_url ? requests[row].as_url : requests[row].strict;
+    view wanted = view_of(text == NULL ? "" : text);
+    size_t refusal = as_url ? requests[row].url_refusal : requests[row].strict_refusal;
+    size_t answer = text == NULL ? refusal : wanted.length;
+    uint8_t *out = around.begin + around.size - room;
+    memset(out, 0xA5, room);
+    CHECK(unix_path_join_below(root.bytes, root.length, (const uint8_t *)requests[row].request,
+                               requests[row].length, as_url, out, room) == answer,
+          "row %zu, reading %d, room %zu", row, as_url, room);
+    CHECK(is_written(out, room, answer <= room ? wanted : view_of("")),
+          "row %zu, reading %d, room %zu", row, as_url, room);
+}
+
+static void requests_below(void) {
+    fence around = new_fence();
+    for (size_t row = 0; row < sizeof requests / sizeof *requests; row++) {
+        for (size_t room = 0; room <= 24; room++) {
+            request_in_room(around, row, false, room);
+            request_in_room(around, row, true, room);
+        }
+    }
+}
+
 int main(void) {
     run("ample memory", ample_memory);
     run("short buffers", short_buffers);
     run("buffers before a page that can't be written", fenced_buffers);
     run("separators and escapes write nothing", refusals);
+    run("requests below a root", requests_below);
     return finish();
 }

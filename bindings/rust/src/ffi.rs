@@ -213,6 +213,35 @@ pub(crate) fn common_dir(a: &[u8], b: &[u8]) -> usize {
     unsafe { unix_path_common_dir(a.as_ptr(), a.len(), b.as_ptr(), b.len()) }
 }
 
+/// Writes the join of a checked request below the root. The call reads it as the path of a URL: a
+/// request that doesn't climb has the same names, and isn't walked over for that once more.
+#[inline]
+pub(crate) fn join_below<'o>(
+    root: &[u8],
+    request: &[u8],
+    out: &'o mut [u8],
+) -> Result<&'o [u8], Error> {
+    let (start, length) = (root.as_ptr(), root.len());
+    let (names, names_length) = (request.as_ptr(), request.len());
+    let (begin, room) = (out.as_mut_ptr(), out.len());
+    // SAFETY: the slices are read, and the buffer is written.
+    let answer =
+        unsafe { unix_path_join_below(start, length, names, names_length, true, begin, room) };
+    output(out, answer)
+}
+
+/// The same in the vector's capacity.
+#[cfg(feature = "alloc")]
+#[inline]
+pub(crate) fn fill_below(root: &[u8], request: &[u8], bytes: &mut Vec<u8>) -> Result<(), Error> {
+    let (start, length) = (root.as_ptr(), root.len());
+    let (names, names_length) = (request.as_ptr(), request.len());
+    // SAFETY: the slices are read, and the capacity is written.
+    fill(bytes, |out, room| unsafe {
+        unix_path_join_below(start, length, names, names_length, true, out, room)
+    })
+}
+
 /// Calls that write what they make of a path.
 #[derive(Clone, Copy)]
 pub(crate) struct Make(BytesOfOne);

@@ -56,6 +56,7 @@ pub mod os;
 #[cfg(feature = "alloc")]
 pub mod owned;
 mod queries;
+mod request;
 
 pub use buffers::{
     canonical, join, join_within, resolved, to_string_lossy, with_extension, with_file_name,
@@ -67,3 +68,4 @@ pub use queries::{
     check_request, climbs, common_dir, compare, components, ends_with, equal, extension, file_name,
     file_prefix, file_stem, hash, is_absolute, is_utf8, parent, starts_with, strip_prefix,
 };
+pub use request::Request;

@@ -4,6 +4,7 @@
 use crate::components::{Component, Components};
 use crate::error::Error;
 use crate::owned;
+use crate::request::Request;
 use std::cmp::Ordering;
 use std::ffi::{OsStr, OsString};
 use std::os::unix::ffi::{OsStrExt, OsStringExt};
@@ -276,4 +277,16 @@ pub fn resolved(path: impl AsRef<Path>) -> Result<PathBuf, Error> {
 /// ```
 pub fn join_within(root: impl AsRef<Path>, request: impl AsRef<Path>) -> Result<PathBuf, Error> {
     owned::join_within(bytes(&root), bytes(&request)).map(path_buf)
+}
+
+/// As [`owned::join_below`].
+///
+/// ```
+/// # use std::path::Path;
+/// use unix_path_rattle::{os::join_below, Request};
+/// let request = Request::below(b"/a/../../b/").unwrap();
+/// assert_eq!(join_below("/srv/www", request).unwrap(), Path::new("/srv/www/b"));
+/// ```
+pub fn join_below(root: impl AsRef<Path>, request: Request<'_>) -> Result<PathBuf, Error> {
+    owned::join_below(bytes(&root), request).map(path_buf)
 }

@@ -3,7 +3,8 @@
 //! Each fails with [`Error::NoMemory`] if an allocation failed, and never with
 //! [`Error::Short`].
 use crate::error::Error;
-use crate::ffi::{Make, MakeOfTwo};
+use crate::ffi::{self, Make, MakeOfTwo};
+use crate::request::Request;
 use alloc::string::String;
 use alloc::vec::Vec;
 
@@ -105,5 +106,19 @@ pub fn resolved(path: &[u8]) -> Result<Vec<u8>, Error> {
 pub fn join_within(root: &[u8], request: &[u8]) -> Result<Vec<u8>, Error> {
     vec_of(root.len() + 1 + request.len(), |bytes| {
         MakeOfTwo::JOIN_WITHIN.fill(root, request, bytes)
+    })
+}
+
+/// As [`Request::join_below`](crate::Request::join_below), in memory of its own.
+///
+/// ```
+/// use unix_path_rattle::{owned, Request};
+/// let request = Request::below(b"/a/../../b/").unwrap();
+/// assert_eq!(owned::join_below(b"/srv/www", request).unwrap(), b"/srv/www/b");
+/// ```
+pub fn join_below(root: &[u8], request: Request<'_>) -> Result<Vec<u8>, Error> {
+    let path = request.as_path();
+    vec_of(root.len() + 1 + path.len(), |bytes| {
+        ffi::fill_below(root, path, bytes)
     })
 }

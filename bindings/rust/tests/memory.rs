@@ -2,7 +2,7 @@
 use std::alloc::{GlobalAlloc, Layout, System};
 use std::cell::Cell;
 use std::ptr::null_mut;
-use unix_path_rattle::{owned, Error};
+use unix_path_rattle::{owned, Error, Request};
 
 thread_local! {
     /// Whether this thread is given no memory.
@@ -53,6 +53,9 @@ fn it_is_an_error() {
         assert_eq!(without_memory(|| call(b"a/b")), Err(Error::NoMemory));
         assert!(call(b"a/b").is_ok());
     }
+    let request = Request::below(b"/a/../b").unwrap();
+    let joined = without_memory(|| owned::join_below(b"/srv", request));
+    assert_eq!(joined, Err(Error::NoMemory));
     let text = without_memory(|| owned::to_string_lossy(b"a/b"));
     assert_eq!(text, Err(Error::NoMemory));
 }
@@ -61,4 +64,16 @@ fn it_is_an_error() {
 fn empty_answers_need_none() {
     assert_eq!(without_memory(|| owned::canonical(b"")), Ok(vec![]));
     assert_eq!(without_memory(|| owned::resolved(b"")), Ok(vec![]));
+}
+
+#[test]
+fn requests_are_joined_without() {
+    IS_REFUSED.set(true);
+    let mut out = [0; 16];
+    let is_joined = match Request::new(b"a/../b/") {
+        Ok(request) => request.join_below(b"/srv", &mut out) == Ok(b"/srv/b"),
+        Err(_) => false,
+    };
+    IS_REFUSED.set(false);
+    assert!(is_joined);
 }

@@ -1,5 +1,5 @@
 //! Buffers that are too short by every number of bytes, and what stands behind them.
-use unix_path_rattle::{self as paths, owned, Error};
+use unix_path_rattle::{self as paths, owned, Error, Request};
 
 type OfOne = for<'o> fn(&[u8], &'o mut [u8]) -> Result<&'o [u8], Error>;
 type OfTwo = for<'o> fn(&[u8], &[u8], &'o mut [u8]) -> Result<&'o [u8], Error>;
@@ -95,6 +95,26 @@ fn of_two() {
     ];
     for (call, path, other, want) in rows {
         in_every_room(|out| call(path, other, out), want);
+    }
+}
+
+#[test]
+fn of_requests() {
+    let rows: [(&[u8], &[u8], &[u8]); 9] = [
+        (b"/srv", b"/index.html", b"/srv/index.html"),
+        (b"/srv/", b"a/b", b"/srv/a/b"),
+        (b"/srv", b"a/b/", b"/srv/a/b"),
+        (b"/srv", b"./a//b/../c/.", b"/srv/a/c"),
+        (b"/srv/x/..", b"/../../a", b"/srv/x/../a"),
+        (b"/", b"..", b"/"),
+        (b"", b"/a/./b", b"a/b"),
+        (b"", b"a/..", b""),
+        (b"a", b"b/..", b"a"),
+    ];
+    for (root, path, want) in rows {
+        let request = Request::below(path).unwrap();
+        in_every_room(|out| request.join_below(root, out), want);
+        assert_eq!(owned::join_below(root, request).as_deref(), Ok(want));
     }
 }
 

@@ -1,6 +1,9 @@
 //! Paths from outside: all short strings beside a fold over their parts, and known bad requests.
 use crate::short_strings::over;
-use unix_path_rattle::{climbs, components, owned, starts_with, Component, Error};
+use unix_path_rattle::{
+    check_request, climbs, components, os, owned, starts_with, Component, Error, Request,
+    RequestError,
+};
 
 /// The parts that are kept where each `..` takes the name before it away.
 fn kept_parts(path: &[u8]) -> Vec<&[u8]> {
@@ -66,6 +69,54 @@ fn joined_within() {
             assert_eq!(joined, spelling(&kept_parts(&plain)));
             assert!(starts_with(&joined, &owned::resolved(root).unwrap()));
         }
+    }
+}
+
+/// The root's bytes and the names that are kept behind `/`, with slashes between them.
+fn joined_names(root: &[u8], request: &[u8]) -> Vec<u8> {
+    let behind_root = [b"/", request].concat();
+    let names = kept_parts(&behind_root)[1..].join(&b'/');
+    if names.is_empty() || root.is_empty() || root.ends_with(b"/") {
+        return [root, &names].concat();
+    }
+    [root, b"/", &names].concat()
+}
+
+#[test]
+fn joined_below() {
+    let roots: [&[u8]; 5] = [b"", b"/", b"/www", b"..", b"/a/../b//."];
+    for path in over(b"/.a\0", 5) {
+        let read = Request::new(&path);
+        assert_eq!(read.map(|_| ()), check_request(&path));
+        let Ok(request) = Request::below(&path) else {
+            assert!(path.contains(&0));
+            continue;
+        };
+        assert!(!path.contains(&0) && !request.as_path().starts_with(b"/"));
+        for root in roots {
+            let want = joined_names(root, &path);
+            assert_eq!(owned::join_below(root, request).as_ref(), Ok(&want));
+            if let Ok(request) = read {
+                assert_eq!(request.as_path(), path);
+                assert_eq!(owned::join_below(root, request).as_ref(), Ok(&want));
+            }
+        }
+    }
+}
+
+#[test]
+fn requests_below() {
+    let rows: [(&[u8], Result<&str, RequestError>); 6] = [
+        (b"/index.html", Ok("/www/index.html")),
+        (b"//etc/passwd", Ok("/www/etc/passwd")),
+        (b"a/../../www/x", Ok("/www/www/x")),
+        (b"..%2f..%2fetc", Ok("/www/..%2f..%2fetc")),
+        (b"..\\..\\etc", Ok("/www/..\\..\\etc")),
+        (b"shell.php\0.png", Err(RequestError::Nul)),
+    ];
+    for (path, want) in rows {
+        let joined = Request::below(path).map(|request| os::join_below("/www", request).unwrap());
+        assert_eq!(joined, want.map(Into::into));
     }
 }
 

@@ -2,7 +2,7 @@
 //!
 //! This holds with any library; `answers.c` makes one that answers at random.
 use std::path::Path;
-use unix_path_rattle::{self as paths, os, owned, Error};
+use unix_path_rattle::{self as paths, os, owned, Error, Request};
 
 const PATH: &[u8] = b"/a//b.c";
 const ROUNDS: usize = 20_000;
@@ -71,6 +71,13 @@ fn buffers() {
         for call in of_two {
             assert!(is_inside(call(PATH, b"x", &mut out)));
         }
+        for request in [Request::new(PATH), Request::below(PATH)]
+            .into_iter()
+            .flatten()
+        {
+            assert!(is_inside(request.join_below(b"/srv", &mut out)));
+            assert!(lies_in(request.as_path(), PATH));
+        }
     }
 }
 
@@ -85,6 +92,12 @@ fn memory_of_its_own() {
     for _ in 0..ROUNDS {
         for call in of_two {
             let _ = call(PATH, b"x").map(|made| made.len());
+        }
+        for request in [Request::new(PATH), Request::below(PATH)]
+            .into_iter()
+            .flatten()
+        {
+            let _ = owned::join_below(b"/srv", request).map(|made| made.len());
         }
         let _ = owned::canonical(PATH).map(|made| made.len());
         let _ = owned::resolved(PATH).map(|made| made.len());

@@ -74,7 +74,33 @@ fn holds(path: &PathBuf, bytes: &[u8]) -> bool {
     path.as_path().as_unix_str().as_bytes() == bytes
 }
 
-// Whether the join of the request is this, made anew and into the buffer.
+// Whether the call returns the join's length, and writes the join to the beginning of this buffer
+// of `#`, or nothing if there is no room for it.
+fn is_written(root: Path<'_>, request: Request<'_>, want: &[u8], out: &mut [u8]) -> bool {
+    let len = request.write_below(root, out);
+    let written = if want.len() <= out.len() {
+        want
+    } else {
+        b"".as_slice()
+    };
+    match out.strip_prefix(written) {
+        Some(behind) => len == want.len() && behind.iter().all(|byte| *byte == b'#'),
+        None => false,
+    }
+}
+
+// Whether `is_written` is true for buffers of 0 to 47 bytes.
+fn is_written_in_every_room(root: Path<'_>, request: Request<'_>, want: &[u8]) -> bool {
+    for room in 0..48usize {
+        let mut buffer = [b'#'; 48];
+        if !is_written(root, request, want, &mut buffer[..room]) {
+            return false;
+        }
+    }
+    true
+}
+
+// Whether the join of the request is this, made anew and into the buffers.
 fn is_joined(
     alloc: Global,
     root: &Root,
@@ -84,7 +110,11 @@ fn is_joined(
 ) -> Result<bool, AllocError> {
     let joined = root.join(alloc, request)?;
     root.join_into(buffer, request)?;
-    Ok(holds(&joined, want) && holds(buffer, want))
+    Ok(
+        holds(&joined, want)
+            && holds(buffer, want)
+            && is_written_in_every_room(root.as_path(), request, want),
+    )
 }
 
 // Whether the request of the row has what is asked of it.

@@ -42,6 +42,21 @@ fn is_stripped(
     Ok(is_same && root.contains(path))
 }
 
+// Whether the join is written if there is room for it, and nothing if a byte is wanting. No join
+// has more than 31 bytes.
+fn is_written(root: Path<'_>, request: Request<'_>, want: &[u8]) -> bool {
+    let mut out = [b'#'; 32];
+    let mut short = [b'#'; 31];
+    let room = want.len().saturating_sub(1).min(31);
+    let len = request.write_below(root, &mut out);
+    let needed = request.write_below(root, &mut short[..room]);
+    len == want.len()
+        && needed == len
+        && out.starts_with(want)
+        && out.iter().skip(len).all(|byte| *byte == b'#')
+        && (len == 0 || short.iter().all(|byte| *byte == b'#'))
+}
+
 // Whether the joins of the request are the root and these names, and without the root these names
 // are left of them.
 fn is_joined(
@@ -55,7 +70,8 @@ fn is_joined(
     let joined = root.join(alloc, request)?;
     root.join_into(buffer, request)?;
     let is_made = joined.as_path().bytes == want.as_slice()
-        && buffer.as_path().bytes == want.as_slice();
+        && buffer.as_path().bytes == want.as_slice()
+        && is_written(root.as_path(), request, want.as_slice());
     Ok(is_made && is_stripped(alloc, root, buffer.as_path(), names)?)
 }
 

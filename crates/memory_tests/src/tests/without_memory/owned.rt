@@ -67,6 +67,18 @@ fn is_joined_into(root: &Root, buffer: &mut PathBuf, text: &str) -> bool {
     }
 }
 
+// A join that is written to a buffer of the caller's needs no memory, whatever the request is.
+fn is_written_below(text: &str) -> bool {
+    let mut out = [0_u8; 32];
+    match Request::below(path(text)) {
+        Ok(request) => {
+            let len = request.write_below(path("/srv/./www/"), &mut out);
+            len <= 32 && Path::from_bytes(&out[..len]).starts_with(path("/srv/www"))
+        }
+        Err(_) => false,
+    }
+}
+
 fn requests_are_read() -> bool {
     let is_refused = Request::new(path("..")).is_err() && Request::below(path("\0")).is_err();
     match Request::new(path("a/../b/")) {
@@ -117,6 +129,7 @@ fn buffers_need_no_memory(rt: HostRuntime) -> Result<(), Fail> {
     assert!(rt; is_joined_into(&root, &mut file, "a/../b/"));
     assert!(rt; is_joined_into(&root, &mut file, "/a/b.html"));
     assert!(rt; is_joined_into(&closed_root, &mut file, "img/ab.html"));
+    assert!(rt; is_written_below("a/b/") && is_written_below("a/../b//c") && is_written_below("/.."));
     assert!(rt; spelling_is_written());
     assert!(rt; joins_nothing(alloc));
     assert!(rt; leads_nowhere(alloc));
