@@ -129,7 +129,8 @@ fn buffers_need_no_memory(rt: HostRuntime) -> Result<(), Fail> {
     assert!(rt; is_joined_into(&root, &mut file, "a/../b/"));
     assert!(rt; is_joined_into(&root, &mut file, "/a/b.html"));
     assert!(rt; is_joined_into(&closed_root, &mut file, "img/ab.html"));
-    assert!(rt; is_written_below("a/b/") && is_written_below("a/../b//c") && is_written_below("/.."));
+    assert!(rt; is_written_below("a/b/") && is_written_below("/.."));
+    assert!(rt; is_written_below("a/../b//c"));
     assert!(rt; spelling_is_written());
     assert!(rt; joins_nothing(alloc));
     assert!(rt; leads_nowhere(alloc));
