@@ -1,10 +1,10 @@
 -- A resolved path has no more bytes than the path.
-use Rattle.std.proofs.Common.{◌≡◌, ℕ, suc, ◌+◌, ◌≤◌, true, false, List, [], ◌∷◌, ◌++◌, length}
+use Rattle.std.proofs.Common.{◌≡◌, ℕ, ◌+◌, ◌≤◌, false, List, [], ◌∷◌, ◌++◌, length}
 use Rattle.std.proofs.Common.{reverse, refl, sym, ap, subst, ◌∙◌, arith}
 use Rattle.std.specs.List.{slice_split}
 use Rattle.std.proofs.lemmas.Grind.{reverse_onto}
 use Rattle.std.proofs.lemmas.List.{reverse-append}
-use Rattle.std.proofs.lemmas.List.Sums.{sum_by-append, sum_by-cons}
+use Rattle.std.proofs.lemmas.List.Sums.{sum_by-append}
 use Rattle.unix_path.specs.Joins.{join_of}
 use Rattle.unix_path.specs.Parts.{Value, RootDir, CurDir, ParentDir, Normal, is_slash, slash}
 use Rattle.unix_path.specs.Parts.{is_rooted, value_bytes, values}
@@ -18,7 +18,7 @@ use Rattle.path_within.specs.Below.{slashed_len}
 use Rattle.path_within.specs.Resolved.{keep, kept_of, resolved_of, resolved_bytes_of, up_from}
 use Rattle.path_within.proofs.BelowLemmas.{length-join_of, length-slashed_bytes, slashed_len-cons}
 use Rattle.path_within.proofs.BelowLemmas.{slashed_len-values}
-use Rattle.path_within.proofs.NamesBelowLemmas.{behind_root, is_kept_below}
+use Rattle.path_within.proofs.NamesBelowLemmas.{is_kept_below}
 
 -- the values of two lists, and then of a list from its end
 slashed_len-append : (vs ws : List Value)

@@ -22,7 +22,8 @@ pub mod WholeLemmas
 pub mod UpEndLemmas
 pub mod LeadTestLemmas
 pub mod PushLemmas
-pub mod KeepStretchLemmas
+pub mod RunLemmas
+pub mod KeepRunLemmas
 pub mod NamesBelowLemmas
 pub mod ResultLemmas
 pub mod NulLemmas

@@ -3,23 +3,10 @@ use Rattle.std.proofs.Common.{◌≡◌, List, [], ℕ, refl, sym, ap₂, subst,
 use Rattle.unix_path.specs.Joins.{join_of}
 use Rattle.unix_path.specs.Parts.{Value, values}
 use Rattle.path_within.specs.Resolved.{kept_of, resolved_of, resolved_bytes_of}
-use Rattle.path_within.specs.Steps.{AllOne, Spells}
+use Rattle.path_within.specs.Steps.{Spells}
 use Rattle.path_within.proofs.ResolveLemmas.{kept_of-join}
 use Rattle.path_within.proofs.BetweenLemmas.{ups_of}
-use Rattle.path_within.proofs.PathOfLemmas.{path_of-spelled, AllOne-values}
-
--- s spells what is kept so far behind ks, and the values `left` of `all` are still to be kept
-pub record KeepsOn (ks : List Value) (s : List ℕ) (left all : List Value) : Type 0 where
-  pub so_far : List Value
-  pub spells : Spells s so_far
-  pub left_one : AllOne left
-  pub onward : kept_of so_far left ≡ kept_of ks all
-
--- before the first part nothing but ks is kept, and all of the path is left
-pub keeps_first : {ks left : List Value} {s : List ℕ} (path : List ℕ) → left ≡ values path
-    → Spells s ks → KeepsOn ks s left (values path)
-keeps_first {ks} {left} {s} path e h = subst (λ vs. KeepsOn ks s vs (values path)) (sym e)
-    (record { so_far = ks; spells = h; left_one = AllOne-values path; onward = refl })
+use Rattle.path_within.proofs.PathOfLemmas.{path_of-spelled}
 
 -- the empty path spells no value
 pub spells_nothing : {s : List ℕ} → s ≡ [] → Spells s []

@@ -10,3 +10,4 @@ pub mod Below
 pub mod Requests
 pub mod BelowLaws
 pub mod Written
+pub mod Runs

@@ -1,6 +1,6 @@
 -- Paths whose pieces are plain names. No public clause cites it.
-use Rattle.std.specs.Prelude.{◌≡◌, ℕ, ◌+◌, ◌<◌, ◌≤◌, Bool, true, ◌==◌, ◌&&◌, ◌||◌, not}
-use Rattle.std.specs.Prelude.{List, length, take, drop, slice_index, slice_index_or}
+use Rattle.std.specs.Prelude.{ℕ, ◌+◌, Bool, ◌==◌, ◌&&◌, ◌||◌, not}
+use Rattle.std.specs.Prelude.{List, drop, slice_index, slice_index_or}
 use Rattle.std.specs.Prelude.{if◌then◌else◌}
 use Rattle.std.specs.List.{list_all, slice_split}
 use Rattle.std.specs.Str.{bytes_eq}
@@ -35,10 +35,3 @@ begins_plain s i = not (is_end s i || begins_dots s i)
 -- if the byte at i is a slash, a plain piece begins behind it
 abbrev pub goes_on_plain : List ℕ → ℕ → Bool
 goes_on_plain s i = not (is_slash (slice_index s i)) || begins_plain s (i + 1)
-
--- the first n bytes, one at least, are plain, and a slash or the end follows them
-pub record IsStretch (s : List ℕ) (n : ℕ) : Type 0 where
-  pub some : 0 < n
-  pub in_range : n ≤ length s
-  pub plain : is_plain (take n s) ≡ true
-  pub ends : is_end s n ≡ true

@@ -3,6 +3,7 @@ use Rattle.std.specs.Prelude.{◌≡◌, ℕ, List, [], ◌∷◌, ⊤}
 use Rattle.std.specs.List.{AllByRecursion}
 use Rattle.unix_path.specs.Joins.{join_of}
 use Rattle.unix_path.specs.Parts.{Value, RootDir, ParentDir, Normal, value_bytes, values}
+use Rattle.path_within.specs.Resolved.{kept_of}
 
 -- all these values are `..`
 abbrev pub AreUps : List Value → Type 0
@@ -34,3 +35,9 @@ pub record Spells (bytes : List ℕ) (ks : List Value) : Type 0 where
   pub kept : IsKept ks
   pub one : AllOne ks
   pub is : bytes ≡ path_of ks
+
+-- s spells what is kept so far behind ks, and the values `left` of `all` are still to be kept
+pub record KeepsOn (ks : List Value) (s : List ℕ) (left all : List Value) : Type 0 where
+  pub so_far : List Value
+  pub spells : Spells s so_far
+  pub onward : kept_of so_far left ≡ kept_of ks all

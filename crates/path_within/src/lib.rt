@@ -7,6 +7,7 @@ mod plain;
 mod request;
 pub mod resolved;
 mod root;
+mod runs;
 pub mod way;
 pub mod within;
 mod written;

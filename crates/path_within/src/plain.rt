@@ -1,16 +1,15 @@
 //! Paths whose pieces are plain names.
 ghost use Rattle.std.specs.Int.Count.{count_trailing_zeros};
-ghost use Rattle.std.specs.Prelude.{◌≡◌, ℕ, ◌+◌, ◌<◌, ◌≤◌, true, length, take, IsTrue};
-ghost use Rattle.std.specs.Prelude.{IfSome, None};
+ghost use Rattle.std.specs.Prelude.{◌≡◌, ℕ, ◌+◌, ◌<◌, ◌≤◌, true, length, IsTrue};
 ghost use Rattle.path_within.specs.PlainPieces.{has_plain_pieces, is_plain, is_end, begins_dots};
-ghost use Rattle.path_within.specs.PlainPieces.{begins_plain, goes_on_plain, IsStretch};
+ghost use Rattle.path_within.specs.PlainPieces.{begins_plain, goes_on_plain};
 
 use std::simd::prelude::*;
 use unix_path::Path;
 
 // Whether the byte at `i` is a slash, or `i` is at the end or behind it.
 #[inline]
-fn is_end(bytes: &[u8], i: usize) -> bool
+pub(crate) fn is_end(bytes: &[u8], i: usize) -> bool
     ensures { result ≡ is_end bytes.now i }
 {
     i >= bytes.len() || bytes[i] == b'/'
@@ -58,112 +57,86 @@ fn is_calm_block(bytes: &[u8], at: usize) -> bool
     marks(bytes, at) == 0
 }
 
-// The place of the first of the 16 bytes from `at` on that is a slash with a slash or a dot behind
-// it.
+// The place from `start` on of the first slash with no plain piece behind it, or the length if there
+// is none. The bytes are looked at one by one.
 #[inline]
-pub(crate) fn first_mark(bytes: &[u8], at: usize) -> Option<usize>
-    requires { at + 16 < length bytes.now }
-    ensures none { result ≡ None
-        → ((k : ℕ) → at ≤ k → k < at + 16 → goes_on_plain bytes.now k ≡ true) }
-    ensures in_range { IfSome result (λ place. (at ≤ place) × (place < at + 16)) }
-    ensures some { IfSome result
-        (λ place. (k : ℕ) → at ≤ k → k < place → goes_on_plain bytes.now k ≡ true) }
-{
-    let calm = marks(bytes, at).trailing_zeros() as usize;
-    if calm < 16 { Some(at + calm) } else { None }
-}
-
-// The place of the first slash with no plain piece behind it, or the length if there is none. Each
-// slash before `start` has a plain piece behind it, and at most 17 bytes are left from `start` on.
-#[inline]
-fn last_plain_end(bytes: &[u8], start: usize) -> usize
-    requires in_range { start ≤ length bytes.now }
-    requires few { length bytes.now ≤ start + 17 }
-    requires before { (k : ℕ) → k < start → goes_on_plain bytes.now k ≡ true }
+fn few_end(bytes: &[u8], start: usize) -> usize
+    requires { start ≤ length bytes.now }
+    ensures forward { start ≤ result }
     ensures in_range { result ≤ length bytes.now }
-    ensures plain { (k : ℕ) → k < result → goes_on_plain bytes.now k ≡ true }
+    ensures plain { (k : ℕ) → start ≤ k → k < result → goes_on_plain bytes.now k ≡ true }
     ensures ends { is_end bytes.now result ≡ true }
 {
-    let len = bytes.len();
-    if len > 16 && is_calm_block(bytes, len - 17) && bytes[len - 1] != b'/' {
-        return len;
-    }
-    for i in start..len {
+    for i in start..bytes.len() {
         if bytes[i] == b'/' && !begins_plain(bytes, i + 1) {
             return i;
         }
     }
-    len
+    bytes.len()
 }
 
-// The place of the first slash with no plain piece behind it, or the length if there is none. Looks
-// at 16 bytes at a time, and leaves the last 17 or fewer to `last_plain_end`.
+// As `names_end`, as far as whole blocks of 16 bytes with a byte behind them go: it may stop where
+// 16 bytes or fewer are left.
 #[inline]
-fn plain_end(bytes: &[u8]) -> usize
+fn blocks_end(bytes: &[u8], start: usize) -> usize
+    requires { start ≤ length bytes.now }
+    ensures forward { start ≤ result }
     ensures in_range { result ≤ length bytes.now }
-    ensures plain { (k : ℕ) → k < result → goes_on_plain bytes.now k ≡ true }
-    ensures ends { is_end bytes.now result ≡ true }
+    ensures plain { (k : ℕ) → start ≤ k → k < result → goes_on_plain bytes.now k ≡ true }
 {
-    let mut at = 0;
-    while at + 17 < bytes.len() {
-        match first_mark(bytes, at) {
-            None => at += 16,
-            Some(place) => {
-                if bytes[place] == b'/' && !begins_plain(bytes, place + 1) {
-                    return place;
-                }
-                at = place + 1;
-            }
+    let mut at = start;
+    while at + 16 < bytes.len() {
+        let calm = marks(bytes, at).trailing_zeros() as usize;
+        if calm > 15 {
+            at += 16;
+        } else if begins_plain(bytes, at + calm + 1) {
+            at += calm + 1;
+        } else {
+            return at + calm;
         }
     }
-    last_plain_end(bytes, at)
+    at
 }
 
-// How many bytes the plain pieces at the beginning have, up to the first slash with no plain piece
-// behind it or to the end. It is 0 if the first piece isn't plain.
-#[inline]
-fn plain_pieces_len(bytes: &[u8]) -> usize
+// The place from `start` on of the first slash with no plain piece behind it, or the length if there
+// is none.
+pub(crate) fn names_end(bytes: &[u8], start: usize) -> usize
+    requires { start ≤ length bytes.now }
+    ensures forward { start ≤ result }
     ensures in_range { result ≤ length bytes.now }
-    ensures plain { 0 < result → has_plain_pieces (take result bytes.now) ≡ true }
-    ensures ends { 0 < result → is_end bytes.now result ≡ true }
+    ensures plain { (k : ℕ) → start ≤ k → k < result → goes_on_plain bytes.now k ≡ true }
+    ensures ends { is_end bytes.now result ≡ true }
 {
-    if begins_plain(bytes, 0) {
-        plain_end(bytes)
-    } else {
-        0
-    }
+    few_end(bytes, blocks_end(bytes, start))
 }
 
-// The length of the stretch that the path begins with: its root, if it has one, and plain pieces,
-// up to the first slash with no plain piece behind it or to the end. It is 0 if no plain piece
-// comes first.
-pub(crate) fn plain_len(path: Path<'_>) -> usize
-    ensures { 0 < result → IsStretch path.entry.bytes.now result }
-{
-    let bytes = path.as_unix_str().as_bytes();
-    if !path.has_root() {
-        return plain_pieces_len(bytes);
-    }
-    let len = plain_pieces_len(&bytes[1..]);
-    if len > 0 { len + 1 } else { 0 }
-}
-
-// Whether the stretch of `len` bytes that the path begins with is all of it, and `len` isn't 0.
-// Then the path is plain.
+// True only if all pieces are plain. The last bytes are looked at first: they tell most paths that
+// climb, or end in a slash.
 #[inline]
-pub(crate) fn is_whole(path: Path<'_>, len: usize) -> bool
-    requires { 0 < len → IsStretch path.bytes.now len }
-    ensures { IsTrue result → is_plain path.entry.bytes.now ≡ true }
+fn has_plain_pieces(bytes: &[u8]) -> bool
+    ensures { IsTrue result → has_plain_pieces bytes.now ≡ true }
 {
-    len > 0 && len == path.as_unix_str().len()
+    let len = bytes.len();
+    if !begins_plain(bytes, 0) || bytes[len - 1] == b'/' || bytes[len - 1] == b'.' {
+        return false;
+    }
+    if len < 17 {
+        return few_end(bytes, 0) == len;
+    }
+    if is_calm_block(bytes, len - 17) {
+        return blocks_end(bytes, 0) + 17 > len;
+    }
+    names_end(bytes, len - 17) == len && names_end(bytes, 0) == len
 }
 
 // True only if no piece is empty, `.` or `..`, but for the empty one before the root. Then the path
 // is resolved as it stands, and without a root it goes down by names alone. It is false for the
 // empty path and for `/`, which are resolved too.
-#[inline]
 pub(crate) fn is_plain(path: Path<'_>) -> bool
     ensures { IsTrue result → is_plain path.entry.bytes.now ≡ true }
 {
-    is_whole(path, plain_len(path))
+    if path.has_root() {
+        return has_plain_pieces(&path.bytes[1..]);
+    }
+    has_plain_pieces(path.bytes)
 }

@@ -1,21 +1,21 @@
 //! Paths resolved by names: each `..` takes away the name before it.
-ghost use Rattle.std.specs.Prelude.{◌≡◌, ◌++◌, ◌<◌, true, List, take, drop, IfOk, OnOk};
+ghost use Rattle.std.specs.Prelude.{◌≡◌, true, List, IfOk, IsTrue, OnOk};
 ghost use Rattle.unix_path.specs.Buffers.{path_bytes};
 ghost use Rattle.unix_path.specs.CommonDir.{inner_values};
-ghost use Rattle.unix_path.specs.Cursor.{cursor_values};
 ghost use Rattle.unix_path.specs.Joins.{join_of};
 ghost use Rattle.unix_path.specs.Kept.{cow_bytes};
 ghost use Rattle.unix_path.specs.Parts.{Value, parent_dir, values};
 ghost use Rattle.unix_path.specs.Steps.{ends_with_parent};
-ghost use Rattle.unix_path.specs.Views.{value_of};
-ghost use Rattle.path_within.specs.Resolved.{keep, kept_of, up_from, resolved_bytes_of};
-ghost use Rattle.path_within.specs.Steps.{IsOne, Spells};
-ghost use Rattle.path_within.specs.PlainPieces.{is_end, IsStretch};
+ghost use Rattle.path_within.specs.PlainPieces.{is_plain};
+ghost use Rattle.path_within.specs.Resolved.{kept_of, up_from, resolved_bytes_of};
+ghost use Rattle.path_within.specs.Runs.{run_values, IsSpelled};
+ghost use Rattle.path_within.specs.Steps.{KeepsOn, Spells};
 
 use crate::normal::is_resolved;
-use crate::plain::{begins_plain, first_mark, is_whole, plain_len};
+use crate::plain::{begins_plain, is_plain};
+use crate::runs::{Run, Runs};
 use std::alloc::{AllocError, Global};
-use unix_path::{Component, Components, CowPath, Path, PathBuf};
+use unix_path::{Component, CowPath, Path, PathBuf};
 
 // Whether the path's last piece is `..`.
 #[inline]
@@ -57,119 +57,77 @@ pub(crate) fn keep_up(kept: &mut PathBuf) -> Result<(), AllocError>
     push_up(kept)
 }
 
-// Adds one part to what is kept.
-fn keep(kept: &mut PathBuf, part: Component<'_>) -> Result<(), AllocError>
+// Adds the path's root, if it has one, to what is kept. What is left to keep are the values behind it.
+fn keep_root(kept: &mut PathBuf, path: Path<'_>) -> Result<(), AllocError>
+    ensures ok { OnOk result ((ks : List Value) → Spells (path_bytes kept.old) ks
+        → KeepsOn ks (path_bytes kept.new) (inner_values path.entry.bytes.now)
+        (values path.entry.bytes.now)) }
+{
+    if path.has_root() {
+        return kept.push(Component::RootDir.as_path());
+    }
+    Ok(())
+}
+
+// Adds one run to what is kept.
+#[inline(always)]
+fn keep_run(kept: &mut PathBuf, run: Run<'_>) -> Result<(), AllocError>
     ensures ok { OnOk result ((ks : List Value)
-        → Spells (path_bytes kept.old) ks → IsOne (value_of part.entry)
-        → Spells (path_bytes kept.new) (keep ks (value_of part.entry))) }
+        → Spells (path_bytes kept.old) ks → IsSpelled run.entry
+        → Spells (path_bytes kept.new) (kept_of ks (run_values run.entry))) }
 {
-    match part {
-        Component::CurDir => Ok(()),
-        Component::ParentDir => keep_up(kept),
-        Component::RootDir | Component::Normal(_) => kept.push(part.as_path()),
+    match run {
+        Run::Up => keep_up(kept),
+        Run::Name(name) => kept.push(name),
+        Run::Names(names) => kept.push(names),
     }
 }
 
-// A walk over what follows the slash that these bytes begin with, or over nothing if there are no
-// bytes. It reads that slash as a root, and takes it first.
-#[inline]
-fn behind_slash(bytes: &[u8]) -> Components<'_>
-    requires { is_end bytes.now 0 ≡ true }
-    ensures { cursor_values result ≡ inner_values (drop 1 bytes.now) }
-{
-    let mut walk = Path::from_bytes(bytes).components();
-    let _slash = walk.next();
-    walk
-}
-
-// Adds the stretch of `len` bytes that the path begins with to what is kept, in one copy: a stretch
-// is resolved as it stands. Returns a walk over what follows it.
-#[inline]
-fn keep_stretch<'a>(
-    kept: &mut PathBuf,
-    path: Path<'a>,
-    len: usize,
-) -> Result<Components<'a>, AllocError>
-    requires { IsStretch path.bytes.now len }
-    ensures ok { OnOk result ((ks : List Value) → Spells (path_bytes kept.old) ks
-        → Spells (path_bytes kept.new) (kept_of ks (values (take len path.entry.bytes.now)))) }
-    ensures rest { IfOk result (λ walk. values path.entry.bytes.now
-        ≡ values (take len path.entry.bytes.now) ++ cursor_values walk) }
-{
-    let bytes = path.as_unix_str().as_bytes();
-    kept.push(Path::from_bytes(&bytes[..len]))?;
-    Ok(behind_slash(&bytes[len..]))
-}
-
-// The length of the stretch that the path begins with, as `plain_len` gives it, or 0 if the stretch
-// may be short: if the path has fewer than 17 bytes, or if, among its first 16 bytes, the first
-// slash that a slash or a dot follows has no plain piece behind it. To look for a stretch and copy
-// it takes as long as to add two parts.
-#[inline]
-fn long_plain_len(path: Path<'_>) -> usize
-    ensures { 0 < result → IsStretch path.entry.bytes.now result }
-{
-    let bytes = path.as_unix_str().as_bytes();
-    if bytes.len() < 17 {
-        return 0;
-    }
-    match first_mark(bytes, 0) {
-        Some(place) if !begins_plain(bytes, place + 1) => 0,
-        _ => plain_len(path),
-    }
-}
-
-// Adds these parts to what is kept: a stretch at a time, or one part if no long stretch comes next.
-fn keep_stretches(kept: &mut PathBuf, parts: Components<'_>) -> Result<(), AllocError>
-    ensures ok { OnOk result ((ks : List Value) → Spells (path_bytes kept.old) ks
-        → Spells (path_bytes kept.new) (kept_of ks (cursor_values parts.entry))) }
-{
-    let mut walk = parts;
-    loop {
-        let left = walk.as_path();
-        let len = long_plain_len(left);
-        if len > 0 {
-            walk = keep_stretch(kept, left, len)?;
-        } else {
-            let Some(part) = walk.next() else {
-                return Ok(());
-            };
-            keep(kept, part)?;
-        }
-    }
-}
-
-// Adds the path's parts to what is kept. If `len` isn't 0, the path begins with a stretch of `len`
-// bytes, whose end isn't looked for again.
-pub(crate) fn keep_path(kept: &mut PathBuf, path: Path<'_>, len: usize) -> Result<(), AllocError>
-    requires { 0 < len → IsStretch path.bytes.now len }
-    ensures ok { OnOk result ((ks : List Value) → Spells (path_bytes kept.old) ks
+// Adds the path's parts to what is kept, run by run.
+fn keep_runs(kept: &mut PathBuf, path: Path<'_>) -> Result<(), AllocError>
+    ensures ok { OnOk result ((ks : List Value)
+        → Spells (path_bytes kept.old) ks
         → Spells (path_bytes kept.new) (kept_of ks (values path.entry.bytes.now))) }
 {
-    if is_whole(path, len) {
+    keep_root(kept, path)?;
+    let mut runs = Runs::new(path.components().as_path().bytes);
+    while let Some(run) = runs.next() {
+        keep_run(kept, run)?;
+    }
+    Ok(())
+}
+
+// Adds the path's parts to what is kept: at once, if the path is known to be plain.
+#[inline]
+pub(crate) fn keep_path(
+    kept: &mut PathBuf,
+    path: Path<'_>,
+    known_plain: bool,
+) -> Result<(), AllocError>
+    requires { IsTrue known_plain → is_plain path.bytes.now ≡ true }
+    ensures ok { OnOk result ((ks : List Value)
+        → Spells (path_bytes kept.old) ks
+        → Spells (path_bytes kept.new) (kept_of ks (values path.entry.bytes.now))) }
+{
+    if known_plain {
         return kept.push(path);
     }
-    if len == 0 {
-        return keep_stretches(kept, path.components());
-    }
-    let parts = keep_stretch(kept, path, len)?;
-    keep_stretches(kept, parts)
+    keep_runs(kept, path)
 }
 
 // The path as `resolved` gives it, borrowed if it is resolved as it stands.
 pub(crate) fn resolved_cow<'a>(alloc: Global, path: Path<'a>) -> Result<CowPath<'a>, AllocError>
     ensures { IfOk result (λ p. cow_bytes p ≡ resolved_bytes_of path.entry.bytes.now) }
 {
-    let len = plain_len(path);
-    if is_whole(path, len) {
+    if is_plain(path) {
         return Ok(CowPath::Borrowed(path));
     }
     // Of the other paths only those that begin with no plain piece can be resolved as they stand.
-    if len == 0 && is_resolved(path) {
+    if !begins_plain(path.bytes, 0) && is_resolved(path) {
         return Ok(CowPath::Borrowed(path));
     }
     let mut kept = PathBuf::with_capacity(alloc, path.as_unix_str().len())?;
-    keep_path(&mut kept, path, len)?;
+    keep_runs(&mut kept, path)?;
     Ok(CowPath::Owned(kept))
 }
 

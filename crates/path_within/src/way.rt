@@ -14,7 +14,7 @@ ghost use Rattle.path_within.specs.Way.{is_root, way_of};
 ghost use Rattle.path_within.specs.Steps.{Spells};
 
 use crate::normal::are_names;
-use crate::plain::plain_len;
+use crate::plain::is_plain;
 use crate::resolved::{keep_path, keep_up, resolved_cow};
 use std::alloc::{AllocError, Global};
 use unix_path::{Component, Components, Path, PathBuf};
@@ -121,6 +121,6 @@ pub fn way(alloc: Global, from: Path<'_>, to: Path<'_>) -> Result<Option<PathBuf
     let rest = onward.as_path();
     let mut kept = PathBuf::with_capacity(alloc, way_len(left.as_path(), rest))?;
     keep_ups(&mut kept, left)?;
-    keep_path(&mut kept, rest, plain_len(rest))?;
+    keep_path(&mut kept, rest, is_plain(rest))?;
     Ok(Some(kept))
 }

@@ -1,5 +1,5 @@
 //! Joins that stay under a root.
-ghost use Rattle.std.specs.Prelude.{◌≡◌, ◌↔◌, true, false, IfOk, IsErrOf, IsTrue, Some};
+ghost use Rattle.std.specs.Prelude.{◌≡◌, ◌↔◌, true, false, length, IfOk, IsErrOf, IsTrue, Some};
 ghost use Rattle.std.specs.Fmt.{padded};
 ghost use Rattle.unix_path.specs.Buffers.{path_bytes};
 ghost use Rattle.unix_path.specs.Joins.{join_of};
@@ -11,8 +11,9 @@ ghost use Rattle.path_within.specs.PlainPieces.{is_plain};
 ghost use Rattle.path_within.specs.Resolved.{resolved_bytes_of};
 
 use crate::laws;
-use crate::plain::{is_plain, is_whole, plain_len};
+use crate::plain::is_plain;
 use crate::resolved::keep_path;
+use crate::runs::{Run, Runs};
 use std::alloc::{AllocError, Global};
 use std::error::Error;
 use std::fmt;
@@ -78,8 +79,17 @@ pub fn climbs(path: Path<'_>) -> bool
     path.has_root() || climbs_unless(false, path)
 }
 
-// Whether a path without a root climbs. If it is known to be plain it doesn't, and its parts aren't
-// looked at.
+// How many parts the path has.
+#[inline]
+fn part_count(path: Path<'_>) -> usize
+    ensures { result ≡ length (values path.entry.bytes.now) }
+{
+    path.components().count()
+}
+
+// Whether a path without a root climbs. If it is known to be plain it doesn't, and it isn't looked
+// at.
+#[inline(always)]
 fn climbs_unless(known_plain: bool, path: Path<'_>) -> bool
     requires plain { IsTrue known_plain → is_plain path.bytes.now ≡ true }
     requires rootless { is_rooted path.bytes.now ≡ false }
@@ -89,11 +99,13 @@ fn climbs_unless(known_plain: bool, path: Path<'_>) -> bool
         return false;
     }
     let mut depth = 0_usize;
-    for part in path.components() {
-        match part {
-            Component::RootDir | Component::CurDir => {}
-            Component::Normal(_) => depth += 1,
-            Component::ParentDir => {
+    let mut runs = Runs::new(path.bytes);
+    while let Some(run) = runs.next() {
+        match run {
+            Run::Name(_) => depth += 1,
+            Run::Names(_) if runs.is_empty() => return false,
+            Run::Names(names) => depth += part_count(names),
+            Run::Up => {
                 if depth == 0 {
                     return true;
                 }
@@ -126,13 +138,11 @@ pub fn join_within(alloc: Global, root: Path<'_>, request: Path<'_>) -> Result<P
     if request.has_root() {
         return Err(WithinError::Escapes);
     }
-    let request_len = plain_len(request);
-    let is_plain_request = is_whole(request, request_len);
+    let is_plain_request = is_plain(request);
     if climbs_unless(is_plain_request, request) {
         return Err(WithinError::Escapes);
     }
-    let root_len = plain_len(root);
-    let is_plain_root = is_whole(root, root_len);
+    let is_plain_root = is_plain(root);
     if is_plain_root && is_plain_request {
         // The join is resolved as it stands, and has one byte more than both together, since a
         // plain root doesn't end in a slash.
@@ -140,8 +150,8 @@ pub fn join_within(alloc: Global, root: Path<'_>, request: Path<'_>) -> Result<P
     }
     let len = root.as_unix_str().len() + 1 + request.as_unix_str().len();
     let mut kept = PathBuf::with_capacity(alloc, len)?;
-    keep_path(&mut kept, root, root_len)?;
-    keep_path(&mut kept, request, request_len)?;
+    keep_path(&mut kept, root, is_plain_root)?;
+    keep_path(&mut kept, request, is_plain_request)?;
     Ok(kept)
 }
 

@@ -1,13 +1,12 @@
 use Rattle.std.proofs.Common.{◌≡◌, ◌+◌, ◌^◌, ◌<◌, length}
-use Rattle.unix_path.specs.Cursor.{cursor_values}
 use Rattle.unix_path.specs.Parts.{values}
 use Rattle.path_within.proofs.ClimbLemmas.{above_from}
 use Rattle.path_within.proofs.within.climbs_unless.Given as goal
 
-abbrev pub invariant-loop-part : goal.invariant-loop-part
-invariant-loop-part l =
-    (goal.iterator-loop-part).can_next l.part-iterator
-    × (goal.iterator-loop-part).is_finite l.part-iterator
-    × (above_from l.depth (cursor_values l.part-iterator)
-    ≡ above_from 0 (values l.fn.path.bytes.now))
-    × (l.depth + length (cursor_values l.part-iterator) < 2 ^ 64)
+abbrev pub invariant-loop-run : goal.invariant-loop-run
+invariant-loop-run l =
+    (above_from l.depth (values l.runs.left.now) ≡ above_from 0 (values l.fn.path.bytes.now))
+    × (l.depth + length (values l.runs.left.now) < 2 ^ 64)
+
+abbrev pub decreases-loop-run : goal.decreases-loop-run
+decreases-loop-run l = length l.runs.left.now

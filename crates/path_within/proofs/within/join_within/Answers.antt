@@ -11,8 +11,8 @@ pub returns-then-is_plain_request-clause-bytes : goal.returns-then-is_plain_requ
 returns-then-is_plain_request-clause-bytes c =
     c.in_ok-join.ensures
     ∙ resolved-plain_join c.args.root.bytes.now c.args.request.bytes.now
-    (c.is_whole-is_plain_root.ensures c.if-is_plain_root.true)
-    (c.is_whole-is_plain_request.ensures c.if-is_plain_request.true)
+    (c.is_plain-is_plain_root.ensures c.if-is_plain_root.true)
+    (c.is_plain-is_plain_request.ensures c.if-is_plain_request.true)
 
 pub returns-then-is_plain_request-clause-within : goal.returns-then-is_plain_request-clause-within
 returns-then-is_plain_request-clause-within c =

@@ -1,11 +1,12 @@
 use Rattle.std.proofs.Common.{◌-◌, ◌≡◌, ℕ, ◌<◌, ◌≤◌, length, true}
 use Rattle.path_within.specs.PlainPieces.{goes_on_plain}
-use Rattle.path_within.proofs.plain.plain_end.Given as goal
+use Rattle.path_within.proofs.plain.blocks_end.Given as goal
 
 abbrev pub invariant-loop-at : goal.invariant-loop-at
 invariant-loop-at l = record {
+  forward : l.fn.start ≤ l.at;
   in_range : l.at ≤ length l.bytes;
-  plain : (k : ℕ) → k < l.at → goes_on_plain l.bytes k ≡ true;
+  plain : (k : ℕ) → l.fn.start ≤ k → k < l.at → goes_on_plain l.bytes k ≡ true;
 }
 
 abbrev pub decreases-loop-at : goal.decreases-loop-at

@@ -1,0 +1,116 @@
+//! A path cut into runs: each `..`, and the names between, many at once.
+ghost use Rattle.std.specs.Prelude.{◌≡◌, ◌<◌, ◌≤◌, false, [], length, drop, None, IfSome, IsTrue};
+ghost use Rattle.unix_path.specs.CommonDir.{inner_values};
+ghost use Rattle.unix_path.specs.Parts.{values};
+ghost use Rattle.unix_path.specs.Steps.{is_idle, begins_with_parent};
+
+use crate::plain::{is_end, names_end};
+use unix_bytes::search::first_place;
+use unix_path::Path;
+
+// A stretch of a path without a root.
+#[derive(Clone, Copy)]
+pub(crate) enum Run<'a> {
+    // `..`.
+    Up,
+    // One name.
+    Name(Path<'a>),
+    // Names that stand as they are spelled: they are copied as one.
+    Names(Path<'a>),
+}
+
+// The runs that are left of a path: of bytes that begin with no filler, and with no root.
+#[derive(Clone, Copy)]
+pub(crate) struct Runs<'a> {
+    left: &'a [u8],
+    ghost busy: { is_idle left.now 0 ≡ false },
+}
+
+// Whether the byte at `i` is a slash, or a `.` that a slash or the end follows.
+#[inline(always)]
+fn is_idle(bytes: &[u8], i: usize) -> bool
+    requires { i < length bytes.now }
+    ensures { result ≡ is_idle bytes.now i }
+{
+    bytes[i] == b'/' || (bytes[i] == b'.' && is_end(bytes, i + 1))
+}
+
+// How much filler, slashes and `.` pieces, stands in front.
+#[inline(always)]
+fn filler_len(bytes: &[u8]) -> usize
+    ensures in_range { result ≤ length bytes.now }
+    ensures same { inner_values bytes.now ≡ inner_values (drop result bytes.now) }
+    ensures busy { is_idle bytes.now result ≡ false }
+{
+    let mut len = 0;
+    while len < bytes.len() && is_idle(bytes, len) {
+        len += 1;
+    }
+    len
+}
+
+// Whether the first piece is `..`.
+#[inline(always)]
+fn begins_up(bytes: &[u8]) -> bool
+    requires { 0 < length bytes.now }
+    ensures { result ≡ begins_with_parent bytes.now }
+{
+    bytes[0] == b'.' && bytes.len() > 1 && bytes[1] == b'.' && is_end(bytes, 2)
+}
+
+impl<'a> Runs<'a> {
+    ghost use Rattle.path_within.specs.Runs.{TakesRun};
+
+    // The runs of the bytes, without a root or a `.` that they begin with.
+    #[inline(always)]
+    pub(crate) fn new(bytes: &'a [u8]) -> Runs<'a>
+        ensures values { values result.left.now ≡ inner_values bytes.now }
+        ensures short { length result.left.now ≤ length bytes.now }
+    {
+        Runs {
+            left: &bytes[filler_len(bytes)..],
+        }
+    }
+
+    // Whether no run is left.
+    #[inline(always)]
+    pub(crate) fn is_empty(&self) -> bool
+        ensures { IsTrue result → self.now.left.now ≡ [] }
+    {
+        self.left.is_empty()
+    }
+
+    // Takes the next run. It is always inlined, so that a loop over the runs keeps them in registers.
+    #[inline(always)]
+    pub(crate) fn next(&mut self) -> Option<Run<'a>>
+        ensures none { result ≡ None → self.old.left.now ≡ [] }
+        ensures some { IfSome result
+            (λ run. TakesRun self.old.left.now run self.new.left.now) }
+    {
+        let bytes = self.left;
+        if bytes.is_empty() {
+            return None;
+        }
+        if begins_up(bytes) {
+            *self = Runs::new(&bytes[2..]);
+            return Some(Run::Up);
+        }
+        let len = first_place(bytes, b'/');
+        let name = Path::from_bytes(&bytes[..len]);
+        if len + 1 >= bytes.len() {
+            *self = Runs { left: &[] };
+            return Some(Run::Name(name));
+        }
+        let rest = &bytes[len + 1..];
+        let filler = filler_len(rest);
+        if filler > 0 || rest[0] == b'.' {
+            *self = Runs {
+                left: &rest[filler..],
+            };
+            return Some(Run::Name(name));
+        }
+        let end = names_end(bytes, len + 1);
+        *self = Runs::new(&bytes[end..]);
+        Some(Run::Names(Path::from_bytes(&bytes[..end])))
+    }
+}
