@@ -1,9 +1,8 @@
 -- What is spelled after a push of one more root or name.
 use Rattle.std.proofs.Common.{◌≡◌, ℕ, List, [], ◌∷◌, refl, sym, ap, ◌∙◌}
 use Rattle.unix_path.specs.Joins.{join_of}
-use Rattle.unix_path.specs.Parts.{Value, RootDir, CurDir, ParentDir, Normal, slash, value_bytes}
+use Rattle.unix_path.specs.Parts.{Value, RootDir, Normal, slash}
 use Rattle.unix_path.proofs.JoinLemmas.{join_of_rooted}
-use Rattle.path_within.specs.Resolved.{keep}
 use Rattle.path_within.specs.Steps.{IsOne, Spells}
 use Rattle.path_within.proofs.PathOfLemmas.{IsOne-root}
 
@@ -20,12 +19,3 @@ spells_root_alone s t e = record {
   one = (IsOne-root, tt);
   is = e ∙ join_of_rooted s (slash ∷ []) refl ∙ sym (join_of_rooted [] (slash ∷ []) refl);
 }
-
--- bytes that spell kept values, joined with a root or a name, spell what is kept after that value
-pub spells_push : {s t : List ℕ} {ks : List Value} (v : Value) → (v ≡ CurDir → ⊥)
-    → (v ≡ ParentDir → ⊥) → Spells s ks → IsOne v → t ≡ join_of s (value_bytes v)
-    → Spells t (keep ks v)
-spells_push {s} {t} RootDir no_dot no_up h one e = spells_root_alone s t e
-spells_push {s} {t} CurDir no_dot no_up h one e = absurd (no_dot refl)
-spells_push {s} {t} ParentDir no_dot no_up h one e = absurd (no_up refl)
-spells_push {s} {t} (Normal name) no_dot no_up h one e = spells_name h one e

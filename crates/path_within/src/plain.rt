@@ -67,12 +67,11 @@ fn few_end(bytes: &[u8], start: usize) -> usize
     ensures plain { (k : ℕ) → start ≤ k → k < result → goes_on_plain bytes.now k ≡ true }
     ensures ends { is_end bytes.now result ≡ true }
 {
-    for i in start..bytes.len() {
-        if bytes[i] == b'/' && !begins_plain(bytes, i + 1) {
-            return i;
-        }
+    let mut at = start;
+    while at < bytes.len() && (bytes[at] != b'/' || begins_plain(bytes, at + 1)) {
+        at += 1;
     }
-    bytes.len()
+    at
 }
 
 // As `names_end`, as far as whole blocks of 16 bytes with a byte behind them go: it may stop where
@@ -86,14 +85,18 @@ fn blocks_end(bytes: &[u8], start: usize) -> usize
 {
     let mut at = start;
     while at + 16 < bytes.len() {
+        if is_calm_block(bytes, at) {
+            at += 16;
+            continue;
+        }
         let calm = marks(bytes, at).trailing_zeros() as usize;
         if calm > 15 {
-            at += 16;
-        } else if begins_plain(bytes, at + calm + 1) {
-            at += calm + 1;
-        } else {
+            return at;
+        }
+        if !begins_plain(bytes, at + calm + 1) {
             return at + calm;
         }
+        at += calm + 1;
     }
     at
 }
@@ -112,12 +115,11 @@ pub(crate) fn names_end(bytes: &[u8], start: usize) -> usize
 
 // True only if all pieces are plain. The last bytes are looked at first: they tell most paths that
 // climb, or end in a slash.
-#[inline]
 fn has_plain_pieces(bytes: &[u8]) -> bool
     ensures { IsTrue result → has_plain_pieces bytes.now ≡ true }
 {
     let len = bytes.len();
-    if !begins_plain(bytes, 0) || bytes[len - 1] == b'/' || bytes[len - 1] == b'.' {
+    if len == 0 || bytes[len - 1] == b'/' || bytes[len - 1] == b'.' || !begins_plain(bytes, 0) {
         return false;
     }
     if len < 17 {
@@ -132,6 +134,7 @@ fn has_plain_pieces(bytes: &[u8]) -> bool
 // True only if no piece is empty, `.` or `..`, but for the empty one before the root. Then the path
 // is resolved as it stands, and without a root it goes down by names alone. It is false for the
 // empty path and for `/`, which are resolved too.
+#[inline]
 pub(crate) fn is_plain(path: Path<'_>) -> bool
     ensures { IsTrue result → is_plain path.entry.bytes.now ≡ true }
 {

@@ -65,7 +65,7 @@ fn is_root_or_up(part: Component<'_>) -> bool
 }
 
 // Whether a path is its names as it is spelled, or `None` if the root or a `..` is among its parts.
-fn is_spelled_unless_up(path: Path<'_>) -> Option<bool>
+pub(crate) fn is_spelled_unless_up(path: Path<'_>) -> Option<bool>
     ensures none { result ≡ None ↔ (has_root_or_up (values path.entry.bytes.now) ≡ true) }
     ensures spelled { IfSome result (λ is. IsTrue is → is_plain path.entry.bytes.now ≡ true) }
 {

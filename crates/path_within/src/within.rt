@@ -5,19 +5,19 @@ ghost use Rattle.unix_path.specs.Buffers.{path_bytes};
 ghost use Rattle.unix_path.specs.Joins.{join_of};
 ghost use Rattle.unix_path.specs.Parts.{values, is_rooted};
 ghost use Rattle.unix_path.specs.Prefixes.{Begins};
-ghost use Rattle.unix_path.specs.Views.{value_of};
-ghost use Rattle.path_within.specs.Climbs.{Climbs, has_root_or_up, is_root_or_up};
+ghost use Rattle.path_within.specs.Climbs.{Climbs, has_root_or_up};
 ghost use Rattle.path_within.specs.PlainPieces.{is_plain};
 ghost use Rattle.path_within.specs.Resolved.{resolved_bytes_of};
 
 use crate::laws;
 use crate::plain::is_plain;
 use crate::resolved::keep_path;
+use crate::root::is_spelled_unless_up;
 use crate::runs::{Run, Runs};
 use std::alloc::{AllocError, Global};
 use std::error::Error;
 use std::fmt;
-use unix_path::{Component, Path, PathBuf};
+use unix_path::{Path, PathBuf};
 
 /// Why a request couldn't be joined to its root.
 ///
@@ -155,29 +155,6 @@ pub fn join_within(alloc: Global, root: Path<'_>, request: Path<'_>) -> Result<P
     Ok(kept)
 }
 
-// Whether the part is the root or `..`.
-#[inline]
-fn is_root_or_up(part: Component<'_>) -> bool
-    ensures { result ≡ is_root_or_up (value_of part.entry) }
-{
-    matches!(part, Component::RootDir | Component::ParentDir)
-}
-
-// Whether the root or a `..` is among the parts. If the path has a root, the rest of it isn't
-// looked at; a plain path without one has names alone.
-#[inline]
-fn has_root_or_up(path: Path<'_>) -> bool
-    ensures { result ≡ has_root_or_up (values path.entry.bytes.now) }
-{
-    if path.has_root() {
-        return true;
-    }
-    if is_plain(path) {
-        return false;
-    }
-    path.components().any(is_root_or_up)
-}
-
 /// The request joined to the root, both as they stand, if the request has neither a root nor a
 /// `..`.
 ///
@@ -197,7 +174,7 @@ pub fn join_plain(alloc: Global, root: Path<'_>, request: Path<'_>) -> Result<Pa
     ensures within { IfOk result (λ p. Begins (values root.entry.bytes.now)
         (values (path_bytes p))) }
 {
-    if has_root_or_up(request) {
+    if is_spelled_unless_up(request).is_none() {
         return Err(WithinError::Escapes);
     }
     laws::plain_stays_within();

@@ -20,8 +20,12 @@ pub loop-run-init : goal.loop-run-init
 loop-run-init c =
     let path = c.args.path.bytes.now in (
       ap (above_from 0) c.new-runs.ensures.values ∙ above_from-inner path c.requires.rootless,
-      omega (arith, length-values c.new-runs.result.left.now, c.new-runs.ensures.short,
-          c.ranges.path.0),
+      omega (
+        arith,
+        length-values c.new-runs.result.left.now,
+        c.new-runs.ensures.short,
+        c.ranges.path.0,
+      ),
     )
 
 pub loop-run-preserved-in-Names-2 : goal.loop-run-preserved-in-Names-2
@@ -34,8 +38,13 @@ loop-run-preserved-in-Names-2 c =
           ∙ sym (above_from-spelled c.loop-run.depth names left
           (subst IsSpelled c.in-Names-2.is c.in-Some.ensures.some.spelled))
           ∙ sym (ap (above_from c.loop-run.depth) split) ∙ c.loop-run.invariant.0,
-      omega (arith, c.part_count-depth.ensures, ap length split,
-          length-append (values names) left, c.loop-run.invariant.1),
+      omega (
+        arith,
+        c.part_count-depth.ensures,
+        ap length split,
+        length-append (values names) left,
+        c.loop-run.invariant.1,
+      ),
     )
 
 pub returns-in-Names : goal.returns-in-Names

@@ -27,8 +27,13 @@ returns-then-begins_up-clause-some c =
       split = values-up s up ∙ ap (λ vs. ParentDir ∷ vs)
           (sym (c.new.ensures.values ∙ ap inner_values (take_rest s 2)));
       spelled = tt;
-      shorter = omega (arith, c.new.ensures.short, ap length (take_rest s 2), length-drop 2 s,
-          length-parent_first s up);
+      shorter = omega (
+        arith,
+        c.new.ensures.short,
+        ap length (take_rest s 2),
+        length-drop 2 s,
+        length-parent_first s up,
+      );
     }
 
 pub returns-then-len-bytes-clause-some : goal.returns-then-len-bytes-clause-some
@@ -56,8 +61,14 @@ returns-then-filler-gt0-clause-some c =
     record {
       split = first.0;
       spelled = first.1;
-      shorter = omega (arith, ap length (take_rest rest f), length-drop f rest,
-          ap length (take_rest s (n + 1)), length-drop (n + 1) s, (begins (goal.at.returns-then-filler-gt0-clause-some c).Else-begins_up).some);
+      shorter = omega (
+        arith,
+        ap length (take_rest rest f),
+        length-drop f rest,
+        ap length (take_rest s (n + 1)),
+        length-drop (n + 1) s,
+        (begins (goal.at.returns-then-filler-gt0-clause-some c).Else-begins_up).some,
+      );
     }
 
 pub returns-clause-some : goal.returns-clause-some
@@ -75,6 +86,12 @@ returns-clause-some c =
     record {
       split = all.0;
       spelled = (all.1, all.2);
-      shorter = omega (arith, c.new-2.ensures.short, ap length (take_rest s end.result),
-          length-drop end.result s, end.ensures.forward, (begins (goal.at.returns-clause-some c).Else-begins_up).some);
+      shorter = omega (
+        arith,
+        c.new-2.ensures.short,
+        ap length (take_rest s end.result),
+        length-drop end.result s,
+        end.ensures.forward,
+        (begins (goal.at.returns-clause-some c).Else-begins_up).some,
+      );
     }
