@@ -6,7 +6,7 @@ use Rattle.std.specs.Prelude.{slice_range}
 use Rattle.std.proofs.lemmas.Bool.{and_parts}
 use Rattle.std.proofs.lemmas.List.{get_or-drop}
 use Rattle.unix_path.specs.Parts.{values}
-use Rattle.unix_path.specs.Steps.{is_idle}
+use Rattle.unix_path.specs.Scan.{is_idle}
 use Rattle.unix_path.proofs.IdleLemmas.{is_idle-drop}
 use Rattle.path_runs.specs.Gaps.{slashed_parts, FirstGap, IsCopied, IsPart}
 use Rattle.path_runs.specs.Spelling.{spelling_of}

@@ -5,7 +5,7 @@ use Rattle.std.specs.Prelude.{List, ◌∷◌, ◌++◌, length, drop, slice_ind
 use Rattle.std.specs.List.{flat_map}
 use Rattle.unix_path.specs.Parts.{slash, dot, value_bytes}
 use Rattle.unix_path.specs.CommonDir.{inner_values}
-use Rattle.unix_path.specs.Steps.{is_idle}
+use Rattle.unix_path.specs.Scan.{is_idle}
 
 -- the byte at i is a slash, and the piece behind it is empty or `.`
 abbrev pub is_gap : List ℕ → ℕ → Bool

@@ -1,19 +1,11 @@
 //! The gaps of a path: its slashes with an empty piece or the piece `.` behind them.
 ghost use Rattle.std.specs.Prelude.{◌≡◌, ℕ, ◌+◌, ◌<◌, ◌≤◌, length, drop, false, slice_index};
 ghost use Rattle.unix_path.specs.Parts.{slash};
-ghost use Rattle.unix_path.specs.Steps.{is_idle};
+ghost use Rattle.unix_path.specs.Scan.{is_idle};
 ghost use Rattle.path_runs.specs.Gaps.{is_gap, slashed_parts, FirstGap, IsPart};
 
 use std::simd::prelude::*;
-
-// Whether the byte at `at` is a slash, or a `.` that a slash or the end follows.
-#[inline]
-fn is_idle(bytes: &[u8], at: usize) -> bool
-    requires { at < length bytes.now }
-    ensures { result ≡ is_idle bytes.now at }
-{
-    bytes[at] == b'/' || (bytes[at] == b'.' && (at + 1 == bytes.len() || bytes[at + 1] == b'/'))
-}
+use unix_path::scan::is_idle;
 
 // Whether the byte at `at` is a slash, and the piece behind it is empty or `.`.
 #[inline]

@@ -7,7 +7,8 @@ use Rattle.std.specs.Str.{bytes_eq}
 use Rattle.std.proofs.lemmas.List.{get_or-append-add}
 use Rattle.unix_path.specs.Parts.{cur_dir, parent_dir, parts, values}
 use Rattle.unix_path.specs.Rest.{rest}
-use Rattle.unix_path.specs.Steps.{EndsInPart, is_trailing}
+use Rattle.unix_path.specs.Scan.{is_trailing}
+use Rattle.unix_path.specs.Steps.{EndsInPart}
 use Rattle.unix_path.proofs.CaseLemmas.{by_test}
 use Rattle.unix_path.proofs.SpanLemmas.{rest-trimmed}
 use Rattle.path_runs.proofs.PieceValueLemmas.{HoldsOfPieces, NoSlash, values-hold}

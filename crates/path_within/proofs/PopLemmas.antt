@@ -11,7 +11,7 @@ use Rattle.unix_path.specs.Parts.{Value, RootDir, CurDir, ParentDir, Normal, is_
 use Rattle.unix_path.specs.Parts.{parent_dir}
 use Rattle.unix_path.specs.Parts.{values}
 use Rattle.unix_path.specs.Rest.{rest}
-use Rattle.unix_path.specs.Steps.{ends_with_parent}
+use Rattle.unix_path.specs.Scan.{ends_with_parent}
 use Rattle.unix_path.proofs.JoinLemmas.{join_of_rooted}
 use Rattle.unix_path.proofs.ParentLemmas.{values-whole}
 use Rattle.unix_path.proofs.PartLemmas.{root_first, root_first-values, values-nil}

@@ -10,7 +10,7 @@ use Rattle.std.proofs.lemmas.List.Sums.{fails_before_first}
 use Rattle.unix_path.specs.CommonDir.{inner_values}
 use Rattle.unix_path.specs.Parts.{slash, is_slash, is_rooted, inner_parts, Part, Normal}
 use Rattle.unix_path.specs.Parts.{ParentDir, values}
-use Rattle.unix_path.specs.Steps.{begins_with_parent, is_idle}
+use Rattle.unix_path.specs.Scan.{begins_with_parent, is_idle}
 use Rattle.unix_path.proofs.CaseLemmas.{by_test}
 use Rattle.unix_path.proofs.CommonPrefixLemmas.{inner_values-nil, values-slash}
 use Rattle.unix_path.proofs.IdleLemmas.{idle_slash, inner_parts_idle_at, parts-busy}

@@ -8,7 +8,8 @@ use Rattle.std.proofs.lemmas.Grind.{reverse_onto}
 use Rattle.std.proofs.lemmas.List.{get_or-append-add, get_or_append_left, get_or_default}
 use Rattle.unix_path.specs.Joins.{is_open, join_of}
 use Rattle.unix_path.specs.Parts.{Value, RootDir, CurDir, ParentDir, Normal, parent_dir, values}
-use Rattle.unix_path.specs.Steps.{EndsInPart, ends_with_parent}
+use Rattle.unix_path.specs.Scan.{ends_with_parent}
+use Rattle.unix_path.specs.Steps.{EndsInPart}
 use Rattle.unix_path.proofs.CaseLemmas.{by_test}
 use Rattle.unix_path.proofs.EndLemmas.{last_or-push}
 use Rattle.unix_path.proofs.JoinLemmas.{is_open-at}

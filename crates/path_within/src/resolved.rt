@@ -5,7 +5,7 @@ ghost use Rattle.unix_path.specs.CommonDir.{inner_values};
 ghost use Rattle.unix_path.specs.Joins.{join_of};
 ghost use Rattle.unix_path.specs.Kept.{cow_bytes};
 ghost use Rattle.unix_path.specs.Parts.{Value, parent_dir, values};
-ghost use Rattle.unix_path.specs.Steps.{ends_with_parent};
+ghost use Rattle.unix_path.specs.Scan.{ends_with_parent};
 ghost use Rattle.path_within.specs.PlainPieces.{is_plain};
 ghost use Rattle.path_within.specs.Resolved.{kept_of, up_from, resolved_bytes_of};
 ghost use Rattle.path_within.specs.Runs.{run_values, IsSpelled};
@@ -15,7 +15,7 @@ use crate::normal::is_resolved;
 use crate::plain::{begins_plain, is_plain};
 use crate::runs::{Run, Runs};
 use std::alloc::{AllocError, Global};
-use unix_path::{Component, CowPath, Path, PathBuf};
+use unix_path::{Component, CowPath, Path, PathBuf, scan};
 
 // Whether the path's last piece is `..`.
 #[inline]
@@ -23,11 +23,7 @@ fn ends_with_parent(path: Path<'_>) -> bool
     ensures { result ≡ ends_with_parent path.entry.bytes.now }
 {
     let bytes = path.as_unix_str().as_bytes();
-    let len = bytes.len();
-    len > 1
-        && bytes[len - 1] == b'.'
-        && bytes[len - 2] == b'.'
-        && (len == 2 || bytes[len - 3] == b'/')
+    !bytes.is_empty() && scan::ends_with_parent(bytes)
 }
 
 // Joins `..` to what is kept.

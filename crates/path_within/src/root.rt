@@ -22,6 +22,7 @@ use std::alloc::{AllocError, Global};
 use std::error::Error;
 use std::fmt;
 use unix_bytes::bytes::UnixString;
+use unix_path::scan::is_open;
 use unix_path::{Component, Path, PathBuf};
 
 /// Why a path is not below a root.
@@ -79,14 +80,6 @@ pub(crate) fn is_spelled_unless_up(path: Path<'_>) -> Option<bool>
         return None;
     }
     Some(false)
-}
-
-// Whether there is no byte, or the last is a slash.
-#[inline]
-fn is_open(path: &[u8]) -> bool
-    ensures { result ≡ is_open path.now }
-{
-    path.is_empty() || path[path.len() - 1] == b'/'
 }
 
 // Appends bytes for which there is room. The test never fails; where it stands, no code is built

@@ -2,11 +2,12 @@
 ghost use Rattle.std.specs.Prelude.{◌≡◌, ◌<◌, ◌≤◌, false, [], length, drop, None, IfSome, IsTrue};
 ghost use Rattle.unix_path.specs.CommonDir.{inner_values};
 ghost use Rattle.unix_path.specs.Parts.{values};
-ghost use Rattle.unix_path.specs.Steps.{is_idle, begins_with_parent};
+ghost use Rattle.unix_path.specs.Scan.{is_idle, begins_with_parent};
 
-use crate::plain::{is_end, names_end};
+use crate::plain::names_end;
 use unix_bytes::search::first_place;
 use unix_path::Path;
+use unix_path::scan::{begins_with_parent, idle_len};
 
 // A stretch of a path without a root.
 #[derive(Clone, Copy)]
@@ -26,15 +27,6 @@ pub(crate) struct Runs<'a> {
     ghost busy: { is_idle left.now 0 ≡ false },
 }
 
-// Whether the byte at `i` is a slash, or a `.` that a slash or the end follows.
-#[inline(always)]
-fn is_idle(bytes: &[u8], i: usize) -> bool
-    requires { i < length bytes.now }
-    ensures { result ≡ is_idle bytes.now i }
-{
-    bytes[i] == b'/' || (bytes[i] == b'.' && is_end(bytes, i + 1))
-}
-
 // How much filler, slashes and `.` pieces, stands in front.
 #[inline(always)]
 fn filler_len(bytes: &[u8]) -> usize
@@ -42,20 +34,7 @@ fn filler_len(bytes: &[u8]) -> usize
     ensures same { inner_values bytes.now ≡ inner_values (drop result bytes.now) }
     ensures busy { is_idle bytes.now result ≡ false }
 {
-    let mut len = 0;
-    while len < bytes.len() && is_idle(bytes, len) {
-        len += 1;
-    }
-    len
-}
-
-// Whether the first piece is `..`.
-#[inline(always)]
-fn begins_up(bytes: &[u8]) -> bool
-    requires { 0 < length bytes.now }
-    ensures { result ≡ begins_with_parent bytes.now }
-{
-    bytes[0] == b'.' && bytes.len() > 1 && bytes[1] == b'.' && is_end(bytes, 2)
+    idle_len(bytes)
 }
 
 impl<'a> Runs<'a> {
@@ -91,7 +70,7 @@ impl<'a> Runs<'a> {
         if bytes.is_empty() {
             return None;
         }
-        if begins_up(bytes) {
+        if begins_with_parent(bytes) {
             *self = Runs::new(&bytes[2..]);
             return Some(Run::Up);
         }

@@ -15,6 +15,7 @@ ghost use Rattle.path_within.specs.Written.{opened, AreSpelled};
 use crate::plain::is_plain;
 use crate::request::Request;
 use unix_bytes::bytes::UnixStr;
+use unix_path::scan::is_open;
 use unix_path::{Component, Components, Path};
 
 // Takes the last name that is left of a walk, as it is resolved behind `/`, and what stands behind
@@ -151,14 +152,6 @@ fn place_resolved(out: &mut [u8], start: usize, end: usize, path: Path<'_>)
         ≡ overlay start (slashed_bytes (names_below (values path.entry.bytes.now))) out.old }
 {
     fill_resolved(&mut out[start..end], path);
-}
-
-// Whether a name follows the bytes with no slash between them.
-#[inline]
-fn is_open(root: &[u8]) -> bool
-    ensures { result ≡ is_open root.now }
-{
-    root.is_empty() || root[root.len() - 1] == b'/'
 }
 
 // How many bytes of a join stand before its first name.

@@ -1,18 +1,18 @@
--- The values behind a common prefix, and their order.
-use Rattle.std.proofs.Common.{Equal, take-append-drop, false, take, drop, map, refl}
-use Rattle.std.proofs.Common.{sym, ap, ap₂, ◌∙◌, arith, append_assoc, ◌≡◌, ℕ, ◌+◌, ◌-◌, ◌<◌, ◌≤◌}
-use Rattle.std.proofs.Common.{List, [], ◌∷◌, ◌++◌, length, get_or}
-use Rattle.std.proofs.Common.{length-append}
+-- What two strings both begin with, and their values behind it.
+use Rattle.std.proofs.Common.{◌≡◌, ℕ, zero, suc, ◌+◌, ◌-◌, ◌<◌, ◌≤◌, Equal, Ordering, eqb, List, [], ◌∷◌, ◌++◌}
+use Rattle.std.proofs.Common.{length, get_or, take, map, refl, sym, ap, ap₂, ◌∙◌, arith, append_assoc}
+use Rattle.std.proofs.Common.{eqb-true, length-append, take_all}
+use Rattle.std.specs.Cmp.{IsTotalOrder}
+use Rattle.std.specs.Cmp.Lexicographic.{slice_cmp}
+use Rattle.std.specs.List.{common_prefix_len}
 use Rattle.std.specs.Ordering.{ordering_then}
 use Rattle.std.proofs.lemmas.Cmp.{tied_itself}
 use Rattle.std.proofs.lemmas.List.{map-append, take_more}
 use Rattle.unix_path.specs.CommonDir.{inner_values}
 use Rattle.unix_path.specs.Order.{values_cmp}
 use Rattle.unix_path.specs.OrderLaws.{value_cmp-total, values_cmp-total}
-use Rattle.unix_path.specs.Parts.{slash, Part, Value, inner_parts, leading_part, parts}
-use Rattle.unix_path.specs.Parts.{values}
-use Rattle.unix_path.specs.Steps.{is_idle}
-use Rattle.unix_path.proofs.IdleLemmas.{parts-busy}
+use Rattle.unix_path.specs.Parts.{slash, Part, Value, inner_parts, leading_part, parts, values}
+use Rattle.unix_path.proofs.CaseLemmas.{by_test}
 use Rattle.unix_path.proofs.PieceLemmas.{inner_parts-nil}
 use Rattle.unix_path.proofs.PlaceLemmas.{values-inner_parts}
 use Rattle.unix_path.proofs.TrimLemmas.{parts-append, parts-slash}
@@ -57,30 +57,28 @@ values-past_slash f b =
     ∙ map-append (λ (p : Part). p.value) (parts g) (inner_parts (length g) b)
     ∙ ap (λ vs. map (λ (p : Part). p.value) (parts g) ++ vs) (values-inner_parts (length g) b)
 
--- values that two lists both begin with change nothing in their order
-pub values_cmp-common : (v w x : List Value) → values_cmp (v ++ w) (v ++ x) ≡ values_cmp w x
-values_cmp-common [] w x = refl
-values_cmp-common (y ∷ v) w x =
-    ap (λ o. ordering_then o (values_cmp (v ++ w) (v ++ x))) (tied_itself value_cmp-total y)
-    ∙ values_cmp-common v w x
+-- elements that two lists both begin with change nothing in their order
+pub slice_cmp-common : {A : Type 0} {R : A → A → Ordering} → IsTotalOrder R → (v w x : List A)
+    → slice_cmp R (v ++ w) (v ++ x) ≡ slice_cmp R w x
+slice_cmp-common order [] w x = refl
+slice_cmp-common {R = R} order (y ∷ v) w x =
+    ap (λ o. ordering_then o (slice_cmp R (v ++ w) (v ++ x))) (tied_itself order y)
+    ∙ slice_cmp-common order v w x
 
--- two strings behind the same beginning, which ends in a slash, are in the order of their inner
--- values
-pub values_cmp-past_slash : (f a b : List ℕ)
-    → values_cmp (values ((f ++ slash ∷ []) ++ a)) (values ((f ++ slash ∷ []) ++ b))
-    ≡ values_cmp (inner_values a) (inner_values b)
-values_cmp-past_slash f a b =
-    ap₂ values_cmp (values-past_slash f a) (values-past_slash f b)
-    ∙ values_cmp-common (values (f ++ slash ∷ [])) (inner_values a) (inner_values b)
+-- nor do such values
+pub values_cmp-common : (v w x : List Value) → values_cmp (v ++ w) (v ++ x) ≡ values_cmp w x
+values_cmp-common = slice_cmp-common value_cmp-total
 
 -- two strings with the same bytes up to a slash are in the order of the inner values behind it
 pub values_cmp-slash : (f a b : List ℕ)
     → values_cmp (values (f ++ slash ∷ a)) (values (f ++ slash ∷ b))
     ≡ values_cmp (inner_values a) (inner_values b)
 values_cmp-slash f a b =
-    ap₂ (λ x y. values_cmp (values x) (values y)) (sym (append_assoc f (slash ∷ []) a))
-    (sym (append_assoc f (slash ∷ []) b))
-    ∙ values_cmp-past_slash f a b
+    let g = f ++ slash ∷ [] in
+    let behind : (t : List ℕ) → values (f ++ slash ∷ t) ≡ values g ++ inner_values t =
+    λ t. ap values (sym (append_assoc f (slash ∷ []) t)) ∙ values-past_slash f t in
+    ap₂ values_cmp (behind a) (behind b)
+    ∙ values_cmp-common (values g) (inner_values a) (inner_values b)
 
 -- the first n bytes of a string, of which the last is a slash, are the n - 1 before it, and it
 pub take-past_slash : (s : List ℕ) (n : ℕ) → 0 < n → n ≤ length s → get_or s (n - 1) 0 ≡ slash
@@ -90,33 +88,28 @@ take-past_slash s n some l is =
     ap (λ k. take k s) {x = n} {y = i + 1} (omega arith) ∙ take_more s i 0 (omega arith)
     ∙ ap (λ b. take i s ++ b ∷ []) is
 
--- two strings with the same first n bytes, of which the last is a slash, are in the order of the
--- inner values behind these
-pub values_cmp-behind : (a b : List ℕ) (n : ℕ) → 0 < n → n ≤ length a → take n a ≡ take n b
-    → get_or a (n - 1) 0 ≡ slash
-    → values_cmp (inner_values (drop n a)) (inner_values (drop n b))
-    ≡ values_cmp (values a) (values b)
-values_cmp-behind a b n some l same is =
-    let f = take (n - 1) a in
-    let common = take-past_slash a n some l is in
-    let first : a ≡ (f ++ slash ∷ []) ++ drop n a =
-    sym (take-append-drop n a) ∙ ap (λ t. t ++ drop n a) common in
-    let second : b ≡ (f ++ slash ∷ []) ++ drop n b =
-    sym (take-append-drop n b) ∙ ap (λ t. t ++ drop n b) (sym same ∙ common) in
-    sym (ap₂ (λ x y. values_cmp (values x) (values y)) first second
-    ∙ values_cmp-past_slash f (drop n a) (drop n b))
-
 -- equal strings tie
 pub values_cmp-equal_strings : (a b : List ℕ) → a ≡ b → Equal ≡ values_cmp (values a) (values b)
 values_cmp-equal_strings a b e =
     sym (ap (λ t. values_cmp (values a) (values t)) (sym e)
     ∙ tied_itself values_cmp-total (values a))
 
--- what follows the filler at the beginning has the inner values of the string
-pub values-idle : (s : List ℕ) (n : ℕ) → inner_parts 0 s ≡ inner_parts (0 + n) (drop n s)
-    → (0 < length (drop n s) → is_idle (drop n s) 0 ≡ false)
-    → values (drop n s) ≡ inner_values s
-unfolding values
-values-idle s n same busy =
-    ap (map (λ (p : Part). p.value)) (parts-busy (drop n s) busy)
-    ∙ sym (ap (map (λ (p : Part). p.value)) same ∙ values-inner_parts (0 + n) (drop n s))
+-- two strings have the same first bytes as far as their common prefix goes
+pub take-common : (a b : List ℕ) (n : ℕ) → n ≤ common_prefix_len eqb a b → take n a ≡ take n b
+take-common [] [] n l = refl
+take-common [] (y ∷ b) zero l = refl
+take-common [] (y ∷ b) (suc n) l = absurd (omega arith)
+take-common (x ∷ a) [] zero l = refl
+take-common (x ∷ a) [] (suc n) l = absurd (omega arith)
+take-common (x ∷ a) (y ∷ b) zero l = refl
+take-common (x ∷ a) (y ∷ b) (suc n) l = by_test (eqb x y)
+    (λ e. let m : suc n ≤ 1 + common_prefix_len eqb a b = rw e at l in
+    ap₂ (λ z zs. z ∷ zs) (eqb-true x y e) (take-common a b n (omega arith)))
+    (λ e. let m : suc n ≤ 0 = rw e at l in absurd (omega arith))
+
+-- two strings are the same if their common prefix is all of both
+pub common_prefix_len-whole : (a b : List ℕ) → common_prefix_len eqb a b ≡ length a
+    → common_prefix_len eqb a b ≡ length b → a ≡ b
+common_prefix_len-whole a b e f =
+    sym (take_all (length a) a (omega arith)) ∙ take-common a b (length a) (omega (arith, e))
+    ∙ take_all (length a) b (omega (arith, e, f))

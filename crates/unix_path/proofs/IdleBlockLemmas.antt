@@ -5,7 +5,7 @@ use Rattle.std.specs.Simd.Lanes.{chunk, mask_l, top}
 use Rattle.std.proofs.lemmas.List.{get_or_default}
 use Rattle.std.proofs.lemmas.Simd.{length-chunk, get_or-chunk}
 use Rattle.unix_path.specs.Parts.{inner_parts}
-use Rattle.unix_path.specs.Steps.{is_idle}
+use Rattle.unix_path.specs.Scan.{is_idle}
 use Rattle.unix_path.proofs.IdleLemmas.{inner_parts_idle_at}
 use Rattle.unix_path.proofs.DotLaneLemmas.{stop_lanes, none_stops}
 

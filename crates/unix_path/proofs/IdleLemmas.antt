@@ -14,7 +14,7 @@ use Rattle.unix_path.proofs.PieceLemmas.{inner_parts-slash, first_piece, first_p
 use Rattle.unix_path.proofs.PieceLemmas.{first_piece-slash}
 use Rattle.unix_path.specs.Parts.{CurDir, inner_parts, cur_dir, is_slash, leading_part, parts}
 use Rattle.unix_path.specs.Parts.{value_of_piece}
-use Rattle.unix_path.specs.Steps.{is_idle}
+use Rattle.unix_path.specs.Scan.{is_idle}
 
 -- an idle byte is a slash, or a `.` that a slash or the end follows
 pub idle_from : (b : ℕ) (s : List ℕ) → is_idle (b ∷ s) 0 ≡ true

@@ -1,121 +1,134 @@
 -- The order of two strings by the kinds of their first parts.
-use Rattle.std.proofs.Common.{◌≡◌, ℕ, ◌+◌, ◌<◌, ◌≤◌, true, false, eqb, ltb, List, ◌∷◌, length}
-use Rattle.std.proofs.Common.{get_or, refl, sym, ap, ap₂, subst, ◌∙◌, arith, Ordering, Less, Equal, Greater}
-use Rattle.std.proofs.Common.{eq-eqb, eqb-true, ltb-true, ltb-false}
+use Rattle.std.proofs.Common.{◌≡◌, ℕ, zero, suc, ◌+◌, ◌<◌, ◌≤◌, true, false, eqb, List, [], ◌∷◌}
+use Rattle.std.proofs.Common.{cond, length, get_or, map, refl, sym, ap, ap₂, ◌∙◌, arith}
+use Rattle.std.specs.Cmp.Lexicographic.{slice_cmp}
 use Rattle.std.specs.List.{common_prefix_len}
-use Rattle.std.specs.Ordering.{is_ne, nat_cmp, ordering_then}
-use Rattle.std.proofs.lemmas.Bool.{eqb-false, false≢true}
+use Rattle.std.specs.Ordering.{is_ne, nat_cmp}
+use Rattle.std.proofs.lemmas.Bool.{false≢true}
 use Rattle.std.proofs.lemmas.Cmp.{tied_itself, nat_cmp_total}
-use Rattle.std.proofs.lemmas.List.{get_or_default, get_or_past}
-use Rattle.unix_bytes.proofs.CommonLemmas.{common_prefix_len-differs}
-use Rattle.unix_bytes.proofs.CommonLemmas.{common_prefix_len-same}
-use Rattle.unix_path.specs.Order.{rank, value_cmp}
-use Rattle.unix_path.specs.Parts.{Value, RootDir, CurDir, ParentDir, Normal, values}
-use Rattle.unix_path.specs.Steps.{piece_rank, AreApart}
-use Rattle.unix_path.proofs.ApartLemmas.{apart-first, ranks_end}
-use Rattle.unix_path.proofs.CaseLemmas.{by_test}
-use Rattle.unix_path.proofs.DifferLemmas.{nat_cmp-differ, pieces_differ}
-use Rattle.unix_path.proofs.FirstLemmas.{Told, by_root, by_cur_dir, by_parent_dir, by_name}
-use Rattle.unix_path.proofs.FirstLemmas.{first_value_of}
-use Rattle.unix_path.proofs.LeadLemmas.{busy_no_slash}
+use Rattle.std.proofs.lemmas.Slice.Eq.{bytes_eq-Decides}
+use Rattle.unix_path.specs.Order.{rank, value_cmp, values_cmp}
+use Rattle.unix_path.specs.Pairs.{first_rank}
+use Rattle.unix_path.specs.Parts.{Part, Value, cur_dir}
+use Rattle.unix_path.specs.Parts.{parent_dir, value_bytes, values}
+use Rattle.unix_path.specs.Prefixes.{Begins}
+use Rattle.unix_path.specs.Scan.{begins_with_parent, is_idle}
+use Rattle.unix_path.specs.Steps.{first_value, piece_rank, AreApart, DiffersAtStart}
+use Rattle.unix_path.proofs.ApartLemmas.{apart-values, ranks_end}
+use Rattle.unix_path.proofs.DifferLemmas.{head_rank-drop, slice_cmp-heads}
+use Rattle.unix_path.proofs.LeadLemmas.{first_value-name, parts-dot_first, parts-parent_first}
+use Rattle.unix_path.proofs.PartLemmas.{parts-name, parts-root}
+use Rattle.unix_path.proofs.PartLemmas.{values-nil}
+use Rattle.unix_path.proofs.PieceLemmas.{first_piece, first_piece-other}
+use Rattle.unix_path.proofs.PrefixLemmas.{begins_tail}
 
--- of two orders one after the other, the first decides if it is not equal
-pub then_differs : (o p : Ordering) → is_ne o ≡ true → o ≡ ordering_then o p
-then_differs Less p e = refl
-then_differs Equal p e = cc
-then_differs Greater p e = refl
-
--- and the second if it is
-pub then_equal : (o p : Ordering) → is_ne o ≡ false → p ≡ ordering_then o p
-then_equal Less p e = cc
-then_equal Equal p e = refl
-then_equal Greater p e = cc
-
--- s and t first differ at i: at their beginning or behind a dot, where the piece doesn't end in both
-pub record DifferSoon (s t : List ℕ) (i : ℕ) : Type 0 where
-  pub some_first : 0 < length s
-  pub some_second : 0 < length t
-  pub is : i ≡ common_prefix_len eqb s t
-  pub near : i ≤ 1
-  pub dot : 0 < i → get_or s 0 0 ≡ 46
-  pub no_ends : piece_rank s i ≡ piece_rank t i → i ≡ 0
-
--- so strings that begin with the same byte share it
-shares_one : (s t : List ℕ) (i : ℕ) → DifferSoon s t i → get_or s 0 0 ≡ get_or t 0 0 → i ≡ 1
-shares_one s t i h same = by_test (eqb i 0)
-    (λ e.
-    let none : i ≡ 0 = eqb-true i 0 e in
-    absurd (false≢true (sym (common_prefix_len-differs s t 0 (sym none ∙ h.is) h.some_first
-    h.some_second) ∙ eq-eqb (get_or s 0 0) (get_or t 0 0) same)))
-    (λ e. omega (arith, h.near, eqb-false i 0 e))
-
--- a byte that is not 0 stands inside
-inside_from : (s : List ℕ) (i : ℕ) → 0 < get_or s i 0 → i < length s
-inside_from s i some = by_test (ltb i (length s))
-    (λ e. ltb-true i (length s) e)
-    (λ e. absurd (omega (arith, some, get_or_past s i 0 (ltb-false i (length s) e))))
-
--- two first values of the same kind are names
-same_kind : (s t : List ℕ) (v w : Value) (i : ℕ) → Told s v → Told t w → DifferSoon s t i
-    → rank v ≡ rank w
-    → (value_cmp v w ≡ nat_cmp (piece_rank s i) (piece_rank t i))
-    × (piece_rank s i ≡ piece_rank t i → ⊥)
-same_kind s t RootDir RootDir i (by_root e) (by_root f) h same =
-    let one = shares_one s t i h (e ∙ sym f) in
-    absurd (omega (arith, e, h.dot (omega (arith, one))))
-same_kind s t CurDir CurDir i (by_cur_dir e n) (by_cur_dir f m) h same =
-    let one = shares_one s t i h (e ∙ sym f) in
-    let ends : piece_rank s 1 ≡ piece_rank t 1 = rw (n, m) refl in
-    absurd (omega (arith, one, h.no_ends (subst (λ k. piece_rank s k ≡ piece_rank t k) (sym one) ends)))
-same_kind s t ParentDir ParentDir i (by_parent_dir e n) (by_parent_dir f m) h same =
-    let one = shares_one s t i h (e ∙ sym f) in
-    absurd (false≢true (sym (common_prefix_len-differs s t 1 (sym one ∙ h.is)
-    (inside_from s 1 (omega (arith, n))) (inside_from t 1 (omega (arith, m))))
-    ∙ eq-eqb (get_or s 1 0) (get_or t 1 0) (n ∙ sym m)))
-same_kind s t (Normal p) (Normal q) i (by_name e n) (by_name f m) h same =
-    let differs : piece_rank s i ≡ piece_rank t i → ⊥ = λ equal.
-    let end : piece_rank s 0 ≡ 0 =
-    ap (piece_rank s) (sym (h.no_ends equal)) ∙ ranks_end s t i h.is equal in
-    let first : get_or s 0 47 ≡ get_or s 0 0 = get_or_default s 0 47 0 h.some_first in
-    let other : eqb (get_or s 0 47) 47 ≡ false =
-    ap (λ b. eqb b 47) first ∙ busy_no_slash s e in
-    let rank : piece_rank s 0 ≡ 1 + get_or s 0 47 = rw other refl in
-    omega (arith, end, rank) in (
-      pieces_differ s t i (omega (arith, h.near, h.some_first))
-          (omega (arith, h.near, h.some_second))
-          (λ k l. common_prefix_len-same s t k (omega (arith, l, h.is)))
-          (λ k l. ap (λ j. eqb (get_or s j 0) 47) {x = k} {y = 0} (omega (arith, l, h.near))
-          ∙ ap (λ b. eqb b 47) (h.dot (omega (arith, l))))
-          differs,
-      differs,
+-- the kind of the first value, told by three bytes
+pub first_rank_of : (s : List ℕ) → first_rank (values s) ≡ cond (eqb (length s) 0) 0
+    (cond (eqb (get_or s 0 0) 47) 1 (cond (is_idle s 0) 2 (cond (begins_with_parent s) 3 4)))
+unfolding values
+first_rank_of [] = ap first_rank values-nil
+first_rank_of (b ∷ s) =
+    grind (
+      arith,
+      parts-root (b ∷ s),
+      parts-dot_first (b ∷ s),
+      parts-parent_first (b ∷ s),
+      parts-name (b ∷ s),
+      first_value-name (b ∷ s),
     )
-same_kind s t v w i x y h same = absurd (omega (arith, same))
 
--- the kinds of the first parts tell the order, and if these are the same the bytes at i
-pub apart-soon : (s t : List ℕ) (i k l : ℕ) → DifferSoon s t i
-    → ((v : Value) (others : List Value) → values s ≡ v ∷ others → rank v ≡ k)
-    → ((v : Value) (others : List Value) → values t ≡ v ∷ others → rank v ≡ l)
-    → AreApart s t (ordering_then (nat_cmp k l) (nat_cmp (piece_rank s i) (piece_rank t i)))
-apart-soon s t i k l h kind_s kind_t =
-    let first = first_value_of s h.some_first in
-    let second = first_value_of t h.some_second in
-    let v = first.value in
-    let w = second.value in
-    let at = nat_cmp (piece_rank s i) (piece_rank t i) in
-    let is_k = kind_s v first.begins.0 first.begins.1 in
-    let is_l = kind_t w second.begins.0 second.begins.1 in
-    by_test (eqb k l)
-    (λ e.
-    let same : rank v ≡ rank w = is_k ∙ eqb-true k l e ∙ sym is_l in
-    let names = same_kind s t v w i first.told second.told h same in
-    subst (AreApart s t)
-    (sym (ap (λ o. ordering_then o at)
-    (ap (λ j. nat_cmp j l) (eqb-true k l e) ∙ tied_itself nat_cmp_total l)))
-    (apart-first s t v w (piece_rank s i) (piece_rank t i) first.begins second.begins names.0
-    names.1))
-    (λ e.
-    let differs = eqb-false k l e in
-    subst (AreApart s t) (sym (nat_cmp-differ k l at differs).0)
-    (apart-first s t v w k l first.begins second.begins
-    ((nat_cmp-differ (rank v) (rank w) _ (λ equal. differs (sym is_k ∙ equal ∙ is_l))).0
-    ∙ ap₂ nat_cmp is_k is_l) differs))
+-- paths whose first values are of different kinds are in the order of these
+pub values_cmp-ranks : (v w : List Value) → is_ne (nat_cmp (first_rank v) (first_rank w)) ≡ true
+    → nat_cmp (first_rank v) (first_rank w) ≡ values_cmp v w
+values_cmp-ranks [] [] differs = absurd (false≢true differs)
+values_cmp-ranks [] (w ∷ ws) differs = grind arith
+values_cmp-ranks (v ∷ vs) [] differs = grind arith
+values_cmp-ranks (v ∷ vs) (w ∷ ws) differs = grind arith
+
+-- values of one kind are in the order of their bytes
+same_kind : (v w : Value) → rank v ≡ rank w
+    → value_cmp v w ≡ slice_cmp nat_cmp (value_bytes v) (value_bytes w)
+same_kind v w same = rw (same, tied_itself nat_cmp_total (rank w)) refl
+
+-- the bytes of the value of a piece are the piece
+value_bytes-piece : (p : List ℕ) → value_bytes (first_value p) ≡ p
+value_bytes-piece p = grind (arith, bytes_eq-Decides p cur_dir, bytes_eq-Decides p parent_dir)
+
+-- a string that begins with no slash has the value of its first piece first
+values-name : (s : List ℕ) → 0 < length s → eqb (get_or s 0 0) 47 ≡ false
+    → (others : List Value) × (values s ≡ first_value (first_piece s) ∷ others)
+unfolding values
+values-name s some other = (_, ap (map (λ (p : Part). p.value)) (parts-name s some other))
+
+-- the first pieces are in the order of the bytes at n, which stand first or behind one byte
+first_piece-cmp : (x y : ℕ) (a b : List ℕ) (n : ℕ) → n ≤ 1 → (0 < n → x ≡ y)
+    → eqb x 47 ≡ false → eqb y 47 ≡ false
+    → (piece_rank (x ∷ a) n ≡ piece_rank (y ∷ b) n → ⊥)
+    → slice_cmp nat_cmp (first_piece (x ∷ a)) (first_piece (y ∷ b))
+    ≡ nat_cmp (piece_rank (x ∷ a) n) (piece_rank (y ∷ b) n)
+first_piece-cmp x y a b zero l same first second differs =
+    grind (arith, first_piece-other x a, first_piece-other y b)
+first_piece-cmp x y a b (suc zero) l same first second differs =
+    grind (
+      arith,
+      first_piece-other x a,
+      first_piece-other y b,
+      head_rank-drop a 0,
+      head_rank-drop b 0,
+      slice_cmp-heads (first_piece a) (first_piece b),
+    )
+first_piece-cmp x y a b (suc (suc n)) l same first second differs = absurd (omega arith)
+
+-- two paths that differ at their start don't both begin with a slash
+no_root : (x y : ℕ) (a b : List ℕ) (n : ℕ) → n ≡ common_prefix_len eqb (x ∷ a) (y ∷ b)
+    → (0 < n → x ≡ 46) → first_rank (values (x ∷ a)) ≡ first_rank (values (y ∷ b))
+    → (eqb x 47 ≡ false) × (eqb y 47 ≡ false)
+no_root x y a b n is dot same =
+    let first : eqb x 47 ≡ false = grind (arith, first_rank_of (x ∷ a), first_rank_of (y ∷ b)) in
+    (first, grind (arith, first_rank_of (x ∷ a), first_rank_of (y ∷ b)))
+
+-- first parts of the same kind are in the order of the bytes at the first difference
+first_parts-same : (a b : List ℕ) (n : ℕ) → n ≡ common_prefix_len eqb a b → DiffersAtStart a b n
+    → first_rank (values a) ≡ first_rank (values b) → 0 < length b
+    → AreApart a b (nat_cmp (piece_rank a n) (piece_rank b n))
+first_parts-same a [] n is start same some = absurd (omega arith)
+first_parts-same [] (y ∷ b) n is start same some =
+    absurd (grind (arith, first_rank_of (y ∷ b), first_rank_of []))
+first_parts-same (x ∷ a) (y ∷ b) n is start same some =
+    let other = no_root x y a b n is start.dot same in
+    let differs : piece_rank (x ∷ a) n ≡ piece_rank (y ∷ b) n → ⊥ =
+    λ e. grind (arith, start.at_ends, ranks_end (x ∷ a) (y ∷ b) n, other) in
+    let equal : 0 < n → x ≡ y = λ m. grind arith in
+    let first = values-name (x ∷ a) (omega arith) other.0 in
+    let second = values-name (y ∷ b) (omega arith) other.1 in
+    let p = first_piece (x ∷ a) in
+    let q = first_piece (y ∷ b) in
+    apart-values [] (first_value p) (first_value q) first.0 second.0 _ _ first.1 second.1
+    (same_kind (first_value p) (first_value q)
+    (omega (arith, same, ap first_rank first.1, ap first_rank second.1))
+    ∙ ap₂ (slice_cmp nat_cmp) (value_bytes-piece p) (value_bytes-piece q)
+    ∙ first_piece-cmp x y a b n start.near equal other.0 other.1 differs) differs
+
+-- so two paths are in that order, also if both are empty
+pub first_parts-cmp : (a b : List ℕ) (n : ℕ) → n ≡ common_prefix_len eqb a b → DiffersAtStart a b n
+    → is_ne (nat_cmp (first_rank (values a)) (first_rank (values b))) ≡ false
+    → nat_cmp (piece_rank a n) (piece_rank b n) ≡ values_cmp (values a) (values b)
+first_parts-cmp [] [] n is start same = sym (ap₂ values_cmp values-nil values-nil)
+first_parts-cmp (x ∷ a) [] n is start same =
+    absurd (grind (arith, first_rank_of (x ∷ a), first_rank_of []))
+first_parts-cmp a (y ∷ b) n is start same =
+    (first_parts-same a (y ∷ b) n is start (grind arith) (omega arith)).order_is
+
+-- the second path doesn't begin the first, if it isn't empty
+pub first_parts-apart : (a b : List ℕ) (n : ℕ) → n ≡ common_prefix_len eqb a b
+    → DiffersAtStart a b n → 0 < length b → Begins (values b) (values a) → ⊥
+first_parts-apart a b n is start some begins =
+    let same = same_first (values b) (values a) (λ e. grind (arith, first_rank_of b)) begins in
+    let apart = first_parts-same a b n is start same some in
+    apart.no_prefix begins
+  where
+    same_first : (v w : List Value) → (first_rank v ≡ 0 → ⊥) → Begins v w
+        → first_rank w ≡ first_rank v
+    same_first [] w some h = absurd (some refl)
+    same_first (x ∷ v) [] some h = let e = h.1 in cc
+    same_first (x ∷ v) (y ∷ w) some h = ap (λ v. 1 + rank v) (sym (begins_tail x y v w h).0)

@@ -16,7 +16,8 @@ use Rattle.unix_path.proofs.PieceLemmas.{position_or_len-other, position_or_len-
 use Rattle.unix_path.proofs.TrimLemmas.{parts-append}
 use Rattle.unix_path.specs.Parts.{RootDir, inner_parts, cur_dir, is_slash, parts}
 use Rattle.unix_path.specs.Parts.{value_of_piece}
-use Rattle.unix_path.specs.Steps.{EndsInPart, IsLastStart, first_value, is_trailing}
+use Rattle.unix_path.specs.Scan.{is_trailing}
+use Rattle.unix_path.specs.Steps.{EndsInPart, IsLastStart, first_value}
 
 -- a string whose last piece stands behind a slash is what is before the slash, the slash and the
 -- piece

@@ -11,7 +11,8 @@ use Rattle.unix_path.proofs.LastLemmas.{last_counts}
 use Rattle.unix_path.proofs.CaseLemmas.{by_test}
 use Rattle.unix_path.specs.Parts.{CurDir, ParentDir, Normal, cur_dir, parent_dir}
 use Rattle.unix_path.specs.Steps.{EndsInPart, IsLastStart}
-use Rattle.unix_path.specs.Steps.{ends_with_parent, first_value}
+use Rattle.unix_path.specs.Scan.{ends_with_parent}
+use Rattle.unix_path.specs.Steps.{first_value}
 
 -- the last piece of a string that ends in a part and isn't `.` is no `.`
 no_dot_piece : (s : List ℕ) (start : ℕ) → IsLastStart s start → start < length s → EndsInPart s

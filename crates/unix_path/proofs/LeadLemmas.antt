@@ -17,7 +17,8 @@ use Rattle.unix_path.specs.Parts.{Value, CurDir, ParentDir, Normal, parent_dir}
 use Rattle.unix_path.specs.Parts.{inner_parts, is_slash, parts, values}
 use Rattle.unix_path.proofs.PlaceLemmas.{values-inner_parts}
 use Rattle.unix_path.specs.Steps.{StepsFirst, TakesFirst}
-use Rattle.unix_path.specs.Steps.{begins_with_parent, first_value, is_idle}
+use Rattle.unix_path.specs.Scan.{begins_with_parent, is_idle}
+use Rattle.unix_path.specs.Steps.{first_value}
 
 -- the first piece of an empty string, or of one that begins with a slash, has no byte
 position_or_len-cut : (s : List ℕ) → get_or s 0 47 ≡ 47 → position_or_len is_slash s ≡ 0

@@ -39,7 +39,6 @@ pub mod NameEndLemmas
 pub mod CommonPrefixLemmas
 pub mod CommonDirLemmas
 pub mod BehindLemmas
-pub mod FirstLemmas
 pub mod DifferLemmas
 pub mod ComparisonLemmas
 pub mod ApartLemmas

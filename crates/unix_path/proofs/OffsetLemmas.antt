@@ -10,7 +10,8 @@ use Rattle.unix_path.specs.Cursor.{cursor_rest, cursor_source}
 use Rattle.unix_path.specs.declared.cursor.walk.Components.{Components}
 use Rattle.unix_path.specs.Parts.{Value, RootDir, CurDir, ParentDir, Normal, parts, values}
 use Rattle.unix_path.specs.Parts.{cur_dir, parent_dir}
-use Rattle.unix_path.specs.Steps.{is_idle, first_value, EndsInPart, parts_end}
+use Rattle.unix_path.specs.Scan.{is_idle}
+use Rattle.unix_path.specs.Steps.{first_value, EndsInPart, parts_end}
 use Rattle.unix_path.specs.Rest.{rest}
 use Rattle.unix_path.specs.Steps.{HasLast, IsWalk, StepsFirst, TakesFirst, TakesLast}
 use Rattle.unix_path.proofs.CaseLemmas.{by_test}

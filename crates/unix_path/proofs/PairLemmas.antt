@@ -1,253 +1,163 @@
 -- Where two paths can be cut, and what that tells of them.
-use Rattle.std.proofs.Common.{◌≡◌, ℕ, ◌-◌, ◌≤◌, ◌<◌, Bool, true, false, ◌||◌, eqb, List, length}
-use Rattle.std.proofs.Common.{get_or, take, take_all, refl, sym, ap, subst, arith, ◌∙◌, ne_eqb, ◌⊎◌}
-use Rattle.std.proofs.Common.{⊎_elim, [], ◌∷◌, ◌++◌, drop, ap₂, eqb-true, length-append}
+use Rattle.std.proofs.Common.{◌≡◌, ℕ, suc, ◌+◌, ◌-◌, ◌≤◌, ◌<◌, ◌⊎◌, true, false, eqb, ltb, List, [], ◌∷◌}
+use Rattle.std.proofs.Common.{◌++◌, length, get_or, take, drop, map, refl, sym, ap, ap₂, arith, ◌∙◌}
+use Rattle.std.proofs.Common.{subst, ⊎_elim, append-nil, eqb-true, length-take-le, ltb-false, ltb-true}
+use Rattle.std.proofs.Common.{inl, inr, nat_cmp, ne_eqb, take-append-drop, take_all}
 use Rattle.std.specs.Borrow.{Bor}
-use Rattle.std.specs.List.{common_prefix_len}
-use Rattle.std.specs.Ordering.{nat_cmp, ordering_then}
-use Rattle.std.proofs.lemmas.List.Sums.{common_prefix_len-le}
+use Rattle.std.proofs.Math.Seq.{drop-cons, drop-length}
 use Rattle.std.proofs.lemmas.Bool.{eqb-false, or_parts}
-use Rattle.std.proofs.lemmas.List.{nil_from_length}
-use Rattle.unix_path.proofs.ApartLemmas.{byte_same, ranks_end}
-use Rattle.unix_path.proofs.BehindLemmas.{more-apart, shares-cut, values-cut}
+use Rattle.std.proofs.lemmas.List.{drop_all, get_or_past, map-append}
+use Rattle.std.proofs.lemmas.List.Sums.{common_prefix_len-le}
+use Rattle.unix_bytes.proofs.CommonLemmas.{common_prefix_len-same}
+use Rattle.unix_path.proofs.ApartLemmas.{ranks_end}
+use Rattle.unix_path.proofs.BehindLemmas.{more-apart}
 use Rattle.unix_path.proofs.CaseLemmas.{by_test}
-use Rattle.unix_path.proofs.CommonDirLemmas.{take-common}
-use Rattle.unix_path.proofs.CommonPrefixLemmas.{values_cmp-common}
-use Rattle.unix_path.proofs.ComparisonLemmas.{some_value}
-use Rattle.unix_path.proofs.FirstLemmas.{first_value_of, rank-first}
-use Rattle.unix_path.proofs.KindLemmas.{apart-soon}
-use Rattle.unix_path.proofs.PartLemmas.{values-nil}
+use Rattle.unix_path.proofs.CommonPrefixLemmas.{parts-past_slash, take-common, take-past_slash}
 use Rattle.unix_path.proofs.DifferLemmas.{rank_end}
-use Rattle.unix_path.specs.Steps.{begins_piece, CanCut, CutFields, IsAlike}
-use Rattle.unix_path.specs.Steps.{AreApart, BehindCut, IsWrittenPrefix, PastFiller, SharesFront, piece_rank}
-use Rattle.unix_path.specs.Pairs.{Compared, kind_rank}
-use Rattle.unix_path.specs.CommonDir.{inner_values}
-use Rattle.unix_path.specs.Order.{rank, values_cmp}
-use Rattle.unix_path.specs.Parts.{Value, values}
+use Rattle.unix_path.proofs.KindLemmas.{first_parts-apart}
+use Rattle.unix_path.proofs.PieceLemmas.{inner_parts-nil, inner_parts-slash}
+use Rattle.unix_path.proofs.PlaceLemmas.{values-inner_parts}
+use Rattle.unix_path.proofs.TrimLemmas.{parts-append, parts-slash}
+use Rattle.unix_path.specs.Pairs.{Compared, Tells, kind_rank}
+use Rattle.unix_path.specs.Parts.{Part, inner_parts, parts, slash, values}
 use Rattle.unix_path.specs.Prefixes.{Begins}
+use Rattle.unix_path.specs.Steps.{begins_piece, piece_rank, IsAlike, SharesFront}
 use Rattle.unix_path.specs.contracts.pair.KindOrd.TheImpl as the_order
 use Rattle.unix_path.specs.declared.pair.Comparison.{Comparison}
 use Rattle.unix_path.specs.declared.pair.Comparison.TheVariants.{Differ, StartsWith, IsPrefix}
+use Rattle.unix_path.specs.declared.pair.Difference.{Difference}
+use Rattle.unix_path.specs.declared.pair.Difference.TheVariants.{InParts, InFirstParts, Behind}
 use Rattle.unix_path.specs.declared.pair.Kind.{Kind}
-use Rattle.unix_path.specs.declared.pair.Kind.TheVariants.{RootDir, CurDir, ParentDir, Name}
-
-pub is_alike : (a b : List ℕ) (n : ℕ) → n ≡ common_prefix_len eqb a b → IsAlike a b n
-unfolding IsAlike
-is_alike a b n h = h
-
-pub alike-is : (a b : List ℕ) (n : ℕ) → IsAlike a b n → n ≡ common_prefix_len eqb a b
-unfolding IsAlike
-alike-is a b n h = h
-
--- what both begin with lies in both
-pub alike-range : (a b : List ℕ) (n : ℕ) → IsAlike a b n → (n ≤ length a) × (n ≤ length b)
-alike-range a b n h =
-    let range = common_prefix_len-le eqb a b in
-    let is = alike-is a b n h in
-    (omega (arith, is, range.0), omega (arith, is, range.1))
-
--- and so does what they begin with up to any place in it
-pub alike-same : (a b : List ℕ) (n : ℕ) → IsAlike a b n → (k : ℕ) → k ≤ n → take k a ≡ take k b
-alike-same a b n h k l = take-common a b k (omega (arith, alike-is a b n h, l))
-
--- a string can be cut where a piece ends
-pub can_cut-before : (s : List ℕ) (n : ℕ) → 0 < n → n ≤ length s → get_or s n 47 ≡ 47 → CanCut s n
-can_cut-before s n some inside end =
-    record { some = some; in_range = inside; here = or_right _ _ (ap (λ b. eqb b 47) end) }
-  where
-    or_right : (p q : Bool) → q ≡ true → (p || q) ≡ true
-    or_right true q e = refl
-    or_right false q e = e
-
--- and where one begins, but at 0
-pub can_cut-behind : (s : List ℕ) (n : ℕ) → 0 < n → n ≤ length s → begins_piece s n ≡ true
-    → CanCut s n
-can_cut-behind s n some inside begins =
-    let no : eqb n 0 ≡ false = ne_eqb n 0 (λ e. omega (arith, some, e)) in
-    let slash : eqb (get_or s (n - 1) 0) 47 ≡ true = rw no at begins in
-    record { some = some; in_range = inside; here = rw slash refl }
-
--- if all bytes of b are among those that both begin with, they begin a
-pub written : (a b : List ℕ) (n : ℕ) → IsAlike a b n → length b ≤ n → (0 < n → CanCut a n)
-    → IsWrittenPrefix a b
-written a b n alike all cut =
-    let range = alike-range a b n alike in
-    let whole : n ≡ length b = omega (arith, range.1, all) in
-    record {
-      inside = omega (arith, range.0, all);
-      same = alike-same a b n alike (length b) all ∙ take_all (length b) b (omega arith);
-      here = λ some. subst (CanCut a) whole (cut (omega (arith, some, all)));
-    }
+use Rattle.unix_path.specs.declared.pair.Kind.TheVariants.{Nothing, RootDir, CurDir, ParentDir, Name}
 
 -- no slash stands before a place at which no piece begins, and that isn't 0
-pub inside_piece : (s : List ℕ) (i : ℕ) → begins_piece s i ≡ false
-    → (0 < i) × (eqb (get_or s (i - 1) 0) 47 ≡ false)
-inside_piece s i e =
-    let parts = or_parts (eqb i 0) (eqb (get_or s (i - 1) 0) 47) e in
-    (omega (arith, eqb-false i 0 parts.0), parts.1)
+pub inside_piece : (s : List ℕ) (i : ℕ) → begins_piece s i ≡ false → 0 < i
+inside_piece s i e = omega (arith, eqb-false i 0 (or_parts (eqb i 0) _ e).0)
 
--- strings that are alike before a place at which a piece begins in one have one there in both
-begins_both : (a b : List ℕ) (n i : ℕ) → IsAlike a b n → i ≤ n → begins_piece a i ≡ true
-    → begins_piece b i ≡ true
-begins_both a b n i alike l begins = by_test (eqb i 0)
+-- a piece of s begins or ends at n, where s can be cut
+abbrev pub CanCut : List ℕ → ℕ → Type 0
+CanCut s n = (begins_piece s n ≡ true) ⊎ (piece_rank s n ≡ 0)
+
+-- the parts of a string cut just after one of its slashes are those of both sides
+parts-behind : (s : List ℕ) (n : ℕ) → 0 < n → n ≤ length s → get_or s (n - 1) 0 ≡ slash
+    → parts s ≡ parts (take n s) ++ inner_parts n (drop n s)
+parts-behind s n some l is =
+    let f = take (n - 1) s in
+    let common = take-past_slash s n some l is in
+    ap parts (sym (take-append-drop n s) ∙ ap (λ t. t ++ drop n s) common)
+    ∙ parts-past_slash f (drop n s)
+    ∙ ap (λ t. parts t ++ inner_parts (length t) (drop n s)) (sym common)
+    ∙ ap (λ k. parts (take n s) ++ inner_parts k (drop n s)) (length-take-le n s l)
+
+-- so are those of a string cut at a slash
+parts-before : (s : List ℕ) (n : ℕ) → 0 < n → n < length s → get_or s n slash ≡ slash
+    → parts s ≡ parts (take n s) ++ inner_parts n (drop n s)
+parts-before s n some l is =
+    let f = take n s in
+    let t = drop (suc n) s in
+    let size = length-take-le n s (omega arith) in
+    let behind : drop n s ≡ slash ∷ t = drop-cons s n slash l ∙ ap (λ b. b ∷ t) is in
+    ap parts (sym (ap (λ u. f ++ u) (sym behind) ∙ take-append-drop n s))
+    ∙ parts-append f t
+    ∙ ap (λ ps. ps ++ inner_parts (0 + length f + 1) t) (parts-slash f (omega (arith, size)))
+    ∙ ap (λ k. parts f ++ inner_parts k t) {x = 0 + length f + 1} {y = n + 1}
+    (omega (arith, size))
+    ∙ ap (λ ps. parts f ++ ps) (sym (ap (inner_parts n) behind ∙ inner_parts-slash n t))
+
+-- where a string can be cut, its parts are those of both sides
+parts-cut : (s : List ℕ) (n : ℕ) → 0 < n → n ≤ length s → CanCut s n
+    → parts s ≡ parts (take n s) ++ inner_parts n (drop n s)
+parts-cut s n some inside = ⊎_elim
+    (λ begins.
+    let no : eqb n 0 ≡ false = ne_eqb n 0 (λ e. omega (arith, some, e)) in
+    parts-behind s n some inside (eqb-true (get_or s (n - 1) 0) 47 (rw no at begins)))
+    (λ ends. by_test (ltb n (length s))
+    (λ e. parts-before s n some (ltb-true n (length s) e) (rank_end s n ends))
+    (λ e.
+    let end : length s ≤ n = ltb-false n (length s) e in
+    sym (ap₂ (λ t u. parts t ++ inner_parts n u) (take_all n s end) (drop_all n s end)
+    ∙ ap (λ ps. parts s ++ ps) (inner_parts-nil n) ∙ append-nil (parts s))))
+
+-- both strings have k bytes, behind which they have what follows the same values
+pub record CutsAt (a b : List ℕ) (k : ℕ) : Type 0 where
+  pub in_first : k ≤ length a
+  pub in_second : k ≤ length b
+  pub shares : 0 < k → SharesFront a b (drop k a) (drop k b)
+
+-- so it is if both can be cut there, and are alike before it
+pub cuts : (a b : List ℕ) (n k : ℕ) → IsAlike a b n → k ≤ n → CanCut a k → CanCut b k
+    → CutsAt a b k
+unfolding values
+cuts a b n k alike l first second =
+    let range = common_prefix_len-le eqb a b in
+    let in_first : k ≤ length a = omega (arith, alike, range.0, l) in
+    let in_second : k ≤ length b = omega (arith, alike, range.1, l) in
+    record {
+      in_first = in_first;
+      in_second = in_second;
+      shares = λ some. record {
+        front = parts (take k a);
+        at = k;
+        is = refl;
+        first = parts-cut a k some in_first first;
+        second = ap (map (λ (p : Part). p.value)) (parts-cut b k some in_second second)
+            ∙ map-append (λ (p : Part). p.value) (parts (take k b)) (inner_parts k (drop k b))
+            ∙ ap₂ (λ t vs. map (λ (p : Part). p.value) (parts t) ++ vs)
+            (sym (take-common a b k (omega (arith, alike, l))))
+            (values-inner_parts k (drop k b));
+      };
+    }
+
+-- at the first difference, if a piece ends in both there
+pub cuts-ends : (a b : List ℕ) (n : ℕ) → IsAlike a b n → piece_rank a n ≡ piece_rank b n
+    → CutsAt a b n
+cuts-ends a b n alike same =
+    let end = ranks_end a b n alike same in
+    cuts a b n n alike (omega arith) (inr end) (inr (sym same ∙ end))
+
+-- or where a piece begins in one of them, and so in both
+pub cuts-begins : (a b : List ℕ) (n k : ℕ) → IsAlike a b n → k ≤ n → begins_piece a k ≡ true
+    → CutsAt a b k
+cuts-begins a b n k alike l begins = cuts a b n k alike l (inl begins) (inl (by_test (eqb k 0)
     (λ e. rw e refl)
     (λ e.
-    let some : 0 < i = omega (arith, eqb-false i 0 e) in
-    let here : eqb (get_or a (i - 1) 0) 47 ≡ true = rw e at begins in
-    rw e (ap (λ b. eqb b 47) (sym (byte_same a b i (alike-same a b n alike i l) (i - 1)
-    (omega (arith, some)))) ∙ here))
+    let some : 0 < k = omega (arith, eqb-false k 0 e) in
+    let here : eqb (get_or a (k - 1) 0) 47 ≡ true = rw e at begins in
+    let same = common_prefix_len-same a b (k - 1) (omega (arith, alike, l, some)) in
+    rw e (ap (λ b. eqb b 47) (sym same) ∙ here))))
 
--- two strings can be cut at their first difference, if a piece begins or ends in both there
-pub cut_here : (a b : List ℕ) (n : ℕ) → IsAlike a b n
-    → (piece_rank a n ≡ piece_rank b n) ⊎ (begins_piece a n ≡ true) → CutFields a b n n
-cut_here a b n alike how =
-    let range = alike-range a b n alike in
-    let cuts : 0 < n → CanCut a n × CanCut b n = ⊎_elim
-    (λ (same : piece_rank a n ≡ piece_rank b n).
-    let end = ranks_end a b n (alike-is a b n alike) same in
-    λ (some : 0 < n). (
-      can_cut-before a n some range.0 (rank_end a n end),
-      can_cut-before b n some range.1 (rank_end b n (sym same ∙ end)),
-    ))
-    (λ (begins : begins_piece a n ≡ true). λ (some : 0 < n). (
-      can_cut-behind a n some range.0 begins,
-      can_cut-behind b n some range.1
-          (begins_both a b n n alike (omega arith) begins),
-    )) how in
-    record {
-      first = λ some. (cuts some).0;
-      second = λ some. (cuts some).1;
-      inside = omega arith;
-      near = omega arith;
-      shared_dot = λ l. absurd (omega (arith, l));
-      at_ends = λ _. refl;
-    }
+-- if all bytes of b begin a, which can be cut there, what follows them is left of it
+pub shares-written : (a b : List ℕ) (n : ℕ) → IsAlike a b n → 0 < length b → length b ≤ n
+    → CanCut a (length b) → SharesFront a b (drop (length b) a) []
+shares-written a b n alike some all first =
+    let ends : CanCut b (length b) = inr (rw (get_or_past b (length b) 47 (omega arith)) refl) in
+    subst (SharesFront a b (drop (length b) a)) (drop-length b)
+    ((cuts a b n (length b) alike all first ends).shares some)
 
--- or before a dot that is shared before it, if a piece begins there
-pub cut_dot : (a b : List ℕ) (n : ℕ) → IsAlike a b n → 0 < n → get_or a (n - 1) 0 ≡ 46
-    → begins_piece a (n - 1) ≡ true → (piece_rank a n ≡ piece_rank b n → ⊥)
-    → CutFields a b n (n - 1)
-cut_dot a b n alike some is_dot begins differs =
-    let range = alike-range a b n alike in
-    record {
-      first = λ more. can_cut-behind a (n - 1) more (omega (arith, range.0)) begins;
-      second = λ more. can_cut-behind b (n - 1) more (omega (arith, range.1))
-          (begins_both a b n (n - 1) alike (omega arith) begins);
-      inside = omega arith;
-      near = omega (arith, some);
-      shared_dot = λ _. is_dot;
-      at_ends = λ same. absurd (differs same);
-    }
-
--- what stands behind a cut of both
-pub behind-cut : (a b : List ℕ) (n place : ℕ) → IsAlike a b n → CutFields a b n place → 0 < place
-    → BehindCut a b (drop place a) (drop place b)
-behind-cut a b n place alike fields some = record {
-  at = place;
-  first = fields.first some;
-  second = fields.second some;
-  same = alike-same a b n alike place fields.inside;
-  first_is = refl;
-  second_is = refl;
-}
-
--- the place of a cut lies in both
-pub cut-range : (a b : List ℕ) (n place : ℕ) → IsAlike a b n → CutFields a b n place
-    → (place ≤ length a) × (place ≤ length b)
-cut-range a b n place alike fields =
-    let range = alike-range a b n alike in
-    (omega (arith, range.0, fields.inside), omega (arith, range.1, fields.inside))
-
--- x and y stand behind a cut of two strings that are left of s and t behind the same values
-pub record Onward (s t x y : List ℕ) : Type 0 where
-  pub u : List ℕ
-  pub v : List ℕ
-  pub shares : SharesFront s t u v
-  pub cut : BehindCut u v x y
-
--- so what follows the filler there is left of s and t
-pub shares-onward : (s t x y : List ℕ) {first second : List ℕ} → Onward s t x y
-    → PastFiller x first → PastFiller y second → SharesFront s t first second
-shares-onward s t x y {first} {second} h past_x past_y =
-    let cut = h.cut in
-    shares-cut h.shares cut.at cut.first cut.second cut.same
-    (subst (λ x. PastFiller x first) cut.first_is past_x)
-    (subst (λ y. PastFiller y second) cut.second_is past_y)
-
--- the order of two strings is that of what stands behind the cut
-pub values_cmp-cut : (s t a b : List ℕ) → BehindCut s t a b
-    → values_cmp (inner_values a) (inner_values b) ≡ values_cmp (values s) (values t)
-values_cmp-cut s t a b h =
-    let v = values (take h.at s) in
-    ap₂ (λ x y. values_cmp (inner_values x) (inner_values y)) h.first_is h.second_is
-    ∙ sym (ap₂ values_cmp (values-cut s h.at h.first)
-    (values-cut t h.at h.second ∙ ap (λ u. values u ++ inner_values (drop h.at t)) (sym h.same))
-    ∙ values_cmp-common v (inner_values (drop h.at s)) (inner_values (drop h.at t)))
-
--- strings whose first parts differ are in the order of these, or of which one has none
-pub first_parts-cmp : (a b : List ℕ) (n k l : ℕ) → IsAlike a b n → CutFields a b n 0
-    → 0 < length a → 0 < length b
-    → ((v : Value) (others : List Value) → values a ≡ v ∷ others → rank v ≡ k)
-    → ((v : Value) (others : List Value) → values b ≡ v ∷ others → rank v ≡ l)
-    → AreApart a b (ordering_then (nat_cmp k l) (nat_cmp (piece_rank a n) (piece_rank b n)))
-first_parts-cmp a b n k l alike fields some_a some_b kind_a kind_b =
-    apart-soon a b n k l
-    (record {
-      some_first = some_a;
-      some_second = some_b;
-      is = alike-is a b n alike;
-      near = omega (arith, fields.near);
-      dot = fields.shared_dot;
-      no_ends = λ same. sym (fields.at_ends same);
-    }) kind_a kind_b
-
--- so the second doesn't begin the first, if it isn't empty
-pub first_parts-apart : (a b : List ℕ) (n : ℕ) → IsAlike a b n → CutFields a b n 0
-    → 0 < length b → Begins (values b) (values a) → ⊥
-first_parts-apart a b n alike fields some begins = by_test (eqb (length a) 0)
-    (λ e.
-    let none : values a ≡ [] =
-    ap values (nil_from_length a (eqb-true (length a) 0 e)) ∙ values-nil in
-    let value = some_value b some in
-    absurd (omega (
-      arith,
-      ap length value.is,
-      ap length none,
-      ap length begins.1,
-      length-append (values b) begins.0,
-    )))
-    (λ e.
-    let some_a : 0 < length a = omega (arith, eqb-false (length a) 0 e) in
-    let x = first_value_of a some_a in
-    let y = first_value_of b some in
-    (first_parts-cmp a b n (rank x.value) (rank y.value) alike fields some_a some
-    (λ v others e. rank-first a x.value v others x.begins e)
-    (λ v others e. rank-first b y.value v others y.begins e)).no_prefix begins)
+-- where the first difference gives no cut, the second doesn't begin the first
+pub apart-unless : (a : Bor (List ℕ)) (b : List ℕ) (n : ℕ) (said : Difference) → IsAlike a.now b n
+    → Tells a b n said → ((x y : Bor (List ℕ)) → said ≡ Behind x y → ⊥) → 0 < length b
+    → Begins (values b) (values a.now) → ⊥
+apart-unless a b n (InParts order) alike h other some = h.no_prefix
+apart-unless a b n InFirstParts alike h other some =
+    first_parts-apart a.now b n alike h some
+apart-unless a b n (Behind x y) alike h other some = absurd (other x y refl)
 
 -- a comparison tells whether the second begins the first
-pub no_prefix-unless : (s t : List ℕ) (said : Comparison) → Compared s t said
+pub no_prefix-unless : (s t : List ℕ) (a : Bor (List ℕ)) (b : List ℕ) (said : Comparison)
+    → Compared a b said → SharesFront s t a.now b
     → ((left : Bor (List ℕ)) → said ≡ StartsWith left → ⊥)
     → Begins (values t) (values s) → ⊥
-no_prefix-unless s t (Differ order) h other = h.no_prefix
-no_prefix-unless s t (StartsWith left) h other = absurd (other left refl)
-no_prefix-unless s t IsPrefix h other = (more-apart h).no_prefix
+no_prefix-unless s t a b (Differ order) h cut other = (h s t cut).no_prefix
+no_prefix-unless s t a b (StartsWith left) h cut other = absurd (other left refl)
+no_prefix-unless s t a b IsPrefix h cut other = (more-apart (h s t cut)).no_prefix
 
 -- kinds are in the order of their places
 pub kinds-cmp : (x y : Kind)
     → the_order.ghosts.cmp x y ≡ nat_cmp (kind_rank x) (kind_rank y)
+kinds-cmp Nothing Nothing = refl
 kinds-cmp RootDir RootDir = refl
-kinds-cmp RootDir CurDir = refl
-kinds-cmp RootDir ParentDir = refl
-kinds-cmp RootDir Name = refl
-kinds-cmp CurDir RootDir = refl
 kinds-cmp CurDir CurDir = refl
-kinds-cmp CurDir ParentDir = refl
-kinds-cmp CurDir Name = refl
-kinds-cmp ParentDir RootDir = refl
-kinds-cmp ParentDir CurDir = refl
 kinds-cmp ParentDir ParentDir = refl
-kinds-cmp ParentDir Name = refl
-kinds-cmp Name RootDir = refl
-kinds-cmp Name CurDir = refl
-kinds-cmp Name ParentDir = refl
 kinds-cmp Name Name = refl
+kinds-cmp x y = refl

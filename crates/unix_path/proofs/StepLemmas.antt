@@ -13,7 +13,8 @@ use Rattle.unix_path.proofs.TrimLemmas.{EndsInPart-drop, EndsInPart-take}
 use Rattle.unix_path.specs.Parts.{Part, RootDir, Value, inner_parts, parts, values}
 use Rattle.unix_path.specs.Rest.{rest, span_of}
 use Rattle.unix_path.specs.Steps.{EndsInPart, IsLastStart, TakesFirst, TakesLast, first_value}
-use Rattle.unix_path.specs.Steps.{is_idle, is_trailing, parts_end}
+use Rattle.unix_path.specs.Scan.{is_idle, is_trailing}
+use Rattle.unix_path.specs.Steps.{parts_end}
 
 -- after the first part the others are left
 rest-first : (s : List ℕ) (p : Part) (ps : List Part) → parts s ≡ p ∷ ps

@@ -5,7 +5,7 @@ use Rattle.std.proofs.Common.{lt-ltb}
 use Rattle.std.specs.Simd.Lanes.{chunk, mask_l, top}
 use Rattle.std.proofs.lemmas.Simd.{length-chunk, get_or-chunk}
 use Rattle.unix_path.specs.Parts.{parts}
-use Rattle.unix_path.specs.Steps.{is_trailing}
+use Rattle.unix_path.specs.Scan.{is_trailing}
 use Rattle.unix_path.proofs.DotLaneLemmas.{stop_lanes, none_stops}
 use Rattle.unix_path.proofs.TrimLemmas.{parts_trailing}
 

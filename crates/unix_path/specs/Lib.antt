@@ -10,6 +10,7 @@ pub mod Buffers
 pub mod Kept
 pub mod Json
 pub mod Order
+pub mod Scan
 pub mod Steps
 pub mod Views
 pub mod Cursor

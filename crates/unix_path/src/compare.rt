@@ -7,27 +7,26 @@ ghost use Rattle.unix_path.specs.Order.{values_cmp};
 use crate::endings::shared_last_len;
 use crate::pair::{Comparison, Difference, Pair, left_len};
 use std::cmp::Ordering;
+use unix_bytes::search::common_len;
 
 // The order of two paths by their values.
 pub(crate) fn compare(a: &[u8], b: &[u8]) -> Ordering
     ensures { result ≡ values_cmp (values a.now) (values b.now) }
 {
-    let pair = Pair::new(a, b);
+    let pair = Pair {
+        first: a,
+        second: b,
+        common: common_len(a, b),
+    };
     if pair.common == a.len() && pair.common == b.len() {
         return Ordering::Equal;
     }
-    let place = match pair.first_difference() {
-        Difference::InParts(order) => return order,
-        Difference::Behind(0) => return pair.first_parts_order(),
-        Difference::Behind(place) => place,
-    };
-    let (first, second) = (&a[place..], &b[place..]);
-    if second.is_empty() {
-        left_len(first).cmp(&0)
-    } else if first.is_empty() {
-        0.cmp(&left_len(second))
-    } else {
-        Comparison::order_behind_cut(first, second)
+    match pair.first_difference() {
+        Difference::InParts(order) => order,
+        Difference::InFirstParts => pair.first_parts_order(),
+        Difference::Behind(first, second) if first.is_empty() => 0.cmp(&left_len(second)),
+        Difference::Behind(first, second) if second.is_empty() => left_len(first).cmp(&0),
+        Difference::Behind(first, second) => Comparison::order_behind_cut(first, second),
     }
 }
 

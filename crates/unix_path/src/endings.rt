@@ -1,19 +1,16 @@
-//! Whether two paths end in the same part, told by their last bytes.
-ghost use Rattle.std.specs.Prelude.{◌≡◌, ◌-◌, ◌<◌, ◌≤◌, ◌==◌, ℕ, false, length, slice_index};
-ghost use Rattle.std.specs.Prelude.{IsTrue, None, IfSome};
-ghost use Rattle.unix_path.specs.Parts.{slash, values};
+//! Whether one path's parts end another's, for which their last bytes mostly suffice.
+ghost use Rattle.std.specs.Prelude.{◌≡◌, ◌↔◌, ◌≤◌, ◌-◌, ℕ, IsTrue, None, IfSome, length, take};
+ghost use Rattle.unix_path.specs.Parts.{values};
 ghost use Rattle.unix_path.specs.Prefixes.{Ends};
-ghost use Rattle.unix_path.specs.Steps.{rank_before, EndsInPart, SharesEnd};
+ghost use Rattle.unix_path.specs.Steps.{EndsInPiece, SameEnd, SharesEnd};
 
+use crate::cursor::Components;
 use crate::pair::begins_piece;
 
-// Whether the last byte is that of a part, and no slash. It is a byte of the last piece then.
+// Whether the last byte is that of a part, and no slash. The last piece is a part then.
 #[inline]
 fn ends_in_part(bytes: &[u8]) -> bool
-    ensures some { IsTrue result → 0 < length bytes.now }
-    ensures no_slash { IsTrue result
-        → (slice_index bytes.now (length bytes.now - 1) == slash) ≡ false }
-    ensures part { IsTrue result → EndsInPart bytes.now }
+    ensures { IsTrue result → EndsInPiece bytes.now }
 {
     let len = bytes.len();
     if len == 0 || bytes[len - 1] == b'/' {
@@ -22,17 +19,12 @@ fn ends_in_part(bytes: &[u8]) -> bool
     bytes[len - 1] != b'.' || len == 1 || bytes[len - 2] != b'/'
 }
 
-// The length of the common end of both, cut behind its last slash.
+// The length of the longest common end of both that has no slash.
 #[inline]
+#[tactic(auto, using(crate::proofs::EndingLemmas::longer_ends))]
 fn common_end_len(a: &[u8], b: &[u8]) -> usize
-    ensures in_first { result ≤ length a.now }
-    ensures in_second { result ≤ length b.now }
-    ensures same { (k : ℕ) → k < result → slice_index a.now (length a.now - 1 - k)
-        ≡ slice_index b.now (length b.now - 1 - k) }
-    ensures no_slash { (k : ℕ) → k < result
-        → (slice_index a.now (length a.now - 1 - k) == slash) ≡ false }
-    ensures stops { rank_before a.now result ≡ rank_before b.now result
-        → rank_before a.now result ≡ 0 }
+    ensures end { SameEnd a.now b.now result }
+    ensures longest { (len : ℕ) → SameEnd a.now b.now len → len ≤ result }
 {
     let most = a.len().min(b.len());
     let mut len = 0;
@@ -48,9 +40,13 @@ fn common_end_len(a: &[u8], b: &[u8]) -> usize
 // How many bytes the last part has, if both paths end in the same: no more than these are looked
 // at. 0 if one of the paths doesn't end in a part, or `None` if the last parts differ.
 #[inline]
+#[tactic(auto, using(crate::proofs::EndingLemmas::last_parts))]
 pub(crate) fn shared_last_len(a: &[u8], b: &[u8]) -> Option<usize>
     ensures apart { result ≡ None → Ends (values b.now) (values a.now) → ⊥ }
-    ensures shared { IfSome result (λ len. SharesEnd a.now b.now len) }
+    ensures in_first { IfSome result (λ len. len ≤ length a.now) }
+    ensures in_second { IfSome result (λ len. len ≤ length b.now) }
+    ensures shared { IfSome result (λ len. SharesEnd (values a.now) (values b.now)
+        (values (take (length a.now - len) a.now)) (values (take (length b.now - len) b.now))) }
 {
     if !ends_in_part(a) || !ends_in_part(b) {
         return Some(0);
@@ -61,4 +57,23 @@ pub(crate) fn shared_last_len(a: &[u8], b: &[u8]) -> Option<usize>
     } else {
         None
     }
+}
+
+// Whether the parts of `child` end those of `path`, compared part by part. Out of line, so that an
+// answer from the last bytes needs no room for two walks.
+#[inline(never)]
+pub(crate) fn ends_with_parts(path: &[u8], child: &[u8]) -> bool
+    ensures { IsTrue result ↔ Ends (values child.now) (values path.now) }
+{
+    let mut left = Components::new(path);
+    let mut child_left = Components::new(child);
+    while let Some(part) = child_left.next_back() {
+        let Some(own) = left.next_back() else {
+            return false;
+        };
+        if !own.has_same_value(part) {
+            return false;
+        }
+    }
+    true
 }

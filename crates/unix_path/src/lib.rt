@@ -12,6 +12,7 @@ mod names;
 mod order;
 mod pair;
 pub mod path;
+pub mod scan;
 
 pub use buf::{ExtensionError, PathBuf};
 pub use cursor::{Ancestors, Component, Components, Iter};

@@ -1,14 +1,18 @@
 //! Two paths side by side: what each is to the other, told by where their bytes first differ.
-ghost use Rattle.std.specs.Prelude.{◌≡◌, ◌≢◌, ◌+◌, ◌<◌, ◌≤◌, false, [], length, IsTrue};
+ghost use Rattle.std.specs.Prelude.{◌≡◌, ◌≢◌, ◌↔◌, ◌+◌, ◌<◌, ◌≤◌, ℕ, false, List, [], length};
+ghost use Rattle.std.specs.Prelude.{IsTrue, IsSome, IfSome};
 ghost use Rattle.std.specs.Ordering.{nat_cmp};
 ghost use Rattle.unix_path.specs.CommonDir.{inner_values};
 ghost use Rattle.unix_path.specs.Order.{values_cmp};
 ghost use Rattle.unix_path.specs.Parts.{dot, values};
 ghost use Rattle.unix_path.specs.Places.{IsTail};
-ghost use Rattle.unix_path.specs.Steps.{begins_piece, is_idle, piece_rank, PastFiller};
-ghost use Rattle.unix_path.specs.Steps.{IsAlike, IsAlike-prop};
+ghost use Rattle.unix_path.specs.Prefixes.{Begins};
+ghost use Rattle.unix_path.specs.Scan.{is_idle};
+ghost use Rattle.unix_path.specs.Steps.{begins_piece, piece_rank, DiffersAtStart, IsAlike};
+ghost use Rattle.unix_path.specs.Steps.{IsAlike-prop, PastFiller, SharesFront};
 
 use crate::cursor::long_idle_len;
+use crate::scan::{begins_with_parent, is_idle};
 use std::cmp::Ordering;
 use unix_bytes::search::{common_len, near_common_len};
 
@@ -25,12 +29,13 @@ pub(crate) enum Comparison<'a> {
 
 // What the first bytes that differ in two paths tell.
 #[derive(Clone, Copy)]
-pub(crate) enum Difference {
+pub(crate) enum Difference<'a, 'b> {
     // They are in two parts that differ, and tell the order of these.
     InParts(Ordering),
-    // Both paths can be cut at this place, up to which they are written alike; or it is 0, and
-    // their first parts differ.
-    Behind(usize),
+    // The first parts differ, or one path has none. The bytes tell it only if both are names.
+    InFirstParts,
+    // Both paths can be cut before them. This is what each has behind the cut.
+    Behind(&'a [u8], &'b [u8]),
 }
 
 // Two paths, and how many bytes both begin with.
@@ -39,12 +44,13 @@ pub(crate) struct Pair<'a, 'b> {
     pub(crate) first: &'a [u8],
     pub(crate) second: &'b [u8],
     pub(crate) common: usize,
-    ghost alike: { IsAlike first.now second.now common } by { IsAlike-prop _ _ _ },
+    ghost alike: { IsAlike first.now second.now common } by { IsAlike-prop first.now second.now common },
 }
 
-// The kinds of parts, in their order.
+// What a path begins with, in the order of paths.
 #[derive(Clone, Copy, PartialEq, Eq, PartialOrd, Ord)]
 enum Kind {
+    Nothing,
     RootDir,
     CurDir,
     ParentDir,
@@ -54,7 +60,6 @@ enum Kind {
 // What follows the filler at the beginning of a string that stands behind a cut.
 #[inline]
 pub(crate) fn past_filler(bytes: &[u8]) -> &[u8]
-    ensures values { values result.now ≡ inner_values bytes.now }
     ensures lead { is_idle result.now 0 ≡ false }
     ensures behind { PastFiller bytes.now result.now }
     ensures tail { IsTail result bytes.entry }
@@ -84,7 +89,6 @@ fn piece_rank(bytes: &[u8], at: usize) -> u16
     }
 }
 
-// The rank of a dot.
 const DOT_RANK: u16 = 1 + b'.' as u16;
 
 // Whether the rank is that of a byte that is neither a slash nor a dot. A piece with such a byte is
@@ -107,31 +111,21 @@ pub(crate) fn begins_piece(bytes: &[u8], at: usize) -> bool
 }
 
 impl Kind {
-    ghost use Rattle.std.specs.Prelude.{◌∷◌, List};
-    ghost use Rattle.unix_path.specs.Order.{rank};
-    ghost use Rattle.unix_path.specs.Parts.{Value, values};
-    ghost use Rattle.unix_path.specs.Pairs.{kind_rank};
+    ghost use Rattle.unix_path.specs.Pairs.{first_rank, kind_rank};
 
-    // The kind of a path's first part: three bytes tell it.
+    // What a path begins with: three bytes tell it.
     #[inline]
+    #[tactic(auto, using(crate::proofs::KindLemmas::first_rank_of))]
     fn of_first(path: &[u8]) -> Kind
-        requires { 0 < length path.now }
-        ensures { (first : Value) → (others : List Value) → values path.now ≡ first ∷ others
-            → rank first ≡ kind_rank result }
+        ensures { kind_rank result ≡ first_rank (values path.now) }
     {
-        if path[0] == b'/' {
-            return Kind::RootDir;
-        }
-        if path[0] != b'.' {
-            return Kind::Name;
-        }
-        if piece_rank(path, 1) == 0 {
-            return Kind::CurDir;
-        }
-        if piece_rank(path, 1) != DOT_RANK {
-            return Kind::Name;
-        }
-        if piece_rank(path, 2) == 0 {
+        if path.is_empty() {
+            Kind::Nothing
+        } else if path[0] == b'/' {
+            Kind::RootDir
+        } else if is_idle(path, 0) {
+            Kind::CurDir
+        } else if begins_with_parent(path) {
             Kind::ParentDir
         } else {
             Kind::Name
@@ -151,65 +145,61 @@ impl Kind {
 // since each cut leaves fewer bytes.
 impl<'a, 'b> Pair<'a, 'b> {
     ghost use Rattle.unix_path.specs.Pairs.{Tells};
-    ghost use Rattle.unix_path.specs.Steps.{CutFields, IsWrittenPrefix};
-
-    #[inline]
-    pub(crate) fn new(first: &'a [u8], second: &'b [u8]) -> Pair<'a, 'b>
-        ensures first { result.first ≡ first.entry }
-        ensures second { result.second ≡ second.entry }
-    {
-        Pair {
-            first,
-            second,
-            common: common_len(first, second),
-        }
-    }
-
-    // Whether all bytes of the second path begin the first, which can be cut behind them.
-    #[inline]
-    pub(crate) fn has_written_prefix(self) -> bool
-        ensures written { IsTrue result
-            → IsWrittenPrefix self.entry.first.now self.entry.second.now }
-        ensures empty { length self.entry.second.now ≡ 0 → IsTrue result }
-    {
-        if self.common < self.second.len() {
-            return false;
-        }
-        if piece_rank(self.first, self.common) == 0 {
-            return true;
-        }
-        begins_piece(self.first, self.common)
-    }
 
     // What the first difference tells.
     #[inline(always)]
-    pub(crate) fn first_difference(self) -> Difference
-        ensures { Tells self.entry result }
+    pub(crate) fn first_difference(self) -> Difference<'a, 'b>
+        ensures { Tells self.entry.first self.entry.second.now self.entry.common result }
     {
         let (first, common) = (self.first, self.common);
         let (x, y) = (piece_rank(first, common), piece_rank(self.second, common));
         if is_in_name(x) && is_in_name(y) {
             return Difference::InParts(x.cmp(&y));
         }
-        if x == y || begins_piece(first, common) {
-            return Difference::Behind(common);
+        let place = if x == y || begins_piece(first, common) {
+            common
+        } else if first[common - 1] == b'.' && begins_piece(first, common - 1) {
+            common - 1
+        } else {
+            return Difference::InParts(x.cmp(&y));
+        };
+        if place == 0 {
+            return Difference::InFirstParts;
         }
-        if first[common - 1] == b'.' && begins_piece(first, common - 1) {
-            return Difference::Behind(common - 1);
-        }
-        Difference::InParts(x.cmp(&y))
+        Difference::Behind(&first[place..], &self.second[place..])
     }
 
-    // The order of the paths, whose first parts differ or of which one has none.
+    // What the first path has behind the second, which isn't empty, if it starts with that. Filler
+    // may stand in front of it.
+    #[inline(always)]
+    pub(crate) fn left(first: &'a [u8], second: &'b [u8]) -> Option<&'a [u8]>
+        requires { 0 < length second.now }
+        ensures begins { IsSome result ↔ Begins (values second.now) (values first.now) }
+        ensures left { IfSome result (λ left. SharesFront first.now second.now left.now []) }
+        ensures tail { IfSome result (λ left. IsTail left first.entry) }
+    {
+        let (common, len) = (common_len(first, second), second.len());
+        if len <= common && (piece_rank(first, len) == 0 || begins_piece(first, len)) {
+            return Some(&first[len..]);
+        }
+        let pair = Pair {
+            first,
+            second,
+            common,
+        };
+        match pair.first_difference() {
+            Difference::Behind(first, second) => Comparison::left_behind_cut(first, second),
+            _ => None,
+        }
+    }
+
+    // The order of the paths, whose first parts differ, or of which one is empty.
     #[inline]
     pub(crate) fn first_parts_order(self) -> Ordering
-        requires { CutFields self.first.now self.second.now self.common 0 }
+        requires { DiffersAtStart self.first.now self.second.now self.common }
         ensures { result ≡ values_cmp (values self.entry.first.now)
             (values self.entry.second.now) }
     {
-        if self.first.is_empty() || self.second.is_empty() {
-            return self.first.len().cmp(&self.second.len());
-        }
         let by_kind = Kind::of_first(self.first).cmp(&Kind::of_first(self.second));
         if by_kind.is_ne() {
             return by_kind;
@@ -219,16 +209,12 @@ impl<'a, 'b> Pair<'a, 'b> {
 }
 
 impl<'a> Comparison<'a> {
-    ghost use Rattle.std.specs.Prelude.{◌↔◌, List, ℕ, IsSome, IfSome};
-    ghost use Rattle.unix_path.specs.Pairs.{Compared, IsLeft, LeavesTail};
-    ghost use Rattle.unix_path.specs.Prefixes.{Begins};
-    ghost use Rattle.unix_path.specs.Steps.{BehindCut};
+    ghost use Rattle.unix_path.specs.Pairs.{Compared, IsLeft};
 
     // What two paths are to each other of which `a` and `b` stand behind a cut.
     #[inline(always)]
     fn behind_cut(a: &'a [u8], b: &[u8]) -> Comparison<'a>
-        ensures paths { (s t : List ℕ) → BehindCut s t a.now b.now → Compared s t result }
-        ensures tail { LeavesTail a.entry result }
+        ensures { Compared a.entry b.now result }
     {
         let mut rests = (a, b);
         loop {
@@ -236,23 +222,17 @@ impl<'a> Comparison<'a> {
             if second.is_empty() {
                 return Comparison::StartsWith(first);
             }
+            let common = near_common_len(first, second);
             let pair = Pair {
                 first,
                 second,
-                common: near_common_len(first, second),
+                common,
             };
             match pair.first_difference() {
                 Difference::InParts(order) => return Comparison::Differ(order),
-                Difference::Behind(place) => {
-                    if place == 0 {
-                        return if first.is_empty() {
-                            Comparison::IsPrefix
-                        } else {
-                            Comparison::Differ(pair.first_parts_order())
-                        };
-                    }
-                    rests = (&first[place..], &second[place..]);
-                }
+                Difference::InFirstParts if first.is_empty() => return Comparison::IsPrefix,
+                Difference::InFirstParts => return Comparison::Differ(pair.first_parts_order()),
+                Difference::Behind(first, second) => rests = (first, second),
             }
         }
     }
@@ -260,7 +240,7 @@ impl<'a> Comparison<'a> {
     // The order of two paths of which `a` and `b` stand behind a cut.
     #[inline(never)]
     pub(crate) fn order_behind_cut(a: &[u8], b: &[u8]) -> Ordering
-        ensures { (s t : List ℕ) → BehindCut s t a.now b.now
+        ensures { (s t : List ℕ) → SharesFront s t a.now b.now
             → result ≡ values_cmp (values s) (values t) }
     {
         match Comparison::behind_cut(a, b) {
@@ -273,8 +253,8 @@ impl<'a> Comparison<'a> {
     // What is left of the first of two paths behind the second, if it starts with that; `a` and `b`
     // stand behind a cut.
     #[inline(never)]
-    pub(crate) fn left_behind_cut(a: &'a [u8], b: &[u8]) -> Option<&'a [u8]>
-        ensures some { (s t : List ℕ) → BehindCut s t a.now b.now
+    fn left_behind_cut(a: &'a [u8], b: &[u8]) -> Option<&'a [u8]>
+        ensures begins { (s t : List ℕ) → SharesFront s t a.now b.now
             → IsSome result ↔ Begins (values t) (values s) }
         ensures left { IfSome result (λ left. IsLeft a.entry b.now left) }
     {

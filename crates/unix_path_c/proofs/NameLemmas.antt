@@ -8,7 +8,8 @@ use Rattle.std.proofs.lemmas.Slice.Eq.{bytes_eq-Decides}
 use Rattle.unix_path.specs.Parts.{Value, cur_dir, parts}
 use Rattle.unix_path.specs.Rest.{rest}
 use Rattle.unix_path.specs.Steps.{EndsInPart, IsLastStart}
-use Rattle.unix_path.specs.Steps.{TakesLast, ends_with_parent, is_trailing}
+use Rattle.unix_path.specs.Scan.{ends_with_parent, is_trailing}
+use Rattle.unix_path.specs.Steps.{TakesLast}
 use Rattle.unix_path.proofs.CaseLemmas.{by_test}
 use Rattle.unix_path.proofs.LastPieceLemmas.{last_name}
 use Rattle.unix_path.proofs.SpanLemmas.{rest-trimmed}

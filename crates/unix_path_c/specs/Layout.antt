@@ -1,6 +1,6 @@
 -- What an answer in a buffer is made of. No public clause cites this word.
 use Rattle.std.specs.Prelude.{ℕ, List, ◌++◌}
-use Rattle.unix_path.specs.Steps.{gap_bytes}
+use Rattle.unix_path.specs.Scan.{gap_bytes}
 use Rattle.unix_path_c.specs.declared.joins.Layout.{Layout}
 
 -- the beginning, the byte behind it if there is one, and the end

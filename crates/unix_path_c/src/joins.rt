@@ -4,12 +4,13 @@ ghost use Rattle.unix_path.specs.Edits.{before_name_of, dot_before, stem_end_of}
 ghost use Rattle.unix_path.specs.Edits.{with_extension_of, with_name_of};
 ghost use Rattle.unix_path.specs.Extensions.{has_slash};
 ghost use Rattle.unix_path.specs.Joins.{is_open, join_of};
-ghost use Rattle.unix_path.specs.Steps.{gap_bytes};
+ghost use Rattle.unix_path.specs.Scan.{gap_bytes};
 ghost use Rattle.unix_path_c.specs.Layout.{layout_bytes};
 ghost use Rattle.path_runs.specs.Buffer.{buffer_after};
 
 use crate::places::last_end;
 use crate::writing::{gap_len, place, place_gap};
+use unix_path::scan::{dot_before, is_open};
 use unix_path::{Component, Path};
 
 /// What `unix_path_with_extension` answers if the extension has a slash. No buffer has as many
@@ -51,14 +52,6 @@ impl Layout<'_> {
         place(out, total - self.end.len(), self.end);
         total
     }
-}
-
-// Whether there is no byte, or the last is a slash.
-#[inline]
-fn is_open(path: &[u8]) -> bool
-    ensures { result ≡ is_open path.now }
-{
-    path.is_empty() || path[path.len() - 1] == b'/'
 }
 
 // What a join is made of.
@@ -117,17 +110,6 @@ fn stem_end(path: Path<'_>) -> Option<usize>
         return None;
     };
     Some(last_end(path) - name.bytes.len() + stem.bytes.len())
-}
-
-// The dot before an extension, unless that is empty.
-#[inline]
-fn dot_before(extension: &[u8]) -> Option<u8>
-    ensures { gap_bytes result ≡ dot_before extension.now }
-{
-    if extension.is_empty() {
-        return None;
-    }
-    Some(b'.')
 }
 
 // What a path with another extension is made of.

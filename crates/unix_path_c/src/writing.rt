@@ -1,6 +1,6 @@
 //! Writes stretches of bytes into a buffer, one behind the other.
 ghost use Rattle.std.specs.Prelude.{◌≡◌, ◌≤◌, ◌<◌, ◌+◌, ◌^◌, length};
-ghost use Rattle.unix_path.specs.Steps.{gap_bytes};
+ghost use Rattle.unix_path.specs.Scan.{gap_bytes};
 ghost use Rattle.path_runs.specs.Buffer.{buffer_after};
 ghost use Rattle.path_runs.specs.Overlay.{overlay};
 

@@ -19,5 +19,6 @@ mod readme;
 mod recording_hasher;
 mod refusing_writer;
 mod rests;
+mod scan;
 mod texts;
 mod views;

@@ -8,20 +8,13 @@ ghost use Rattle.unix_path.specs.Edits.{popped_of, with_name_of};
 ghost use Rattle.unix_path.specs.Joins.{is_open, join_of};
 ghost use Rattle.unix_path.specs.Parents.{parent_of};
 ghost use Rattle.unix_path.specs.Parts.{is_rooted};
-ghost use Rattle.unix_path.specs.Steps.{gap_bytes};
+ghost use Rattle.unix_path.specs.Scan.{gap_bytes};
 
 use crate::buf::PathBuf;
 use crate::path::Path;
+use crate::scan::is_open;
 use std::alloc::{AllocError, Global};
 use unix_bytes::bytes::{UnixStr, UnixString};
-
-// Whether there is no byte, or the last is a slash.
-#[inline]
-fn is_open(path: &[u8]) -> bool
-    ensures { result ≡ is_open path.now }
-{
-    path.is_empty() || path[path.len() - 1] == b'/'
-}
 
 // The byte that a join puts between its base and a path without a root, if any.
 #[inline]

@@ -7,11 +7,12 @@ ghost use Rattle.unix_path.specs.Edits.{dot_before, with_extension_of};
 ghost use Rattle.unix_path.specs.Extensions.{has_slash, added_extension_of};
 ghost use Rattle.unix_path.specs.Names.{file_name_of};
 ghost use Rattle.unix_path.specs.Parts.{values};
-ghost use Rattle.unix_path.specs.Steps.{gap_bytes};
+ghost use Rattle.unix_path.specs.Scan.{gap_bytes};
 
 use crate::buf::PathBuf;
 use crate::buf::edits::{copy_of, total_len};
 use crate::path::Path;
+use crate::scan::dot_before;
 use std::alloc::{AllocError, Global};
 use std::error::Error;
 use std::fmt;
@@ -71,17 +72,6 @@ fn has_slash(extension: &[u8]) -> bool
     ensures { result ≡ has_slash extension.now }
 {
     extension.contains(&b'/')
-}
-
-// The dot before an extension, or `None` before an empty one.
-#[inline]
-fn dot_before(extension: &[u8]) -> Option<u8>
-    ensures { gap_bytes result ≡ dot_before extension.now }
-{
-    if extension.is_empty() {
-        return None;
-    }
-    Some(b'.')
 }
 
 impl PathBuf {

@@ -3,24 +3,17 @@ ghost use Rattle.std.specs.Prelude.{◌≡◌, ℕ, ◌+◌, ◌-◌, ◌<◌, �
 ghost use Rattle.std.specs.Prelude.{◌∷◌, take, drop};
 ghost use Rattle.std.specs.Str.{bytes_eq};
 ghost use Rattle.unix_path.specs.Parts.{cur_dir, parts, inner_parts};
-ghost use Rattle.unix_path.specs.Steps.{begins_with_parent, ends_with_parent, is_idle};
-ghost use Rattle.unix_path.specs.Steps.{is_trailing, EndsInPart};
+ghost use Rattle.unix_path.specs.Scan.{begins_with_parent, ends_with_parent, is_idle};
+ghost use Rattle.unix_path.specs.Scan.{is_trailing};
+ghost use Rattle.unix_path.specs.Steps.{EndsInPart};
 ghost use Rattle.unix_path.specs.Steps.{StepsFirst, TakesLast};
 ghost use Rattle.unix_path.specs.Views.{value_of};
 
 use crate::cursor::Component;
+use crate::scan::{begins_with_parent, ends_with_parent, idle_len, is_idle, is_trailing};
 use std::simd::prelude::*;
 use unix_bytes::bytes::UnixStr;
 use unix_bytes::search::{first_place, past_last};
-
-// Whether the byte at `i` is a slash, or a `.` that a slash or the end follows.
-#[inline]
-fn is_idle(path: &[u8], i: usize) -> bool
-    requires { i < length path.now }
-    ensures { result ≡ is_idle path.now i }
-{
-    path[i] == b'/' || (path[i] == b'.' && (i + 1 == path.len() || path[i + 1] == b'/'))
-}
 
 // True only if each of the 16 bytes from `at` on is a slash, or a `.` before a slash.
 #[inline]
@@ -50,22 +43,6 @@ fn idle_blocks_len(path: &[u8], start: usize) -> usize
     let mut len = start;
     while path.len() - len > 16 && is_idle_block(path, len) {
         len += 16;
-    }
-    len
-}
-
-// The length of the filler at the beginning. Its bytes are looked at one by one, since it is
-// usually short.
-#[inline]
-pub(crate) fn idle_len(path: &[u8]) -> usize
-    ensures in_range { result ≤ length path.now }
-    ensures idle { (at : ℕ) →
-        inner_parts at path.now ≡ inner_parts (at + result) (drop result path.now) }
-    ensures busy { result < length path.now → is_idle path.now result ≡ false }
-{
-    let mut len = 0;
-    while len < path.len() && is_idle(path, len) {
-        len += 1;
     }
     len
 }
@@ -165,15 +142,6 @@ fn lead_step(path: &[u8]) -> (usize, Component<'_>)
     (1 + idle_len(&path[1..]), lead(path))
 }
 
-// Whether the first piece is `..`.
-#[inline]
-fn begins_with_parent(path: &[u8]) -> bool
-    requires { 0 < length path.now }
-    ensures { result ≡ begins_with_parent path.now }
-{
-    path[0] == b'.' && path.len() > 1 && path[1] == b'.' && (path.len() == 2 || path[2] == b'/')
-}
-
 // The `..` that a path begins with, and how many bytes it and the filler behind it take.
 #[inline(always)]
 fn parent_step(path: &[u8]) -> (usize, Component<'_>)
@@ -212,15 +180,6 @@ pub(crate) fn first_step(path: &[u8], has_lead: bool) -> (usize, Component<'_>)
     } else {
         name_step(path)
     }
-}
-
-// Whether the byte at `i`, which is not 0, is a slash, or a `.` after a slash.
-#[inline]
-fn is_trailing(path: &[u8], i: usize) -> bool
-    requires { i < length path.now }
-    ensures { result ≡ is_trailing path.now i }
-{
-    0 < i && (path[i] == b'/' || (path[i] == b'.' && path[i - 1] == b'/'))
 }
 
 // True only if each of the 16 bytes from `at` on is a slash, or a `.` after a slash. `at` is not 0.
@@ -270,16 +229,6 @@ pub(crate) fn trimmed_len(path: &[u8], len: usize) -> usize
         }
     }
     end
-}
-
-// Whether the last piece is `..`.
-#[inline]
-fn ends_with_parent(path: &[u8]) -> bool
-    requires { 0 < length path.now }
-    ensures { result ≡ ends_with_parent path.now }
-{
-    let len = path.len();
-    path[len - 1] == b'.' && len > 1 && path[len - 2] == b'.' && (len == 2 || path[len - 3] == b'/')
 }
 
 // The root or the name that a path ends with, and how many bytes are left without it and the filler

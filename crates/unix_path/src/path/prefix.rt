@@ -6,9 +6,9 @@ ghost use Rattle.unix_path.specs.Parts.{values};
 ghost use Rattle.unix_path.specs.Rest.{rest};
 ghost use Rattle.unix_path.specs.Places.{BeginsAt, LiesIn};
 
-use crate::cursor::{Components, trimmed_len};
-use crate::endings::shared_last_len;
-use crate::pair::{Comparison, Difference, Pair, past_filler};
+use crate::cursor::trimmed_len;
+use crate::endings::{ends_with_parts, shared_last_len};
+use crate::pair::{Pair, past_filler};
 use crate::path::Path;
 use std::error::Error;
 use std::fmt;
@@ -56,26 +56,14 @@ impl<'a> Path<'a> {
             → BeginsAt left.bytes self.now.bytes (length (rest self.now.bytes.now 0 0))) }
     {
         // The filler behind the last part goes first, so that what is left ends where that does.
-        let end = trimmed_len(self.bytes, self.bytes.len());
-        let pair = Pair::new(&self.bytes[..end], base.bytes);
-        if pair.has_written_prefix() {
-            let len = base.bytes.len();
-            return Ok(Path {
-                bytes: if len == 0 {
-                    pair.first
-                } else {
-                    past_filler(&pair.first[len..])
-                },
-            });
+        let path = &self.bytes[..trimmed_len(self.bytes, self.bytes.len())];
+        if base.bytes.is_empty() {
+            return Ok(Path { bytes: path });
         }
-        let Difference::Behind(place) = pair.first_difference() else {
-            return Err(StripPrefixError(()));
-        };
-        if place == 0 {
-            return Err(StripPrefixError(()));
-        }
-        match Comparison::left_behind_cut(&pair.first[place..], &base.bytes[place..]) {
-            Some(bytes) => Ok(Path { bytes }),
+        match Pair::left(path, base.bytes) {
+            Some(left) => Ok(Path {
+                bytes: past_filler(left),
+            }),
             None => Err(StripPrefixError(())),
         }
     }
@@ -90,20 +78,7 @@ impl<'a> Path<'a> {
         ensures { IsTrue result
             ↔ Begins (values base.entry.bytes.now) (values self.now.bytes.now) }
     {
-        let pair = Pair::new(self.bytes, base.bytes);
-        if pair.has_written_prefix() {
-            return true;
-        }
-        match pair.first_difference() {
-            Difference::InParts(_) => false,
-            Difference::Behind(place) => {
-                place > 0
-                    && Comparison::left_behind_cut(
-                        &self.bytes[place..],
-                        &base.bytes[place..],
-                    ).is_some()
-            }
-        }
+        base.bytes.is_empty() || Pair::left(self.bytes, base.bytes).is_some()
     }
 
     /// Whether `child`'s parts end this path's. Does not allocate. As Rust's `Path::ends_with`;
@@ -112,24 +87,17 @@ impl<'a> Path<'a> {
     /// `a/b` ends with `b`, and with neither `./b` nor `/b`.
     #[must_use]
     #[inline]
+    #[tactic(auto, using(crate::proofs::SuffixLemmas::shared_ends))]
     pub fn ends_with(&self, child: Path<'_>) -> bool
         ensures { IsTrue result
             ↔ Ends (values child.entry.bytes.now) (values self.now.bytes.now) }
     {
-        let Some(shared) = shared_last_len(self.bytes, child.bytes) else {
-            return false;
-        };
-        // The last part that both end in is known to be the same.
-        let mut left = Components::new(&self.bytes[..self.bytes.len() - shared]);
-        let mut child_parts = Components::new(&child.bytes[..child.bytes.len() - shared]);
-        while let Some(part) = child_parts.next_back() {
-            let Some(own) = left.next_back() else {
-                return false;
-            };
-            if !own.has_same_value(part) {
-                return false;
-            }
+        match shared_last_len(self.bytes, child.bytes) {
+            Some(shared) => ends_with_parts(
+                &self.bytes[..self.bytes.len() - shared],
+                &child.bytes[..child.bytes.len() - shared],
+            ),
+            None => false,
         }
-        true
     }
 }

@@ -4,6 +4,9 @@ use super::{debug_has, display_has, hash_same, is_view};
 use std::cmp::Ordering;
 use std::test::Fail;
 use unix_path::bytes::UnixStr;
+use unix_path::scan::{
+    begins_with_parent, dot_before, ends_with_parent, idle_len, is_idle, is_open, is_trailing,
+};
 use unix_path::{Component, Display, Path, StripPrefixError, is_separator};
 
 fn is_made() -> bool {
@@ -79,6 +82,16 @@ fn has_parts() -> bool {
         && hash_same(&part, &Component::Normal(UnixStr::new("a")))
 }
 
+fn is_scanned() -> bool {
+    is_idle(b"/a", 0)
+        && is_trailing(b"a/", 1)
+        && idle_len(b"/./a") == 3
+        && begins_with_parent(b"../a")
+        && ends_with_parent(b"a/..")
+        && is_open(b"a/")
+        && dot_before(b"rs") == Some(b'.')
+}
+
 #[test]
 fn views_need_no_memory(rt: HostRuntime) -> Result<(), Fail> {
     let Err(error) = path("a").strip_prefix(path("b")) else {
@@ -95,5 +108,6 @@ fn views_need_no_memory(rt: HostRuntime) -> Result<(), Fail> {
     assert!(rt; is_walked());
     assert!(rt; is_listed());
     assert!(rt; has_parts());
+    assert!(rt; is_scanned());
     Ok(())
 }

@@ -1,5 +1,5 @@
 use Rattle.std.proofs.Common.{◌≡◌, ◌+◌, ◌-◌, true, sym, ap, ◌∙◌, arith}
-use Rattle.unix_path.specs.Steps.{is_idle}
+use Rattle.unix_path.specs.Scan.{is_idle}
 use Rattle.path_runs.proofs.KeptLemmas.{slashed_parts-idle}
 use Rattle.path_runs.proofs.gaps.past_gap.Goals as goal
 

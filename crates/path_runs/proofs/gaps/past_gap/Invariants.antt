@@ -1,5 +1,5 @@
 use Rattle.std.proofs.Common.{◌≡◌, ◌-◌, ◌<◌, ◌≤◌, true, length, drop}
-use Rattle.unix_path.specs.Steps.{is_idle}
+use Rattle.unix_path.specs.Scan.{is_idle}
 use Rattle.path_runs.specs.Gaps.{slashed_parts}
 use Rattle.path_runs.proofs.gaps.past_gap.Given as goal
 

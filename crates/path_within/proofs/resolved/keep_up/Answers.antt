@@ -2,7 +2,7 @@ use Rattle.std.proofs.Common.{◌≡◌, true, false, sym, ap, ◌∙◌}
 use Rattle.std.proofs.lemmas.Result.{on_ok_weaker}
 use Rattle.unix_path.specs.Buffers.{path_bytes}
 use Rattle.unix_path.specs.Parts.{is_rooted}
-use Rattle.unix_path.specs.Steps.{ends_with_parent}
+use Rattle.unix_path.specs.Scan.{ends_with_parent}
 use Rattle.path_within.proofs.PopLemmas.{spells_pop, spells_root, spells_up, spells_up_up}
 use Rattle.path_within.proofs.PopLemmas.{stays_popped}
 use Rattle.path_within.proofs.resolved.keep_up.Goals as goal

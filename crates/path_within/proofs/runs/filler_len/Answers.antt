@@ -1,11 +1,9 @@
-use Rattle.std.proofs.Common.{sym, arith, ◌∙◌}
-use Rattle.path_within.proofs.RunLemmas.{inner_values-idle}
+use Rattle.std.proofs.Common.{◌+◌, drop, map, ap, ◌∙◌}
+use Rattle.unix_path.proofs.PlaceLemmas.{values-inner_parts}
 use Rattle.path_within.proofs.runs.filler_len.Goals as goal
 
-pub loop-len-preserved : goal.loop-len-preserved
-loop-len-preserved c = record {
-  in_range = omega arith;
-  same = c.loop-len.invariant.same
-      ∙ inner_values-idle c.args.bytes.now c.loop-len.len c.loop-len-test.true
-      (sym c.is_idle.ensures ∙ c.if-is_idle.true);
-}
+pub returns-clause-same : goal.returns-clause-same
+returns-clause-same c =
+    let n = c.idle_len.result in
+    ap (map (λ p. p.value)) (c.idle_len.ensures.idle 0)
+    ∙ values-inner_parts (0 + n) (drop n c.args.bytes.now)

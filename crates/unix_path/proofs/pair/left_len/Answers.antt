@@ -1,5 +1,6 @@
-use Rattle.std.proofs.Common.{[], refl, ap₂, arith, ◌∙◌}
+use Rattle.std.proofs.Common.{[], refl, sym, ap₂, arith, ◌∙◌}
 use Rattle.unix_path.specs.Order.{values_cmp}
+use Rattle.unix_path.proofs.BehindLemmas.{values-past}
 use Rattle.unix_path.proofs.ComparisonLemmas.{values_cmp-end}
 use Rattle.unix_path.proofs.PartLemmas.{values-nil}
 use Rattle.unix_path.proofs.pair.left_len.Goals as goal
@@ -8,10 +9,10 @@ pub returns-clause-behind : goal.returns-clause-behind
 returns-clause-behind c =
     let left = c.past_filler.result.now in
     values_cmp-end left [] (λ _. refl)
-    ∙ ap₂ values_cmp c.past_filler.ensures.values values-nil
+    ∙ ap₂ values_cmp (sym (values-past c.args.bytes.now left c.past_filler.ensures.behind)) values-nil
 
 pub returns-clause-before : goal.returns-clause-before
 returns-clause-before c =
     let left = c.past_filler.result.now in
     values_cmp-end [] left (λ some. absurd (omega (arith, some)))
-    ∙ ap₂ values_cmp values-nil c.past_filler.ensures.values
+    ∙ ap₂ values_cmp values-nil (sym (values-past c.args.bytes.now left c.past_filler.ensures.behind))

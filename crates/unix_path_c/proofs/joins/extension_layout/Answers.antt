@@ -1,5 +1,5 @@
 use Rattle.std.proofs.Common.{[], ◌++◌, sym, ◌∙◌, append-nil}
-use Rattle.unix_path.specs.Steps.{gap_bytes}
+use Rattle.unix_path.specs.Scan.{gap_bytes}
 use Rattle.unix_path.proofs.EditLemmas.{with_extension_of-none, with_extension_of-some}
 use Rattle.unix_path_c.proofs.joins.extension_layout.Goals as goal
 

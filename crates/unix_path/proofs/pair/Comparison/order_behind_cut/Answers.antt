@@ -1,12 +1,17 @@
-use Rattle.std.proofs.Common.{[], refl, ◌∙◌}
-use Rattle.unix_path.proofs.BehindLemmas.{more-apart, values_cmp-shared}
+use Rattle.std.proofs.Common.{[], refl, sym, ap₂, ◌∙◌}
+use Rattle.unix_path.specs.Order.{values_cmp}
+use Rattle.unix_path.proofs.BehindLemmas.{more-apart, values-busy, values_cmp-shared}
 use Rattle.unix_path.proofs.ComparisonLemmas.{values_cmp-end}
+use Rattle.unix_path.proofs.CommonPrefixLemmas.{inner_values-nil}
+use Rattle.unix_path.proofs.PartLemmas.{values-nil}
 use Rattle.unix_path.proofs.pair.Comparison.order_behind_cut.Goals as goal
 
 pub returns-in-StartsWith : goal.returns-in-StartsWith
-returns-in-StartsWith c = λ s t cut.
-    c.cmp.ensures ∙ values_cmp-end c.in-StartsWith.left.now [] (λ _. refl)
-    ∙ values_cmp-shared (c.in-StartsWith.ensures.paths s t cut)
+returns-in-StartsWith c = λ s t h.
+    let left = c.in-StartsWith.left.now in
+    c.cmp.ensures ∙ values_cmp-end left [] (λ _. refl)
+    ∙ ap₂ values_cmp (values-busy left c.in-StartsWith.ensures.1) (values-nil ∙ sym inner_values-nil)
+    ∙ values_cmp-shared (c.in-StartsWith.ensures.0.shares s t h)
 
 pub returns-in-IsPrefix : goal.returns-in-IsPrefix
-returns-in-IsPrefix c = λ s t cut. (more-apart (c.in-IsPrefix.ensures.paths s t cut)).order_is
+returns-in-IsPrefix c = λ s t h. (more-apart (c.in-IsPrefix.ensures s t h)).order_is

@@ -1,10 +1,17 @@
-use Rattle.std.proofs.Common.{◌≡◌, ◌⊎◌, true, ◌-◌, sym, ap₂, subst, ◌∙◌, arith, inl, inr}
+use Rattle.std.proofs.Common.{◌≡◌, ◌-◌, ◌<◌, false, length, get_or, take, drop, refl}
+use Rattle.std.proofs.Common.{sym, ap, ap₂, subst, ◌∙◌, arith, eq-eqb, eqb, length-drop, rules}
 use Rattle.std.specs.Ordering.{nat_cmp}
-use Rattle.unix_path.specs.Steps.{begins_piece, piece_rank, AreApart}
+use Rattle.std.proofs.lemmas.Bool.{false≢true}
+use Rattle.std.proofs.lemmas.List.{take_rest}
+use Rattle.std.proofs.lemmas.List.Sums.{common_prefix_len-le}
+use Rattle.unix_path.specs.Steps.{begins_piece, piece_rank, AreApart, SharesFront}
 use Rattle.unix_path.proofs.ApartLemmas.{apart-here, apart-inside}
-use Rattle.unix_path.proofs.PairLemmas.{alike-is, alike-range, cut_dot, cut_here, inside_piece}
-use Rattle.unix_path.proofs.pair.Pair.first_difference.Goals.{then-x-y-via-then-x-y}
-use Rattle.unix_path.proofs.pair.Pair.first_difference.Goals.{then-x-y-via-else-x-y+then-begins_piece}
+use Rattle.unix_path.proofs.PairLemmas.{CutsAt, cuts-begins, cuts-ends, inside_piece}
+use Rattle.unix_path.proofs.SourceLemmas.{IsTail-from}
+use Rattle.unix_path.proofs.pair.Pair.first_difference.Goals.{Joined-begins_piece, Joined-x-y}
+use Rattle.unix_path.proofs.pair.Pair.first_difference.Goals.{then-x-y, else-x-y}
+use Rattle.unix_path.proofs.pair.Pair.first_difference.Goals.{then-begins_piece}
+use Rattle.unix_path.proofs.pair.Pair.first_difference.Goals.{else-begins_piece+then-first-common-eq46+then-begins_piece-2}
 use Rattle.unix_path.proofs.pair.Pair.first_difference.Goals.{else-first-common-eq46-via-then-first-common-eq46+else-begins_piece-2}
 use Rattle.unix_path.proofs.pair.Pair.first_difference.Goals.{else-first-common-eq46-via-else-first-common-eq46}
 use Rattle.unix_path.proofs.pair.Pair.first_difference.Goals as goal
@@ -21,69 +28,98 @@ returns-then-is_in_name-2 c =
     let is_x = c.if-is_in_name.true in
     let is_y = c.if-is_in_name-2.true in
     subst (AreApart a b) (sym (c.cmp.ensures ∙ ap₂ nat_cmp x y))
-    (apart-here a b pair.common (alike-is a b pair.common pair.alike)
+    (apart-here a b pair.common pair.alike
     (λ e. first.no_end is_x (x ∙ e)) (λ e. first.no_dot is_x (x ∙ e))
     (λ e. second.no_end is_y (y ∙ e)) (λ e. second.no_dot is_y (y ∙ e)))
 
 pub begins_piece-requires : goal.begins_piece-requires
 begins_piece-requires c =
     let pair = c.args.self in
-    (alike-range pair.first.now pair.second.now pair.common pair.alike).0
+    omega (arith, pair.alike, (common_prefix_len-le eqb pair.first.now pair.second.now).0)
 
-pub returns-then-x-y : goal.returns-then-x-y
-returns-then-x-y c =
-    let pair = c.args.self in
-    let a = pair.first.now in
-    let b = pair.second.now in
-    let how : (piece_rank a pair.common ≡ piece_rank b pair.common)
-    ⊎ (begins_piece a pair.common ≡ true) = elim c.then-x-y.branch [
-      | then-x-y-via-then-x-y w ↦
-          inl (sym c.piece_rank-x.ensures ∙ w.if-x-y.true ∙ c.piece_rank-y.ensures)
-      | then-x-y-via-else-x-y+then-begins_piece w ↦
-          inr (sym w.begins_piece.ensures ∙ w.if-begins_piece.true)
-    ] in
-    cut_here a b pair.common pair.alike how
+-- no piece begins or ends in both at their first difference
+told : (c : Joined-x-y) → c.if-x-y.value ≡ false
+    → (begins_piece c.args.self.first.now c.args.self.common ≡ false)
+    × (piece_rank c.args.self.first.now c.args.self.common
+    ≡ piece_rank c.args.self.second.now c.args.self.common → ⊥)
+told c e = elim c.if-x-y.branch [
+  | then-x-y w ↦ absurd (false≢true (sym e ∙ w.value-is ∙ eq-eqb _ _ w.if-x-y.true))
+  | else-x-y w ↦ (
+    sym w.begins_piece.ensures ∙ sym w.value-is ∙ e,
+    λ same. w.if-x-y.false (c.piece_rank-x.ensures ∙ same ∙ sym c.piece_rank-y.ensures),
+  )
+]
 
 pub bounds-first-common : goal.bounds-first-common
 bounds-first-common c =
     let pair = c.args.self in
-    let range = alike-range pair.first.now pair.second.now pair.common pair.alike in
-    let inside = inside_piece pair.first.now pair.common
-    (sym c.begins_piece.ensures ∙ c.if-begins_piece.false) in
-    omega (arith, range.0, inside.0)
+    let range = common_prefix_len-le eqb pair.first.now pair.second.now in
+    let no = told (goal.at.bounds-first-common c).Joined-x-y c.if-begins_piece.false in
+    omega (arith, pair.alike, range.0, inside_piece pair.first.now pair.common no.0)
 
-pub returns-then-begins_piece-2 : goal.returns-then-begins_piece-2
-returns-then-begins_piece-2 c =
+pub returns-else-first-common-eq46 : goal.returns-else-first-common-eq46
+returns-else-first-common-eq46 c =
+    let pair = c.args.self in
+    let a = pair.first.now in
+    let n = pair.common in
+    let at = goal.at.returns-else-first-common-eq46 c in
+    let no = told at.Joined-x-y c.if-begins_piece.false in
+    let dots : get_or a (n - 1) 0 ≡ 46 → begins_piece a (n - 1) ≡ false =
+    λ e. elim c.else-first-common-eq46.branch [
+      | else-first-common-eq46-via-then-first-common-eq46+else-begins_piece-2 w ↦
+          sym w.begins_piece-then-first-common-eq46.ensures ∙ w.if-begins_piece-2.false
+      | else-first-common-eq46-via-else-first-common-eq46 w ↦
+          absurd (w.if-first-common-eq46.false e)
+    ] in
+    subst (AreApart a pair.second.now) (sym (c.cmp-else-first-common-eq46.ensures
+    ∙ ap₂ nat_cmp c.piece_rank-x.ensures c.piece_rank-y.ensures))
+    (apart-inside a pair.second.now n pair.alike no.0 dots no.1)
+
+-- the paths can be cut at `place`
+cut : (c : Joined-begins_piece) → CutsAt c.args.self.first.now c.args.self.second.now
+    c.if-begins_piece.place
+cut c =
     let pair = c.args.self in
     let a = pair.first.now in
     let b = pair.second.now in
     let n = pair.common in
-    let inside = inside_piece a n (sym c.begins_piece.ensures ∙ c.if-begins_piece.false) in
-    cut_dot a b n pair.alike inside.0 c.if-first-common-eq46.true
-    (sym c.begins_piece-then-first-common-eq46.ensures ∙ c.if-begins_piece-2.true)
-    (λ same. c.if-x-y.false (c.piece_rank-x.ensures ∙ same ∙ sym c.piece_rank-y.ensures))
+    elim c.if-begins_piece.branch [
+      | then-begins_piece w ↦ subst (CutsAt a b) (sym w.place-is) (elim c.if-x-y.branch [
+        | then-x-y v ↦ cuts-ends a b n pair.alike
+            (sym c.piece_rank-x.ensures ∙ v.if-x-y.true ∙ c.piece_rank-y.ensures)
+        | else-x-y v ↦ cuts-begins a b n n pair.alike (omega arith)
+            (sym v.begins_piece.ensures ∙ sym v.value-is ∙ w.if-begins_piece.true)
+      ])
+      | else-begins_piece+then-first-common-eq46+then-begins_piece-2 w ↦
+          subst (CutsAt a b) (sym w.place-is)
+          (cuts-begins a b n (n - 1) pair.alike (omega arith)
+          (sym w.begins_piece-then-first-common-eq46.ensures ∙ w.if-begins_piece-2.true))
+    ]
+
+pub slice_bounds-result-count : goal.slice_bounds-result-count
+slice_bounds-result-count c =
+    (cut (goal.at.slice_bounds-result-count c).Joined-begins_piece).in_first
+
+pub slice_bounds-result-start : goal.slice_bounds-result-start
+slice_bounds-result-start c = slice_bounds-result-count c
+
+pub slice_bounds-result-count-2 : goal.slice_bounds-result-count-2
+slice_bounds-result-count-2 c =
+    (cut (goal.at.slice_bounds-result-count-2 c).Joined-begins_piece).in_second
+
+pub slice_bounds-result-start-2 : goal.slice_bounds-result-start-2
+slice_bounds-result-start-2 c = slice_bounds-result-count-2 c
 
 pub returns : goal.returns
 returns c =
-    let pair = c.args.self in
-    let a = pair.first.now in
-    let b = pair.second.now in
-    let n = pair.common in
-    let x = c.piece_rank-x.ensures in
-    let y = c.piece_rank-y.ensures in
-    let is = alike-is a b n pair.alike in
-    let inside = inside_piece a n (sym c.begins_piece.ensures ∙ c.if-begins_piece.false) in
-    let differs : piece_rank a n ≡ piece_rank b n → ⊥ = λ same. c.if-x-y.false (x ∙ same ∙ sym y) in
-    subst (AreApart a b) (sym (c.cmp-2.ensures ∙ ap₂ nat_cmp x y))
-    (elim c.else-first-common-eq46.branch [
-      | else-first-common-eq46-via-then-first-common-eq46+else-begins_piece-2 w ↦
-          let before = inside_piece a (n - 1)
-          (sym w.begins_piece-then-first-common-eq46.ensures ∙ w.if-begins_piece-2.false) in
-          apart-inside a b n (n - 1) is (omega arith) (omega arith) before.0 before.1
-          (λ _. w.if-first-common-eq46.true)
-          (λ e. absurd (omega (arith, e, inside.0))) differs
-      | else-first-common-eq46-via-else-first-common-eq46 w ↦
-          apart-inside a b n n is (omega arith) (omega arith) inside.0 inside.1
-          (λ l. absurd (omega (arith, l)))
-          (λ _. w.if-first-common-eq46.false) differs
-    ])
+    let a = c.args.self.first.now in
+    let b = c.args.self.second.now in
+    let k = c.if-begins_piece.place in
+    let here = cut (goal.at.returns c).Joined-begins_piece in
+    let some : 0 < k = omega (arith, c.if-place-eq0.false) in
+    record {
+      shares = subst (λ x. SharesFront a b x (take (length b - k) (drop k b))) (sym (take_rest a k))
+          (subst (SharesFront a b (drop k a)) (sym (take_rest b k)) (here.shares some));
+      shorter = omega (arith, some, here.in_first, ap length (take_rest a k), length-drop k a);
+      tail = IsTail-from _ c.args.self.first k here.in_first refl refl (search rules);
+    }

@@ -3,7 +3,7 @@ use Rattle.std.proofs.Common.{◌≡◌, ◌+◌, ◌&&◌, ltb, ap, ◌∙◌, 
 use Rattle.std.proofs.lemmas.List.{nil_from_length}
 use Rattle.unix_path.specs.Steps.{IsWalk}
 use Rattle.unix_path.specs.Cursor.{cursor_rest, cursor_source}
-use Rattle.unix_path.specs.Steps.{is_idle}
+use Rattle.unix_path.specs.Scan.{is_idle}
 use Rattle.unix_path.proofs.CursorLemmas.{GivesLast-none}
 use Rattle.unix_path.proofs.OffsetLemmas.{walks_back}
 use Rattle.unix_path.proofs.SourceLemmas.{LiesIn-itself}

@@ -1,6 +1,6 @@
 use Rattle.std.proofs.Common.{◌≡◌, ℕ, ◌+◌, ◌-◌, ◌≤◌, length, drop}
 use Rattle.unix_path.specs.Parts.{inner_parts}
-use Rattle.unix_path_c.proofs.firsts.idle_len.Given as goal
+use Rattle.unix_path.proofs.scan.idle_len.Given as goal
 
 abbrev pub invariant-loop-len : goal.invariant-loop-len
 invariant-loop-len l = record {

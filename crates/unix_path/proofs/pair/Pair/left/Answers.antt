@@ -1,0 +1,37 @@
+use Rattle.std.proofs.Common.{[], length, refl, sym, subst, ◌∙◌, inl, inr}
+use Rattle.std.proofs.lemmas.Bool.{false≢true}
+use Rattle.std.proofs.lemmas.List.{take_rest}
+use Rattle.unix_path.specs.Steps.{SharesFront}
+use Rattle.unix_path.proofs.BehindLemmas.{begins-left}
+use Rattle.unix_path.proofs.PairLemmas.{CanCut, apart-unless, shares-written}
+use Rattle.unix_path.proofs.pair.Pair.left.Goals.{then-piece_rank-eq0, else-piece_rank-eq0}
+use Rattle.unix_path.proofs.pair.Pair.left.Goals as goal
+
+pub returns-then-begins_piece-clause-left : goal.returns-then-begins_piece-clause-left
+returns-then-begins_piece-clause-left c =
+    let a = c.args.first.now in
+    let b = c.args.second.now in
+    let cut : CanCut a (length b) = elim c.if-piece_rank-eq0.branch [
+      | then-piece_rank-eq0 w ↦ inr (sym c.piece_rank.ensures ∙ w.if-piece_rank-eq0.true)
+      | else-piece_rank-eq0 w ↦
+          inl (sym w.begins_piece.ensures ∙ sym w.value-is ∙ c.if-begins_piece.true)
+    ] in
+    subst (λ x. SharesFront a b x []) (sym (take_rest a (length b)))
+    (shares-written a b c.common_len-common.result c.common_len-common.ensures.value c.requires
+    c.if-len-common.true cut)
+
+pub returns-then-begins_piece-clause-begins : goal.returns-then-begins_piece-clause-begins
+returns-then-begins_piece-clause-begins c =
+    (λ _. begins-left (returns-then-begins_piece-clause-left c), λ _. refl)
+
+pub returns-in_default : goal.returns-in_default
+returns-in_default c = record {
+  begins = (
+    λ no. absurd (false≢true no),
+    λ begins. absurd (apart-unless c.args.first c.args.second.now c.common_len-common.result
+        c.first_difference.result c.common_len-common.ensures.value c.first_difference.ensures
+        c.in_default.not-Behind c.requires begins),
+  );
+  left = tt;
+  tail = tt;
+}

@@ -1,0 +1,33 @@
+-- Which bytes of a path are filler, and where a piece `..` stands.
+use Rattle.std.specs.Prelude.{ℕ, ◌+◌, ◌-◌, nat_lt, ◌==◌, Bool, ◌||◌, ◌&&◌, List, [], ◌∷◌, length}
+use Rattle.std.specs.Prelude.{slice_index, slice_index_or, Option, Some, None}
+use Rattle.unix_path.specs.Parts.{slash, dot}
+
+-- the byte at i is a slash, or a `.` that a slash or the end follows
+abbrev pub is_idle : List ℕ → ℕ → Bool
+is_idle s i =
+    slice_index s i == slash
+    || (slice_index s i == dot && slice_index_or s (i + 1) slash == slash)
+
+-- the first piece is `..`
+abbrev pub begins_with_parent : List ℕ → Bool
+begins_with_parent s =
+    slice_index s 0 == dot && (slice_index s 1 == dot && slice_index_or s 2 slash == slash)
+
+-- the last piece is `..`
+abbrev pub ends_with_parent : List ℕ → Bool
+ends_with_parent s =
+    slice_index s (length s - 1) == dot
+    && (nat_lt 1 (length s) && (slice_index s (length s - 2) == dot
+    && (length s == 2 || slice_index s (length s - 3) == slash)))
+
+-- i is not 0, and the byte at i is a slash, or a `.` after a slash
+abbrev pub is_trailing : List ℕ → ℕ → Bool
+is_trailing s i =
+    nat_lt 0 i
+    && (slice_index s i == slash || (slice_index s i == dot && slice_index s (i - 1) == slash))
+
+-- the byte between what is kept and what is added, if there is one
+abbrev pub gap_bytes : Option ℕ → List ℕ
+gap_bytes None = []
+gap_bytes (Some b) = b ∷ []

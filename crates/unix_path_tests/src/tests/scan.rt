@@ -1,0 +1,66 @@
+//! Rows of what single bytes of a path are.
+use unix_path::scan::{
+    begins_with_parent, dot_before, ends_with_parent, idle_len, is_idle, is_open, is_trailing,
+};
+
+// Bytes, `x` for each that is filler or a lead from in front, the same from behind, and how many
+// bytes of filler stand in front if a slash stands before them.
+type Filler = (&'static [u8], &'static [u8], &'static [u8], usize);
+
+static FILLER: [Filler; 14] = [
+    (b"", b"", b"", 0),
+    (b"/", b"x", b" ", 1),
+    (b".", b"x", b" ", 1),
+    (b"a", b" ", b" ", 0),
+    (b"//", b"xx", b" x", 2),
+    (b"./", b"xx", b" x", 2),
+    (b"/.", b"xx", b" x", 2),
+    (b"..", b" x", b"  ", 0),
+    (b".a", b"  ", b"  ", 0),
+    (b"a.", b" x", b"  ", 0),
+    (b"a/./b", b" xxx ", b" xxx ", 0),
+    (b"/./a/.", b"xxx xx", b" xx xx", 3),
+    (b"././/..", b"xxxxx x", b" xxxxx ", 5),
+    (b"a/..b/", b" x   x", b" xx  x", 0),
+];
+
+// Bytes, whether they begin and end with `..`, and whether a path can be put behind them.
+static PIECES: [(&[u8], bool, bool, bool); 12] = [
+    (b"..", true, true, false),
+    (b".", false, false, false),
+    (b"/", false, false, true),
+    (b"../", true, false, true),
+    (b"../a", true, false, false),
+    (b"..a", false, false, false),
+    (b"...", false, false, false),
+    (b"a..", false, false, false),
+    (b"a/..", false, true, false),
+    (b"/..", false, true, false),
+    (b"../..", true, true, false),
+    (b"a/", false, false, true),
+];
+
+fn is_marked(bytes: &[u8], marks: &[u8], test: fn(&[u8], usize) -> bool) -> bool {
+    bytes.len() == marks.len() && (0..bytes.len()).all(|at| test(bytes, at) == (marks[at] == b'x'))
+}
+
+#[test]
+fn bytes_are_filler(rt: HostRuntime) {
+    for &(bytes, in_front, behind, len) in &FILLER {
+        assert!(rt; is_marked(bytes, in_front, is_idle));
+        assert!(rt; is_marked(bytes, behind, is_trailing));
+        assert!(rt; idle_len(bytes) == len);
+    }
+}
+
+#[test]
+fn pieces_are_parents(rt: HostRuntime) {
+    for &(bytes, begins, ends, open) in &PIECES {
+        assert!(rt; begins_with_parent(bytes) == begins);
+        assert!(rt; ends_with_parent(bytes) == ends);
+        assert!(rt; is_open(bytes) == open);
+    }
+    assert!(rt; is_open(b""));
+    assert!(rt; dot_before(b"") == None);
+    assert!(rt; dot_before(b"rs") == Some(b'.'));
+}
