@@ -30,8 +30,8 @@ kept_of-dot ks vs false = refl
 pub kept_of-inner : (ks : List Value) (s : List ℕ) → is_rooted s ≡ false
     → kept_of ks (inner_values s) ≡ kept_of ks (values s)
 kept_of-inner ks s r = kept_of-dot ks (inner_values s) (dot_first (slice_split is_slash s))
-    ∙ ap (λ c. kept_of ks (lead_by c (dot_first (slice_split is_slash s)) ++ inner_values s)) (sym r)
-    ∙ ap (kept_of ks) (sym (values-lead s))
+    ∙ ap (λ c. kept_of ks (lead_by c (dot_first (slice_split is_slash s)) ++ inner_values s))
+    (sym r) ∙ ap (kept_of ks) (sym (values-lead s))
 
 -- a root is kept alone, and then the inner values
 pub kept_of-behind_root : (ks : List Value) (s : List ℕ) → is_rooted s ≡ true
@@ -67,8 +67,8 @@ above_from-dot vs false = refl
 pub above_from-inner : (s : List ℕ) → is_rooted s ≡ false
     → above_from 0 (inner_values s) ≡ above_from 0 (values s)
 above_from-inner s r = above_from-dot (inner_values s) (dot_first (slice_split is_slash s))
-    ∙ ap (λ c. above_from 0 (lead_by c (dot_first (slice_split is_slash s)) ++ inner_values s)) (sym r)
-    ∙ ap (above_from 0) (sym (values-lead s))
+    ∙ ap (λ c. above_from 0 (lead_by c (dot_first (slice_split is_slash s)) ++ inner_values s))
+    (sym r) ∙ ap (above_from 0) (sym (values-lead s))
 
 -- each name is one step down
 above_from-names : (n : ℕ) (vs ws : List Value) → AreNames vs

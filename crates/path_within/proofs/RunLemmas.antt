@@ -123,6 +123,11 @@ plain_behind s rest n len e l none busy no_dot =
     (ap (is_idle rest) {x = 0} {y = len} (omega arith) ∙ busy))
     (ap (λ b. eqb b 46) (sym here) ∙ no_dot)
 
+-- a string whose length is 0 is empty
+pub no_byte : (s : List ℕ) → eqb (length s) 0 ≡ true → s ≡ []
+no_byte [] e = refl
+no_byte (b ∷ s) e = absurd (omega (arith, eqb-true (length (b ∷ s)) 0 e))
+
 -- a string whose length isn't 0 has a byte
 pub some_byte : (s : List ℕ) → eqb (length s) 0 ≡ false → 0 < length s
 some_byte [] e = absurd (let no : true ≡ false = e in cc)

@@ -37,8 +37,10 @@ pub(crate) fn begins_plain(bytes: &[u8], i: usize) -> bool
 #[inline]
 fn marks(bytes: &[u8], at: usize) -> u64
     requires { at + 16 < length bytes.now }
-    ensures { (k : ℕ) → at ≤ k → k < at + 16 → k < at + count_trailing_zeros 64 result
+    ensures before { (k : ℕ) → at ≤ k → k < at + 16 → k < at + count_trailing_zeros 64 result
         → goes_on_plain bytes.now k ≡ true }
+    ensures none { result ≡ 0
+        → ((k : ℕ) → at ≤ k → k < at + 16 → goes_on_plain bytes.now k ≡ true) }
 {
     let slash = u8x16::splat(b'/');
     let here = u8x16::from_slice(&bytes[at..]);
@@ -48,17 +50,8 @@ fn marks(bytes: &[u8], at: usize) -> u64
     other.to_bitmask()
 }
 
-// Whether none of the 16 bytes from `at` on is a slash with a slash or a dot behind it.
-#[inline]
-fn is_calm_block(bytes: &[u8], at: usize) -> bool
-    requires { at + 16 < length bytes.now }
-    ensures { IsTrue result → ((k : ℕ) → at ≤ k → k < at + 16 → goes_on_plain bytes.now k ≡ true) }
-{
-    marks(bytes, at) == 0
-}
-
-// The place from `start` on of the first slash with no plain piece behind it, or the length if there
-// is none. The bytes are looked at one by one.
+// The place, from `start` on, of the first slash with no plain piece behind it, or the length if
+// there is none. The bytes are looked at one by one.
 #[inline]
 fn few_end(bytes: &[u8], start: usize) -> usize
     requires { start ≤ length bytes.now }
@@ -74,8 +67,7 @@ fn few_end(bytes: &[u8], start: usize) -> usize
     at
 }
 
-// As `names_end`, as far as whole blocks of 16 bytes with a byte behind them go: it may stop where
-// 16 bytes or fewer are left.
+// As `names_end`, as far as blocks of 16 bytes go: it may stop where 17 bytes or fewer are left.
 #[inline]
 fn blocks_end(bytes: &[u8], start: usize) -> usize
     requires { start ≤ length bytes.now }
@@ -84,13 +76,15 @@ fn blocks_end(bytes: &[u8], start: usize) -> usize
     ensures plain { (k : ℕ) → start ≤ k → k < result → goes_on_plain bytes.now k ≡ true }
 {
     let mut at = start;
-    while at + 16 < bytes.len() {
-        if is_calm_block(bytes, at) {
+    while at + 17 < bytes.len() {
+        let found = marks(bytes, at);
+        if found == 0 {
             at += 16;
             continue;
         }
-        let calm = marks(bytes, at).trailing_zeros() as usize;
+        let calm = found.trailing_zeros() as usize;
         if calm > 15 {
+            // It doesn't come to this: one of the 16 bits is set.
             return at;
         }
         if !begins_plain(bytes, at + calm + 1) {
@@ -101,8 +95,8 @@ fn blocks_end(bytes: &[u8], start: usize) -> usize
     at
 }
 
-// The place from `start` on of the first slash with no plain piece behind it, or the length if there
-// is none.
+// The place, from `start` on, of the first slash with no plain piece behind it, or the length if
+// there is none.
 pub(crate) fn names_end(bytes: &[u8], start: usize) -> usize
     requires { start ≤ length bytes.now }
     ensures forward { start ≤ result }
@@ -125,8 +119,8 @@ fn has_plain_pieces(bytes: &[u8]) -> bool
     if len < 17 {
         return few_end(bytes, 0) == len;
     }
-    if is_calm_block(bytes, len - 17) {
-        return blocks_end(bytes, 0) + 17 > len;
+    if marks(bytes, len - 17) == 0 {
+        return len < blocks_end(bytes, 0) + 18;
     }
     names_end(bytes, len - 17) == len && names_end(bytes, 0) == len
 }

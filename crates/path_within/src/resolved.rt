@@ -53,7 +53,7 @@ pub(crate) fn keep_up(kept: &mut PathBuf) -> Result<(), AllocError>
     push_up(kept)
 }
 
-// Adds the path's root, if it has one, to what is kept. What is left to keep are the values behind it.
+// Adds the path's root, if it has one, to what is kept. The values behind it are left to be kept.
 fn keep_root(kept: &mut PathBuf, path: Path<'_>) -> Result<(), AllocError>
     ensures ok { OnOk result ((ks : List Value) → Spells (path_bytes kept.old) ks
         → KeepsOn ks (path_bytes kept.new) (inner_values path.entry.bytes.now)

@@ -1,5 +1,5 @@
 //! A path cut into runs: each `..`, and the names between, many at once.
-ghost use Rattle.std.specs.Prelude.{◌≡◌, ◌<◌, ◌≤◌, false, [], length, drop, None, IfSome, IsTrue};
+ghost use Rattle.std.specs.Prelude.{◌≡◌, ◌<◌, ◌≤◌, false, [], length, drop, None, IfSome};
 ghost use Rattle.unix_path.specs.CommonDir.{inner_values};
 ghost use Rattle.unix_path.specs.Parts.{values};
 ghost use Rattle.unix_path.specs.Scan.{is_idle, begins_with_parent};
@@ -23,7 +23,7 @@ pub(crate) enum Run<'a> {
 // The runs that are left of a path: of bytes that begin with no filler, and with no root.
 #[derive(Clone, Copy)]
 pub(crate) struct Runs<'a> {
-    left: &'a [u8],
+    pub(crate) left: &'a [u8],
     ghost busy: { is_idle left.now 0 ≡ false },
 }
 
@@ -51,15 +51,7 @@ impl<'a> Runs<'a> {
         }
     }
 
-    // Whether no run is left.
-    #[inline(always)]
-    pub(crate) fn is_empty(&self) -> bool
-        ensures { IsTrue result → self.now.left.now ≡ [] }
-    {
-        self.left.is_empty()
-    }
-
-    // Takes the next run. It is always inlined, so that a loop over the runs keeps them in registers.
+    // Takes the next run. Always inlined, so that a loop over the runs keeps them in registers.
     #[inline(always)]
     pub(crate) fn next(&mut self) -> Option<Run<'a>>
         ensures none { result ≡ None → self.old.left.now ≡ [] }

@@ -55,21 +55,13 @@ fn skip_shared<'a, 'b>(from: Components<'a>, to: Components<'b>) -> (Components<
     }
 }
 
-// Whether the root is among these parts: it can only be the first.
-#[inline]
-fn has_root(parts: Components<'_>) -> bool
-    ensures { result ≡ list_any is_root (cursor_values parts.entry) }
-{
-    parts.as_path().has_root()
-}
-
 // Whether a way leads from what is left of the first path to what is left of the other.
 #[inline]
 fn leads(left: Components<'_>, onward: Components<'_>) -> bool
     ensures { result ≡ (list_all is_name (cursor_values left.entry)
         && not (list_any is_root (cursor_values onward.entry))) }
 {
-    are_names(left) && !has_root(onward)
+    are_names(left) && !onward.as_path().has_root()
 }
 
 // Adds one `..` to what is kept for each of these parts.

@@ -103,7 +103,7 @@ fn climbs_unless(known_plain: bool, path: Path<'_>) -> bool
     while let Some(run) = runs.next() {
         match run {
             Run::Name(_) => depth += 1,
-            Run::Names(_) if runs.is_empty() => return false,
+            Run::Names(_) if runs.left.is_empty() => return false,
             Run::Names(names) => depth += part_count(names),
             Run::Up => {
                 if depth == 0 {

@@ -11,16 +11,16 @@ returns-then-len-lt17 c = λ h. plain_pieces c.args.bytes.now
     (sym c.begins_plain.ensures ∙ c.if-not-begins_plain.false)
     (λ k l. c.few_end.ensures.plain k (omega arith) (omega (arith, eqb-true _ _ h)))
 
-pub returns-then-is_calm_block : goal.returns-then-is_calm_block
-returns-then-is_calm_block c = λ h.
+pub returns-then-marks-eq0 : goal.returns-then-marks-eq0
+returns-then-marks-eq0 c = λ h.
     let s = c.args.bytes.now in
     let long : 17 ≤ length s = c.if-len-lt17.false in
-    let reach = ltb-true (length s) (c.blocks_end.result + 17) h in
+    let reach = ltb-true (length s) (c.blocks_end.result + 18) h in
     plain_pieces s (sym c.begins_plain.ensures ∙ c.if-not-begins_plain.false)
     (λ k l. by_test (ltb k c.blocks_end.result)
     (λ t. c.blocks_end.ensures.plain k (omega arith) (ltb-true k _ t))
     (λ t. let from = ltb-false k _ t in by_test (ltb k (length s - 1))
-    (λ u. c.is_calm_block.ensures c.if-is_calm_block.true k (omega arith)
+    (λ u. c.marks.ensures.none c.if-marks-eq0.true k (omega arith)
     (let less = ltb-true k _ u in omega arith))
     (λ u. let last = ltb-false k _ u in
     let at : k ≡ length s - 1 = omega arith in

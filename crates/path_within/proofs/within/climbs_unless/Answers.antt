@@ -6,6 +6,7 @@ use Rattle.unix_path.proofs.RestLemmas.{length-values}
 use Rattle.path_within.specs.Runs.{run_values, IsSpelled}
 use Rattle.path_within.proofs.ClimbLemmas.{above_from, climbs_here, climbs_nowhere}
 use Rattle.path_within.proofs.KeepRunLemmas.{above_from-inner, above_from-spelled}
+use Rattle.path_within.proofs.RunLemmas.{no_byte}
 use Rattle.path_within.proofs.WholeLemmas.{plain_stays}
 use Rattle.path_within.proofs.within.climbs_unless.Goals as goal
 
@@ -58,7 +59,8 @@ returns-in-Names c =
           ∙ sym (ap (above_from c.loop-run.depth)
           (c.in-Some.ensures.some.split ∙ ap (λ run. run_values run ++ left) c.in-Names.is))
           ∙ c.loop-run.invariant.0)
-          (ap values (c.is_empty.ensures c.if-is_empty.true) ∙ values-nil) c.requires.rootless,
+          (ap values (no_byte c.next.new.self.left.now
+          (sym c.is_empty.ensures ∙ c.if-is_empty.true)) ∙ values-nil) c.requires.rootless,
     )
 
 pub returns-then-depth-eq0 : goal.returns-then-depth-eq0

@@ -38,16 +38,18 @@ returns-then-begins_with_parent-clause-some c =
 
 pub returns-then-len-bytes-clause-some : goal.returns-then-len-bytes-clause-some
 returns-then-len-bytes-clause-some c =
+    let named = begins (goal.at.returns-then-len-bytes-clause-some c).Else-begins_with_parent in
     let s = c.args.self.now.left.now in
     let n = c.first_place-len.result in
-    let first = name_first s [] c.from_bytes-name.result.bytes.now n (begins (goal.at.returns-then-len-bytes-clause-some c).Else-begins_with_parent)
+    let first = name_first s [] c.from_bytes-name.result.bytes.now n named
     c.first_place-len.ensures.value c.from_bytes-name.ensures
     (values-nil ∙ sym (ap inner_values (drop_all (n + 1) s c.if-len-bytes.true)
     ∙ inner_values-nil)) in
-    record { split = first.0; spelled = first.1; shorter = (begins (goal.at.returns-then-len-bytes-clause-some c).Else-begins_with_parent).some }
+    record { split = first.0; spelled = first.1; shorter = named.some }
 
 pub returns-then-filler-gt0-clause-some : goal.returns-then-filler-gt0-clause-some
 returns-then-filler-gt0-clause-some c =
+    let named = begins (goal.at.returns-then-filler-gt0-clause-some c).Else-begins_with_parent in
     let s = c.args.self.now.left.now in
     let n = c.first_place-len.result in
     let f = c.filler_len-filler.result in
@@ -56,7 +58,7 @@ returns-then-filler-gt0-clause-some c =
     ap values (take_rest rest f)
     ∙ values-busy (drop f rest) (is_idle-drop rest f ∙ c.filler_len-filler.ensures.busy)
     ∙ sym c.filler_len-filler.ensures.same ∙ ap inner_values (take_rest s (n + 1)) in
-    let first = name_first s _ c.from_bytes-name.result.bytes.now n (begins (goal.at.returns-then-filler-gt0-clause-some c).Else-begins_with_parent)
+    let first = name_first s _ c.from_bytes-name.result.bytes.now n named
     c.first_place-len.ensures.value c.from_bytes-name.ensures left in
     record {
       split = first.0;
@@ -67,12 +69,13 @@ returns-then-filler-gt0-clause-some c =
         length-drop f rest,
         ap length (take_rest s (n + 1)),
         length-drop (n + 1) s,
-        (begins (goal.at.returns-then-filler-gt0-clause-some c).Else-begins_with_parent).some,
+        named.some,
       );
     }
 
 pub returns-clause-some : goal.returns-clause-some
 returns-clause-some c =
+    let named = begins (goal.at.returns-clause-some c).Else-begins_with_parent in
     let s = c.args.self.now.left.now in
     let n = c.first_place-len.result in
     let end = c.names_end-end in
@@ -80,7 +83,7 @@ returns-clause-some c =
     c.if-len-bytes.false c.if-filler-gt0.false c.filler_len-filler.ensures.busy
     (ne_eqb _ 46 c.if-rest-eq46.false) in
     let all = names_first s c.new-2.result.left.now c.from_bytes.result.bytes.now n end.result
-    (begins (goal.at.returns-clause-some c).Else-begins_with_parent) c.first_place-len.ensures.value plain end.ensures.forward end.ensures.in_range
+    named c.first_place-len.ensures.value plain end.ensures.forward end.ensures.in_range
     end.ensures.plain end.ensures.ends c.from_bytes.ensures
     (c.new-2.ensures.values ∙ ap inner_values (take_rest s end.result)) in
     record {
@@ -92,6 +95,6 @@ returns-clause-some c =
         ap length (take_rest s end.result),
         length-drop end.result s,
         end.ensures.forward,
-        (begins (goal.at.returns-clause-some c).Else-begins_with_parent).some,
+        named.some,
       );
     }
