@@ -8,7 +8,8 @@ use Rattle.std.proofs.lemmas.Iterator.Consumers.{YieldsList-so_far, nth_from_yie
 use Rattle.std.proofs.lemmas.List.{map-append}
 use Rattle.std.proofs.lemmas.Option.{get_or_from_slice_get, slice_get_within}
 use Rattle.std.proofs.Math.Seq.{split_at}
-use Rattle.unix_path.specs.Buffers.{bytes_of_each, JoinsBeginning}
+use Rattle.std.proofs.iter.runs.Made.{took}
+use Rattle.unix_path.specs.Buffers.{bytes_of_each, JoinsBeginning, JoinsFit}
 use Rattle.unix_path.specs.Joins.{is_open, join_of, join_all_of}
 use Rattle.unix_path.specs.Parts.{is_rooted}
 use Rattle.unix_path.specs.declared.path.Path.{Path}
@@ -82,3 +83,19 @@ JoinsBeginning-exceeds {all = all} old new most yields h e =
       e.longer,
       ap (λ s. length (join_of s e.next.bytes.now)) e.bytes,
     )
+
+-- if an iterator gives nothing, what it gave is no path
+no_items : {A B : Type 0} (v : A → B) (xs : List A) → map v xs ≡ take (length xs) [] → xs ≡ []
+no_items v [] e = refl
+no_items v (x ∷ xs) e = absurd (omega (arith, ap length e))
+
+-- so its join to the empty path is empty
+pub JoinsFit-none : {S B : Type 0} {steps : S → Option Path → S → Type 0} {items : S}
+    (v : Path → B) (ys : List B) → ys ≡ [] → YieldsList steps v items ys
+    → JoinsFit steps items [] 0
+JoinsFit-none {steps = steps} v ys none yields run met from =
+    let gave = took run in
+    let so_far = YieldsList-so_far (subst (λ s. YieldsList steps v s ys) (sym from) yields)
+    run.items gave.0 gave.1 in
+    let nothing = no_items v run.items (so_far ∙ ap (take (length run.items)) none) in
+    omega (arith, ap (λ paths. length (join_all_of [] (bytes_of_each paths))) nothing)

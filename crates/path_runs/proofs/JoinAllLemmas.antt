@@ -3,9 +3,10 @@ use Rattle.std.proofs.Common.{◌≡◌, ℕ, true, false, List, [], ◌∷◌, 
 use Rattle.std.proofs.Common.{append_assoc}
 use Rattle.std.specs.List.{AllByRecursion, join_with_byte}
 use Rattle.unix_path.specs.Parts.{slash, Value, RootDir, value_bytes, values}
-use Rattle.unix_path.specs.Joins.{is_open, join_of, join_all_of}
-use Rattle.unix_path.proofs.JoinLemmas.{join_of_rooted, join_of_open, join_of_closed}
+use Rattle.unix_path.specs.Joins.{is_open, join_all_of}
+use Rattle.unix_path.proofs.JoinLemmas.{join_of_rooted, join_of_closed}
 use Rattle.path_runs.specs.Spelling.{slashed_bytes, spelling_of}
+use Rattle.path_runs.proofs.AssociativeLemmas.{separator, join_of-separator}
 use Rattle.path_runs.proofs.SpellLemmas.{spelling_of-root}
 use Rattle.path_runs.proofs.PlainLemmas.{IsPlain, IsPlainValue, Shape, Rooted, Rootless}
 use Rattle.path_runs.proofs.PlainLemmas.{values-shape}
@@ -24,7 +25,7 @@ is_open-append_closed (x ∷ []) (y ∷ b) e = e
 is_open-append_closed (x ∷ y ∷ a) b e = is_open-append_closed (y ∷ a) b e
 
 -- all these are plain
-abbrev AllPlain : List (List ℕ) → Type 0
+abbrev pub AllPlain : List (List ℕ) → Type 0
 AllPlain bs = AllByRecursion IsPlain bs
 
 -- plain paths, joined to a path that isn't open, each follow a slash
@@ -38,22 +39,28 @@ join_all_of-closed a (b ∷ bs) o h =
     ∙ join_with_byte-onto (a ++ slash ∷ []) b bs
     ∙ append_assoc a (slash ∷ []) (join_with_byte slash (b ∷ bs))
 
+-- plain paths, joined to any path, one of them at least, have slashes between them
+pub join_all_of-some : (a b : List ℕ) (bs : List (List ℕ)) → AllPlain (b ∷ bs)
+    → join_all_of a (b ∷ bs) ≡ (a ++ separator a) ++ join_with_byte slash (b ∷ bs)
+join_all_of-some a b bs h =
+    ap (λ c. join_all_of c bs) (join_of-separator a b h.0.rootless)
+    ∙ join_all_of-closed ((a ++ separator a) ++ b) bs
+    (is_open-append_closed (a ++ separator a) b h.0.closed) h.1
+    ∙ join_with_byte-onto (a ++ separator a) b bs
+
 join_all_of-plain : (bs : List (List ℕ)) → AllPlain bs → join_all_of [] bs ≡ join_with_byte slash bs
 join_all_of-plain [] h = refl
-join_all_of-plain (b ∷ bs) h = ap (λ c. join_all_of c bs) (join_of_open [] b h.0.rootless refl)
-    ∙ join_all_of-closed b bs h.0.closed h.1
+join_all_of-plain (b ∷ bs) h = join_all_of-some [] b bs h
 
 -- plain paths, joined to the root, follow it with slashes between them
 join_all_of-root : (bs : List (List ℕ)) → AllPlain bs
     → join_all_of [] ((slash ∷ []) ∷ bs) ≡ slash ∷ join_with_byte slash bs
 join_all_of-root [] h = join_of_rooted [] (slash ∷ []) refl
 join_all_of-root (b ∷ bs) h =
-    ap (λ c. join_all_of (join_of c b) bs) (join_of_rooted [] (slash ∷ []) refl)
-    ∙ ap (λ c. join_all_of c bs) (join_of_open (slash ∷ []) b h.0.rootless refl)
-    ∙ join_all_of-closed (slash ∷ b) bs (is_open-append_closed (slash ∷ []) b h.0.closed) h.1
-    ∙ join_with_byte-onto (slash ∷ []) b bs
+    ap (λ c. join_all_of c (b ∷ bs)) (join_of_rooted [] (slash ∷ []) refl)
+    ∙ join_all_of-some (slash ∷ []) b bs h
 
-plain_bytes : (vs : List Value) → AllByRecursion IsPlainValue vs → AllPlain (map value_bytes vs)
+pub plain_bytes : (vs : List Value) → AllByRecursion IsPlainValue vs → AllPlain (map value_bytes vs)
 plain_bytes [] h = tt
 plain_bytes (v ∷ vs) h = (h.0.plain, plain_bytes vs h.1)
 

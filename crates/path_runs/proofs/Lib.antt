@@ -40,3 +40,4 @@ pub mod GapLaneLemmas
 pub mod OverlayLemmas
 pub mod WritingLemmas
 pub mod CopyLemmas
+pub mod MixedLemmas

@@ -1,10 +1,14 @@
 -- Value lists are equal exactly if they tie in the order, and if they begin each other.
-use Rattle.std.proofs.Common.{◌≡◌, ◌↔◌, List, ◌++◌, length, sym, ap, ◌∙◌, arith, append-nil, Equal}
+use Rattle.std.proofs.Common.{◌≡◌, ◌↔◌, ◌⊎◌, inl, inr, refl, List, ◌++◌, length, sym, ap, ◌∙◌}
+use Rattle.std.proofs.Common.{arith}
+use Rattle.std.proofs.Common.{append-nil, Ordering, Less, Equal, Greater}
 use Rattle.std.proofs.Common.{length-append}
 use Rattle.std.proofs.lemmas.Cmp.{tied_itself}
 use Rattle.std.proofs.lemmas.List.{nil_from_length}
 use Rattle.unix_path.specs.Parts.{Value}
-use Rattle.unix_path.specs.Order.{values_cmp}
+use Rattle.std.specs.Ordering.{ordering_reverse}
+use Rattle.unix_path.specs.Order.{values_cmp, IsBefore}
+use Rattle.path_runs.specs.OrderLaws.{OneOrder}
 use Rattle.unix_path.specs.OrderLaws.{values_cmp-total, values_cmp-equal}
 
 -- only equal value lists tie in the order
@@ -18,3 +22,27 @@ begins_both_ways v w x y d e =
     let none = nil_from_length x
     (omega (arith, length-append v x, length-append w y, ap length d, ap length e)) in
     sym (append-nil v) ∙ ap (λ z. v ++ z) (sym none) ∙ d
+
+-- what is less than another value list comes behind none that it is not behind
+before-reversed : (v w : List Value) → IsBefore w v → values_cmp v w ≡ Greater
+before-reversed v w before =
+    values_cmp-total.antisymm v w ∙ ap ordering_reverse before
+
+-- of two value lists one is less, or they are equal
+one_of : (v w : List Value) (o : Ordering) → values_cmp v w ≡ o
+    → (v ≡ w) ⊎ (IsBefore v w ⊎ IsBefore w v)
+one_of v w Less is = inr (inl is)
+one_of v w Equal is = inl (values_cmp-equal v w is)
+one_of v w Greater is =
+    inr (inr (values_cmp-total.antisymm w v ∙ ap ordering_reverse is))
+
+-- and no two of these hold
+pub one_order : OneOrder
+one_order v w = record {
+  some = one_of v w (values_cmp v w) refl;
+  not_first_two = λ h. absurd (let d : Equal ≡ Less =
+      sym ((values_cmp-ties v w).1 h.0) ∙ h.1 in cc);
+  not_outer = λ h. absurd (let d : Equal ≡ Greater =
+      sym ((values_cmp-ties v w).1 h.0) ∙ before-reversed v w h.1 in cc);
+  not_last_two = λ h. absurd (let d : Less ≡ Greater = sym h.0 ∙ before-reversed v w h.1 in cc);
+}

@@ -43,7 +43,7 @@ names_of-counts [] h = refl
 names_of-counts (p ∷ ps) h = rw h.0 (ap (λ vs. value_of_piece p ∷ vs) (names_of-counts ps h.1))
 
 -- joined pieces that count are cut into pieces that have their values
-names_of-join_with_byte : (ps : List (List ℕ)) → AllByRecursion NoSlash ps → AllCount ps
+pub names_of-join_with_byte : (ps : List (List ℕ)) → AllByRecursion NoSlash ps → AllCount ps
     → names_of (slice_split is_slash (join_with_byte slash ps)) ≡ map value_of_piece ps
 names_of-join_with_byte [] h k = refl
 names_of-join_with_byte (p ∷ ps) h k =
@@ -77,7 +77,7 @@ values-spelling_rooted t =
     ∙ sym (values-rooted t)
 
 -- joined pieces that count have their values
-values-join_with_byte : (ps : List (List ℕ)) → AllByRecursion NoSlash ps → AllCount ps
+pub values-join_with_byte : (ps : List (List ℕ)) → AllByRecursion NoSlash ps → AllCount ps
     → values (join_with_byte slash ps) ≡ map value_of_piece ps
 values-join_with_byte [] h k = values-rootless [] ([] ∷ []) refl refl
 values-join_with_byte (p ∷ ps) h k =
@@ -91,7 +91,7 @@ dot_rootless [] = refl
 dot_rootless (p ∷ ps) = refl
 
 -- a first `.`, joined with pieces that count, has that `.` and their values
-values-join_with_byte_dot : (ps : List (List ℕ)) → AllByRecursion NoSlash ps → AllCount ps
+pub values-join_with_byte_dot : (ps : List (List ℕ)) → AllByRecursion NoSlash ps → AllCount ps
     → values (join_with_byte slash (cur_dir ∷ ps)) ≡ CurDir ∷ map value_of_piece ps
 values-join_with_byte_dot ps h k =
     values-rootless (join_with_byte slash (cur_dir ∷ ps)) (cur_dir ∷ ps) (dot_rootless ps)

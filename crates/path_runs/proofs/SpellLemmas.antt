@@ -26,7 +26,7 @@ pub spelling_of-root : (vs : List Value) → spelling_of (RootDir ∷ vs) ≡ sl
 unfolding spelling_of
 spelling_of-root vs = refl
 
-spelling_of-dot : (vs : List Value) → spelling_of (CurDir ∷ vs) ≡ slashed_bytes (CurDir ∷ vs)
+pub spelling_of-dot : (vs : List Value) → spelling_of (CurDir ∷ vs) ≡ slashed_bytes (CurDir ∷ vs)
 unfolding spelling_of
 spelling_of-dot vs = refl
 

@@ -49,6 +49,11 @@ some_values s l = by_test (eqb (get_or s 0 0) 47)
     (λ e. (_, _, ap (map (λ (p : Part). p.value)) (parts-root s (eqb-true _ 47 e))))
     (λ e. (_, _, ap (map (λ (p : Part). p.value)) (parts-name s l e)))
 
+-- a path without a value has no byte
+pub values-none : (s : List ℕ) → values s ≡ [] → s ≡ []
+values-none [] none = refl
+values-none (b ∷ s) none = let some = some_values (b ∷ s) (omega arith) in cc (some.2)
+
 -- the values of a join with b: behind a value b adds its inner values, and behind none all of its
 -- values
 abbrev pub append_values : List Value → List ℕ → List Value

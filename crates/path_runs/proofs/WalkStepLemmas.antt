@@ -1,7 +1,9 @@
 -- One more turn of a walk.
 use Rattle.std.proofs.Common.{◌≡◌, ℕ, ◌+◌, ◌-◌, ◌≤◌, ◌<◌, length, List, [], ◌∷◌, ◌++◌, map}
 use Rattle.std.proofs.Common.{Bool, true, false}
-use Rattle.std.proofs.Common.{take, drop, get_or, reverse, sym, ap, ap₂, ◌∙◌, arith}
+use Rattle.std.proofs.Common.{take, drop, get_or, reverse, refl, sym, ap, ap₂, ◌∙◌, arith}
+use Rattle.std.proofs.Common.{length-append}
+use Rattle.std.specs.Iterator.{YieldsFirstBy, YieldsLastBy}
 use Rattle.std.proofs.Common.{length-drop, add-zero, append-nil, Option, Some, None, MatchOption}
 use Rattle.std.specs.List.{count_by}
 use Rattle.std.specs.Option.{option_to_list}
@@ -9,6 +11,7 @@ use Rattle.std.proofs.lemmas.List.{length-take, get_or-reverse, length-reverse, 
 use Rattle.std.proofs.lemmas.List.Sums.{count_by_more_yes, count_by_more_no}
 use Rattle.unix_path.specs.Parts.{Value, values}
 use Rattle.unix_path.specs.Rest.{rest}
+use Rattle.unix_path.proofs.PartLemmas.{rest-nil, values-nil}
 use Rattle.unix_path.proofs.RestLemmas.{rest-rest, rest-none}
 use Rattle.path_runs.specs.Turns.{is_front, front_turns, back_turns}
 use Rattle.path_runs.specs.declared.walk.Turn.{Turn}
@@ -136,3 +139,28 @@ HasWalked-back shows s ts i front left behind None after h l turn gives leaves =
     rw (append-nil behind) (HasWalked-none s ts i front left behind after 0 1 h gives.0 leaves)
 HasWalked-back shows s ts i front left behind (Some x) after h l turn gives leaves =
     HasWalked-back_some s ts i front left behind (shows x) after h l turn gives leaves
+
+-- if nothing is left, `next` gives nothing
+pub none_in_front : {S A V : Type 0} (shows : A → V) (left : S → List V) (s t : S)
+    (item : Option A) → YieldsFirstBy shows left s item t → left s ≡ [] → item ≡ None
+none_in_front shows left s t None h none = refl
+none_in_front shows left s t (Some x) h none =
+    absurd (omega (arith, ap length (sym h ∙ none)))
+
+-- and `next_back` gives nothing
+pub none_behind : {S A V : Type 0} (shows : A → V) (left : S → List V) (s t : S)
+    (item : Option A) → YieldsLastBy shows left s item t → left s ≡ [] → item ≡ None
+none_behind shows left s t None h none = refl
+none_behind shows left s t (Some x) h none = absurd (omega (
+  arith,
+  ap length (sym h ∙ none),
+  length-append (left t) (shows x ∷ []),
+))
+
+-- of the empty path nothing is ever left
+pub none_of_empty : {s : List ℕ} {ts : List Turn} {i : ℕ} {front behind : List Value}
+    {left : List ℕ} → HasWalked s ts i front left behind → s ≡ [] → values left ≡ []
+none_of_empty {s} {ts} {i} h none =
+    let k = front_turns (length (values s)) (take i ts) in
+    let m = back_turns (length (values s)) (take i ts) in
+    ap values (h.left_is ∙ ap (λ u. rest u k m) none ∙ rest-nil k m) ∙ values-nil

@@ -5,6 +5,8 @@ pub mod Spelling
 pub mod SpellingLaws
 pub mod EditLists
 pub mod EditViews
+pub mod EditErrors
+pub mod CallsMixed
 pub mod JoinLaws
 pub mod EditLaws
 pub mod QueryLaws

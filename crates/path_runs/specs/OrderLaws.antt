@@ -1,10 +1,26 @@
 -- Laws of the order of value lists (Rust's order of `Path`).
-use Rattle.std.specs.Prelude.{◌≡◌, ◌<◌, ℕ, true, List, ◌∷◌, ◌++◌, drop}
+use Rattle.std.specs.Prelude.{◌≡◌, ◌⊎◌, ◌<◌, ℕ, true, List, ◌∷◌, ◌++◌, drop}
 use Rattle.std.specs.Ordering.{is_le}
 use Rattle.unix_path.specs.CommonDir.{common_dir_of, inner_values}
-use Rattle.unix_path.specs.Order.{values_cmp}
+use Rattle.unix_path.specs.Order.{values_cmp, IsBefore}
 use Rattle.unix_path.specs.Parts.{slash, Value, values}
 use Rattle.unix_path.specs.Prefixes.{Begins}
+
+-- exactly one of the three holds
+pub record ExactlyOne (P Q R : Type 0) : Type 0 where
+  pub some : P ⊎ (Q ⊎ R)
+  pub not_first_two : ¬ (P × Q)
+  pub not_outer : ¬ (P × R)
+  pub not_last_two : ¬ (Q × R)
+
+-- of two value lists exactly one holds: they are equal, the first is before the second, or the
+-- second is before the first
+abbrev pub OneOrder : Type 0
+OneOrder = (v w : List Value) → ExactlyOne (v ≡ w) (IsBefore v w) (IsBefore w v)
+
+-- what is before a value list is before all that this is before
+abbrev pub BeforeIsTransitive : Type 0
+BeforeIsTransitive = (u v w : List Value) → IsBefore u v → IsBefore v w → IsBefore u w
 
 -- value lists that begin each other are equal
 abbrev pub PrefixBothWays : Type 0

@@ -1,6 +1,6 @@
 //! The canonical spelling of a path: the shortest path that is equal to it.
-ghost use Rattle.std.specs.Prelude.{◌≡◌, ◌<◌, ◌≤◌, ◌++◌, ◌↔◌, true, length, drop};
-ghost use Rattle.std.specs.Prelude.{IfOk, OnOk, IsTrue};
+ghost use Rattle.std.specs.Prelude.{◌≡◌, ◌<◌, ◌≤◌, ◌++◌, ◌↔◌, true, [], length, drop};
+ghost use Rattle.std.specs.Prelude.{IfOk, OnOk, IsOk, IsTrue};
 ghost use Rattle.unix_bytes.specs.Owned.{owned_bytes};
 ghost use Rattle.unix_path.specs.Buffers.{path_bytes};
 ghost use Rattle.unix_path.specs.Cursor.{cursor_values};
@@ -37,13 +37,14 @@ fn push_parts(text: &mut UnixString, bytes: &[u8], gap: usize) -> Result<(), All
 ///
 /// It is the one shortest path that is equal to this one. For the empty path it is the empty path.
 /// It has the bytes that `collected` gives for a fresh walk over the path. Allocates once, as many
-/// bytes as stand from the first part to the end of the last, or not at all for the empty path;
-/// fails if the allocation fails. Not in Rust's std: there it is a `Components` that is collected
-/// into a `PathBuf`.
+/// bytes as stand from the first part to the end of the last; fails if the allocation fails. For
+/// the empty path does not allocate, and succeeds. Not in Rust's std: there it is a `Components`
+/// that is collected into a `PathBuf`.
 ///
 /// For `.//a/./b/` it is `./a/b`.
 pub fn canonical(alloc: Global, path: Path<'_>) -> Result<PathBuf, AllocError>
-    ensures { IfOk result (λ p. path_bytes p ≡ spelling_of (values path.entry.bytes.now)) }
+    ensures bytes { IfOk result (λ p. path_bytes p ≡ spelling_of (values path.entry.bytes.now)) }
+    ensures succeeds { path.entry.bytes.now ≡ [] → IsOk result }
 {
     let whole = path.components().as_path();
     let bytes = whole.as_unix_str().as_bytes();
@@ -62,12 +63,13 @@ pub fn canonical(alloc: Global, path: Path<'_>) -> Result<PathBuf, AllocError>
 ///
 /// It is the canonical spelling of these parts, in whatever order the others were taken from both
 /// ends. For a fresh walk `canonical` gives the same bytes, in less time. Allocates as the path
-/// grows, or not at all if no part is left; fails if an allocation fails. As a `Components` of
-/// Rust's std that is collected into a `PathBuf`.
+/// grows; fails if an allocation fails. If no part is left does not allocate, and succeeds. As a
+/// `Components` of Rust's std that is collected into a `PathBuf`.
 ///
 /// For what a `next_back` leaves of `.//a/./b/` it is `./a`.
 pub fn collected(alloc: Global, components: Components<'_>) -> Result<PathBuf, AllocError>
-    ensures { IfOk result (λ p. path_bytes p ≡ spelling_of (cursor_values components.entry)) }
+    ensures bytes { IfOk result (λ p. path_bytes p ≡ spelling_of (cursor_values components.entry)) }
+    ensures succeeds { cursor_values components.entry ≡ [] → IsOk result }
 {
     PathBuf::from_iter(alloc, components.map(|part| part.as_path()))
 }

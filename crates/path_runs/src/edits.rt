@@ -1,6 +1,7 @@
 //! Edits of a path as values, and a function that makes a list of them.
 ghost use Rattle.std.specs.Prelude.{◌≡◌, ◌↔◌, ◌<◌, [], true, length, take, slice_get, MatchOption};
-ghost use Rattle.std.specs.Prelude.{map, IsSome, IsOk, IfOk, IfErr, IfSome, OnOk, OnErr};
+ghost use Rattle.std.specs.Prelude.{map, Some, IsSome, IsOk, IfOk, IfErr, IfSome, OnOk, OnErr};
+ghost use Rattle.std.specs.Fmt.{padded};
 ghost use Rattle.std.specs.Result.{result_ok};
 ghost use Rattle.unix_path.specs.Buffers.{path_bytes};
 ghost use Rattle.unix_path.specs.Joins.{join_of};
@@ -10,6 +11,8 @@ ghost use Rattle.path_runs.specs.EditViews.{edit_value, extension_answer};
 ghost use Rattle.path_runs.specs.EditLists.{edit_of, edits_of, may_allocate};
 
 use std::alloc::{AllocError, Global};
+use std::error::Error;
+use std::fmt;
 use unix_bytes::bytes::UnixStr;
 use unix_path::{ExtensionError, Path, PathBuf};
 
@@ -50,7 +53,8 @@ pub enum Answer {
 }
 
 /// Why a list of edits ended early: an allocation failed. An edit that answers `Separator` does not
-/// end the list. Not in Rust's std.
+/// end the list. It is printed as `out of memory`, padded by width, precision, fill and alignment.
+/// Not in Rust's std.
 ///
 /// `ApplyError { done: 1 }` says that the first edit was made, and that the second one failed.
 #[derive(Debug, Drop)]
@@ -58,6 +62,21 @@ pub struct ApplyError {
     /// How many edits were made before the one that failed.
     pub done: usize,
 }
+
+/// The text `out of memory`, padded by width, precision, fill and alignment. Does not allocate.
+impl fmt::Display for ApplyError {
+    ghost use Rattle.path_runs.specs.EditErrors.{apply_error_text};
+
+    ghost output = { λ error. Some (apply_error_text error) };
+
+    ghost styled_output = { λ error spec. Some (padded spec (apply_error_text error)) };
+
+    fn fmt<W: fmt::Write>(&self, f: &mut fmt::Formatter<W>) -> fmt::Result {
+        f.pad("out of memory")
+    }
+}
+
+impl Error for ApplyError {}
 
 // What an edit of the extension answers, unless an allocation failed.
 fn extension_answer(edited: Result<bool, ExtensionError>) -> Result<Answer, AllocError>
@@ -142,9 +161,9 @@ pub fn apply(
 
 /// `base`, joined with what follows it in `path`; `None` if `path` doesn't start with `base`.
 ///
-/// The path that is returned is equal to `path`. Allocates once, the length of the answer in bytes,
-/// or not at all for `None` and for an empty answer; fails if the allocation fails. Not in Rust's
-/// std: there it is a `Path::strip_prefix` and a `Path::join`.
+/// The path that is returned is equal to `path`. Allocates once, the length of the answer in bytes;
+/// fails if the allocation fails. For `None` and for an empty answer does not allocate, and
+/// succeeds. Not in Rust's std: there it is a `Path::strip_prefix` and a `Path::join`.
 ///
 /// For `/a//b/.` and `/a/` it is `/a/b`, and for `a` and `a` it is `a/`.
 #[tactic(auto, using(crate::proofs::StripLemmas::strip_then_join))]
@@ -158,6 +177,8 @@ pub fn rejoin(alloc: Global, path: Path<'_>, base: Path<'_>) -> Result<Option<Pa
         (λ p. SameValues (path_bytes p) path.entry.bytes.now)) }
     ensures succeeds { ¬ Begins (values base.entry.bytes.now) (values path.entry.bytes.now)
         → IsOk result }
+    ensures succeeds_empty { join_of base.entry.bytes.now
+        (stripped_of path.entry.bytes.now base.entry.bytes.now) ≡ [] → IsOk result }
 {
     let Ok(rest) = path.strip_prefix(base) else {
         return Ok(None);

@@ -1,5 +1,6 @@
 //! A walk over a path's parts by a list of turns.
-ghost use Rattle.std.specs.Prelude.{◌≡◌, ◌++◌, IfOk, OnOk, length, map, reverse, take};
+ghost use Rattle.std.specs.Prelude.{◌≡◌, ◌++◌, [], IfOk, OnOk, IsOk, length, map, reverse, take};
+ghost use Rattle.std.specs.Prelude.{None};
 ghost use Rattle.std.specs.Option.{option_to_list};
 ghost use Rattle.unix_path.specs.Parts.{values};
 ghost use Rattle.unix_path.specs.Rest.{rest};
@@ -39,7 +40,8 @@ fn push_some<'a>(
     list: &mut Vec<Component<'a>>,
     part: Option<Component<'a>>,
 ) -> Result<(), AllocError>
-    ensures { OnOk result (list.new.items ≡ list.old.items ++ option_to_list part.entry) }
+    ensures items { OnOk result (list.new.items ≡ list.old.items ++ option_to_list part.entry) }
+    ensures succeeds { part.entry ≡ None → IsOk result }
 {
     if let Some(part) = part {
         list.push(part)?;
@@ -51,9 +53,9 @@ fn push_some<'a>(
 ///
 /// Each turn takes one part, or nothing if none is left. The parts in front, those of the rest, and
 /// those behind in reverse are the path's parts. The rest is a slice of the path. Allocates as the
-/// two lists of parts grow, or not at all if no part is taken; fails if an allocation fails, and
-/// then the lists are dropped. Not in Rust's std; each turn is a `next` or `next_back` of Rust's
-/// `Components`.
+/// two lists of parts grow; fails if an allocation fails, and then the lists are dropped. Without
+/// turns, or for the empty path, does not allocate, and succeeds. Not in Rust's std; each turn is a
+/// `next` or `next_back` of Rust's `Components`.
 ///
 /// For `/a/./b/../c` and the turns front, back, front, back it takes `/` and `a` in front, leaves
 /// `b`, and takes `c` and `..` behind. With no turn it leaves `foo` of `foo/`.
@@ -71,6 +73,8 @@ pub fn walk<'a>(alloc: Global, path: Path<'a>, turns: &[Turn]) -> Result<Walked<
     ensures whole { IfOk result (λ w. map value_of w.front.items
         ++ values w.rest.bytes.now ++ reverse (map value_of w.behind.items)
         ≡ values path.entry.bytes.now) }
+    ensures succeeds { turns.now ≡ [] → IsOk result }
+    ensures succeeds_empty { path.entry.bytes.now ≡ [] → IsOk result }
 {
     let mut left = path.components();
     let mut front = Vec::new(alloc);

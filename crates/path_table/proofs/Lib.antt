@@ -5,3 +5,4 @@ pub mod StripLemmas
 pub mod RangeLemmas
 pub mod NextLemmas
 pub mod UpdateLemmas
+pub mod RestsLemmas

@@ -5,14 +5,15 @@ use Rattle.std.specs.BTreeMap.{is_at}
 use Rattle.std.specs.Map.{set_value}
 use Rattle.unix_path.specs.Order.{values_cmp}
 use Rattle.unix_path.specs.Parts.{Value}
-use Rattle.path_table.specs.Table.{table_of}
+use Rattle.path_table.specs.Table.{key_bytes, table_of}
 use Rattle.path_table.specs.contracts.table.PathTable.{the_row}
 use Rattle.path_table.specs.declared.table.PathTable.{PathTable}
 
--- the table behind s then has the last value behind r in the row at v; if r is `None`, it is as it
--- was
+-- the table behind s then has the last value behind r in the row at v, and its paths as they were
+-- spelled; if r is `None`, it is as it was
 abbrev pub lends_value : (V : RattleType) → MutBor (PathTable V.Denot) → List Value
     → Option (MutBor V.Denot) → Fml
 lends_value V s v r = LendsSo (the_row V) V s r
-    (λ t x. table_of t ≡ set_value (is_at (values_cmp v)) (table_of s.now) x)
-    (λ t. table_of t ≡ table_of s.now)
+    (λ t x. (table_of t ≡ set_value (is_at (values_cmp v)) (table_of s.now) x)
+    × (key_bytes t ≡ key_bytes s.now))
+    (λ t. (table_of t ≡ table_of s.now) × (key_bytes t ≡ key_bytes s.now))

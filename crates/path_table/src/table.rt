@@ -12,7 +12,8 @@ ghost use Rattle.unix_path.specs.Order.{values_cmp};
 ghost use Rattle.unix_path.specs.Parts.{values};
 ghost use Rattle.unix_path.specs.declared.buf.PathBuf.{PathBuf};
 ghost use Rattle.path_runs.specs.TableLaws.{rows_of};
-ghost use Rattle.path_table.specs.Table.{SameElsewhere, key_bytes, table_of, value_at};
+ghost use Rattle.path_table.specs.Table.{SameElsewhere, entries_of, key_bytes, paths_cmp};
+ghost use Rattle.path_table.specs.Table.{table_of, value_at};
 
 mod under;
 
@@ -51,8 +52,9 @@ impl<V> PathTable<V> {
     /// was no such path.
     ///
     /// If an equal path has a value, that path stays as the key, its value is replaced, and nothing
-    /// is allocated. Else allocates for the place in the table; fails if the allocation fails: then
-    /// the table stays as it was, and the path and the value are dropped. As Rust's
+    /// is allocated. Else the path itself, in its spelling, becomes the key, which allocates for
+    /// the place in the table; fails if the allocation fails: then the table stays as it was, and
+    /// the path and the value are dropped. All other keys stay as they are spelled. As Rust's
     /// `BTreeMap::insert`.
     ///
     /// With 1 at `a/b`, inserting 2 at `a//b/` gives 1 and leaves 2 at `a/b` alone.
@@ -67,6 +69,8 @@ impl<V> PathTable<V> {
             (value_at (values (path_bytes path)) (table_of self.new) ≡ Some value) }
         ensures others { OnOk result
             (SameElsewhere (values (path_bytes path)) (table_of self.old) (table_of self.new)) }
+        ensures entries { OnOk result (entries_of self.new
+            ≡ insert_entry paths_cmp (entries_of self.old) path value) }
         ensures key_stays { IfOk result (λ old.
             IsSome old → key_bytes self.new ≡ key_bytes self.old) }
         ensures err { OnErr result (table_of self.new ≡ table_of self.old) }
@@ -107,7 +111,8 @@ impl<V> PathTable<V> {
     }
 
     /// Removes the path that is equal to this one, and returns its value; `None` if there is no
-    /// such path. Does not allocate. As Rust's `BTreeMap::remove`.
+    /// such path. All other keys stay as they are spelled. Does not allocate. As Rust's
+    /// `BTreeMap::remove`.
     ///
     /// With 1 at `a/b` alone, removing `a//b` gives 1 and leaves no files.
     pub fn remove(&mut self, path: &PathBuf) -> Option<V>
@@ -118,6 +123,8 @@ impl<V> PathTable<V> {
         ensures gone { value_at (values (path_bytes path.now)) (table_of self.new) ≡ None }
         ensures others { SameElsewhere (values (path_bytes path.now))
             (table_of self.old) (table_of self.new) }
+        ensures entries { entries_of self.new
+            ≡ remove_entry (is_at (paths_cmp path.now)) (entries_of self.old) }
     {
         laws::lookup_by_values::<V>();
         laws::remove_by_values::<V>();

@@ -47,26 +47,28 @@ impl<'a> UnixStr<'a> {
         }
     }
 
-    /// These bytes, whatever they are. Does not allocate.
+    /// These bytes, whatever they are, as the very slice that was passed. Does not allocate.
     ///
     /// As Rust's `OsStrExt::from_bytes`.
     ///
     /// `UnixStr::from_bytes(b"\xff")` has the 1 byte FF.
     #[inline]
     pub fn from_bytes(bytes: &'a [u8]) -> UnixStr<'a>
-        ensures { result.bytes.now ≡ bytes.now }
+        ensures bytes { result.bytes.now ≡ bytes.now }
+        ensures place { result.bytes ≡ bytes.entry }
     {
         UnixStr { bytes }
     }
 
-    /// The bytes, borrowed from where the view borrows them. Does not allocate.
+    /// The bytes, as the very slice that the view holds. Does not allocate.
     ///
     /// As Rust's `OsStrExt::as_bytes`.
     ///
     /// `UnixStr::new("tmp").as_bytes()` is `b"tmp"`.
     #[inline]
     pub fn as_bytes(self) -> &'a [u8]
-        ensures { result.now ≡ self.entry.bytes.now }
+        ensures bytes { result.now ≡ self.entry.bytes.now }
+        ensures place { result ≡ self.entry.bytes }
     {
         self.bytes
     }

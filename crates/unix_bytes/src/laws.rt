@@ -5,6 +5,14 @@ ghost use Rattle.unix_bytes.specs.Laws.{FrontIsLongest, BrokenIsShort, LossyOfSe
 ghost use Rattle.unix_bytes.specs.Laws.{LossyOfBroken, LossyOfText, LossyIsText, LossyIsShort};
 ghost use Rattle.unix_bytes.specs.Laws.{ChunksOfNothing, ChunksOfSome, ChunksPartition};
 ghost use Rattle.unix_bytes.specs.Laws.{ChunksAreShort, WholeChunkIsLast, ChunksShowLossy};
+ghost use Rattle.std.specs.Prelude.{◌≡◌, ◌↔◌, IsTrue};
+ghost use Rattle.std.specs.Cmp.Lexicographic.{slice_cmp};
+ghost use Rattle.std.specs.Ordering.{nat_cmp};
+ghost use Rattle.unix_bytes.specs.Owned.{owned_bytes};
+ghost use Rattle.unix_bytes.specs.declared.bytes.UnixStr.{UnixStr};
+ghost use Rattle.unix_bytes.specs.declared.bytes.owned.UnixString.{UnixString};
+
+use crate::bytes::{UnixStr, UnixString};
 
 /// Text by the table of RFC 3629, section 4, is UTF-8 as Rattle's std defines it.
 pub fn text_is_utf8()
@@ -84,4 +92,22 @@ pub fn chunks_partition()
 /// The chunks as they are shown, one after the other, are the lossy text.
 pub fn chunks_show_lossy()
     ensures { ChunksShowLossy }
+{}
+
+/// Byte strings are equal exactly if their bytes are, and are ordered byte by byte.
+///
+/// That is what `==` and `cmp` answer, of views (`view`, `view_order`) and of owned byte strings
+/// (`owned`, `owned_order`); a proper prefix is the lesser. Calling it does nothing. Not in Rust's
+/// std.
+///
+/// `ab` is less than `abc`, and `abc` is less than `b`.
+pub fn bytes_ordered()
+    ensures view { (x y : UnixStr) →
+        IsTrue (⟦<UnixStr<'static> as PartialEq>⟧.eq x y) ↔ (x.bytes.now ≡ y.bytes.now) }
+    ensures view_order { (x y : UnixStr) →
+        ⟦<UnixStr<'static> as Ord>⟧.cmp x y ≡ slice_cmp nat_cmp x.bytes.now y.bytes.now }
+    ensures owned { (x y : UnixString) →
+        IsTrue (⟦<UnixString as PartialEq>⟧.eq x y) ↔ (owned_bytes x ≡ owned_bytes y) }
+    ensures owned_order { (x y : UnixString) →
+        ⟦<UnixString as Ord>⟧.cmp x y ≡ slice_cmp nat_cmp (owned_bytes x) (owned_bytes y) }
 {}

@@ -1,30 +1,20 @@
 -- What calls and chains over a cursor give: its values in order, or backwards behind `rev`.
-use Rattle.std.proofs.Common.{ap, ◌∙◌, ◌∷◌, [], length, List, ℕ, Option, None, reverse, subst}
-use Rattle.std.proofs.Common.{◌≡◌, sym}
+use Rattle.std.proofs.Common.{ap, ◌∙◌, ◌∷◌, [], length, None, reverse, subst}
+use Rattle.std.proofs.Common.{◌≡◌, refl, sym}
 use Rattle.std.specs.Iterator.Adapters.{rev_source, rev_steps}
 use Rattle.std.specs.declared.iter.Rev.{Rev}
 use Rattle.std.proofs.lemmas.List.{reverse-append}
 use Rattle.std.proofs.lemmas.Iterator.{YieldsList}
 use Rattle.std.proofs.lemmas.Iterator.Consumers.{YieldsList-from_shown}
-use Rattle.unix_bytes.specs.declared.bytes.UnixStr.{UnixStr}
 use Rattle.unix_path.proofs.PartLemmas.{rest-nil, values-nil}
 use Rattle.unix_path.proofs.SourceLemmas.{LiesIn-itself}
 use Rattle.unix_path.specs.Parts.{values}
 use Rattle.unix_path.specs.Rest.{rest}
 use Rattle.unix_path.specs.Views.{value_of}
-use Rattle.unix_path.specs.Cursor.{cursor_rest, cursor_source, cursor_values}
-use Rattle.unix_path.specs.Cursor.{iter_rest, iter_source, iter_bytes, GivesFirst, GivesLast}
-use Rattle.unix_path.specs.declared.cursor.component.Component.{Component}
+use Rattle.unix_path.specs.Cursor.{cursor_rest, cursor_source, cursor_values, iter_bytes}
+use Rattle.unix_path.specs.Cursor.{GivesFirstPart, GivesLastPart, GivesLastName, name_bytes}
 use Rattle.unix_path.specs.declared.cursor.walk.Components.{Components}
 use Rattle.unix_path.specs.declared.cursor.iter.Iter.{Iter}
-
--- what a call of `next` of a `Components` gives and leaves
-abbrev pub GivesFirstPart : Components → Option Component → Components → Type 0
-GivesFirstPart = GivesFirst value_of cursor_values cursor_rest cursor_source
-
--- what a call of `next_back` of a `Components` gives and leaves
-abbrev pub GivesLastPart : Components → Option Component → Components → Type 0
-GivesLastPart = GivesLast value_of cursor_values cursor_rest cursor_source
 
 -- if nothing is left, `next` gives nothing, and leaves the cursor as it is
 pub GivesFirst-none : (c : Components) → cursor_rest c ≡ [] → GivesFirstPart c None c
@@ -34,6 +24,7 @@ GivesFirst-none c none =
       item_is = (no_value, no_value);
       rest_is = none ∙ sym (ap (λ s. rest s 1 0) none ∙ rest-nil 1 0);
       place_is = LiesIn-itself (cursor_source c);
+      end_is = refl;
     }
 
 -- if nothing is left, `next_back` gives nothing, and leaves the cursor as it is
@@ -44,6 +35,7 @@ GivesLast-none c none =
       item_is = (no_value, no_value);
       rest_is = none ∙ sym (ap (λ s. rest s 0 1) none ∙ rest-nil 0 1);
       place_is = LiesIn-itself (cursor_source c);
+      start_is = refl;
     }
 
 -- a cursor gives its values in order
@@ -51,18 +43,6 @@ pub Components-yields : (s : Components) → YieldsList GivesFirstPart value_of 
 Components-yields s =
     YieldsList-from_shown GivesFirstPart value_of cursor_values (λ s t h. ap length h.item_is.0)
     (λ s x t h. h.item_is) s
-
--- the bytes of a name
-abbrev pub name_bytes : UnixStr → List ℕ
-name_bytes name = name.bytes.now
-
--- what a call of `next` of an `Iter` gives and leaves
-abbrev pub GivesFirstName : Iter → Option UnixStr → Iter → Type 0
-GivesFirstName = GivesFirst name_bytes iter_bytes iter_rest iter_source
-
--- what a call of `next_back` of an `Iter` gives and leaves
-abbrev pub GivesLastName : Iter → Option UnixStr → Iter → Type 0
-GivesLastName = GivesLast name_bytes iter_bytes iter_rest iter_source
 
 -- behind `rev` an `Iter` gives the bytes of its values from the last on
 Rev-yields : (s : Rev Iter)

@@ -8,6 +8,7 @@ pub mod TrimLemmas
 pub mod DotLaneLemmas
 pub mod TrailingBlockLemmas
 pub mod IdleBlockLemmas
+pub mod BreakLaneLemmas
 pub mod LastLemmas
 pub mod SpanLemmas
 pub mod StepLemmas

@@ -1,10 +1,10 @@
 -- What a path has left behind another one, without the filler behind its last part.
-use Rattle.std.proofs.Common.{◌≡◌, ℕ, ◌+◌, ◌-◌, ◌≤◌, ◌<◌, false, List, [], ◌++◌, length, take, map, sym}
-use Rattle.std.proofs.Common.{ap, subst, ◌∙◌, arith, take_all}
+use Rattle.std.proofs.Common.{◌≡◌, ℕ, ◌+◌, ◌-◌, ◌≤◌, ◌<◌, false, List, [], ◌++◌, length, take, map}
+use Rattle.std.proofs.Common.{sym, ap, subst, ◌∙◌, arith, take_all}
 use Rattle.std.specs.Borrow.{Bor}
 use Rattle.std.proofs.lemmas.List.{nil_from_length}
 use Rattle.unix_path.specs.Parts.{Part, parts, values}
-use Rattle.unix_path.specs.Places.{BeginsAt, IsTail}
+use Rattle.unix_path.specs.Places.{EndsAt, IsTail}
 use Rattle.unix_path.specs.Prefixes.{Begins, stripped_of}
 use Rattle.unix_path.specs.Rest.{rest}
 use Rattle.unix_path.specs.Scan.{is_idle, is_trailing}
@@ -61,9 +61,9 @@ stripped-is s base n left whole h is tail shares busy =
     ∙ rest-rest s 0 0 k 0
     ∙ ap (λ i. rest s i (0 + 0)) {x = 0 + k} {y = k} (omega arith)
 
--- and stands where the last part ends if it is empty
-pub stripped-empty : (path left whole : Bor (List ℕ)) (n : ℕ) → Trims path.now n
+-- and ends where the last part does
+pub stripped-end : (path left whole : Bor (List ℕ)) (n : ℕ) → Trims path.now n
     → whole.now ≡ take n path.now → whole.ref_ptr.1 ≡ path.ref_ptr.1 → IsTail left whole
-    → left.now ≡ [] → BeginsAt left path (length (rest path.now 0 0))
-stripped-empty path left whole n h is begins tail none =
-    omega (arith, tail.place, ap length none, begins, ap length is, ap length (rest-trims path.now n h).0)
+    → EndsAt left path (length (rest path.now 0 0))
+stripped-end path left whole n h is begins tail =
+    omega (arith, tail.place, begins, ap length is, ap length (rest-trims path.now n h).0)

@@ -3,10 +3,9 @@ use Rattle.std.proofs.Common.{length, ap}
 use Rattle.std.proofs.iter.runs.Sources.{from_front, from_back}
 use Rattle.std.specs.Iterator.{YieldsFirstBy}
 use Rattle.unix_path.specs.Views.{value_of}
-use Rattle.unix_path.specs.Cursor.{cursor_values, iter_bytes}
+use Rattle.unix_path.specs.Cursor.{cursor_values, iter_bytes, GivesFirstPart, GivesLastPart}
+use Rattle.unix_path.specs.Cursor.{name_bytes, GivesFirstName, GivesLastName}
 use Rattle.unix_path.specs.Ancestors.{ancestors_left}
-use Rattle.unix_path.proofs.CursorLemmas.{GivesFirstPart, GivesLastPart}
-use Rattle.unix_path.proofs.CursorLemmas.{name_bytes, GivesFirstName, GivesLastName}
 use Rattle.std.specs.Iterator.Runs.{EveryRun, ItemsMapTo, ItemsMapToReversed}
 use Rattle.unix_path.specs.declared.path.Path.{Path}
 

@@ -2,6 +2,10 @@
 use Rattle.std.specs.Prelude.{◌≡◌, ◌≤◌, ◌+◌, ◌-◌, ℕ, List, length, drop}
 use Rattle.std.specs.Borrow.{Bor}
 
+-- the place in memory where a slice begins, counted in its block
+abbrev pub place_of : Bor (List ℕ) → ℕ
+place_of slice = slice.ref_ptr.1
+
 -- every byte of `part` lies among those of `whole`, in the same memory
 pub record LiesIn (part whole : Bor (List ℕ)) : Type 0 where
   pub block : part.ref_ptr.0 ≡ whole.ref_ptr.0
@@ -11,6 +15,10 @@ pub record LiesIn (part whole : Bor (List ℕ)) : Type 0 where
 -- the slice `part` begins `at` bytes behind the beginning of `whole`
 abbrev pub BeginsAt : Bor (List ℕ) → Bor (List ℕ) → ℕ → Type 0
 BeginsAt part whole at = part.ref_ptr.1 ≡ whole.ref_ptr.1 + at
+
+-- the slice `part` ends `at` bytes behind the beginning of `whole`
+abbrev pub EndsAt : Bor (List ℕ) → Bor (List ℕ) → ℕ → Type 0
+EndsAt part whole at = part.ref_ptr.1 + length part.now ≡ whole.ref_ptr.1 + at
 
 -- `part` is the end of `whole`, in the same memory
 pub record IsTail (part whole : Bor (List ℕ)) : Type 0 where

@@ -27,6 +27,12 @@ is_trailing s i =
     nat_lt 0 i
     && (slice_index s i == slash || (slice_index s i == dot && slice_index s (i - 1) == slash))
 
+-- the byte at i is a slash, and a slash, a dot or the end follows
+abbrev pub is_break : List ℕ → ℕ → Bool
+is_break s i =
+    let next = slice_index_or s (i + 1) slash in
+    slice_index s i == slash && (next == slash || next == dot)
+
 -- the byte between what is kept and what is added, if there is one
 abbrev pub gap_bytes : Option ℕ → List ℕ
 gap_bytes None = []

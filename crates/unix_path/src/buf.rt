@@ -98,13 +98,14 @@ impl PathBuf {
 
     /// A copy of the path, under the same allocator.
     ///
-    /// Allocates once, or not at all for no bytes; fails if the allocation fails. As `Clone` of
-    /// Rust's `PathBuf`.
+    /// Allocates once; fails if the allocation fails. For no bytes does not allocate, and succeeds.
+    /// As `Clone` of Rust's `PathBuf`.
     ///
     /// A clone of `foo/` is another `foo/`.
     #[must_use]
     pub fn clone(&self) -> Result<PathBuf, AllocError>
-        ensures { IfOk result (λ p. path_bytes p ≡ path_bytes self.now) }
+        ensures bytes { IfOk result (λ p. path_bytes p ≡ path_bytes self.now) }
+        ensures succeeds { path_bytes self.now ≡ [] → IsOk result }
     {
         let inner = self.inner.clone()?;
         Ok(PathBuf { inner })
@@ -119,8 +120,8 @@ impl<'a> IntoIterator for &'a PathBuf {
     ghost use Rattle.std.specs.Prelude.{◌^◌, map};
     ghost use Rattle.std.specs.Iterator.Runs.{EveryRun, ItemsMapTo, ItemsMapToReversed};
     ghost use Rattle.unix_bytes.specs.declared.bytes.UnixStr.{UnixStr};
-    ghost use Rattle.unix_path.specs.Cursor.{iter_rest, iter_source, iter_bytes};
-    ghost use Rattle.unix_path.specs.Cursor.{GivesFirst, GivesLast};
+    ghost use Rattle.unix_path.specs.Cursor.{iter_rest, iter_bytes, name_bytes};
+    ghost use Rattle.unix_path.specs.Cursor.{GivesFirstName, GivesLastName};
 
     type Item = UnixStr<'a>;
 
@@ -130,12 +131,10 @@ impl<'a> IntoIterator for &'a PathBuf {
         (iter_rest walk ≡ rest (path_bytes path.now) 0 0)
         × (iter_bytes walk ≡ map value_bytes (values (path_bytes path.now)))
         × (length (iter_bytes walk) < 2 ^ 64)
-        × EveryRun {A = UnixStr}
-        (GivesFirst (λ name. name.bytes.now) iter_bytes iter_rest iter_source)
-        (λ run. ItemsMapTo run (λ name. name.bytes.now) (iter_bytes run.from))
-        × EveryRun {A = UnixStr}
-        (GivesLast (λ name. name.bytes.now) iter_bytes iter_rest iter_source)
-        (λ run. ItemsMapToReversed run (λ name. name.bytes.now) (iter_bytes run.from)) };
+        × EveryRun {A = UnixStr} GivesFirstName
+        (λ run. ItemsMapTo run name_bytes (iter_bytes run.from))
+        × EveryRun {A = UnixStr} GivesLastName
+        (λ run. ItemsMapToReversed run name_bytes (iter_bytes run.from)) };
 
     #[inline]
     fn into_iter(self) -> Iter<'a> {

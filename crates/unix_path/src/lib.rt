@@ -8,6 +8,7 @@ pub mod display;
 mod endings;
 pub mod json;
 pub mod kept;
+pub mod laws;
 mod names;
 mod order;
 mod pair;

@@ -16,14 +16,15 @@ ghost use Rattle.std.specs.Prelude.{◌≡◌, ◌↔◌, ◌<◌, ◌^◌, not,
 ghost use Rattle.std.specs.Prelude.{IsTrue, IsFalse};
 ghost use Rattle.unix_path.specs.Parts.{RootDir, slash, values, value_bytes, is_rooted};
 ghost use Rattle.unix_path.specs.Rest.{rest};
-ghost use Rattle.unix_path.specs.Cursor.{cursor_rest, cursor_source, cursor_values};
-ghost use Rattle.unix_path.specs.Cursor.{iter_rest, iter_source, iter_bytes};
-ghost use Rattle.unix_path.specs.Cursor.{GivesFirst, GivesLast};
+ghost use Rattle.unix_path.specs.Cursor.{cursor_rest, cursor_source, cursor_start, cursor_values};
+ghost use Rattle.unix_path.specs.Cursor.{GivesFirstPart, GivesLastPart};
+ghost use Rattle.unix_path.specs.Cursor.{iter_rest, iter_source, iter_start, iter_bytes};
+ghost use Rattle.unix_path.specs.Cursor.{name_bytes, GivesFirstName, GivesLastName};
 ghost use Rattle.unix_path.specs.Views.{value_of};
 ghost use Rattle.std.specs.Iterator.Runs.{EveryRun, ItemsMapTo, ItemsMapToReversed};
 ghost use Rattle.unix_bytes.specs.declared.bytes.UnixStr.{UnixStr};
 ghost use Rattle.unix_path.specs.Prefixes.{Begins};
-ghost use Rattle.unix_path.specs.Places.{LiesIn};
+ghost use Rattle.unix_path.specs.Places.{LiesIn, place_of};
 
 mod common_dir;
 mod file_name;
@@ -67,22 +68,25 @@ pub fn is_separator(c: char) -> bool
 }
 
 impl<'a> Path<'a> {
-    /// The path with these bytes. Does not allocate. As Rust's `Path::new`.
+    /// The path with these bytes, in the same memory. Does not allocate. As Rust's `Path::new`.
     ///
     /// `Path::new(UnixStr::new("/tmp"))` is the path `/tmp`.
     #[inline]
     pub fn new(text: UnixStr<'a>) -> Path<'a>
-        ensures { result.bytes.now ≡ text.entry.bytes.now }
+        ensures bytes { result.bytes.now ≡ text.entry.bytes.now }
+        ensures place { result.bytes ≡ text.entry.bytes }
     {
         Path { bytes: text.bytes }
     }
 
-    /// The path with these bytes, whatever they are. Does not allocate. Not in Rust's std.
+    /// The path with these bytes, whatever they are, as the very slice that was passed. Does not
+    /// allocate. Not in Rust's std.
     ///
     /// `Path::from_bytes(b"/tmp")` is the path `/tmp`.
     #[inline]
     pub fn from_bytes(bytes: &'a [u8]) -> Path<'a>
-        ensures { result.bytes.now ≡ bytes.now }
+        ensures bytes { result.bytes.now ≡ bytes.now }
+        ensures place { result.bytes ≡ bytes.entry }
     {
         Path { bytes }
     }
@@ -100,13 +104,14 @@ impl<'a> Path<'a> {
         }
     }
 
-    /// All bytes of the path. Does not allocate. As Rust's `Path::as_os_str`.
+    /// All bytes of the path, in the same memory. Does not allocate. As Rust's `Path::as_os_str`.
     ///
     /// For the path `a//b/` it is `a//b/`.
     #[must_use]
     #[inline]
     pub fn as_unix_str(&self) -> UnixStr<'a>
-        ensures { result.bytes.now ≡ self.now.bytes.now }
+        ensures bytes { result.bytes.now ≡ self.now.bytes.now }
+        ensures place { result.bytes ≡ self.now.bytes }
     {
         UnixStr { bytes: self.bytes }
     }
@@ -156,11 +161,12 @@ impl<'a> Path<'a> {
     pub fn components(&self) -> Components<'a>
         ensures rest { cursor_rest result ≡ rest self.now.bytes.now 0 0 }
         ensures place { LiesIn (cursor_source result) self.now.bytes }
+        ensures start { cursor_start result ≡ place_of self.now.bytes }
         ensures values { cursor_values result ≡ values self.now.bytes.now }
         ensures len { length (cursor_values result) < 2 ^ 64 }
-        ensures runs { EveryRun (GivesFirst value_of cursor_values cursor_rest cursor_source)
+        ensures runs { EveryRun GivesFirstPart
             (λ run. ItemsMapTo run value_of (cursor_values run.from)) }
-        ensures runs_back { EveryRun (GivesLast value_of cursor_values cursor_rest cursor_source)
+        ensures runs_back { EveryRun GivesLastPart
             (λ run. ItemsMapToReversed run value_of (cursor_values run.from)) }
     {
         Components::new(self.bytes)
@@ -174,14 +180,13 @@ impl<'a> Path<'a> {
     pub fn iter(&self) -> Iter<'a>
         ensures rest { iter_rest result ≡ rest self.now.bytes.now 0 0 }
         ensures place { LiesIn (iter_source result) self.now.bytes }
+        ensures start { iter_start result ≡ place_of self.now.bytes }
         ensures bytes { iter_bytes result ≡ map value_bytes (values self.now.bytes.now) }
         ensures len { length (iter_bytes result) < 2 ^ 64 }
-        ensures runs { EveryRun {A = UnixStr}
-            (GivesFirst (λ name. name.bytes.now) iter_bytes iter_rest iter_source)
-            (λ run. ItemsMapTo run (λ name. name.bytes.now) (iter_bytes run.from)) }
-        ensures runs_back { EveryRun {A = UnixStr}
-            (GivesLast (λ name. name.bytes.now) iter_bytes iter_rest iter_source)
-            (λ run. ItemsMapToReversed run (λ name. name.bytes.now) (iter_bytes run.from)) }
+        ensures runs { EveryRun {A = UnixStr} GivesFirstName
+            (λ run. ItemsMapTo run name_bytes (iter_bytes run.from)) }
+        ensures runs_back { EveryRun {A = UnixStr} GivesLastName
+            (λ run. ItemsMapToReversed run name_bytes (iter_bytes run.from)) }
     {
         Iter::new(self.components())
     }
@@ -199,12 +204,10 @@ impl<'a> IntoIterator for Path<'a> {
         (iter_rest walk ≡ rest path.bytes.now 0 0)
         × (iter_bytes walk ≡ map value_bytes (values path.bytes.now))
         × (length (iter_bytes walk) < 2 ^ 64)
-        × EveryRun {A = UnixStr}
-        (GivesFirst (λ name. name.bytes.now) iter_bytes iter_rest iter_source)
-        (λ run. ItemsMapTo run (λ name. name.bytes.now) (iter_bytes run.from))
-        × EveryRun {A = UnixStr}
-        (GivesLast (λ name. name.bytes.now) iter_bytes iter_rest iter_source)
-        (λ run. ItemsMapToReversed run (λ name. name.bytes.now) (iter_bytes run.from)) };
+        × EveryRun {A = UnixStr} GivesFirstName
+        (λ run. ItemsMapTo run name_bytes (iter_bytes run.from))
+        × EveryRun {A = UnixStr} GivesLastName
+        (λ run. ItemsMapToReversed run name_bytes (iter_bytes run.from)) };
 
     #[inline]
     fn into_iter(self) -> Iter<'a> {

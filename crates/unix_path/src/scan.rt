@@ -2,12 +2,15 @@
 //!
 //! For code that goes through the bytes of a path itself. `Path` and `Components` have what other
 //! callers need.
-ghost use Rattle.std.specs.Prelude.{◌≡◌, ℕ, ◌+◌, ◌<◌, ◌≤◌, false, length, drop};
+ghost use Rattle.std.specs.Prelude.{◌≡◌, ℕ, ◌+◌, ◌<◌, ◌≤◌, true, false, length, drop};
+ghost use Rattle.std.specs.Prelude.{None, IfSome};
 ghost use Rattle.unix_path.specs.Edits.{dot_before};
 ghost use Rattle.unix_path.specs.Joins.{is_open};
 ghost use Rattle.unix_path.specs.Parts.{inner_parts};
 ghost use Rattle.unix_path.specs.Scan.{begins_with_parent, ends_with_parent, gap_bytes, is_idle};
-ghost use Rattle.unix_path.specs.Scan.{is_trailing};
+ghost use Rattle.unix_path.specs.Scan.{is_break, is_trailing};
+
+use std::simd::prelude::*;
 
 /// Whether the byte at `at` is a slash, or a `.` that a slash or the end follows.
 ///
@@ -56,6 +59,168 @@ pub fn idle_len(bytes: &[u8]) -> usize
         len += 1;
     }
     len
+}
+
+// Whether the byte at `at` is a slash, and a slash, a dot or the end follows.
+#[inline(always)]
+fn is_break(bytes: &[u8], at: usize) -> bool
+    requires { at < length bytes.now }
+    ensures { result ≡ is_break bytes.now at }
+{
+    bytes[at] == b'/' && (at + 1 == bytes.len() || bytes[at + 1] == b'/' || bytes[at + 1] == b'.')
+}
+
+// The place of the first break among the 16 bytes from `at` on.
+#[inline(always)]
+fn break_in_lanes(bytes: &[u8], at: usize) -> Option<usize>
+    requires { at + 16 < length bytes.now }
+    ensures none { result ≡ None → (i : ℕ) → at ≤ i → i < at + 16 → is_break bytes.now i ≡ false }
+    ensures in_range { IfSome result (λ place. (at ≤ place) × (place < at + 16)) }
+    ensures none_before { IfSome result (λ place.
+        (i : ℕ) → at ≤ i → i < place → is_break bytes.now i ≡ false) }
+    ensures found { IfSome result (λ place. is_break bytes.now place ≡ true) }
+{
+    let slash = u8x16::splat(b'/');
+    let here = u8x16::from_slice(&bytes[at..]);
+    let next = u8x16::from_slice(&bytes[at + 1..]);
+    let is_next = next.simd_eq(slash) | next.simd_eq(u8x16::splat(b'.'));
+    let breaks = (here.simd_eq(slash) & is_next).to_bitmask();
+    if breaks == 0 {
+        return None;
+    }
+    Some(at + breaks.trailing_zeros() as usize)
+}
+
+// The place of the first break among the last 17 bytes, or the length if there is none.
+#[inline(always)]
+fn break_at_end(bytes: &[u8]) -> usize
+    requires { 17 ≤ length bytes.now }
+    ensures forward { length bytes.now ≤ result + 17 }
+    ensures in_range { result ≤ length bytes.now }
+    ensures none_before { (i : ℕ) → length bytes.now ≤ i + 17 → i < result
+        → is_break bytes.now i ≡ false }
+    ensures found { result < length bytes.now → is_break bytes.now result ≡ true }
+{
+    let len = bytes.len();
+    if let Some(place) = break_in_lanes(bytes, len - 17) {
+        return place;
+    }
+    // The last byte has none behind it.
+    if bytes[len - 1] == b'/' {
+        return len - 1;
+    }
+    len
+}
+
+// The place of the first break from `start` on in blocks of 16 bytes that begin before `last`.
+#[inline(always)]
+fn break_in_blocks(bytes: &[u8], start: usize, last: usize) -> Option<usize>
+    requires in_order { start ≤ last }
+    requires in_range { last + 16 < length bytes.now }
+    ensures none { result ≡ None
+        → (i : ℕ) → start ≤ i → i < last → is_break bytes.now i ≡ false }
+    ensures in_range { IfSome result (λ place. (start ≤ place) × (place < length bytes.now)) }
+    ensures none_before { IfSome result (λ place.
+        (i : ℕ) → start ≤ i → i < place → is_break bytes.now i ≡ false) }
+    ensures found { IfSome result (λ place. is_break bytes.now place ≡ true) }
+{
+    let mut at = start;
+    while at < last {
+        if let Some(place) = break_in_lanes(bytes, at) {
+            return Some(place);
+        }
+        at += 16;
+    }
+    None
+}
+
+// As `first_break`, of bytes that are looked at one by one.
+#[inline(always)]
+fn first_break_in_few(bytes: &[u8], start: usize) -> usize
+    requires { start ≤ length bytes.now }
+    ensures forward { start ≤ result }
+    ensures in_range { result ≤ length bytes.now }
+    ensures none_before { (i : ℕ) → start ≤ i → i < result → is_break bytes.now i ≡ false }
+    ensures found { result < length bytes.now → is_break bytes.now result ≡ true }
+{
+    let mut at = start;
+    while at < bytes.len() && !is_break(bytes, at) {
+        at += 1;
+    }
+    at
+}
+
+// The place of the last break, or the length if there is none, of bytes that are looked at one by
+// one.
+#[inline(always)]
+fn last_break_in_few(bytes: &[u8]) -> usize
+    ensures in_range { result ≤ length bytes.now }
+    ensures none { result ≡ length bytes.now
+        → (i : ℕ) → i < length bytes.now → is_break bytes.now i ≡ false }
+    ensures found { result < length bytes.now → is_break bytes.now result ≡ true }
+{
+    let mut behind = bytes.len();
+    while behind > 0 {
+        if is_break(bytes, behind - 1) {
+            return behind - 1;
+        }
+        behind -= 1;
+    }
+    bytes.len()
+}
+
+/// The place, from `start` on, of the first slash that a slash, a dot or the end follows, or the
+/// length if there is none.
+///
+/// Behind each slash before that place a name begins; behind the one at it may stand filler, a
+/// `..`, or a name that begins with a dot. Looks at 16 bytes at a time. Does not allocate. Not in
+/// Rust's std.
+///
+/// In `a/b/../c` from 0 on it is 3.
+#[inline(always)]
+pub fn first_break(bytes: &[u8], start: usize) -> usize
+    requires { start ≤ length bytes.now }
+    ensures forward { start ≤ result }
+    ensures in_range { result ≤ length bytes.now }
+    ensures none_before { (i : ℕ) → start ≤ i → i < result → is_break bytes.now i ≡ false }
+    ensures found { result < length bytes.now → is_break bytes.now result ≡ true }
+{
+    let len = bytes.len();
+    if len - start < 17 {
+        return first_break_in_few(bytes, start);
+    }
+    match break_in_blocks(bytes, start, len - 17) {
+        Some(place) => place,
+        None => break_at_end(bytes),
+    }
+}
+
+/// The place of a slash that a slash, a dot or the end follows, or the length if there is none.
+///
+/// If there is none, names alone stand behind the first slash. Looks at 16 bytes at a time, and at
+/// the last ones first, since most paths that climb do so there. Does not allocate. Not in Rust's
+/// std.
+///
+/// For `a/` it is 1, and for `a/b` it is 3.
+#[inline(always)]
+pub fn any_break(bytes: &[u8]) -> usize
+    ensures in_range { result ≤ length bytes.now }
+    ensures none { result ≡ length bytes.now
+        → (i : ℕ) → i < length bytes.now → is_break bytes.now i ≡ false }
+    ensures found { result < length bytes.now → is_break bytes.now result ≡ true }
+{
+    let len = bytes.len();
+    if len < 17 {
+        return last_break_in_few(bytes);
+    }
+    let place = break_at_end(bytes);
+    if place < len {
+        return place;
+    }
+    match break_in_blocks(bytes, 0, len - 17) {
+        Some(place) => place,
+        None => len,
+    }
 }
 
 /// Whether the first piece is `..`. Does not allocate. Not in Rust's std.

@@ -6,16 +6,19 @@ ghost use Rattle.unix_path.specs.Parts.{Value};
 ghost use Rattle.unix_path.specs.Order.{values_cmp};
 ghost use Rattle.path_runs.specs.OrderLaws.{OrderBehindCommonDir, OrderBehindSlash, PrefixBothWays};
 ghost use Rattle.path_runs.specs.OrderLaws.{UnderIsInterval, BaseBeforeUnder};
+ghost use Rattle.path_runs.specs.OrderLaws.{OneOrder, BeforeIsTransitive};
 
 /// The order of lists of values is total, and only equal lists tie in it.
 ///
-/// So of two paths exactly one holds: they have the same values, the first is less, or the second
-/// is. Being less is transitive. Calling it does nothing. Not in Rust's std.
+/// Of two paths exactly one holds: they have the same values, the first is less, or the second is
+/// (`one`). Being less is transitive (`transitive`). Calling it does nothing. Not in Rust's std.
 ///
 /// `a` is less than `a/b`, and `a/b` is less than `b`; so `a` is less than `b`.
 pub fn order_total()
     ensures total { IsTotalOrder values_cmp }
     ensures equal { (v w : List Value) → (values_cmp v w ≡ Equal) ↔ (v ≡ w) }
+    ensures one { OneOrder }
+    ensures transitive { BeforeIsTransitive }
 {}
 
 /// Two lists of values that begin each other are equal.

@@ -30,26 +30,31 @@ pub struct Under<'a, 'b, V> {
 }
 
 impl<V> PathTable<V> {
-    ghost use Rattle.std.specs.Prelude.{◌<◌, ◌^◌, IfOk, length, map};
-    ghost use Rattle.std.specs.Iterator.{YieldsFirstBy};
+    ghost use Rattle.std.specs.Prelude.{◌<◌, ◌^◌, [], IfOk, IsOk, length, map};
     ghost use Rattle.std.specs.Iterator.Runs.{EveryRun, ItemsMapTo};
     ghost use Rattle.std.specs.Borrow.{Bor};
     ghost use Rattle.unix_path.specs.declared.path.Path.{Path};
-    ghost use Rattle.path_table.specs.Table.{answer_row, entries_under, table_of};
-    ghost use Rattle.path_table.specs.Under.{under_left};
+    ghost use Rattle.path_table.specs.Table.{answer_rest, answer_row, entries_of, entries_under};
+    ghost use Rattle.path_table.specs.Table.{rests_under, table_of};
+    ghost use Rattle.path_table.specs.Under.{GivesUnder, rests_left, under_left};
 
     /// The files under `base`, in path order: what follows `base` in each path, and its value.
     ///
     /// Whole parts count: `a.b` isn't under `a`. A file at `base` itself comes first, with the
-    /// empty path. The walk starts at `base` and stops at the first path that doesn't start with
-    /// it. Neither this nor the walk allocates. Not in Rust's std.
+    /// empty path. What follows has the bytes of the path as it was inserted. The walk starts at
+    /// `base` and stops at the first path that doesn't start with it. Neither this nor the walk
+    /// allocates. Not in Rust's std.
     ///
     /// With 1 at `a//b/c` and 2 at `a/b/d`, under `a/b` it gives `c` with 1, and then `d` with 2.
     pub fn walk_under<'a, 'b>(&'a self, base: &'b PathBuf) -> Under<'a, 'b, V>
         ensures left { under_left result
             ≡ entries_under (values (path_bytes base.now)) (table_of self.entry.now) }
-        ensures runs { EveryRun {A = Path × Bor V} (YieldsFirstBy answer_row under_left)
+        ensures rests { rests_left result
+            ≡ rests_under (path_bytes base.now) (entries_of self.entry.now) }
+        ensures runs { EveryRun {A = Path × Bor V} GivesUnder
             (λ run. ItemsMapTo run answer_row (under_left run.from)) }
+        ensures runs_rests { EveryRun {A = Path × Bor V} GivesUnder
+            (λ run. ItemsMapTo run answer_rest (rests_left run.from)) }
         ensures fits { length (under_left result) < 2 ^ 63 }
     {
         laws::base_before_under();
@@ -61,8 +66,8 @@ impl<V> PathTable<V> {
 
     /// The files under `base`, as `walk_under` gives them, in a list.
     ///
-    /// Allocates as the list grows; fails if an allocation fails, and then the list is dropped. Not
-    /// in Rust's std.
+    /// Allocates as the list grows; fails if an allocation fails, and then the list is dropped. If
+    /// no file is under `base` does not allocate, and succeeds. Not in Rust's std.
     ///
     /// With 1 at `a//b/c` and 2 at `a/b/d`, under `a/b` they are `c` with 1 and `d` with 2.
     pub fn under<'a>(
@@ -70,21 +75,28 @@ impl<V> PathTable<V> {
         alloc: Global,
         base: &PathBuf,
     ) -> Result<Vec<(Path<'a>, &'a V)>, AllocError>
-        ensures { IfOk result (λ found. map answer_row found.items
+        ensures rows { IfOk result (λ found. map answer_row found.items
             ≡ entries_under (values (path_bytes base.now)) (table_of self.entry.now)) }
+        ensures rests { IfOk result (λ found. map answer_rest found.items
+            ≡ rests_under (path_bytes base.now) (entries_of self.entry.now)) }
+        ensures succeeds { entries_under (values (path_bytes base.now))
+            (table_of self.entry.now) ≡ [] → IsOk result }
     {
-        self.walk_under(base).collect(alloc)
+        let mut found = Vec::new(alloc);
+        for answer in self.walk_under(base) {
+            found.push(answer)?;
+        }
+        Ok(found)
     }
 }
 
 impl<'a, 'b, V> Iterator for Under<'a, 'b, V> {
-    ghost use Rattle.std.specs.Iterator.{YieldsFirstBy, item_count};
-    ghost use Rattle.path_table.specs.Table.{answer_row};
-    ghost use Rattle.path_table.specs.Under.{under_left};
+    ghost use Rattle.std.specs.Iterator.{item_count};
+    ghost use Rattle.path_table.specs.Under.{GivesUnder, under_left};
 
     type Item = (Path<'a>, &'a V);
 
-    ghost next_gives = { YieldsFirstBy answer_row under_left };
+    ghost next_gives = { GivesUnder };
 
     ghost remaining = { item_count under_left };
 

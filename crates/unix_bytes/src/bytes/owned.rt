@@ -58,15 +58,15 @@ impl UnixString {
 
     /// A copy of the bytes, under the same allocator.
     ///
-    /// Allocates once, or not at all for no bytes; fails if the allocation fails. As `Clone` of
-    /// Rust's `OsString`.
+    /// Allocates once; fails if the allocation fails. For no bytes does not allocate, and succeeds.
+    /// As `Clone` of Rust's `OsString`.
     ///
     /// A clone of `tmp` is another `tmp`.
     pub fn clone(&self) -> Result<UnixString, AllocError>
-        ensures { IfOk result (λ s. owned_bytes s ≡ owned_bytes self.now) }
+        ensures bytes { IfOk result (λ s. owned_bytes s ≡ owned_bytes self.now) }
+        ensures succeeds { owned_bytes self.now ≡ [] → IsOk result }
     {
-        let bytes = Vec::from_slice(*self.bytes.allocator(), self.bytes.as_slice())?;
-        Ok(UnixString { bytes })
+        self.as_unix_str().to_unix_string(*self.bytes.allocator())
     }
 
     /// Appends the bytes.
@@ -207,15 +207,17 @@ impl UnixString {
 impl<'a> UnixStr<'a> {
     /// A copy of the bytes that owns them.
     ///
-    /// Allocates once, or not at all for no bytes; fails if the allocation fails. As Rust's
-    /// `OsStr::to_os_string`.
+    /// Allocates once; fails if the allocation fails. For no bytes does not allocate, and succeeds.
+    /// As Rust's `OsStr::to_os_string`.
     ///
     /// For `tmp` it is another `tmp`.
     pub fn to_unix_string(self, alloc: Global) -> Result<UnixString, AllocError>
-        ensures { IfOk result (λ s. owned_bytes s ≡ self.entry.bytes.now) }
+        ensures bytes { IfOk result (λ s. owned_bytes s ≡ self.entry.bytes.now) }
+        ensures succeeds { self.entry.bytes.now ≡ [] → IsOk result }
     {
-        let bytes = Vec::from_slice(alloc, self.bytes)?;
-        Ok(UnixString { bytes })
+        let mut owned = UnixString::with_capacity(alloc, self.bytes.len())?;
+        owned.push(self)?;
+        Ok(owned)
     }
 }
 

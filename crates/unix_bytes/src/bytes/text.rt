@@ -1,5 +1,5 @@
 //! Text that was read from bytes.
-ghost use Rattle.std.specs.Prelude.{◌≡◌, ◌↔◌, Some, IsOk, IfOk, IsTrue, nat_eq};
+ghost use Rattle.std.specs.Prelude.{◌≡◌, ◌↔◌, [], Some, IsOk, IfOk, IsTrue, nat_eq};
 ghost use Rattle.std.specs.Ordering.{nat_cmp};
 ghost use Rattle.std.specs.Cmp;
 ghost use Rattle.std.specs.Cmp.{on_equiv, on_per, on_po, on_total};
@@ -45,16 +45,22 @@ impl LossyText<'_> {
 
     /// The text as a `String`: a copy if it is borrowed, and the text itself if it is owned.
     ///
-    /// A copy allocates once, as many bytes as the text has, or not at all for no bytes; fails if
-    /// the allocation fails. For an owned text nothing is allocated. As Rust's `Cow::into_owned`.
+    /// A copy allocates once, as many bytes as the text has; fails if the allocation fails. For an
+    /// owned text, or for no bytes, nothing is allocated and the call succeeds. As Rust's
+    /// `Cow::into_owned`.
     ///
     /// For what was read from `ab` it is another `ab`.
     pub fn into_owned(self, alloc: Global) -> Result<String, AllocError>
         ensures bytes { IfOk result (λ text. string_bytes text ≡ text_bytes self.entry) }
         ensures succeeds { ¬ (IsBorrowed self.entry) → IsOk result }
+        ensures succeeds_empty { text_bytes self.entry ≡ [] → IsOk result }
     {
         match self {
-            LossyText::Borrowed(text) => String::from_str(alloc, text),
+            LossyText::Borrowed(text) => {
+                let mut owned = String::with_capacity(alloc, text.len())?;
+                owned.push_str(text)?;
+                Ok(owned)
+            }
             LossyText::Owned(text) => Ok(text),
         }
     }

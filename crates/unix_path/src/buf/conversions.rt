@@ -1,5 +1,5 @@
 //! Owned paths from bytes and text, and back.
-ghost use Rattle.std.specs.Prelude.{◌≡◌, IfOk, string_bytes};
+ghost use Rattle.std.specs.Prelude.{◌≡◌, [], IfOk, IsOk, string_bytes};
 ghost use Rattle.unix_bytes.specs.Owned.{owned_bytes, owned_capacity};
 ghost use Rattle.unix_path.specs.Buffers.{path_bytes, capacity};
 
@@ -11,12 +11,13 @@ use unix_bytes::bytes::{UnixStr, UnixString};
 impl PathBuf {
     /// The path with a copy of these bytes.
     ///
-    /// Allocates once, or not at all for no bytes; fails if the allocation fails. As Rust's
-    /// `From<&OsStr>` of `PathBuf`.
+    /// Allocates once; fails if the allocation fails. For no bytes does not allocate, and succeeds.
+    /// As Rust's `From<&OsStr>` of `PathBuf`.
     ///
     /// For `tmp/` it is the path `tmp/`.
     pub fn from_unix_str(alloc: Global, text: UnixStr<'_>) -> Result<PathBuf, AllocError>
-        ensures { IfOk result (λ p. path_bytes p ≡ text.entry.bytes.now) }
+        ensures bytes { IfOk result (λ p. path_bytes p ≡ text.entry.bytes.now) }
+        ensures succeeds { text.entry.bytes.now ≡ [] → IsOk result }
     {
         let inner = text.to_unix_string(alloc)?;
         Ok(PathBuf { inner })
@@ -24,12 +25,13 @@ impl PathBuf {
 
     /// The path with a copy of the text's bytes, in UTF-8.
     ///
-    /// Allocates once, or not at all for no bytes; fails if the allocation fails. As Rust's
-    /// `From<&str>` of `PathBuf`.
+    /// Allocates once; fails if the allocation fails. For no bytes does not allocate, and succeeds.
+    /// As Rust's `From<&str>` of `PathBuf`.
     ///
     /// `PathBuf::from_text(alloc, "/tmp")?` is the path `/tmp`.
     pub fn from_text(alloc: Global, text: &str) -> Result<PathBuf, AllocError>
-        ensures { IfOk result (λ p. path_bytes p ≡ text.now) }
+        ensures bytes { IfOk result (λ p. path_bytes p ≡ text.now) }
+        ensures succeeds { text.now ≡ [] → IsOk result }
     {
         PathBuf::from_unix_str(alloc, UnixStr::new(text))
     }
@@ -51,13 +53,14 @@ impl PathBuf {
 impl<'a> Path<'a> {
     /// A copy of the path that owns its bytes.
     ///
-    /// Allocates once, or not at all for no bytes; fails if the allocation fails. As Rust's
-    /// `Path::to_path_buf`.
+    /// Allocates once; fails if the allocation fails. For no bytes does not allocate, and succeeds.
+    /// As Rust's `Path::to_path_buf`.
     ///
     /// For `foo/` it is another `foo/`.
     #[must_use]
     pub fn to_path_buf(&self, alloc: Global) -> Result<PathBuf, AllocError>
-        ensures { IfOk result (λ p. path_bytes p ≡ self.now.bytes.now) }
+        ensures bytes { IfOk result (λ p. path_bytes p ≡ self.now.bytes.now) }
+        ensures succeeds { self.now.bytes.now ≡ [] → IsOk result }
     {
         PathBuf::from_unix_str(alloc, self.as_unix_str())
     }

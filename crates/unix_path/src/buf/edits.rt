@@ -1,7 +1,7 @@
 //! Edits of owned paths, and edited copies of paths. Those of an extension stand in
 //! `buf/extensions.rt`.
 ghost use Rattle.std.specs.Prelude.{◌≡◌, ◌+◌, ◌^◌, ◌<◌, ◌≤◌, ◌++◌, length, take};
-ghost use Rattle.std.specs.Prelude.{false, IfOk, OnOk, OnErr, IsOk, is_some};
+ghost use Rattle.std.specs.Prelude.{false, [], IfOk, OnOk, OnErr, IsOk, is_some};
 ghost use Rattle.unix_bytes.specs.Owned.{owned_bytes, owned_room, owned_capacity};
 ghost use Rattle.unix_path.specs.Buffers.{path_bytes, capacity};
 ghost use Rattle.unix_path.specs.Edits.{popped_of, with_name_of};
@@ -79,7 +79,8 @@ pub(super) fn copy_of(
     gap: Option<u8>,
     more: &[u8],
 ) -> Result<PathBuf, AllocError>
-    ensures { IfOk result (λ p. path_bytes p ≡ (base.now ++ gap_bytes gap) ++ more.now) }
+    ensures bytes { IfOk result (λ p. path_bytes p ≡ (base.now ++ gap_bytes gap) ++ more.now) }
+    ensures succeeds { (base.now ++ gap_bytes gap) ++ more.now ≡ [] → IsOk result }
 {
     let mut inner = UnixString::with_capacity(alloc, total_len(base.len(), gap, more))?;
     inner.push(UnixStr::from_bytes(base))?;
@@ -196,14 +197,15 @@ impl PathBuf {
 impl<'a> Path<'a> {
     /// A copy of the path, with another pushed onto it.
     ///
-    /// Allocates once, or not at all for an empty result; fails if the allocation fails. As Rust's
-    /// `Path::join`.
+    /// Allocates once; fails if the allocation fails. For an empty result does not allocate, and
+    /// succeeds. As Rust's `Path::join`.
     ///
     /// `/etc` joined with `passwd` is `/etc/passwd`, and `a` with the empty path is `a/`.
     #[must_use]
     pub fn join(&self, alloc: Global, path: Path<'_>) -> Result<PathBuf, AllocError>
-        ensures { IfOk result
+        ensures bytes { IfOk result
             (λ p. path_bytes p ≡ join_of self.now.bytes.now path.entry.bytes.now) }
+        ensures succeeds { join_of self.now.bytes.now path.entry.bytes.now ≡ [] → IsOk result }
     {
         let (keep, gap) = join_cut(self.bytes, path);
         copy_of(alloc, &self.bytes[..keep], gap, path.bytes)
@@ -211,14 +213,15 @@ impl<'a> Path<'a> {
 
     /// A copy of the path, with this file name as `PathBuf::set_file_name` sets it.
     ///
-    /// Allocates once, or not at all for an empty result; fails if the allocation fails. As Rust's
-    /// `Path::with_file_name`.
+    /// Allocates once; fails if the allocation fails. For an empty result does not allocate, and
+    /// succeeds. As Rust's `Path::with_file_name`.
     ///
     /// `/tmp/foo.txt` with the file name `bar.txt` is `/tmp/bar.txt`.
     #[must_use]
     pub fn with_file_name(&self, alloc: Global, name: UnixStr<'_>) -> Result<PathBuf, AllocError>
-        ensures { IfOk result
+        ensures bytes { IfOk result
             (λ p. path_bytes p ≡ with_name_of self.now.bytes.now name.entry.bytes.now) }
+        ensures succeeds { with_name_of self.now.bytes.now name.entry.bytes.now ≡ [] → IsOk result }
     {
         self.before_name().join(alloc, Path::new(name))
     }

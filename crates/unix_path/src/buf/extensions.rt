@@ -183,9 +183,9 @@ impl<'a> Path<'a> {
     /// A copy of the path, with this extension as `PathBuf::set_extension` sets it.
     ///
     /// The error is `Separator` exactly if the extension holds a `/`, and comes before anything is
-    /// allocated; it is `Memory` if the allocation fails. Allocates once, or not at all for an
-    /// empty result. As Rust's `Path::with_extension`, but that one panics for a separator, and
-    /// gives `..` for `..a` whatever the extension.
+    /// allocated; it is `Memory` if the allocation fails. Allocates once; for an empty result does
+    /// not allocate, and succeeds. As Rust's `Path::with_extension`, but that one panics for a
+    /// separator, and gives `..` for `..a` whatever the extension.
     ///
     /// `foo.rs` with the extension `txt` is `foo.txt`, and `..` stays `..`.
     #[tactic(auto, using(crate::proofs::EditLemmas::extension_cases))]
@@ -198,6 +198,8 @@ impl<'a> Path<'a> {
             ↔ (has_slash extension.entry.bytes.now ≡ true) }
         ensures value { IfOk result
             (λ p. path_bytes p ≡ with_extension_of self.now.bytes.now extension.entry.bytes.now) }
+        ensures succeeds { has_slash extension.entry.bytes.now ≡ false
+            → with_extension_of self.now.bytes.now extension.entry.bytes.now ≡ [] → IsOk result }
     {
         let bytes = extension.bytes;
         if has_slash(bytes) {
@@ -211,8 +213,9 @@ impl<'a> Path<'a> {
     /// A copy of the path, with this extension added as `PathBuf::add_extension` adds it.
     ///
     /// The error is `Separator` exactly if the extension holds a `/`, and comes before anything is
-    /// allocated; it is `Memory` if the allocation fails. Allocates once, or not at all for an
-    /// empty result. As Rust's `Path::with_added_extension`, which panics for a separator.
+    /// allocated; it is `Memory` if the allocation fails. Allocates once; for an empty result does
+    /// not allocate, and succeeds. As Rust's `Path::with_added_extension`, which panics for a
+    /// separator.
     ///
     /// `foo.tar` with the extension `gz` added is `foo.tar.gz`, and `..` stays `..`.
     #[tactic(auto, using(crate::proofs::NameEndLemmas::added_cases))]
@@ -225,6 +228,8 @@ impl<'a> Path<'a> {
             ↔ (has_slash extension.entry.bytes.now ≡ true) }
         ensures value { IfOk result
             (λ p. path_bytes p ≡ added_extension_of self.now.bytes.now extension.entry.bytes.now) }
+        ensures succeeds { has_slash extension.entry.bytes.now ≡ false
+            → added_extension_of self.now.bytes.now extension.entry.bytes.now ≡ [] → IsOk result }
     {
         let bytes = extension.bytes;
         if has_slash(bytes) {
@@ -252,6 +257,9 @@ impl<'a> Path<'a> {
         ensures whole { end ≡ None → IfOk result (λ p. path_bytes p ≡ self.now.bytes.now) }
         ensures cut { IfSome end (λ end. IfOk result (λ p.
             path_bytes p ≡ (take end self.now.bytes.now ++ gap_bytes gap) ++ more.now)) }
+        ensures succeeds_whole { end ≡ None → self.now.bytes.now ≡ [] → IsOk result }
+        ensures succeeds_cut { IfSome end (λ end.
+            (take end self.now.bytes.now ++ gap_bytes gap) ++ more.now ≡ [] → IsOk result) }
     {
         match end {
             Some(end) => copy_of(alloc, &self.bytes[..end], gap, more),

@@ -1,7 +1,8 @@
 //! Many paths, joined one after the other.
-ghost use Rattle.std.specs.Prelude.{ℕ, ◌≤◌, List, [], IfOk, OnOk, OnErr};
+ghost use Rattle.std.specs.Prelude.{ℕ, ◌≤◌, List, [], IfOk, OnOk, OnErr, IsOk};
 ghost use Rattle.std.specs.Iterator.{IsFinite};
-ghost use Rattle.unix_path.specs.Buffers.{path_bytes, capacity, JoinsAll, JoinsBeginning};
+ghost use Rattle.unix_path.specs.Buffers.{path_bytes, room, capacity, JoinsAll, JoinsBeginning};
+ghost use Rattle.unix_path.specs.Buffers.{ItemsFit, JoinsFit};
 
 use crate::buf::PathBuf;
 use crate::path::Path;
@@ -11,8 +12,8 @@ impl PathBuf {
     /// The empty path, joined with each of these paths, one after the other.
     ///
     /// The caller shows that `items` may be asked for a next item, and that it ends. Allocates as
-    /// the path grows; an empty list allocates nothing. Fails if an allocation fails. As
-    /// `FromIterator` of Rust's `PathBuf`.
+    /// the path grows; fails if an allocation fails. For no item, or if all are empty, does not
+    /// allocate, and succeeds. As `FromIterator` of Rust's `PathBuf`.
     ///
     /// For `/`, `feel` and `the.force` it is `/feel/the.force`.
     pub fn from_iter<'a, I: Iterator<Item = Path<'a>>>(
@@ -24,6 +25,7 @@ impl PathBuf {
         ensures ok { IfOk result (λ p. JoinsAll I.next_gives items [] (path_bytes p)) }
         ensures err { OnErr result
             ((bytes : List ℕ) × JoinsBeginning I.next_gives items [] bytes 0) }
+        ensures succeeds { JoinsFit I.next_gives items [] 0 → IsOk result }
     {
         let mut path = PathBuf::new(alloc);
         path.extend(items)?;
@@ -33,8 +35,10 @@ impl PathBuf {
     /// Pushes each of these paths, one after the other.
     ///
     /// The caller shows that `items` may be asked for a next item, and that it ends. Allocates as
-    /// the path grows; an empty list allocates nothing. If an allocation fails, the path is as the
-    /// pushes before it left it. As `Extend` of Rust's `PathBuf`.
+    /// the path grows; if no join is longer than the capacity, as for no item, does not allocate,
+    /// and succeeds; so it does if the items, with a byte more for each, fit the room. If an
+    /// allocation fails, the path is as the pushes before it left it. As `Extend` of Rust's
+    /// `PathBuf`.
     ///
     /// `a`, extended by `b`, `/c` and `d`, is `/c/d`.
     #[tactic(auto, using(crate::proofs::GapLemmas::join_all_of_snoc))]
@@ -45,6 +49,9 @@ impl PathBuf {
             (JoinsAll I.next_gives items (path_bytes self.old) (path_bytes self.new)) }
         ensures err { OnErr result (JoinsBeginning I.next_gives items
             (path_bytes self.old) (path_bytes self.new) (capacity self.old)) }
+        ensures succeeds { JoinsFit I.next_gives items (path_bytes self.old) (capacity self.old)
+            → IsOk result }
+        ensures succeeds_in_room { ItemsFit I.next_gives items (room self.old) → IsOk result }
         ensures capacity { capacity self.old ≤ capacity self.new }
     {
         for item in items {

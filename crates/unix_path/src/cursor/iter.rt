@@ -1,6 +1,6 @@
 //! The walk over a path's parts, each as its bytes.
 ghost use Rattle.std.specs.Prelude.{◌≡◌};
-ghost use Rattle.unix_path.specs.Places.{LiesIn};
+ghost use Rattle.unix_path.specs.Places.{LiesIn, place_of};
 
 use crate::cursor::{Component, Components};
 use crate::path::Path;
@@ -21,13 +21,15 @@ pub struct Iter<'a> {
 }
 
 impl<'a> Iter<'a> {
-    ghost use Rattle.unix_path.specs.Cursor.{cursor_rest, cursor_source, iter_rest, iter_source};
+    ghost use Rattle.unix_path.specs.Cursor.{cursor_rest, cursor_source, cursor_start};
+    ghost use Rattle.unix_path.specs.Cursor.{iter_rest, iter_source, iter_start};
 
     // The walk over the parts that `components` has left, each as its bytes.
     #[inline]
     pub(crate) fn new(components: Components<'a>) -> Iter<'a>
         ensures rest { iter_rest result ≡ cursor_rest components.entry }
         ensures source { iter_source result ≡ cursor_source components.entry }
+        ensures start { iter_start result ≡ cursor_start components.entry }
     {
         Iter { components }
     }
@@ -41,6 +43,7 @@ impl<'a> Iter<'a> {
     pub fn as_path(&self) -> Path<'a>
         ensures bytes { result.bytes.now ≡ iter_rest self.now }
         ensures place { LiesIn result.bytes (iter_source self.now) }
+        ensures start { place_of result.bytes ≡ iter_start self.now }
     {
         self.components.as_path()
     }
@@ -48,11 +51,11 @@ impl<'a> Iter<'a> {
 
 impl<'a> Iterator for Iter<'a> {
     ghost use Rattle.std.specs.Iterator.{item_count};
-    ghost use Rattle.unix_path.specs.Cursor.{iter_rest, iter_source, iter_bytes, GivesFirst};
+    ghost use Rattle.unix_path.specs.Cursor.{iter_bytes, GivesFirstName};
 
     type Item = UnixStr<'a>;
 
-    ghost next_gives = { GivesFirst (λ name. name.bytes.now) iter_bytes iter_rest iter_source };
+    ghost next_gives = { GivesFirstName };
 
     ghost remaining = { item_count iter_bytes };
 
@@ -63,9 +66,9 @@ impl<'a> Iterator for Iter<'a> {
 }
 
 impl<'a> DoubleEndedIterator for Iter<'a> {
-    ghost use Rattle.unix_path.specs.Cursor.{iter_rest, iter_source, iter_bytes, GivesLast};
+    ghost use Rattle.unix_path.specs.Cursor.{GivesLastName};
 
-    ghost next_back_gives = { GivesLast (λ name. name.bytes.now) iter_bytes iter_rest iter_source };
+    ghost next_back_gives = { GivesLastName };
 
     #[inline]
     fn next_back(&mut self) -> Option<UnixStr<'a>> {

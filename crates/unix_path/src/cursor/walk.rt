@@ -4,7 +4,7 @@ ghost use Rattle.unix_path.specs.Parts.{values};
 ghost use Rattle.unix_path.specs.Rest.{rest};
 ghost use Rattle.unix_path.specs.Steps.{HasLast, IsWalk, IsWalk-prop};
 ghost use Rattle.unix_path.specs.Views.{value_of};
-ghost use Rattle.unix_path.specs.Places.{LiesIn};
+ghost use Rattle.unix_path.specs.Places.{LiesIn, place_of};
 
 use crate::cursor::Component;
 use crate::cursor::steps::{first_step, has_lead, last_step, trimmed_len};
@@ -46,8 +46,8 @@ pub(crate) struct LastPart<'a> {
 }
 
 impl<'a> Components<'a> {
-    ghost use Rattle.unix_path.specs.Cursor.{cursor_rest, cursor_source, cursor_values};
-    ghost use Rattle.unix_path.specs.Cursor.{GivesFirst, GivesLast};
+    ghost use Rattle.unix_path.specs.Cursor.{cursor_rest, cursor_source, cursor_start};
+    ghost use Rattle.unix_path.specs.Cursor.{cursor_values, GivesFirstPart, GivesLastPart};
     ghost use Rattle.std.specs.Iterator.Runs.{EveryRun, ItemsMapTo, ItemsMapToReversed};
 
     // The walk over the parts of a path. The filler behind the last part is left out at once: for
@@ -56,11 +56,12 @@ impl<'a> Components<'a> {
     pub(crate) fn new(path: &'a [u8]) -> Components<'a>
         ensures rest { cursor_rest result ≡ rest path.now 0 0 }
         ensures place { LiesIn (cursor_source result) path.entry }
+        ensures start { cursor_start result ≡ place_of path.entry }
         ensures values { cursor_values result ≡ values path.now }
         ensures len { length (cursor_values result) < 2 ^ 64 }
-        ensures runs { EveryRun (GivesFirst value_of cursor_values cursor_rest cursor_source)
+        ensures runs { EveryRun GivesFirstPart
             (λ run. ItemsMapTo run value_of (cursor_values run.from)) }
-        ensures runs_back { EveryRun (GivesLast value_of cursor_values cursor_rest cursor_source)
+        ensures runs_back { EveryRun GivesLastPart
             (λ run. ItemsMapToReversed run value_of (cursor_values run.from)) }
     {
         Components::whole(path)
@@ -84,7 +85,9 @@ impl<'a> Components<'a> {
     }
 
     /// The bytes that are left, as a slice of the source, from the first part not yet taken to the
-    /// end of the last; empty if none is left. Does not allocate. As Rust's `Components::as_path`.
+    /// end of the last. If none is left, it is empty, and stands where the last part that `next`
+    /// gave ends, or where the first one that `next_back` gave begins. Does not allocate. As Rust's
+    /// `Components::as_path`.
     ///
     /// For `/tmp//foo/` after one `next` it is `tmp//foo`.
     #[must_use]
@@ -93,6 +96,7 @@ impl<'a> Components<'a> {
     pub fn as_path(&self) -> Path<'a>
         ensures bytes { result.bytes.now ≡ cursor_rest self.now }
         ensures place { LiesIn result.bytes (cursor_source self.now) }
+        ensures start { place_of result.bytes ≡ cursor_start self.now }
     {
         Path {
             bytes: &self.source[self.start..self.end],
@@ -103,8 +107,7 @@ impl<'a> Components<'a> {
     #[inline(always)]
     #[tactic(auto, unfolding(crate::specs::Cursor::cursor_rest, crate::specs::Steps::IsWalk))]
     fn take_last(&mut self) -> Option<Component<'a>>
-        ensures steps { GivesLast value_of cursor_values cursor_rest cursor_source
-            self.old result self.new }
+        ensures steps { GivesLastPart self.old result self.new }
         ensures source { self.new.source ≡ self.old.source }
         ensures start { self.new.start ≡ self.old.start }
     {
@@ -141,12 +144,11 @@ impl<'a> Components<'a> {
 
 impl<'a> Iterator for Components<'a> {
     ghost use Rattle.std.specs.Iterator.{item_count};
-    ghost use Rattle.unix_path.specs.Cursor.{cursor_rest, cursor_source, cursor_values};
-    ghost use Rattle.unix_path.specs.Cursor.{GivesFirst};
+    ghost use Rattle.unix_path.specs.Cursor.{cursor_values, GivesFirstPart};
 
     type Item = Component<'a>;
 
-    ghost next_gives = { GivesFirst value_of cursor_values cursor_rest cursor_source };
+    ghost next_gives = { GivesFirstPart };
 
     ghost remaining = { item_count cursor_values };
 
@@ -166,10 +168,9 @@ impl<'a> Iterator for Components<'a> {
 }
 
 impl<'a> DoubleEndedIterator for Components<'a> {
-    ghost use Rattle.unix_path.specs.Cursor.{cursor_rest, cursor_source, cursor_values};
-    ghost use Rattle.unix_path.specs.Cursor.{GivesLast};
+    ghost use Rattle.unix_path.specs.Cursor.{GivesLastPart};
 
-    ghost next_back_gives = { GivesLast value_of cursor_values cursor_rest cursor_source };
+    ghost next_back_gives = { GivesLastPart };
 
     // Always inlined, as `next` is.
     #[inline(always)]

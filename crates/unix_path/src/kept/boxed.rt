@@ -1,5 +1,5 @@
 //! Paths in a box.
-ghost use Rattle.std.specs.Prelude.{◌≡◌, ◌↔◌, IsTrue, Some, IsOk, IfOk};
+ghost use Rattle.std.specs.Prelude.{◌≡◌, ◌↔◌, [], IsTrue, Some, IsOk, IfOk};
 ghost use Rattle.std.specs.Ordering.{is_eq};
 ghost use Rattle.std.specs.Cmp;
 ghost use Rattle.std.specs.Cmp.{eq_by_cmp_equiv, partial_order_from_total};
@@ -7,7 +7,7 @@ ghost use Rattle.std.specs.Cmp.Rules.{comparing};
 ghost use Rattle.std.proofs.Common.{rules, ap};
 ghost use Rattle.unix_path.specs.Buffers.{path_bytes, room};
 ghost use Rattle.unix_path.specs.Hashed.{hash_input_of};
-ghost use Rattle.unix_path.specs.Kept.{boxed_bytes, cow_bytes};
+ghost use Rattle.unix_path.specs.Kept.{boxed_bytes, cow_bytes, IsBorrowed};
 ghost use Rattle.unix_path.specs.Order.{values_cmp};
 ghost use Rattle.unix_path.specs.OrderLaws.{values_cmp-total, is_eq-values_cmp};
 ghost use Rattle.unix_path.specs.Parts.{values, SameValues};
@@ -36,14 +36,16 @@ pub struct BoxedPath {
 impl BoxedPath {
     /// A copy of the path.
     ///
-    /// Allocates once, or not at all for no bytes; fails if the allocation fails. As Rust's
-    /// `From<&Path>` of `Box<Path>`.
+    /// Allocates once; fails if the allocation fails. For no bytes does not allocate, and succeeds.
+    /// As Rust's `From<&Path>` of `Box<Path>`.
     ///
     /// For `foo/` it is another `foo/`.
     pub fn from_path(alloc: Global, path: Path<'_>) -> Result<BoxedPath, AllocError>
-        ensures { IfOk result (λ p. boxed_bytes p ≡ path.entry.bytes.now) }
+        ensures bytes { IfOk result (λ p. boxed_bytes p ≡ path.entry.bytes.now) }
+        ensures succeeds { path.entry.bytes.now ≡ [] → IsOk result }
     {
-        let bytes = BoxedSlice::from_slice(alloc, path.bytes)?;
+        let copy = path.as_unix_str().to_unix_string(alloc)?;
+        let bytes = copy.into_bytes().into_boxed_slice();
         Ok(BoxedPath { bytes })
     }
 
@@ -72,6 +74,7 @@ impl BoxedPath {
     pub fn from_cow(alloc: Global, path: CowPath<'_>) -> Result<BoxedPath, AllocError>
         ensures bytes { IfOk result (λ p. boxed_bytes p ≡ cow_bytes path.entry) }
         ensures succeeds { (p : PathBuf) → path.entry ≡ CowPath.Owned p → room p ≡ 0 → IsOk result }
+        ensures succeeds_empty { IsBorrowed path.entry → cow_bytes path.entry ≡ [] → IsOk result }
     {
         match path {
             CowPath::Borrowed(path) => BoxedPath::from_path(alloc, path),

@@ -1,5 +1,5 @@
 //! Paths that are borrowed or owned.
-ghost use Rattle.std.specs.Prelude.{◌≡◌, ◌↔◌, IsTrue, Some, IsOk, IfOk};
+ghost use Rattle.std.specs.Prelude.{◌≡◌, ◌↔◌, [], IsTrue, Some, IsOk, IfOk};
 ghost use Rattle.std.specs.Ordering.{is_eq};
 ghost use Rattle.std.specs.Cmp;
 ghost use Rattle.std.specs.Cmp.{eq_by_cmp_equiv, partial_order_from_total};
@@ -50,12 +50,13 @@ impl<'a> CowPath<'a> {
     /// The path as a buffer: a copy if it is borrowed, and the buffer itself if it is owned.
     ///
     /// Allocates once for a borrowed path with bytes, and fails if that allocation fails; otherwise
-    /// it does not allocate. As Rust's `Cow::into_owned`.
+    /// it does not allocate, and succeeds. As Rust's `Cow::into_owned`.
     ///
     /// For a borrowed `foo/` it is another `foo/`.
     pub fn into_owned(self, alloc: Global) -> Result<PathBuf, AllocError>
         ensures bytes { IfOk result (λ p. path_bytes p ≡ cow_bytes self.entry) }
         ensures succeeds { ¬ (IsBorrowed self.entry) → IsOk result }
+        ensures succeeds_empty { cow_bytes self.entry ≡ [] → IsOk result }
     {
         match self {
             CowPath::Borrowed(path) => path.to_path_buf(alloc),
@@ -66,7 +67,7 @@ impl<'a> CowPath<'a> {
     /// The same view if the path is borrowed, and a copy if it is owned.
     ///
     /// Allocates once for an owned path with bytes, and fails if that allocation fails; otherwise
-    /// it does not allocate. As `Clone` of Rust's `Cow<Path>`.
+    /// it does not allocate, and succeeds. As `Clone` of Rust's `Cow<Path>`.
     ///
     /// A clone of a borrowed `foo/` is borrowed from the same place.
     #[must_use]
@@ -74,6 +75,7 @@ impl<'a> CowPath<'a> {
         ensures bytes { IfOk result (λ p. cow_bytes p ≡ cow_bytes self.now) }
         ensures borrowed { IfOk result (λ p. IsBorrowed p ↔ IsBorrowed self.now) }
         ensures succeeds { IsBorrowed self.now → IsOk result }
+        ensures succeeds_empty { cow_bytes self.now ≡ [] → IsOk result }
     {
         match self {
             CowPath::Borrowed(path) => Ok(CowPath::Borrowed(*path)),

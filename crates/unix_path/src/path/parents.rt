@@ -3,7 +3,7 @@ ghost use Rattle.std.specs.Prelude.{◌≡◌, ◌<◌, ◌≤◌, ◌^◌, leng
 ghost use Rattle.std.specs.Iterator.{YieldsFirstBy};
 ghost use Rattle.std.specs.Iterator.Runs.{EveryRun, ItemsMapTo};
 ghost use Rattle.unix_path.specs.Parents.{parent_of, ancestors_of};
-ghost use Rattle.unix_path.specs.Places.{LiesIn};
+ghost use Rattle.unix_path.specs.Places.{BeginsAt, LiesIn};
 
 use crate::cursor::{Ancestors, Component, Components};
 use crate::path::Path;
@@ -12,8 +12,8 @@ impl<'a> Path<'a> {
     ghost use Rattle.unix_path.specs.Ancestors.{ancestors_left};
     ghost use Rattle.unix_path.specs.declared.path.Path.{Path};
 
-    /// The path without its last part, as a slice of this path's bytes, in the same memory. `None`
-    /// if there is no part, or if the last is the root.
+    /// The path without its last part, as a slice of this path's bytes, in the same memory, which
+    /// begins where they begin. `None` if there is no part, or if the last is the root.
     ///
     /// The parent of a single name is the empty path, which has no parent. Does not allocate. As
     /// Rust's `Path::parent`.
@@ -24,6 +24,7 @@ impl<'a> Path<'a> {
     pub fn parent(&self) -> Option<Path<'a>>
         ensures value { option_map (λ path. path.bytes.now) result ≡ parent_of self.now.bytes.now }
         ensures place { IfSome result (λ path. LiesIn path.bytes self.now.bytes) }
+        ensures start { IfSome result (λ path. BeginsAt path.bytes self.now.bytes 0) }
     {
         match self.parent_len() {
             Some(len) => Some(Path {

@@ -1,10 +1,10 @@
 //! Whether the parts of one path begin or end those of another, and what follows them.
-ghost use Rattle.std.specs.Prelude.{◌≡◌, ◌↔◌, [], length, IsTrue, IsOk, IfOk, Some, codes};
+ghost use Rattle.std.specs.Prelude.{◌≡◌, ◌↔◌, length, IsTrue, IsOk, IfOk, Some, codes};
 ghost use Rattle.std.specs.Fmt.{padded};
 ghost use Rattle.unix_path.specs.Prefixes.{Begins, Ends, stripped_of};
 ghost use Rattle.unix_path.specs.Parts.{values};
 ghost use Rattle.unix_path.specs.Rest.{rest};
-ghost use Rattle.unix_path.specs.Places.{BeginsAt, LiesIn};
+ghost use Rattle.unix_path.specs.Places.{EndsAt, LiesIn};
 
 use crate::cursor::trimmed_len;
 use crate::endings::{ends_with_parts, shared_last_len};
@@ -39,10 +39,10 @@ impl<'a> Path<'a> {
     /// What follows `base`, as a slice of this path's bytes, in the same memory, if `base`'s parts
     /// begin this path's.
     ///
-    /// Whole parts count: `foo/bar` has no prefix `foo/ba`. If all parts match, no bytes are left,
-    /// and the empty slice stands where this path's last part ends. Fails exactly if `starts_with`
-    /// is false. Does not allocate. As Rust's `Path::strip_prefix`, whose empty slice may stand
-    /// further on; `base` is a `Path`.
+    /// Whole parts count: `foo/bar` has no prefix `foo/ba`. The slice ends where this path's last
+    /// part ends, also an empty one, which is left if all parts match. Fails exactly if
+    /// `starts_with` is false. Does not allocate. As Rust's `Path::strip_prefix`, whose empty slice
+    /// may stand further on; `base` is a `Path`.
     ///
     /// For `/a//b/` and the base `/a` it is `b`.
     #[inline]
@@ -52,8 +52,8 @@ impl<'a> Path<'a> {
         ensures value { IfOk result (λ left.
             left.bytes.now ≡ stripped_of self.now.bytes.now base.entry.bytes.now) }
         ensures place { IfOk result (λ left. LiesIn left.bytes self.now.bytes) }
-        ensures empty { IfOk result (λ left. left.bytes.now ≡ []
-            → BeginsAt left.bytes self.now.bytes (length (rest self.now.bytes.now 0 0))) }
+        ensures end { IfOk result (λ left.
+            EndsAt left.bytes self.now.bytes (length (rest self.now.bytes.now 0 0))) }
     {
         // The filler behind the last part goes first, so that what is left ends where that does.
         let path = &self.bytes[..trimmed_len(self.bytes, self.bytes.len())];

@@ -18,6 +18,14 @@ fn write_then_read(alloc: Global, path: Path<'_>) -> Result<PathBuf, JsonError>
     from_json(alloc, &value)
 }
 
+// A copy of the path, with the error of JSON if the allocation fails.
+fn copied(alloc: Global, path: Path<'_>) -> Result<PathBuf, JsonError>
+    ensures { IfOk result (λ p. path_bytes p ≡ path.entry.bytes.now) }
+{
+    let copy = path.to_path_buf(alloc)?;
+    Ok(copy)
+}
+
 // Whether a value was given, and is a string of this text.
 fn is_string(given: Result<Value, JsonError>, text: &str) -> bool {
     match given {
@@ -41,6 +49,7 @@ fn a_written_path_reads_back(rt: HostRuntime) {
         let path = Path::new(UnixStr::new(text));
         assert!(rt; is_string(to_json(alloc, path), text), "{text}");
         assert!(rt; is_path(write_then_read(alloc, path), text), "{text}");
+        assert!(rt; is_path(copied(alloc, path), text), "{text}");
     }
 }
 
@@ -69,6 +78,11 @@ fn values_that_are_not_strings_are_refused(rt: HostRuntime) -> Result<(), Fail> 
     let value = Value::from_str(alloc, "\"7\"")?;
     assert!(rt; is_path(from_json(alloc, &value), "7"));
     Ok(())
+}
+
+#[test]
+fn a_failed_allocation_is_memory(rt: HostRuntime) {
+    assert!(rt; matches!(JsonError::from(AllocError), JsonError::Memory(_)));
 }
 
 #[test]

@@ -1,15 +1,16 @@
 //! Where answers lie, as a caller proves it, and how long they live.
-ghost use Rattle.std.specs.Prelude.{◌≡◌, [], length, IfSome};
-ghost use Rattle.unix_path.specs.Places.{BeginsAt, LiesIn};
+ghost use Rattle.std.specs.Prelude.{◌≡◌, length, IfSome};
+ghost use Rattle.unix_path.specs.Places.{BeginsAt, EndsAt, LiesIn, place_of};
 ghost use Rattle.unix_path.specs.Rest.{rest};
 
 use super::views::{bytes, path, view};
 use unix_bytes::bytes::UnixStr;
 use unix_path::{Ancestors, Component, Path};
 
-// The grandparent, in the path's own memory.
+// The grandparent, in the path's own memory, from its beginning on.
 fn grandparent<'a>(path: Path<'a>) -> Option<Path<'a>>
-    ensures { IfSome result (λ p. LiesIn p.bytes path.entry.bytes) }
+    ensures inside { IfSome result (λ p. LiesIn p.bytes path.entry.bytes) }
+    ensures start { IfSome result (λ p. BeginsAt p.bytes path.entry.bytes 0) }
 {
     let Some(parent) = path.parent() else {
         return None;
@@ -17,16 +18,32 @@ fn grandparent<'a>(path: Path<'a>) -> Option<Path<'a>>
     parent.parent()
 }
 
-// What is left behind a base, in the path's own memory; if no byte is, where the last part ends.
+// What is left behind a base, in the path's own memory, up to the end of the last part.
 fn left_behind<'a>(path: Path<'a>, base: Path<'_>) -> Option<Path<'a>>
     ensures inside { IfSome result (λ p. LiesIn p.bytes path.entry.bytes) }
-    ensures empty { IfSome result (λ p. p.bytes.now ≡ []
-        → BeginsAt p.bytes path.entry.bytes (length (rest path.entry.bytes.now 0 0))) }
+    ensures end { IfSome result (λ p.
+        EndsAt p.bytes path.entry.bytes (length (rest path.entry.bytes.now 0 0))) }
 {
     match path.strip_prefix(base) {
         Ok(left) => Some(left),
         Err(_) => None,
     }
+}
+
+// What a walk leaves before the last part, from the path's beginning on.
+fn before_last<'a>(path: Path<'a>) -> Path<'a>
+    ensures { place_of result.bytes ≡ place_of path.entry.bytes }
+{
+    let mut parts = path.components();
+    let _last = parts.next_back();
+    parts.as_path()
+}
+
+// The same bytes, as a view made anew.
+fn viewed_anew<'a>(path: Path<'a>) -> Path<'a>
+    ensures { result.bytes ≡ path.entry.bytes }
+{
+    Path::new(UnixStr::from_bytes(path.as_unix_str().as_bytes()))
 }
 
 #[test]
@@ -37,6 +54,8 @@ fn answers_lie_in_the_path(rt: HostRuntime) {
     assert!(rt; bytes(left_behind(path("/a//b/"), path("/a"))) == view(Some("b")));
     assert!(rt; bytes(left_behind(path("a/"), path("a"))) == view(Some("")));
     assert!(rt; left_behind(path("a"), path("b")).is_none());
+    assert!(rt; before_last(path("a//b")).as_unix_str() == UnixStr::new("a"));
+    assert!(rt; viewed_anew(path("a//b")).as_unix_str() == UnixStr::new("a//b"));
 }
 
 // What a path answers: each answer outlives the view that gave it, and `left` outlives the base

@@ -1,6 +1,7 @@
 //! Rows of what single bytes of a path are.
 use unix_path::scan::{
-    begins_with_parent, dot_before, ends_with_parent, idle_len, is_idle, is_open, is_trailing,
+    any_break, begins_with_parent, dot_before, ends_with_parent, first_break, idle_len, is_idle,
+    is_open, is_trailing,
 };
 
 // Bytes, `x` for each that is filler or a lead from in front, the same from behind, and how many
@@ -40,6 +41,27 @@ static PIECES: [(&[u8], bool, bool, bool); 12] = [
     (b"a/", false, false, true),
 ];
 
+// Bytes, a place, where the first break from there on is, or their length, and whether they have
+// one. Some have it at the end of a block of 16 bytes, or behind it.
+static BREAKS: [(&[u8], usize, usize, bool); 16] = [
+    (b"", 0, 0, false),
+    (b"/", 0, 0, true),
+    (b"a", 0, 1, false),
+    (b"a/b", 0, 3, false),
+    (b"a/", 0, 1, true),
+    (b"a/b/../c", 0, 3, true),
+    (b"a/.b", 0, 1, true),
+    (b"a//b/c", 2, 6, true),
+    (b"..", 0, 2, false),
+    (b"0123456789abcd/.", 0, 14, true),
+    (b"0123456789abcde//", 0, 15, true),
+    (b"0123456789abcdef//", 0, 16, true),
+    (b"0123456789abcdef/.", 1, 16, true),
+    (b"0123456789abcdef/ghij/", 0, 21, true),
+    (b"0123456789abcdef/ghijklmnopqrstuv/w", 0, 35, false),
+    (b"0/1/2/3/4/5/6/7/8/9/a/b/c/d/e/f/g/h/.i", 17, 35, true),
+];
+
 fn marks_idle(bytes: &[u8], marks: &[u8]) -> bool {
     for at in 0..bytes.len() {
         if is_idle(bytes, at) != (marks.get(at) == Some(&b'x')) {
@@ -73,6 +95,20 @@ fn bytes_are_filler(rt: HostRuntime) {
         assert!(rt; marks_trailing(bytes, behind));
         assert!(rt; idle_len(bytes) == len);
     }
+}
+
+fn breaks_at(bytes: &[u8], start: usize, place: usize) -> bool {
+    start <= bytes.len() && first_break(bytes, start) == place
+}
+
+#[test]
+fn breaks_are_found(rt: HostRuntime) {
+    for &(bytes, start, place, has) in &BREAKS {
+        assert!(rt; breaks_at(bytes, start, place));
+        assert!(rt; (any_break(bytes) < bytes.len()) == has);
+    }
+    // That of the last block comes first.
+    assert!(rt; any_break(b"a//b/c/d/e/f/g/h/i/..") == 18);
 }
 
 #[test]

@@ -9,6 +9,7 @@ use Rattle.unix_path.specs.Joins.{join_all_of}
 use Rattle.unix_path.specs.Parts.{value_bytes}
 use Rattle.unix_path.specs.declared.path.Path.{Path}
 use Rattle.unix_path.proofs.CursorLemmas.{Components-yields}
+use Rattle.path_runs.proofs.ExtendLemmas.{JoinsFit-none}
 use Rattle.path_runs.proofs.JoinAllLemmas.{join_all_of-values}
 use Rattle.path_runs.proofs.canonical.collected.Goals as goal
 
@@ -17,8 +18,19 @@ map-Drains : {S A B : Type 0} {steps : S → Option A → S → Type 0} (v : A �
 map-Drains {S} {A} {B} {steps} v xs ys {s} drains yields =
     gives_Drains steps v xs ys s yields.runs drains
 
-pub returns : goal.returns
-returns c =
+pub returns-clause-succeeds : goal.returns-clause-succeeds
+returns-clause-succeeds c = λ none.
+    let left = c.args.components in
+    let bytes_of : Path → List ℕ = λ path. path.bytes.now in
+    c.from_iter.ensures.succeeds (JoinsFit-none bytes_of (map value_bytes (cursor_values left))
+    (ap (map value_bytes) none)
+    (YieldsList-from_map_by _ bytes_of value_bytes
+    (YieldsList-at c.map.ensures.source (Components-yields left))
+    c.map.ensures.closure
+    (λ x r q k. search (rules, tests))))
+
+pub returns-clause-bytes : goal.returns-clause-bytes
+returns-clause-bytes c =
     let bytes_of : Path → List ℕ = λ path. path.bytes.now in
     let left = c.args.components in
     IfOk-weaker c.from_iter.result _ _ (λ p joins. joins.bytes

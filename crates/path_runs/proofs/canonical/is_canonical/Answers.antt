@@ -10,9 +10,10 @@ pub returns-then-bytes-len : goal.returns-then-bytes-len
 returns-then-bytes-len c =
     let s = c.args.path.bytes.now in
     let t = c.as_bytes-bytes.result.now in
-    let is = c.as_bytes-bytes.ensures ∙ c.as_unix_str.ensures ∙ c.as_path-whole.ensures.bytes in
+    let is = c.as_bytes-bytes.ensures.bytes ∙ c.as_unix_str.ensures.bytes
+    ∙ c.as_path-whole.ensures.bytes in
     let same = ap values is ∙ c.components.ensures.values in
-    let len = c.len.ensures ∙ ap length c.as_unix_str-2.ensures in (
+    let len = c.len.ensures ∙ ap length c.as_unix_str-2.ensures.bytes in (
       λ e. cc,
       λ own. absurd (tail_respelled s t (is ∙ c.components.ensures.rest) same
           (omega (arith, c.if-bytes-len.true, len)) own),
@@ -22,8 +23,9 @@ pub returns-then-bytes-lt2 : goal.returns-then-bytes-lt2
 returns-then-bytes-lt2 c =
     let s = c.args.path.bytes.now in
     let t = c.as_bytes-bytes.result.now in
-    let is = c.as_bytes-bytes.ensures ∙ c.as_unix_str.ensures ∙ c.as_path-whole.ensures.bytes in
-    let len = c.len.ensures ∙ ap length c.as_unix_str-2.ensures in
+    let is = c.as_bytes-bytes.ensures.bytes ∙ c.as_unix_str.ensures.bytes
+    ∙ c.as_path-whole.ensures.bytes in
+    let len = c.len.ensures ∙ ap length c.as_unix_str-2.ensures.bytes in
     let all = rest-all s t (is ∙ c.components.ensures.rest)
     (omega (arith, c.if-bytes-len.false, len)) in (
       λ e. sym (spelling_of-short s (omega (arith, c.if-bytes-lt2.true, ap length all))),
@@ -34,9 +36,10 @@ pub returns-else-bytes-lt2 : goal.returns-else-bytes-lt2
 returns-else-bytes-lt2 c =
     let s = c.args.path.bytes.now in
     let t = c.as_bytes-bytes.result.now in
-    let is = c.as_bytes-bytes.ensures ∙ c.as_unix_str.ensures ∙ c.as_path-whole.ensures.bytes in
+    let is = c.as_bytes-bytes.ensures.bytes ∙ c.as_unix_str.ensures.bytes
+    ∙ c.as_path-whole.ensures.bytes in
     let rest_is = is ∙ c.components.ensures.rest in
-    let len = c.len.ensures ∙ ap length c.as_unix_str-2.ensures in
+    let len = c.len.ensures ∙ ap length c.as_unix_str-2.ensures.bytes in
     let all = rest-all s t rest_is (omega (arith, c.if-bytes-len.false, len)) in
     let own = own_if_gapless t c.first_gap.result c.if-bytes-lt2.false (rest-ends s t rest_is)
     c.first_gap.ensures in (

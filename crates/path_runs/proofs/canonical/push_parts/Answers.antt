@@ -14,7 +14,7 @@ loop-start-preserved c =
     record {
       in_range = left.in_range;
       part = left.part;
-      same = rw (c.in_ok-push.ensures.ok, c.from_bytes.ensures, sym left.same)
+      same = rw (c.in_ok-push.ensures.ok, c.from_bytes.ensures.bytes, sym left.same)
           (append_stretch c.loop-start.text.bytes.items s start n c.loop-start-test.true
           (c.loop-start.invariant.part c.loop-start-test.true) gap ∙ c.loop-start.invariant.same);
     }

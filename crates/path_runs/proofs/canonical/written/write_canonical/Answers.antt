@@ -9,7 +9,7 @@ use Rattle.path_runs.proofs.canonical.written.write_canonical.Goals.{then-bytes-
 pub kept_len-gap-requires : goal.kept_len-gap-requires
 kept_len-gap-requires c =
     rest-ends c.args.path.bytes.now c.as_bytes-bytes.result.now
-    (c.as_bytes-bytes.ensures ∙ c.as_unix_str.ensures ∙ c.as_path-whole.ensures.bytes
+    (c.as_bytes-bytes.ensures.bytes ∙ c.as_unix_str.ensures.bytes ∙ c.as_path-whole.ensures.bytes
     ∙ c.components.ensures.rest)
 
 pub overflow_add-len : goal.overflow_add-len

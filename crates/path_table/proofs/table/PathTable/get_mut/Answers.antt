@@ -1,4 +1,6 @@
-use Rattle.std.proofs.Common.{◌∙◌, ap, refl, rules}
+use Rattle.std.proofs.Common.{◌∙◌, ap, map, refl, rules}
+use Rattle.std.proofs.lemmas.Map.{keys-set_value}
+use Rattle.std.specs.Map.{keys_of}
 use Rattle.unix_path.specs.Buffers.{path_bytes}
 use Rattle.unix_path.specs.Parts.{values}
 use Rattle.path_runs.specs.TableLaws.{rows_of}
@@ -11,9 +13,16 @@ returns g c =
     let v = values (path_bytes c.args.path.now) in (
       (
         refl,
-        λ x. ap (rows_of path_bytes) (follows.holds x).0
-            ∙ rows_of-set_value v c.args.self.now.files.entries x,
-        ap (λ m. rows_of path_bytes m.entries) follows.holds-at-none,
+        λ x. (
+          ap (rows_of path_bytes) (follows.holds x).0
+              ∙ rows_of-set_value v c.args.self.now.files.entries x,
+          ap (λ es. map path_bytes (keys_of es)) (follows.holds x).0
+              ∙ ap (map path_bytes) (keys-set_value _ c.args.self.now.files.entries x),
+        ),
+        (
+          ap (λ m. rows_of path_bytes m.entries) follows.holds-at-none,
+          ap (λ m. map path_bytes (keys_of m.entries)) follows.holds-at-none,
+        ),
       ),
       record { writes_back = tt; value = search rules },
     )

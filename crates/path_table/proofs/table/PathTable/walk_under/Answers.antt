@@ -1,16 +1,16 @@
 use Rattle.std.proofs.Common.{◌≡◌, ◌∙◌, ap, length, rules, arith}
 use Rattle.std.proofs.iter.runs.Sources.{from_front}
-use Rattle.std.specs.Iterator.{YieldsFirstBy}
 use Rattle.std.specs.List.{filter}
 use Rattle.std.specs.Ordering.{is_le}
 use Rattle.unix_path.specs.Order.{values_cmp}
 use Rattle.unix_path.specs.Buffers.{path_bytes}
 use Rattle.unix_path.specs.Parts.{values}
 use Rattle.path_runs.specs.TableLaws.{rows_of}
-use Rattle.path_table.specs.Table.{answer_row, entries_under}
-use Rattle.path_table.specs.Under.{under_left}
+use Rattle.path_table.specs.Table.{answer_rest, answer_row, entries_under, rests_under}
+use Rattle.path_table.specs.Under.{GivesUnder, rests_left, under_left}
 use Rattle.path_table.proofs.RangeLemmas.{range_ordered, range_from_base, range_under}
 use Rattle.path_table.proofs.RangeLemmas.{fewer_under}
+use Rattle.path_table.proofs.RestsLemmas.{rests_from_base}
 use Rattle.path_table.proofs.table.PathTable.walk_under.Goals as goal
 
 pub invariant_of-result : goal.invariant_of-result
@@ -31,10 +31,25 @@ returns-clause-left g c =
     ∙ range_under base c.args.self.now.files.entries c.range.result (search rules)
     c.base_before_under.ensures
 
+pub returns-clause-rests : goal.returns-clause-rests
+returns-clause-rests g c =
+    let base = c.as_path.result.bytes.now in
+    let all = c.args.self.now.files.entries in
+    let is : c.range.result
+    ≡ filter (λ e. is_le (values_cmp (values base) (values (path_bytes e.0)))) all =
+    rw c.as_path.ensures (search rules) in
+    rests_from_base base c.base_before_under.ensures all c.range.result is
+    ∙ ap (λ s. rests_under s all) c.as_path.ensures
+
 pub returns-clause-runs : goal.returns-clause-runs
 returns-clause-runs g c =
-    from_front (YieldsFirstBy answer_row under_left) answer_row under_left
-    (λ s t h. ap length h.0) (λ s x t h. h)
+    from_front GivesUnder answer_row under_left (λ s t h. ap length h.row_is.0)
+    (λ s x t h. h.row_is)
+
+pub returns-clause-runs_rests : goal.returns-clause-runs_rests
+returns-clause-runs_rests g c =
+    from_front GivesUnder answer_rest rests_left (λ s t h. ap length h.rest_is.0)
+    (λ s x t h. h.rest_is)
 
 pub returns-clause-fits : goal.returns-clause-fits
 returns-clause-fits g c =

@@ -1,10 +1,11 @@
 use Rattle.std.proofs.Common.{length, refl, sym, ap, subst, arith, eqb-true}
+use Rattle.std.proofs.lemmas.List.{length-take}
 use Rattle.std.proofs.lemmas.Bool.{false≢true}
 use Rattle.unix_path.specs.Parts.{values}
 use Rattle.unix_path.specs.Prefixes.{Begins}
 use Rattle.unix_path.proofs.BehindLemmas.{past-nil, shares-past}
 use Rattle.unix_path.proofs.SourceLemmas.{IsTail-trans}
-use Rattle.unix_path.proofs.StripLemmas.{Trims, begins-empty, rest-trims, stripped-empty, stripped-is}
+use Rattle.unix_path.proofs.StripLemmas.{Trims, begins-empty, rest-trims, stripped-end, stripped-is}
 use Rattle.unix_path.proofs.StripLemmas.{stripped-whole, values-trims}
 use Rattle.unix_path.proofs.path.Path.strip_prefix.Goals.{After-trimmed_len}
 use Rattle.unix_path.proofs.path.Path.strip_prefix.Goals as goal
@@ -29,13 +30,14 @@ returns-then-is_empty-clause-value c =
     (trims (goal.at.returns-then-is_empty-clause-value c).After-trimmed_len)
     (eqb-true _ 0 (sym c.if-is_empty.ensures))
 
-pub returns-then-is_empty-clause-empty : goal.returns-then-is_empty-clause-empty
-returns-then-is_empty-clause-empty c = λ none.
+pub returns-then-is_empty-clause-end : goal.returns-then-is_empty-clause-end
+returns-then-is_empty-clause-end c =
+    let trimmed = trims (goal.at.returns-then-is_empty-clause-end c).After-trimmed_len in
     omega (
       arith,
-      ap length none,
-      ap length (rest-trims c.args.self.now.bytes.now
-          c.trimmed_len.result (trims (goal.at.returns-then-is_empty-clause-empty c).After-trimmed_len)).0,
+      length-take c.trimmed_len.result c.args.self.now.bytes.now,
+      trimmed.in_range,
+      ap length (rest-trims c.args.self.now.bytes.now c.trimmed_len.result trimmed).0,
     )
 
 pub returns-in-Some-clause-ok : goal.returns-in-Some-clause-ok
@@ -55,11 +57,11 @@ returns-in-Some-clause-value c =
     (shares-past c.in-Some.ensures.left c.past_filler.ensures.behind past-nil)
     c.past_filler.ensures.lead
 
-pub returns-in-Some-clause-empty : goal.returns-in-Some-clause-empty
-returns-in-Some-clause-empty c = λ none.
-    stripped-empty c.args.self.now.bytes c.past_filler.result _ c.trimmed_len.result
-    (trims (goal.at.returns-in-Some-clause-empty c).After-trimmed_len) refl refl
-    (IsTail-trans _ _ _ c.past_filler.ensures.tail c.in-Some.ensures.tail) none
+pub returns-in-Some-clause-end : goal.returns-in-Some-clause-end
+returns-in-Some-clause-end c =
+    stripped-end c.args.self.now.bytes c.past_filler.result _ c.trimmed_len.result
+    (trims (goal.at.returns-in-Some-clause-end c).After-trimmed_len) refl refl
+    (IsTail-trans _ _ _ c.past_filler.ensures.tail c.in-Some.ensures.tail)
 
 pub returns-in-None-clause-ok : goal.returns-in-None-clause-ok
 returns-in-None-clause-ok c = (

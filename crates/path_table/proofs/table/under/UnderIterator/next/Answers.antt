@@ -3,9 +3,10 @@ use Rattle.unix_path.specs.Buffers.{path_bytes}
 use Rattle.unix_path.specs.Parts.{values}
 use Rattle.unix_path.specs.Prefixes.{stripped_of}
 use Rattle.path_runs.specs.TableLaws.{rows_of}
-use Rattle.path_table.specs.Table.{entries_under}
+use Rattle.path_table.specs.Table.{entries_under, rests_under}
 use Rattle.path_table.proofs.StripLemmas.{values-stripped_of}
 use Rattle.path_table.proofs.NextLemmas.{next_ordered, next_not_before, none_left, one_fewer}
+use Rattle.path_table.proofs.RestsLemmas.{first_rest, no_rests}
 use Rattle.path_table.proofs.UnderLemmas.{first_under}
 use Rattle.path_table.proofs.table.under.UnderIterator.next.Goals as goal
 
@@ -33,8 +34,13 @@ returns-in-Ok g c =
     (search rules)
     ∙ ap (λ v. (v, value) ∷ new)
     (sym (ap values stripped ∙ values-stripped_of c.rest_reads_again.ensures.values path base)) in
+    let rests : rests_under base c.args.self.now.files
+    ≡ (c.in-Ok.rest.bytes.now, value) ∷ rests_under base c.next.new.self =
+    ap (rests_under base) c.in_ok-path.ensures.steps
+    ∙ first_rest base (c.in_ok-path.path.now, value) c.next.new.self (search rules)
+    ∙ ap (λ s. (s, value) ∷ rests_under base c.next.new.self) (sym stripped) in
     record {
-      steps = step;
+      steps = record { row_is = step; rest_is = rests };
       goes = record {
         on = λ f. (tt, tt, one_fewer _ _ new step);
         keeps = tt;
@@ -45,6 +51,11 @@ returns-in-Ok g c =
 pub returns-in-Err-clause-steps : goal.returns-in-Err-clause-steps
 returns-in-Err-clause-steps g c =
     let walk = c.args.self.now in
-    none_left walk.files c.next.new.self c.under_is_interval.ensures (values walk.base.bytes.now)
+    let base = walk.base.bytes.now in
+    let none = none_left walk.files c.next.new.self c.under_is_interval.ensures (values base)
     (c.in_ok-path.path.now, c.in_ok-path.value.now) c.in_ok-path.ensures.steps walk.ordered
-    walk.start (search rules)
+    walk.start (search rules) in
+    record {
+      row_is = none;
+      rest_is = (no_rests base walk.files none.0, no_rests base c.next.new.self none.1);
+    }

@@ -1,5 +1,5 @@
 use Rattle.std.specs.Prelude.{slice_range}
-use Rattle.std.proofs.Common.{◌≡◌, ◌+◌, ◌&&◌, ltb, ap, ◌∙◌, sym, eqb-true, arith}
+use Rattle.std.proofs.Common.{◌≡◌, ◌+◌, ◌&&◌, ltb, refl, ap, ◌∙◌, sym, eqb-true, arith}
 use Rattle.std.proofs.lemmas.List.{nil_from_length}
 use Rattle.unix_path.specs.Steps.{IsWalk}
 use Rattle.unix_path.specs.Cursor.{cursor_rest, cursor_source}
@@ -49,4 +49,5 @@ returns-clause-steps c =
       item_is = back.takes.value;
       rest_is = sym back.takes.rest;
       place_is = LiesIn-itself (cursor_source s);
+      start_is = refl;
     }

@@ -1,9 +1,9 @@
-use Rattle.std.proofs.Common.{ap, ◌∙◌, sym, eqb-true, length, arith}
+use Rattle.std.proofs.Common.{◌+◌, ap, ◌∙◌, sym, eqb-true, length, arith}
 use Rattle.std.proofs.lemmas.List.{nil_from_length}
 use Rattle.unix_path.specs.Steps.{IsWalk}
 use Rattle.unix_path.specs.Cursor.{cursor_rest, cursor_source}
 use Rattle.unix_path.proofs.CursorLemmas.{GivesFirst-none}
-use Rattle.unix_path.proofs.OffsetLemmas.{walks_forward}
+use Rattle.unix_path.proofs.OffsetLemmas.{length-range, walks_forward}
 use Rattle.unix_path.proofs.SourceLemmas.{LiesIn-itself}
 use Rattle.unix_path.proofs.cursor.walk.ComponentsIterator.next.Goals as goal
 
@@ -36,6 +36,12 @@ returns-clause-steps c =
       item_is = next.takes.value;
       rest_is = sym next.takes.rest;
       place_is = LiesIn-itself (cursor_source s);
+      end_is = omega (
+        arith,
+        next.in_order,
+        length-range s.source.now s.start s.end s.fields.in_range,
+        length-range s.source.now (s.start + c.first_step-len.result.0) s.end s.fields.in_range,
+      );
     }
 
 pub returns-clause-goes : goal.returns-clause-goes

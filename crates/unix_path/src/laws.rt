@@ -1,0 +1,21 @@
+//! Laws of parts: each function does nothing, and its contract is the law.
+ghost use Rattle.std.specs.Prelude.{◌≡◌, ◌↔◌, IsTrue};
+ghost use Rattle.unix_path.specs.Order.{value_cmp};
+ghost use Rattle.unix_path.specs.Views.{value_of};
+ghost use Rattle.unix_path.specs.declared.cursor.component.Component.{Component};
+
+use crate::cursor::Component;
+
+/// Components are equal exactly if they have the same value, and are ordered as their values are.
+///
+/// That is what `==` (`equal`) and `cmp` (`order`) of `Component` answer. Calling it does nothing.
+/// Not in Rust's std.
+///
+/// The root is less than `.`, that than `..`, and that than the names, which are ordered by their
+/// bytes.
+pub fn components_ordered()
+    ensures equal { (x y : Component) →
+        IsTrue (⟦<Component<'static> as PartialEq>⟧.eq x y) ↔ (value_of x ≡ value_of y) }
+    ensures order { (x y : Component) →
+        ⟦<Component<'static> as Ord>⟧.cmp x y ≡ value_cmp (value_of x) (value_of y) }
+{}
