@@ -1,304 +1,184 @@
--- Names, joined to a root one after the other.
-use Rattle.std.proofs.Common.{◌≡◌, ℕ, ◌+◌, ◌-◌, ◌≤◌, false, List, [], ◌∷◌, ◌++◌, length}
-use Rattle.std.proofs.Common.{map, drop, reverse, unwrap_or}
-use Rattle.std.proofs.Common.{refl, sym, ap, subst, ◌∙◌, arith, length-append, ⊎_elim}
-use Rattle.std.specs.List.{AllByRecursion}
-use Rattle.std.proofs.lemmas.Grind.{reverse_onto}
-use Rattle.std.proofs.lemmas.List.{map-append}
-use Rattle.std.proofs.lemmas.List.Sums.{sum_by-cons}
-use Rattle.unix_path.specs.Edits.{popped_of}
-use Rattle.unix_path.specs.Joins.{is_open, join_of, join_all_of}
-use Rattle.unix_path.specs.Parts.{Value, RootDir, CurDir, ParentDir, Normal, is_rooted, value_bytes}
-use Rattle.unix_path.specs.Parts.{slash, values}
-use Rattle.unix_path.specs.Rest.{rest}
-use Rattle.unix_path.proofs.CaseLemmas.{by_test}
-use Rattle.unix_path.proofs.JoinLemmas.{join_of_rooted, length-join_of_open, length-join_of_closed}
-use Rattle.unix_path.proofs.PartLemmas.{root_first, root_first-values}
-use Rattle.unix_path.proofs.RootLemmas.{NoRoot}
-use Rattle.path_runs.proofs.AssociativeLemmas.{separator, join_of-separator}
-use Rattle.path_runs.proofs.ExtendLemmas.{join_all_of-append}
-use Rattle.path_runs.proofs.SiblingLemmas.{parent_of-name, rest-join_of_one}
-use Rattle.path_runs.proofs.SiblingLemmas.{values-join_of_one}
+-- A root and the names of a path, joined.
+use Rattle.std.proofs.Common.{◌≡◌, ℕ, ◌+◌, ◌≤◌, ◌<◌, true, false, List, [], ◌∷◌, ◌++◌, length, map}
+use Rattle.std.proofs.Common.{refl, sym, ap, subst, ◌∙◌, arith, append_assoc, append-nil}
+use Rattle.std.proofs.Common.{length-append}
+use Rattle.std.specs.List.{AllByRecursion, list_any}
+use Rattle.unix_path.specs.Joins.{join_of, join_all_of}
+use Rattle.unix_path.specs.Parts.{Value, RootDir, Normal, is_rooted, slash, value_bytes, values}
+use Rattle.unix_path.specs.Prefixes.{Begins, stripped_of}
 use Rattle.path_runs.specs.Spelling.{slashed_bytes, spelling_of}
-use Rattle.path_runs.proofs.LeanLemmas.{spelling_of-shortest}
-use Rattle.path_within.proofs.ClimbLemmas.{rootless-no_roots}
-use Rattle.path_within.proofs.EndsPartLemmas.{EndsPart-values}
+use Rattle.path_runs.proofs.AssociativeLemmas.{separator}
+use Rattle.path_runs.proofs.JoinAllLemmas.{join_all_of-some, plain_bytes}
+use Rattle.path_runs.proofs.PlainLemmas.{IsPlainValue, Shape, Rooted, Rootless, values-shape}
+use Rattle.path_runs.proofs.SiblingLemmas.{values-join_of_one}
+use Rattle.path_runs.proofs.SpellLemmas.{spelling_of-cons, spelling_of-nil}
+use Rattle.path_runs.proofs.StripLemmas.{values-stripped_of}
+use Rattle.path_within.specs.Below.{below_of, has_nul, names_below, IsBelow}
+use Rattle.path_within.specs.Climbs.{has_root_or_up}
+use Rattle.path_within.specs.PlainPieces.{is_plain}
+use Rattle.path_within.specs.Resolved.{AreNames, resolved_bytes_of}
+use Rattle.path_within.specs.Steps.{AllOne}
+use Rattle.path_within.specs.Written.{opened, AreSpelled}
+use Rattle.path_within.proofs.BoundLemmas.{slashed_bytes-names}
+use Rattle.path_within.proofs.NamesBelowLemmas.{AreNames-names_below, names_below-names}
+use Rattle.path_within.proofs.NamesBelowLemmas.{resolved_of-slash}
+use Rattle.path_within.proofs.NulLemmas.{has_nul-values, no_nul-below, nul_in}
 use Rattle.path_within.proofs.PathOfLemmas.{AllOne-values}
-use Rattle.path_within.specs.Below.{below_of, names_below, path_from, slashed_len}
-use Rattle.path_within.specs.Below.{EndsPart, StandsOn}
-use Rattle.path_within.specs.Resolved.{AreNames, kept_of, up_from}
-use Rattle.path_within.specs.Steps.{AllOne, IsOne}
-use Rattle.path_within.proofs.NamesBelowLemmas.{behind_root, names_below-kept}
+use Rattle.path_within.proofs.PlainLemmas.{plain_has_names}
+use Rattle.path_within.proofs.ResolveLemmas.{values-resolved}
 
--- a path of one name is rootless
-pub one_rootless : (name : List ℕ) → IsOne (Normal name) → is_rooted name ≡ false
-one_rootless name e = sym (root_first-values name) ∙ ap root_first e
+-- with a slash in front, a path is resolved to bytes that have the root and the names
+abbrev rooted : List ℕ → List ℕ
+rooted b = resolved_bytes_of (slash ∷ b)
 
--- a join has at most one byte more than both
-pub length-join_of : (a b : List ℕ) → length (join_of a b) ≤ length a + 1 + length b
-length-join_of a b = by_test (is_rooted b)
-    (λ r. omega (arith, ap length (join_of_rooted a b r)))
-    (λ r. by_test (is_open a) (λ o. omega (arith, length-join_of_open a b r o))
-    (λ o. omega (arith, length-join_of_closed a b r o)))
+values-rooted : (b : List ℕ) → values (rooted b) ≡ RootDir ∷ names_below (values b)
+values-rooted b = values-resolved (slash ∷ b) ∙ resolved_of-slash b
 
--- a join with a rootless path is no shorter than what it is joined to
-length-join_of-least : (a b : List ℕ) → is_rooted b ≡ false → length a ≤ length (join_of a b)
-length-join_of-least a b r = omega (
-  arith,
-  ap length (join_of-separator a b r),
-  length-append (a ++ separator a) b,
-  length-append a (separator a),
-)
+-- the names are each spelled as a path of that name alone
+AllOne-names_below : (b : List ℕ) → AllOne (names_below (values b))
+AllOne-names_below b = (subst AllOne (values-rooted b) (AllOne-values (rooted b))).1
 
--- the root stands on itself
-pub stands_first : {root s : List ℕ} → s ≡ root → StandsOn root s []
-stands_first e = record { names = tt; one = tt; ends = tt; is = e }
-
--- one more name, joined
-pub stands_push : {root s t : List ℕ} {ns : List Value} (name : List ℕ) → StandsOn root s ns
-    → IsOne (Normal name) → EndsPart (Normal name) → t ≡ join_of s name
-    → StandsOn root t (Normal name ∷ ns)
-stands_push name h one ends e = record {
-  names = h.names;
-  one = (one, h.one);
-  ends = (ends, h.ends);
-  is = e ∙ ap (λ s. join_of s name) h.is;
-}
-
--- a pop after two names or more leaves all but the last
-pub stands_pop : {root s t : List ℕ} (v w : Value) (ns : List Value)
-    → StandsOn root s (v ∷ w ∷ ns) → t ≡ popped_of s → StandsOn root t (w ∷ ns)
-unfolding popped_of
-stands_pop {root} {s} {t} (Normal name) (Normal before) ns h e =
-    let u = path_from root ns in
-    let front = join_of u before in
-    let whole : join_of u before ≡ (u ++ separator u) ++ before =
-    join_of-separator u before (one_rootless before h.one.1.0) in
-    let all = values-join_of_one front name name h.one.0 in
-    record {
-      names = h.names;
-      one = h.one.1;
-      ends = h.ends.1;
-      is = e ∙ ap popped_of h.is
-          ∙ ap (λ o. unwrap_or o (join_of front name))
-          (parent_of-name (join_of front name) name (values front) all)
-          ∙ rest-join_of_one front name name h.one.0
-          ∙ ap (λ s. rest s 0 0) whole ∙ h.ends.1.0 (u ++ separator u) ∙ sym whole;
-    }
-stands_pop RootDir w ns h e = absurd h.names
-stands_pop CurDir w ns h e = absurd h.names
-stands_pop ParentDir w ns h e = absurd h.names
-stands_pop (Normal name) RootDir ns h e = absurd h.names
-stands_pop (Normal name) CurDir ns h e = absurd h.names
-stands_pop (Normal name) ParentDir ns h e = absurd h.names
-
--- names, the last first, are joined in the order of the path
-path_from-reverse : (root : List ℕ) (ns : List Value)
-    → path_from root ns ≡ join_all_of root (map value_bytes (reverse ns))
-path_from-reverse root [] = refl
-path_from-reverse root (v ∷ ns) =
-    ap (λ s. join_of s (value_bytes v)) (path_from-reverse root ns)
-    ∙ sym (ap (λ vs. join_all_of root (map value_bytes vs)) (reverse_onto ns v [])
-    ∙ ap (join_all_of root) (map-append value_bytes (reverse ns) (v ∷ []))
-    ∙ join_all_of-append root (map value_bytes (reverse ns)) (value_bytes v ∷ []))
-
--- bytes that stand on the root, with the names that values leave, are the root and these names
-pub stands_below : {root s : List ℕ} (vs ns : List Value) → StandsOn root s ns
-    → kept_of (RootDir ∷ []) vs ≡ behind_root ns → s ≡ below_of root (names_below vs)
-unfolding below_of
-stands_below {root} {s} vs ns h e =
-    h.is ∙ path_from-reverse root ns
-    ∙ ap (λ vs. join_all_of root (map value_bytes vs)) (sym (names_below-kept vs ns e))
-
--- the root and some names are as long as the root, or longer
-length-path_from : (root : List ℕ) (ns : List Value) → AreNames ns → AllOne ns
-    → length root ≤ length (path_from root ns)
-length-path_from root [] h k = omega arith
-length-path_from root (Normal name ∷ ns) h k = omega (
-  arith,
-  length-path_from root ns h k.1,
-  length-join_of-least (path_from root ns) name (one_rootless name k.0),
-)
-length-path_from root (RootDir ∷ ns) h k = absurd h
-length-path_from root (CurDir ∷ ns) h k = absurd h
-length-path_from root (ParentDir ∷ ns) h k = absurd h
-
--- the values and their slashes, counted from the first on
-pub slashed_len-cons : (v : Value) (vs : List Value)
-    → slashed_len (v ∷ vs) ≡ (1 + length (value_bytes v)) + slashed_len vs
-slashed_len-cons v vs = sum_by-cons (λ v. 1 + length (value_bytes v)) v vs
-
--- behind the root s and some names are joined, and the values `left` of `all` are still to come;
--- `most` bytes are enough for them
-pub record GoesBelow (root s : List ℕ) (depth most : ℕ) (left all : List Value) : Type 0 where
-  pub ns : List Value
-  pub stands : StandsOn root s ns
-  pub depth_is : depth ≡ length ns
-  pub one : AllOne left
-  pub ends : AllByRecursion EndsPart left
-  pub no_roots : NoRoot left
-  pub onward : kept_of (behind_root ns) left ≡ kept_of (RootDir ∷ []) all
-  pub room : length s + slashed_len left ≤ most
-
--- what is left begins with w
-pub goes_cut : {root s : List ℕ} {depth most : ℕ} {left all : List Value} (v w : Value)
-    (more : List Value) → GoesBelow root s depth most left all → left ≡ v ∷ more → v ≡ w
-    → GoesBelow root s depth most (w ∷ more) all
-goes_cut {root} {s} {depth} {most} {left} {all} v w more h e f =
-    subst (λ vs. GoesBelow root s depth most vs all) (e ∙ ap (λ v. v ∷ more) f) h
-
--- there is room for the root
-pub goes_room : {root s : List ℕ} {depth most : ℕ} {left all : List Value}
-    → GoesBelow root s depth most left all → length root ≤ most
-goes_room {root} h = omega (
-  arith,
-  length-path_from root h.ns h.stands.names h.stands.one,
-  ap length h.stands.is,
-  h.room,
-)
-
--- there is room for a name that comes next
-pub goes_room_name : {root s name : List ℕ} {depth most : ℕ} {more all : List Value}
-    → GoesBelow root s depth most (Normal name ∷ more) all → length (join_of s name) ≤ most
-goes_room_name {root} {s} {name} {depth} {most} {more} h =
-    omega (arith, length-join_of s name, slashed_len-cons (Normal name) more, h.room)
-
--- a name that comes next is joined
-pub goes_name : {root s t name : List ℕ} {depth next most room : ℕ} {more all : List Value}
-    → GoesBelow root s depth most (Normal name ∷ more) all → t ≡ join_of s name
-    → next ≡ depth + 1 → most ≤ room → GoesBelow root t next room more all
-goes_name {root} {s} {t} {name} {depth} {next} {most} {room} {more} h e d l = record {
-  ns = Normal name ∷ h.ns;
-  stands = stands_push name h.stands h.one.0 h.ends.0 e;
-  depth_is = omega (arith, d, h.depth_is);
-  one = h.one.1;
-  ends = h.ends.1;
-  no_roots = h.no_roots;
-  onward = h.onward;
-  room = omega (
-    arith,
-    length-join_of s name,
-    slashed_len-cons (Normal name) more,
-    h.room,
-    ap length e,
-  );
-}
-
--- a `.` that comes next is left out
-pub goes_dot : {root s : List ℕ} {depth most : ℕ} {more all : List Value}
-    → GoesBelow root s depth most (CurDir ∷ more) all → GoesBelow root s depth most more all
-goes_dot {root} {s} {depth} {most} {more} h = record {
-  ns = h.ns;
-  stands = h.stands;
-  depth_is = h.depth_is;
-  one = h.one.1;
-  ends = h.ends.1;
-  no_roots = h.no_roots;
-  onward = h.onward;
-  room = omega (arith, slashed_len-cons CurDir more, h.room);
-}
-
--- a `..` takes the last name away, or none
-up_from-behind_root : (ns : List Value) → AreNames ns
-    → up_from (behind_root ns) ≡ behind_root (drop 1 ns)
-up_from-behind_root [] h = refl
-up_from-behind_root (Normal name ∷ ns) h = refl
-up_from-behind_root (RootDir ∷ ns) h = absurd h
-up_from-behind_root (CurDir ∷ ns) h = absurd h
-up_from-behind_root (ParentDir ∷ ns) h = absurd h
-
--- without the last name the root and the names are no longer than with it
-length-path_from_less : (root : List ℕ) (ns : List Value) → AreNames ns → AllOne ns
-    → length (path_from root (drop 1 ns)) ≤ length (path_from root ns)
-length-path_from_less root [] h k = omega arith
-length-path_from_less root (Normal name ∷ ns) h k =
-    length-join_of-least (path_from root ns) name (one_rootless name k.0)
-length-path_from_less root (RootDir ∷ ns) h k = absurd h
-length-path_from_less root (CurDir ∷ ns) h k = absurd h
-length-path_from_less root (ParentDir ∷ ns) h k = absurd h
-
-length-drop_one : (ns : List Value) → length (drop 1 ns) ≡ length ns - 1
-length-drop_one [] = refl
-length-drop_one (v ∷ ns) = omega arith
-
--- after a `..` that comes next one name less stands behind the root
-pub goes_up : {root s t : List ℕ} {depth next most room : ℕ} {more all : List Value}
-    → (h : GoesBelow root s depth most (ParentDir ∷ more) all) → StandsOn root t (drop 1 h.ns)
-    → next ≡ depth - 1 → most ≤ room → GoesBelow root t next room more all
-goes_up {root} {s} {t} {depth} {next} {most} {room} {more} h stands d l = record {
-  ns = drop 1 h.ns;
-  stands = stands;
-  depth_is = omega (arith, d, h.depth_is, length-drop_one h.ns);
-  one = h.one.1;
-  ends = h.ends.1;
-  no_roots = h.no_roots;
-  onward = ap (λ ks. kept_of ks more) (sym (up_from-behind_root h.ns h.stands.names)) ∙ h.onward;
-  room = omega (
-    arith,
-    length-path_from_less root h.ns h.stands.names h.stands.one,
-    slashed_len-cons ParentDir more,
-    h.room,
-    ap length stands.is,
-    ap length h.stands.is,
-  );
-}
-
--- in the end the names that are left stand behind the root
-pub goes_last : {root s : List ℕ} {depth most : ℕ} {left all : List Value}
-    → GoesBelow root s depth most left all → left ≡ [] → s ≡ below_of root (names_below all)
-goes_last {root} {s} {depth} {most} {left} {all} h e =
-    stands_below all h.ns h.stands (sym h.onward ∙ ap (kept_of (behind_root h.ns)) e)
-
--- one value or more have one byte less if a slash stands only between them
-pub length-slashed_bytes : (v : Value) (vs : List Value)
-    → slashed_len (v ∷ vs) ≡ 1 + length (slashed_bytes (v ∷ vs))
-length-slashed_bytes v [] = omega (arith, slashed_len-cons v [])
-length-slashed_bytes v (w ∷ vs) = omega (
-  arith,
-  slashed_len-cons v (w ∷ vs),
-  length-slashed_bytes w vs,
-  length-append (value_bytes v) (slash ∷ slashed_bytes (w ∷ vs)),
-)
-
--- values without a root are spelled with slashes between them
-spelling_of-no_root : (v : Value) (vs : List Value) → NoRoot (v ∷ vs)
-    → spelling_of (v ∷ vs) ≡ slashed_bytes (v ∷ vs)
-unfolding spelling_of
-spelling_of-no_root (Normal name) vs h = refl
-spelling_of-no_root CurDir vs h = refl
-spelling_of-no_root ParentDir vs h = refl
-spelling_of-no_root RootDir vs h = absurd h
-
--- a rootless path and a slash have room for its values and their slashes
-pub slashed_len-values : (s : List ℕ) → is_rooted s ≡ false → slashed_len (values s) ≤ 1 + length s
-slashed_len-values s r = by (values s) refl (rootless-no_roots s r)
+-- a slash neither begins nor ends one of them
+plain_names : (b : List ℕ) → AllByRecursion IsPlainValue (names_below (values b))
+plain_names b = by (subst Shape (values-rooted b) (values-shape (rooted b)))
   where
-    fits : length (spelling_of (values s)) ≤ length s
-    fits = ⊎_elim (λ e. omega (arith, ap length e)) (λ l. omega (arith, l))
-        (spelling_of-shortest s s refl)
+    by : Shape (RootDir ∷ names_below (values b))
+        → AllByRecursion IsPlainValue (names_below (values b))
+    by (Rooted ws e h) =
+        let same : ws ≡ names_below (values b) = cc in subst (AllByRecursion IsPlainValue) same h
+    by (Rootless h) = absurd (h.0.no_root refl)
 
-    by : (vs : List Value) → values s ≡ vs → NoRoot vs → slashed_len (values s) ≤ 1 + length s
-    by [] e h = omega (arith, ap slashed_len e)
-    by (v ∷ vs) e h = omega (
-      arith,
-      ap slashed_len e,
-      length-slashed_bytes v vs,
-      ap length (ap spelling_of e ∙ spelling_of-no_root v vs h),
-      fits,
-    )
+-- without names the root is left
+pub below_of-nil : {vs : List Value} (root : List ℕ) → vs ≡ [] → below_of root vs ≡ root
+unfolding below_of
+below_of-nil root e = ap (λ vs. join_all_of root (map value_bytes vs)) e
 
--- in the beginning the root stands alone, and all values of a path are to come
-pub goes_first : {root s : List ℕ} {most : ℕ} {left : List Value} (path : List ℕ) → s ≡ root
-    → left ≡ values path → is_rooted path ≡ false → length root + 1 + length path ≤ most
-    → GoesBelow root s 0 most left (values path)
-goes_first {root} {s} {most} {left} path e f r l =
-    subst (λ vs. GoesBelow root s 0 most vs (values path)) (sym f) (record {
-      ns = [];
-      stands = stands_first e;
-      depth_is = refl;
-      one = AllOne-values path;
-      ends = EndsPart-values path;
-      no_roots = rootless-no_roots path r;
-      onward = refl;
-      room = omega (arith, ap length e, slashed_len-values path r, l);
+-- one name or more stand behind the opened root, with slashes between them
+below_of-some : (root b : List ℕ) (vs : List Value) → names_below (values b) ≡ vs
+    → 0 < length vs → below_of root (names_below (values b)) ≡ opened root ++ slashed_bytes vs
+unfolding below_of
+below_of-some root b [] e some = absurd (omega arith)
+below_of-some root b (v ∷ vs) e some =
+    ap (λ vs. join_all_of root (map value_bytes vs)) e
+    ∙ join_all_of-some root (value_bytes v) (map value_bytes vs)
+    (plain_bytes (v ∷ vs) (subst (AllByRecursion IsPlainValue) e (plain_names b)))
+
+-- names that are spelled stand behind the opened root
+pub below_of-spelled : {names : List ℕ} (root b : List ℕ)
+    → AreSpelled names (names_below (values b))
+    → opened root ++ names ≡ below_of root (names_below (values b))
+below_of-spelled root b h = ap (λ s. opened root ++ s) h.is
+    ∙ sym (below_of-some root b (names_below (values b)) refl h.some)
+
+-- ---- values
+
+values-names : (root : List ℕ) (vs : List Value) → AreNames vs → AllOne vs
+    → values (below_of root vs) ≡ values root ++ vs
+unfolding below_of
+values-names root [] h k = sym (append-nil (values root))
+values-names root (Normal name ∷ vs) h k =
+    values-names (join_of root name) vs h k.1
+    ∙ ap (λ ws. ws ++ vs) (values-join_of_one root name name k.0)
+    ∙ append_assoc (values root) (Normal name ∷ []) vs
+values-names root (v ∷ vs) h k = absurd h
+
+-- the root's values, and then the names
+pub values-below : (root b : List ℕ)
+    → values (below_of root (names_below (values b))) ≡ values root ++ names_below (values b)
+values-below root b = values-names root (names_below (values b))
+    (AreNames-names_below (values b)) (AllOne-names_below b)
+
+-- without the root the names are left
+pub values-stripped_below : (root b : List ℕ)
+    → values (stripped_of (below_of root (names_below (values b))) root) ≡ names_below (values b)
+values-stripped_below root b = values-stripped_of (below_of root (names_below (values b))) root
+    (names_below (values b)) (sym (values-below root b))
+
+-- names are neither the root nor `..`
+names_down : (vs : List Value) → AreNames vs → has_root_or_up vs ≡ false
+names_down [] h = refl
+names_down (Normal name ∷ vs) h = names_down vs h
+names_down (v ∷ vs) h = absurd h
+
+-- a join with the names of a path without a NUL is below its root
+pub is_below : {s : List ℕ} (root b : List ℕ) → has_nul b ≡ false
+    → s ≡ below_of root (names_below (values b)) → IsBelow root s
+is_below {s} root b h e =
+    let vs = names_below (values b) in
+    let left = values-stripped_below root b in
+    subst (IsBelow root) (sym e) (record {
+      down = record {
+        begins = (vs, sym (values-below root b));
+        names = ap has_root_or_up left ∙ names_down vs (AreNames-names_below (values b));
+      };
+      no_nul = has_nul-values (stripped_of (below_of root vs) root) ∙ ap (list_any nul_in) left
+          ∙ no_nul-below (values b) (sym (has_nul-values b) ∙ h);
     })
+
+-- ---- bytes
+
+-- behind the root's bytes stand the names and their slashes, which are no longer than b and a slash
+record Behind (root b : List ℕ) : Type 0 where
+  more : List ℕ
+  is : root ++ more ≡ below_of root (names_below (values b))
+  fits : length root + length more ≤ length (opened root) + length b
+
+behind : (root b : List ℕ) → Behind root b
+behind root b = by (names_below (values b)) refl
+  where
+    by : (vs : List Value) → names_below (values b) ≡ vs → Behind root b
+    by [] e = record {
+      more = [];
+      is = append-nil root ∙ sym (below_of-nil root e);
+      fits = omega (arith, length-append root (separator root));
+    }
+    by (v ∷ vs) e = record {
+      more = separator root ++ slashed_bytes (v ∷ vs);
+      is = sym (append_assoc root (separator root) (slashed_bytes (v ∷ vs)))
+          ∙ sym (below_of-some root b (v ∷ vs) e (omega arith));
+      fits = omega (
+        arith,
+        length-append (separator root) (slashed_bytes (v ∷ vs)),
+        length-append root (separator root),
+        ap (λ vs. length (slashed_bytes vs)) e,
+        slashed_bytes-names b,
+      );
+    }
+
+-- the root stands in front of a join with the names of a path
+pub begins : {s : List ℕ} (root b : List ℕ) → s ≡ below_of root (names_below (values b))
+    → Begins root s
+begins root b e = let h = behind root b in (h.more, h.is ∙ sym e)
+
+-- the join is no longer than the opened root and the path
+pub length-below : {s : List ℕ} (root b : List ℕ) → s ≡ opened root ++ b
+    → length (below_of root (names_below (values b))) ≤ length s
+length-below root b e = let h = behind root b in omega (
+  arith,
+  ap length h.is,
+  length-append root h.more,
+  ap length e,
+  length-append (opened root) b,
+)
+
+-- ---- a path that is its names as it is spelled
+
+-- names are spelled with slashes between them
+spelling_of-names : (vs : List Value) → AreNames vs → spelling_of vs ≡ slashed_bytes vs
+spelling_of-names [] h = spelling_of-nil
+spelling_of-names (v ∷ vs) h =
+    spelling_of-cons v vs (λ e. subst AreNames (ap (λ v. v ∷ vs) e) h)
+
+-- a plain path without a root is its names as they are spelled, and has some
+pub plain_spelled : (b : List ℕ) → is_plain b ≡ true → is_rooted b ≡ false
+    → AreSpelled b (names_below (values b))
+plain_spelled b plain r = record { some = by (names_below (values b)) same; is = same }
+  where
+    same : b ≡ slashed_bytes (names_below (values b))
+    same = let h = plain_has_names b plain r in
+        sym h.own ∙ spelling_of-names (values b) h.names
+        ∙ ap slashed_bytes (sym (names_below-names (values b) h.names))
+
+    by : (vs : List Value) → b ≡ slashed_bytes vs → 0 < length vs
+    by [] e = absurd ((plain_has_names b plain r).some e)
+    by (v ∷ vs) e = omega arith

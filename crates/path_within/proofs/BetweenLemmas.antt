@@ -1,71 +1,90 @@
--- The steps from one list of values to another, both without the first values that they share.
-use Rattle.std.proofs.Common.{◌≡◌, Bool, true, false, List, [], ◌∷◌, ◌++◌, map, refl, sym, ◌∙◌}
-use Rattle.std.proofs.Common.{Some, None}
-use Rattle.std.specs.List.{list_all, list_any}
-use Rattle.unix_path.specs.Parts.{Value, RootDir, CurDir, ParentDir, Normal}
+-- What two lists of values both begin with, and the steps between what is left of them.
+use Rattle.std.proofs.Common.{◌≡◌, ℕ, ◌+◌, true, false, List, [], ◌∷◌, ◌++◌, length, take, drop}
+use Rattle.std.proofs.Common.{map, reverse, Option, Some, None, refl, arith}
+use Rattle.std.specs.List.{common_prefix_len, list_all, list_any}
+use Rattle.std.proofs.Math.Seq.{drop-append-add}
+use Rattle.std.proofs.lemmas.Grind.{common_steps, reverse_onto}
+use Rattle.std.proofs.lemmas.List.Folds.{list_all-append, list_any-append}
+use Rattle.unix_path.specs.Order.{same_value}
+use Rattle.unix_path.specs.Parts.{Value, ParentDir}
+use Rattle.unix_path.proofs.CaseLemmas.{take-suc_cons}
 use Rattle.unix_path.proofs.RootLemmas.{NoRoot}
-use Rattle.path_within.specs.Resolved.{AreNames}
+use Rattle.unix_path.proofs.TieLemmas.{same_value-Decides}
 use Rattle.path_within.specs.Climbs.{is_name}
 use Rattle.path_within.specs.Way.{is_root, steps_between}
 
--- the test for names answers true on names
-pub list_all-names : (vs : List Value) → AreNames vs → list_all is_name vs ≡ true
-list_all-names [] h = refl
-list_all-names (Normal name ∷ vs) h = list_all-names vs h
-list_all-names (RootDir ∷ vs) h = absurd h
-list_all-names (CurDir ∷ vs) h = absurd h
-list_all-names (ParentDir ∷ vs) h = absurd h
+-- how many first values two lists have in common
+abbrev pub shared_count : List Value → List Value → ℕ
+shared_count v w = common_prefix_len same_value v w
 
--- the test for a root answers false if no value is the root
-pub list_any-roots : (vs : List Value) → NoRoot vs → list_any is_root vs ≡ false
-list_any-roots [] h = refl
-list_any-roots (RootDir ∷ vs) h = absurd h
-list_any-roots (CurDir ∷ vs) h = list_any-roots vs h
-list_any-roots (ParentDir ∷ vs) h = list_any-roots vs h
-list_any-roots (Normal name ∷ vs) h = list_any-roots vs h
-
--- if the test for names answers true, all values are names
-pub names_all : (vs : List Value) → list_all is_name vs ≡ true → AreNames vs
-names_all [] e = tt
-names_all (Normal name ∷ vs) e = names_all vs e
-names_all (RootDir ∷ vs) e = absurd (let no : false ≡ true = e in cc)
-names_all (CurDir ∷ vs) e = absurd (let no : false ≡ true = e in cc)
-names_all (ParentDir ∷ vs) e = absurd (let no : false ≡ true = e in cc)
-
--- if the test for a root answers false, no value is the root
-pub no_roots_any : (vs : List Value) → list_any is_root vs ≡ false → NoRoot vs
-no_roots_any [] e = tt
-no_roots_any (RootDir ∷ vs) e = absurd (let no : true ≡ false = e in cc)
-no_roots_any (CurDir ∷ vs) e = no_roots_any vs e
-no_roots_any (ParentDir ∷ vs) e = no_roots_any vs e
-no_roots_any (Normal name ∷ vs) e = no_roots_any vs e
+-- the steps from one list to another, both without the first values that they share
+abbrev pub steps_from : List Value → List Value → Option (List Value)
+steps_from v w = let n = shared_count v w in steps_between (drop n v) (drop n w)
 
 -- `..` once for each value
 abbrev pub ups_of : List Value → List Value
 ups_of vs = map (λ v. ParentDir) vs
 
--- from names to values without a root there are steps
-pub steps_between-some : (v w : List Value) → AreNames v → NoRoot w
-    → steps_between v w ≡ Some (ups_of v ++ w)
-steps_between-some v w h k = rw (list_all-names v h, list_any-roots w k) refl
+-- the first values that two lists share are the same
+pub take-shared : (v w : List Value) → take (shared_count v w) v ≡ take (shared_count v w) w
+take-shared [] w = grind (arith, common_steps)
+take-shared (x ∷ v) [] = refl
+take-shared (x ∷ v) (y ∷ w) = let n = shared_count v w in grind (
+  arith,
+  take-shared v w,
+  take-suc_cons n x v,
+  take-suc_cons n y w,
+  same_value-Decides x y,
+)
+
+-- what stands before two lists is shared by them
+shared_count-behind : (f x y : List Value)
+    → shared_count (f ++ x) (f ++ y) ≡ length f + shared_count x y
+shared_count-behind [] x y = grind arith
+shared_count-behind (z ∷ f) x y =
+    let same = (same_value-Decides z z).1 refl in rw same (grind (arith, shared_count-behind f x y))
+
+-- the order makes no difference to whether a root is among values
+pub list_any-reverse : (vs : List Value) → list_any is_root (reverse vs) ≡ list_any is_root vs
+list_any-reverse [] = refl
+list_any-reverse (v ∷ vs) = grind (
+  arith,
+  reverse_onto vs v [],
+  list_any-append is_root (reverse vs) (v ∷ []),
+  list_any-reverse vs,
+)
+
+names_drop : (n : ℕ) (vs : List Value) → list_all is_name vs ≡ true
+    → list_all is_name (drop n vs) ≡ true
+names_drop n vs h = grind (arith, common_steps, list_all-append is_name (take n vs) (drop n vs))
+
+no_root_drop : (n : ℕ) (vs : List Value) → list_any is_root vs ≡ false
+    → list_any is_root (drop n vs) ≡ false
+no_root_drop n vs h = grind (arith, common_steps, list_any-append is_root (take n vs) (drop n vs))
+
+pub no_roots_any : (vs : List Value) → NoRoot vs → list_any is_root vs ≡ false
+no_roots_any [] h = refl
+no_roots_any (v ∷ vs) h = grind (arith, no_roots_any vs)
+
+-- from names behind f steps lead to values without a root behind f
+pub some_steps : (f x y : List Value) → list_all is_name x ≡ true → list_any is_root y ≡ false
+    → steps_from (f ++ x) (f ++ y) ≡ None → ⊥
+some_steps f x y h k none =
+    let m = shared_count x y in
+    let names = names_drop m x h in
+    let no_root = no_root_drop m y k in
+    let n = shared_count-behind f x y in
+    let some : Some (ups_of (drop m x) ++ drop m y) ≡ None =
+    rw (n, drop-append-add f x m, drop-append-add f y m, names, no_root) at none in cc
 
 -- these are the steps from v to w: v has names alone, and w no root
 pub record AreSteps (v w steps : List Value) : Type 0 where
-  pub names : AreNames v
-  pub no_roots : NoRoot w
+  pub names : list_all is_name v ≡ true
+  pub no_root : list_any is_root w ≡ false
   pub steps_are : ups_of v ++ w ≡ steps
 
 -- if there are steps, they go from names to values without a root
 pub steps_between-is : (v w steps : List Value) → steps_between v w ≡ Some steps
     → AreSteps v w steps
-steps_between-is v w steps e = by (list_all is_name v) (list_any is_root w) refl refl
-  where
-    by : (c d : Bool) → list_all is_name v ≡ c → list_any is_root w ≡ d → AreSteps v w steps
-    by true false f g = record {
-      names = names_all v f;
-      no_roots = no_roots_any w g;
-      steps_are = let same = steps_between-some v w (names_all v f) (no_roots_any w g) in
-          let some : Some (ups_of v ++ w) ≡ Some steps = sym same ∙ e in cc;
-    }
-    by true true f g = absurd (let no : None ≡ Some steps = rw (f, g) at e in cc)
-    by false d f g = absurd (let no : None ≡ Some steps = rw f at e in cc)
+steps_between-is v w steps e =
+    record { names = grind (arith, e); no_root = grind (arith, e); steps_are = grind (arith, e) }

@@ -1,18 +1,20 @@
 -- Normal values resolve to themselves, and which paths are resolved as they stand.
 use Rattle.std.proofs.Common.{◌≡◌, ◌↔◌, ℕ, true, false, ◌&&◌, IsTrue, List, [], ◌∷◌, reverse}
-use Rattle.std.proofs.Common.{sym, ap, subst, ◌∙◌}
+use Rattle.std.proofs.Common.{sym, ap, subst, ◌∙◌, arith, not}
 use Rattle.std.proofs.lemmas.List.{append-nil, reverse-reverse}
 use Rattle.std.specs.List.{list_all}
-use Rattle.unix_path.specs.Parts.{Value, RootDir, CurDir, ParentDir, Normal, values}
+use Rattle.unix_path.specs.Parts.{Value, RootDir, CurDir, ParentDir, Normal, is_rooted, values}
+use Rattle.unix_path.proofs.CaseLemmas.{by_test}
+use Rattle.path_runs.proofs.PieceValueLemmas.{is_rooted-slash, values-rooted}
+use Rattle.path_within.specs.PlainPieces.{is_plain}
 use Rattle.path_runs.specs.Spelling.{spelling_of}
 use Rattle.path_within.specs.Climbs.{is_name, is_parent}
 use Rattle.path_within.specs.Resolved.{resolved_of, resolved_bytes_of}
 use Rattle.path_within.specs.Resolved.{AreNames, AreUpsThenNames, IsNormal}
 use Rattle.path_within.proofs.KeepLemmas.{resolved_normal}
 use Rattle.path_within.proofs.ResolveLemmas.{values-resolved}
-use Rattle.path_within.proofs.BetweenLemmas.{list_all-names, names_all}
-use Rattle.path_within.proofs.WayLemmas.{kept_of-straight}
-use Rattle.path_within.proofs.PlainLemmas.{resolved_of-root}
+use Rattle.path_within.proofs.WayLemmas.{kept_of-straight, list_all-names, names_all}
+use Rattle.path_within.proofs.PlainLemmas.{plain_has_names, resolved_of-root}
 
 -- the test for names answers true exactly on names
 pub names_told : (vs : List Value) → IsTrue (list_all is_name vs) ↔ AreNames vs
@@ -27,10 +29,7 @@ resolved_of-straight vs h =
 -- normal values resolve to themselves
 resolved_of-normal : (vs : List Value) → IsNormal vs → resolved_of vs ≡ vs
 resolved_of-normal [] h = resolved_of-straight [] h
-resolved_of-normal (RootDir ∷ vs) h = resolved_of-root vs h
-resolved_of-normal (CurDir ∷ vs) h = absurd h
-resolved_of-normal (ParentDir ∷ vs) h = resolved_of-straight (ParentDir ∷ vs) h
-resolved_of-normal (Normal name ∷ vs) h = resolved_of-straight (Normal name ∷ vs) h
+resolved_of-normal (v ∷ vs) h = grind (arith, resolved_of-straight (v ∷ vs), resolved_of-root vs)
 
 -- a path in canonical form whose values are normal is resolved as it stands
 pub resolved_if_normal : (s : List ℕ) → IsNormal (values s) → s ≡ spelling_of (values s)
@@ -56,3 +55,11 @@ straight_told (Normal name) vs h = names_told vs
 straight_told RootDir vs h = (λ e. let no : false ≡ true = e in cc, λ k. absurd k)
 straight_told CurDir vs h = (λ e. let no : false ≡ true = e in cc, λ k. absurd k)
 straight_told ParentDir vs h = absurd (let no : true ≡ false = h in cc)
+
+-- the values of a plain path are names exactly if it isn't rooted
+pub all_names : (s : List ℕ) → is_plain s ≡ true
+    → not (is_rooted s) ≡ list_all is_name (values s)
+all_names s plain = by_test (is_rooted s)
+    (λ r. let t = is_rooted-slash s r in
+    ap not r ∙ sym (ap (list_all is_name) (ap values t.1 ∙ values-rooted t.0)))
+    (λ r. ap not r ∙ sym (list_all-names (values s) (plain_has_names s plain r).names))

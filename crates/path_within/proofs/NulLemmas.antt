@@ -1,50 +1,43 @@
 -- A NUL stands in a path exactly if one stands in a name of the path.
-use Rattle.std.proofs.Common.{◌≡◌, ℕ, Bool, true, false, eqb, ◌||◌, List, [], ◌∷◌, ◌++◌}
-use Rattle.std.proofs.Common.{refl, sym, ap, ap₂, ◌∙◌, eqb-true}
-use Rattle.std.specs.List.{list_any, slice_split, onto_first}
+use Rattle.std.proofs.Common.{◌≡◌, ℕ, ◌<◌, ◌≤◌, Bool, true, false, cond, eqb, ltb, ◌||◌, List, []}
+use Rattle.std.proofs.Common.{◌∷◌, refl, sym, ap, ap₂, ◌∙◌, arith}
+use Rattle.std.specs.List.{count_by, join_with_byte, list_any, slice_split}
 use Rattle.std.specs.Str.{bytes_eq}
+use Rattle.std.proofs.lemmas.Bool.{lt-ltb}
+use Rattle.std.proofs.lemmas.Bool.Decides.{nat_tests}
 use Rattle.std.proofs.lemmas.List.Folds.{list_any-append}
-use Rattle.std.proofs.lemmas.List.Splits.{slice_split-cons_yes, slice_split-cons_no}
+use Rattle.std.proofs.lemmas.List.Sums.{sum_by-cons}
 use Rattle.std.proofs.lemmas.Slice.Eq.{bytes_eq-Decides}
-use Rattle.unix_path.specs.Parts.{Value, is_slash, cur_dir, counts, is_rooted, value_bytes, values}
+use Rattle.unix_path.specs.Parts.{Value, RootDir, is_slash, cur_dir, counts, slash, value_bytes}
+use Rattle.unix_path.specs.Parts.{values}
 use Rattle.unix_path.proofs.CaseLemmas.{by_test}
 use Rattle.unix_path.proofs.StemLemmas.{value_bytes-piece}
-use Rattle.path_runs.proofs.LeadLemmas.{dot_first, lead_by, values-lead}
+use Rattle.path_runs.specs.JoinLaws.{drop_lead}
+use Rattle.path_runs.proofs.LeadLemmas.{drop_lead-values}
+use Rattle.path_runs.proofs.LeanLemmas.{join_with_byte-pieces}
 use Rattle.path_runs.proofs.PieceValueLemmas.{inner_values-pieces, names_of}
-use Rattle.path_within.specs.Below.{has_nul}
+use Rattle.path_within.specs.Below.{has_nul, names_below}
+use Rattle.path_within.proofs.BoundLemmas.{sum_by-names_below}
 
 -- a value's bytes have a NUL
 abbrev pub nul_in : Value → Bool
 nul_in v = has_nul (value_bytes v)
 
-or_assoc : (a b c : Bool) → ((a || b) || c) ≡ (a || (b || c))
-or_assoc true b c = refl
-or_assoc false b c = refl
-
--- a byte in front of the first piece
-nul_onto : (x : ℕ) (ps : List (List ℕ))
-    → list_any has_nul (onto_first x ps) ≡ (eqb x 0 || list_any has_nul ps)
-nul_onto x [] = or_assoc (eqb x 0) false false
-nul_onto x (p ∷ ps) = or_assoc (eqb x 0) (has_nul p) (list_any has_nul ps)
-
 -- a NUL stands in a piece
-nul_pieces : (s : List ℕ) → has_nul s ≡ list_any has_nul (slice_split is_slash s)
+nul_pieces : (ps : List (List ℕ)) → has_nul (join_with_byte slash ps) ≡ list_any has_nul ps
 nul_pieces [] = refl
-nul_pieces (x ∷ s) = by_test (is_slash x)
-    (λ e. ap (λ x. eqb x 0 || has_nul s) (eqb-true x 47 e) ∙ nul_pieces s
-    ∙ sym (ap (list_any has_nul) (slice_split-cons_yes is_slash x s e)))
-    (λ e. ap (λ b. eqb x 0 || b) (nul_pieces s)
-    ∙ sym (ap (list_any has_nul) (slice_split-cons_no is_slash x s e)
-    ∙ nul_onto x (slice_split is_slash s)))
+nul_pieces (p ∷ []) = by_test (has_nul p) (λ e. rw e refl) (λ e. rw e refl)
+nul_pieces (p ∷ q ∷ ps) =
+    list_any-append (λ b. eqb b 0) p (slash ∷ join_with_byte slash (q ∷ ps))
+    ∙ ap (λ b. has_nul p || b) (nul_pieces (q ∷ ps))
 
 -- a piece that doesn't count has no NUL
 no_nul_idle : (p : List ℕ) → counts p ≡ false → has_nul p ≡ false
-no_nul_idle p h = by (bytes_eq p []) (bytes_eq p cur_dir) refl refl
-  where
-    by : (a b : Bool) → bytes_eq p [] ≡ a → bytes_eq p cur_dir ≡ b → has_nul p ≡ false
-    by true b e f = ap has_nul ((bytes_eq-Decides p []).0 e)
-    by false true e f = ap has_nul ((bytes_eq-Decides p cur_dir).0 f)
-    by false false e f = absurd (let no : true ≡ false = rw (e, f) at h in cc)
+no_nul_idle p h = by_test (bytes_eq p [])
+    (λ e. ap has_nul ((bytes_eq-Decides p []).0 e))
+    (λ e. by_test (bytes_eq p cur_dir)
+    (λ f. ap has_nul ((bytes_eq-Decides p cur_dir).0 f))
+    (λ f. absurd (let no : true ≡ false = rw (e, f) at h in cc)))
 
 -- a NUL stands in the value of a piece that counts
 nul_names : (ps : List (List ℕ)) → list_any has_nul ps ≡ list_any nul_in (names_of ps)
@@ -54,17 +47,33 @@ nul_names (p ∷ ps) = by_test (counts p)
     (λ e. rw (e, no_nul_idle p e) (nul_names ps))
 
 -- neither the root nor a dot has a NUL
-no_nul_lead : (a b : Bool) → list_any nul_in (lead_by a b) ≡ false
-no_nul_lead true b = refl
-no_nul_lead false true = refl
-no_nul_lead false false = refl
+nul_lead : (vs : List Value) → list_any nul_in (drop_lead vs) ≡ list_any nul_in vs
+nul_lead (RootDir ∷ vs) = refl
+nul_lead vs = refl
 
 -- a NUL stands in one of a path's values
 pub has_nul-values : (s : List ℕ) → has_nul s ≡ list_any nul_in (values s)
 has_nul-values s =
     let ps = slice_split is_slash s in
-    let lead = lead_by (is_rooted s) (dot_first ps) in
-    nul_pieces s ∙ nul_names ps
-    ∙ sym (ap (list_any nul_in) (values-lead s ∙ ap (λ vs. lead ++ vs) (inner_values-pieces s))
-    ∙ list_any-append nul_in lead (names_of ps)
-    ∙ ap (λ b. b || list_any nul_in (names_of ps)) (no_nul_lead (is_rooted s) (dot_first ps)))
+    ap has_nul (sym (join_with_byte-pieces s)) ∙ nul_pieces ps ∙ nul_names ps
+    ∙ ap (list_any nul_in) (sym (drop_lead-values s ∙ inner_values-pieces s))
+    ∙ nul_lead (values s)
+
+-- some value passes exactly if more than none do
+list_any-count : (p : Value → Bool) (vs : List Value) → list_any p vs ≡ ltb 0 (count_by p vs)
+list_any-count p [] = refl
+list_any-count p (v ∷ vs) =
+    let more = sum_by-cons (λ v. cond (p v) 1 0) v vs in
+    by_test (p v)
+    (λ e. ap (λ b. b || list_any p vs) e ∙ sym (lt-ltb 0 (count_by p (v ∷ vs))
+    (let one : 0 < cond (p v) 1 0 = rw e (omega arith) in omega (arith, more, one))))
+    (λ e. ap (λ b. b || list_any p vs) e ∙ list_any-count p vs ∙ ap (ltb 0)
+    (let none : cond (p v) 1 0 ≤ 0 = rw e (omega arith) in omega (arith, more, none)))
+
+-- without a NUL in values there is none in the names that are left of them
+pub no_nul-below : (vs : List Value) → list_any nul_in vs ≡ false
+    → list_any nul_in (names_below vs) ≡ false
+no_nul-below vs h =
+    let fewer = sum_by-names_below (λ v. cond (nul_in v) 1 0) vs in
+    let none : ltb 0 (count_by nul_in vs) ≡ false = sym (list_any-count nul_in vs) ∙ h in
+    list_any-count nul_in (names_below vs) ∙ grind (arith, nat_tests)

@@ -1,6 +1,7 @@
 -- A plain path is resolved as it stands: names alone, or the root and then names.
 use Rattle.std.proofs.Common.{◌≡◌, ℕ, Bool, true, false, cond}
-use Rattle.std.proofs.Common.{List, [], ◌∷◌, ◌++◌, drop, reverse, refl, sym, ap, ◌∙◌}
+use Rattle.std.proofs.Common.{List, [], ◌∷◌, ◌++◌, suc, drop, length, reverse, refl, sym, ap}
+use Rattle.std.proofs.Common.{◌∙◌}
 use Rattle.std.specs.Cmp.{first_so, second_so}
 use Rattle.std.specs.List.{list_all, slice_split}
 use Rattle.std.specs.Str.{bytes_eq}
@@ -9,6 +10,7 @@ use Rattle.std.proofs.lemmas.List.{append-nil, reverse-reverse}
 use Rattle.unix_path.specs.Parts.{is_slash, cur_dir, parent_dir, counts, is_rooted}
 use Rattle.unix_path.specs.Parts.{Value, RootDir, CurDir, values}
 use Rattle.unix_path.proofs.CaseLemmas.{by_test}
+use Rattle.unix_path.proofs.PartLemmas.{values-nil}
 use Rattle.path_runs.specs.Spelling.{spelling_of}
 use Rattle.path_runs.proofs.LeadLemmas.{dot_first}
 use Rattle.path_runs.proofs.OwnSpellingLemmas.{spelling_of-own_rooted, spelling_of-own_rootless}
@@ -119,11 +121,25 @@ resolved-plain s h = by_test (is_rooted s)
     ap spelling_of (ap resolved_of all ∙ resolved_of-names (names_of ps) (plain_names ps plain)
     ∙ sym all) ∙ own_plain s plain r)
 
+-- the empty path is resolved as it stands
+pub resolved_empty : (s : List ℕ) → s ≡ [] → resolved_bytes_of s ≡ s
+unfolding resolved_of spelling_of
+resolved_empty s e = rw e (ap (λ vs. spelling_of (resolved_of vs)) values-nil)
+
 -- a plain path without a root has names alone, one at least, and is spelled as it stands
 pub record HasNames (s : List ℕ) : Type 0 where
   pub some : s ≡ [] → ⊥
   pub names : AreNames (values s)
   pub own : spelling_of (values s) ≡ s
+  pub count : length (values s) ≡ length (slice_split is_slash s)
+
+-- as many values as pieces, if all pieces count
+length-names_of : (ps : List (List ℕ)) → list_all counts ps ≡ true
+    → length (names_of ps) ≡ length ps
+length-names_of [] h = refl
+length-names_of (p ∷ ps) h =
+    rw (first_so (counts p) (list_all counts ps) h)
+    (ap suc (length-names_of ps (second_so (counts p) (list_all counts ps) h)))
 
 pub plain_has_names : (s : List ℕ) → is_plain s ≡ true → is_rooted s ≡ false → HasNames s
 plain_has_names s h r =
@@ -132,4 +148,5 @@ plain_has_names s h r =
       some = λ e. let no : false ≡ true = sym (ap has_plain_pieces e) ∙ plain in cc;
       names = rw (values-plain s plain r) (plain_names ps plain);
       own = own_plain s plain r;
+      count = ap length (values-plain s plain r) ∙ length-names_of ps (plain_counts ps plain);
     }

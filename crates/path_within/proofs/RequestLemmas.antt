@@ -1,5 +1,5 @@
 -- Requests with neither a root nor a `..`.
-use Rattle.std.proofs.Common.{◌≡◌, ℕ, suc, true, false, List, [], ◌∷◌, refl, sym, ◌∙◌, ⊎_elim}
+use Rattle.std.proofs.Common.{◌≡◌, ℕ, suc, true, false, List, [], ◌∷◌, refl, sym, ◌∙◌}
 use Rattle.std.proofs.lemmas.Bool.{both_ways}
 use Rattle.std.specs.List.{AllByRecursion}
 use Rattle.unix_path.specs.Parts.{Value, RootDir, CurDir, ParentDir, Normal, is_rooted, values}
@@ -8,7 +8,7 @@ use Rattle.path_runs.specs.JoinLaws.{drop_dot}
 use Rattle.path_runs.proofs.LeadLemmas.{IsInner, inner-behind}
 use Rattle.path_within.specs.Resolved.{AreNames}
 use Rattle.path_within.specs.Climbs.{Climbs, has_root_or_up}
-use Rattle.path_within.proofs.ClimbLemmas.{above_from, climbs_by_depth}
+use Rattle.path_within.proofs.ClimbLemmas.{climbs_from, climbs_by_depth}
 
 -- values without a root or a `..` have no root in front
 no_root_first : (vs : List Value) → has_root_or_up vs ≡ false → root_first vs ≡ false
@@ -22,20 +22,18 @@ no_root_first (Normal name ∷ vs) e = refl
 pub request_rootless : (b : List ℕ) → has_root_or_up (values b) ≡ false → is_rooted b ≡ false
 request_rootless b e = sym (root_first-values b) ∙ no_root_first (values b) e
 
--- values without a root or a `..` never go above
-above_from-plain : (n : ℕ) (vs : List Value) → has_root_or_up vs ≡ false
-    → above_from n vs ≡ false
-above_from-plain n [] e = refl
-above_from-plain n (RootDir ∷ vs) e = absurd (let no : true ≡ false = e in cc)
-above_from-plain n (CurDir ∷ vs) e = above_from-plain n vs e
-above_from-plain n (ParentDir ∷ vs) e = absurd (let no : true ≡ false = e in cc)
-above_from-plain n (Normal name ∷ vs) e = above_from-plain (suc n) vs e
+-- values without a root or a `..` don't climb
+climbs_from-plain : (n : ℕ) (vs : List Value) → has_root_or_up vs ≡ false
+    → climbs_from n vs ≡ false
+climbs_from-plain n [] e = refl
+climbs_from-plain n (RootDir ∷ vs) e = absurd (let no : true ≡ false = e in cc)
+climbs_from-plain n (CurDir ∷ vs) e = climbs_from-plain n vs e
+climbs_from-plain n (ParentDir ∷ vs) e = absurd (let no : true ≡ false = e in cc)
+climbs_from-plain n (Normal name ∷ vs) e = climbs_from-plain (suc n) vs e
 
 -- a request without a root or a `..` doesn't climb
 pub request_stays : (b : List ℕ) → has_root_or_up (values b) ≡ false → Climbs (values b) → ⊥
-request_stays b e h = ⊎_elim
-    (λ r. both_ways (is_rooted b) (request_rootless b e) r)
-    (λ a. both_ways (above_from 0 (values b)) (above_from-plain 0 (values b) e) a)
+request_stays b e h = both_ways (climbs_from 0 (values b)) (climbs_from-plain 0 (values b) e)
     ((climbs_by_depth b).0 h)
 
 -- inner values without a `..` are names

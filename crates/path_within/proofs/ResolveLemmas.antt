@@ -23,7 +23,7 @@ values-resolved s =
     ap values (sym (path_of-spelled ks kept one)) ∙ values-path_of ks kept one
 
 -- a leading dot changes nothing of what is kept
-kept_of-drop_dot : (ks vs : List Value) → kept_of ks (drop_dot vs) ≡ kept_of ks vs
+pub kept_of-drop_dot : (ks vs : List Value) → kept_of ks (drop_dot vs) ≡ kept_of ks vs
 kept_of-drop_dot ks [] = refl
 kept_of-drop_dot ks (RootDir ∷ vs) = refl
 kept_of-drop_dot ks (CurDir ∷ vs) = refl

@@ -1,28 +1,32 @@
 -- The runs of a string, from the left: what each of them is, and what is left behind it.
-use Rattle.std.proofs.Common.{◌≡◌, ℕ, ◌+◌, ◌<◌, ◌≤◌, Bool, true, false, eqb, ltb, cond, ◌&&◌}
+use Rattle.std.proofs.Common.{◌≡◌, ℕ, zero, suc, ◌+◌, ◌<◌, ◌≤◌, true, false, eqb, ltb, cond}
 use Rattle.std.proofs.Common.{List, [], ◌∷◌, ◌++◌, length, take, drop, get_or, map, refl, sym, ap}
-use Rattle.std.proofs.Common.{subst, ◌∙◌, arith, eqb-true, take_all, take-append-drop, drop-cons}
-use Rattle.std.proofs.Common.{get_or-drop, length-take-le, not, suc, zero, ◌||◌}
-use Rattle.std.specs.List.{position_or_len}
+use Rattle.std.proofs.Common.{◌∙◌, arith, eqb-true, take_all, take-append-drop, drop-cons}
+use Rattle.std.proofs.Common.{length-take-le, ne_eqb, ◌&&◌, ◌||◌}
+use Rattle.std.specs.List.{AllByRecursion, position_or_len, slice_split}
+use Rattle.std.proofs.Common.{Bool, not, subst, ap₂}
 use Rattle.std.proofs.lemmas.Bool.{ltb-true, ltb-false}
-use Rattle.std.proofs.lemmas.List.{append-nil, drop_all, get_or_default}
+use Rattle.std.proofs.lemmas.List.Elements.{All-from_recursion}
+use Rattle.std.proofs.lemmas.List.Splits.{slice_split_none}
 use Rattle.std.proofs.lemmas.List.Sums.{fails_before_first}
+use Rattle.std.proofs.lemmas.List.{append-nil, drop_all, get_or_default, get_or_past}
 use Rattle.unix_path.specs.CommonDir.{inner_values}
-use Rattle.unix_path.specs.Parts.{slash, is_slash, is_rooted, inner_parts, Part, Normal}
-use Rattle.unix_path.specs.Parts.{ParentDir, values}
+use Rattle.unix_path.specs.Parts.{slash, is_slash, is_rooted, inner_parts, Part, ParentDir}
+use Rattle.unix_path.specs.Parts.{RootDir, values}
 use Rattle.unix_path.specs.Scan.{begins_with_parent, is_idle}
 use Rattle.unix_path.proofs.CaseLemmas.{by_test}
 use Rattle.unix_path.proofs.CommonPrefixLemmas.{inner_values-nil, values-slash}
-use Rattle.unix_path.proofs.IdleLemmas.{idle_slash, inner_parts_idle_at, parts-busy}
-use Rattle.unix_path.proofs.LeadLemmas.{busy_no_slash, first_value-name, parts-parent_first}
-use Rattle.unix_path.proofs.PartLemmas.{parts-name}
+use Rattle.unix_path.proofs.IdleLemmas.{idle_slash, inner_parts_idle_at, is_idle-drop, parts-busy}
+use Rattle.unix_path.proofs.LeadLemmas.{busy_no_slash, parts-parent_first}
 use Rattle.unix_path.proofs.PieceLemmas.{position_or_len-other, position_or_len-slash}
+use Rattle.unix_path.proofs.PieceLemmas.{slice_split-first}
 use Rattle.unix_path.proofs.PlaceLemmas.{values-inner_parts}
+use Rattle.path_runs.proofs.LeadLemmas.{dot_first, lead_by, values-lead}
+use Rattle.path_runs.proofs.PieceValueLemmas.{slice_split-no_slash, NoSlash}
 use Rattle.path_within.specs.PlainPieces.{begins_plain, goes_on_plain, has_plain_pieces, is_end}
-use Rattle.path_within.specs.PlainPieces.{is_plain}
-use Rattle.path_within.specs.Steps.{AllOne, IsOne}
-use Rattle.path_within.proofs.PathOfLemmas.{AllOne-values}
-use Rattle.path_within.proofs.PlainStretchLemmas.{plain_stretch}
+use Rattle.path_within.specs.Runs.{AreSpelledNames}
+use Rattle.path_within.proofs.PlainLemmas.{plain_has_names}
+use Rattle.path_within.proofs.PlainStretchLemmas.{begins_plain-scan, names_stretch, Stretch}
 
 -- a string that begins with no filler has its inner values
 pub values-busy : (s : List ℕ) → is_idle s 0 ≡ false → values s ≡ inner_values s
@@ -51,77 +55,6 @@ pub values-up : (s : List ℕ) → begins_with_parent s ≡ true
 unfolding values
 values-up s e = ap (map (λ (p : Part). p.value)) (parts-parent_first s e)
     ∙ ap (λ vs. ParentDir ∷ vs) (values-inner_parts 2 (drop 2 s))
-
--- the string is not empty, and begins with neither filler nor `..`
-pub record BeginsName (s : List ℕ) : Type 0 where
-  pub some : 0 < length s
-  pub busy : is_idle s 0 ≡ false
-  pub no_up : begins_with_parent s ≡ false
-
--- the first slash is an end, or else there is none
-is_end-first : (s : List ℕ) → is_end s (position_or_len is_slash s) ≡ true
-is_end-first [] = refl
-is_end-first (b ∷ s) = by_test (eqb b 47)
-    (λ e. ap (is_end (b ∷ s)) (position_or_len-slash b s e) ∙ e)
-    (λ e. let n = position_or_len is_slash s in
-    ap (is_end (b ∷ s)) {x = position_or_len is_slash (b ∷ s)} {y = suc n}
-    (omega (arith, position_or_len-other b s e)) ∙ is_end-first s)
-
--- the first name, and then the values behind it
-values-name : (s : List ℕ) → BeginsName s → let n = position_or_len is_slash s in
-    values s ≡ Normal (take n s) ∷ inner_values (drop n s)
-unfolding values
-values-name s h =
-    let n = position_or_len is_slash s in
-    ap (map (λ (p : Part). p.value)) (parts-name s h.some (busy_no_slash s h.busy)
-    ∙ ap (λ v. record { start = 0; end = n; value = v } ∷ inner_parts n (drop n s))
-    (first_value-name s h.some h.busy h.no_up))
-    ∙ ap (λ vs. Normal (take n s) ∷ vs) (values-inner_parts n (drop n s))
-
--- the first name is a path of its own, and behind it are the values of what is left
-pub name_first : (s t name : List ℕ) (n : ℕ) → BeginsName s
-    → n ≡ position_or_len is_slash s → name ≡ take n s → values t ≡ inner_values (drop (n + 1) s)
-    → (values s ≡ Normal name ∷ values t) × IsOne (Normal name)
-name_first s t name n h e is left =
-    let m = position_or_len is_slash s in
-    let same : take m s ≡ name = ap (λ k. take k s) (sym e) ∙ sym is in
-    let all : values s ≡ Normal name ∷ values t = values-name s h
-    ∙ ap (λ name. Normal name ∷ inner_values (drop m s)) same
-    ∙ ap (λ vs. Normal name ∷ vs) (inner_values-end s m (is_end-first s)
-    ∙ ap (λ k. inner_values (drop (k + 1) s)) (sym e) ∙ sym left) in
-    (all, (subst AllOne all (AllOne-values s)).0)
-
--- a byte that is neither a slash nor a dot begins a plain piece
-pub plain_here : (s : List ℕ) (i : ℕ) → i < length s → eqb (get_or s i 0) 47 ≡ false
-    → eqb (get_or s i 0) 46 ≡ false → begins_plain s i ≡ true
-plain_here s i l no_slash no_dot =
-    let end : eqb (get_or s i 47) 47 ≡ false =
-    ap (λ x. eqb x 47) (sym (get_or_default s i 0 47 l)) ∙ no_slash in
-    rw (end, no_dot) refl
-
--- so does a string that begins with a name
-plain_first : (s : List ℕ) → BeginsName s → begins_plain s 0 ≡ true
-plain_first s h =
-    let no_slash = busy_no_slash s h.busy in
-    by_test (eqb (get_or s 0 0) 46)
-    (λ dot.
-    let end : eqb (get_or s 0 47) 47 ≡ false =
-    ap (λ x. eqb x 47) (sym (get_or_default s 0 0 47 h.some)) ∙ no_slash in
-    let one : eqb (get_or s 1 47) 47 ≡ false = rw (no_slash, dot) at h.busy in
-    let up : (eqb (get_or s 1 0) 46 && eqb (get_or s 2 47) 47) ≡ false = rw dot at h.no_up in
-    rw (end, dot, one, up) refl)
-    (λ no_dot. plain_here s 0 h.some no_slash no_dot)
-
--- so does what is left, if no filler stands in front of it, and no dot
-pub plain_behind : (s rest : List ℕ) (n len : ℕ) → rest ≡ drop n s → n < length s → len ≤ 0
-    → is_idle rest len ≡ false → eqb (get_or rest 0 0) 46 ≡ false → begins_plain s n ≡ true
-plain_behind s rest n len e l none busy no_dot =
-    let here : get_or rest 0 0 ≡ get_or s n 0 = ap (λ t. get_or t 0 0) e ∙ get_or-drop n s 0 0
-    ∙ ap (λ k. get_or s k 0) {x = n + 0} {y = n} (omega arith) in
-    plain_here s n l
-    (ap (λ b. eqb b 47) (sym here) ∙ busy_no_slash rest
-    (ap (is_idle rest) {x = 0} {y = len} (omega arith) ∙ busy))
-    (ap (λ b. eqb b 46) (sym here) ∙ no_dot)
 
 -- a string whose length is 0 is empty
 pub no_byte : (s : List ℕ) → eqb (length s) 0 ≡ true → s ≡ []
@@ -161,37 +94,123 @@ rootless_take [] n busy = by_nothing n
 rootless_take (b ∷ s) zero busy = refl
 rootless_take (b ∷ s) (suc n) busy = busy_no_slash (b ∷ s) busy
 
--- names that go on behind the first slash, up to a slash or the end, are plain, and behind them are
--- the values of what is left
-pub names_first : (s t names : List ℕ) (n end : ℕ) → BeginsName s
-    → n ≡ position_or_len is_slash s → begins_plain s (n + 1) ≡ true → n + 1 ≤ end
-    → end ≤ length s → ((k : ℕ) → n + 1 ≤ k → k < end → goes_on_plain s k ≡ true)
-    → is_end s end ≡ true → names ≡ take end s → values t ≡ inner_values (drop end s)
-    → (values s ≡ values names ++ values t)
-    × (is_plain names ≡ true) × (is_rooted names ≡ false)
-names_first s t names n end h e next more in_range goes ends is left =
-    let before : (k : ℕ) → k < n → is_slash (get_or s k 0) ≡ false =
-    λ k l. fails_before_first is_slash s k 0 (subst (λ n. k < n) e l) in
-    let all : (k : ℕ) → k < end → goes_on_plain s k ≡ true =
-    λ k l. by_test (ltb k n)
-    (λ t. let no = before k (ltb-true k n t) in rw no refl)
+-- a rooted string has the root, and then its inner values
+pub values-root : (s : List ℕ) → is_rooted s ≡ true → values s ≡ RootDir ∷ inner_values s
+values-root s r = values-lead s
+    ∙ ap (λ c. lead_by c (dot_first (slice_split is_slash s)) ++ inner_values s) r
+
+-- what is left behind all filler begins with none
+pub busy_left : (s : List ℕ) (n : ℕ) → (n < length s → is_idle s n ≡ false)
+    → is_idle (drop n s) 0 ≡ false
+busy_left s n busy = is_idle-drop s n ∙ by_test (ltb n (length s))
+    (λ t. busy (ltb-true n (length s) t))
+    (λ t. ap (λ x. eqb x 47 || (eqb x 46 && eqb (get_or s (n + 1) 47) 47))
+    (get_or_past s n 0 (ltb-false n (length s) t)))
+
+-- behind all filler a string has its inner values
+pub values_left : (s : List ℕ) (n : ℕ) → (n < length s → is_idle s n ≡ false)
+    → inner_parts 0 s ≡ inner_parts (0 + n) (drop n s) → values (drop n s) ≡ inner_values s
+values_left s n busy idle = values-busy (drop n s) (busy_left s n busy)
+    ∙ sym (ap (map (λ (p : Part). p.value)) idle ∙ values-inner_parts (0 + n) (drop n s))
+
+-- plain bytes up to a slash or the end, taken as a path, have names, and behind them are the
+-- values of what is left
+pub record TakesNames (s names t : List ℕ) : Type 0 where
+  pub split : values s ≡ values names ++ values t
+  pub spelled : AreSpelledNames names
+
+pub takes_names : (s t names : List ℕ) (n : ℕ) → is_idle s 0 ≡ false → Stretch s n
+    → n ≤ length s → names ≡ take n s → values t ≡ inner_values (drop n s) → TakesNames s names t
+takes_names s t names n busy h l is left =
+    let rootless : is_rooted names ≡ false = ap is_rooted is ∙ rootless_take s n busy in
+    record {
+      split = values-cut s n h.some l h.ends
+          ∙ ap (λ vs. values (take n s) ++ vs) (sym (inner_values-end s n h.ends) ∙ sym left)
+          ∙ ap (λ names. values names ++ values t) (sym is);
+      spelled = record {
+        plain = ap (λ c. has_plain_pieces (cond c (drop 1 names) names)) rootless
+            ∙ ap has_plain_pieces is ∙ h.plain;
+        rootless = rootless;
+      };
+    }
+
+-- the first slash ends a piece, or else the string does
+is_end-first : (s : List ℕ) → is_end s (position_or_len is_slash s) ≡ true
+is_end-first [] = refl
+is_end-first (b ∷ s) = by_test (eqb b 47)
+    (λ e. ap (is_end (b ∷ s)) (position_or_len-slash b s e) ∙ e)
+    (λ e. let n = position_or_len is_slash s in
+    ap (is_end (b ∷ s)) {x = position_or_len is_slash (b ∷ s)} {y = suc n}
+    (omega (arith, position_or_len-other b s e)) ∙ is_end-first s)
+
+-- before the first slash a plain piece goes on
+pub first_goes_on : (s : List ℕ) (n : ℕ) → n ≡ position_or_len is_slash s
+    → (k : ℕ) → k < n → goes_on_plain s k ≡ true
+first_goes_on s n e k l =
+    let no = fails_before_first is_slash s k 0 (subst (λ n. k < n) e l) in rw no refl
+
+-- up to the first slash a plain piece stands
+pub first_stretch : (s : List ℕ) (n : ℕ) → begins_plain s 0 ≡ true
+    → n ≡ position_or_len is_slash s → Stretch s n
+first_stretch s n first e =
+    names_stretch s n first (first_goes_on s n e) (ap (is_end s) e ∙ is_end-first s)
+
+-- up to the first slash there is one piece
+pub one_piece : (s name : List ℕ) (n : ℕ) → n ≡ position_or_len is_slash s → name ≡ take n s
+    → slice_split is_slash name ≡ name ∷ []
+one_piece s name n e is =
+    let no_slash = (subst (AllByRecursion NoSlash) (slice_split-first s) (slice_split-no_slash s)).0
+    in subst (λ p. slice_split is_slash p ≡ p ∷ []) (ap (λ k. take k s) (sym e) ∙ sym is)
+    (slice_split_none is_slash _ (All-from_recursion (λ b. is_slash b ≡ false) _ no_slash))
+
+-- before the first slash, and over one behind which a plain piece begins, plain pieces go on
+pub goes_on_from : (s : List ℕ) (n end : ℕ) → n ≡ position_or_len is_slash s
+    → begins_plain s (n + 1) ≡ true
+    → ((k : ℕ) → n + 1 ≤ k → k < end → goes_on_plain s k ≡ true)
+    → (k : ℕ) → k < end → goes_on_plain s k ≡ true
+goes_on_from s n end e next goes k l = by_test (ltb k n)
+    (λ t. first_goes_on s n e k (ltb-true k n t))
     (λ t. let from = ltb-false k n t in by_test (ltb k (n + 1))
-    (λ u. let below = ltb-true k (n + 1) u in
-    subst (λ j. goes_on_plain s j ≡ true) {x = n} {y = k} (omega arith)
-    (by_next (is_slash (get_or s n 0)) next))
-    (λ u. goes k (ltb-false k (n + 1) u) l)) in
-    let rootless : is_rooted names ≡ false =
-    ap is_rooted is ∙ rootless_take s end h.busy in
-    let plain : has_plain_pieces names ≡ true =
-    ap has_plain_pieces is ∙ plain_stretch s end (plain_first s h) all ends in (
-      values-cut s end (omega arith) in_range ends
-          ∙ ap (λ vs. values (take end s) ++ vs) (sym (inner_values-end s end ends) ∙ sym left)
-          ∙ ap (λ names. values names ++ values t) (sym is),
-      ap (λ c. has_plain_pieces (cond c (drop 1 names) names)) rootless ∙ plain,
-      rootless,
-    )
+    (λ u. subst (λ j. goes_on_plain s j ≡ true) {x = n} {y = k}
+    (omega (arith, ltb-true k (n + 1) u)) (by_next (is_slash (get_or s n 0)) next))
+    (λ u. goes k (ltb-false k (n + 1) u) l))
   where
     by_next : (c : Bool) → begins_plain s (n + 1) ≡ true
         → (not c || begins_plain s (n + 1)) ≡ true
     by_next true h = h
     by_next false h = refl
+
+-- where neither filler nor `..` begins, a plain piece does
+pub plain_here : (s : List ℕ) → 0 < length s → is_idle s 0 ≡ false
+    → begins_with_parent s ≡ false → begins_plain s 0 ≡ true
+plain_here s some busy no_up = begins_plain-scan s 0 some
+    ∙ ap₂ (λ x y. not x && not y) busy no_up
+
+-- where neither filler nor a dot begins, a plain piece does
+pub plain_behind : (s rest : List ℕ) (n : ℕ) → rest ≡ drop n s → n < length s
+    → is_idle rest 0 ≡ false → (get_or rest 0 0 ≡ 46 → ⊥) → begins_plain s n ≡ true
+plain_behind s rest n e l busy other = begins_plain-scan s n l
+    ∙ ap₂ (λ x y. not x && not y)
+    (sym (is_idle-drop s n) ∙ ap (λ t. is_idle t 0) (sym e) ∙ busy)
+    (ap begins_with_parent (sym e) ∙ ap (λ c. c && (eqb (get_or rest 1 0) 46
+    && eqb (get_or rest 2 47) 47)) (ne_eqb _ 46 other))
+
+-- up to the first slash stands one name, and behind that are the values of what is left
+pub record TakesName (s name t : List ℕ) : Type 0 where
+  pub split : values s ≡ values name ++ values t
+  pub spelled : AreSpelledNames name
+  pub one : length (values name) ≡ 1
+
+pub one_name : (s t name : List ℕ) (n : ℕ) → is_idle s 0 ≡ false → begins_plain s 0 ≡ true
+    → n ≡ position_or_len is_slash s → n ≤ length s → name ≡ take n s
+    → values t ≡ inner_values (drop (n + 1) s) → TakesName s name t
+one_name s t name n busy first e l is left =
+    let stretch = first_stretch s n first e in
+    let names = takes_names s t name n busy stretch l is
+    (left ∙ sym (inner_values-end s n stretch.ends)) in
+    record {
+      split = names.split;
+      spelled = names.spelled;
+      one = (plain_has_names name names.spelled.plain names.spelled.rootless).count
+          ∙ ap length (one_piece s name n e is);
+    }

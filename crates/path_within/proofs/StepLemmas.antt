@@ -3,14 +3,17 @@ use Rattle.std.proofs.Common.{◌≡◌, List, [], ℕ, refl, sym, ap₂, subst,
 use Rattle.unix_path.specs.Joins.{join_of}
 use Rattle.unix_path.specs.Parts.{Value, values}
 use Rattle.path_within.specs.Resolved.{kept_of, resolved_of, resolved_bytes_of}
-use Rattle.path_within.specs.Steps.{Spells}
+use Rattle.path_within.specs.Steps.{Keeps, Spells}
 use Rattle.path_within.proofs.ResolveLemmas.{kept_of-join}
-use Rattle.path_within.proofs.BetweenLemmas.{ups_of}
 use Rattle.path_within.proofs.PathOfLemmas.{path_of-spelled}
 
 -- the empty path spells no value
 pub spells_nothing : {s : List ℕ} → s ≡ [] → Spells s []
 spells_nothing e = record { kept = tt; one = tt; is = e }
+
+-- the empty path keeps nothing, and has no floor
+pub keeps_nothing : {s : List ℕ} → s ≡ [] → Keeps s 0 []
+keeps_nothing e = record { spells = spells_nothing e; floor_is = refl }
 
 -- bytes that spell what is kept of a path's values are the path, resolved
 pub spells_resolved : {t : List ℕ} {vs : List Value} (s : List ℕ) → vs ≡ values s
@@ -25,9 +28,3 @@ pub spells_join : {t : List ℕ} {vs ws : List Value} (a b : List ℕ) → vs �
     → ws ≡ values b → Spells t (kept_of (kept_of [] vs) ws) → t ≡ resolved_bytes_of (join_of a b)
 spells_join {t} a b e f h = spells_resolved (join_of a b) refl (subst (Spells t)
     (ap₂ (λ vs ws. kept_of (kept_of [] vs) ws) e f ∙ sym (kept_of-join a b)) h)
-
--- s spells what is kept so far behind ks, and a `..` for each of `left` is still to be kept
-pub record KeepsUps (ks : List Value) (s : List ℕ) (left all : List Value) : Type 0 where
-  pub so_far : List Value
-  pub spells : Spells s so_far
-  pub onward : kept_of so_far (ups_of left) ≡ kept_of ks (ups_of all)

@@ -1,76 +1,68 @@
--- Names that are written with slashes between them, from the last to the first.
-use Rattle.std.proofs.Common.{◌≡◌, ℕ, ◌-◌, ◌<◌, ◌≤◌, List, [], ◌∷◌, ◌++◌, length}
-use Rattle.std.proofs.Common.{drop, refl, sym, ap, ◌∙◌, arith, append_assoc, append-nil}
-use Rattle.std.proofs.Common.{length-append}
+-- Names that are written from the last to the first, with a slash before each.
+use Rattle.std.proofs.Common.{◌≡◌, ℕ, ◌+◌, List, [], ◌∷◌, ◌++◌, length, drop}
+use Rattle.std.proofs.Common.{sym, ap, ◌∙◌, arith, append_assoc, append-nil}
+use Rattle.std.proofs.lemmas.List.Sums.{sum_by-append}
 use Rattle.std.proofs.Math.Seq.{drop-length}
 use Rattle.unix_path.specs.Parts.{Value, Normal, slash, value_bytes}
 use Rattle.path_runs.specs.Spelling.{slashed_bytes}
+use Rattle.path_within.specs.Written.{slashed_len}
 
--- one more value behind others, which aren't none
-slashed_bytes-push : (w : Value) (ws : List Value) (v : Value)
-    → slashed_bytes ((w ∷ ws) ++ v ∷ []) ≡ slashed_bytes (w ∷ ws) ++ slash ∷ value_bytes v
-slashed_bytes-push w [] v = refl
-slashed_bytes-push w (x ∷ ws) v =
-    ap (λ s. value_bytes w ++ slash ∷ s) (slashed_bytes-push x ws v)
-    ∙ sym (append_assoc (value_bytes w) (slash ∷ slashed_bytes (x ∷ ws)) (slash ∷ value_bytes v))
+-- these values' bytes, with a slash before each
+abbrev pub with_slashes : List Value → List ℕ
+with_slashes [] = []
+with_slashes (v ∷ vs) = slash ∷ value_bytes v ++ with_slashes vs
 
--- what stands in `out` from `at` on is the end of the whole, and the values that are left are
--- what stands before it
-pub record WritesBack (whole : List ℕ) (left : List Value) (at : ℕ) (out : List ℕ) : Type 0 where
-  pub at_is : at ≡ length (slashed_bytes left)
-  pub whole_is : whole ≡ slashed_bytes left ++ drop at out
+with_slashes-some : (v : Value) (vs : List Value)
+    → with_slashes (v ∷ vs) ≡ slash ∷ slashed_bytes (v ∷ vs)
+with_slashes-some v [] = ap (λ s. slash ∷ s) (append-nil (value_bytes v))
+with_slashes-some v (w ∷ vs) =
+    ap (λ s. slash ∷ value_bytes v ++ s) (with_slashes-some w vs)
+
+-- behind a slash, `out` ends from `end` on with the last of all values, and those that are left
+-- have room before it
+pub record WritesBack (all left : List Value) (end : ℕ) (out : List ℕ) : Type 0 where
+  pub written : List Value
+  pub all_is : all ≡ left ++ written
+  pub bytes : drop end (slash ∷ out) ≡ with_slashes written
+  pub end_is : end ≡ slashed_len left
+
+-- a name that stands last has its bytes and a slash
+pub slashed_len-push : (ws : List Value) (name : List ℕ)
+    → slashed_len (ws ++ Normal name ∷ []) ≡ slashed_len ws + (1 + length name)
+slashed_len-push ws name =
+    omega (arith, sum_by-append (λ v. 1 + length (value_bytes v)) ws (Normal name ∷ []))
 
 -- before anything is written all values are left
-pub back_first : {left : List Value} {at : ℕ} {out : List ℕ} (all : List Value) → left ≡ all
-    → at ≡ length out → length out ≡ length (slashed_bytes all)
-    → WritesBack (slashed_bytes all) left at out
-back_first {left} {at} {out} all e f g = record {
-  at_is = f ∙ g ∙ ap (λ vs. length (slashed_bytes vs)) (sym e);
-  whole_is = sym (append-nil (slashed_bytes all))
-      ∙ ap (λ vs. slashed_bytes vs ++ []) (sym e)
-      ∙ ap (λ s. slashed_bytes left ++ s) (sym (ap (λ n. drop n out) f ∙ drop-length out));
+pub back_first : {all left : List Value} {end : ℕ} {out : List ℕ} → left ≡ all
+    → end ≡ 1 + length out → 1 + length out ≡ slashed_len all → WritesBack all left end out
+back_first {all} {left} {end} {out} e f g = record {
+  written = [];
+  all_is = sym e ∙ sym (append-nil left);
+  bytes = ap (λ n. drop n (slash ∷ out)) {y = length (slash ∷ out)} (omega (arith, f))
+      ∙ drop-length (slash ∷ out);
+  end_is = f ∙ g ∙ ap slashed_len (sym e);
 }
 
--- the last of the values that are left is written, with a slash before it unless it is the first
-pub back_name : {whole : List ℕ} {left : List Value} {at start : ℕ} {out new : List ℕ}
-    (ns : List Value) (name : List ℕ) → WritesBack whole left at out
-    → left ≡ ns ++ Normal name ∷ [] → start ≡ at - length name - 1
-    → (at ≡ length name → drop start new ≡ name ++ drop at out)
-    → (length name < at → drop start new ≡ slash ∷ name ++ drop at out)
-    → WritesBack whole ns start new
-back_name {whole} {left} {at} {start} {out} {new} [] name h e f first behind =
-    let only : slashed_bytes left ≡ name = ap slashed_bytes e in
-    let all : at ≡ length name = h.at_is ∙ ap length only in
-    record {
-      at_is = omega (arith, f, all);
-      whole_is = h.whole_is ∙ ap (λ s. s ++ drop at out) only ∙ sym (first all);
-    }
-back_name {whole} {left} {at} {start} {out} {new} (w ∷ ns) name h e f first behind =
-    let more = ap slashed_bytes e ∙ slashed_bytes-push w ns (Normal name) in
-    let len = length-append (slashed_bytes (w ∷ ns)) (slash ∷ name) in
-    record {
-      at_is = omega (arith, f, h.at_is, ap length more, len);
-      whole_is = h.whole_is ∙ ap (λ s. s ++ drop at out) more
-          ∙ append_assoc (slashed_bytes (w ∷ ns)) (slash ∷ name) (drop at out)
-          ∙ ap (λ s. slashed_bytes (w ∷ ns) ++ s)
-          (sym (behind (omega (arith, h.at_is, ap length more, len))));
-    }
+-- the last of the values that are left is written
+pub back_name : {all left ws : List Value} {end start : ℕ} {out new : List ℕ} (name : List ℕ)
+    → WritesBack all left end out → left ≡ ws ++ Normal name ∷ [] → start + (1 + length name) ≡ end
+    → drop start (slash ∷ new) ≡ slash ∷ name ++ drop end (slash ∷ out)
+    → WritesBack all ws start new
+back_name {all} {left} {ws} name h e f g = record {
+  written = Normal name ∷ h.written;
+  all_is = h.all_is ∙ ap (λ vs. vs ++ h.written) e
+      ∙ append_assoc ws (Normal name ∷ []) h.written;
+  bytes = g ∙ ap (λ s. slash ∷ name ++ s) h.bytes;
+  end_is = omega (arith, f, h.end_is, ap slashed_len e, slashed_len-push ws name);
+}
 
--- a name that comes next has room
-pub back_room : {whole : List ℕ} {left : List Value} {at : ℕ} {out : List ℕ} (ns : List Value)
-    (name : List ℕ) → WritesBack whole left at out → left ≡ ns ++ Normal name ∷ []
-    → length name ≤ at
-back_room {whole} {left} {at} [] name h e = omega (arith, h.at_is, ap length (ap slashed_bytes e))
-back_room {whole} {left} {at} (w ∷ ns) name h e = omega (
-  arith,
-  h.at_is,
-  ap length (ap slashed_bytes e ∙ slashed_bytes-push w ns (Normal name)),
-  length-append (slashed_bytes (w ∷ ns)) (slash ∷ name),
-)
-
--- in the end the whole is written
-pub back_last : {whole : List ℕ} {left : List Value} {at : ℕ} {out : List ℕ}
-    → WritesBack whole left at out → left ≡ [] → out ≡ whole
-back_last {whole} {left} {at} {out} h e =
-    ap (λ n. drop n out) (sym (h.at_is ∙ ap (λ vs. length (slashed_bytes vs)) e))
-    ∙ ap (λ vs. slashed_bytes vs ++ drop at out) (sym e) ∙ sym h.whole_is
+-- in the end all are written
+pub back_last : {all left : List Value} {end : ℕ} {out : List ℕ} → WritesBack all left end out
+    → left ≡ [] → out ≡ slashed_bytes all
+back_last {all} {left} {end} {out} h e =
+    by h.written (sym (ap (λ n. drop n (slash ∷ out)) (h.end_is ∙ ap slashed_len e)) ∙ h.bytes)
+    ∙ ap slashed_bytes (sym (h.all_is ∙ ap (λ vs. vs ++ h.written) e))
+  where
+    by : (vs : List Value) → slash ∷ out ≡ with_slashes vs → out ≡ slashed_bytes vs
+    by [] f = absurd (cc)
+    by (v ∷ vs) f = let whole = f ∙ with_slashes-some v vs in cc

@@ -1,52 +1,57 @@
 -- Joins below a root, as they are written to a buffer.
-use Rattle.std.proofs.Common.{◌≡◌, ℕ, ◌+◌, ◌-◌, ◌<◌, ◌≤◌, List, ◌++◌, length}
-use Rattle.std.proofs.Common.{drop, sym, ap, ◌∙◌, arith, length-append}
+use Rattle.std.proofs.Common.{◌≡◌, ℕ, ◌+◌, ◌-◌, ◌<◌, ◌≤◌, List, [], ◌∷◌, ◌++◌, length, take, drop}
+use Rattle.std.proofs.Common.{refl, sym, ap, ◌∙◌, arith, append_assoc, length-append}
 use Rattle.std.proofs.lemmas.Grind.{common_steps}
-use Rattle.unix_path.specs.Parts.{values}
+use Rattle.std.proofs.lemmas.List.{take_at, take-take}
+use Rattle.unix_path.specs.Parts.{Value}
 use Rattle.path_runs.specs.Buffer.{buffer_after}
 use Rattle.path_runs.specs.Overlay.{overlay}
 use Rattle.path_runs.specs.Spelling.{slashed_bytes}
 use Rattle.path_runs.proofs.OverlayLemmas.{overlay-bytes_over, buffer_after-fits}
-use Rattle.path_within.specs.Below.{below_of, names_below, slashed_len}
-use Rattle.path_within.specs.Written.{opened}
-use Rattle.path_within.proofs.OpenedLemmas.{below_of-opened, slashed_len-some, some_values}
-
--- how many bytes the opened root and the names have
-pub length-below_of : {n start : ℕ} (root b : List ℕ) → n ≡ slashed_len (names_below (values b))
-    → 0 < n → start ≡ length (opened root)
-    → start + (n - 1) ≡ length (below_of root (names_below (values b)))
-length-below_of {n} {start} root b e some f = omega (
-  arith,
-  f,
-  slashed_len-some (names_below (values b)) e some,
-  ap length (below_of-opened root b (some_values (names_below (values b)) e some)),
-  length-append (opened root) (slashed_bytes (names_below (values b))),
-)
-
--- if the buffer has no room for the whole, it stays
-pub buffer_after-short : (whole old : List ℕ) → length old < length whole
-    → old ≡ buffer_after whole old
-buffer_after-short whole old h = grind (arith, common_steps)
+use Rattle.path_within.specs.Written.{opened, slashed_len, AreSpelled, IsWritten}
+use Rattle.path_within.proofs.BoundLemmas.{length-slashed_bytes, slashed_len-cons}
 
 -- the opened root and bytes behind it, written to a buffer that has room for both
-pub writes_behind : {start : ℕ} {out : List ℕ} (root names old : List ℕ)
-    → start ≡ length (opened root) → start + length names ≤ length old
+pub written_behind : {start len : ℕ} {out : List ℕ} (root names old : List ℕ)
+    → start ≡ length (opened root) → len ≡ start + length names → len ≤ length old
     → out ≡ overlay start names (opened root ++ drop start old)
-    → out ≡ buffer_after (opened root ++ names) old
-writes_behind {start} {out} root names old f room h =
-    h ∙ ap (λ n. overlay n names (opened root ++ drop n old)) f
-    ∙ overlay-bytes_over (opened root) names old
-    ∙ sym (buffer_after-fits (opened root ++ names) old
-    (omega (arith, room, f, length-append (opened root) names)))
+    → IsWritten (opened root ++ names) old out len
+written_behind {start} root names old e f room h = record {
+  out = h ∙ ap (λ n. overlay n names (opened root ++ drop n old)) e
+      ∙ overlay-bytes_over (opened root) names old
+      ∙ sym (buffer_after-fits (opened root ++ names) old
+      (omega (arith, room, f, e, length-append (opened root) names)));
+  length = omega (arith, f, e, length-append (opened root) names);
+}
 
--- the opened root and the names of a path behind it
-pub writes_names : {n start : ℕ} {out : List ℕ} (root b old : List ℕ)
-    → n ≡ slashed_len (names_below (values b)) → 0 < n → start ≡ length (opened root)
-    → start + (n - 1) ≤ length old
-    → out ≡ overlay start (slashed_bytes (names_below (values b))) (opened root ++ drop start old)
-    → out ≡ buffer_after (below_of root (names_below (values b))) old
-writes_names {n} {start} {out} root b old e some f room h =
-    let vs = names_below (values b) in
-    writes_behind root (slashed_bytes vs) old f
-    (omega (arith, room, slashed_len-some vs e some)) h
-    ∙ ap (λ s. buffer_after s old) (sym (below_of-opened root b (some_values vs e some)))
+-- if the buffer has no room for both, it stays
+pub not_written : {start len : ℕ} (root names old : List ℕ) → start ≡ length (opened root)
+    → len ≡ start + length names → length old < len
+    → IsWritten (opened root ++ names) old old len
+not_written root names old e f short =
+    let size = length-append (opened root) names in
+    record { out = grind (arith, common_steps); length = omega (arith, f, e, size) }
+
+-- values that have bytes are some, and spelled they have a byte less
+pub some_names : {n : ℕ} (vs : List Value) → n ≡ slashed_len vs → 0 < n
+    → AreSpelled (slashed_bytes vs) vs × (n - 1 ≡ length (slashed_bytes vs))
+some_names [] e some = absurd (omega (arith, e, some))
+some_names (v ∷ vs) e some = (
+  record { some = omega arith; is = refl },
+  omega (arith, e, length-slashed_bytes (v ∷ vs)),
+)
+
+-- values that have none aren't there
+pub no_names : {n : ℕ} (vs : List Value) → n ≡ slashed_len vs → n ≡ 0 → vs ≡ []
+no_names [] e none = refl
+no_names (v ∷ vs) e none = absurd (omega (arith, e, none, slashed_len-cons v vs))
+
+-- bytes that were written over others, where there is room for them, stand in front
+pub written_over : {whole new : List ℕ} {len n : ℕ} (old spare : List ℕ)
+    → new ≡ buffer_after whole old → len ≡ length whole → length whole ≤ length old
+    → len ≤ n → take len (take n (new ++ spare)) ≡ whole
+written_over {whole} {new} {len} {n} old spare e f room l =
+    take-take len n (new ++ spare) l
+    ∙ ap (λ s. take len (s ++ spare)) (e ∙ buffer_after-fits whole old room)
+    ∙ ap (take len) (append_assoc whole (drop (length whole) old) spare)
+    ∙ take_at whole (drop (length whole) old ++ spare) len (sym f)

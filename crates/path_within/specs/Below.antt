@@ -2,16 +2,15 @@
 -- top stays there (POSIX.1-2017 section 4.13: `..` in the root directory is that directory). Not in
 -- Rust's std.
 use Rattle.std.specs.Prelude.{◌≡◌, ℕ, Bool, false, ◌==◌, ◌&&◌, not, nat_lt, is_some}
-use Rattle.std.specs.Prelude.{◌+◌, List, [], ◌∷◌, ◌++◌, length, drop, map, sum_by, ⊤}
-use Rattle.std.specs.List.{AllByRecursion, list_any, position_or_len}
-use Rattle.unix_path.specs.Joins.{join_of, join_all_of}
+use Rattle.std.specs.Prelude.{List, ◌∷◌, length, drop, map}
+use Rattle.std.specs.List.{list_any, position_or_len}
+use Rattle.unix_path.specs.Joins.{join_all_of}
 use Rattle.unix_path.specs.Names.{file_name_of}
-use Rattle.unix_path.specs.Parts.{Value, RootDir, Normal, is_slash, value_bytes, values}
+use Rattle.unix_path.specs.Parts.{Value, RootDir, is_slash, value_bytes, values}
 use Rattle.unix_path.specs.Prefixes.{Begins, stripped_of}
 use Rattle.unix_path.specs.Rest.{rest}
 use Rattle.path_within.specs.Climbs.{has_root_or_up}
-use Rattle.path_within.specs.Resolved.{AreNames, resolved_of}
-use Rattle.path_within.specs.Steps.{AllOne}
+use Rattle.path_within.specs.Resolved.{resolved_of}
 
 -- the names that are left of these values, resolved behind a root
 unfoldable pub names_below : List Value → List Value
@@ -33,28 +32,6 @@ ends_in_slash s =
 -- the root's bytes, and each name joined to them, one after the other
 unfoldable pub below_of : List ℕ → List Value → List ℕ
 below_of root names = join_all_of root (map value_bytes names)
-
--- the root's bytes, and each of these names, the last first, joined to those before it. No public
--- clause cites this word and the three below it
-abbrev pub path_from : List ℕ → List Value → List ℕ
-path_from root [] = root
-path_from root (v ∷ ns) = join_of (path_from root ns) (value_bytes v)
-
--- behind any bytes, a name ends the last part
-abbrev pub EndsPart : Value → Type 0
-EndsPart (Normal name) = (s : List ℕ) → rest (s ++ name) 0 0 ≡ s ++ name
-EndsPart _ = ⊤
-
--- the bytes are the root and these names, the last first
-pub record StandsOn (root bytes : List ℕ) (ns : List Value) : Type 0 where
-  pub names : AreNames ns
-  pub one : AllOne ns
-  pub ends : AllByRecursion EndsPart ns
-  pub is : bytes ≡ path_from root ns
-
--- how many bytes these values have, with a slash for each
-abbrev pub slashed_len : List Value → ℕ
-slashed_len vs = sum_by (λ v. 1 + length (value_bytes v)) vs
 
 -- the path's parts are those of the root, and then neither a root nor a `..`
 pub record GoesDown (root path : List ℕ) : Type 0 where

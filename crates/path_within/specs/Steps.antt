@@ -1,5 +1,5 @@
 -- A path that is resolved part by part: what is kept so far. No public clause cites it.
-use Rattle.std.specs.Prelude.{◌≡◌, ℕ, List, [], ◌∷◌, ⊤}
+use Rattle.std.specs.Prelude.{◌≡◌, ℕ, List, [], ◌∷◌, length, ⊤}
 use Rattle.std.specs.List.{AllByRecursion}
 use Rattle.unix_path.specs.Joins.{join_of}
 use Rattle.unix_path.specs.Parts.{Value, RootDir, ParentDir, Normal, value_bytes, values}
@@ -36,8 +36,18 @@ pub record Spells (bytes : List ℕ) (ks : List Value) : Type 0 where
   pub one : AllOne ks
   pub is : bytes ≡ path_of ks
 
--- s spells what is kept so far behind ks, and the values `left` of `all` are still to be kept
-pub record KeepsOn (ks : List Value) (s : List ℕ) (left all : List Value) : Type 0 where
+-- the kept values, the last first, without the names at the end
+abbrev pub below_names : List Value → List Value
+below_names (Normal name ∷ ks) = below_names ks
+below_names ks = ks
+
+-- the bytes spell these values, and names stand behind the first `floor` bytes
+pub record Keeps (bytes : List ℕ) (floor : ℕ) (ks : List Value) : Type 0 where
+  pub spells : Spells bytes ks
+  pub floor_is : floor ≡ length (path_of (below_names ks))
+
+-- so_far is kept behind ks, and the values `left` of `all` are still to be kept
+pub record KeepsOn (ks : List Value) (s : List ℕ) (floor : ℕ) (left all : List Value) : Type 0 where
   pub so_far : List Value
-  pub spells : Spells s so_far
+  pub keeps : Keeps s floor so_far
   pub onward : kept_of so_far left ≡ kept_of ks all

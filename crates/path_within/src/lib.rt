@@ -3,7 +3,6 @@
 
 pub mod laws;
 mod normal;
-mod plain;
 mod request;
 pub mod resolved;
 mod root;

@@ -1,12 +1,12 @@
 //! Paths that are resolved as they stand.
-ghost use Rattle.std.specs.Prelude.{◌≡◌, ◌↔◌, IsTrue};
+ghost use Rattle.std.specs.Prelude.{◌≡◌, ◌↔◌, [], IsTrue};
 ghost use Rattle.std.specs.List.{list_all};
 ghost use Rattle.unix_path.specs.Cursor.{cursor_values};
 ghost use Rattle.unix_path.specs.Views.{value_of};
 ghost use Rattle.path_within.specs.Climbs.{is_name, is_parent};
 ghost use Rattle.path_within.specs.Resolved.{resolved_bytes_of, AreUpsThenNames, IsNormal};
 
-use crate::plain::is_plain;
+use crate::runs::{begins_plain, is_plain};
 use path_runs::canonical::is_canonical;
 use unix_path::{Component, Components, Path};
 
@@ -73,4 +73,19 @@ pub(crate) fn is_resolved(path: Path<'_>) -> bool
 {
     // `is_canonical` looks for a gap 16 bytes at a time, so it is asked first.
     is_canonical(path) && is_normal(path.components())
+}
+
+// Whether a path is resolved as it stands, of those for which `is_plain` is false: it begins with no
+// plain piece, or ends in a dot that isn't filler.
+#[inline]
+pub(crate) fn is_resolved_otherwise(path: Path<'_>) -> bool
+    ensures resolved { IsTrue result
+        → resolved_bytes_of path.entry.bytes.now ≡ path.entry.bytes.now }
+    ensures empty { path.entry.bytes.now ≡ [] → IsTrue result }
+{
+    let bytes = path.bytes;
+    if !begins_plain(bytes, 0) {
+        return is_resolved(path);
+    }
+    bytes.ends_with(b".") && !bytes.ends_with(b"/.") && is_resolved(path)
 }

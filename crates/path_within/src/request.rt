@@ -1,22 +1,24 @@
 //! Requests: paths from outside, checked once.
-ghost use Rattle.std.specs.Prelude.{◌≡◌, ◌↔◌, ◌≤◌, true, false, not, [], length, option_map};
-ghost use Rattle.std.specs.Prelude.{IfOk, IfSome, IsErrOf, IsTrue, Some, None};
+ghost use Rattle.std.specs.Prelude.{◌≡◌, ◌↔◌, ◌<◌, ◌≤◌, ◌^◌, true, false, not, [], ◌∷◌, ◌++◌};
+ghost use Rattle.std.specs.Prelude.{length, option_map, IfOk, IfSome, IsErrOf, IsTrue, OnSome};
+ghost use Rattle.std.specs.Prelude.{Some, None};
 ghost use Rattle.std.specs.List.{position_or_len};
 ghost use Rattle.std.specs.Fmt.{padded};
+ghost use Rattle.unix_path.specs.Cursor.{cursor_values};
 ghost use Rattle.unix_path.specs.Names.{file_name_of};
-ghost use Rattle.unix_path.specs.Parts.{is_rooted, is_slash, values};
+ghost use Rattle.unix_path.specs.Parts.{Normal, is_rooted, is_slash, values};
 ghost use Rattle.path_within.specs.Climbs.{Climbs};
 ghost use Rattle.path_within.specs.PlainPieces.{is_plain};
 ghost use Rattle.path_within.specs.Resolved.{resolved_of};
 ghost use Rattle.path_within.specs.Below.{names_below, has_nul, behind_slashes, ends_in_slash};
 
-use crate::plain::is_plain;
+use crate::runs::is_plain;
 use crate::within::climbs;
 use std::error::Error;
 use std::fmt;
 use unix_bytes::bytes::UnixStr;
 use unix_bytes::search::first_place;
-use unix_path::{Component, Path};
+use unix_path::{Component, Components, Path};
 
 /// Why a path is no request.
 ///
@@ -76,15 +78,13 @@ fn slashes_len(bytes: &[u8]) -> usize
     bytes.len()
 }
 
-// Whether a path without a root is its names as it is spelled, or `None` if it climbs. One that is
-// its names as it is spelled doesn't climb, so its parts aren't walked over.
-#[inline]
-fn is_spelled_unless_climbs(path: Path<'_>) -> Option<bool>
-    requires { is_rooted path.bytes.now ≡ false }
+// Whether a path is its names as it is spelled, or `None` if it climbs. If it is, its runs aren't
+// gone through.
+pub(crate) fn is_spelled_unless_climbs(path: Path<'_>) -> Option<bool>
     ensures none { result ≡ None ↔ Climbs (values path.entry.bytes.now) }
     ensures spelled { IfSome result (λ is. IsTrue is → is_plain path.entry.bytes.now ≡ true) }
 {
-    if is_plain(path) {
+    if !path.has_root() && is_plain(path) {
         return Some(true);
     }
     if climbs(path) {
@@ -93,12 +93,18 @@ fn is_spelled_unless_climbs(path: Path<'_>) -> Option<bool>
     Some(false)
 }
 
-// The last name of a path that is resolved behind `/`.
-fn last_name(path: Path<'_>) -> Option<UnixStr<'_>>
-    ensures { option_map (λ name. name.bytes.now) result
-        ≡ file_name_of (names_below (values path.entry.bytes.now)) }
+// Takes the last name that is left of a walk, as it is resolved behind `/`, and what stands behind
+// that name: each `..` with the name that it takes away, and each `.`. Always inlined, so that a
+// loop over the names keeps the walk in registers.
+#[inline(always)]
+pub(crate) fn take_name<'a>(left: &mut Components<'a>) -> Option<UnixStr<'a>>
+    requires { length (cursor_values left.old) < 2 ^ 64 }
+    ensures none { result ≡ None → names_below (cursor_values left.old) ≡ [] }
+    ensures some { IfSome result (λ name. names_below (cursor_values left.old)
+        ≡ names_below (cursor_values left.new) ++ Normal name.bytes.now ∷ []) }
+    ensures len { OnSome result (length (cursor_values left.new)
+        < length (cursor_values left.old)) }
 {
-    let mut left = path.components();
     // How many of the names that are left are taken away by the `..` behind them.
     let mut ups = 0_usize;
     while let Some(part) = left.next_back() {
@@ -240,7 +246,7 @@ impl<'a> Request<'a> {
         ensures { option_map (λ name. name.bytes.now) result
             ≡ file_name_of (request_names self.now) }
     {
-        last_name(self.path)
+        take_name(&mut self.path.components())
     }
 
     /// Whether there is no name: a join with the request is the root itself. Does not allocate. Not
@@ -251,7 +257,8 @@ impl<'a> Request<'a> {
     pub fn is_root(&self) -> bool
         ensures { IsTrue result ↔ (request_names self.now ≡ []) }
     {
-        self.file_name().is_none()
+        let mut left = self.path.components();
+        take_name(&mut left).is_none()
     }
 
     /// Whether a slash or a `/.` stands behind the path's last part, and that is a name. A system

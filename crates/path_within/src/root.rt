@@ -1,22 +1,22 @@
 //! Roots: directories below which requests are joined.
-ghost use Rattle.std.specs.Prelude.{◌≡◌, ◌↔◌, ◌+◌, ◌-◌, ◌≤◌, ℕ, List, ◌++◌, true, false};
-ghost use Rattle.std.specs.Prelude.{length, drop, vec_capacity};
+ghost use Rattle.std.specs.Prelude.{◌≡◌, ◌↔◌, ◌+◌, ◌≤◌, ◌++◌, true, false, length, vec_capacity};
 ghost use Rattle.std.specs.Prelude.{IfOk, IfSome, OnOk, OnErr, IsOk, IsErrOf, IsTrue, Some, None};
 ghost use Rattle.std.specs.Fmt.{padded};
 ghost use Rattle.unix_path.specs.Buffers.{path_bytes, capacity};
-ghost use Rattle.unix_path.specs.Joins.{is_open, join_of};
-ghost use Rattle.unix_path.specs.Parts.{Value, is_rooted, values};
+ghost use Rattle.unix_path.specs.Joins.{is_open};
+ghost use Rattle.unix_path.specs.Parts.{values};
 ghost use Rattle.unix_path.specs.Prefixes.{Begins, stripped_of};
 ghost use Rattle.unix_path.specs.Views.{value_of};
-ghost use Rattle.path_within.specs.Below.{below_of, has_nul, names_below, GoesDown, IsBelow};
-ghost use Rattle.path_within.specs.Below.{StandsOn};
+ghost use Rattle.path_within.specs.Below.{below_of, has_nul, GoesDown, IsBelow};
 ghost use Rattle.path_within.specs.Climbs.{has_root_or_up, is_root_or_up};
 ghost use Rattle.path_within.specs.PlainPieces.{is_plain};
+ghost use Rattle.path_within.specs.Requests.{request_bytes, request_names};
 ghost use Rattle.path_within.specs.Resolved.{resolved_bytes_of};
+ghost use Rattle.path_within.specs.Written.{opened};
 
-use crate::plain::is_plain;
 use crate::request::{Request, has_nul};
 use crate::resolved::resolved;
+use crate::runs::is_plain;
 use core::mem::replace_with;
 use std::alloc::{AllocError, Global};
 use std::error::Error;
@@ -96,21 +96,45 @@ fn append(bytes: &mut Vec<u8>, more: &[u8])
     let _ = bytes.extend_from_slice(more);
 }
 
-// The join of two paths, the second without a root, in the memory of a path with room for both.
+// Appends a root, and a slash if one is wanted before a name, for which there is room.
+#[inline]
+fn append_opened(bytes: &mut Vec<u8>, root: &[u8])
+    requires { length bytes.old.items + length root.now + 1 ≤ vec_capacity bytes.old }
+    ensures bytes { bytes.new.items ≡ bytes.old.items ++ opened root.now }
+    ensures capacity { vec_capacity bytes.old ≤ vec_capacity bytes.new }
+{
+    append(bytes, root);
+    if !is_open(root) {
+        append(bytes, b"/");
+    }
+}
+
+// A root, a slash if one is wanted, and a path, in the memory of a path with room for them.
 #[inline]
 fn joined_in(held: PathBuf, both: (Path<'_>, Path<'_>)) -> (PathBuf, ())
-    requires rootless { is_rooted both.1.bytes.now ≡ false }
-    requires room { length both.0.bytes.now + 1 + length both.1.bytes.now ≤ capacity held }
-    ensures { path_bytes result.0 ≡ join_of both.entry.0.bytes.now both.entry.1.bytes.now }
+    requires { length both.0.bytes.now + 1 + length both.1.bytes.now ≤ capacity held }
+    ensures { path_bytes result.0 ≡ opened both.entry.0.bytes.now ++ both.entry.1.bytes.now }
 {
     let (root, path) = both;
     let mut bytes = held.into_unix_string().into_bytes();
     bytes.clear();
-    append(&mut bytes, root.bytes);
-    if !is_open(root.bytes) {
-        append(&mut bytes, b"/");
-    }
+    append_opened(&mut bytes, root.bytes);
     append(&mut bytes, path.bytes);
+    (PathBuf::from(UnixString::from(bytes)), ())
+}
+
+// The join of a root and a request in the memory of a path with room for both. It is written over
+// the root and the request's bytes, which have no fewer.
+fn resolved_in(held: PathBuf, both: (Path<'_>, Request<'_>)) -> (PathBuf, ())
+    requires { length both.0.bytes.now + 1 + length (request_bytes both.1) ≤ capacity held }
+    ensures { path_bytes result.0
+        ≡ below_of both.entry.0.bytes.now (request_names both.entry.1) }
+{
+    let (root, request) = both;
+    let (joined, ()) = joined_in(held, (root, request.as_path()));
+    let mut bytes = joined.into_unix_string().into_bytes();
+    let len = request.write_below(root, &mut bytes);
+    bytes.truncate(len);
     (PathBuf::from(UnixString::from(bytes)), ())
 }
 
@@ -127,7 +151,7 @@ pub struct Root {
 }
 
 impl Root {
-    ghost use Rattle.path_within.specs.Requests.{request_bytes, request_names, root_bytes};
+    ghost use Rattle.path_within.specs.Requests.{root_bytes};
 
     /// The root with this path, resolved by names.
     ///
@@ -168,62 +192,6 @@ impl Root {
         self.path.as_path()
     }
 
-    // Makes the buffer, which has room for the root, hold the root alone.
-    #[inline]
-    fn restart(&self, buffer: &mut PathBuf)
-        requires { length (root_bytes self.now) ≤ capacity buffer.old }
-        ensures bytes { path_bytes buffer.new ≡ root_bytes self.now }
-        ensures capacity { capacity buffer.old ≤ capacity buffer.new }
-    {
-        buffer.clear();
-        let _ = buffer.push(self.as_path());
-    }
-
-    // Takes the last of `depth` names behind the root away, if there is one. Returns how many are
-    // left.
-    fn drop_name(&self, buffer: &mut PathBuf, depth: usize) -> usize
-        requires { length (root_bytes self.now) ≤ capacity buffer.old }
-        ensures names { (ns : List Value) → depth ≡ length ns
-            → StandsOn (root_bytes self.now) (path_bytes buffer.old) ns
-            → StandsOn (root_bytes self.now) (path_bytes buffer.new) (drop 1 ns) }
-        ensures depth { result ≡ depth - 1 }
-        ensures capacity { capacity buffer.old ≤ capacity buffer.new }
-    {
-        if depth == 0 {
-            return 0;
-        }
-        if depth == 1 {
-            // A `pop` could take away what stands behind the root's last part.
-            self.restart(buffer);
-            return 0;
-        }
-        buffer.pop();
-        depth - 1
-    }
-
-    // Joins the names of a path to the root, which the buffer holds. It has room for both.
-    fn push_names(&self, buffer: &mut PathBuf, path: Path<'_>)
-        requires root { path_bytes buffer.old ≡ root_bytes self.now }
-        requires rootless { is_rooted path.bytes.now ≡ false }
-        requires room { length (root_bytes self.now) + 1 + length path.bytes.now
-            ≤ capacity buffer.old }
-        ensures { path_bytes buffer.new
-            ≡ below_of (root_bytes self.now) (names_below (values path.entry.bytes.now)) }
-    {
-        let mut depth = 0_usize;
-        let mut left = path.components();
-        while let Some(part) = left.next() {
-            match part {
-                Component::Normal(name) => {
-                    let _ = buffer.push(Path::new(name));
-                    depth += 1;
-                }
-                Component::ParentDir => depth = self.drop_name(buffer, depth),
-                Component::RootDir | Component::CurDir => {}
-            }
-        }
-    }
-
     // Joins a request to the root, in a buffer with room for both.
     #[inline(always)]
     fn fill(&self, buffer: &mut PathBuf, request: Request<'_>)
@@ -237,8 +205,7 @@ impl Root {
             replace_with(buffer, (self.as_path(), request.as_path()), joined_in);
             return;
         }
-        self.restart(buffer);
-        self.push_names(buffer, request.as_path());
+        replace_with(buffer, (self.as_path(), request), resolved_in);
     }
 
     // As many bytes as a join with the request has at most.

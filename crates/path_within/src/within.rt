@@ -1,19 +1,18 @@
 //! Joins that stay under a root.
-ghost use Rattle.std.specs.Prelude.{◌≡◌, ◌↔◌, true, false, length, IfOk, IsErrOf, IsTrue, Some};
+ghost use Rattle.std.specs.Prelude.{◌≡◌, ◌↔◌, true, [], IfOk, IsOk, IsErrOf, IsTrue, Some};
 ghost use Rattle.std.specs.Fmt.{padded};
 ghost use Rattle.unix_path.specs.Buffers.{path_bytes};
 ghost use Rattle.unix_path.specs.Joins.{join_of};
-ghost use Rattle.unix_path.specs.Parts.{values, is_rooted};
+ghost use Rattle.unix_path.specs.Parts.{values};
 ghost use Rattle.unix_path.specs.Prefixes.{Begins};
 ghost use Rattle.path_within.specs.Climbs.{Climbs, has_root_or_up};
-ghost use Rattle.path_within.specs.PlainPieces.{is_plain};
 ghost use Rattle.path_within.specs.Resolved.{resolved_bytes_of};
 
 use crate::laws;
-use crate::plain::is_plain;
-use crate::resolved::keep_path;
+use crate::request::is_spelled_unless_climbs;
+use crate::resolved::keep;
 use crate::root::is_spelled_unless_up;
-use crate::runs::{Run, Runs};
+use crate::runs::{Run, Runs, is_plain, part_count};
 use std::alloc::{AllocError, Global};
 use std::error::Error;
 use std::fmt;
@@ -76,41 +75,18 @@ impl From<AllocError> for WithinError {
 pub fn climbs(path: Path<'_>) -> bool
     ensures { IsTrue result ↔ Climbs (values path.entry.bytes.now) }
 {
-    path.has_root() || climbs_unless(false, path)
-}
-
-// How many parts the path has.
-#[inline]
-fn part_count(path: Path<'_>) -> usize
-    ensures { result ≡ length (values path.entry.bytes.now) }
-{
-    path.components().count()
-}
-
-// Whether a path without a root climbs. If it is known to be plain it doesn't, and it isn't looked
-// at.
-#[inline(always)]
-fn climbs_unless(known_plain: bool, path: Path<'_>) -> bool
-    requires plain { IsTrue known_plain → is_plain path.bytes.now ≡ true }
-    requires rootless { is_rooted path.bytes.now ≡ false }
-    ensures { IsTrue result ↔ Climbs (values path.entry.bytes.now) }
-{
-    if known_plain {
-        return false;
+    if path.has_root() {
+        return true;
     }
     let mut depth = 0_usize;
     let mut runs = Runs::new(path.bytes);
     while let Some(run) = runs.next() {
         match run {
+            Run::Up if depth == 0 => return true,
+            Run::Up => depth -= 1,
             Run::Name(_) => depth += 1,
             Run::Names(_) if runs.left.is_empty() => return false,
             Run::Names(names) => depth += part_count(names),
-            Run::Up => {
-                if depth == 0 {
-                    return true;
-                }
-                depth -= 1;
-            }
         }
     }
     false
@@ -134,24 +110,17 @@ pub fn join_within(alloc: Global, root: Path<'_>, request: Path<'_>) -> Result<P
     ensures within { IfOk result (λ p. Begins (values (resolved_bytes_of root.entry.bytes.now))
         (values (path_bytes p))) }
 {
-    // A request with a root is refused before the rest of it is looked at.
-    if request.has_root() {
+    let Some(is_spelled) = is_spelled_unless_climbs(request) else {
         return Err(WithinError::Escapes);
-    }
-    let is_plain_request = is_plain(request);
-    if climbs_unless(is_plain_request, request) {
-        return Err(WithinError::Escapes);
-    }
-    let is_plain_root = is_plain(root);
-    if is_plain_root && is_plain_request {
-        // The join is resolved as it stands, and has one byte more than both together, since a
-        // plain root doesn't end in a slash.
+    };
+    if is_spelled && is_plain(root) {
+        // The join is resolved as it stands, and a plain root ends in no slash.
         return Ok(root.join(alloc, request)?);
     }
     let len = root.as_unix_str().len() + 1 + request.as_unix_str().len();
     let mut kept = PathBuf::with_capacity(alloc, len)?;
-    keep_path(&mut kept, root, is_plain_root)?;
-    keep_path(&mut kept, request, is_plain_request)?;
+    let floor = keep(&mut kept, 0, root)?;
+    keep(&mut kept, floor, request)?;
     Ok(kept)
 }
 
@@ -163,7 +132,8 @@ pub fn join_within(alloc: Global, root: Path<'_>, request: Path<'_>) -> Result<P
 /// `..`, before anything is allocated, and `Memory` if the allocation fails. A slash at the end of
 /// the request stays, a NUL passes, and the answer may be the root itself, with a slash behind it.
 /// A request with a leading slash is refused: for paths of URLs take `Request::below`. Allocates
-/// once, as many bytes as the join has, or not at all for an empty join. Not in Rust's std.
+/// once, as many bytes as the join has, or not at all if both are empty; then it succeeds. Not in
+/// Rust's std.
 ///
 /// `/srv/../www` with `./a` is `/srv/../www/./a`, and with `a/../b` it is refused.
 pub fn join_plain(alloc: Global, root: Path<'_>, request: Path<'_>) -> Result<PathBuf, WithinError>
@@ -173,6 +143,7 @@ pub fn join_plain(alloc: Global, root: Path<'_>, request: Path<'_>) -> Result<Pa
         ≡ join_of root.entry.bytes.now request.entry.bytes.now) }
     ensures within { IfOk result (λ p. Begins (values root.entry.bytes.now)
         (values (path_bytes p))) }
+    ensures succeeds { root.entry.bytes.now ≡ [] → request.entry.bytes.now ≡ [] → IsOk result }
 {
     if is_spelled_unless_up(request).is_none() {
         return Err(WithinError::Escapes);

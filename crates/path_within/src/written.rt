@@ -1,56 +1,25 @@
 //! Joins below a root, written to the caller's buffer.
-ghost use Rattle.std.specs.Prelude.{◌≡◌, ℕ, ◌+◌, ◌-◌, ◌<◌, ◌≤◌, ◌^◌, [], ◌∷◌, ◌++◌, false};
-ghost use Rattle.std.specs.Prelude.{length, drop, IfSome, None};
-ghost use Rattle.unix_path.specs.Cursor.{cursor_values};
+ghost use Rattle.std.specs.Prelude.{◌≡◌, ℕ, ◌+◌, ◌≤◌, ◌∷◌, ◌++◌, true, false};
+ghost use Rattle.std.specs.Prelude.{length, drop, IfSome, IsTrue};
 ghost use Rattle.unix_path.specs.Joins.{is_open};
-ghost use Rattle.unix_path.specs.Parts.{Normal, is_rooted, slash, values};
+ghost use Rattle.unix_path.specs.Parts.{is_rooted, slash, values};
 ghost use Rattle.unix_path.specs.Prefixes.{Begins};
 ghost use Rattle.path_runs.specs.Buffer.{buffer_after};
 ghost use Rattle.path_runs.specs.Overlay.{overlay};
 ghost use Rattle.path_runs.specs.Spelling.{slashed_bytes};
-ghost use Rattle.path_within.specs.Below.{below_of, names_below, slashed_len, IsBelow};
+ghost use Rattle.path_within.specs.Below.{below_of, names_below, IsBelow};
+ghost use Rattle.path_within.specs.PlainPieces.{is_plain};
 ghost use Rattle.path_within.specs.Requests.{request_names};
-ghost use Rattle.path_within.specs.Written.{opened, AreSpelled};
+ghost use Rattle.path_within.specs.Written.{opened, slashed_len, AreSpelled, IsWritten};
+ghost use Rattle.path_within.specs.Written.{StandsFor};
 
-use crate::plain::is_plain;
-use crate::request::Request;
-use unix_bytes::bytes::UnixStr;
+use crate::request::{Request, take_name};
+use crate::runs::is_plain;
 use unix_path::scan::is_open;
-use unix_path::{Component, Components, Path};
-
-// Takes the last name that is left of a walk, as it is resolved behind `/`, and what stands behind
-// that name: each `..` with the name that it takes away, and each `.`. Always inlined, so that a
-// loop over the names keeps the walk in registers.
-#[inline(always)]
-fn take_name<'a>(left: &mut Components<'a>) -> Option<UnixStr<'a>>
-    requires { slashed_len (cursor_values left.old) < 2 ^ 64 }
-    ensures none { result ≡ None → names_below (cursor_values left.old) ≡ [] }
-    ensures some { IfSome result (λ name. names_below (cursor_values left.old)
-        ≡ names_below (cursor_values left.new) ++ Normal name.bytes.now ∷ []) }
-    ensures len { IfSome result (λ name. slashed_len (cursor_values left.new)
-        + (1 + length name.bytes.now) ≤ slashed_len (cursor_values left.old)) }
-{
-    // How many of the names that are left are taken away by the `..` behind them.
-    let mut ups = 0_usize;
-    while let Some(part) = left.next_back() {
-        match part {
-            Component::Normal(name) => {
-                if ups == 0 {
-                    return Some(name);
-                }
-                ups -= 1;
-            }
-            Component::ParentDir => ups += 1,
-            Component::CurDir => {}
-            Component::RootDir => return None,
-        }
-    }
-    None
-}
+use unix_path::{Component, Path};
 
 // How many bytes the names of a path have, as it is resolved behind `/`, with a slash for each.
 fn resolved_len(path: Path<'_>) -> usize
-    requires { is_rooted path.bytes.now ≡ false }
     ensures len { result ≡ slashed_len (names_below (values path.entry.bytes.now)) }
     ensures fits { result ≤ 1 + length path.entry.bytes.now }
 {
@@ -66,34 +35,35 @@ fn resolved_len(path: Path<'_>) -> usize
 #[inline]
 fn trimmed(path: Path<'_>) -> Path<'_>
     requires { is_rooted path.bytes.now ≡ false }
-    ensures names { names_below (values result.bytes.now)
-        ≡ names_below (values path.entry.bytes.now) }
-    ensures rootless { is_rooted result.bytes.now ≡ false }
+    ensures { StandsFor result.bytes.now path.entry.bytes.now }
 {
     let mut left = path.components();
     let whole = left.as_path();
     // A first name isn't looked at.
-    if whole.bytes.is_empty() || whole.bytes[0] != b'.' {
-        return whole;
+    if !whole.bytes.is_empty() && whole.bytes[0] == b'.' {
+        if let Some(Component::CurDir) = left.next() {
+            return left.as_path();
+        }
     }
-    match left.next() {
-        Some(Component::CurDir) => left.as_path(),
-        _ => whole,
-    }
+    whole
 }
 
-// The bytes of a request that are its names as they are spelled, or `None` if there is no name, or
-// they don't stand side by side with a slash between two of them.
+// The bytes of a path that are its names, as it is resolved behind `/`, or `None` if there is no
+// name, or they don't stand side by side with a slash between two of them. `is_spelled` tells that
+// the path is known to be its names as it is spelled.
 #[inline]
-fn spelled_names(request: Request<'_>) -> Option<&[u8]>
-    ensures { IfSome result (λ names. AreSpelled names.now (request_names request.entry)) }
+fn spelled_names<'a>(path: Path<'a>, is_spelled: bool) -> Option<&'a [u8]>
+    requires rootless { is_rooted path.bytes.now ≡ false }
+    requires spelled { IsTrue is_spelled → is_plain path.bytes.now ≡ true }
+    ensures { IfSome result (λ names.
+        AreSpelled names.now (names_below (values path.entry.bytes.now))) }
 {
-    if request.is_spelled() {
-        return Some(request.as_path().bytes);
-    }
-    let path = trimmed(request.as_path());
-    if is_plain(path) {
+    if is_spelled {
         return Some(path.bytes);
+    }
+    let left = trimmed(path);
+    if is_plain(left) {
+        return Some(left.bytes);
     }
     None
 }
@@ -107,37 +77,34 @@ fn place(out: &mut [u8], at: usize, bytes: &[u8])
     out[at..at + bytes.len()].copy_from_slice(bytes);
 }
 
-// Overwrites the bytes before `at` with the name and, if there are more bytes, with a slash before
-// it. Returns where the bytes that it wrote begin.
+// Overwrites the bytes before `end` with a slash and the name, and returns where these begin. Both
+// are counted from a slash that is thought before `out`: there the first name's slash goes.
 #[inline]
-fn place_before(out: &mut [u8], at: usize, name: &[u8]) -> usize
-    requires in_range { at ≤ length out.old }
-    requires room { length name.now ≤ at }
-    ensures start { result ≡ at - length name.now - 1 }
-    ensures first { at ≡ length name.now → drop result out.new ≡ name.now ++ drop at out.old }
-    ensures behind { length name.now < at
-        → drop result out.new ≡ slash ∷ name.now ++ drop at out.old }
+fn place_before(out: &mut [u8], end: usize, name: &[u8]) -> usize
+    requires in_range { end ≤ 1 + length out.old }
+    requires room { 1 + length name.now ≤ end }
+    ensures start { result + (1 + length name.now) ≡ end }
+    ensures bytes { drop result (slash ∷ out.new) ≡ slash ∷ name.now ++ drop end (slash ∷ out.old) }
 {
-    let start = at - name.len();
+    let start = end - 1 - name.len();
     place(out, start, name);
     if start == 0 {
         return 0;
     }
     out[start - 1] = b'/';
-    start - 1
+    start
 }
 
 // Writes the names of a path, as it is resolved behind `/`, with a slash between two of them, over
 // all of `out`. They are found from the last to the first.
 fn fill_resolved(out: &mut [u8], path: Path<'_>)
-    requires rootless { is_rooted path.bytes.now ≡ false }
-    requires room { length out.old ≡ length (slashed_bytes (names_below (values path.bytes.now))) }
+    requires { 1 + length out.old ≡ slashed_len (names_below (values path.bytes.now)) }
     ensures { out.new ≡ slashed_bytes (names_below (values path.entry.bytes.now)) }
 {
-    let mut at = out.len();
+    let mut end = 1 + out.len();
     let mut left = path.components();
     while let Some(name) = take_name(&mut left) {
-        at = place_before(out, at, name.bytes);
+        end = place_before(out, end, name.bytes);
     }
 }
 
@@ -145,8 +112,8 @@ fn fill_resolved(out: &mut [u8], path: Path<'_>)
 // resolved behind `/`, with a slash between two of them.
 #[inline]
 fn place_resolved(out: &mut [u8], start: usize, end: usize, path: Path<'_>)
-    requires rootless { is_rooted path.bytes.now ≡ false }
-    requires end { end ≡ start + length (slashed_bytes (names_below (values path.bytes.now))) }
+    requires end { 1 + end ≡ start + slashed_len (names_below (values path.bytes.now)) }
+    requires in_order { start ≤ end }
     requires room { end ≤ length out.old }
     ensures { out.new
         ≡ overlay start (slashed_bytes (names_below (values path.entry.bytes.now))) out.old }
@@ -183,8 +150,7 @@ fn place_opened(root: &[u8], len: usize, out: &mut [u8])
 // for all of it, and gives how many bytes the join has.
 #[inline]
 fn write_spelled(root: &[u8], names: &[u8], out: &mut [u8]) -> usize
-    ensures out { out.new ≡ buffer_after (opened root.now ++ names.now) out.old }
-    ensures length { result ≡ length (opened root.now ++ names.now) }
+    ensures { IsWritten (opened root.now ++ names.now) out.old out.new result }
 {
     let start = opened_len(root);
     let len = start + names.len();
@@ -199,8 +165,7 @@ fn write_spelled(root: &[u8], names: &[u8], out: &mut [u8]) -> usize
 // it has.
 #[inline]
 fn write_root(root: &[u8], out: &mut [u8]) -> usize
-    ensures out { out.new ≡ buffer_after root.now out.old }
-    ensures length { result ≡ length root.now }
+    ensures { IsWritten root.now out.old out.new result }
 {
     if root.len() <= out.len() {
         place(out, 0, root);
@@ -211,11 +176,8 @@ fn write_root(root: &[u8], out: &mut [u8]) -> usize
 // Writes a join of the root and the names of a path, as it is resolved behind `/`, to the beginning
 // of `out` if it has room for all of it, and gives how many bytes the join has.
 fn write_resolved(root: &[u8], path: Path<'_>, out: &mut [u8]) -> usize
-    requires { is_rooted path.bytes.now ≡ false }
-    ensures out { out.new
-        ≡ buffer_after (below_of root.now (names_below (values path.entry.bytes.now))) out.old }
-    ensures length { result
-        ≡ length (below_of root.now (names_below (values path.entry.bytes.now))) }
+    ensures { IsWritten (below_of root.now (names_below (values path.entry.bytes.now)))
+        out.old out.new result }
 {
     let names_len = resolved_len(path);
     if names_len == 0 {
@@ -230,17 +192,18 @@ fn write_resolved(root: &[u8], path: Path<'_>, out: &mut [u8]) -> usize
     len
 }
 
-// Writes a join of the root and the request to the beginning of `out` if it has room for all of it,
-// and gives how many bytes the join has.
+// Writes a join of the root and the names of a path, as it is resolved behind `/`, as
+// `write_resolved` does. `is_spelled` tells that the path is known to be its names, as above.
 #[inline]
-fn write_join(root: &[u8], request: Request<'_>, out: &mut [u8]) -> usize
-    ensures out { out.new
-        ≡ buffer_after (below_of root.now (request_names request.entry)) out.old }
-    ensures length { result ≡ length (below_of root.now (request_names request.entry)) }
+fn write_join(root: &[u8], path: Path<'_>, is_spelled: bool, out: &mut [u8]) -> usize
+    requires rootless { is_rooted path.bytes.now ≡ false }
+    requires spelled { IsTrue is_spelled → is_plain path.bytes.now ≡ true }
+    ensures { IsWritten (below_of root.now (names_below (values path.entry.bytes.now)))
+        out.old out.new result }
 {
-    match spelled_names(request) {
+    match spelled_names(path, is_spelled) {
         Some(names) => write_spelled(root, names, out),
-        None => write_resolved(root, request.as_path(), out),
+        None => write_resolved(root, path, out),
     }
 }
 
@@ -266,6 +229,6 @@ impl Request<'_> {
         ensures below { IsBelow root.entry.bytes.now
             (below_of root.entry.bytes.now (request_names self.entry)) }
     {
-        write_join(root.bytes, self, out)
+        write_join(root.bytes, self.as_path(), self.is_spelled(), out)
     }
 }

@@ -4,7 +4,7 @@ use Rattle.unix_path.specs.Parts.{values}
 use Rattle.std.proofs.lemmas.Iterator.Search.{all_from_yields_List}
 use Rattle.unix_path.proofs.CursorLemmas.{Components-yields}
 use Rattle.path_within.specs.Climbs.{is_name}
-use Rattle.path_within.proofs.LeadTestLemmas.{all_names}
+use Rattle.path_within.proofs.NormalLemmas.{all_names}
 use Rattle.path_within.proofs.normal.are_names.Goals as goal
 
 pub returns-then-is_plain : goal.returns-then-is_plain

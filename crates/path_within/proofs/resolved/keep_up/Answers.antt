@@ -1,52 +1,42 @@
-use Rattle.std.proofs.Common.{◌≡◌, true, false, sym, ap, ◌∙◌}
-use Rattle.std.proofs.lemmas.Result.{on_ok_weaker}
+use Rattle.std.proofs.Common.{◌≡◌, ltb, length, sym, ap, subst, ◌∙◌, lt-ltb}
+use Rattle.std.proofs.lemmas.Bool.{le-ltb}
 use Rattle.unix_path.specs.Buffers.{path_bytes}
+use Rattle.unix_path.specs.Joins.{join_of}
 use Rattle.unix_path.specs.Parts.{is_rooted}
-use Rattle.unix_path.specs.Scan.{ends_with_parent}
-use Rattle.path_within.proofs.PopLemmas.{spells_pop, spells_root, spells_up, spells_up_up}
-use Rattle.path_within.proofs.PopLemmas.{stays_popped}
+use Rattle.path_within.specs.Resolved.{up_from}
+use Rattle.path_within.specs.Steps.{Keeps}
+use Rattle.path_within.proofs.PopLemmas.{keeps_pop, keeps_root, keeps_up, over_floor}
 use Rattle.path_within.proofs.resolved.keep_up.Goals as goal
+use Rattle.path_within.proofs.resolved.keep_up.Goals.{After-len}
 
-pub returns-then-ends_with_parent : goal.returns-then-ends_with_parent
-returns-then-ends_with_parent c =
-    let up : ends_with_parent (path_bytes c.args.kept.now) ≡ true =
-    ap ends_with_parent (sym c.as_path.ensures) ∙ sym c.ends_with_parent.ensures
-    ∙ c.if-ends_with_parent.true in
-    record {
-      ok = on_ok_weaker c.push_up.result (λ e ks h. spells_up_up h up e) c.push_up.ensures.ok;
-    }
+-- the length that is tested
+tested : (c : After-len) → length (path_bytes c.args.kept.now) ≡ c.len.result
+tested c = sym (c.len.ensures ∙ ap length (c.as_unix_str.ensures.bytes ∙ c.as_path-path.ensures))
 
-pub returns-then-pop : goal.returns-then-pop
-returns-then-pop c =
-    let no_up : ends_with_parent (path_bytes c.args.kept.now) ≡ false =
-    ap ends_with_parent (sym c.as_path.ensures) ∙ sym c.ends_with_parent.ensures
-    ∙ c.if-ends_with_parent.false in
-    record {
-      ok = λ ks h. spells_pop h no_up (sym c.pop.ensures.value ∙ c.if-pop.true) c.pop.ensures.bytes;
+pub returns-then-len-floor : goal.returns-then-len-floor
+returns-then-len-floor c =
+    let size = tested (goal.at.returns-then-len-floor c).After-len in record {
+      ok = λ ks h. keeps_pop h (sym (over_floor h) ∙ ap (ltb c.args.floor) size
+          ∙ lt-ltb _ _ c.if-len-floor.true) c.pop.ensures.bytes;
     }
 
 pub returns-then-has_root : goal.returns-then-has_root
 returns-then-has_root c =
-    let no_up : ends_with_parent (path_bytes c.args.kept.now) ≡ false =
-    ap ends_with_parent (sym c.as_path.ensures) ∙ sym c.ends_with_parent.ensures
-    ∙ c.if-ends_with_parent.false in
-    let rooted : is_rooted (path_bytes c.pop.new.self) ≡ true =
-    ap is_rooted (sym c.as_path-2.ensures) ∙ sym c.has_root.ensures.value ∙ c.if-has_root.true in
-    record {
-      ok = λ ks h. let stays = stays_popped h no_up (sym c.pop.ensures.value ∙ c.if-pop.false)
-          c.pop.ensures.bytes in spells_root stays.spells stays.nameless rooted;
+    let size = tested (goal.at.returns-then-has_root c).After-len in record {
+      ok = λ ks h. keeps_root h (sym (over_floor h) ∙ ap (ltb c.args.floor) size
+          ∙ le-ltb _ _ c.if-len-floor.false)
+          (ap is_rooted (sym c.as_path-path.ensures) ∙ sym c.has_root.ensures.value
+          ∙ c.if-has_root.true);
     }
 
 pub returns : goal.returns
 returns c =
-    let no_up : ends_with_parent (path_bytes c.args.kept.now) ≡ false =
-    ap ends_with_parent (sym c.as_path.ensures) ∙ sym c.ends_with_parent.ensures
-    ∙ c.if-ends_with_parent.false in
-    let rootless : is_rooted (path_bytes c.pop.new.self) ≡ false =
-    ap is_rooted (sym c.as_path-2.ensures) ∙ sym c.has_root.ensures.value ∙ c.if-has_root.false in
-    record {
-      ok = on_ok_weaker c.push_up-2.result
-          (λ e ks h. let stays = stays_popped h no_up (sym c.pop.ensures.value ∙ c.if-pop.false)
-          c.pop.ensures.bytes in spells_up stays.spells stays.nameless rootless e)
-          c.push_up-2.ensures.ok;
+    let size = tested (goal.at.returns c).After-len in record {
+      ok = λ ks h. subst (λ end. Keeps (path_bytes c.push.new.self) end (up_from ks))
+          (sym (c.len-2.ensures ∙ ap length (c.as_unix_str-2.ensures.bytes ∙ c.as_path-2.ensures)))
+          (keeps_up h.spells (sym (over_floor h) ∙ ap (ltb c.args.floor) size
+          ∙ le-ltb _ _ c.if-len-floor.false)
+          (ap is_rooted (sym c.as_path-path.ensures) ∙ sym c.has_root.ensures.value
+          ∙ c.if-has_root.false)
+          (c.in_ok-push.ensures.ok ∙ ap (join_of (path_bytes c.args.kept.now)) c.as_path.ensures));
     }

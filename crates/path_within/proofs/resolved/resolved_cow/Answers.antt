@@ -1,12 +1,20 @@
 use Rattle.std.proofs.Common.{[], refl, sym}
 use Rattle.path_within.proofs.PlainLemmas.{resolved-plain}
-use Rattle.path_within.proofs.StepLemmas.{spells_nothing, spells_resolved}
+use Rattle.path_within.proofs.StepLemmas.{keeps_nothing, spells_resolved}
 use Rattle.path_within.proofs.resolved.resolved_cow.Goals as goal
+use Rattle.path_within.proofs.resolved.resolved_cow.Goals.{then-is_plain-via-then-is_plain}
+use Rattle.path_within.proofs.resolved.resolved_cow.Goals.{
+  then-is_plain-via-else-is_plain+then-is_resolved_otherwise,
+}
 
-pub returns-then-is_plain : goal.returns-then-is_plain
-returns-then-is_plain c =
-    sym (resolved-plain c.args.path.bytes.now (c.is_plain.ensures c.if-is_plain.true))
+pub returns-then-is_plain-clause-bytes : goal.returns-then-is_plain-clause-bytes
+returns-then-is_plain-clause-bytes c = elim c.then-is_plain.branch [
+  | then-is_plain-via-then-is_plain w ↦
+      sym (resolved-plain c.args.path.bytes.now (c.is_plain.ensures w.if-is_plain.true))
+  | then-is_plain-via-else-is_plain+then-is_resolved_otherwise w ↦
+      sym (w.is_resolved_otherwise.ensures.resolved w.if-is_resolved_otherwise.true)
+]
 
-pub returns : goal.returns
-returns c = spells_resolved c.args.path.bytes.now refl
-    (c.in_ok-keep_runs.ensures.ok [] (spells_nothing c.in_ok-kept.ensures.bytes))
+pub returns-clause-bytes : goal.returns-clause-bytes
+returns-clause-bytes c = spells_resolved c.args.path.bytes.now refl
+    (c.in_ok-keep.ensures.ok [] (keeps_nothing c.in_ok-kept.ensures.bytes)).spells

@@ -1,20 +1,14 @@
-use Rattle.std.proofs.Common.{ap, ◌∙◌}
-use Rattle.unix_path.specs.Parts.{values}
-use Rattle.path_within.specs.Below.{names_below}
-use Rattle.path_within.specs.PlainPieces.{is_plain}
-use Rattle.path_within.specs.Requests.{request_names}
-use Rattle.path_within.proofs.OpenedLemmas.{plain_spelled}
+use Rattle.std.proofs.Common.{subst}
+use Rattle.path_within.specs.Written.{AreSpelled}
+use Rattle.path_within.proofs.BelowLemmas.{plain_spelled}
 use Rattle.path_within.proofs.written.spelled_names.Goals as goal
 
 pub returns-then-is_spelled : goal.returns-then-is_spelled
-returns-then-is_spelled c =
-    let same = c.as_path.ensures.bytes in
-    plain_spelled c.as_path.result.bytes.now (request_names c.args.request)
-    (ap is_plain same ∙ c.is_spelled.ensures c.if-is_spelled.true) c.as_path.ensures.rootless
-    (ap (λ s. names_below (values s)) same)
+returns-then-is_spelled c = plain_spelled c.args.path.bytes.now
+    (c.requires.spelled c.if-is_spelled.true) c.requires.rootless
 
 pub returns-then-is_plain : goal.returns-then-is_plain
 returns-then-is_plain c =
-    plain_spelled c.trimmed-path.result.bytes.now (request_names c.args.request)
-    (c.is_plain.ensures c.if-is_plain.true) c.trimmed-path.ensures.rootless
-    (c.trimmed-path.ensures.names ∙ ap (λ s. names_below (values s)) c.as_path-2.ensures.bytes)
+    let left = c.trimmed-left.result.bytes.now in
+    subst (AreSpelled left) c.trimmed-left.ensures.names
+    (plain_spelled left (c.is_plain.ensures c.if-is_plain.true) c.trimmed-left.ensures.rootless)

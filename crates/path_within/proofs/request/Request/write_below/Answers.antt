@@ -1,11 +1,11 @@
 use Rattle.std.proofs.Common.{refl}
 use Rattle.path_within.specs.Requests.{request_bytes}
-use Rattle.path_within.proofs.BelowValueLemmas.{begins-join, is_below-join}
+use Rattle.path_within.proofs.BelowLemmas.{begins, is_below}
 use Rattle.path_within.proofs.request.Request.write_below.Goals as goal
 
 pub returns-clause-begins : goal.returns-clause-begins
-returns-clause-begins c = begins-join c.args.root.bytes.now (request_bytes c.args.self) refl
+returns-clause-begins c = begins c.args.root.bytes.now (request_bytes c.args.self) refl
 
 pub returns-clause-below : goal.returns-clause-below
-returns-clause-below c = is_below-join c.args.root.bytes.now (request_bytes c.args.self)
-    c.args.self.no_nul refl
+returns-clause-below c =
+    is_below c.args.root.bytes.now (request_bytes c.args.self) c.args.self.no_nul refl

@@ -1,11 +1,11 @@
 use Rattle.path_within.specs.Requests.{request_bytes, root_bytes}
-use Rattle.path_within.proofs.BelowValueLemmas.{begins-join, is_below-join}
+use Rattle.path_within.proofs.BelowLemmas.{begins, is_below}
 use Rattle.path_within.proofs.root.Root.join.Goals as goal
 
 pub returns-clause-begins : goal.returns-clause-begins
 returns-clause-begins c =
-    begins-join (root_bytes c.args.self.now) (request_bytes c.args.request) c.fill.ensures
+    begins (root_bytes c.args.self.now) (request_bytes c.args.request) c.fill.ensures
 
 pub returns-clause-below : goal.returns-clause-below
-returns-clause-below c = is_below-join (root_bytes c.args.self.now) (request_bytes c.args.request)
+returns-clause-below c = is_below (root_bytes c.args.self.now) (request_bytes c.args.request)
     c.args.request.no_nul c.fill.ensures

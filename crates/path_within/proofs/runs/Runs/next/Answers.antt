@@ -1,23 +1,17 @@
-use Rattle.std.proofs.Common.{◌≡◌, ◌∷◌, ◌+◌, ◌-◌, [], take, drop, length, sym, ap, ◌∙◌, arith}
-use Rattle.std.proofs.Common.{length-drop, ne_eqb}
-use Rattle.std.proofs.lemmas.List.{drop_all, take_rest}
+use Rattle.std.proofs.Common.{◌≡◌, ◌∷◌, ◌+◌, ◌-◌, ◌<◌, take, true, drop, length, sym, ap, ◌∙◌}
+use Rattle.std.proofs.Common.{arith, length-drop}
+use Rattle.std.proofs.lemmas.List.{take_rest}
 use Rattle.unix_path.specs.CommonDir.{inner_values}
 use Rattle.unix_path.specs.Parts.{ParentDir, values}
-use Rattle.unix_path.proofs.CommonPrefixLemmas.{inner_values-nil}
-use Rattle.unix_path.proofs.IdleLemmas.{is_idle-drop}
+use Rattle.unix_path.specs.Scan.{is_idle}
 use Rattle.unix_path.proofs.LeadLemmas.{length-parent_first}
-use Rattle.unix_path.proofs.PartLemmas.{values-nil}
-use Rattle.path_within.proofs.RunLemmas.{name_first, names_first, plain_behind, some_byte}
-use Rattle.path_within.proofs.RunLemmas.{values-busy, values-up, BeginsName}
+use Rattle.path_within.specs.PlainPieces.{begins_plain}
+use Rattle.path_within.proofs.PlainStretchLemmas.{names_stretch}
+use Rattle.path_within.proofs.RunLemmas.{goes_on_from, one_name, plain_behind}
+use Rattle.path_within.proofs.RunLemmas.{plain_here, some_byte, takes_names, values-up, values_left}
+use Rattle.path_within.proofs.UnsharedLemmas.{behind_place}
 use Rattle.path_within.proofs.runs.Runs.next.Goals as goal
 use Rattle.path_within.proofs.runs.Runs.next.Goals.{Else-begins_with_parent}
-
-begins : (c : Else-begins_with_parent) → BeginsName c.args.self.now.left.now
-begins c = record {
-  some = some_byte c.args.self.now.left.now (sym c.is_empty.ensures ∙ c.if-is_empty.false);
-  busy = c.args.self.now.busy;
-  no_up = sym c.begins_with_parent.ensures ∙ c.if-begins_with_parent.false;
-}
 
 pub returns-then-begins_with_parent-clause-some : goal.returns-then-begins_with_parent-clause-some
 returns-then-begins_with_parent-clause-some c =
@@ -36,65 +30,75 @@ returns-then-begins_with_parent-clause-some c =
       );
     }
 
-pub returns-then-len-bytes-clause-some : goal.returns-then-len-bytes-clause-some
-returns-then-len-bytes-clause-some c =
-    let named = begins (goal.at.returns-then-len-bytes-clause-some c).Else-begins_with_parent in
-    let s = c.args.self.now.left.now in
-    let n = c.first_place-len.result in
-    let first = name_first s [] c.from_bytes-name.result.bytes.now n named
-    c.first_place-len.ensures.value c.from_bytes-name.ensures
-    (values-nil ∙ sym (ap inner_values (drop_all (n + 1) s c.if-len-bytes.true)
-    ∙ inner_values-nil)) in
-    record { split = first.0; spelled = first.1; shorter = named.some }
+some : (c : Else-begins_with_parent) → 0 < length c.args.self.now.left.now
+some c = some_byte c.args.self.now.left.now (sym c.is_empty.ensures ∙ c.if-is_empty.false)
 
-pub returns-then-filler-gt0-clause-some : goal.returns-then-filler-gt0-clause-some
-returns-then-filler-gt0-clause-some c =
-    let named = begins (goal.at.returns-then-filler-gt0-clause-some c).Else-begins_with_parent in
+-- a plain piece begins where neither filler nor `..` does
+begins : (c : Else-begins_with_parent) → begins_plain c.args.self.now.left.now 0 ≡ true
+begins c = plain_here c.args.self.now.left.now (some c) c.args.self.now.busy
+    (sym c.begins_with_parent.ensures ∙ c.if-begins_with_parent.false)
+
+pub returns-then-is_empty-2-clause-some : goal.returns-then-is_empty-2-clause-some
+returns-then-is_empty-2-clause-some c =
     let s = c.args.self.now.left.now in
-    let n = c.first_place-len.result in
-    let f = c.filler_len-filler.result in
-    let rest = take (length s - (n + 1)) (drop (n + 1) s) in
-    let left : values (take (length rest - f) (drop f rest)) ≡ inner_values (drop (n + 1) s) =
-    ap values (take_rest rest f)
-    ∙ values-busy (drop f rest) (is_idle-drop rest f ∙ c.filler_len-filler.ensures.busy)
-    ∙ sym c.filler_len-filler.ensures.same ∙ ap inner_values (take_rest s (n + 1)) in
-    let first = name_first s _ c.from_bytes-name.result.bytes.now n named
-    c.first_place-len.ensures.value c.from_bytes-name.ensures left in
+    let place = goal.at.returns-then-is_empty-2-clause-some c in
+    let n = c.first_place-name_len in
+    let rest = take (length s - c.min.result) (drop c.min.result s) in
+    let rest_is = behind_place s (n.result + 1) c.min.result c.min.ensures in
+    let filler = c.idle_len-filler in
+    let left : values (take (length rest - filler.result) (drop filler.result rest))
+    ≡ inner_values (drop (n.result + 1) s) =
+    ap values (take_rest rest filler.result)
+    ∙ values_left rest filler.result filler.ensures.busy (filler.ensures.idle 0)
+    ∙ ap inner_values rest_is in
+    let name = one_name s _ c.from_bytes.result.bytes.now n.result c.args.self.now.busy
+    (begins place.Else-begins_with_parent) n.ensures.value n.ensures.in_range
+    c.from_bytes.ensures.bytes left in
     record {
-      split = first.0;
-      spelled = first.1;
+      split = name.split;
+      spelled = (name.spelled, name.one);
       shorter = omega (
         arith,
-        ap length (take_rest rest f),
-        length-drop f rest,
-        ap length (take_rest s (n + 1)),
-        length-drop (n + 1) s,
-        named.some,
+        ap length (take_rest rest filler.result),
+        length-drop filler.result rest,
+        ap length rest_is,
+        length-drop (n.result + 1) s,
+        some place.Else-begins_with_parent,
       );
     }
 
 pub returns-clause-some : goal.returns-clause-some
 returns-clause-some c =
-    let named = begins (goal.at.returns-clause-some c).Else-begins_with_parent in
     let s = c.args.self.now.left.now in
-    let n = c.first_place-len.result in
+    let place = goal.at.returns-clause-some c in
+    let n = c.first_place-name_len in
     let end = c.names_end-end in
-    let plain = plain_behind s _ (n + 1) c.filler_len-filler.result (take_rest s (n + 1))
-    c.if-len-bytes.false c.if-filler-gt0.false c.filler_len-filler.ensures.busy
-    (ne_eqb _ 46 c.if-rest-eq46.false) in
-    let all = names_first s c.new-2.result.left.now c.from_bytes.result.bytes.now n end.result
-    named c.first_place-len.ensures.value plain end.ensures.forward end.ensures.in_range
-    end.ensures.plain end.ensures.ends c.from_bytes.ensures
+    let rest = take (length s - c.min.result) (drop c.min.result s) in
+    let rest_is = behind_place s (n.result + 1) c.min.result c.min.ensures in
+    let some_left : 0 < length rest = some_byte rest (sym c.is_empty-2.ensures
+    ∙ c.if-is_empty-2.false) in
+    let behind : n.result + 1 < length s =
+    omega (arith, some_left, ap length rest_is, length-drop (n.result + 1) s) in
+    let next : begins_plain s (n.result + 1) ≡ true =
+    plain_behind s rest (n.result + 1) rest_is behind
+    (ap (is_idle rest) {x = 0} {y = c.idle_len-filler.result} (omega arith)
+    ∙ c.idle_len-filler.ensures.busy (omega (arith, c.if-filler-gt0.false, some_left)))
+    c.if-rest-eq46.false in
+    let stretch = names_stretch s end.result (begins place.Else-begins_with_parent)
+    (goes_on_from s n.result end.result n.ensures.value next end.ensures.plain)
+    end.ensures.ends in
+    let names = takes_names s c.new-2.result.left.now c.from_bytes-2.result.bytes.now
+    end.result c.args.self.now.busy stretch end.ensures.in_range c.from_bytes-2.ensures.bytes
     (c.new-2.ensures.values ∙ ap inner_values (take_rest s end.result)) in
     record {
-      split = all.0;
-      spelled = (all.1, all.2);
+      split = names.split;
+      spelled = names.spelled;
       shorter = omega (
         arith,
         c.new-2.ensures.short,
         ap length (take_rest s end.result),
         length-drop end.result s,
-        end.ensures.forward,
-        named.some,
+        stretch.some,
+        end.ensures.in_range,
       );
     }
