@@ -1,0 +1,15 @@
+-- Bytes that begin others.
+use Rattle.std.proofs.Common.{◌≡◌, ℕ, Bool, eqb, List, length, drop, sym, IsTrue}
+use Rattle.std.proofs.lemmas.Bool.Decides.{Decides-eqb}
+use Rattle.std.proofs.lemmas.Slice.Eq.{starts_is}
+use Rattle.std.specs.List.{starts_with}
+use Rattle.unix_path.specs.Prefixes.{Begins}
+
+-- the test tells whether the base begins the key
+pub begins_told : (key base : List ℕ) (b : Bool) → b ≡ starts_with eqb key base
+    → (IsTrue b → Begins base key) × (Begins base key → IsTrue b)
+begins_told key base b e =
+    let (to, from) = starts_is Decides-eqb key base b e in (
+      λ is. (drop (length base) key, sym (to is)),
+      λ (more, begins). from more (sym begins),
+    )

@@ -1,0 +1,18 @@
+-- The key of values, one value after the other.
+use Rattle.std.proofs.Common.{◌≡◌, List, [], ◌∷◌, ◌++◌}
+use Rattle.std.proofs.Common.{refl}
+use Rattle.std.proofs.lemmas.List.Concat.{flat_map-append}
+use Rattle.unix_path.specs.Parts.{Value}
+use Rattle.path_keys.specs.Keys.{code, key_of}
+
+pub key_of-nil : key_of [] ≡ []
+unfolding key_of
+key_of-nil = refl
+
+pub key_of-cons : (v : Value) (vs : List Value) → key_of (v ∷ vs) ≡ code v ++ key_of vs
+unfolding key_of
+key_of-cons v vs = refl
+
+pub key_of-append : (vs ws : List Value) → key_of (vs ++ ws) ≡ key_of vs ++ key_of ws
+unfolding key_of
+key_of-append vs ws = flat_map-append code vs ws

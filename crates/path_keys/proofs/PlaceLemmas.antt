@@ -1,0 +1,117 @@
+-- Bytes that are put in a buffer, each changed by the same function: one by one, or 16 at once.
+use Rattle.std.proofs.Common.{◌≡◌, ℕ, ◌+◌, ◌<◌, ◌≤◌, List, [], ◌∷◌, ◌++◌, length, take, drop, map}
+use Rattle.std.proofs.Common.{get_or, set, refl, sym, ap, ap₂, ◌∙◌, arith}
+use Rattle.std.proofs.Common.{append_assoc, append-nil, length-append, length-set, length-drop}
+use Rattle.std.proofs.Common.{take-append-drop}
+use Rattle.std.proofs.lemmas.List.{take_more_set, drop-set-lt, map_more, take_all, take-take}
+use Rattle.std.proofs.lemmas.List.{length-map, length-take-le, map-append}
+use Rattle.std.proofs.lemmas.List.{take_at}
+use Rattle.std.proofs.lemmas.Simd.{length-chunk, length-put_chunk, take_more_put_chunk}
+use Rattle.std.proofs.lemmas.List.{ext_get_or, get_or-drop}
+use Rattle.std.proofs.lemmas.Simd.{get_or-put_chunk_above}
+use Rattle.std.proofs.Math.Seq.{take-add}
+use Rattle.std.specs.Simd.Lanes.{put_chunk}
+use Rattle.path_runs.specs.Overlay.{overlay}
+
+-- the first i of these bytes, changed by f, were put in the old buffer from `at` on; what stands
+-- behind all of them is as it was
+pub record PutTo (f : ℕ → ℕ) (bytes old : List ℕ) (at i : ℕ) (out : List ℕ) : Type 0 where
+  pub long : length out ≡ length old
+  pub before : take (at + i) out ≡ take at old ++ map f (take i bytes)
+  pub behind : drop (at + length bytes) out ≡ drop (at + length bytes) old
+
+pub put_none : (f : ℕ → ℕ) (bytes old : List ℕ) (at : ℕ) → PutTo f bytes old at 0 old
+put_none f bytes old at = record {
+  long = refl;
+  before = ap (λ n. take n old) {x = at + 0} {y = at} (omega arith) ∙ sym (append-nil _);
+  behind = refl;
+}
+
+-- one more byte is put there
+pub put_one : (f : ℕ → ℕ) (bytes old : List ℕ) (at i : ℕ) (out new : List ℕ) (b : ℕ)
+    → PutTo f bytes old at i out → i < length bytes → at + i < length old
+    → b ≡ f (get_or bytes i 0) → new ≡ set out (at + i) b → PutTo f bytes old at (i + 1) new
+put_one f bytes old at i out new b h l m is e =
+    let here : at + i < length out = omega (arith, h.long) in
+    let next : at + i + 1 ≡ at + (i + 1) = omega arith in
+    let low : at + i < at + length bytes = omega arith in
+    record {
+      long = ap length e ∙ length-set out (at + i) b ∙ h.long;
+      before = ap₂ take (sym next) e ∙ take_more_set out (at + i) b here
+          ∙ ap₂ (λ xs c. xs ++ c ∷ []) h.before is
+          ∙ append_assoc (take at old) (map f (take i bytes)) (f (get_or bytes i 0) ∷ [])
+          ∙ ap (λ xs. take at old ++ xs) (sym (map_more f bytes i 0 l));
+      behind = ap (drop (at + length bytes)) e
+          ∙ drop-set-lt (at + length bytes) out (at + i) b low ∙ h.behind;
+    }
+
+-- what was put up to i was put up to any k before it
+pub put_fewer : (f : ℕ → ℕ) (bytes old : List ℕ) (at i k : ℕ) (out : List ℕ)
+    → PutTo f bytes old at i out → k ≤ i → i ≤ length bytes → at + length bytes ≤ length old
+    → PutTo f bytes old at k out
+put_fewer f bytes old at i k out h l m room = record {
+  long = h.long;
+  before =
+      let near : length (take at old) ≡ at = length-take-le at old (omega arith) in
+      let count : length (take k bytes) ≡ k = length-take-le k bytes (omega arith) in
+      let front = take at old ++ map f (take k bytes) in
+      let size : length front ≡ at + k =
+      omega (
+        arith,
+        length-append (take at old) (map f (take k bytes)),
+        near,
+        count,
+        length-map (take k bytes) f,
+      ) in
+      let split : take i bytes ≡ take k bytes ++ drop k (take i bytes) =
+      sym (take-append-drop k (take i bytes)) ∙ ap (λ xs. xs ++ drop k (take i bytes))
+      (take-take k i bytes l) in
+      sym (take-take (at + k) (at + i) out (omega arith)) ∙ ap (take (at + k)) (h.before
+      ∙ ap (λ xs. take at old ++ map f xs) split
+      ∙ ap (λ xs. take at old ++ xs) (map-append f (take k bytes) (drop k (take i bytes)))
+      ∙ sym (append_assoc (take at old) (map f (take k bytes)) (map f (drop k (take i bytes)))))
+      ∙ take_at front (map f (drop k (take i bytes))) (at + k) size;
+  behind = h.behind;
+}
+
+-- what stands behind a chunk is as it was
+drop-put_chunk : (n i : ℕ) (xs ys : List ℕ) → i + length ys ≤ n
+    → drop n (put_chunk i xs ys) ≡ drop n xs
+drop-put_chunk n i xs ys l =
+    ext_get_or 0 (drop n (put_chunk i xs ys)) (drop n xs)
+    (omega (arith, length-drop n (put_chunk i xs ys), length-drop n xs, length-put_chunk i xs ys))
+    (λ k few. get_or-drop n (put_chunk i xs ys) k 0
+    ∙ get_or-put_chunk_above i xs ys (n + k) 0 (omega arith) ∙ sym (get_or-drop n xs k 0))
+
+-- 16 more bytes are put there
+pub put_many : (f : ℕ → ℕ) (bytes old : List ℕ) (at i : ℕ) (out new : List ℕ)
+    → PutTo f bytes old at i out → i + 16 ≤ length bytes → at + length bytes ≤ length old
+    → new ≡ put_chunk (at + i) out (map f (take 16 (drop i bytes)))
+    → PutTo f bytes old at (i + 16) new
+put_many f bytes old at i out new h l room e =
+    let block = map f (take 16 (drop i bytes)) in
+    let size : length block ≡ 16 =
+    length-map (take 16 (drop i bytes)) f ∙ length-chunk i 16 bytes l in
+    record {
+      long = ap length e ∙ length-put_chunk (at + i) out block ∙ h.long;
+      before = ap (take (at + (i + 16))) e
+          ∙ take_more_put_chunk (at + i) out block (at + (i + 16)) (omega arith)
+          (omega (arith, h.long))
+          ∙ ap (λ xs. xs ++ block) h.before
+          ∙ append_assoc (take at old) (map f (take i bytes)) block
+          ∙ ap (λ xs. take at old ++ xs)
+          (sym (ap (map f) (take-add i 16 bytes)
+          ∙ map-append f (take i bytes) (take 16 (drop i bytes))));
+      behind = ap (drop (at + length bytes)) e
+          ∙ drop-put_chunk (at + length bytes) (at + i) out block (omega arith) ∙ h.behind;
+    }
+
+-- all of these bytes were put there
+pub put_all : (f : ℕ → ℕ) (bytes old : List ℕ) (at i : ℕ) (out : List ℕ)
+    → PutTo f bytes old at i out → i ≡ length bytes → out ≡ overlay at (map f bytes) old
+put_all f bytes old at i out h e =
+    let count : length bytes ≡ length (map f bytes) = sym (length-map bytes f) in
+    sym (take-append-drop (at + i) out)
+    ∙ ap₂ (λ xs ys. xs ++ ys)
+    (h.before ∙ ap (λ xs. take at old ++ map f xs) (take_all i bytes (omega arith)))
+    (ap (λ n. drop (at + n) out) e ∙ h.behind ∙ ap (λ n. drop (at + n) old) count)

@@ -1,0 +1,106 @@
+-- The bytes that begin with others are those that lie in a range.
+use Rattle.std.proofs.Common.{◌≡◌, ◌↔◌, ◌<◌, ℕ, ◌+◌, ◌-◌, true, List, [], ◌∷◌, ◌++◌, length, Some}
+use Rattle.std.proofs.Common.{None}
+use Rattle.std.proofs.Common.{Less, Equal, Greater, slice_index, slice_set, refl, sym, ap, ap₂}
+use Rattle.std.proofs.Common.{◌∙◌, subst, arith, ⊎_elim}
+use Rattle.std.proofs.lemmas.Bool.{cases_order}
+use Rattle.std.proofs.lemmas.Bool.Decides.{nat_tests}
+use Rattle.std.specs.Ordering.{is_le, nat_cmp}
+use Rattle.unix_path.specs.Prefixes.{Begins}
+use Rattle.path_keys.specs.Ranges.{bytes_cmp, end_of, LiesUnder}
+
+-- these bytes with the last one raised by one
+abbrev last_raised : ℕ → List ℕ → List ℕ
+last_raised b bs = slice_set (b ∷ bs) (length bs) (slice_index (b ∷ bs) (length bs) + 1)
+
+-- the key is not less than these bytes, and less than they are with the last one raised
+abbrev LiesIn : ℕ → List ℕ → List ℕ → Type 0
+LiesIn b bs key = (is_le (bytes_cmp (b ∷ bs) key) ≡ true)
+    × (bytes_cmp key (last_raised b bs) ≡ Less)
+
+less_is : (a b : ℕ) → a < b → nat_cmp a b ≡ Less
+less_is a b h = grind (arith, nat_tests)
+
+greater_is : (a b : ℕ) → b < a → nat_cmp a b ≡ Greater
+greater_is a b h = grind (arith, nat_tests)
+
+equal_is : (a : ℕ) → nat_cmp a a ≡ Equal
+equal_is a = grind (arith, nat_tests)
+
+-- bytes of which the first is greater don't stand before the end of a range
+behind-not_less : (b c : ℕ) (key : List ℕ) → b < c → bytes_cmp (c ∷ key) ((b + 1) ∷ []) ≡ Less → ⊥
+behind-not_less b c key l h = ⊎_elim
+    (λ same.
+    let tie : nat_cmp c (b + 1) ≡ Equal = ap (nat_cmp c) (sym same) ∙ equal_is c in
+    at_end key (rw tie at h))
+    (λ other. ⊎_elim (λ less. omega arith)
+    (λ more. let d = rw (greater_is c (b + 1) more) at h in cc) other)
+    (cases_order c (b + 1))
+  where
+    at_end : (key : List ℕ) → bytes_cmp key [] ≡ Less → ⊥
+    at_end [] e = cc
+    at_end (x ∷ key) e = cc
+
+-- bytes of which the first is less stand before a range
+before-not_le : (b c : ℕ) (bs key : List ℕ) → c < b
+    → is_le (bytes_cmp (b ∷ bs) (c ∷ key)) ≡ true → ⊥
+before-not_le b c bs key l h = let d = rw (greater_is b c l) at h in cc
+
+-- bytes of which the first is greater stand behind those that begin with the less
+after-not_less : (b c : ℕ) (bs key : List ℕ) → b < c
+    → bytes_cmp (c ∷ key) (b ∷ bs) ≡ Less → ⊥
+after-not_less b c bs key l h = let d = rw (greater_is c b l) at h in cc
+
+-- what lies in the range of some bytes begins with them
+lies_in-begins : (b : ℕ) (bs key : List ℕ) → LiesIn b bs key → Begins (b ∷ bs) key
+lies_in-begins b bs [] h = absurd (let d = h.0 in cc)
+lies_in-begins b [] (c ∷ key) h = ⊎_elim
+    (λ same. (key, ap (λ x. x ∷ key) same))
+    (λ other. absurd (⊎_elim (λ less. behind-not_less b c key less h.1)
+    (λ more. before-not_le b c [] key more h.0) other))
+    (cases_order b c)
+lies_in-begins b (d ∷ bs) (c ∷ key) h = ⊎_elim
+    (λ same.
+    let there : nat_cmp b c ≡ Equal = ap (nat_cmp b) (sym same) ∙ equal_is b in
+    let back : nat_cmp c b ≡ Equal = ap (nat_cmp c) same ∙ equal_is c in
+    let first = rw there at h.0 in
+    let last = rw back at h.1 in
+    let others = lies_in-begins d bs key (first, last) in
+    (others.0, ap₂ (λ x xs. x ∷ xs) same others.1))
+    (λ other. absurd (⊎_elim (λ less. after-not_less b c (last_raised d bs) key less h.1)
+    (λ more. before-not_le b c (d ∷ bs) key more h.0) other))
+    (cases_order b c)
+
+nil-le : (more : List ℕ) → is_le (bytes_cmp [] more) ≡ true
+nil-le [] = refl
+nil-le (x ∷ more) = refl
+
+-- what begins with some bytes lies in their range
+begins-lies_in : (b : ℕ) (bs more : List ℕ) → LiesIn b bs ((b ∷ bs) ++ more)
+begins-lies_in b [] more =
+    (rw (equal_is b) (nil-le more), rw (less_is b (b + 1) (omega arith)) refl)
+begins-lies_in b (d ∷ bs) more =
+    let others = begins-lies_in d bs more in
+    (rw (equal_is b) others.0, rw (equal_is b) others.1)
+
+-- keys begin with a base's exactly if they lie in its range
+pub begins-lies_under : (base key : List ℕ) → Begins base key ↔ LiesUnder base key
+unfolding end_of
+begins-lies_under [] key = (λ begins. (nil-le key, tt), λ h. (key, refl))
+begins-lies_under (b ∷ bs) key = (
+  λ begins. subst (LiesIn b bs) begins.1 (begins-lies_in b bs begins.0),
+  λ h. lies_in-begins b bs key h,
+)
+
+pub end_of-nil : end_of [] ≡ None
+unfolding end_of
+end_of-nil = refl
+
+-- the end of the range of a key that isn't empty
+pub end_of-some : (key : List ℕ) → 0 < length key
+    → end_of key ≡ Some (slice_set key (length key - 1) (slice_index key (length key - 1) + 1))
+unfolding end_of
+end_of-some [] l = absurd (omega arith)
+end_of-some (b ∷ bs) l =
+    let n : length bs ≡ length (b ∷ bs) - 1 = omega arith in
+    ap (λ k. Some (slice_set (b ∷ bs) k (slice_index (b ∷ bs) k + 1))) n

@@ -1,0 +1,43 @@
+use Rattle.std.proofs.Common.{◌≡◌, ◌<◌, ◌-◌, ◌+◌, get_or, length, ap, ap₂, sym, ◌∙◌, arith, Some}
+use Rattle.std.proofs.Common.{ℕ, List, set}
+use Rattle.std.proofs.lemmas.Bool.Decides.{nat_tests}
+use Rattle.std.proofs.lemmas.List.{nil_from_length, get_or_read}
+use Rattle.path_keys.specs.Held.{key_bytes}
+use Rattle.path_keys.specs.Ranges.{end_of}
+use Rattle.path_keys.proofs.LastLemmas.{last_low}
+use Rattle.path_keys.proofs.RangeLemmas.{end_of-nil, end_of-some}
+use Rattle.path_keys.proofs.key.PathKey.range_under.Goals as goal
+
+pub returns-then-is_empty-clause-end : goal.returns-then-is_empty-clause-end
+returns-then-is_empty-clause-end c =
+    let none : length (key_bytes c.args.self.now) ≡ 0 = grind (arith, nat_tests) in
+    sym (ap end_of (nil_from_length (key_bytes c.args.self.now) none) ∙ end_of-nil)
+
+-- the copy has the key's bytes, its last place is the key's, and the byte there is the key's last
+last_is : (key items : List ℕ) (n b : ℕ) → items ≡ key → n ≡ length key → 0 < length key
+    → b ≡ get_or items (n - 1) b → b ≡ get_or key (length key - 1) 0
+last_is key items n b same long some is =
+    get_or_read key (length key - 1) b (omega arith)
+    (is ∙ ap₂ (λ xs i. get_or xs (i - 1) b) same long) 0
+
+pub overflow_add-index_mut : goal.overflow_add-index_mut
+overflow_add-index_mut c =
+    let key = key_bytes c.args.self.now in
+    let same : c.in_ok-end.end.items ≡ key = c.in_ok-end.ensures.items ∙ c.as_bytes-first.ensures in
+    let some : 0 < length key = grind (arith, nat_tests) in
+    let long : c.len-last.result ≡ length key =
+    c.len-last.ensures ∙ c.in_ok-end.ensures.len ∙ ap length c.as_bytes-first.ensures in
+    let last = last_is key _ _ c.index_mut.result.now same long some c.index_mut.ensures.value in
+    omega (arith, last_low key c.args.self.now.is_key some, last)
+
+pub returns-clause-end : goal.returns-clause-end
+returns-clause-end c =
+    let key = key_bytes c.args.self.now in
+    let same : c.in_ok-end.end.items ≡ key = c.in_ok-end.ensures.items ∙ c.as_bytes-first.ensures in
+    let some : 0 < length key = grind (arith, nat_tests) in
+    let long : c.len-last.result ≡ length key =
+    c.len-last.ensures ∙ c.in_ok-end.ensures.len ∙ ap length c.as_bytes-first.ensures in
+    let last = last_is key _ _ c.index_mut.result.now same long some c.index_mut.ensures.value in
+    ap₂ (λ xs b. Some (set xs (c.len-last.result - 1) (b + 1))) same last
+    ∙ ap (λ n. Some (set key (n - 1) (get_or key (length key - 1) 0 + 1))) long
+    ∙ sym (end_of-some key some)

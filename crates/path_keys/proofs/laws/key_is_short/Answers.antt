@@ -1,0 +1,5 @@
+use Rattle.path_keys.proofs.LengthLemmas.{length-key_of}
+use Rattle.path_keys.proofs.laws.key_is_short.Goals as goal
+
+pub returns : goal.returns
+returns c = length-key_of

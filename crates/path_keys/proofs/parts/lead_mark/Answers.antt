@@ -1,0 +1,24 @@
+use Rattle.std.proofs.Common.{length, sym, ◌∙◌, ◌≡◌, ◌<◌, arith}
+use Rattle.std.proofs.lemmas.Bool.Decides.{nat_tests}
+use Rattle.path_keys.proofs.LeadLemmas.{lead-none, lead-busy, lead-root, lead-dot}
+use Rattle.path_keys.proofs.parts.lead_mark.Goals as goal
+
+pub returns-then-is_empty : goal.returns-then-is_empty
+returns-then-is_empty c =
+    let none : length c.args.path.now ≡ 0 = grind (arith, nat_tests) in
+    lead-none c.args.path.now none
+
+pub returns-then-not-is_idle : goal.returns-then-not-is_idle
+returns-then-not-is_idle c =
+    lead-busy c.args.path.now (sym c.is_idle.ensures ∙ c.if-not-is_idle.true)
+
+pub returns-then-path-eq47 : goal.returns-then-path-eq47
+returns-then-path-eq47 c =
+    let some : 0 < length c.args.path.now = grind (arith, nat_tests) in
+    lead-root c.args.path.now some c.if-path-eq47.true
+
+pub returns : goal.returns
+returns c =
+    let some : 0 < length c.args.path.now = grind (arith, nat_tests) in
+    lead-dot c.args.path.now some (sym c.is_idle.ensures ∙ c.if-not-is_idle.false)
+    c.if-path-eq47.false

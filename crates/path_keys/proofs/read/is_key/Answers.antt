@@ -1,0 +1,10 @@
+use Rattle.std.proofs.Common.{sym, subst, IsTrue}
+use Rattle.path_keys.specs.Keys.{IsKey}
+use Rattle.path_keys.proofs.KeyReadLemmas.{known_key}
+use Rattle.path_keys.proofs.read.is_key.Goals as goal
+
+pub returns : goal.returns
+returns c =
+    let key = c.args.key.now in
+    subst (λ b. (IsTrue b → IsKey key) × (IsKey key → IsTrue b)) (sym c.is_some.ensures)
+    (known_key key c.text_len.result c.text_len.ensures.some c.text_len.ensures.none)

@@ -1,0 +1,10 @@
+-- What stands last in a key. No public clause cites this word.
+use Rattle.std.specs.Prelude.{◌≡◌, ℕ, List, [], ◌∷◌, ◌++◌, take}
+use Rattle.unix_path.specs.Parts.{Value}
+use Rattle.path_keys.specs.Keys.{key_of}
+
+-- v is the last of these values, and before its code, at `start`, the key is that of the others
+pub record EndsIn (key : List ℕ) (vs : List Value) (start : ℕ) (v : Value) : Type 0 where
+  pub front : List Value
+  pub is : vs ≡ front ++ v ∷ []
+  pub front_is : take start key ≡ key_of front

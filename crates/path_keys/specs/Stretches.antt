@@ -1,0 +1,43 @@
+-- Stretches of a path that are names with one slash between two of them, and what stands between
+-- such stretches. No public clause cites these words.
+use Rattle.std.specs.Prelude.{◌≡◌, ◌<◌, ◌≤◌, ℕ, ◌+◌, ◌==◌, Bool, true, false, ◌||◌, ◌&&◌, List, []}
+use Rattle.std.specs.Prelude.{◌∷◌, ◌++◌, length, take, drop, map, slice_index, slice_index_or}
+use Rattle.std.specs.Prelude.{if◌then◌else◌}
+use Rattle.unix_path.specs.CommonDir.{inner_values}
+use Rattle.unix_path.specs.Parts.{slash, dot}
+use Rattle.unix_path.specs.Scan.{begins_with_parent}
+use Rattle.path_runs.specs.Overlay.{overlay}
+use Rattle.path_keys.specs.Keys.{key_of, raised}
+
+-- the byte at i is a slash, and behind it stands another, a dot, or nothing
+abbrev pub is_break : List ℕ → ℕ → Bool
+is_break s i =
+    let next = slice_index_or s (i + 1) slash in
+    slice_index s i == slash && (next == slash || next == dot)
+
+-- the first break of s is at `at`, or s has none and is `at` bytes long
+pub record FirstBreak (s : List ℕ) (at : ℕ) : Type 0 where
+  pub in_range : at ≤ length s
+  pub breaks : at < length s → is_break s at ≡ true
+  pub none_before : (i : ℕ) → i < at → is_break s i ≡ false
+
+-- the byte of a stretch in a key: the end mark of a name where the path has a slash
+abbrev pub coded : ℕ → ℕ
+coded b = if b == slash then 0 else raised b
+
+-- the bytes in a key of what stands first in s: of `..`, or of the names in its first n bytes
+abbrev pub run_key : List ℕ → ℕ → List ℕ
+run_key s n = if begins_with_parent s then 0 ∷ 3 ∷ [] else (map coded (take n s) ++ 0 ∷ [])
+
+-- the first n bytes of s are `..` or names, and the others hold all values behind these
+pub record IsRun (s : List ℕ) (n : ℕ) : Type 0 where
+  pub some : 0 < n
+  pub in_range : n ≤ length s
+  pub split : key_of (inner_values s) ≡ run_key s n ++ key_of (inner_values (drop n s))
+
+-- `more` follows the first n bytes of the key, and these stand at the beginning of the old buffer
+pub record BeginsKey (key more : List ℕ) (n : ℕ) (old new : List ℕ) : Type 0 where
+  pub lead : List ℕ
+  pub key_is : key ≡ lead ++ more
+  pub len_is : n ≡ length lead
+  pub new_is : new ≡ overlay 0 lead old

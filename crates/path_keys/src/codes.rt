@@ -1,0 +1,150 @@
+//! The codes of which a key is made, read one by one.
+ghost use Rattle.std.specs.Prelude.{◌≡◌, ◌<◌, ◌^◌, ℕ, List, [], ◌∷◌, ◌++◌, length, map};
+ghost use Rattle.std.specs.Prelude.{◌↔◌, false, option_map, None, IfSome, IsTrue};
+ghost use Rattle.unix_path.specs.Names.{name_of};
+ghost use Rattle.unix_path.specs.Parts.{Normal, RootDir, Value};
+ghost use Rattle.path_keys.specs.Keys.{code, raised};
+ghost use Rattle.path_keys.specs.Codes.{code_value, slashed, lowered, Fits, HasNoCode, IsName};
+ghost use Rattle.path_keys.specs.Codes.{IsRaised, TakesCode};
+
+use unix_bytes::search::first_place;
+
+// The code of a value in a key.
+#[derive(Clone, Copy)]
+pub(crate) enum Code<'a> {
+    Root,
+    Dot,
+    Up,
+    // The bytes of a name as they stand in the key, without its end mark.
+    Name(&'a [u8]),
+}
+
+impl<'a> Code<'a> {
+    // How many bytes the code has in a key.
+    #[inline]
+    pub(crate) fn len(self) -> usize
+        requires { length (code (code_value self)) < 2 ^ 64 }
+        ensures { result ≡ length (code (code_value self.entry)) }
+    {
+        match self {
+            Code::Name(name) => name.len() + 1,
+            _ => 2,
+        }
+    }
+
+    // How many bytes its value has in a path before others.
+    #[inline]
+    pub(crate) fn text_len(self) -> usize
+        requires { length (slashed (code_value self)) < 2 ^ 64 }
+        ensures { result ≡ length (slashed (code_value self.entry)) }
+    {
+        match self {
+            Code::Root => 1,
+            Code::Dot => 2,
+            Code::Up => 3,
+            Code::Name(name) => name.len() + 1,
+        }
+    }
+
+    // Whether it is the code of a root.
+    #[inline]
+    pub(crate) fn is_root(self) -> bool
+        ensures { IsTrue result ↔ (code_value self.entry ≡ RootDir) }
+    {
+        match self {
+            Code::Root => true,
+            Code::Dot => false,
+            Code::Up => false,
+            Code::Name(_) => false,
+        }
+    }
+
+    // The bytes of a name as they stand in the key.
+    #[inline]
+    pub(crate) fn name(self) -> Option<&'a [u8]>
+        ensures value { option_map (λ name. map lowered name.now) result
+            ≡ name_of (code_value self.entry) }
+        ensures raised { IsRaised self.entry
+            → IfSome result (λ name. map raised (map lowered name.now) ≡ name.now) }
+    {
+        match self {
+            Code::Root => None,
+            Code::Dot => None,
+            Code::Up => None,
+            Code::Name(name) => Some(name),
+        }
+    }
+}
+
+// The name with whose code these bytes begin, as it stands there; `None` if they begin with that of
+// none.
+#[inline]
+fn name_in(bytes: &[u8]) -> Option<&[u8]>
+    ensures some { IfSome result
+        (λ name. TakesCode false bytes.now (Normal (map lowered name.now))) }
+    ensures raised { IfSome result (λ name. map raised (map lowered name.now) ≡ name.now) }
+    ensures none { result ≡ None → ((name x : List ℕ) → IsName name
+        → code (Normal name) ++ x ≡ bytes.now → ⊥) }
+{
+    let len = first_place(bytes, 0);
+    if len == 0 {
+        return None;
+    }
+    if len == bytes.len() {
+        return None;
+    }
+    let name = &bytes[..len];
+    // A slash is a raised dot.
+    if name == b"/".as_slice() {
+        return None;
+    }
+    if name == b"//".as_slice() {
+        return None;
+    }
+    Some(name)
+}
+
+// The code that is 0 and this mark; `None` if it is that of no value that may stand there.
+#[inline]
+fn mark_code<'a>(mark: u8, first: bool) -> Option<Code<'a>>
+    ensures some { IfSome result
+        (λ found. Fits first (code_value found) × (code (code_value found) ≡ 0 ∷ mark ∷ [])) }
+    ensures raised { IfSome result IsRaised }
+    ensures none { result ≡ None → ((v : Value) (x y : List ℕ) → Fits first v
+        → code v ++ x ≡ 0 ∷ mark ∷ y → ⊥) }
+{
+    if mark == 3 {
+        return Some(Code::Up);
+    }
+    if !first {
+        return None;
+    }
+    if mark == 1 {
+        return Some(Code::Root);
+    }
+    if mark == 2 {
+        return Some(Code::Dot);
+    }
+    None
+}
+
+// The code with which these bytes begin; `None` if they begin with that of no value that may stand
+// there, as a path's first or behind it.
+#[inline]
+pub(crate) fn code_in(bytes: &[u8], first: bool) -> Option<Code<'_>>
+    ensures some { IfSome result (λ found. TakesCode first bytes.now (code_value found)) }
+    ensures raised { IfSome result IsRaised }
+    ensures none { result ≡ None → HasNoCode first bytes.now }
+{
+    // Each code has two bytes or more.
+    if bytes.len() < 2 {
+        return None;
+    }
+    if bytes[0] == 0 {
+        return mark_code(bytes[1], first);
+    }
+    let Some(name) = name_in(bytes) else {
+        return None;
+    };
+    Some(Code::Name(name))
+}

@@ -1,0 +1,150 @@
+//! The key of a path: the codes of its parts, one behind the other.
+ghost use Rattle.std.specs.Prelude.{◌≡◌, ◌+◌, ◌≤◌, ◌<◌, ◌^◌, ◌∷◌, ◌++◌, [], false, length, map};
+ghost use Rattle.std.specs.Prelude.{MatchOption};
+ghost use Rattle.unix_path.specs.CommonDir.{inner_values};
+ghost use Rattle.unix_path.specs.Parts.{values};
+ghost use Rattle.unix_path.specs.Scan.{is_idle};
+ghost use Rattle.path_runs.specs.Buffer.{buffer_after};
+ghost use Rattle.path_runs.specs.Overlay.{overlay};
+ghost use Rattle.path_keys.specs.Keys.{key_of};
+ghost use Rattle.path_keys.specs.Stretches.{coded, run_key, BeginsKey, IsRun};
+
+use crate::coded::place_coded;
+use crate::stretch::first_break;
+use unix_path::scan::{begins_with_parent, idle_len, is_idle};
+
+// What follows the filler, slashes and `.` pieces, in front.
+#[inline]
+fn past_filler(bytes: &[u8]) -> &[u8]
+    ensures same { inner_values bytes.now ≡ inner_values result.now }
+    ensures busy { is_idle result.now 0 ≡ false }
+    ensures short { length result.now ≤ length bytes.now }
+{
+    &bytes[idle_len(bytes)..]
+}
+
+// The mark of the root or the `.` with which a path begins; `None` if it begins with none.
+#[inline]
+fn lead_mark(path: &[u8]) -> Option<u8>
+    ensures { MatchOption result (key_of (values path.now) ≡ key_of (inner_values path.now))
+        (λ mark. key_of (values path.now) ≡ (0 ∷ mark ∷ []) ++ key_of (inner_values path.now)) }
+{
+    if path.is_empty() {
+        return None;
+    }
+    if !is_idle(path, 0) {
+        return None;
+    }
+    if path[0] == b'/' {
+        return Some(1);
+    }
+    Some(2)
+}
+
+// How many bytes stand first that are a `..`, or names with one slash between two of them.
+#[inline]
+fn run_len(bytes: &[u8]) -> usize
+    requires some { 0 < length bytes.now }
+    requires busy { is_idle bytes.now 0 ≡ false }
+    ensures { IsRun bytes.now result }
+{
+    if begins_with_parent(bytes) {
+        return 2;
+    }
+    first_break(bytes)
+}
+
+// How many bytes a run has in a key that is this long in the path.
+#[inline]
+fn run_key_len(bytes: &[u8], len: usize) -> usize
+    requires some { 0 < length bytes.now }
+    requires in_range { len ≤ length bytes.now }
+    ensures { result ≡ length (run_key bytes.now len) }
+{
+    if begins_with_parent(bytes) {
+        return 2;
+    }
+    len + 1
+}
+
+// How many bytes the key of a path has.
+pub(crate) fn key_len_of(path: &[u8]) -> usize
+    requires { length (key_of (values path.now)) < 2 ^ 64 }
+    ensures { result ≡ length (key_of (values path.now)) }
+{
+    let mut len = if lead_mark(path).is_some() { 2 } else { 0 };
+    let mut left = past_filler(path);
+    while !left.is_empty() {
+        let end = run_len(left);
+        len += run_key_len(left, end);
+        left = past_filler(&left[end..]);
+    }
+    len
+}
+
+// Overwrites two bytes of `out` from `at` on with 0 and `mark`.
+#[inline]
+fn place_mark(out: &mut [u8], at: usize, mark: u8)
+    requires { at + 2 ≤ length out.old }
+    ensures { out.new ≡ overlay at (0 ∷ mark ∷ []) out.old }
+{
+    out[at..at + 2].copy_from_slice(&[0, mark]);
+}
+
+// Overwrites the bytes of `out` from `at` on with those of the names in a key.
+#[inline]
+fn place_names(out: &mut [u8], at: usize, names: &[u8])
+    requires { at + length names.now < length out.old }
+    ensures { out.new ≡ overlay at (map coded names.now ++ 0 ∷ []) out.old }
+{
+    place_coded(out, at, names);
+    out[at + names.len()] = 0;
+}
+
+// Overwrites the bytes of `out` from `at` on with those in a key of the run that stands first and
+// is `len` bytes long in the path.
+#[inline]
+fn place_run(out: &mut [u8], at: usize, bytes: &[u8], len: usize)
+    requires some { 0 < length bytes.now }
+    requires in_range { len ≤ length bytes.now }
+    requires room { at + length (run_key bytes.now len) ≤ length out.old }
+    ensures { out.new ≡ overlay at (run_key bytes.now len) out.old }
+{
+    if begins_with_parent(bytes) {
+        place_mark(out, at, 3);
+        return;
+    }
+    place_names(out, at, &bytes[..len]);
+}
+
+// Writes the code of the root or the `.` with which a path begins to the beginning of `out`.
+// Returns how many bytes it has.
+#[inline]
+fn write_lead(path: &[u8], out: &mut [u8]) -> usize
+    requires { length (key_of (values path.now)) ≤ length out.old }
+    ensures { BeginsKey (key_of (values path.now)) (key_of (inner_values path.now)) result
+        out.old out.new }
+{
+    let Some(mark) = lead_mark(path) else {
+        return 0;
+    };
+    place_mark(out, 0, mark);
+    2
+}
+
+// Writes the key of a path to the beginning of `out`. Returns how many bytes it has.
+pub(crate) fn write_path(path: &[u8], out: &mut [u8]) -> usize
+    requires { length (key_of (values path.now)) ≤ length out.old }
+    ensures out { out.new ≡ buffer_after (key_of (values path.now)) out.old }
+    ensures len { result ≡ length (key_of (values path.now)) }
+{
+    let mut at = write_lead(path, out);
+    let mut left = past_filler(path);
+    while !left.is_empty() {
+        let end = run_len(left);
+        place_run(out, at, left, end);
+        at += run_key_len(left, end);
+        left = past_filler(&left[end..]);
+    }
+    at
+}
