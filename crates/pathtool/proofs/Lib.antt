@@ -2,6 +2,7 @@ pub mod SplitLemmas
 pub mod LineLemmas
 pub mod AddLemmas
 pub mod ListLemmas
+pub mod CallLemmas
 pub mod WriteLemmas
 pub mod BeginLemmas
 pub mod QuoteLemmas

@@ -3,6 +3,7 @@ pub mod EditFields
 pub mod Walks
 pub mod Tables
 pub mod Watched
+pub mod Calls
 pub mod Answers
 pub mod Steps
 pub mod Quoted

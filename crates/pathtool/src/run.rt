@@ -1,20 +1,22 @@
 //! Reads lines to the end of an input, and writes the answer to each.
 ghost use Rattle.std.specs.Prelude.{◌≡◌, ◌↔◌, false, IsTrue, IfOk, OnOk, OnErr, IfErr, IfSome};
-ghost use Rattle.std.specs.Prelude.{Some, IsErrOf};
+ghost use Rattle.std.specs.Prelude.{Some, IsErrOf, ◌⊎◌};
 ghost use Rattle.std.specs.Io.KnownBytes.{Appends, Consumes, IsAtEnd, Keeps};
 ghost use Rattle.pathtool.specs.Watched.{has_failed, has_ended, is_flushed, watched_inner};
 ghost use Rattle.pathtool.specs.Watched.{AppendsBeginning};
+ghost use Rattle.pathtool.specs.Calls.{Many, ReadsOn, WritesSome, WritesOn, WritesAndFlushes};
+ghost use Rattle.std.specs.declared.io.Error.{Error as IoError};
 ghost use Rattle.pathtool.specs.Answers.{output_of};
 ghost use Rattle.pathtool.specs.RunError.{error_text};
 ghost use Rattle.pathtool.specs.declared.run.RunError.TheVariants.{Memory};
 
+use crate::calls::{Sink, Source};
 use crate::commands::push_answer_line;
 use crate::fields::first_line;
 use crate::watched::Watched;
 use std::alloc::{AllocError, Global};
 use std::error::Error;
 use std::fmt;
-use std::io::{Read, Write};
 
 /// Why a run gave up.
 ///
@@ -56,7 +58,7 @@ impl From<AllocError> for RunError {
 }
 
 // Reads to the end, and gives all bytes.
-fn read_whole<R: Read>(alloc: Global, reader: &mut Watched<R>) -> Result<Vec<u8>, RunError>
+fn read_whole<R: Source>(alloc: Global, reader: &mut Watched<R>) -> Result<Vec<u8>, RunError>
     requires failed { has_failed reader.old ≡ false }
     requires ended { has_ended reader.old ≡ false }
     ensures bytes { IfOk result (λ input. Consumes (R.remaining (watched_inner reader.old))
@@ -66,11 +68,12 @@ fn read_whole<R: Read>(alloc: Global, reader: &mut Watched<R>) -> Result<Vec<u8>
     ensures err { OnErr result (has_ended reader.new ≡ false) }
     ensures read { IsErrOf result RunError.Read ↔ IsTrue (has_failed reader.new) }
     ensures no_write { IfErr result (λ error. (error ≡ RunError.Write) → ⊥) }
+    ensures reads { ReadsOn R.read_gives (watched_inner reader.old) (watched_inner reader.new) }
 {
     let mut input = Vec::new(alloc);
     let mut chunk = [0u8; 65536];
     loop {
-        let count = match reader.read(&mut chunk) {
+        let count = match reader.read_once(&mut chunk) {
             Ok(count) => count,
             Err(_) => return Err(RunError::Read),
         };
@@ -82,7 +85,7 @@ fn read_whole<R: Read>(alloc: Global, reader: &mut Watched<R>) -> Result<Vec<u8>
 }
 
 // Writes every byte.
-fn write_whole<W: Write>(writer: &mut Watched<W>, bytes: &[u8]) -> Result<(), RunError>
+fn write_whole<W: Sink>(writer: &mut Watched<W>, bytes: &[u8]) -> Result<(), RunError>
     requires { has_failed writer.old ≡ false }
     ensures ok { OnOk result (Appends (W.contents (watched_inner writer.old))
         (W.contents (watched_inner writer.new)) bytes.now) }
@@ -90,10 +93,14 @@ fn write_whole<W: Write>(writer: &mut Watched<W>, bytes: &[u8]) -> Result<(), Ru
         (W.contents (watched_inner writer.new)) bytes.now) }
     ensures write { IsErrOf result RunError.Write ↔ IsTrue (has_failed writer.new) }
     ensures only_write { IfErr result (λ error. error ≡ RunError.Write) }
+    ensures writes { OnOk result (Many (WritesSome W.write_gives) (watched_inner writer.old)
+        (watched_inner writer.new)) }
+    ensures gave_up { OnErr result (WritesOn W.write_gives (watched_inner writer.old)
+        (watched_inner writer.new)) }
 {
     let mut at = 0;
     while at < bytes.len() {
-        match writer.write(&bytes[at..]) {
+        match writer.write_once(&bytes[at..]) {
             Ok(0) => return Err(RunError::Write),
             Ok(count) => at += count,
             Err(_) => return Err(RunError::Write),
@@ -103,7 +110,7 @@ fn write_whole<W: Write>(writer: &mut Watched<W>, bytes: &[u8]) -> Result<(), Ru
 }
 
 // Writes the answer to each line of the input.
-fn write_answers<W: Write>(
+fn write_answers<W: Sink>(
     alloc: Global,
     input: &[u8],
     writer: &mut Watched<W>,
@@ -115,6 +122,10 @@ fn write_answers<W: Write>(
         (W.contents (watched_inner writer.new)) (output_of input.now)) }
     ensures write { IsErrOf result RunError.Write ↔ IsTrue (has_failed writer.new) }
     ensures no_read { IfErr result (λ error. (error ≡ RunError.Read) → ⊥) }
+    ensures writes { OnOk result (Many (WritesSome W.write_gives) (watched_inner writer.old)
+        (watched_inner writer.new)) }
+    ensures gave_up { OnErr result (WritesOn W.write_gives (watched_inner writer.old)
+        (watched_inner writer.new)) }
 {
     let mut answer = Vec::new(alloc);
     let mut left = input;
@@ -136,7 +147,7 @@ fn write_answers<W: Write>(
 /// a beginning of the output was written, and nothing if the input wasn't read to its end.
 ///
 /// The input `parts`, a tab, `a//b` and a newline is answered `a`, a tab, `b` and a newline.
-pub fn run<R: Read, W: Write>(
+pub fn run<R: Source, W: Sink>(
     alloc: Global,
     reader: &mut Watched<R>,
     writer: &mut Watched<W>,
@@ -158,14 +169,22 @@ pub fn run<R: Read, W: Write>(
     ensures err { OnErr result (IfSome (R.remaining (watched_inner reader.old)) (λ input.
         AppendsBeginning (W.contents (watched_inner writer.old))
         (W.contents (watched_inner writer.new)) (output_of input))) }
-    ensures unread { has_ended reader.new ≡ false
-        → Keeps (W.contents (watched_inner writer.old)) (W.contents (watched_inner writer.new)) }
-    ensures refused { IsErrOf result RunError.Read
-        → Keeps (W.contents (watched_inner writer.old)) (W.contents (watched_inner writer.new)) }
+    ensures unread { has_ended reader.new ≡ false → writer.new ≡ writer.old }
+    ensures refused { IsErrOf result RunError.Read → writer.new ≡ writer.old }
+
+    // The calls: each read but the last gave bytes, each write but the last took some, and a flush
+    // comes at most once, behind all writes.
+    ensures reads { ReadsOn R.read_gives (watched_inner reader.old) (watched_inner reader.new) }
+    ensures flushes { OnOk result (WritesAndFlushes W.write_gives W.flush_gives
+        (watched_inner writer.old) (Ok tt) (watched_inner writer.new)) }
+    ensures gave_up { OnErr result (WritesOn W.write_gives
+        (watched_inner writer.old) (watched_inner writer.new)
+        ⊎ ((error : IoError) × WritesAndFlushes W.write_gives W.flush_gives
+        (watched_inner writer.old) (Err error) (watched_inner writer.new))) }
 {
     let input = read_whole(alloc, reader)?;
     write_answers(alloc, input.as_slice(), writer)?;
-    if writer.flush().is_err() {
+    if writer.flush_once().is_err() {
         return Err(RunError::Write);
     }
     Ok(())

@@ -4,20 +4,38 @@ mod faults;
 mod memory;
 mod rows;
 
+ghost use Rattle.std.specs.Prelude.{◌≡◌, false};
+ghost use Rattle.pathtool.specs.Watched.{has_failed, has_ended};
+
+use crate::ends::End;
+use crate::patient::Patient;
 use crate::run::run;
 use crate::watched::Watched;
 use std::alloc::{AllocError, Global};
 use std::process::Abort;
 use std::test::Fail;
 
+// Watches a reader or a writer as the program does.
+fn watch<T>(inner: T) -> Watched<Patient<End<T>>>
+    ensures failed { has_failed result ≡ false }
+    ensures ended { has_ended result ≡ false }
+{
+    Watched::new(Patient::new(End::new(inner)))
+}
+
+// Gives it back.
+fn unwatch<T>(watched: Watched<Patient<End<T>>>) -> T {
+    watched.into_inner().into_inner().into_inner()
+}
+
 // Whether a run over this input is Ok, reads it to its end and writes this output.
 fn is_written(alloc: Global, input: &[u8], output: &[u8]) -> bool {
-    let mut reader = Watched::new(input);
-    let mut writer = Watched::new(Vec::<u8>::new(alloc));
+    let mut reader = watch(input);
+    let mut writer = watch(Vec::<u8>::new(alloc));
     if run(alloc, &mut reader, &mut writer).is_err() || !reader.has_ended() {
         return false;
     }
-    writer.into_inner().as_slice() == output
+    unwatch(writer).as_slice() == output
 }
 
 // Whether a run over this line alone writes this answer and a newline.

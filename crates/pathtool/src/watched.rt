@@ -1,12 +1,12 @@
-//! Readers and writers that remember whether they have failed.
+//! Sources and sinks that remember whether they have failed.
 ghost use Rattle.std.specs.Prelude.{◌≡◌, ◌||◌, false, length, is_ok, is_err};
 ghost use Rattle.std.specs.Io.{ReadsAtMost, WritesAtMost};
 ghost use Rattle.std.specs.Io.KnownBytes.{ReadConsumes, WriteAppends, Keeps};
 ghost use Rattle.pathtool.specs.Watched.{has_failed, has_ended, is_flushed, watched_inner};
 ghost use Rattle.pathtool.specs.Watched.{moves_none};
 
+use crate::calls::{Sink, Source};
 use std::io;
-use std::io::{Read, Write};
 
 /// A reader or a writer, and whether it has failed, has ended or is flushed.
 ///
@@ -82,21 +82,25 @@ impl<T> Watched<T> {
     }
 }
 
-/// Reads from the reader that is watched.
-impl<T: Read> Read for Watched<T> {
+/// Reads from the source that is watched.
+impl<T: Source> Source for Watched<T> {
     ghost remaining = { λ w. T.remaining (watched_inner w) };
 
-    fn read(&mut self, buf: &mut [u8]) -> io::Result<usize>
+    ghost read_gives = { λ w b r c v. T.read_gives (watched_inner w) b r c (watched_inner v) };
+
+    fn read_once(&mut self, buf: &mut [u8]) -> io::Result<usize>
         ensures bound { ReadsAtMost result buf.new }
         ensures bytes { ReadConsumes (T.remaining (watched_inner self.old))
             (T.remaining (watched_inner self.new)) result buf.new }
+        ensures one { T.read_gives (watched_inner self.old) buf.old result buf.new
+            (watched_inner self.new) }
         ensures failed { has_failed self.new ≡ (has_failed self.old || is_err result) }
         ensures ended { has_ended self.new
             ≡ (has_ended self.old || moves_none result (length buf.old)) }
         ensures flushed { is_flushed self.new ≡ is_flushed self.old }
     {
         let has_room = !buf.is_empty();
-        match self.inner.read(buf) {
+        match self.inner.read_once(buf) {
             Ok(count) => {
                 if count == 0 && has_room {
                     self.ended = true;
@@ -111,21 +115,27 @@ impl<T: Read> Read for Watched<T> {
     }
 }
 
-/// Writes to the writer that is watched.
-impl<T: Write> Write for Watched<T> {
+/// Writes to the sink that is watched.
+impl<T: Sink> Sink for Watched<T> {
     ghost contents = { λ w. T.contents (watched_inner w) };
 
-    fn write(&mut self, buf: &[u8]) -> io::Result<usize>
+    ghost write_gives = { λ w b r v. T.write_gives (watched_inner w) b r (watched_inner v) };
+
+    ghost flush_gives = { λ w r v. T.flush_gives (watched_inner w) r (watched_inner v) };
+
+    fn write_once(&mut self, buf: &[u8]) -> io::Result<usize>
         ensures bound { WritesAtMost result buf.now }
         ensures bytes { WriteAppends (T.contents (watched_inner self.old))
             (T.contents (watched_inner self.new)) result buf.now }
+        ensures one { T.write_gives (watched_inner self.old) buf.now result
+            (watched_inner self.new) }
         ensures failed { has_failed self.new
             ≡ (has_failed self.old || is_err result || moves_none result (length buf.now)) }
         ensures ended { has_ended self.new ≡ has_ended self.old }
         ensures flushed { is_flushed self.new ≡ false }
     {
         self.flushed = false;
-        match self.inner.write(buf) {
+        match self.inner.write_once(buf) {
             Ok(count) => {
                 if count == 0 && !buf.is_empty() {
                     self.failed = true;
@@ -139,14 +149,15 @@ impl<T: Write> Write for Watched<T> {
         }
     }
 
-    fn flush(&mut self) -> io::Result<()>
+    fn flush_once(&mut self) -> io::Result<()>
         ensures bytes { Keeps (T.contents (watched_inner self.old))
             (T.contents (watched_inner self.new)) }
+        ensures one { T.flush_gives (watched_inner self.old) result (watched_inner self.new) }
         ensures failed { has_failed self.new ≡ (has_failed self.old || is_err result) }
         ensures ended { has_ended self.new ≡ has_ended self.old }
         ensures flushed { is_flushed self.new ≡ is_ok result }
     {
-        let result = self.inner.flush();
+        let result = self.inner.flush_once();
         self.flushed = result.is_ok();
         if result.is_err() {
             self.failed = true;

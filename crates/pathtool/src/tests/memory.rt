@@ -1,6 +1,6 @@
 //! Runs over stored lines, whose requests for memory `tools/check_requests` refuses one by one.
 use crate::run::{RunError, run};
-use crate::watched::Watched;
+use crate::tests::{unwatch, watch};
 use std::alloc::Global;
 use std::test::Fail;
 
@@ -17,11 +17,11 @@ const UNDER: &[u8] = b"under\t/a\t/a//b/./c\t/d\t/a/b/c\n";
 // Checks that the whole output is written, or a beginning of it if `tools/check_requests` refuses a
 // request for memory.
 fn check_answers(alloc: Global, input: &[u8], output: &[u8]) -> Result<(), Fail> {
-    let mut reader = Watched::new(input);
-    let mut writer = Watched::new(Vec::<u8>::with_capacity(alloc, 128)?);
+    let mut reader = watch(input);
+    let mut writer = watch(Vec::<u8>::with_capacity(alloc, 128)?);
     let result = run(alloc, &mut reader, &mut writer);
     let has_failed = reader.has_failed() || writer.has_failed();
-    let written = writer.into_inner();
+    let written = unwatch(writer);
     if has_failed || !output.starts_with(written.as_slice()) {
         return Err(Fail::new("wrong"));
     }

@@ -1,7 +1,7 @@
 use Rattle.std.proofs.Common.{ap, map-id, rules, tests}
 use Rattle.std.proofs.lemmas.Iterator.{YieldsList-from_map_by}
 use Rattle.std.proofs.lemmas.Iterator.Consumers.{YieldsList-at, YieldsList-from_first}
-use Rattle.unix_path.proofs.CursorLemmas.{name_bytes}
+use Rattle.unix_path.specs.Cursor.{name_bytes}
 use Rattle.unix_path.specs.Ancestors.{ancestors_left}
 use Rattle.unix_path.specs.Parents.{ancestors_of}
 use Rattle.pathtool.proofs.AddLemmas.{adds}

@@ -11,5 +11,5 @@ loop-item-preserved g c =
     let (first, so_far) = c.loop-item.invariant in
     adds_item (names_bytes names) c.as_bytes.result.now _ _ _ _
     (map-append (λ name. name.bytes.now) names (name ∷ [])
-    ∙ ap (λ bytes. names_bytes names ++ bytes ∷ []) (sym c.as_bytes.ensures))
+    ∙ ap (λ bytes. names_bytes names ++ bytes ∷ []) (sym c.as_bytes.ensures.bytes))
     first so_far c.in_ok-push_item.ensures

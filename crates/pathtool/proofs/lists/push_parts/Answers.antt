@@ -1,7 +1,8 @@
 use Rattle.std.proofs.Common.{ap, map, rules, tests}
 use Rattle.std.proofs.lemmas.Iterator.{YieldsList-from_map_by}
 use Rattle.std.proofs.lemmas.Iterator.Consumers.{YieldsList-at}
-use Rattle.unix_path.proofs.CursorLemmas.{Components-yields, name_bytes}
+use Rattle.unix_path.proofs.CursorLemmas.{Components-yields}
+use Rattle.unix_path.specs.Cursor.{name_bytes}
 use Rattle.unix_path.specs.Parts.{value_bytes}
 use Rattle.pathtool.proofs.AddLemmas.{adds}
 use Rattle.pathtool.proofs.ListLemmas.{adds_list}

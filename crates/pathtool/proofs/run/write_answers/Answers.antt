@@ -1,11 +1,13 @@
-use Rattle.std.proofs.Common.{[], ◌++◌, ◌∷◌, ◌∙◌, append_assoc, subst, rules, eqb-true}
+use Rattle.std.proofs.Common.{[], ◌++◌, ◌∷◌, ◌∙◌, append_assoc, subst, rules, arith, eqb-true}
 use Rattle.std.specs.Io.KnownBytes.{Appends}
 use Rattle.std.proofs.KnownBytes.{Appends-trans}
 use Rattle.std.proofs.lemmas.List.{nil_from_length}
+use Rattle.std.proofs.lemmas.Grind.{common_steps}
 use Rattle.pathtool.specs.Answers.{answer_of, output_of}
 use Rattle.pathtool.specs.Steps.{newline}
 use Rattle.pathtool.specs.Watched.{AppendsBeginning}
 use Rattle.pathtool.proofs.LineLemmas.{output_of-done, output_of-next, writes_answer}
+use Rattle.pathtool.proofs.CallLemmas.{Many-none, Many-then, WritesOn-then}
 use Rattle.pathtool.proofs.WriteLemmas.{AppendsBeginning-of, AppendsBeginning-then, OnErr-of}
 use Rattle.pathtool.proofs.run.write_answers.Goals as goal
 
@@ -25,6 +27,14 @@ returns-in_err-write_whole-clause-err g c =
     (subst (AppendsBeginning _ _) next c.in_err-write_whole.ensures.err)
     (output_of-next _ line.now rest.now done _ c.first_line.ensures.value e))
 
+pub loop-left-init : goal.loop-left-init
+loop-left-init g c = (search rules, ([], grind (arith, common_steps), search rules), Many-none _)
+
+pub returns-in_err-write_whole-clause-gave_up : goal.returns-in_err-write_whole-clause-gave_up
+returns-in_err-write_whole-clause-gave_up g c =
+    OnErr-of c.from_residual-in_err-write_whole.result
+    (WritesOn-then g.W.Sink.write_gives c.loop-left.invariant.2 c.in_err-write_whole.ensures.gave_up)
+
 pub loop-left-preserved : goal.loop-left-preserved
 loop-left-preserved g c =
     let (done, h, e) = c.loop-left.invariant.1 in
@@ -40,6 +50,7 @@ loop-left-preserved g c =
         append_assoc done answer (output_of rest.now)
             ∙ output_of-next _ line.now rest.now done _ c.first_line.ensures.value e,
       ),
+      Many-then c.loop-left.invariant.2 c.in_ok-write_whole.ensures.writes,
     )
 
 pub returns-clause-ok : goal.returns-clause-ok

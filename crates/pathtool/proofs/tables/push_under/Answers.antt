@@ -11,5 +11,5 @@ returns c =
     adds c.push_all.result _ _
     (ap (λ paths. tabs (map row_spelling paths)) c.as_slice.ensures.value
     ∙ under_answer-found c.args.base.bytes.now (other_fields c.args.others) _ _ _
-    c.in_ok-base.ensures c.in_ok-table.ensures c.in_ok-found.ensures)
+    c.in_ok-base.ensures.bytes c.in_ok-table.ensures c.in_ok-found.ensures.rows)
     c.push_all.ensures

@@ -6,7 +6,7 @@ use Rattle.pathtool.proofs.texts.push_show.Goals as goal
 
 pub loop-chunk-init : goal.loop-chunk-init
 loop-chunk-init c =
-    let bytes = c.from_bytes.ensures ∙ c.as_bytes.ensures ∙ c.as_unix_str.ensures in
+    let bytes = c.from_bytes.ensures ∙ c.as_bytes.ensures.bytes ∙ c.as_unix_str.ensures.bytes in
     ap (λ said. c.args.answer.now.items ++ said)
     (ap (λ it. flat_map shown_chunk (chunks_left it))
     c.into_iter-chunk-iterator.ensures.into_iter_gives

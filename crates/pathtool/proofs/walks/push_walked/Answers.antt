@@ -3,7 +3,7 @@ use Rattle.std.proofs.lemmas.Iterator.{YieldsList-from_map_by, YieldsList-from_s
 use Rattle.std.proofs.lemmas.Iterator.Consumers.{YieldsList-at, YieldsList-from_chain}
 use Rattle.unix_path.specs.Parts.{value_bytes}
 use Rattle.unix_path.specs.Views.{value_of}
-use Rattle.unix_path.proofs.CursorLemmas.{name_bytes}
+use Rattle.unix_path.specs.Cursor.{name_bytes}
 use Rattle.pathtool.proofs.AddLemmas.{adds_behind}
 use Rattle.pathtool.proofs.ListLemmas.{adds_list, once_yields}
 use Rattle.pathtool.proofs.TakeLemmas.{tabs-counted}
@@ -22,7 +22,7 @@ returns c =
     (YieldsList-from_slice _ (c.iter.ensures.rest ∙ c.deref.ensures.value)))
     c.map-front.ensures.closure (λ x r q k. search (rules, tests))))
     (YieldsList-at c.chain.ensures.second
-    (once_yields c.as_unix_str.result c.once.ensures.item c.as_unix_str.ensures))
+    (once_yields c.as_unix_str.result c.once.ensures.item c.as_unix_str.ensures.bytes))
     c.chain.ensures.first_done c.chain.ensures.second_done))
     (YieldsList-at c.chain-2.ensures.second
     (YieldsList-from_map_by _ name_bytes (λ part. value_bytes (value_of part))

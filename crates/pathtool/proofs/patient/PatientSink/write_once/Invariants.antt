@@ -1,0 +1,10 @@
+use Rattle.std.specs.Io.KnownBytes.{Keeps}
+use Rattle.pathtool.specs.Calls.{Calls, Interrupts, patient_inner}
+use Rattle.pathtool.proofs.patient.PatientSink.write_once.Given as goal
+
+abbrev pub invariant-loop-tries : goal.invariant-loop-tries
+invariant-loop-tries g l =
+    Keeps (g.T.Sink.contents (patient_inner l.initial.self))
+    (g.T.Sink.contents (patient_inner l.self))
+    × Calls (Interrupts (λ s r t. g.T.Sink.write_gives s l.buf r t))
+    (patient_inner l.initial.self) l.tries (patient_inner l.self)
