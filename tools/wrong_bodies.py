@@ -82,11 +82,12 @@ def modules_of(file):
 
 def place_of(crate, file, lines, head):
     """The place of the function at this line, as a check names it: its module; or the type of the
-    impl that it is in, which may stand in another file, with the trait if there is one."""
-    if not lines[head].startswith(" "):
+    impl that it is in, which may stand in another file, with the trait if there is one. That of a
+    method that a trait declares isn't told apart from its module."""
+    impls = [number for number in range(head) if lines[number].startswith("impl")]
+    if not lines[head].startswith(" ") or not impls:
         return "::".join([crate, *modules_of(file)])
-    number = max(number for number in range(head) if lines[number].startswith("impl"))
-    impl = IMPL.match(lines[number])
+    impl = IMPL.match(lines[impls[-1]])
     return f"{in_one_word(impl[3])}{impl[1] or ''}{in_one_word(impl[2])}"
 
 

@@ -1,7 +1,9 @@
-//! Tests of path_runs, path_table and path_within, in one crate of their own: a crate with tests is
-//! proved twice.
+//! Tests of path_runs, path_table, path_within and path_keys, in one crate of their own: a crate with
+//! tests is proved twice.
 #![tactic(auto)]
 
+#[cfg(test)]
+mod keys;
 #[cfg(test)]
 mod random;
 #[cfg(test)]

@@ -9,7 +9,7 @@ use Rattle.unix_path.specs.Cursor.{cursor_rest}
 use Rattle.unix_path.specs.Views.{value_of}
 use Rattle.unix_path.specs.declared.cursor.component.Component.{Component}
 use Rattle.unix_path.specs.declared.cursor.walk.Components.{Components}
-use Rattle.unix_path.proofs.CursorLemmas.{GivesFirstPart}
+use Rattle.unix_path.specs.Cursor.{GivesFirstPart}
 use Rattle.unix_path.proofs.ParentLemmas.{values-whole}
 use Rattle.unix_path.proofs.PlaceLemmas.{part_at, part_at-part_at}
 use Rattle.unix_path.proofs.RestLemmas.{rest-rest}

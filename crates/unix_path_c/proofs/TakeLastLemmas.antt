@@ -10,7 +10,7 @@ use Rattle.unix_path.specs.Cursor.{cursor_rest}
 use Rattle.unix_path.specs.Views.{value_of}
 use Rattle.unix_path.specs.declared.cursor.component.Component.{Component}
 use Rattle.unix_path.specs.declared.cursor.walk.Components.{Components}
-use Rattle.unix_path.proofs.CursorLemmas.{GivesLastPart}
+use Rattle.unix_path.specs.Cursor.{GivesLastPart}
 use Rattle.unix_path.proofs.ParentLemmas.{rest-whole_last, values-whole}
 use Rattle.unix_path.proofs.PlaceLemmas.{part_at}
 use Rattle.unix_path_c.specs.Walks.{kind_of, bytes_left, part_bytes}

@@ -4,6 +4,7 @@
 mod copies;
 mod edits;
 mod kept;
+mod keys;
 mod runs;
 mod strings;
 mod tables;

@@ -1,5 +1,6 @@
 //! Calls that promise to succeed without memory, while every request is refused.
 mod kept;
+mod keys;
 mod owned;
 mod tables;
 mod texts;

@@ -271,3 +271,16 @@ fn rows_of_joins_to_a_base(rt: HostRuntime) {
         assert!(rt; is_rejoined(rt.alloc(), row), "{}", row.0);
     }
 }
+
+// Whether the error is printed as its text, and padded to a width.
+fn is_printed(alloc: Global, error: &ApplyError) -> bool {
+    match format!(in alloc; "{error}|{error:>15}") {
+        Ok(text) => text.as_str() == "out of memory|  out of memory",
+        Err(AllocError) => false,
+    }
+}
+
+#[test]
+fn text_of_the_error(rt: HostRuntime) {
+    assert!(rt; is_printed(rt.alloc(), &ApplyError { done: 2 }));
+}

@@ -1,10 +1,16 @@
 //! Callers of laws: a law that is called in a body is a fact there, and no function needs a proof.
-ghost use Rattle.std.specs.Prelude.{◌≡◌, ◌≤◌, ◌↔◌, false, [], IfOk, IsTrue, length};
+ghost use Rattle.std.specs.Prelude.{◌≡◌, ◌≤◌, ◌↔◌, ◌++◌, false, [], map, reverse, IfOk, IsTrue};
+ghost use Rattle.std.specs.Prelude.{IsFalse, length};
+ghost use Rattle.std.specs.Cmp.Lexicographic.{slice_cmp};
 ghost use Rattle.std.specs.List.{sum_by};
+ghost use Rattle.std.specs.Option.{option_to_list};
+ghost use Rattle.std.specs.Ordering.{nat_cmp};
 ghost use Rattle.unix_path.specs.Buffers.{path_bytes};
 ghost use Rattle.unix_path.specs.Prefixes.{Begins};
-ghost use Rattle.unix_path.specs.Order.{values_cmp};
+ghost use Rattle.unix_path.specs.Cursor.{cursor_values};
+ghost use Rattle.unix_path.specs.Order.{value_cmp, values_cmp, IsBefore};
 ghost use Rattle.unix_path.specs.Parts.{is_rooted, value_bytes, values, SameValues};
+ghost use Rattle.unix_path.specs.Views.{value_of};
 ghost use Rattle.path_runs.specs.HashLaws.{bytes_fed};
 
 use path_runs::laws;
@@ -12,7 +18,7 @@ use std::alloc::{AllocError, Global};
 use std::cmp::Ordering;
 use std::test::Fail;
 use unix_path::bytes::UnixStr;
-use unix_path::{Path, PathBuf};
+use unix_path::{Component, Components, Path, PathBuf};
 
 fn join_below(alloc: Global, root: Path<'_>, request: Path<'_>) -> Result<PathBuf, AllocError>
     requires { is_rooted request.bytes.now ≡ false }
@@ -68,6 +74,64 @@ fn equal_if_fed_alike(a: Path<'_>, b: Path<'_>) -> bool
     a == b
 }
 
+fn comes_later(a: Path<'_>, b: Path<'_>) -> bool
+    requires { IsBefore (values a.bytes.now) (values b.bytes.now) }
+    ensures { IsFalse result }
+{
+    laws::order_total();
+    b < a || a == b
+}
+
+fn comes_first(a: Path<'_>, b: Path<'_>, c: Path<'_>) -> bool
+    requires first { IsBefore (values a.bytes.now) (values b.bytes.now) }
+    requires second { IsBefore (values b.bytes.now) (values c.bytes.now) }
+    ensures { IsTrue result }
+{
+    laws::order_total();
+    let _between = b;
+    a < c
+}
+
+fn is_same_part(a: Component<'_>, b: Component<'_>) -> bool
+    ensures { IsTrue result ↔ (value_of a.entry ≡ value_of b.entry) }
+{
+    laws::components_ordered();
+    a == b
+}
+
+fn order_of_parts(a: Component<'_>, b: Component<'_>) -> Ordering
+    ensures { result ≡ value_cmp (value_of a.entry) (value_of b.entry) }
+{
+    laws::components_ordered();
+    a.cmp(&b)
+}
+
+fn is_same_name(a: UnixStr<'_>, b: UnixStr<'_>) -> bool
+    ensures { IsTrue result ↔ (a.entry.bytes.now ≡ b.entry.bytes.now) }
+{
+    laws::bytes_ordered();
+    a == b
+}
+
+fn order_of_names(a: UnixStr<'_>, b: UnixStr<'_>) -> Ordering
+    ensures { result ≡ slice_cmp nat_cmp a.entry.bytes.now b.entry.bytes.now }
+{
+    laws::bytes_ordered();
+    a.cmp(&b)
+}
+
+// The first part that is left and then the last; with what stands between they are all that was
+// left.
+fn take_both<'a>(parts: &mut Components<'a>) -> (Option<Component<'a>>, Option<Component<'a>>)
+    ensures { map value_of (option_to_list result.0) ++ cursor_values parts.new
+        ++ reverse (map value_of (option_to_list result.1)) ≡ cursor_values parts.old }
+{
+    laws::ends_meet();
+    let first = parts.next();
+    let last = parts.next_back();
+    (first, last)
+}
+
 #[test]
 fn laws_are_facts(rt: HostRuntime) -> Result<(), Fail> {
     let alloc = rt.alloc();
@@ -83,4 +147,26 @@ fn laws_are_facts(rt: HostRuntime) -> Result<(), Fail> {
     assert_eq!(rt; reverse_order(root, request), Ordering::Less);
     assert!(rt; equal_if_fed_alike(request, request));
     Ok(())
+}
+
+// Whether these names and parts are told apart, and in which order.
+fn are_in_order() -> bool {
+    let (a, b) = (UnixStr::new("a"), UnixStr::new("ab"));
+    is_same_name(a, a)
+        && !is_same_name(a, b)
+        && order_of_names(a, b).is_lt()
+        && !is_same_part(Component::CurDir, Component::Normal(UnixStr::new(".")))
+        && order_of_parts(Component::ParentDir, Component::Normal(a)).is_lt()
+}
+
+#[test]
+fn laws_of_order_are_facts(rt: HostRuntime) {
+    assert!(rt; are_in_order());
+    let (a, b) = (Path::from_text("a/b"), Path::from_text("a.b"));
+    assert!(rt; a < b);
+    let mut parts = Path::from_text("/a/b").components();
+    let (first, last) = take_both(&mut parts);
+    assert_eq!(rt; first, Some(Component::RootDir));
+    assert_eq!(rt; last, Some(Component::Normal(UnixStr::new("b"))));
+    assert_eq!(rt; parts.as_path().as_unix_str(), UnixStr::new("a"));
 }

@@ -1,11 +1,11 @@
-//! A caller of `extend`: rootless paths that together fit the capacity are never refused.
-ghost use Rattle.std.specs.Prelude.{◌≡◌, ◌≤◌, false, length, IsOk};
+//! Callers of `extend` and `from_iter`: what fits the capacity is never refused.
+ghost use Rattle.std.specs.Prelude.{◌≡◌, ◌≤◌, ◌+◌, false, [], fold, length, IsOk};
 ghost use Rattle.std.specs.List.{AllByRecursion};
-ghost use Rattle.unix_path.specs.Buffers.{capacity, path_bytes, bytes_of_each};
+ghost use Rattle.unix_path.specs.Buffers.{capacity, path_bytes, room, bytes_of_each};
 ghost use Rattle.unix_path.specs.Joins.{join_all_of};
 ghost use Rattle.unix_path.specs.Parts.{is_rooted};
 
-use std::alloc::AllocError;
+use std::alloc::{AllocError, Global};
 use std::test::Fail;
 use unix_path::bytes::UnixStr;
 use unix_path::{Path, PathBuf};
@@ -19,6 +19,31 @@ fn extend_all(buffer: &mut PathBuf, paths: &[Path<'_>]) -> Result<(), AllocError
     Ok(())
 }
 
+fn extend_by_none(buffer: &mut PathBuf) -> Result<(), AllocError>
+    ensures { IsOk result }
+{
+    buffer.extend(std::iter::empty())
+}
+
+fn extend_by_these(buffer: &mut PathBuf, paths: &[Path<'_>]) -> Result<(), AllocError>
+    ensures { paths.now ≡ [] → IsOk result }
+{
+    buffer.extend(paths.iter().copied())
+}
+
+fn extend_in_room(buffer: &mut PathBuf, paths: &[Path<'_>]) -> Result<(), AllocError>
+    ensures { fold (λ sum path. sum + (1 + length path.bytes.now)) 0 paths.now ≤ room buffer.old
+        → IsOk result }
+{
+    buffer.extend(paths.iter().copied())
+}
+
+fn path_of_none(alloc: Global) -> Result<PathBuf, AllocError>
+    ensures { IsOk result }
+{
+    PathBuf::from_iter(alloc, std::iter::empty())
+}
+
 #[test]
 fn what_fits_is_joined(rt: HostRuntime) -> Result<(), Fail> {
     let mut buffer = PathBuf::with_capacity(rt.alloc(), 10)?;
@@ -29,6 +54,18 @@ fn what_fits_is_joined(rt: HostRuntime) -> Result<(), Fail> {
         Path::new(UnixStr::new("")),
     ];
     extend_all(&mut buffer, paths.as_slice())?;
+    extend_by_none(&mut buffer)?;
+    extend_by_these(&mut buffer, &[])?;
     assert!(rt; buffer.as_path().as_unix_str() == UnixStr::new("foo/a/bc/"));
+    Ok(())
+}
+
+#[test]
+fn what_fits_the_room_is_joined(rt: HostRuntime) -> Result<(), Fail> {
+    let mut buffer = path_of_none(rt.alloc())?;
+    buffer.reserve(7)?;
+    let paths = [Path::from_text("/a"), Path::from_text("bcd")];
+    extend_in_room(&mut buffer, paths.as_slice())?;
+    assert!(rt; buffer.as_path().as_unix_str() == UnixStr::new("/a/bcd"));
     Ok(())
 }

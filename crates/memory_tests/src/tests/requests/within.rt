@@ -82,6 +82,11 @@ fn way_between_paths_above_found(rt: HostRuntime) -> Result<(), Fail> {
 }
 
 #[test]
+fn way_between_dots_found(rt: HostRuntime) -> Result<(), Fail> {
+    report_way(way(rt.alloc(), path("a/b."), path("a/c.")), "../c.")
+}
+
+#[test]
 fn way_from_above_found(rt: HostRuntime) -> Result<(), Fail> {
     report_way(way(rt.alloc(), path(".."), path("../..")), "..")
 }

@@ -4,7 +4,9 @@ use super::{debug_has, hash_same};
 use path_runs::canonical::{canonical, collected, is_canonical, write_canonical};
 use path_runs::edits::{Edit, apply, rejoin};
 use path_runs::walk::{Turn, walk};
+use path_within::resolved::resolved;
 use path_within::way::way;
+use path_within::within::join_plain;
 use path_within::{Request, Root};
 use std::alloc::Global;
 use std::test::Fail;
@@ -47,9 +49,20 @@ fn runs_over_nothing(alloc: Global) -> bool {
         && collected(alloc, path("").components()).is_ok()
 }
 
-// A way between equal paths that are resolved as they stand is the empty path.
+// Without a byte nothing is resolved or joined.
+fn resolves_nothing(alloc: Global) -> bool {
+    resolved(alloc, path("")).is_ok() && join_plain(alloc, path(""), path("")).is_ok()
+}
+
+// A way from a path to itself is the empty path.
 fn leads_nowhere(alloc: Global) -> bool {
-    let paths = [path(""), path("/"), path(".."), path("../x"), path("/a/b")];
+    let paths = [
+        path(""),
+        path("/"),
+        path("../x"),
+        path("/a/b."),
+        path("a//../b/"),
+    ];
     paths
         .iter()
         .all(|same| matches!(way(alloc, *same, *same), Ok(Some(_))))
@@ -133,6 +146,7 @@ fn buffers_need_no_memory(rt: HostRuntime) -> Result<(), Fail> {
     assert!(rt; is_written_below("a/../b//c"));
     assert!(rt; spelling_is_written());
     assert!(rt; joins_nothing(alloc));
+    assert!(rt; resolves_nothing(alloc));
     assert!(rt; leads_nowhere(alloc));
     assert!(rt; applies_nothing(alloc, &mut foo));
     assert!(rt; is_edited(foo));

@@ -5,7 +5,8 @@ use std::cmp::Ordering;
 use std::test::Fail;
 use unix_path::bytes::UnixStr;
 use unix_path::scan::{
-    begins_with_parent, dot_before, ends_with_parent, idle_len, is_idle, is_open, is_trailing,
+    any_break, begins_with_parent, dot_before, ends_with_parent, first_break, idle_len, is_idle,
+    is_open, is_trailing,
 };
 use unix_path::{Component, Display, Path, StripPrefixError, is_separator};
 
@@ -86,6 +87,8 @@ fn is_scanned() -> bool {
     is_idle(b"/a", 0)
         && is_trailing(b"a/", 1)
         && idle_len(b"/./a") == 3
+        && first_break(b"a/b/.", 0) == 3
+        && any_break(b"a/") == 1
         && begins_with_parent(b"../a")
         && ends_with_parent(b"a/..")
         && is_open(b"a/")

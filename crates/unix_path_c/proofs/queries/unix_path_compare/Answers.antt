@@ -9,7 +9,8 @@ pub returns-clause-value : goal.returns-clause-value
 returns-clause-value c =
     let passed : to_z w32 (of_z w32 c.sign.result) ≡ c.sign.result = search rules in
     passed ∙ c.sign.ensures ∙ ap sign_of (c.cmp.ensures
-    ∙ ap₂ (λ s t. values_cmp (values s) (values t)) c.from_bytes.ensures c.from_bytes-2.ensures)
+    ∙ ap₂ (λ s t. values_cmp (values s) (values t)) c.from_bytes.ensures.bytes
+    c.from_bytes-2.ensures.bytes)
 
 pub returns-clause-less : goal.returns-clause-less
 returns-clause-less c =

@@ -7,7 +7,7 @@ pub returns : goal.returns
 returns c =
     let b = is_fresh c.args.path.now _ refl
     (ap length (c.as_path.ensures.bytes ∙ c.components-parts.ensures.rest
-    ∙ ap (λ s. rest s 0 0) c.from_bytes.ensures)) in
+    ∙ ap (λ s. rest s 0 0) c.from_bytes.ensures.bytes)) in
     record {
       parts = b.parts_are;
       values = b.values_are;

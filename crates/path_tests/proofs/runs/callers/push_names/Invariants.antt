@@ -1,6 +1,6 @@
 use Rattle.std.proofs.Common.{◌≡◌, ◌++◌, map}
 use Rattle.unix_path.specs.Cursor.{iter_bytes}
-use Rattle.unix_path.proofs.CursorLemmas.{name_bytes}
+use Rattle.unix_path.specs.Cursor.{name_bytes}
 use Rattle.path_tests.proofs.runs.callers.push_names.Given as goal
 
 abbrev pub invariant-loop-name : goal.invariant-loop-name

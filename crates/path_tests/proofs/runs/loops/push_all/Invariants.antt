@@ -1,7 +1,7 @@
 use Rattle.std.proofs.Common.{◌≡◌, ◌++◌, map}
 use Rattle.unix_path.specs.Cursor.{iter_bytes}
 use Rattle.unix_path.specs.Parts.{values, value_bytes}
-use Rattle.unix_path.proofs.CursorLemmas.{name_bytes}
+use Rattle.unix_path.specs.Cursor.{name_bytes}
 use Rattle.path_tests.proofs.runs.loops.push_all.Given as goal
 
 abbrev pub invariant-loop-name : goal.invariant-loop-name

@@ -2,7 +2,7 @@ use Rattle.std.proofs.Common.{◌≡◌, ◌++◌, map, reverse}
 use Rattle.std.specs.Iterator.Adapters.{rev_source}
 use Rattle.unix_path.specs.Cursor.{cursor_values}
 use Rattle.unix_path.specs.Parts.{values, value_bytes}
-use Rattle.unix_path.proofs.CursorLemmas.{name_bytes}
+use Rattle.unix_path.specs.Cursor.{name_bytes}
 use Rattle.path_tests.proofs.runs.loops.push_reversed.Given as goal
 
 abbrev pub invariant-loop-part : goal.invariant-loop-part

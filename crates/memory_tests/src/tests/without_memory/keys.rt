@@ -1,0 +1,49 @@
+//! Calls that promise to need no memory, of keys.
+use super::super::{drought, fails, path};
+use path_keys::{KeyError, PathKey, is_key, key_len, path_of, write_key};
+use std::alloc::Global;
+use std::test::Fail;
+
+// Whether a key takes other paths in the room that it has, and stays as it was if that is too
+// small.
+fn is_set_in_its_room(key: &mut PathKey) -> bool {
+    let is_set = key.set(path("/x")).is_ok() && key.as_bytes() == b"\x00\x01x\x00".as_slice();
+    let long = "a-path-that-is-longer-than-what-it-was-made-for/by-far";
+    let stays = fails(key.set(path(long))) && key.as_bytes() == b"\x00\x01x\x00".as_slice();
+    is_set && stays && key.set(path("")).is_ok() && key.as_bytes().is_empty()
+}
+
+// Whether bytes that are no key are told as that, and a key that there is no memory to read is not.
+fn is_told(alloc: Global) -> bool {
+    let is_no_key = match path_of(alloc, b"\x61\x00\x00\x01") {
+        Err(KeyError::NotAKey) => true,
+        _ => false,
+    };
+    let is_no_memory = match path_of(alloc, b"\x61\x00") {
+        Err(KeyError::Memory(_)) => true,
+        _ => false,
+    };
+    let is_empty = path_of(alloc, b"").is_ok();
+    is_no_key && is_no_memory && is_empty && is_key(b"\x61\x00")
+}
+
+// Whether a key is counted and written to a buffer.
+fn is_written() -> bool {
+    let mut buffer = [0u8; 4];
+    let len = write_key(path("a//b"), &mut buffer);
+    len == 4 && key_len(path("a//b")) == 4 && buffer == *b"\x61\x00\x62\x00"
+}
+
+#[test]
+fn keys_are_set_and_read_without_memory(rt: HostRuntime) -> Result<(), Fail> {
+    let alloc = rt.alloc();
+    let mut key = PathKey::of(alloc, path("a//b"))?;
+    let empty = PathKey::of(alloc, path(""))?;
+    let _dry = drought(alloc)?;
+    let is_set = is_set_in_its_room(&mut key);
+    let is_made = PathKey::of(alloc, path("")).is_ok() && fails(PathKey::of(alloc, path("a")));
+    let has_range = empty.range_under().is_ok();
+    let is_told = is_told(alloc);
+    assert!(rt; is_set && is_made && has_range && is_told && is_written());
+    Ok(())
+}

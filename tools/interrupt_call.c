@@ -1,0 +1,60 @@
+/* Loaded before the C library: the read of standard input with the number in INTERRUPTED_READ is
+ * interrupted, and the write of standard output with the number in INTERRUPTED_WRITE, counted from
+ * 1. Those with the numbers in FAILED_READ and FAILED_WRITE fail. At the end it tells on standard
+ * error how many reads and writes there were. */
+#define _GNU_SOURCE
+#include <dlfcn.h>
+#include <errno.h>
+#include <stdbool.h>
+#include <stdio.h>
+#include <stdlib.h>
+#include <unistd.h>
+
+static unsigned long reads, writes;
+
+static bool is_named(const char *name, unsigned long call)
+{
+    const char *number = getenv(name);
+    return number != NULL && strtoul(number, NULL, 10) == call;
+}
+
+static bool is_refused(const char *interrupted, const char *failed, unsigned long call)
+{
+    if (is_named(interrupted, call))
+        errno = EINTR;
+    else if (is_named(failed, call))
+        errno = EIO;
+    else
+        return false;
+    return true;
+}
+
+ssize_t read(int file, void *bytes, size_t size)
+{
+    static ssize_t (*next)(int, void *, size_t);
+    if (next == NULL)
+        next = (ssize_t (*)(int, void *, size_t))dlsym(RTLD_NEXT, "read");
+    if (file == STDIN_FILENO && is_refused("INTERRUPTED_READ", "FAILED_READ", ++reads))
+        return -1;
+    return next(file, bytes, size);
+}
+
+ssize_t write(int file, const void *bytes, size_t size)
+{
+    static ssize_t (*next)(int, const void *, size_t);
+    if (next == NULL)
+        next = (ssize_t (*)(int, const void *, size_t))dlsym(RTLD_NEXT, "write");
+    if (file == STDOUT_FILENO && is_refused("INTERRUPTED_WRITE", "FAILED_WRITE", ++writes))
+        return -1;
+    return next(file, bytes, size);
+}
+
+ssize_t __write(int file, const void *bytes, size_t size)
+{
+    return write(file, bytes, size);
+}
+
+__attribute__((destructor)) static void tell(void)
+{
+    fprintf(stderr, "reads: %lu, writes: %lu\n", reads, writes);
+}
