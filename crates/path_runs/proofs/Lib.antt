@@ -2,6 +2,7 @@ pub mod AllLemmas
 pub mod TogetherLemmas
 pub mod WalkLemmas
 pub mod WalkStepLemmas
+pub mod InOrderLemmas
 pub mod OrderLemmas
 pub mod IntervalLemmas
 pub mod AssociativeLemmas

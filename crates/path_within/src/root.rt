@@ -18,6 +18,7 @@ use crate::request::{Request, has_nul};
 use crate::resolved::resolved;
 use crate::runs::is_plain;
 use core::mem::replace_with;
+use path_runs::laws::walks_in_order;
 use std::alloc::{AllocError, Global};
 use std::error::Error;
 use std::fmt;
@@ -76,6 +77,7 @@ pub(crate) fn is_spelled_unless_up(path: Path<'_>) -> Option<bool>
     if is_plain(path) {
         return Some(true);
     }
+    walks_in_order();
     if path.components().any(is_root_or_up) {
         return None;
     }

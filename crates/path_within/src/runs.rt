@@ -5,6 +5,7 @@ ghost use Rattle.unix_path.specs.Parts.{values};
 ghost use Rattle.unix_path.specs.Scan.{is_idle};
 ghost use Rattle.path_within.specs.PlainPieces.{begins_plain, goes_on_plain, is_end, is_plain};
 
+use path_runs::laws::walks_in_order;
 use unix_bytes::search::first_place;
 use unix_path::Path;
 use unix_path::scan::{
@@ -122,5 +123,6 @@ impl<'a> Runs<'a> {
 pub(crate) fn part_count(path: Path<'_>) -> usize
     ensures { result ≡ length (values path.entry.bytes.now) }
 {
+    walks_in_order();
     path.components().count()
 }

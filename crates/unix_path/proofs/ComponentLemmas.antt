@@ -6,8 +6,6 @@ use Rattle.unix_path.specs.Parts.{values}
 use Rattle.unix_path.specs.Parts as parts
 use Rattle.unix_path.specs.Names.{name_of, file_name_of}
 use Rattle.unix_path.proofs.ParentLemmas.{file_name_of-push}
-use Rattle.unix_path.specs.Order.{value_cmp}
-use Rattle.unix_path.specs.contracts.cursor.component.ComponentOrd.TheImpl as the_order
 use Rattle.unix_path.specs.declared.cursor.component.Component.{Component}
 use Rattle.unix_path.specs.declared.cursor.component.Component.TheVariants.{RootDir, CurDir}
 use Rattle.unix_path.specs.declared.cursor.component.Component.TheVariants.{ParentDir, Normal}
@@ -40,23 +38,3 @@ pub file_name_of-other : (s w : List ℕ) (x : Component)
     → None ≡ file_name_of (values s)
 file_name_of-other s w x last differs =
     name_of-other x differs ∙ file_name_of-push s w (value_of x) last
-
--- components are ordered as their values
-pub cmp-values : (x y : Component)
-    → the_order.ghosts.cmp x y ≡ value_cmp (value_of x) (value_of y)
-cmp-values RootDir RootDir = refl
-cmp-values RootDir CurDir = refl
-cmp-values RootDir ParentDir = refl
-cmp-values RootDir (Normal m) = refl
-cmp-values CurDir RootDir = refl
-cmp-values CurDir CurDir = refl
-cmp-values CurDir ParentDir = refl
-cmp-values CurDir (Normal m) = refl
-cmp-values ParentDir RootDir = refl
-cmp-values ParentDir CurDir = refl
-cmp-values ParentDir ParentDir = refl
-cmp-values ParentDir (Normal m) = refl
-cmp-values (Normal n) RootDir = refl
-cmp-values (Normal n) CurDir = refl
-cmp-values (Normal n) ParentDir = refl
-cmp-values (Normal n) (Normal m) = refl

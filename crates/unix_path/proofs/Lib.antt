@@ -20,7 +20,6 @@ pub mod RestLemmas
 pub mod SourceLemmas
 pub mod CursorLemmas
 pub mod EightLemmas
-pub mod WalkLemmas
 pub mod JoinLemmas
 pub mod EndLemmas
 pub mod RootLemmas

@@ -9,15 +9,6 @@ use Rattle.unix_path.specs.Places.{IsTail, LiesIn}
 pub LiesIn-itself : (slice : Bor (List ℕ)) → LiesIn slice slice
 LiesIn-itself slice = record { block = refl; start = omega arith; end = omega arith }
 
--- what lies in a slice lies in any in which that slice lies
-pub LiesIn-trans : (part middle whole : Bor (List ℕ)) → LiesIn part middle → LiesIn middle whole
-    → LiesIn part whole
-LiesIn-trans part middle whole h k = record {
-  block = h.block ∙ k.block;
-  start = omega (arith, h.start, k.start);
-  end = omega (arith, h.end, k.end);
-}
-
 -- the end of a slice's end is its end
 pub IsTail-trans : (part middle whole : Bor (List ℕ)) → IsTail part middle → IsTail middle whole
     → IsTail part whole
@@ -41,14 +32,6 @@ IsTail-itself slice = record {
   bytes = ap (λ i. drop i slice.now) {x = 0} {y = length slice.now - length slice.now} (omega arith);
   block = refl;
   place = refl;
-}
-
--- a slice's end lies in it
-pub LiesIn-tail : (part whole : Bor (List ℕ)) → IsTail part whole → LiesIn part whole
-LiesIn-tail part whole h = record {
-  block = h.block;
-  start = omega (arith, h.place, h.short);
-  end = omega (arith, h.place);
 }
 
 -- a slice from one of its places on is its end

@@ -118,10 +118,7 @@ impl PathBuf {
 /// For `/tmp/` it gives `/` and `tmp`.
 impl<'a> IntoIterator for &'a PathBuf {
     ghost use Rattle.std.specs.Prelude.{◌^◌, map};
-    ghost use Rattle.std.specs.Iterator.Runs.{EveryRun, ItemsMapTo, ItemsMapToReversed};
-    ghost use Rattle.unix_bytes.specs.declared.bytes.UnixStr.{UnixStr};
-    ghost use Rattle.unix_path.specs.Cursor.{iter_rest, iter_bytes, name_bytes};
-    ghost use Rattle.unix_path.specs.Cursor.{GivesFirstName, GivesLastName};
+    ghost use Rattle.unix_path.specs.Cursor.{iter_rest, iter_bytes};
 
     type Item = UnixStr<'a>;
 
@@ -130,11 +127,7 @@ impl<'a> IntoIterator for &'a PathBuf {
     ghost into_iter_gives = { λ path walk.
         (iter_rest walk ≡ rest (path_bytes path.now) 0 0)
         × (iter_bytes walk ≡ map value_bytes (values (path_bytes path.now)))
-        × (length (iter_bytes walk) < 2 ^ 64)
-        × EveryRun {A = UnixStr} GivesFirstName
-        (λ run. ItemsMapTo run name_bytes (iter_bytes run.from))
-        × EveryRun {A = UnixStr} GivesLastName
-        (λ run. ItemsMapToReversed run name_bytes (iter_bytes run.from)) };
+        × (length (iter_bytes walk) < 2 ^ 64) };
 
     #[inline]
     fn into_iter(self) -> Iter<'a> {

@@ -17,12 +17,7 @@ ghost use Rattle.std.specs.Prelude.{IsTrue, IsFalse};
 ghost use Rattle.unix_path.specs.Parts.{RootDir, slash, values, value_bytes, is_rooted};
 ghost use Rattle.unix_path.specs.Rest.{rest};
 ghost use Rattle.unix_path.specs.Cursor.{cursor_rest, cursor_source, cursor_start, cursor_values};
-ghost use Rattle.unix_path.specs.Cursor.{GivesFirstPart, GivesLastPart};
 ghost use Rattle.unix_path.specs.Cursor.{iter_rest, iter_source, iter_start, iter_bytes};
-ghost use Rattle.unix_path.specs.Cursor.{name_bytes, GivesFirstName, GivesLastName};
-ghost use Rattle.unix_path.specs.Views.{value_of};
-ghost use Rattle.std.specs.Iterator.Runs.{EveryRun, ItemsMapTo, ItemsMapToReversed};
-ghost use Rattle.unix_bytes.specs.declared.bytes.UnixStr.{UnixStr};
 ghost use Rattle.unix_path.specs.Prefixes.{Begins};
 ghost use Rattle.unix_path.specs.Places.{LiesIn, place_of};
 
@@ -164,10 +159,6 @@ impl<'a> Path<'a> {
         ensures start { cursor_start result ≡ place_of self.now.bytes }
         ensures values { cursor_values result ≡ values self.now.bytes.now }
         ensures len { length (cursor_values result) < 2 ^ 64 }
-        ensures runs { EveryRun GivesFirstPart
-            (λ run. ItemsMapTo run value_of (cursor_values run.from)) }
-        ensures runs_back { EveryRun GivesLastPart
-            (λ run. ItemsMapToReversed run value_of (cursor_values run.from)) }
     {
         Components::new(self.bytes)
     }
@@ -183,10 +174,6 @@ impl<'a> Path<'a> {
         ensures start { iter_start result ≡ place_of self.now.bytes }
         ensures bytes { iter_bytes result ≡ map value_bytes (values self.now.bytes.now) }
         ensures len { length (iter_bytes result) < 2 ^ 64 }
-        ensures runs { EveryRun {A = UnixStr} GivesFirstName
-            (λ run. ItemsMapTo run name_bytes (iter_bytes run.from)) }
-        ensures runs_back { EveryRun {A = UnixStr} GivesLastName
-            (λ run. ItemsMapToReversed run name_bytes (iter_bytes run.from)) }
     {
         Iter::new(self.components())
     }
@@ -203,11 +190,7 @@ impl<'a> IntoIterator for Path<'a> {
     ghost into_iter_gives = { λ path walk.
         (iter_rest walk ≡ rest path.bytes.now 0 0)
         × (iter_bytes walk ≡ map value_bytes (values path.bytes.now))
-        × (length (iter_bytes walk) < 2 ^ 64)
-        × EveryRun {A = UnixStr} GivesFirstName
-        (λ run. ItemsMapTo run name_bytes (iter_bytes run.from))
-        × EveryRun {A = UnixStr} GivesLastName
-        (λ run. ItemsMapToReversed run name_bytes (iter_bytes run.from)) };
+        × (length (iter_bytes walk) < 2 ^ 64) };
 
     #[inline]
     fn into_iter(self) -> Iter<'a> {

@@ -12,8 +12,8 @@ ghost use Rattle.unix_path.specs.declared.path.Path.{Path};
 
 /// What is left of a walk comes in order from the front, and in reverse from behind.
 ///
-/// The calls that make a walk say the same of it; the law says it of a walk that was passed in.
-/// Calling it does nothing. Not in Rust's std.
+/// With it the prover closes what a chain over a walk gives. Calling it does nothing. Not in Rust's
+/// std.
 ///
 /// If `a` and `b` are left of a walk, `next` gives `a`, then `b`; `next_back` gives `b`, then `a`.
 pub fn walks_in_order()

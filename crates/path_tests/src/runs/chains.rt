@@ -10,6 +10,7 @@ ghost use Rattle.unix_path.specs.Parts.{Value, ParentDir, value_bytes, values};
 ghost use Rattle.unix_path.specs.Views.{value_of};
 
 use super::{is_list, is_name};
+use path_runs::laws::walks_in_order;
 use std::alloc::{AllocError, Global};
 use std::test::Fail;
 use unix_path::bytes::UnixStr;
@@ -18,12 +19,14 @@ use unix_path::{Component, Path, PathBuf};
 fn count(path: Path<'_>) -> usize
     ensures { result ≡ length (values path.entry.bytes.now) }
 {
+    walks_in_order();
     path.components().count()
 }
 
 fn nth<'a>(path: Path<'a>, n: usize) -> Option<Component<'a>>
     ensures { option_map value_of result ≡ slice_get (values path.entry.bytes.now) n }
 {
+    walks_in_order();
     path.components().nth(n)
 }
 
@@ -31,12 +34,14 @@ fn last<'a>(path: Path<'a>) -> Option<Component<'a>>
     ensures { let all = values path.entry.bytes.now in
         option_map value_of result ≡ slice_get all (length all - 1) }
 {
+    walks_in_order();
     path.components().last()
 }
 
 fn list_parts<'a>(alloc: Global, path: Path<'a>) -> Result<Vec<Component<'a>>, AllocError>
     ensures { IfOk result (λ list. map value_of list.items ≡ values path.entry.bytes.now) }
 {
+    walks_in_order();
     path.components().collect(alloc)
 }
 
@@ -44,6 +49,7 @@ fn list_back<'a>(alloc: Global, path: Path<'a>) -> Result<Vec<Component<'a>>, Al
     ensures { IfOk result (λ list. map value_of list.items
         ≡ reverse (values path.entry.bytes.now)) }
 {
+    walks_in_order();
     path.components().rev().collect(alloc)
 }
 
@@ -52,6 +58,7 @@ fn after_first<'a>(alloc: Global, path: Path<'a>) -> Result<Vec<Component<'a>>, 
     ensures { IfOk result (λ list. map value_of list.items
         ≡ drop 1 (values path.entry.bytes.now)) }
 {
+    walks_in_order();
     let mut parts = path.components();
     let _first = parts.next();
     parts.collect(alloc)
@@ -61,6 +68,7 @@ fn all_but_first<'a>(alloc: Global, path: Path<'a>) -> Result<Vec<Component<'a>>
     ensures { IfOk result (λ list. map value_of list.items
         ≡ drop 1 (values path.entry.bytes.now)) }
 {
+    walks_in_order();
     path.components().skip(1).collect(alloc)
 }
 
@@ -70,6 +78,7 @@ fn skip_parts<'a>(alloc: Global, path: Path<'a>, n: usize) -> Result<Vec<Compone
     ensures parts { IfOk result (λ list. (k : ℕ) → option_map value_of (slice_get list.items k)
         ≡ slice_get (values path.entry.bytes.now) (n + k)) }
 {
+    walks_in_order();
     path.components().skip(n).collect(alloc)
 }
 
@@ -77,6 +86,7 @@ fn lengths_back(alloc: Global, path: Path<'_>) -> Result<Vec<usize>, AllocError>
     ensures { IfOk result (λ list. list.items
         ≡ map (λ v. length (value_bytes v)) (reverse (values path.entry.bytes.now))) }
 {
+    walks_in_order();
     path.components()
         .rev()
         .map(|part| part.as_unix_str().len())
@@ -88,6 +98,7 @@ fn nth_with_number<'a>(path: Path<'a>, n: usize) -> Option<(usize, Component<'a>
     ensures part { option_map (λ x. value_of x.1) result
         ≡ slice_get (values path.entry.bytes.now) n }
 {
+    walks_in_order();
     path.components().enumerate().nth(n)
 }
 
@@ -98,6 +109,7 @@ fn shared_len(a: Path<'_>, b: Path<'_>) -> usize
         slice_index_or (values a.entry.bytes.now) k d
         ≡ slice_index_or (values b.entry.bytes.now) k d }
 {
+    walks_in_order();
     a.components()
         .zip(b.components())
         .take_while(|(x, y)| x == y)
@@ -108,12 +120,14 @@ fn all_names(path: Path<'_>) -> bool
     ensures { IsTrue result
         ↔ All (λ v. IsTrue (is_some (name_of v))) (values path.entry.bytes.now) }
 {
+    walks_in_order();
     path.components().all(|part| is_name(part))
 }
 
 fn goes_up(path: Path<'_>) -> bool
     ensures { IsTrue result ↔ Any (λ v. v ≡ ParentDir) (values path.entry.bytes.now) }
 {
+    walks_in_order();
     path.components().any(|part| part == Component::ParentDir)
 }
 
@@ -121,6 +135,7 @@ fn count_names(path: Path<'_>) -> usize
     ensures { result
         ≡ count_by (λ v. is_some (name_of v)) (values path.entry.bytes.now) }
 {
+    walks_in_order();
     path.components().filter(|part| is_name(*part)).count()
 }
 
@@ -130,6 +145,7 @@ fn names<'a>(alloc: Global, path: Path<'a>) -> Result<Vec<Component<'a>>, AllocE
     ensures len { IfOk result (λ list. length list.items
         ≡ count_by (λ v. is_some (name_of v)) (values path.entry.bytes.now)) }
 {
+    walks_in_order();
     path.components()
         .filter(|part| is_name(*part))
         .collect(alloc)
@@ -139,6 +155,7 @@ fn first_up<'a>(path: Path<'a>) -> Option<Component<'a>>
     ensures some { IsSome result ↔ Any (λ v. v ≡ ParentDir) (values path.entry.bytes.now) }
     ensures part { IfSome result (λ part. value_of part ≡ ParentDir) }
 {
+    walks_in_order();
     path.components().find(|part| *part == Component::ParentDir)
 }
 
@@ -149,6 +166,7 @@ fn place_up(path: Path<'_>) -> Option<usize>
     ensures first { IfSome result (λ i.
         All (λ v. v ≢ ParentDir) (take i (values path.entry.bytes.now))) }
 {
+    walks_in_order();
     path.components()
         .position(|part| part == Component::ParentDir)
 }
@@ -156,6 +174,7 @@ fn place_up(path: Path<'_>) -> Option<usize>
 fn count_byte_strings(path: Path<'_>) -> usize
     ensures { result ≡ length (values path.entry.bytes.now) }
 {
+    walks_in_order();
     path.iter().count()
 }
 
@@ -163,6 +182,7 @@ fn byte_strings_back<'a>(alloc: Global, path: Path<'a>) -> Result<Vec<UnixStr<'a
     ensures { IfOk result (λ list. map (λ name. name.bytes.now) list.items
         ≡ reverse (map value_bytes (values path.entry.bytes.now))) }
 {
+    walks_in_order();
     path.iter().rev().collect(alloc)
 }
 
@@ -170,6 +190,7 @@ fn nth_byte_string<'a>(path: Path<'a>, n: usize) -> Option<UnixStr<'a>>
     ensures { option_map (λ name. name.bytes.now) result
         ≡ slice_get (map value_bytes (values path.entry.bytes.now)) n }
 {
+    walks_in_order();
     path.into_iter().nth(n)
 }
 
@@ -177,12 +198,14 @@ fn last_of_buffer<'a>(path: &'a PathBuf) -> Option<UnixStr<'a>>
     ensures { let all = map value_bytes (values (path_bytes path.now)) in
         option_map (λ name. name.bytes.now) result ≡ slice_get all (length all - 1) }
 {
+    walks_in_order();
     path.into_iter().last()
 }
 
 fn count_ancestors(path: Path<'_>) -> usize
     ensures { result ≡ length (ancestors_of path.entry.bytes.now) }
 {
+    walks_in_order();
     path.ancestors().count()
 }
 
@@ -190,6 +213,7 @@ fn parents<'a>(alloc: Global, path: Path<'a>) -> Result<Vec<Path<'a>>, AllocErro
     ensures { IfOk result (λ list. map (λ parent. parent.bytes.now) list.items
         ≡ drop 1 (ancestors_of path.entry.bytes.now)) }
 {
+    walks_in_order();
     path.ancestors().skip(1).collect(alloc)
 }
 
@@ -197,6 +221,7 @@ fn nth_ancestor<'a>(path: Path<'a>, n: usize) -> Option<(usize, Path<'a>)>
     ensures { option_map (λ x. x.1.bytes.now) result
         ≡ slice_get (ancestors_of path.entry.bytes.now) n }
 {
+    walks_in_order();
     path.ancestors().enumerate().nth(n)
 }
 

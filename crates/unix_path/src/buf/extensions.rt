@@ -231,16 +231,16 @@ impl<'a> Path<'a> {
         ensures succeeds { has_slash extension.entry.bytes.now ≡ false
             → added_extension_of self.now.bytes.now extension.entry.bytes.now ≡ [] → IsOk result }
     {
-        let bytes = extension.bytes;
-        if has_slash(bytes) {
+        let added = extension.bytes;
+        if has_slash(added) {
             return Err(ExtensionError::Separator);
         }
-        let end = if bytes.is_empty() {
+        let end = if added.is_empty() {
             None
         } else {
             self.name_end()
         };
-        self.copy_with_end(alloc, end, Some(b'.'), bytes)
+        self.copy_with_end(alloc, end, Some(b'.'), added)
             .map_err(ExtensionError::from)
     }
 

@@ -48,7 +48,6 @@ pub(crate) struct LastPart<'a> {
 impl<'a> Components<'a> {
     ghost use Rattle.unix_path.specs.Cursor.{cursor_rest, cursor_source, cursor_start};
     ghost use Rattle.unix_path.specs.Cursor.{cursor_values, GivesFirstPart, GivesLastPart};
-    ghost use Rattle.std.specs.Iterator.Runs.{EveryRun, ItemsMapTo, ItemsMapToReversed};
 
     // The walk over the parts of a path. The filler behind the last part is left out at once: for
     // `foo/` it stands for `foo`.
@@ -59,10 +58,6 @@ impl<'a> Components<'a> {
         ensures start { cursor_start result ≡ place_of path.entry }
         ensures values { cursor_values result ≡ values path.now }
         ensures len { length (cursor_values result) < 2 ^ 64 }
-        ensures runs { EveryRun GivesFirstPart
-            (λ run. ItemsMapTo run value_of (cursor_values run.from)) }
-        ensures runs_back { EveryRun GivesLastPart
-            (λ run. ItemsMapToReversed run value_of (cursor_values run.from)) }
     {
         Components::whole(path)
     }

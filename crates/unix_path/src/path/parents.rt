@@ -1,7 +1,5 @@
 //! The parent of a path, and its ancestors.
 ghost use Rattle.std.specs.Prelude.{◌≡◌, ◌<◌, ◌≤◌, ◌^◌, length, take, option_map, IfSome};
-ghost use Rattle.std.specs.Iterator.{YieldsFirstBy};
-ghost use Rattle.std.specs.Iterator.Runs.{EveryRun, ItemsMapTo};
 ghost use Rattle.unix_path.specs.Parents.{parent_of, ancestors_of};
 ghost use Rattle.unix_path.specs.Places.{BeginsAt, LiesIn};
 
@@ -10,7 +8,6 @@ use crate::path::Path;
 
 impl<'a> Path<'a> {
     ghost use Rattle.unix_path.specs.Ancestors.{ancestors_left};
-    ghost use Rattle.unix_path.specs.declared.path.Path.{Path};
 
     /// The path without its last part, as a slice of this path's bytes, in the same memory, which
     /// begins where they begin. `None` if there is no part, or if the last is the root.
@@ -59,8 +56,6 @@ impl<'a> Path<'a> {
     pub fn ancestors(&self) -> Ancestors<'a>
         ensures left { ancestors_left result ≡ ancestors_of self.now.bytes.now }
         ensures len { length (ancestors_left result) < 2 ^ 64 }
-        ensures runs { EveryRun {A = Path} (YieldsFirstBy (λ path. path.bytes.now) ancestors_left)
-            (λ run. ItemsMapTo run (λ path. path.bytes.now) (ancestors_left run.from)) }
     {
         Ancestors::new(*self)
     }

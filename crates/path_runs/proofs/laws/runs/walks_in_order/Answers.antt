@@ -1,5 +1,5 @@
-use Rattle.unix_path.proofs.WalkLemmas.{parts_in_order, parts_in_reverse, names_in_order}
-use Rattle.unix_path.proofs.WalkLemmas.{names_in_reverse, ancestors_in_order}
+use Rattle.path_runs.proofs.InOrderLemmas.{parts_in_order, parts_in_reverse, names_in_order}
+use Rattle.path_runs.proofs.InOrderLemmas.{names_in_reverse, ancestors_in_order}
 use Rattle.path_runs.proofs.laws.runs.walks_in_order.Goals as goal
 
 pub returns-clause-parts : goal.returns-clause-parts
