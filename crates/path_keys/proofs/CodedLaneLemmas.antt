@@ -1,4 +1,4 @@
--- Sixteen bytes at once, as they stand in a key.
+-- Bytes of a path, many at once, as they stand in a key.
 use Rattle.std.proofs.Common.{◌≡◌, ℕ, ◌+◌, ◌%◌, Bool, true, false, cond, eqb, List, [], ◌∷◌}
 use Rattle.std.proofs.Common.{length, map, replicate, refl, ap, ap₂, ◌∙◌, arith}
 use Rattle.std.specs.Simd.Lanes.{zip2, sel_l, top}
@@ -37,17 +37,17 @@ selected [] = refl
 selected (x ∷ xs) = ap₂ (λ c cs. c ∷ cs) (lane_coded-is x) (selected xs)
 
 -- the lanes that the code computes are the bytes as they stand in a key
-pub coded_lanes : (xs : List ℕ) → length xs ≡ 16
-    → sel_l (map (top 7) (zip2 (λ a b. lane (eqb a b)) xs (replicate 16 47))) (replicate 16 0)
-    (sel_l (map (top 7) (zip2 (λ a b. lane (ltb a b)) xs (replicate 16 47)))
-    (zip2 (λ a b. (a + b) % 256) xs (replicate 16 1)) xs)
+pub coded_lanes : (n : ℕ) (xs : List ℕ) → length xs ≡ n
+    → sel_l (map (top 7) (zip2 (λ a b. lane (eqb a b)) xs (replicate n 47))) (replicate n 0)
+    (sel_l (map (top 7) (zip2 (λ a b. lane (ltb a b)) xs (replicate n 47)))
+    (zip2 (λ a b. (a + b) % 256) xs (replicate n 1)) xs)
     ≡ map coded xs
-coded_lanes xs l =
-    ap₂ (λ es ls. sel_l (map (top 7) es) (replicate 16 0)
-    (sel_l (map (top 7) ls) (zip2 (λ a b. (a + b) % 256) xs (replicate 16 1)) xs))
-    (zip2_splat (λ a b. lane (eqb a b)) xs 16 47 l)
-    (zip2_splat (λ a b. lane (ltb a b)) xs 16 47 l)
+coded_lanes n xs l =
+    ap₂ (λ es ls. sel_l (map (top 7) es) (replicate n 0)
+    (sel_l (map (top 7) ls) (zip2 (λ a b. (a + b) % 256) xs (replicate n 1)) xs))
+    (zip2_splat (λ a b. lane (eqb a b)) xs n 47 l)
+    (zip2_splat (λ a b. lane (ltb a b)) xs n 47 l)
     ∙ ap₂ (λ zs ss. sel_l (map (top 7) (map (λ x. lane (eqb x 47)) xs)) zs
     (sel_l (map (top 7) (map (λ x. lane (ltb x 47)) xs)) ss xs))
-    (splat_is_map xs 16 0 l) (zip2_splat (λ a b. (a + b) % 256) xs 16 1 l)
+    (splat_is_map xs n 0 l) (zip2_splat (λ a b. (a + b) % 256) xs n 1 l)
     ∙ selected xs

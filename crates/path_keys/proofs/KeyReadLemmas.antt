@@ -1,56 +1,60 @@
 -- What a key reads back as.
-use Rattle.std.proofs.Common.{◌≡◌, ◌<◌, ◌≤◌, ◌-◌, ℕ, List, length, take, refl, sym, ap, ◌∙◌, arith}
-use Rattle.std.proofs.Common.{true, Option, Some, None, is_some, IfSome, IsTrue}
+use Rattle.std.proofs.Common.{◌≡◌, ◌<◌, ◌≤◌, ◌-◌, ℕ, List, length, refl, sym, ap, ◌∙◌, arith}
+use Rattle.std.proofs.Common.{◌++◌, drop, ap₂, true, Option, Some, None, is_some, IfSome, IsTrue}
+use Rattle.std.proofs.Common.{length-take-le}
+use Rattle.std.proofs.lemmas.Bool.{cond-false, lt-leb}
 use Rattle.unix_path.specs.Parts.{Value, values}
+use Rattle.path_runs.specs.Buffer.{buffer_after}
 use Rattle.path_runs.specs.Spelling.{spelling_of}
+use Rattle.path_runs.proofs.OverlayLemmas.{buffer_after-fits}
 use Rattle.path_keys.specs.Keys.{key_of, IsKey}
-use Rattle.path_keys.specs.Codes.{text_of, AllFit, ReadsAs}
+use Rattle.path_keys.specs.Codes.{text_of, AllFit, HasPath, IsRead, ReadsAs}
 use Rattle.path_keys.proofs.CodeLemmas.{values-coded}
 use Rattle.path_keys.proofs.FitLemmas.{values-spelled}
 use Rattle.path_keys.proofs.OrderLemmas.{key_of-same}
 use Rattle.path_keys.proofs.TextLemmas.{text_of-spelled}
 
--- what is the key of values of a path is a path's
-pub reads_key : (key : List ℕ) (len : ℕ) → ReadsAs key len → IsKey key
-reads_key key len h = (spelling_of h.vs, ap key_of (values-spelled h.vs h.fit) ∙ h.key_is)
+-- the spelling of the values of a key is the path that it reads back as
+pub spelled_read : (key : List ℕ) (vs : List Value) → AllFit true vs → key_of vs ≡ key
+    → IsRead key (spelling_of vs)
+spelled_read key vs fit e =
+    let same = values-spelled vs fit in
+    record { key_is = ap key_of same ∙ e; spelled = ap spelling_of (sym same) }
 
--- the path that a key reads back as: the spelling of its values, and it has the key
-pub record IsRead (key path : List ℕ) : Type 0 where
-  pub key_is : key_of (values path) ≡ key
-  pub spelled : path ≡ spelling_of (values path)
+-- the path has a byte less than the text before others, if that has more than one
+pub path_longer : (key : List ℕ) (len : ℕ) → ReadsAs key len → 1 < len → HasPath key (len - 1)
+path_longer key len h more =
+    let text = text_of h.vs in
+    let is = (text_of-spelled h.vs h.fit text refl).0 (omega (arith, h.len_is)) in
+    record {
+      path = spelling_of h.vs;
+      read = spelled_read key h.vs h.fit h.key_is;
+      len_is = omega (
+        arith,
+        h.len_is,
+        ap length is,
+        length-take-le (length text - 1) text (omega arith),
+      );
+    }
 
-pub spelled_read : (key : List ℕ) (len : ℕ) (h : ReadsAs key len) (path : List ℕ)
-    → path ≡ spelling_of h.vs → IsRead key path
-spelled_read key len h path e =
-    let same : values path ≡ h.vs = ap values e ∙ values-spelled h.vs h.fit in
-    record { key_is = ap key_of same ∙ h.key_is; spelled = e ∙ ap spelling_of (sym same) }
+-- the path has as many bytes as the text before others, if that is none or a lone root
+pub path_lone : (key : List ℕ) (len : ℕ) → ReadsAs key len → len ≤ 1 → HasPath key len
+path_lone key len h few = record {
+  path = spelling_of h.vs;
+  read = spelled_read key h.vs h.fit h.key_is;
+  len_is = h.len_is
+      ∙ ap length ((text_of-spelled h.vs h.fit (text_of h.vs) refl).1 (omega (arith, h.len_is)));
+}
 
--- the text without a last slash is the path
-pub longer_read : (key : List ℕ) (len : ℕ) (h : ReadsAs key len) (text : List ℕ)
-    → ((vs : List Value) → AllFit true vs → key_of vs ≡ key → text ≡ text_of vs) → 1 < len
-    → IsRead key (take (len - 1) text)
-longer_read key len h text written more =
-    let is = written h.vs h.fit h.key_is in
-    let long : len ≡ length text = h.len_is ∙ sym (ap length is) in
-    spelled_read key len h (take (len - 1) text)
-    (ap (λ n. take (n - 1) text) long
-    ∙ (text_of-spelled h.vs h.fit text is).0 (omega (arith, long)))
+pub path_key : (key : List ℕ) (len : ℕ) → HasPath key len → IsKey key
+path_key key len h = (h.path, h.read.key_is)
 
--- the text of a lone root, or none, is the path
-pub lone_read : (key : List ℕ) (len : ℕ) (h : ReadsAs key len) (text : List ℕ)
-    → ((vs : List Value) → AllFit true vs → key_of vs ≡ key → text ≡ text_of vs) → len ≤ 1
-    → IsRead key text
-lone_read key len h text written few =
-    let is = written h.vs h.fit h.key_is in
-    let long : len ≡ length text = h.len_is ∙ sym (ap length is) in
-    spelled_read key len h text ((text_of-spelled h.vs h.fit text is).1 (omega (arith, long)))
-
--- bytes are a key exactly if the length of their text is known
-pub known_key : (key : List ℕ) (len : Option ℕ) → IfSome len (λ n. ReadsAs key n)
+-- bytes are a key exactly if the length of their path is known
+pub known_key : (key : List ℕ) (len : Option ℕ) → IfSome len (λ n. HasPath key n)
     → (len ≡ None → IsKey key → ⊥)
     → (IsTrue (is_some len) → IsKey key) × (IsKey key → IsTrue (is_some len))
 known_key key None some none = (λ is. cc, λ is. absurd (none refl is))
-known_key key (Some n) some none = (λ is. reads_key key n some, λ is. refl)
+known_key key (Some n) some none = (λ is. path_key key n some, λ is. refl)
 
 -- it is the canonical spelling of each path that has the key
 pub read_back : (key path s : List ℕ) → IsRead key path → key_of (values s) ≡ key
@@ -58,3 +62,28 @@ pub read_back : (key path s : List ℕ) → IsRead key path → key_of (values s
 read_back key path s h e =
     h.spelled ∙ ap spelling_of (key_of-same (values path) (values s) (values-coded path)
     (values-coded s) (h.key_is ∙ sym e))
+
+-- the length of the path of a key is that of the spelling of each path that has the key
+spelled_long : {key : List ℕ} {n : ℕ} (s : List ℕ) → HasPath key n → key_of (values s) ≡ key
+    → n ≡ length (spelling_of (values s))
+spelled_long {key} {n} s h e = h.len_is ∙ ap length (read_back key h.path s h.read e)
+
+pub path_long : {key : List ℕ} {n : ℕ} (s : List ℕ) → HasPath key n → key_of (values s) ≡ key
+    → Some n ≡ Some (length (spelling_of (values s)))
+path_long s h e = ap Some (spelled_long s h e)
+
+-- a buffer that has no room for the path of a key stays as it was
+pub kept_back : {key old : List ℕ} {n : ℕ} (s : List ℕ) → HasPath key n
+    → key_of (values s) ≡ key → length old < n → old ≡ buffer_after (spelling_of (values s)) old
+kept_back {key} {old} {n} s h e few =
+    sym (cond-false _ _ _ (lt-leb (length (spelling_of (values s))) (length old)
+    (omega (arith, spelled_long s h e))))
+
+-- a buffer in which the path of a key is written has the spelling of each path that has the key
+pub written_back : {key path : List ℕ} {n : ℕ} (old s : List ℕ) → HasPath key n
+    → IsRead key path → key_of (values s) ≡ key → n ≤ length old
+    → path ++ drop n old ≡ buffer_after (spelling_of (values s)) old
+written_back {key} {path} {n} old s h read e room =
+    let long = spelled_long s h e in
+    ap₂ (λ p k. p ++ drop k old) (read_back key path s read e) long
+    ∙ sym (buffer_after-fits (spelling_of (values s)) old (omega (arith, long)))

@@ -8,14 +8,16 @@ pub mod JoinLemmas
 pub mod RangeLemmas
 pub mod LastLemmas
 pub mod LoweredLemmas
-pub mod LoweredLaneLemmas
+pub mod DecodedLaneLemmas
 pub mod NameLemmas
 pub mod MarkLemmas
 pub mod FitLemmas
 pub mod TextLemmas
 pub mod ReadLemmas
+pub mod RunReadLemmas
 pub mod SpellLemmas
 pub mod KeyReadLemmas
+pub mod CutLemmas
 pub mod LastCodeLemmas
 pub mod BeginLemmas
 pub mod BreakLaneLemmas
@@ -23,3 +25,6 @@ pub mod CodedLaneLemmas
 pub mod StretchLemmas
 pub mod LeadLemmas
 pub mod RunLemmas
+pub mod KeyBreakLemmas
+pub mod KeyRunLemmas
+pub mod PlainLemmas

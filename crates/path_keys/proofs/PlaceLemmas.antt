@@ -1,4 +1,4 @@
--- Bytes that are put in a buffer, each changed by the same function: one by one, or 16 at once.
+-- Bytes that are put in a buffer, each changed by the same function: one by one, or many at once.
 use Rattle.std.proofs.Common.{◌≡◌, ℕ, ◌+◌, ◌<◌, ◌≤◌, List, [], ◌∷◌, ◌++◌, length, take, drop, map}
 use Rattle.std.proofs.Common.{get_or, set, refl, sym, ap, ap₂, ◌∙◌, arith}
 use Rattle.std.proofs.Common.{append_assoc, append-nil, length-append, length-set, length-drop}
@@ -83,25 +83,25 @@ drop-put_chunk n i xs ys l =
     (λ k few. get_or-drop n (put_chunk i xs ys) k 0
     ∙ get_or-put_chunk_above i xs ys (n + k) 0 (omega arith) ∙ sym (get_or-drop n xs k 0))
 
--- 16 more bytes are put there
-pub put_many : (f : ℕ → ℕ) (bytes old : List ℕ) (at i : ℕ) (out new : List ℕ)
-    → PutTo f bytes old at i out → i + 16 ≤ length bytes → at + length bytes ≤ length old
-    → new ≡ put_chunk (at + i) out (map f (take 16 (drop i bytes)))
-    → PutTo f bytes old at (i + 16) new
-put_many f bytes old at i out new h l room e =
-    let block = map f (take 16 (drop i bytes)) in
-    let size : length block ≡ 16 =
-    length-map (take 16 (drop i bytes)) f ∙ length-chunk i 16 bytes l in
+-- n more bytes are put there at once
+pub put_many : (n : ℕ) (f : ℕ → ℕ) (bytes old : List ℕ) (at i : ℕ) (out new : List ℕ)
+    → PutTo f bytes old at i out → i + n ≤ length bytes → at + length bytes ≤ length old
+    → new ≡ put_chunk (at + i) out (map f (take n (drop i bytes)))
+    → PutTo f bytes old at (i + n) new
+put_many n f bytes old at i out new h l room e =
+    let block = map f (take n (drop i bytes)) in
+    let size : length block ≡ n =
+    length-map (take n (drop i bytes)) f ∙ length-chunk i n bytes l in
     record {
       long = ap length e ∙ length-put_chunk (at + i) out block ∙ h.long;
-      before = ap (take (at + (i + 16))) e
-          ∙ take_more_put_chunk (at + i) out block (at + (i + 16)) (omega arith)
+      before = ap (take (at + (i + n))) e
+          ∙ take_more_put_chunk (at + i) out block (at + (i + n)) (omega arith)
           (omega (arith, h.long))
           ∙ ap (λ xs. xs ++ block) h.before
           ∙ append_assoc (take at old) (map f (take i bytes)) block
           ∙ ap (λ xs. take at old ++ xs)
-          (sym (ap (map f) (take-add i 16 bytes)
-          ∙ map-append f (take i bytes) (take 16 (drop i bytes))));
+          (sym (ap (map f) (take-add i n bytes)
+          ∙ map-append f (take i bytes) (take n (drop i bytes))));
       behind = ap (drop (at + length bytes)) e
           ∙ drop-put_chunk (at + length bytes) (at + i) out block (omega arith) ∙ h.behind;
     }

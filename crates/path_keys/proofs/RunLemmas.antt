@@ -23,11 +23,11 @@ use Rattle.unix_path.proofs.PlaceLemmas.{values-inner_parts}
 use Rattle.path_runs.proofs.PieceValueLemmas.{inner_values-pieces, names_of}
 use Rattle.path_keys.specs.Keys.{key_of}
 use Rattle.path_keys.specs.Codes.{AllFit, IsName}
-use Rattle.path_keys.specs.Stretches.{coded, FirstBreak, IsRun}
+use Rattle.path_keys.specs.Stretches.{coded, is_break_of, FirstBreak, FirstBreakOf, IsRun}
 use Rattle.path_keys.proofs.FitLemmas.{values-fit}
 use Rattle.path_keys.proofs.KeyLemmas.{key_of-cons, key_of-append}
 use Rattle.path_keys.proofs.LeadLemmas.{values-busy}
-use Rattle.path_keys.proofs.StretchLemmas.{Unbroken, later, later_names, some_piece, stretch_key}
+use Rattle.path_keys.proofs.StretchLemmas.{later, later_names, some_piece, stretch_key}
 
 -- a string that begins with `..` has that, and then the values of what follows
 values-up : (s : List ℕ) → begins_with_parent s ≡ true
@@ -64,7 +64,7 @@ run-up s busy e = record {
 }
 
 -- a string that is cut at a slash has the pieces before it and those behind it
-slice_split-append : (t r : List ℕ)
+pub slice_split-append : (t r : List ℕ)
     → slice_split is_slash (t ++ slash ∷ r) ≡ slice_split is_slash t ++ slice_split is_slash r
 slice_split-append [] r = refl
 slice_split-append (x ∷ t) r = by_test (eqb x 47)
@@ -91,28 +91,29 @@ inner_values-cut t r =
     ∙ sym (ap₂ (λ vs ws. vs ++ ws) (inner_values-pieces t) (inner_values-pieces (slash ∷ r)))
 
 -- the byte behind i reads the same in the string up to its first break
-next_same : (s : List ℕ) (n i : ℕ) → FirstBreak s n → i < n
-    → get_or (take n s) (i + 1) 47 ≡ get_or s (i + 1) 47
-next_same s n i h l = ⊎_elim
-    (λ before. get_or-take n s (i + 1) 47 before)
+next_same : (m p : ℕ) (s : List ℕ) (n i : ℕ) → FirstBreakOf m p s n → i < n
+    → get_or (take n s) (i + 1) m ≡ get_or s (i + 1) m
+next_same m p s n i h l = ⊎_elim
+    (λ before. get_or-take n s (i + 1) m before)
     (λ last.
-    get_or_past (take n s) (i + 1) 47 (omega (arith, length-take-le n s h.in_range))
-    ∙ sym (ap (λ k. get_or s k 47) {x = i + 1} {y = n} (omega arith) ∙ end))
+    get_or_past (take n s) (i + 1) m (omega (arith, length-take-le n s h.in_range))
+    ∙ sym (ap (λ k. get_or s k m) {x = i + 1} {y = n} (omega arith) ∙ end))
     (cases_lt (i + 1) n)
   where
-    end : get_or s n 47 ≡ 47
+    end : get_or s n m ≡ m
     end = ⊎_elim
-        (λ inside. get_or_default s n 47 0 inside
-        ∙ eqb-true _ 47 (and_parts (eqb (get_or s n 0) 47) _ (h.breaks inside)).0)
-        (λ past. get_or_past s n 47 past)
+        (λ inside. get_or_default s n m 0 inside
+        ∙ eqb-true _ m (and_parts (eqb (get_or s n 0) m) _ (h.breaks inside)).0)
+        (λ past. get_or_past s n m past)
         (cases_lt n (length s))
 
 -- the string up to its first break has no break
-unbroken_to : (s : List ℕ) (n : ℕ) → FirstBreak s n → Unbroken (take n s)
-unbroken_to s n h i l =
+pub unbroken_to : (m p : ℕ) (s : List ℕ) (n : ℕ) → FirstBreakOf m p s n
+    → (i : ℕ) → i < length (take n s) → is_break_of m p (take n s) i ≡ false
+unbroken_to m p s n h i l =
     let few : i < n = omega (arith, length-take-le n s h.in_range) in
-    ap₂ (λ x y. eqb x 47 && (eqb y 47 || eqb y 46)) (get_or-take n s i 0 few)
-    (next_same s n i h few) ∙ h.none_before i few
+    ap₂ (λ x y. eqb x m && (eqb y m || eqb y p)) (get_or-take n s i 0 few)
+    (next_same m p s n i h few) ∙ h.none_before i few
 
 -- the string is what stands before its first break, and then a slash, or nothing
 cut_at : (s : List ℕ) (n : ℕ) → FirstBreak s n → n < length s
@@ -183,7 +184,8 @@ run-names s n l busy e h =
     let names : AllByRecursion IsName (slice_split is_slash t) =
     subst (AllByRecursion IsName) (sym first.1) (
       first_name s l busy e,
-      subst (λ ps. AllByRecursion IsName (later ps)) first.1 (later_names t (unbroken_to s n h)),
+      subst (λ ps. AllByRecursion IsName (later ps)) first.1
+          (later_names t (unbroken_to 47 46 s n h)),
     ) in
     record {
       some = ⊎_elim (λ some. some) (λ none. absurd (false≢true

@@ -1,21 +1,23 @@
--- A key whose path is written code by code.
+-- A key whose path is written run by run.
 use Rattle.std.proofs.Common.{◌≡◌, ◌≤◌, ◌+◌, ℕ, Bool, true, false, List, [], ◌∷◌, ◌++◌}
 use Rattle.std.proofs.Common.{length, drop, refl, sym, ap, ◌∙◌, arith, subst, append_assoc}
-use Rattle.std.proofs.Common.{append-nil, length-append}
-use Rattle.std.proofs.lemmas.List.{drop_all}
+use Rattle.std.proofs.Common.{append-nil, length-append, length-drop}
+use Rattle.std.proofs.lemmas.List.{append_cancel_left, drop_all}
 use Rattle.unix_path.specs.Parts.{Value}
 use Rattle.path_runs.specs.Overlay.{overlay}
 use Rattle.path_runs.proofs.OverlayLemmas.{buffer_after-fits}
 use Rattle.path_runs.proofs.WritingLemmas.{WritesOn, writes_first, writes_stretch, writes_room}
 use Rattle.path_runs.proofs.WritingLemmas.{writes_last}
-use Rattle.path_keys.specs.Keys.{code, key_of}
-use Rattle.path_keys.specs.Codes.{slashed, text_of, Fits, AllFit, HasNoCode, ReadsAs, TakesCode}
-use Rattle.path_keys.proofs.CodeLemmas.{code-length, codes_split}
-use Rattle.path_keys.proofs.FitLemmas.{AllFit-coded, Fits-coded}
-use Rattle.path_keys.proofs.KeyLemmas.{key_of-nil, key_of-cons}
-use Rattle.path_keys.proofs.OrderLemmas.{key_of-same}
-use Rattle.path_keys.proofs.ReadLemmas.{starts, fit_next, starts-push}
-use Rattle.path_keys.proofs.TextLemmas.{text_of-cons, text_of-nil}
+use Rattle.path_keys.specs.Keys.{key_of}
+use Rattle.path_keys.specs.Codes.{text_of, AllFit, ReadsAs}
+use Rattle.path_keys.specs.Runs.{run_code, run_text, HoldsNone, TakesRun}
+use Rattle.path_keys.specs.declared.runs.Run.{Run}
+use Rattle.path_keys.proofs.FitLemmas.{AllFit-coded}
+use Rattle.path_keys.proofs.KeyLemmas.{key_of-append}
+use Rattle.path_keys.proofs.OrderLemmas.{key_of-begins, key_of-same}
+use Rattle.path_keys.proofs.ReadLemmas.{starts}
+use Rattle.path_keys.proofs.RunReadLemmas.{fit_rest, starts-more}
+use Rattle.path_keys.proofs.TextLemmas.{text_of-append, text_of-nil}
 
 -- the text of some values of the key is written at the beginning of `old`; the others are left
 pub record SpellsOn (key rest old : List ℕ) (first : Bool) (at : ℕ) (out : List ℕ) : Type 0 where
@@ -40,85 +42,89 @@ spells_none key old h = record {
   written = writes_first (text_of h.vs) old refl;
 }
 
--- the values that are left begin with the one whose code is taken
-record NextIs (rest : List ℕ) (ws : List Value) (v : Value) : Type 0 where
+-- the values that are left begin with those of the run that is taken
+record NextIs (rest : List ℕ) (ws vs : List Value) (run : Run) : Type 0 where
   more : List Value
-  is : ws ≡ v ∷ more
-  left : drop (length (code v)) rest ≡ key_of more
+  is : ws ≡ vs ++ more
+  left : drop (length (run_code run)) rest ≡ key_of more
 
-next_is : {first : Bool} {rest : List ℕ} {v : Value} (u : Bool) (ws : List Value) → AllFit u ws
-    → rest ≡ key_of ws → TakesCode first rest v → NextIs rest ws v
-next_is {first} {rest} {v} u [] h e k =
-    absurd (omega (
-      arith,
-      ap length e,
-      ap length key_of-nil,
-      ap length k.is,
-      code-length v,
-      length-append (code v) (drop (length (code v)) rest),
-    ))
-next_is {first} {rest} {v} u (w ∷ ws) h e k =
-    let split = codes_split v w (drop (length (code v)) rest) (key_of ws)
-    (Fits-coded first v k.fits) (Fits-coded u w h.0) (sym k.is ∙ e ∙ key_of-cons w ws) in
-    record { more = ws; is = ap (λ x. x ∷ ws) (sym split.0); left = split.1 }
-
-left_fit : (us ws : List Value) → AllFit true (us ++ ws) → (u : Bool) × AllFit u ws
-left_fit [] ws h = (true, h)
-left_fit (u ∷ us) ws h = (false, behind us h.1)
-  where
-    behind : (us : List Value) → AllFit false (us ++ ws) → AllFit false ws
-    behind [] h = h
-    behind (u ∷ us) h = behind us h.1
+next_is : {first : Bool} {rest : List ℕ} {run : Run} (u : Bool) (ws : List Value) → AllFit u ws
+    → rest ≡ key_of ws → (k : TakesRun first rest run) → NextIs rest ws k.vs run
+next_is {first} {rest} {run} u ws h e k =
+    let left = drop (length (run_code run)) rest in
+    let whole : key_of k.vs ++ left ≡ key_of ws =
+    ap (λ c. c ++ left) k.code_is ∙ sym k.is ∙ e in
+    let begins = key_of-begins k.vs ws (AllFit-coded first k.vs k.fit) (AllFit-coded u ws h) left
+    whole in
+    record {
+      more = begins.0;
+      is = sym begins.1;
+      left = append_cancel_left (key_of k.vs) left (key_of begins.0)
+          (whole ∙ ap key_of (sym begins.1) ∙ key_of-append k.vs begins.0);
+    }
 
 -- the text of the values that are left begins with that of the next
-text_left : {ws more : List Value} {v : Value} → ws ≡ v ∷ more
-    → text_of ws ≡ slashed v ++ text_of more
-text_left {ws} {more} {v} e = ap text_of e ∙ text_of-cons v more
+text_left : {ws : List Value} (vs more : List Value) (run : Run) → ws ≡ vs ++ more
+    → text_of vs ≡ run_text run → text_of ws ≡ run_text run ++ text_of more
+text_left {ws} vs more run e text =
+    ap text_of e ∙ text_of-append vs more ∙ ap (λ t. t ++ text_of more) text
 
--- there is room for the text of the next value
-pub spells_room : {key rest old out : List ℕ} {first : Bool} {at : ℕ} {v : Value}
-    → SpellsOn key rest old first at out → TakesCode first rest v
-    → at + length (slashed v) ≤ length old
-spells_room {key} {rest} {old} {out} {first} {at} {v} h k =
-    let some = left_fit h.us h.ws h.fit in
-    let next = next_is some.0 h.ws some.1 h.rest_is k in
-    writes_room (slashed v) (text_of next.more) h.written (text_left next.is)
-    (omega (arith, h.room))
+-- there is room for the text of the next run
+pub spells_room : {key rest old out : List ℕ} {first : Bool} {at : ℕ} {run : Run}
+    → SpellsOn key rest old first at out → TakesRun first rest run
+    → at + length (run_text run) ≤ length old
+spells_room {key} {rest} {old} {out} {first} {at} {run} h k =
+    let next = next_is (starts h.us) h.ws (fit_rest h.us h.ws h.fit) h.rest_is k in
+    writes_room (run_text run) (text_of next.more) h.written
+    (text_left k.vs next.more run next.is k.text_is) (omega (arith, h.room))
 
--- the text of one more value is written
-pub spells_one : {key rest old out more new : List ℕ} {first : Bool} {at end : ℕ} {v : Value}
-    → SpellsOn key rest old first at out → TakesCode first rest v
-    → more ≡ drop (length (code v)) rest → new ≡ overlay at (slashed v) out
-    → end ≡ at + length (slashed v) → SpellsOn key more old false end new
-spells_one {key} {rest} {old} {out} {more} {new} {first} {at} {end} {v} h k e placed ends =
-    let some = left_fit h.us h.ws h.fit in
-    let next = next_is some.0 h.ws some.1 h.rest_is k in
-    let all : h.us ++ h.ws ≡ (h.us ++ v ∷ []) ++ next.more =
-    ap (λ ws. h.us ++ ws) next.is ∙ sym (append_assoc h.us (v ∷ []) next.more) in
+-- the buffer is as long as before
+pub spells_long : {key rest old out : List ℕ} {first : Bool} {at : ℕ}
+    → SpellsOn key rest old first at out → length out ≡ length old
+spells_long {key} {rest} {old} {out} {first} {at} h =
+    let w = h.written in
+    omega (
+      arith,
+      h.room,
+      ap length w.out_is,
+      ap length w.whole_is,
+      length-append w.start (text_of h.ws),
+      length-append w.start (drop (length w.start) old),
+      length-drop (length w.start) old,
+    )
+
+-- the text of one more run is written
+pub spells_one : {key rest old out more new : List ℕ} {first : Bool} {at end : ℕ} {run : Run}
+    → SpellsOn key rest old first at out → TakesRun first rest run
+    → more ≡ drop (length (run_code run)) rest → new ≡ overlay at (run_text run) out
+    → end ≡ at + length (run_text run) → SpellsOn key more old false end new
+spells_one {key} {rest} {old} {out} {more} {new} {first} {at} {end} {run} h k e placed ends =
+    let next = next_is (starts h.us) h.ws (fit_rest h.us h.ws h.fit) h.rest_is k in
+    let all : h.us ++ h.ws ≡ (h.us ++ k.vs) ++ next.more =
+    ap (λ ws. h.us ++ ws) next.is ∙ sym (append_assoc h.us k.vs next.more) in
     record {
-      us = h.us ++ v ∷ [];
+      us = h.us ++ k.vs;
       ws = next.more;
       fit = subst (AllFit true) all h.fit;
-      first_is = sym (starts-push h.us v);
+      first_is = sym (starts-more h.us k.vs k.some);
       key_is = ap key_of (sym all) ∙ h.key_is;
       rest_is = e ∙ next.left;
       room = ap (λ vs. length (text_of vs)) (sym all) ∙ h.room;
       written = subst (λ vs. WritesOn (text_of vs) old end new (text_of next.more)) all
-          (writes_stretch (slashed v) (text_of next.more) h.written (text_left next.is) placed
-          ends);
+          (writes_stretch (run_text run) (text_of next.more) h.written
+          (text_left k.vs next.more run next.is k.text_is) placed ends);
     }
 
--- if the code of no value that may stand there is left, no value is
+-- if what is left is the key of no values that may stand there, none are left
 nothing_left : {first : Bool} {rest : List ℕ} (us ws : List Value) → AllFit true (us ++ ws)
-    → first ≡ starts us → rest ≡ key_of ws → HasNoCode first rest → ws ≡ []
+    → first ≡ starts us → rest ≡ key_of ws → HoldsNone first rest → ws ≡ []
 nothing_left us [] h is e none = refl
 nothing_left us (w ∷ ws) h is e none =
-    absurd (none w (key_of ws) (subst (λ b. Fits b w) (sym is) (fit_next us w ws h))
-    (sym (key_of-cons w ws) ∙ sym e))
+    absurd (none w ws (subst (λ b. AllFit b (w ∷ ws)) (sym is) (fit_rest us (w ∷ ws) h)) (sym e))
 
--- if no code is left, the text of all values is written
+-- if no run is left, the text of all values is written
 pub spells_all : {key rest old out : List ℕ} {first : Bool} {at : ℕ}
-    → SpellsOn key rest old first at out → HasNoCode first rest
+    → SpellsOn key rest old first at out → HoldsNone first rest
     → (vs : List Value) → AllFit true vs → key_of vs ≡ key → out ≡ text_of vs
 spells_all {key} {rest} {old} {out} {first} {at} h none vs fit e =
     let all = h.us ++ h.ws in

@@ -43,7 +43,7 @@ coded-pieces (x ∷ s) = by_test (eqb x 47)
     ∙ sym (ap piece_codes (slice_split-cons_no is_slash x s e ∙ ap (onto_first x) some.2)))
 
 -- pieces that are names have these as their values
-names_of-names : (ps : List (List ℕ)) → AllByRecursion IsName ps → names_of ps ≡ map Normal ps
+pub names_of-names : (ps : List (List ℕ)) → AllByRecursion IsName ps → names_of ps ≡ map Normal ps
 names_of-names [] h = refl
 names_of-names (p ∷ ps) h =
     rw (h.0.some, h.0.no_dot, h.0.no_up) (ap (λ vs. Normal p ∷ vs) (names_of-names ps h.1))

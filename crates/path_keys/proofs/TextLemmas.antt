@@ -48,7 +48,7 @@ no_root ParentDir h e = cc
 no_root (Normal name) h e = cc
 
 -- values of which none is a root, before others, are those with slashes between and behind
-text_of-slashed : (v : Value) (vs : List Value) → (v ≡ RootDir → ⊥) → AllFit false vs
+pub text_of-slashed : (v : Value) (vs : List Value) → (v ≡ RootDir → ⊥) → AllFit false vs
     → text_of (v ∷ vs) ≡ slashed_bytes (v ∷ vs) ++ slash ∷ []
 text_of-slashed v [] n h =
     text_of-cons v [] ∙ ap (λ t. slashed v ++ t) text_of-nil ∙ append-nil (slashed v)
@@ -61,7 +61,7 @@ text_of-slashed v (w ∷ vs) n h =
     ∙ sym (append_assoc (value_bytes v) (slash ∷ more) (slash ∷ []))
 
 -- the text is the spelling; or it is a slash longer, and the spelling isn't empty
-data IsText (text spelled : List ℕ) : Type 0 where
+pub data IsText (text spelled : List ℕ) : Type 0 where
   lone : length text ≤ 1 → text ≡ spelled → IsText text spelled
   longer : 0 < length spelled → text ≡ spelled ++ slash ∷ [] → IsText text spelled
 
@@ -100,7 +100,7 @@ text_rooted (v ∷ vs) h =
     ∙ ap (λ t. slash ∷ t) (text_of-slashed v vs (no_root v h.0) h.1)
     ∙ ap (λ s. s ++ slash ∷ []) (sym e))
 
-text_is : (vs : List Value) → AllFit true vs → IsText (text_of vs) (spelling_of vs)
+pub text_is : (vs : List Value) → AllFit true vs → IsText (text_of vs) (spelling_of vs)
 text_is [] h = lone (omega (arith, ap length text_of-nil)) (text_of-nil ∙ sym spelling_of-nil)
 text_is (RootDir ∷ vs) h = text_rooted vs h.1
 text_is (CurDir ∷ vs) h = text_longer CurDir vs (λ e. cc) (omega arith) h.1

@@ -4,7 +4,8 @@ use Rattle.std.specs.Prelude.{map, nat_le, if◌then◌else◌, ⊤}
 use Rattle.std.specs.List.{AllByRecursion, flat_map}
 use Rattle.std.specs.Str.{bytes_eq}
 use Rattle.unix_path.specs.Parts.{slash, is_slash, cur_dir, parent_dir}
-use Rattle.unix_path.specs.Parts.{Value, RootDir, CurDir, ParentDir, Normal}
+use Rattle.unix_path.specs.Parts.{Value, RootDir, CurDir, ParentDir, Normal, values}
+use Rattle.path_runs.specs.Spelling.{spelling_of}
 use Rattle.path_keys.specs.Keys.{code, key_of, raised}
 use Rattle.path_keys.specs.declared.codes.Code.{Code}
 use Rattle.path_keys.specs.declared.codes.Code.TheVariants.{Root, Dot, Up, Name}
@@ -72,3 +73,14 @@ pub record ReadsAs (key : List ℕ) (n : ℕ) : Type 0 where
   pub fit : AllFit true vs
   pub key_is : key_of vs ≡ key
   pub len_is : n ≡ length (text_of vs)
+
+-- the path that a key reads back as: the spelling of its values, and it has the key
+pub record IsRead (key path : List ℕ) : Type 0 where
+  pub key_is : key_of (values path) ≡ key
+  pub spelled : path ≡ spelling_of (values path)
+
+-- the path that the key reads back as has n bytes
+pub record HasPath (key : List ℕ) (n : ℕ) : Type 0 where
+  pub path : List ℕ
+  pub read : IsRead key path
+  pub len_is : n ≡ length path

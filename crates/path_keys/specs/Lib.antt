@@ -5,4 +5,5 @@ pub mod Codes
 pub mod Errors
 pub mod Lasts
 pub mod Stretches
+pub mod Runs
 pub mod Laws

@@ -9,17 +9,25 @@ use Rattle.unix_path.specs.Scan.{begins_with_parent}
 use Rattle.path_runs.specs.Overlay.{overlay}
 use Rattle.path_keys.specs.Keys.{key_of, raised}
 
--- the byte at i is a slash, and behind it stands another, a dot, or nothing
-abbrev pub is_break : List ℕ → ℕ → Bool
-is_break s i =
-    let next = slice_index_or s (i + 1) slash in
-    slice_index s i == slash && (next == slash || next == dot)
+-- the byte at i is this mark, and behind it stands another, this dot, or nothing
+abbrev pub is_break_of : ℕ → ℕ → List ℕ → ℕ → Bool
+is_break_of mark point s i =
+    let next = slice_index_or s (i + 1) mark in
+    slice_index s i == mark && (next == mark || next == point)
 
 -- the first break of s is at `at`, or s has none and is `at` bytes long
-pub record FirstBreak (s : List ℕ) (at : ℕ) : Type 0 where
+pub record FirstBreakOf (mark point : ℕ) (s : List ℕ) (at : ℕ) : Type 0 where
   pub in_range : at ≤ length s
-  pub breaks : at < length s → is_break s at ≡ true
-  pub none_before : (i : ℕ) → i < at → is_break s i ≡ false
+  pub breaks : at < length s → is_break_of mark point s at ≡ true
+  pub none_before : (i : ℕ) → i < at → is_break_of mark point s i ≡ false
+
+-- the byte at i is a slash, and behind it stands another, a dot, or nothing
+abbrev pub is_break : List ℕ → ℕ → Bool
+is_break = is_break_of slash dot
+
+-- that of a path
+abbrev pub FirstBreak : List ℕ → ℕ → Type 0
+FirstBreak = FirstBreakOf slash dot
 
 -- the byte of a stretch in a key: the end mark of a name where the path has a slash
 abbrev pub coded : ℕ → ℕ

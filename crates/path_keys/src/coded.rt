@@ -1,5 +1,5 @@
 //! The bytes of names in a key, put there 16 at a time.
-ghost use Rattle.std.specs.Prelude.{◌≡◌, ◌+◌, ◌≤◌, length, map, take, drop};
+ghost use Rattle.std.specs.Prelude.{◌≡◌, ◌+◌, ◌<◌, ◌≤◌, length, map, take, drop};
 ghost use Rattle.std.specs.Simd.Lanes.{put_chunk};
 ghost use Rattle.path_runs.specs.Overlay.{overlay};
 ghost use Rattle.path_keys.specs.Stretches.{coded};
@@ -43,6 +43,38 @@ fn place_lanes(out: &mut [u8], to: usize, bytes: &[u8], from: usize)
         .copy_to_slice(&mut out[to..]);
 }
 
+// Overwrites 8 bytes of `out` from `to` on with those of the stretch from `from` on in a key.
+#[inline(always)]
+fn place_half(out: &mut [u8], to: usize, bytes: &[u8], from: usize)
+    requires room { to + 8 ≤ length out.old }
+    requires some { from + 8 ≤ length bytes.now }
+    ensures { out.new ≡ put_chunk to out.old (map coded (take 8 (drop from bytes.now))) }
+{
+    let here = u8x8::from_slice(&bytes[from..]);
+    let slash = u8x8::splat(b'/');
+    let raised = here.simd_lt(slash).select(here + u8x8::splat(1), here);
+    here.simd_eq(slash)
+        .select(u8x8::splat(0), raised)
+        .copy_to_slice(&mut out[to..]);
+}
+
+// Overwrites the bytes of `out` from `at` on with those of the stretch, fewer than 16 bytes, in a
+// key.
+#[inline]
+fn place_short(out: &mut [u8], at: usize, bytes: &[u8])
+    requires room { at + length bytes.now ≤ length out.old }
+    requires few { length bytes.now < 16 }
+    ensures { out.new ≡ overlay at (map coded bytes.now) out.old }
+{
+    if bytes.len() < 8 {
+        place_few(out, at, bytes);
+        return;
+    }
+    let last = bytes.len() - 8;
+    place_half(out, at, bytes, 0);
+    place_half(out, at + last, bytes, last);
+}
+
 // Overwrites the bytes of `out` from `at` on with those of the stretch in a key.
 #[inline]
 pub(crate) fn place_coded(out: &mut [u8], at: usize, bytes: &[u8])
@@ -50,7 +82,7 @@ pub(crate) fn place_coded(out: &mut [u8], at: usize, bytes: &[u8])
     ensures { out.new ≡ overlay at (map coded bytes.now) out.old }
 {
     if bytes.len() < 16 {
-        place_few(out, at, bytes);
+        place_short(out, at, bytes);
         return;
     }
     let last = bytes.len() - 16;

@@ -4,7 +4,7 @@ ghost use Rattle.std.specs.Prelude.{◌↔◌, false, option_map, None, IfSome, 
 ghost use Rattle.unix_path.specs.Names.{name_of};
 ghost use Rattle.unix_path.specs.Parts.{Normal, RootDir, Value};
 ghost use Rattle.path_keys.specs.Keys.{code, raised};
-ghost use Rattle.path_keys.specs.Codes.{code_value, slashed, lowered, Fits, HasNoCode, IsName};
+ghost use Rattle.path_keys.specs.Codes.{code_value, lowered, Fits, HasNoCode, IsName};
 ghost use Rattle.path_keys.specs.Codes.{IsRaised, TakesCode};
 
 use unix_bytes::search::first_place;
@@ -29,20 +29,6 @@ impl<'a> Code<'a> {
         match self {
             Code::Name(name) => name.len() + 1,
             _ => 2,
-        }
-    }
-
-    // How many bytes its value has in a path before others.
-    #[inline]
-    pub(crate) fn text_len(self) -> usize
-        requires { length (slashed (code_value self)) < 2 ^ 64 }
-        ensures { result ≡ length (slashed (code_value self.entry)) }
-    {
-        match self {
-            Code::Root => 1,
-            Code::Dot => 2,
-            Code::Up => 3,
-            Code::Name(name) => name.len() + 1,
         }
     }
 

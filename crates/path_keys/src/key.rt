@@ -51,7 +51,8 @@ impl PathKey {
     ///
     /// For `.//a/./b/` it is 00 02 61 00 62 00.
     pub fn of(alloc: Global, path: Path<'_>) -> Result<PathKey, AllocError>
-        ensures { IfOk result (λ key. key_bytes key ≡ key_of (values path.entry.bytes.now)) }
+        ensures key { IfOk result (λ key. key_bytes key ≡ key_of (values path.entry.bytes.now)) }
+        ensures succeeds { path.entry.bytes.now ≡ [] → IsOk result }
     {
         let mut key = PathKey::new(alloc);
         let len = path.as_unix_str().len();

@@ -3,17 +3,19 @@
 
 mod coded;
 mod codes;
+mod decoded;
 mod fill;
 pub mod key;
 mod last;
 pub mod laws;
-mod lowered;
 mod parts;
 pub mod read;
+mod runs;
+mod spelled;
 mod stretch;
 pub mod written;
 
 pub use key::{KeyRange, PathKey};
 pub use last::{key_name, key_parent, key_starts_with};
-pub use read::{KeyError, is_key, path_of};
+pub use read::{KeyError, is_key, path_of, write_path_of};
 pub use written::{key_len, write_key};

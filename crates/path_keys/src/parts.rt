@@ -51,7 +51,7 @@ fn run_len(bytes: &[u8]) -> usize
     if begins_with_parent(bytes) {
         return 2;
     }
-    first_break(bytes)
+    first_break(bytes, b'/', b'.')
 }
 
 // How many bytes a run has in a key that is this long in the path.

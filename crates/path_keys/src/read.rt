@@ -1,17 +1,15 @@
 //! The path of a key, read back.
-ghost use Rattle.std.specs.Prelude.{◌≡◌, ◌↔◌, ◌≤◌, ◌+◌, true, ℕ, List, length, IfOk, IfSome};
-ghost use Rattle.std.specs.Prelude.{IsErrOf};
-ghost use Rattle.std.specs.Prelude.{IsTrue, None, Some};
+ghost use Rattle.std.specs.Prelude.{◌≡◌, ◌↔◌, ℕ, List, length, IfOk, IsErrOf, IsTrue, None, Some};
+ghost use Rattle.std.specs.Prelude.{is_some};
 ghost use Rattle.std.specs.Fmt.{padded};
 ghost use Rattle.unix_path.specs.Buffers.{path_bytes};
-ghost use Rattle.unix_path.specs.Parts.{Value, values};
-ghost use Rattle.path_runs.specs.Overlay.{overlay};
+ghost use Rattle.unix_path.specs.Parts.{values};
+ghost use Rattle.path_runs.specs.Buffer.{buffer_after};
 ghost use Rattle.path_runs.specs.Spelling.{spelling_of};
 ghost use Rattle.path_keys.specs.Keys.{key_of, IsKey};
-ghost use Rattle.path_keys.specs.Codes.{code_value, slashed, text_of, AllFit, ReadsAs};
+ghost use Rattle.path_keys.specs.Codes.{HasPath, IsRead};
 
-use crate::codes::{Code, code_in};
-use crate::lowered::place_lowered;
+use crate::spelled::{path_len, write_text};
 use std::alloc::{AllocError, Global};
 use std::error::Error;
 use std::fmt;
@@ -62,74 +60,12 @@ impl From<AllocError> for KeyError {
     }
 }
 
-// Overwrites the bytes of `out` from `at` on with `bytes`.
-#[inline]
-fn place(out: &mut [u8], at: usize, bytes: &[u8])
-    requires { at + length bytes.now ≤ length out.old }
-    ensures { out.new ≡ overlay at bytes.now out.old }
-{
-    out[at..at + bytes.len()].copy_from_slice(bytes);
-}
-
-// Overwrites the bytes of `out` from `at` on with those of the code's value before others.
-#[inline]
-fn place_text(out: &mut [u8], at: usize, code: Code<'_>)
-    requires { at + length (slashed (code_value code)) ≤ length out.old }
-    ensures { out.new ≡ overlay at (slashed (code_value code.entry)) out.old }
-{
-    match code {
-        Code::Root => place(out, at, b"/"),
-        Code::Dot => place(out, at, b"./"),
-        Code::Up => place(out, at, b"../"),
-        Code::Name(name) => {
-            place_lowered(out, at, name);
-            out[at + name.len()] = b'/';
-        }
-    }
-}
-
-// How many bytes the path of a key has before others; `None` if it is the key of no path.
-fn text_len(key: &[u8]) -> Option<usize>
-    ensures some { IfSome result (λ len. ReadsAs key.now len) }
-    ensures none { result ≡ None → IsKey key.now → ⊥ }
-{
-    let mut rest = key;
-    let mut first = true;
-    let mut len = 0;
-    while let Some(code) = code_in(rest, first) {
-        len += code.text_len();
-        rest = &rest[code.len()..];
-        first = false;
-    }
-    if !rest.is_empty() {
-        return None;
-    }
-    Some(len)
-}
-
-// Writes the bytes that the path of a key has before others over all of `out`.
-fn write_text(key: &[u8], out: &mut [u8])
-    requires { ReadsAs key.now (length out.old) }
-    ensures { (vs : List Value) → AllFit true vs → key_of vs ≡ key.now → out.new ≡ text_of vs }
-{
-    let mut rest = key;
-    let mut first = true;
-    let mut at = 0;
-    while let Some(code) = code_in(rest, first) {
-        place_text(out, at, code);
-        at += code.text_len();
-        rest = &rest[code.len()..];
-        first = false;
-    }
-}
-
-// The bytes that the path of a key has before others, `len` in number.
+// The path of a key, of `len` bytes.
 fn read_text(alloc: Global, key: &[u8], len: usize) -> Result<Vec<u8>, AllocError>
-    requires { ReadsAs key.now len }
-    ensures { IfOk result (λ text. (vs : List Value) → AllFit true vs → key_of vs ≡ key.now
-        → text.items ≡ text_of vs) }
+    requires { HasPath key.now len }
+    ensures { IfOk result (λ text. IsRead key.now text.items) }
 {
-    let mut text = Vec::new(alloc);
+    let mut text = Vec::with_capacity(alloc, len)?;
     text.resize(len, 0)?;
     write_text(key, &mut text);
     Ok(text)
@@ -142,14 +78,14 @@ fn read_text(alloc: Global, key: &[u8], len: usize) -> Result<Vec<u8>, AllocErro
 pub fn is_key(key: &[u8]) -> bool
     ensures { IsTrue result ↔ IsKey key.now }
 {
-    text_len(key).is_some()
+    path_len(key).is_some()
 }
 
 /// The path of a key: the canonical spelling of the paths that have it.
 ///
 /// The error is `NotAKey` exactly if no path has these bytes as its key, before anything is
-/// allocated, and `Memory` if the allocation fails. Allocates once, one byte more than the path
-/// has, or not at all for the empty key. Not in Rust's std.
+/// allocated, and `Memory` if the allocation fails. Allocates once, as many bytes as the path has,
+/// or not at all for the empty key. Not in Rust's std.
 ///
 /// For 00 02 61 00 62 00 it is `./a/b`. 61, 00 04 and 61 00 00 01 are no keys.
 pub fn path_of(alloc: Global, key: &[u8]) -> Result<PathBuf, KeyError>
@@ -158,13 +94,36 @@ pub fn path_of(alloc: Global, key: &[u8]) -> Result<PathBuf, KeyError>
     ensures read_back { (s : List ℕ) → key_of (values s) ≡ key.now
         → IfOk result (λ p. path_bytes p ≡ spelling_of (values s)) }
 {
-    let Some(len) = text_len(key) else {
+    let Some(len) = path_len(key) else {
         return Err(KeyError::NotAKey);
     };
-    let mut text = read_text(alloc, key, len)?;
-    // Behind all but a lone root a slash is left.
-    if len > 1 {
-        text.truncate(len - 1);
-    }
+    let text = read_text(alloc, key, len)?;
     Ok(PathBuf::from(UnixString::from(text)))
+}
+
+/// Writes the path of a key to the beginning of `out`, and returns its length; `None` if no path
+/// has these bytes as its key.
+///
+/// The path is that of `path_of`, the canonical spelling of the paths that have the key. The bytes
+/// of `out` behind it stay as they were. If `out` has no room for all of it, or the bytes are no
+/// key, nothing is written; the length of a path that has no room is greater than that of `out`.
+/// Does not allocate. Not in Rust's std.
+///
+/// For 00 02 61 00 62 00 it is `./a/b`, of 5 bytes. For 61, 00 04 and 61 00 00 01 it is `None`.
+pub fn write_path_of(key: &[u8], out: &mut [u8]) -> Option<usize>
+    ensures is_key { IsTrue (is_some result) ↔ IsKey key.now }
+    ensures none { result ≡ None → out.new ≡ out.old }
+    ensures out { (s : List ℕ) → key_of (values s) ≡ key.now
+        → out.new ≡ buffer_after (spelling_of (values s)) out.old }
+    ensures length { (s : List ℕ) → key_of (values s) ≡ key.now
+        → result ≡ Some (length (spelling_of (values s))) }
+{
+    let Some(len) = path_len(key) else {
+        return None;
+    };
+    if len > out.len() {
+        return Some(len);
+    }
+    write_text(key, &mut out[..len]);
+    Some(len)
 }

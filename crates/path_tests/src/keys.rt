@@ -3,7 +3,7 @@ mod short_keys;
 mod short_pairs;
 mod short_paths;
 
-use path_keys::{KeyError, PathKey, is_key, key_len, path_of, write_key};
+use path_keys::{KeyError, PathKey, is_key, key_len, path_of, write_key, write_path_of};
 use std::alloc::{AllocError, Global};
 use std::test::Fail;
 use unix_path::Path;
@@ -72,10 +72,29 @@ fn has_key(alloc: Global, path: &[u8], key: &[u8]) -> Result<bool, AllocError> {
     Ok(made.as_bytes() == key && key_len(path) == key.len() && len == key.len() && is_written)
 }
 
+// Whether the key's path is written whole where there is just enough room, and behind it nothing;
+// and nothing if there is a byte less.
+fn is_written_back(key: &[u8], path: &[u8]) -> bool {
+    let mut buffer = [0xEE_u8; 64];
+    let len = path.len();
+    if len >= 64 {
+        return false;
+    }
+    let is_short = len > 0 && write_path_of(key, &mut buffer[..len - 1]) != Some(len);
+    let is_untouched = buffer == [0xEE_u8; 64];
+    let is_whole = write_path_of(key, &mut buffer[..len]) == Some(len);
+    let is_exact = is_whole && buffer.as_slice().starts_with(path) && buffer[len] == 0xEE;
+    let is_again = write_path_of(key, &mut buffer) == Some(len) && buffer[len] == 0xEE;
+    !is_short && is_untouched && is_exact && is_again
+}
+
 // Whether the key reads back as this path.
 fn reads_back(alloc: Global, key: &[u8], path: &[u8]) -> bool {
     match path_of(alloc, key) {
-        Ok(read) => is_key(key) && read.as_path().as_unix_str().as_bytes() == path,
+        Ok(read) => {
+            let is_path = read.as_path().as_unix_str().as_bytes() == path;
+            is_key(key) && is_path && is_written_back(key, path)
+        }
         Err(_) => false,
     }
 }
@@ -89,10 +108,12 @@ fn keys_of_paths(rt: HostRuntime) -> Result<(), Fail> {
     Ok(())
 }
 
-// Whether the bytes are refused as no key.
+// Whether the bytes are refused as no key, and nothing of them is written.
 fn is_refused(alloc: Global, bytes: &[u8]) -> bool {
+    let mut buffer = [0xEE_u8; 64];
+    let is_none = write_path_of(bytes, &mut buffer).is_none() && buffer == [0xEE_u8; 64];
     match path_of(alloc, bytes) {
-        Err(KeyError::NotAKey) => !is_key(bytes),
+        Err(KeyError::NotAKey) => !is_key(bytes) && is_none,
         _ => false,
     }
 }

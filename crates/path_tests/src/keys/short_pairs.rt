@@ -79,6 +79,32 @@ fn keys_of_pairs_of_four_bytes(rt: HostRuntime) -> Result<(), Fail> {
     Ok(())
 }
 
+// How many paths begin the first exactly if their keys begin its key, before one doesn't.
+fn paths_begin_alike(a: &KeyedPath<'_>, paths: &[KeyedPath<'_>]) -> usize {
+    for (count, b) in paths.iter().enumerate() {
+        if !begin_alike(a, b) {
+            return count;
+        }
+    }
+    paths.len()
+}
+
+#[test]
+fn keys_that_begin_keys_of_five_bytes(rt: HostRuntime) -> Result<(), Fail> {
+    let strings = strings_over(rt.alloc(), b"/.a\x000\xFF", STRINGS_OF_FOUR)?;
+    let paths = keyed_paths(rt.alloc(), &strings)?;
+    assert!(rt; paths.len() == STRINGS_OF_FIVE);
+    for first in paths.iter() {
+        let alike = paths_begin_alike(first, &paths);
+        assert!(rt;
+            alike == STRINGS_OF_FIVE,
+            "{:?}, string {alike}",
+            first.path.bytes
+        );
+    }
+    Ok(())
+}
+
 // Keeps the key by its path; whether an equal path that was there has the same key.
 fn keep(
     alloc: Global,

@@ -12,8 +12,8 @@ loop-from-init c = record {
 pub loop-from-preserved : goal.loop-from-preserved
 loop-from-preserved c = record {
   in_range = omega arith;
-  put = put_many coded c.args.bytes.now c.args.out.now c.args.at c.loop-from.from c.loop-from.out _
-      c.loop-from.invariant.put (omega arith) c.requires c.place_lanes.ensures;
+  put = put_many 16 coded c.args.bytes.now c.args.out.now c.args.at c.loop-from.from
+      c.loop-from.out _ c.loop-from.invariant.put (omega arith) c.requires c.place_lanes.ensures;
 }
 
 pub returns : goal.returns
@@ -23,5 +23,5 @@ returns c =
     let fewer = put_fewer coded bytes c.args.out.now c.args.at c.loop-from.from last c.loop-from.out
     c.loop-from.invariant.put (omega arith) (omega arith) c.requires in
     put_all coded bytes c.args.out.now c.args.at (last + 16) _
-    (put_many coded bytes c.args.out.now c.args.at last c.loop-from.out _ fewer (omega arith)
+    (put_many 16 coded bytes c.args.out.now c.args.at last c.loop-from.out _ fewer (omega arith)
     c.requires c.place_lanes-2.ensures) (omega arith)

@@ -7,5 +7,5 @@ use Rattle.path_keys.proofs.coded.place_lanes.Goals as goal
 pub returns : goal.returns
 returns c =
     ap (put_chunk c.args.to c.args.out.now)
-    (coded_lanes (take 16 (drop c.args.from c.args.bytes.now))
+    (coded_lanes 16 (take 16 (drop c.args.from c.args.bytes.now))
     (length-chunk c.args.from 16 c.args.bytes.now c.requires.some))

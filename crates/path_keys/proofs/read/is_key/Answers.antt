@@ -7,4 +7,4 @@ pub returns : goal.returns
 returns c =
     let key = c.args.key.now in
     subst (λ b. (IsTrue b → IsKey key) × (IsKey key → IsTrue b)) (sym c.is_some.ensures)
-    (known_key key c.text_len.result c.text_len.ensures.some c.text_len.ensures.none)
+    (known_key key c.path_len.result c.path_len.ensures.some c.path_len.ensures.none)

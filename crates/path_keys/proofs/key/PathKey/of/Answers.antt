@@ -6,8 +6,8 @@ use Rattle.path_keys.specs.Keys.{key_of, IsKey}
 use Rattle.path_keys.proofs.KeyLemmas.{key_of-nil}
 use Rattle.path_keys.proofs.key.PathKey.of.Goals as goal
 
-pub returns-then-len-eq0 : goal.returns-then-len-eq0
-returns-then-len-eq0 c =
+pub returns-then-len-eq0-clause-key : goal.returns-then-len-eq0-clause-key
+returns-then-len-eq0-clause-key c =
     let s = c.args.path.bytes.now in
     let none : length s ≡ 0 =
     omega (arith, c.if-len-eq0.true, c.len-len.ensures, ap length c.as_unix_str.ensures.bytes) in

@@ -1,13 +1,13 @@
 use Rattle.std.proofs.Common.{◌+◌, ◌-◌, ◌<◌}
-use Rattle.path_keys.specs.Codes.{lowered}
+use Rattle.path_keys.specs.Runs.{decoded}
 use Rattle.path_keys.proofs.PlaceLemmas.{PutTo}
-use Rattle.path_keys.proofs.lowered.place_lowered.Given as goal
+use Rattle.path_keys.proofs.decoded.place_decoded.Given as goal
 
 -- the bytes before `from` are put there
 abbrev pub invariant-loop-from : goal.invariant-loop-from
 invariant-loop-from l = record {
   in_range : l.from < l.last + 16;
-  put : PutTo lowered l.name l.fn.out l.at l.from l.out;
+  put : PutTo decoded l.names l.fn.out l.at l.from l.out;
 }
 
 abbrev pub decreases-loop-from : goal.decreases-loop-from

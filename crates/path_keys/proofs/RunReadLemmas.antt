@@ -1,0 +1,134 @@
+-- A key that is read run by run.
+use Rattle.std.proofs.Common.{◌≡◌, ◌<◌, ◌≤◌, ◌+◌, ◌*◌, ℕ, Bool, true, false, List, [], ◌∷◌, ◌++◌}
+use Rattle.std.proofs.Common.{length, drop, refl, sym, ap, ◌∙◌, arith, subst, append_assoc}
+use Rattle.std.proofs.Common.{append-nil, length-append, length-drop}
+use Rattle.std.proofs.Common.{map}
+use Rattle.std.proofs.lemmas.List.{append_cancel_left, length-map}
+use Rattle.unix_path.specs.Parts.{Value, values}
+use Rattle.unix_path.specs.Parts.{slash}
+use Rattle.path_keys.specs.Keys.{code, key_of, IsKey}
+use Rattle.path_keys.specs.Codes.{slashed, text_of, AllFit, HasNoCode, TakesCode}
+use Rattle.path_keys.specs.Runs.{decoded, run_code, run_text, HoldsNone, TakesRun}
+use Rattle.path_keys.specs.declared.runs.Run.{Run}
+use Rattle.path_keys.specs.declared.runs.Run.TheVariants.{Root, Dot, Up, Names}
+use Rattle.path_keys.proofs.CodeLemmas.{values-coded}
+use Rattle.path_keys.proofs.FitLemmas.{AllFit-coded, values-fit}
+use Rattle.path_keys.proofs.KeyLemmas.{key_of-nil, key_of-cons, key_of-append}
+use Rattle.path_keys.proofs.OrderLemmas.{key_of-begins}
+use Rattle.path_keys.proofs.ReadLemmas.{starts, ReadsTo}
+use Rattle.path_keys.proofs.TextLemmas.{text_of-nil, text_of-cons, text_of-append}
+
+-- values that may be all of a path's, and more that may stand behind them
+pub fit_all : (us vs : List Value) → AllFit true us → AllFit (starts us) vs
+    → AllFit true (us ++ vs)
+fit_all [] vs h k = k
+fit_all (u ∷ us) vs h k = (h.0, behind us h.1)
+  where
+    behind : (us : List Value) → AllFit false us → AllFit false (us ++ vs)
+    behind [] h = k
+    behind (u ∷ us) h = (h.0, behind us h.1)
+
+-- the values behind the first of a path's may stand there
+pub fit_rest : (us ws : List Value) → AllFit true (us ++ ws) → AllFit (starts us) ws
+fit_rest [] ws h = h
+fit_rest (u ∷ us) ws h = behind us h.1
+  where
+    behind : (us : List Value) → AllFit false (us ++ ws) → AllFit false ws
+    behind [] h = h
+    behind (u ∷ us) h = behind us h.1
+
+pub starts-more : (us vs : List Value) → 0 < length vs → starts (us ++ vs) ≡ false
+starts-more [] [] l = absurd (omega arith)
+starts-more [] (v ∷ vs) l = refl
+starts-more (u ∷ us) vs l = refl
+
+-- a run has a byte, and at most twice as many in a path
+pub run_small : (run : Run)
+    → (0 < length (run_code run)) × (length (run_text run) ≤ 2 * length (run_code run))
+run_small Root = (omega arith, omega arith)
+run_small Dot = (omega arith, omega arith)
+run_small Up = (omega arith, omega arith)
+run_small (Names bytes) =
+    let code = length-append bytes.now (0 ∷ []) in
+    let text = length-append (map decoded bytes.now) (slash ∷ []) in
+    (omega (arith, code), omega (arith, code, text, length-map bytes.now decoded))
+
+-- the run that bytes begin with is no longer than they are
+run_within : {first : Bool} {s : List ℕ} {run : Run} → TakesRun first s run
+    → length (run_code run) ≤ length s
+run_within {first} {s} {run} h = omega (
+  arith,
+  ap length h.is,
+  length-append (run_code run) (drop (length (run_code run)) s),
+  length-drop (length (run_code run)) s,
+)
+
+-- one more run is read
+pub reads_run : {key rest more : List ℕ} {first : Bool} {len n : ℕ} {run : Run}
+    → ReadsTo key rest first len → TakesRun first rest run
+    → more ≡ drop (length (run_code run)) rest
+    → n ≡ len + length (run_text run) → ReadsTo key more false n
+reads_run {key} {rest} {more} {first} {len} {n} {run} h k e count = record {
+  us = h.us ++ k.vs;
+  fit = fit_all h.us k.vs h.fit (subst (λ b. AllFit b k.vs) h.first_is k.fit);
+  first_is = sym (starts-more h.us k.vs k.some);
+  whole =
+      ap (λ c. c ++ more) (key_of-append h.us k.vs ∙ ap (λ c. key_of h.us ++ c) k.code_is)
+      ∙ append_assoc (key_of h.us) (run_code run) more
+      ∙ ap (λ r. key_of h.us ++ (run_code run ++ r)) e
+      ∙ ap (λ r. key_of h.us ++ r) (sym k.is) ∙ h.whole;
+  len_is = omega (
+    arith,
+    count,
+    h.len_is,
+    ap length (text_of-append h.us k.vs),
+    length-append (text_of h.us) (text_of k.vs),
+    ap length k.text_is,
+  );
+  small = omega (
+    arith,
+    count,
+    h.small,
+    ap length e,
+    length-drop (length (run_code run)) rest,
+    run_within k,
+    run_small run,
+  );
+}
+
+-- if something is left that is the key of no values, no path has the key
+pub reads_no_run : {key rest : List ℕ} {first : Bool} {len : ℕ} → ReadsTo key rest first len
+    → HoldsNone first rest → 0 < length rest → IsKey key → ⊥
+reads_no_run {key} {rest} {first} {len} h none some is = by begins.0 begins.1
+  where
+    begins : (ws : List Value) × (h.us ++ ws ≡ values is.0)
+    begins = key_of-begins h.us (values is.0) (AllFit-coded true h.us h.fit) (values-coded is.0)
+        rest (h.whole ∙ sym is.1)
+
+    left : (ws : List Value) → h.us ++ ws ≡ values is.0 → key_of ws ≡ rest
+    left ws e = append_cancel_left (key_of h.us) (key_of ws) rest
+        (sym (key_of-append h.us ws) ∙ ap key_of e ∙ is.1 ∙ sym h.whole)
+
+    by : (ws : List Value) → h.us ++ ws ≡ values is.0 → ⊥
+    by [] e = omega (arith, ap length (left [] e), ap length key_of-nil)
+    by (w ∷ ws) e = none w ws
+        (subst (λ b. AllFit b (w ∷ ws)) (sym h.first_is) (fit_rest h.us (w ∷ ws)
+        (subst (AllFit true) (sym e) (values-fit is.0))))
+        (left (w ∷ ws) e)
+
+-- a mark or a name alone is a run
+pub takes_run : {first : Bool} {s : List ℕ} (v : Value) (run : Run) → TakesCode first s v
+    → code v ≡ run_code run → slashed v ≡ run_text run → TakesRun first s run
+takes_run {first} {s} v run k coded spelled = record {
+  vs = v ∷ [];
+  some = omega arith;
+  fit = (k.fits, tt);
+  code_is = key_of-cons v [] ∙ ap (λ c. code v ++ c) key_of-nil ∙ append-nil (code v) ∙ coded;
+  text_is = text_of-cons v [] ∙ ap (λ t. slashed v ++ t) text_of-nil ∙ append-nil (slashed v)
+      ∙ spelled;
+  is = k.is ∙ ap (λ c. c ++ drop (length c) s) coded;
+}
+
+-- bytes that begin with no code are the key of no values, unless of none
+pub no_code_none : {first : Bool} {s : List ℕ} → HasNoCode first s → HoldsNone first s
+no_code_none none v vs fit e = none v (key_of vs) fit.0 (sym (key_of-cons v vs) ∙ e)

@@ -1,0 +1,99 @@
+//! The bytes of names from a key, put in a path 16 at a time.
+ghost use Rattle.std.specs.Prelude.{◌≡◌, ◌+◌, ◌<◌, ◌≤◌, length, map, take, drop};
+ghost use Rattle.std.specs.Simd.Lanes.{put_chunk};
+ghost use Rattle.path_runs.specs.Overlay.{overlay};
+ghost use Rattle.path_keys.specs.Runs.{decoded};
+
+use std::simd::prelude::*;
+
+// The byte of a path for which this one stands among names in a key.
+#[inline]
+fn decode(b: u8) -> u8
+    ensures { result ≡ decoded b }
+{
+    if b == 0 {
+        return b'/';
+    }
+    if b <= b'/' { b - 1 } else { b }
+}
+
+// Overwrites the bytes of `out` from `at` on with those of the names that stand like this in a key,
+// one by one.
+#[inline]
+fn place_few(out: &mut [u8], at: usize, names: &[u8])
+    requires { at + length names.now ≤ length out.old }
+    ensures { out.new ≡ overlay at (map decoded names.now) out.old }
+{
+    for (i, b) in names.iter().enumerate() {
+        out[at + i] = decode(*b);
+    }
+}
+
+// Overwrites 16 bytes of `out` from `to` on with those of the names that stand from `from` on in a
+// key.
+#[inline(always)]
+fn place_lanes(out: &mut [u8], to: usize, names: &[u8], from: usize)
+    requires room { to + 16 ≤ length out.old }
+    requires some { from + 16 ≤ length names.now }
+    ensures { out.new ≡ put_chunk to out.old (map decoded (take 16 (drop from names.now))) }
+{
+    let here = u8x16::from_slice(&names[from..]);
+    let slash = u8x16::splat(b'/');
+    let lowered = here.simd_gt(slash).select(here, here - u8x16::splat(1));
+    here.simd_eq(u8x16::splat(0))
+        .select(slash, lowered)
+        .copy_to_slice(&mut out[to..]);
+}
+
+// Overwrites 8 bytes of `out` from `to` on with those of the names that stand from `from` on in a
+// key.
+#[inline(always)]
+fn place_half(out: &mut [u8], to: usize, names: &[u8], from: usize)
+    requires room { to + 8 ≤ length out.old }
+    requires some { from + 8 ≤ length names.now }
+    ensures { out.new ≡ put_chunk to out.old (map decoded (take 8 (drop from names.now))) }
+{
+    let here = u8x8::from_slice(&names[from..]);
+    let slash = u8x8::splat(b'/');
+    let lowered = here.simd_gt(slash).select(here, here - u8x8::splat(1));
+    here.simd_eq(u8x8::splat(0))
+        .select(slash, lowered)
+        .copy_to_slice(&mut out[to..]);
+}
+
+// Overwrites the bytes of `out` from `at` on with those of the names, fewer than 16 bytes, that
+// stand like this in a key.
+#[inline]
+fn place_short(out: &mut [u8], at: usize, names: &[u8])
+    requires room { at + length names.now ≤ length out.old }
+    requires few { length names.now < 16 }
+    ensures { out.new ≡ overlay at (map decoded names.now) out.old }
+{
+    if names.len() < 8 {
+        place_few(out, at, names);
+        return;
+    }
+    let last = names.len() - 8;
+    place_half(out, at, names, 0);
+    place_half(out, at + last, names, last);
+}
+
+// Overwrites the bytes of `out` from `at` on with those of the names that stand like this in a key,
+// with a slash for each end mark.
+#[inline]
+pub(crate) fn place_decoded(out: &mut [u8], at: usize, names: &[u8])
+    requires { at + length names.now ≤ length out.old }
+    ensures { out.new ≡ overlay at (map decoded names.now) out.old }
+{
+    if names.len() < 16 {
+        place_short(out, at, names);
+        return;
+    }
+    let last = names.len() - 16;
+    let mut from = 0;
+    while from < last {
+        place_lanes(out, at + from, names, from);
+        from += 16;
+    }
+    place_lanes(out, at + last, names, last);
+}

@@ -1,0 +1,101 @@
+//! The path of a key: how many bytes it has, and these written to a buffer of that length.
+ghost use Rattle.std.specs.Prelude.{◌≡◌, ◌≤◌, ◌+◌, ◌-◌, ◌∷◌, ◌++◌, [], length, map, take};
+ghost use Rattle.std.specs.Prelude.{IfSome, None};
+ghost use Rattle.unix_path.specs.Parts.{slash};
+ghost use Rattle.path_runs.specs.Overlay.{overlay};
+ghost use Rattle.path_keys.specs.Keys.{IsKey};
+ghost use Rattle.path_keys.specs.Codes.{HasPath, IsRead, ReadsAs};
+ghost use Rattle.path_keys.specs.Runs.{decoded, run_text};
+
+use crate::decoded::place_decoded;
+use crate::runs::{Run, next_run, run_in};
+
+// Overwrites the bytes of `out` from `at` on with `bytes`, as many as there is room for.
+#[inline]
+fn place(out: &mut [u8], at: usize, bytes: &[u8])
+    requires { at ≤ length out.old }
+    ensures { out.new ≡ overlay at (take (length out.old - at) bytes.now) out.old }
+{
+    let len = bytes.len().min(out.len() - at);
+    out[at..at + len].copy_from_slice(&bytes[..len]);
+}
+
+// Overwrites the bytes of `out` from `at` on with those of the names that stand like this in a key,
+// and the one behind them, if there is one, with a slash.
+#[inline]
+fn place_names(out: &mut [u8], at: usize, names: &[u8])
+    requires { at + length names.now ≤ length out.old }
+    ensures { out.new
+        ≡ overlay at (take (length out.old - at) (map decoded names.now ++ slash ∷ [])) out.old }
+{
+    place_decoded(out, at, names);
+    let end = at + names.len();
+    if end < out.len() {
+        out[end] = b'/';
+    }
+}
+
+// Overwrites the bytes of `out` from `at` on with those of the run in a path before others, but for
+// a slash for which there is no room.
+#[inline]
+fn place_run(out: &mut [u8], at: usize, run: Run<'_>)
+    requires { at + length (run_text run) ≤ length out.old + 1 }
+    ensures { out.new ≡ overlay at (take (length out.old - at) (run_text run.entry)) out.old }
+{
+    match run {
+        Run::Root => place(out, at, b"/"),
+        Run::Dot => place(out, at, b"./"),
+        Run::Up => place(out, at, b"../"),
+        Run::Names(names) => place_names(out, at, names),
+    }
+}
+
+// How many bytes the path of a key has before others; `None` if it is the key of no path.
+fn text_len(key: &[u8]) -> Option<usize>
+    ensures some { IfSome result (λ len. ReadsAs key.now len) }
+    ensures none { result ≡ None → IsKey key.now → ⊥ }
+{
+    let mut rest = key;
+    let mut first = true;
+    let mut len = 0;
+    while let Some(run) = run_in(rest, first) {
+        len += run.text_len();
+        rest = &rest[run.len()..];
+        first = false;
+    }
+    if !rest.is_empty() {
+        return None;
+    }
+    Some(len)
+}
+
+// How many bytes the path of a key has; `None` if it is the key of no path.
+pub(crate) fn path_len(key: &[u8]) -> Option<usize>
+    ensures some { IfSome result (λ len. HasPath key.now len) }
+    ensures none { result ≡ None → IsKey key.now → ⊥ }
+{
+    let Some(len) = text_len(key) else {
+        return None;
+    };
+    // Before others all but a lone root have a slash behind them.
+    if len > 1 {
+        return Some(len - 1);
+    }
+    Some(len)
+}
+
+// Writes the path of a key over all of `out`.
+pub(crate) fn write_text(key: &[u8], out: &mut [u8])
+    requires { HasPath key.now (length out.old) }
+    ensures { IsRead key.now out.new }
+{
+    let mut rest = key;
+    let mut first = true;
+    let mut at = 0;
+    while let Some(run) = next_run(rest, first, out.len() + 1 - at) {
+        place_run(out, at, run);
+        at += run.text_len();
+        rest = &rest[run.len()..];
+        first = false;
+    }
+}
