@@ -1,3 +1,4 @@
 pub mod Below
 pub mod Manifest
+pub mod Mounts
 pub mod Tree

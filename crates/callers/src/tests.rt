@@ -2,11 +2,13 @@
 use crate::archive::{UnpackError, target_of};
 use crate::index::{place_of, value_at};
 use crate::manifest::normalise;
+use crate::mounts::mounted_file;
 use crate::safe::stays_below;
 use crate::server::find_file;
 use crate::site::file_of;
 use crate::tree::Tree;
 use crate::url::map_url;
+use path_tree::PathTree;
 use path_within::{RequestError, Root, WithinError};
 use std::alloc::{AllocError, Global};
 use std::collections::BTreeMap;
@@ -56,6 +58,18 @@ static URLS: [(&'static str, Option<&'static str>); 7] = [
     ("/static/../a", Some("/srv/www/a")),
     ("/staticx/a", None),
     ("/static/a\0", None),
+];
+
+// A path, and its file with `/srv` mounted at `/`, and `/home/me` at `/me` and at `me`.
+static MOUNTED: [(&'static str, Option<&'static str>); 8] = [
+    ("/a/b", Some("/srv/a/b")),
+    ("/me/a", Some("/home/me/a")),
+    ("//me//./a/", Some("/home/me/a")),
+    ("/me", Some("/home/me")),
+    ("/mex/a", Some("/srv/mex/a")),
+    ("/me/../a", Some("/home/me/a")),
+    ("me/a", Some("/home/me/a")),
+    ("a", None),
 ];
 
 // A URL's path, and its file with the prefix `/static` and the root `/srv/./www`, with each `..`
@@ -290,5 +304,30 @@ fn an_equal_path_is_found_in_order(rt: HostRuntime) -> Result<(), Fail> {
     let files = [(a, 1u8), (PathBuf::from_text(alloc, "a/b")?, 2), (b, 3)];
     assert!(rt; place_of(files.as_slice(), Path::from_text("a//b")) == Ok(1));
     assert!(rt; place_of(files.as_slice(), Path::from_text("a/c")) == Err(2));
+    Ok(())
+}
+
+// A table of the mounts that the rows above speak of.
+fn mounts(alloc: Global) -> Result<PathTree<Root>, AllocError> {
+    let mut mounts = PathTree::new(alloc);
+    mounts.insert(
+        Path::from_text("/"),
+        Root::new(alloc, Path::from_text("/srv"))?,
+    )?;
+    for point in ["/me/", "me"] {
+        let root = Root::new(alloc, Path::from_text("/home/me"))?;
+        mounts.insert(Path::from_text(point), root)?;
+    }
+    Ok(mounts)
+}
+
+#[test]
+fn mounts_have_files(rt: HostRuntime) -> Result<(), Fail> {
+    let mounts = mounts(rt.alloc())?;
+    for row in MOUNTED.iter() {
+        let found = mounted_file(rt.alloc(), &mounts, Path::from_text(row.0))?;
+        assert!(rt; is(found, row.1), "{}", row.0);
+    }
+    assert!(rt; mounted_file(rt.alloc(), &mounts, Path::from_text("/a\0"))?.is_none());
     Ok(())
 }

@@ -1,5 +1,5 @@
-//! Tests of path_runs, path_table, path_within and path_keys, in one crate of their own: a crate with
-//! tests is proved twice.
+//! Tests of path_runs, path_table, path_within, path_keys and path_tree, in one crate of their own:
+//! a crate with tests is proved twice.
 #![tactic(auto)]
 
 #[cfg(test)]
@@ -12,5 +12,7 @@ mod runs;
 mod strings;
 #[cfg(test)]
 mod table;
+#[cfg(test)]
+mod tree;
 #[cfg(test)]
 mod within;

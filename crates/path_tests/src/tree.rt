@@ -1,0 +1,121 @@
+//! Rows of calls of a tree, its callers, and a tree beside a plain list.
+mod beside_list;
+mod callers;
+mod nearest;
+mod ranges;
+
+use path_keys::PathKey;
+use path_tree::PathTree;
+use std::alloc::{AllocError, Global};
+use std::test::Fail;
+use unix_path::Path;
+
+// A tree of these paths, with 1, 2 and so on in their order.
+fn tree_of(alloc: Global, paths: &[&str]) -> Result<PathTree<u32>, AllocError> {
+    let mut tree = PathTree::new(alloc);
+    let mut value = 0u32;
+    for path in paths {
+        value = value.wrapping_add(1);
+        tree.insert(Path::from_text(path), value)?;
+    }
+    Ok(tree)
+}
+
+// Whether the tree has this at the path and at its key, if anything.
+fn has_at(
+    alloc: Global,
+    tree: &PathTree<u32>,
+    path: &[u8],
+    want: Option<u32>,
+) -> Result<bool, AllocError> {
+    let path = Path::from_bytes(path);
+    let key = PathKey::of(alloc, path)?;
+    let by_path = tree.get_path(path)?.copied() == want;
+    let is_known = tree.contains_path(path)? == want.is_some();
+    let by_key = tree.get(&key).copied() == want;
+    Ok(by_path && by_key && is_known && tree.contains(&key) == want.is_some())
+}
+
+// The tree's paths, a path, and the place of the path among them, from 1, if it is one.
+type Row = (&'static [&'static str], &'static [u8], Option<u32>);
+
+static FOUND: [Row; 14] = [
+    (&[], b"", None),
+    (&[""], b"", Some(1)),
+    (&["/"], b"", None),
+    (&["/", "", "."], b"./.", Some(3)),
+    (&["/", "", "."], b"//", Some(1)),
+    (&["a/b", "a", "a.b"], b"a//b/.", Some(1)),
+    (&["a/b", "a", "a.b"], b"a/", Some(2)),
+    (&["a/b", "a", "a.b"], b"a.b/", Some(3)),
+    (&["a/b", "a", "a.b"], b"./a/b", None),
+    (&["a/b", "a", "a.b"], b"/a/b", None),
+    (&["a/b", "a", "a.b"], b"b/../a", None),
+    (&["a/b", "a/b/"], b"a/b", Some(2)),
+    (&["..", "../..", "/.."], b"..//..", Some(2)),
+    (&["\u{0}\u{2}", "a\u{0}b"], b"a\x00b", Some(2)),
+];
+
+#[test]
+fn what_is_found(rt: HostRuntime) -> Result<(), Fail> {
+    for (paths, path, want) in FOUND.iter() {
+        let tree = tree_of(rt.alloc(), paths)?;
+        assert!(rt;
+            has_at(rt.alloc(), &tree, path, *want)?,
+            "{}",
+            path.escape_ascii()
+        );
+    }
+    Ok(())
+}
+
+// A path of `len` bytes, whose key has one more.
+fn long_name(alloc: Global, len: usize) -> Result<Vec<u8>, AllocError> {
+    let mut name = Vec::new(alloc);
+    name.resize(len, b'a')?;
+    Ok(name)
+}
+
+// Whether names as long as a key on the stack may be, and one longer, are told apart.
+#[test]
+fn long_paths_are_found(rt: HostRuntime) -> Result<(), Fail> {
+    let alloc = rt.alloc();
+    let mut tree = PathTree::new(alloc);
+    for len in [510, 511, 512] {
+        let name = long_name(alloc, len)?;
+        tree.insert(Path::from_bytes(&name), len as u32)?;
+    }
+    for len in [510, 511, 512] {
+        let name = long_name(alloc, len)?;
+        assert!(rt; has_at(alloc, &tree, &name, Some(len as u32))?, "{len}");
+        assert!(rt;
+            tree.remove_path(Path::from_bytes(&name))? == Some(len as u32),
+            "{len}"
+        );
+        assert!(rt; has_at(alloc, &tree, &name, None)?, "{len}");
+    }
+    assert!(rt; tree.is_empty());
+    Ok(())
+}
+
+// Whether the tree, of `a.b` and `a//b`, has one entry for all spellings of a path.
+fn has_one_entry(alloc: Global, tree: &mut PathTree<u32>) -> Result<bool, AllocError> {
+    let key = PathKey::of(alloc, Path::from_text("a/./b"))?;
+    let before = tree.insert(Path::from_text("a/b/"), 7)? == Some(2) && tree.len() == 2;
+    if let Some(value) = tree.get_mut(&key) {
+        *value = 8;
+    }
+    let is_written = has_at(alloc, tree, b"a/b", Some(8))?;
+    let is_taken = tree.remove(&key) == Some(8) && tree.remove(&key) == None;
+    Ok(before && is_written && is_taken && tree.len() == 1)
+}
+
+#[test]
+fn equal_paths_are_one_entry(rt: HostRuntime) -> Result<(), Fail> {
+    let alloc = rt.alloc();
+    let mut tree = tree_of(alloc, &["a.b", "a//b"])?;
+    assert!(rt; has_one_entry(alloc, &mut tree)? && !tree.is_empty());
+    tree.clear();
+    assert!(rt; tree.is_empty() && has_at(alloc, &tree, b"a.b", None)?);
+    Ok(())
+}

@@ -1,0 +1,141 @@
+//! Random calls of a tree, beside a plain list of the same paths and values.
+use crate::random::Random;
+use path_keys::PathKey;
+use path_tree::PathTree;
+use std::alloc::{AllocError, Global};
+use std::test::Fail;
+use unix_path::{Path, PathBuf};
+
+const TREES: u64 = 60;
+
+const CALLS: u32 = 60;
+
+static LETTERS: [u8; 8] = *b"/./.aabb";
+
+// A random path of at most six bytes.
+fn path_from(alloc: Global, random: &mut Random) -> Result<PathBuf, AllocError> {
+    let mut bytes = Vec::new(alloc);
+    for _ in 0..random.next() % 7 {
+        bytes.push(LETTERS[(random.next() & 7) as usize])?;
+    }
+    Path::from_bytes(&bytes).to_path_buf(alloc)
+}
+
+// Paths, no two of them equal, and their values.
+#[derive(Drop)]
+struct PlainList {
+    files: Vec<(PathBuf, u32)>,
+}
+
+impl PlainList {
+    fn place(&self, path: Path<'_>) -> Option<usize> {
+        self.files.iter().position(|file| file.0.as_path() == path)
+    }
+
+    fn get(&self, path: Path<'_>) -> Option<u32> {
+        match self.place(path) {
+            Some(place) => self.files.get(place).map(|file| file.1),
+            None => None,
+        }
+    }
+
+    // How many paths start with this one.
+    fn count_under(&self, base: Path<'_>) -> usize {
+        let mut count = 0usize;
+        for (path, _) in &self.files {
+            if path.as_path().starts_with(base) {
+                count = count.wrapping_add(1);
+            }
+        }
+        count
+    }
+
+    // The value at the longest of the paths that begin this one, and what is left of this path.
+    fn nearest<'a>(&self, path: Path<'a>) -> Option<(Path<'a>, u32)> {
+        let mut most = 0;
+        let mut found = None;
+        for (base, value) in &self.files {
+            let count = base.as_path().components().count();
+            if let Ok(rest) = path.strip_prefix(base.as_path()) {
+                if found.is_none() || count > most {
+                    most = count;
+                    found = Some((rest, *value));
+                }
+            }
+        }
+        found
+    }
+
+    fn insert(&mut self, path: PathBuf, value: u32) -> Result<Option<u32>, AllocError> {
+        let old = self.remove(path.as_path());
+        self.files.push((path, value))?;
+        Ok(old)
+    }
+
+    fn remove(&mut self, path: Path<'_>) -> Option<u32> {
+        match self.place(path) {
+            Some(place) if place < self.files.len() => {
+                let (_, value) = self.files.swap_remove(place);
+                Some(value)
+            }
+            _ => None,
+        }
+    }
+}
+
+fn are_alike(found: Option<(Path<'_>, &u32)>, want: Option<(Path<'_>, u32)>) -> bool {
+    match (found, want) {
+        (Some(near), Some(plain)) => near.0 == plain.0 && *near.1 == plain.1,
+        (None, None) => true,
+        _ => false,
+    }
+}
+
+// Makes one call of the tree and one of the list, and says whether they answer alike.
+fn answers_alike(
+    alloc: Global,
+    random: &mut Random,
+    tree: &mut PathTree<u32>,
+    plain: &mut PlainList,
+    value: u32,
+) -> Result<bool, AllocError> {
+    let owned = path_from(alloc, random)?;
+    let path = owned.as_path();
+    let key = PathKey::of(alloc, path)?;
+    Ok(match random.next() % 12 {
+        0..3 => tree.insert(path, value)? == plain.insert(path.to_path_buf(alloc)?, value)?,
+        3 => tree.remove(&key) == plain.remove(path),
+        4 => tree.remove_path(path)? == plain.remove(path),
+        5 => tree.get(&key).copied() == plain.get(path),
+        6 => tree.contains(&key) == plain.get(path).is_some(),
+        7 => tree.get_path(path)?.copied() == plain.get(path),
+        8 => tree.under(&key)?.count() == plain.count_under(path),
+        _ => are_alike(tree.nearest(path)?, plain.nearest(path)),
+    })
+}
+
+// How many calls of a tree and a list answer alike, and leave as many files in both, before one
+// pair of calls doesn't.
+fn calls_alike(alloc: Global, seed: u64) -> Result<u32, AllocError> {
+    let mut random = Random::new(seed);
+    let mut tree = PathTree::new(alloc);
+    let mut plain = PlainList {
+        files: Vec::new(alloc),
+    };
+    for value in 0..CALLS {
+        let alike = answers_alike(alloc, &mut random, &mut tree, &mut plain, value)?;
+        if !alike || tree.len() != plain.files.len() {
+            return Ok(value);
+        }
+    }
+    Ok(CALLS)
+}
+
+#[test]
+fn a_tree_answers_as_a_list(rt: HostRuntime) -> Result<(), Fail> {
+    for seed in 0..TREES {
+        let calls = calls_alike(rt.alloc(), seed)?;
+        assert!(rt; calls == CALLS, "tree {seed}, call {calls}");
+    }
+    Ok(())
+}

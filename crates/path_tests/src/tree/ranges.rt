@@ -1,0 +1,92 @@
+//! What is under bases in trees, by hand, and their first and last entries.
+use super::tree_of;
+use path_keys::PathKey;
+use std::alloc::{AllocError, Global};
+use std::test::Fail;
+use unix_path::Path;
+
+// Paths of a tree, a base, and those that start with it, in path order.
+type Row = (
+    &'static [&'static str],
+    &'static str,
+    &'static [&'static str],
+);
+
+static UNDER: [Row; 11] = [
+    (&[], "", &[]),
+    (&["./a", "a", "/a", ""], "", &["", "/a", "./a", "a"]),
+    (&["/a.b", "/a/b"], "/a", &["/a/b"]),
+    (&["a/b", "a", "a.b"], "a//", &["a", "a/b"]),
+    (&["a//b/c", "a/b/d", "a.b"], "a/b", &["a/b/c", "a/b/d"]),
+    (&["a/b", "a/../b", "./a/b"], "a/.", &["a/../b", "a/b"]),
+    (&["a", "c"], "b", &[]),
+    (&["..", "../a", "a", "\u{2}"], "..", &["..", "../a"]),
+    (&["/", "/a", "a", ""], "//", &["/", "/a"]),
+    (&["a\u{0}", "a/\u{0}", "a"], "a", &["a", "a/\u{0}"]),
+    (&["a/b", "a/b.c", "a/b/c", "a/bc"], "a/b", &["a/b", "a/b/c"]),
+];
+
+fn is_key_of(alloc: Global, key: &[u8], path: &str) -> Result<bool, AllocError> {
+    Ok(PathKey::of(alloc, Path::from_text(path))?.as_bytes() == key)
+}
+
+// Whether the tree of the row's paths has under the base what the row says.
+fn has_under(alloc: Global, row: &Row) -> Result<bool, AllocError> {
+    let tree = tree_of(alloc, row.0)?;
+    let base = PathKey::of(alloc, Path::from_text(row.1))?;
+    let mut place = 0usize;
+    for (key, _) in tree.under(&base)? {
+        let Some(path) = row.2.get(place) else {
+            return Ok(false);
+        };
+        if !is_key_of(alloc, key, path)? {
+            return Ok(false);
+        }
+        place = place.wrapping_add(1);
+    }
+    Ok(place == row.2.len())
+}
+
+#[test]
+fn what_is_under_a_base(rt: HostRuntime) -> Result<(), Fail> {
+    for row in UNDER.iter() {
+        assert!(rt; has_under(rt.alloc(), row)?, "{}", row.1);
+    }
+    Ok(())
+}
+
+// Whether the entry is this value at this path.
+fn is_entry(
+    alloc: Global,
+    entry: Option<(&[u8], &u32)>,
+    path: &str,
+    want: u32,
+) -> Result<bool, AllocError> {
+    match entry {
+        Some((key, value)) => Ok(*value == want && is_key_of(alloc, key, path)?),
+        None => Ok(false),
+    }
+}
+
+#[test]
+fn first_and_last_entries(rt: HostRuntime) -> Result<(), Fail> {
+    let alloc = rt.alloc();
+    let tree = tree_of(alloc, &["a.b", "a//b", "b", "a"])?;
+    assert!(rt; is_entry(alloc, tree.first(), "a", 4)?);
+    assert!(rt; is_entry(alloc, tree.last(), "b", 3)?);
+    let empty = tree_of(alloc, &[])?;
+    assert!(rt; empty.first().is_none() && empty.last().is_none());
+    Ok(())
+}
+
+#[test]
+fn values_in_path_order(rt: HostRuntime) -> Result<(), Fail> {
+    let alloc = rt.alloc();
+    let tree = tree_of(alloc, &["a.b", "a//b", "b", "a"])?;
+    let mut values = Vec::new(alloc);
+    for (_, value) in tree.iter() {
+        values.push(*value)?;
+    }
+    assert!(rt; values.as_slice() == [4, 2, 1, 3].as_slice());
+    Ok(())
+}

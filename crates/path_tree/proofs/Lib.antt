@@ -1,0 +1,5 @@
+pub mod ReadLemmas
+pub mod RowLemmas
+pub mod OwnLemmas
+pub mod NearestLemmas
+pub mod UnderLemmas

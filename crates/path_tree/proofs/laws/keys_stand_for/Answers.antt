@@ -1,0 +1,5 @@
+use Rattle.path_tree.proofs.ReadLemmas.{key_values-values}
+use Rattle.path_tree.proofs.laws.keys_stand_for.Goals as goal
+
+pub returns : goal.returns
+returns c = key_values-values

@@ -1,0 +1,17 @@
+use Rattle.std.proofs.Common.{arith}
+use Rattle.std.proofs.lemmas.Grind.{common_steps}
+use Rattle.path_tree.proofs.ReadLemmas.{own-of, values-of}
+use Rattle.path_tree.proofs.made.MadeKey.of.Goals as goal
+
+pub returns-then-len-le-ROOM-clause-own : goal.returns-then-len-le-ROOM-clause-own
+returns-then-len-le-ROOM-clause-own c = own-of _ c.args.path.bytes.now (grind (arith, common_steps))
+
+pub returns-then-len-le-ROOM-clause-values : goal.returns-then-len-le-ROOM-clause-values
+returns-then-len-le-ROOM-clause-values c =
+    values-of _ c.args.path.bytes.now (grind (arith, common_steps))
+
+pub returns-clause-own : goal.returns-clause-own
+returns-clause-own c = own-of _ c.args.path.bytes.now (grind (arith, common_steps))
+
+pub returns-clause-values : goal.returns-clause-values
+returns-clause-values c = values-of _ c.args.path.bytes.now (grind (arith, common_steps))

@@ -1,0 +1,62 @@
+use Rattle.std.proofs.Common.{refl, sym, ap, ◌∙◌, ◌-◌, subst, arith}
+use Rattle.unix_path.specs.Cursor.{cursor_rest}
+use Rattle.unix_path.specs.Prefixes.{stripped_of}
+use Rattle.unix_path.specs.Views.{value_of}
+use Rattle.path_table.specs.Table.{value_at}
+use Rattle.path_tree.specs.Tree.{table_of}
+use Rattle.path_tree.proofs.NearestLemmas.{GoesUp, code_fits, goes_on, goes_up, is_nearest}
+use Rattle.path_tree.proofs.NearestLemmas.{none_nearer}
+use Rattle.path_tree.proofs.ReadLemmas.{own-of, values-of}
+use Rattle.path_tree.proofs.tree.PathTree.nearest_by.Goals as goal
+
+pub loop-value-init : goal.loop-value-init
+loop-value-init g c =
+    goes_up _ _ _ _ _ c.requires.own c.requires.values refl c.components-parts.ensures.values
+
+pub find-requires : goal.find-requires
+find-requires g c = own-of _ (cursor_rest c.loop-value.parts) c.loop-value.invariant.key_is
+
+pub returns-in-Some-clause-nearest : goal.returns-in-Some-clause-nearest
+returns-in-Some-clause-nearest g c =
+    let rows = table_of c.args.self.now in
+    let left = cursor_rest c.loop-value.parts in
+    is_nearest c.args.path.bytes.now c.args.key.now rows c.loop-value.end left _ _
+    c.loop-value.invariant
+    (c.in-Some.ensures
+    ∙ ap (λ v. value_at v rows) (values-of _ left c.loop-value.invariant.key_is))
+    (c.rest_behind.ensures.bytes
+    ∙ ap (stripped_of c.args.path.bytes.now) c.as_path.ensures.bytes)
+
+pub returns-in_default-next_back-clause-none : goal.returns-in_default-next_back-clause-none
+returns-in_default-next_back-clause-none g c = λ is.
+    let rows = table_of c.args.self.now in
+    let left = cursor_rest c.loop-value.parts in
+    none_nearer c.args.path.bytes.now c.args.key.now rows c.loop-value.end left
+    c.loop-value.invariant
+    (sym (c.in_default.ensures
+    ∙ ap (λ v. value_at v rows) (values-of _ left c.loop-value.invariant.key_is)))
+    c.in_default-next_back.ensures.steps.item_is.0
+
+pub overflow_sub-end : goal.overflow_sub-end
+overflow_sub-end g c =
+    omega (
+      arith,
+      c.code_len-end.ensures,
+      code_fits c.args.path.bytes.now c.args.key.now (table_of c.args.self.now) c.loop-value.end
+          (cursor_rest c.loop-value.parts) (cursor_rest c.next_back.new.self)
+          (value_of c.in-Some-next_back.part) c.loop-value.invariant
+          c.in-Some-next_back.ensures.steps.item_is,
+    )
+
+pub loop-value-preserved : goal.loop-value-preserved
+loop-value-preserved g c =
+    let rows = table_of c.args.self.now in
+    let left = cursor_rest c.loop-value.parts in
+    let new = cursor_rest c.next_back.new.self in
+    subst (λ n. GoesUp c.args.path.bytes.now c.args.key.now rows (c.loop-value.end - n) new)
+    (sym c.code_len-end.ensures)
+    (goes_on c.args.path.bytes.now c.args.key.now rows c.loop-value.end left new _
+    c.loop-value.invariant
+    (sym (c.in_default.ensures
+    ∙ ap (λ v. value_at v rows) (values-of _ left c.loop-value.invariant.key_is)))
+    c.in-Some-next_back.ensures.steps.item_is)

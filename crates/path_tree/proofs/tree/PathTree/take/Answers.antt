@@ -1,0 +1,41 @@
+use Rattle.std.proofs.Common.{ap, sym, ◌∙◌}
+use Rattle.path_table.proofs.UpdateLemmas.{elsewhere-remove_entry}
+use Rattle.path_tree.proofs.OwnLemmas.{Own-remove}
+use Rattle.path_tree.proofs.ReadLemmas.{own-stands}
+use Rattle.path_tree.proofs.RowLemmas.{lookup-rows_by, remove-rows_by, rows_by}
+use Rattle.path_tree.proofs.tree.PathTree.take.Goals as goal
+
+pub invariant_of-self : goal.invariant_of-self
+invariant_of-self g c =
+    let tree = c.args.self.now in
+    record {
+      own = Own-remove (λ k. k.items) tree.entries.entries c.remove.new.self.entries tree.own
+          _ c.remove.ensures.entries;
+    }
+
+pub returns-clause-value : goal.returns-clause-value
+returns-clause-value g c =
+    let tree = c.args.self.now in
+    let key = c.args.key.now in
+    c.remove.ensures.value
+    ∙ lookup-rows_by (λ k. k.items) key _ (own-stands key c.requires) tree.entries.entries tree.own
+
+pub returns-clause-rows : goal.returns-clause-rows
+returns-clause-rows g c =
+    let tree = c.args.self.now in
+    let key = c.args.key.now in
+    ap (rows_by (λ k. k.items)) c.remove.ensures.entries
+    ∙ remove-rows_by (λ k. k.items) key _ (own-stands key c.requires) tree.entries.entries tree.own
+
+pub returns-clause-gone : goal.returns-clause-gone
+returns-clause-gone g c =
+    let tree = c.args.self.now in
+    let key = c.args.key.now in
+    let new = c.remove.new.self.entries in
+    let own = Own-remove (λ k. k.items) tree.entries.entries new tree.own _
+    c.remove.ensures.entries in
+    sym (lookup-rows_by (λ k. k.items) key _ (own-stands key c.requires) new own)
+    ∙ c.remove.ensures.updates.1
+
+pub returns-clause-others : goal.returns-clause-others
+returns-clause-others g c = elsewhere-remove_entry _ _ _ (returns-clause-rows g c)

@@ -1,0 +1,18 @@
+-- What becomes of a tree once the borrow of one of its values ends. Not in Rust's std.
+use Rattle.std.specs.Prelude.{◌≡◌, List, Option}
+use Rattle.std.specs.Borrow.{Fml, LendsSo, MutBor, RattleType}
+use Rattle.std.specs.BTreeMap.{is_at}
+use Rattle.std.specs.Map.{set_value}
+use Rattle.unix_path.specs.Order.{values_cmp}
+use Rattle.unix_path.specs.Parts.{Value}
+use Rattle.path_tree.specs.Tree.{table_of}
+use Rattle.path_tree.specs.contracts.tree.PathTree.{the_row}
+use Rattle.path_tree.specs.declared.tree.PathTree.{PathTree}
+
+-- the tree behind s then has the last value behind r in the row at v; if r is `None`, it is as it
+-- was
+abbrev pub lends_value : (V : RattleType) → MutBor (PathTree V.Denot) → List Value
+    → Option (MutBor V.Denot) → Fml
+lends_value V s v r = LendsSo (the_row V) V s r
+    (λ t x. table_of t ≡ set_value (is_at (values_cmp v)) (table_of s.now) x)
+    (λ t. table_of t ≡ table_of s.now)

@@ -1,0 +1,8 @@
+//! Trees of values by path, in which equal paths are one key and a look-up needs no owned path.
+#![tactic(auto)]
+
+pub mod laws;
+mod made;
+pub mod tree;
+
+pub use tree::PathTree;

@@ -1,0 +1,82 @@
+//! The key of a path, made for a look-up: on the stack if it is short.
+ghost use Rattle.std.specs.Prelude.{◌≡◌, ◌≤◌, true, IfOk, IsOk, length, take};
+ghost use Rattle.unix_path.specs.Parts.{values};
+ghost use Rattle.path_keys.specs.Held.{key_bytes};
+ghost use Rattle.path_keys.specs.Keys.{key_of};
+ghost use Rattle.path_tree.specs.Read.{is_own, key_values};
+
+use path_keys::{PathKey, key_len, write_key};
+use std::alloc::{AllocError, Global};
+use unix_path::Path;
+
+// How many bytes a key on the stack has at most.
+pub(crate) const ROOM: usize = 512;
+
+// A key on the stack: the first `len` bytes of `room`.
+#[derive(Drop)]
+pub(crate) struct ShortKey {
+    room: [u8; ROOM],
+    len: usize,
+    ghost fits: { len ≤ 512 },
+}
+
+// The key of a path.
+#[derive(Drop)]
+pub(crate) enum MadeKey {
+    Short(ShortKey),
+    Long(PathKey),
+}
+
+impl MadeKey {
+    ghost use Rattle.path_tree.specs.Made.{made_bytes};
+
+    // The key of the path, on the stack if it has no more than 512 bytes.
+    #[inline]
+    pub(crate) fn of(alloc: Global, path: Path<'_>) -> Result<MadeKey, AllocError>
+        ensures own { IfOk result (λ made. is_own (made_bytes made) ≡ true) }
+        ensures values { IfOk result (λ made.
+            key_values (made_bytes made) ≡ values path.entry.bytes.now) }
+        ensures succeeds { length (key_of (values path.entry.bytes.now)) ≤ 512 → IsOk result }
+    {
+        let mut room = [0u8; ROOM];
+        let len = write_key(path, &mut room);
+        if len <= ROOM {
+            return Ok(MadeKey::Short(ShortKey { room, len }));
+        }
+        let key = PathKey::of(alloc, path)?;
+        Ok(MadeKey::Long(key))
+    }
+
+    // The bytes of the key.
+    #[inline]
+    pub(crate) fn as_bytes(&self) -> &[u8]
+        ensures { result.now ≡ made_bytes self.now }
+    {
+        match self {
+            MadeKey::Short(key) => &key.room[..key.len],
+            MadeKey::Long(key) => key.as_bytes(),
+        }
+    }
+}
+
+// The bytes of the path's key, in a list of their own.
+pub(crate) fn owned_key(alloc: Global, path: Path<'_>) -> Result<Vec<u8>, AllocError>
+    ensures own { IfOk result (λ key. is_own key.items ≡ true) }
+    ensures values { IfOk result (λ key. key_values key.items ≡ values path.entry.bytes.now) }
+{
+    let mut key = Vec::new(alloc);
+    let len = key_len(path);
+    key.reserve_exact(len)?;
+    key.resize(len, 0)?;
+    write_key(path, &mut key);
+    Ok(key)
+}
+
+// The bytes of a key that is kept.
+#[inline]
+pub(crate) fn bytes_of(key: &PathKey) -> &[u8]
+    ensures own { is_own result.now ≡ true }
+    ensures bytes { result.now ≡ key_bytes key.now }
+{
+    key.as_bytes()
+}

@@ -1,0 +1,70 @@
+//! The entries of a tree by the bytes of their keys.
+ghost use Rattle.std.specs.Prelude.{◌≡◌, true, IfOk, OnOk, OnErr, None, Some};
+ghost use Rattle.std.specs.Borrow.{sem};
+ghost use Rattle.std.specs.BTreeMap.{insert_entry, is_at};
+ghost use Rattle.std.specs.Map.{remove_entry};
+ghost use Rattle.std.specs.Option.{option_copied, option_copied_mut};
+ghost use Rattle.unix_path.specs.Order.{values_cmp};
+ghost use Rattle.path_table.specs.Table.{SameElsewhere, value_at};
+ghost use Rattle.path_tree.specs.Read.{is_own, key_values};
+
+use super::PathTree;
+use std::alloc::AllocError;
+
+impl<V> PathTree<V> {
+    ghost use Rattle.path_tree.specs.Lent.{lends_value};
+    ghost use Rattle.path_tree.specs.Tree.{table_of};
+
+    // The value at the path of this key.
+    #[inline]
+    pub(super) fn find(&self, key: &[u8]) -> Option<&V>
+        requires { is_own key.now ≡ true }
+        ensures { option_copied result ≡ value_at (key_values key.now) (table_of self.now) }
+    {
+        self.entries.get(key)
+    }
+
+    // A mutable reference to the value at the path of this key.
+    #[inline]
+    pub(super) fn find_mut(&mut self, key: &[u8]) -> Option<&mut V>
+        requires { is_own key.now ≡ true }
+        ensures* writes_back { sem 𝓛 (lends_value V.row self.entry (key_values key.now) result) }
+        ensures value { option_copied_mut result
+            ≡ value_at (key_values key.now) (table_of self.old) }
+    {
+        self.entries.get_mut(key)
+    }
+
+    // Puts the value at the path of this key, and gives the one that was there.
+    pub(super) fn put(&mut self, key: Vec<u8>, value: V) -> Result<Option<V>, AllocError>
+    where
+        V: Drop,
+        requires { is_own key.items ≡ true }
+        ensures rows { OnOk result (table_of self.new
+            ≡ insert_entry values_cmp (table_of self.old) (key_values key.items) value) }
+        ensures old { IfOk result (λ old. old
+            ≡ value_at (key_values key.items) (table_of self.old)) }
+        ensures found { OnOk result
+            (value_at (key_values key.items) (table_of self.new) ≡ Some value) }
+        ensures others { OnOk result
+            (SameElsewhere (key_values key.items) (table_of self.old) (table_of self.new)) }
+        ensures err { OnErr result (table_of self.new ≡ table_of self.old) }
+    {
+        let old = self.entries.insert(key, value)?;
+        Ok(old)
+    }
+
+    // Takes away the value at the path of this key.
+    #[inline]
+    pub(super) fn take(&mut self, key: &[u8]) -> Option<V>
+        requires { is_own key.now ≡ true }
+        ensures value { result ≡ value_at (key_values key.now) (table_of self.old) }
+        ensures rows { table_of self.new
+            ≡ remove_entry (is_at (values_cmp (key_values key.now))) (table_of self.old) }
+        ensures gone { value_at (key_values key.now) (table_of self.new) ≡ None }
+        ensures others { SameElsewhere (key_values key.now)
+            (table_of self.old) (table_of self.new) }
+    {
+        self.entries.remove(key)
+    }
+}
