@@ -12,3 +12,5 @@ pub mod EndLemmas
 pub mod WritingLemmas
 pub mod NameLemmas
 pub mod StepLemmas
+pub mod RangeLemmas
+pub mod KeyPathLemmas

@@ -1,7 +1,7 @@
 pub mod Places
 pub mod Walks
 pub mod Queries
-pub mod Within
+pub mod Refusals
 pub mod Layout
 pub mod SaturatedSize
 pub mod Steps

@@ -15,7 +15,7 @@ use unix_path::{Component, Path};
 
 /// What `unix_path_with_extension` answers if the extension has a slash. No buffer has as many
 /// bytes.
-pub const SEPARATOR: usize = usize::MAX;
+pub const SEPARATOR: usize = usize::MAX - 6;
 
 // What an answer is made of: a beginning, then a gap of one byte or none, and an end.
 #[derive(Clone, Copy)]

@@ -4,6 +4,7 @@
 mod canonical;
 mod firsts;
 mod joins;
+mod keys;
 mod lossy;
 mod names;
 mod places;

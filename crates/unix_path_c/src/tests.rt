@@ -1,6 +1,7 @@
 //! Rows of calls, as a caller from C makes them.
 mod canonical;
 mod joins;
+mod keys;
 mod lossy;
 mod mixed;
 mod places;

@@ -7,8 +7,8 @@ ghost use Rattle.path_within.specs.Resolved.{resolved_bytes_of};
 ghost use Rattle.path_within.specs.Below.{below_of, has_nul, names_below, IsBelow};
 ghost use Rattle.path_within.specs.Climbs.{Climbs};
 ghost use Rattle.path_within.specs.Requests.{request_names};
-ghost use Rattle.unix_path_c.specs.Within.{IsLength, buffer_size, escapes, no_memory};
-ghost use Rattle.unix_path_c.specs.Within.{nul_in_request};
+ghost use Rattle.unix_path_c.specs.Refusals.{IsLength, escapes, no_memory, nul_in_request};
+ghost use Rattle.unix_path_c.specs.SaturatedSize.{buffer_size};
 ghost use Rattle.path_runs.specs.Buffer.{buffer_after};
 
 use crate::writing::place_whole;

@@ -1,5 +1,5 @@
--- What a call for paths from outside answers if it gives no path.
-use Rattle.std.specs.Prelude.{ℕ, min, ◌-◌, ◌<◌, ◌^◌}
+-- What a call answers in place of a length, where it gives no bytes.
+use Rattle.std.specs.Prelude.{ℕ, ◌-◌, ◌<◌, ◌^◌}
 
 -- `SIZE_MAX - 1`: the request would leave its root
 abbrev pub escapes : ℕ
@@ -13,10 +13,14 @@ no_memory = 2 ^ 64 - 3
 abbrev pub nul_in_request : ℕ
 nul_in_request = 2 ^ 64 - 4
 
+-- `SIZE_MAX - 4`: the bytes are the key of no path
+abbrev pub not_a_key : ℕ
+not_a_key = 2 ^ 64 - 5
+
+-- `SIZE_MAX - 5`: the range of the key has no end
+abbrev pub no_end : ℕ
+no_end = 2 ^ 64 - 6
+
 -- the answer is a length, and so less than each of these
 abbrev pub IsLength : ℕ → Type 0
-IsLength answer = answer < nul_in_request
-
--- the number, or `PTRDIFF_MAX + 1` if it is more, which is the size of no buffer
-abbrev pub buffer_size : ℕ → ℕ
-buffer_size n = min n (2 ^ 63)
+IsLength answer = answer < no_end
