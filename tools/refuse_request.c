@@ -1,5 +1,6 @@
 /* Loaded before the C library: the request for memory with the number in REFUSED_REQUEST fails,
- * counted from 1. At the end it tells on standard error how many requests there were. */
+ * counted from 1. At the end it tells on standard error how many requests there were, and how many
+ * bytes the one that failed was for. */
 #define _GNU_SOURCE
 #include <dlfcn.h>
 #include <stdbool.h>
@@ -7,12 +8,16 @@
 #include <stdlib.h>
 
 static unsigned long requests;
+static size_t refused_size;
 
-static bool is_refused(void)
+static bool is_refused(size_t size)
 {
     const char *number = getenv("REFUSED_REQUEST");
     requests++;
-    return number != NULL && strtoul(number, NULL, 10) == requests;
+    if (number == NULL || strtoul(number, NULL, 10) != requests)
+        return false;
+    refused_size = size;
+    return true;
 }
 
 void *malloc(size_t size)
@@ -20,7 +25,7 @@ void *malloc(size_t size)
     static void *(*next)(size_t);
     if (next == NULL)
         next = (void *(*)(size_t))dlsym(RTLD_NEXT, "malloc");
-    return is_refused() ? NULL : next(size);
+    return is_refused(size) ? NULL : next(size);
 }
 
 void *realloc(void *old, size_t size)
@@ -28,10 +33,10 @@ void *realloc(void *old, size_t size)
     static void *(*next)(void *, size_t);
     if (next == NULL)
         next = (void *(*)(void *, size_t))dlsym(RTLD_NEXT, "realloc");
-    return is_refused() ? NULL : next(old, size);
+    return is_refused(size) ? NULL : next(old, size);
 }
 
 __attribute__((destructor)) static void tell(void)
 {
-    fprintf(stderr, "requests: %lu\n", requests);
+    fprintf(stderr, "requests: %lu, refused: %zu bytes\n", requests, refused_size);
 }

@@ -5,9 +5,11 @@ mod copies;
 mod edits;
 mod kept;
 mod keys;
+mod refusals;
 mod runs;
 mod strings;
 mod tables;
+mod trees;
 mod within;
 
 use super::{holds, path};

@@ -4,6 +4,7 @@ mod keys;
 mod owned;
 mod tables;
 mod texts;
+mod trees;
 mod views;
 
 use std::fmt;

@@ -43,10 +43,10 @@ fn path_joined(rt: HostRuntime) -> Result<(), Fail> {
 
 #[test]
 fn path_with_name(rt: HostRuntime) -> Result<(), Fail> {
-    let name = UnixStr::new("bar.txt");
+    let name = UnixStr::new("foobar.txt");
     report_path(
         path("/tmp/foo.txt").with_file_name(rt.alloc(), name),
-        "/tmp/bar.txt",
+        "/tmp/foobar.txt",
     )
 }
 

@@ -1,6 +1,6 @@
 //! Calls that promise to need no memory, of keys.
 use super::super::{drought, fails, path};
-use path_keys::{KeyError, PathKey, is_key, key_len, path_of, write_key};
+use path_keys::{KeyError, PathKey, is_key, key_len, path_of, write_key, write_path_of};
 use std::alloc::Global;
 use std::test::Fail;
 
@@ -27,11 +27,14 @@ fn is_told(alloc: Global) -> bool {
     is_no_key && is_no_memory && is_empty && is_key(b"\x61\x00")
 }
 
-// Whether a key is counted and written to a buffer.
+// Whether a key is counted and written to a buffer, and its path is, and those of no key aren't.
 fn is_written() -> bool {
     let mut buffer = [0u8; 4];
     let len = write_key(path("a//b"), &mut buffer);
-    len == 4 && key_len(path("a//b")) == 4 && buffer == *b"\x61\x00\x62\x00"
+    let is_key = len == 4 && key_len(path("a//b")) == 4 && buffer == *b"\x61\x00\x62\x00";
+    let is_path = write_path_of(b"\x61\x00\x62\x00", &mut buffer) == Some(3);
+    let is_none = write_path_of(b"\x61\x00\x62", &mut buffer).is_none();
+    is_key && is_path && is_none && buffer == *b"a/b\x00"
 }
 
 #[test]

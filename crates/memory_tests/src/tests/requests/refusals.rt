@@ -1,0 +1,118 @@
+//! Requests for memory of calls that are refused for another reason, which is told before any.
+use super::super::{holds, path};
+use super::report;
+use path_keys::{KeyError, path_of};
+use path_runs::edits::rejoin;
+use path_within::WithinError;
+use path_within::way::way;
+use path_within::within::{join_plain, join_within};
+use serde_json::Value;
+use std::alloc::AllocError;
+use std::test::Fail;
+use unix_path::bytes::UnixStr;
+use unix_path::json::{JsonError, from_json, to_json};
+use unix_path::{ExtensionError, Path, PathBuf};
+
+// The result of a test whose call refuses an extension for its slash.
+fn report_separator<T: Drop>(given: Result<T, ExtensionError>, is_left: bool) -> Result<(), Fail> {
+    match given {
+        Err(ExtensionError::Separator) => report(true, is_left),
+        Err(ExtensionError::Memory(_)) => report(false, is_left),
+        Ok(_) => report(true, false),
+    }
+}
+
+#[test]
+fn separator_not_set(rt: HostRuntime) -> Result<(), Fail> {
+    let mut buffer = PathBuf::from_text(rt.alloc(), "foo")?;
+    let given = buffer.set_extension(UnixStr::new("x/y"));
+    report_separator(given, holds(&buffer, "foo"))
+}
+
+#[test]
+fn separator_not_added(rt: HostRuntime) -> Result<(), Fail> {
+    let mut buffer = PathBuf::from_text(rt.alloc(), "foo")?;
+    let given = buffer.add_extension(UnixStr::new("x/y"));
+    report_separator(given, holds(&buffer, "foo"))
+}
+
+#[test]
+fn no_copy_with_separator(rt: HostRuntime) -> Result<(), Fail> {
+    let given = path("foo").with_extension(rt.alloc(), UnixStr::new("x/y"));
+    report_separator(given, true)
+}
+
+#[test]
+fn no_copy_with_added_separator(rt: HostRuntime) -> Result<(), Fail> {
+    let given = path("foo").with_added_extension(rt.alloc(), UnixStr::new("x/y"));
+    report_separator(given, true)
+}
+
+#[test]
+fn broken_bytes_not_written(rt: HostRuntime) -> Result<(), Fail> {
+    match to_json(rt.alloc(), Path::from_bytes(b"f\xff")) {
+        Err(JsonError::NotUtf8) => report(true, true),
+        Err(JsonError::Memory(_)) => report(false, true),
+        _ => report(true, false),
+    }
+}
+
+#[test]
+fn null_not_read(rt: HostRuntime) -> Result<(), Fail> {
+    match from_json(rt.alloc(), &Value::Null) {
+        Err(JsonError::NotString) => report(true, true),
+        Err(JsonError::Memory(_)) => report(false, true),
+        _ => report(true, false),
+    }
+}
+
+// The result of a test whose call finds no path.
+fn report_none(given: Result<Option<PathBuf>, AllocError>) -> Result<(), Fail> {
+    match given {
+        Ok(found) => report(true, found.is_none()),
+        Err(AllocError) => report(false, true),
+    }
+}
+
+#[test]
+fn other_path_not_rejoined(rt: HostRuntime) -> Result<(), Fail> {
+    report_none(rejoin(rt.alloc(), path("a/b"), path("c")))
+}
+
+#[test]
+fn no_way_from_root(rt: HostRuntime) -> Result<(), Fail> {
+    report_none(way(rt.alloc(), path("/a"), path("b")))
+}
+
+#[test]
+fn no_way_from_above(rt: HostRuntime) -> Result<(), Fail> {
+    report_none(way(rt.alloc(), path("../x"), path("y")))
+}
+
+// The result of a test whose call refuses a request that leaves its root.
+fn report_escape(given: Result<PathBuf, WithinError>) -> Result<(), Fail> {
+    match given {
+        Err(WithinError::Escapes) => report(true, true),
+        Err(WithinError::Memory(_)) => report(false, true),
+        Ok(_) => report(true, false),
+    }
+}
+
+#[test]
+fn climb_not_joined(rt: HostRuntime) -> Result<(), Fail> {
+    report_escape(join_within(rt.alloc(), path("/srv"), path("a/../..")))
+}
+
+#[test]
+fn up_not_joined_plainly(rt: HostRuntime) -> Result<(), Fail> {
+    report_escape(join_plain(rt.alloc(), path("/srv"), path("a/../b")))
+}
+
+#[test]
+fn no_key_not_read(rt: HostRuntime) -> Result<(), Fail> {
+    match path_of(rt.alloc(), b"\x61") {
+        Err(KeyError::NotAKey) => report(true, true),
+        Err(KeyError::Memory(_)) => report(false, true),
+        Ok(_) => report(true, false),
+    }
+}

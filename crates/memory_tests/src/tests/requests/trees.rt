@@ -1,0 +1,94 @@
+//! Requests for memory of trees of paths. The name of `LONG` bytes has a key that isn't made on the
+//! stack.
+use super::super::path;
+use super::report;
+use path_keys::PathKey;
+use path_tree::PathTree;
+use std::alloc::{AllocError, Global};
+use std::test::Fail;
+use unix_path::Path;
+
+const LONG: usize = 600;
+
+fn long_name(alloc: Global) -> Result<Vec<u8>, AllocError> {
+    let mut name = Vec::new(alloc);
+    name.resize(LONG, b'a')?;
+    Ok(name)
+}
+
+// A tree with 1 at the long name, and 2 at the empty path.
+fn tree_with(alloc: Global, name: &[u8]) -> Result<PathTree<u32>, AllocError> {
+    let mut tree = PathTree::new(alloc);
+    tree.insert(Path::from_bytes(name), 1)?;
+    tree.insert(path(""), 2)?;
+    Ok(tree)
+}
+
+// Whether the tree has both entries still.
+fn is_as_before(tree: &PathTree<u32>, key: &PathKey) -> bool {
+    tree.len() == 2 && tree.get(key) == Some(&1)
+}
+
+#[test]
+fn tree_path_inserted(rt: HostRuntime) -> Result<(), Fail> {
+    let alloc = rt.alloc();
+    let mut tree = PathTree::new(alloc);
+    let key = PathKey::of(alloc, path("a/b"))?;
+    match tree.insert(path("a//b"), 7u32) {
+        Ok(before) => report(true, before.is_none() && tree.get(&key) == Some(&7)),
+        Err(AllocError) => report(false, tree.is_empty() && tree.get(&key).is_none()),
+    }
+}
+
+#[test]
+fn tree_path_found(rt: HostRuntime) -> Result<(), Fail> {
+    let name = long_name(rt.alloc())?;
+    let tree = tree_with(rt.alloc(), &name)?;
+    match tree.get_path(Path::from_bytes(&name)) {
+        Ok(found) => report(true, found == Some(&1)),
+        Err(AllocError) => report(false, true),
+    }
+}
+
+#[test]
+fn tree_path_contained(rt: HostRuntime) -> Result<(), Fail> {
+    let name = long_name(rt.alloc())?;
+    let tree = tree_with(rt.alloc(), &name)?;
+    match tree.contains_path(Path::from_bytes(&name)) {
+        Ok(found) => report(true, found),
+        Err(AllocError) => report(false, true),
+    }
+}
+
+#[test]
+fn tree_path_removed(rt: HostRuntime) -> Result<(), Fail> {
+    let name = long_name(rt.alloc())?;
+    let mut tree = tree_with(rt.alloc(), &name)?;
+    let key = PathKey::of(rt.alloc(), Path::from_bytes(&name))?;
+    match tree.remove_path(Path::from_bytes(&name)) {
+        Ok(found) => report(true, found == Some(1) && tree.len() == 1),
+        Err(AllocError) => report(false, is_as_before(&tree, &key)),
+    }
+}
+
+#[test]
+fn tree_path_nearest(rt: HostRuntime) -> Result<(), Fail> {
+    let name = long_name(rt.alloc())?;
+    let tree = tree_with(rt.alloc(), &name)?;
+    match tree.nearest(Path::from_bytes(&name)) {
+        Ok(Some((rest, value))) => report(true, rest == path("") && *value == 1),
+        Ok(None) => report(true, false),
+        Err(AllocError) => report(false, true),
+    }
+}
+
+#[test]
+fn tree_paths_under(rt: HostRuntime) -> Result<(), Fail> {
+    let name = long_name(rt.alloc())?;
+    let tree = tree_with(rt.alloc(), &name)?;
+    let key = PathKey::of(rt.alloc(), Path::from_bytes(&name))?;
+    match tree.under(&key) {
+        Ok(found) => report(true, found.count() == 1),
+        Err(AllocError) => report(false, is_as_before(&tree, &key)),
+    }
+}

@@ -1,0 +1,44 @@
+//! Calls that promise to need no memory, of trees.
+use super::super::{drought, fails, path};
+use path_keys::PathKey;
+use path_tree::PathTree;
+use std::alloc::AllocError;
+use std::test::Fail;
+use unix_path::Path;
+
+// Whether a path is found, by its key and by itself, and whether it is the nearest of what is below
+// it.
+fn is_found(tree: &PathTree<u8>, key: &PathKey, name: &[u8]) -> Result<bool, AllocError> {
+    let by_path = tree.get_path(Path::from_bytes(name))? == Some(&1);
+    let is_in = tree.contains(key) && tree.contains_path(path("a//b"))?;
+    let nearest = match tree.nearest(path("a/b/c"))? {
+        Some((rest, value)) => rest == path("c") && *value == 2,
+        None => false,
+    };
+    Ok(by_path && is_in && nearest && tree.get(key) == Some(&2))
+}
+
+// Whether both entries are taken, by the key and by the path.
+fn is_emptied(tree: &mut PathTree<u8>, key: &PathKey, name: &[u8]) -> Result<bool, AllocError> {
+    let is_refused = fails(tree.insert(path("c"), 3));
+    let by_key = tree.remove(key) == Some(2);
+    let by_path = tree.remove_path(Path::from_bytes(name))? == Some(1);
+    Ok(is_refused && by_key && by_path && tree.is_empty())
+}
+
+// The longest path of which each key fits the stack, for which look-ups promise success.
+#[test]
+fn trees_are_asked_and_emptied_without_memory(rt: HostRuntime) -> Result<(), Fail> {
+    let alloc = rt.alloc();
+    let mut tree = PathTree::new(alloc);
+    let mut name = Vec::new(alloc);
+    name.resize(511, b'a')?;
+    tree.insert(Path::from_bytes(&name), 1)?;
+    tree.insert(path("a/b"), 2)?;
+    let key = PathKey::of(alloc, path("a/./b"))?;
+    let _dry = drought(alloc)?;
+    let is_found = is_found(&tree, &key, &name);
+    let is_emptied = is_emptied(&mut tree, &key, &name);
+    assert!(rt; is_found? && is_emptied?);
+    Ok(())
+}
