@@ -1,12 +1,15 @@
 PREFIX ?= /usr/local
 PROGRAM = crates/pathtool/out/pathtool
-LIBRARY = crates/unix_path_c/out/libunix_path_c.a
+LIBRARIES = $(if $(UNIX_PATH_LIB),$(dir $(UNIX_PATH_LIB)),crates/unix_path_c/out/)
+VERSION = $(shell sed -n 's/^.define UNIX_PATH_VERSION "\(.*\)"/\1/p' include/unix_path.h)
+FILL = s|@PREFIX@|$(PREFIX)|; s|@VERSION@|$(VERSION)|
+PLACE = $(DESTDIR)$(PREFIX)
 JOBS = crates/path_jobs/out/path_jobs
 SOURCES := $(shell find crates.txt crates -name out -prune -o \
 	\( -name '*.rt' -o -name '*.antt' -o -name crates.txt \) -print)
 
-.PHONY: help run check test lib test-faces install install_program install_library bench \
-	bench_tools count differential ends
+.PHONY: help run check test lib test-faces install install_program install_library install_shared \
+	uninstall bench bench_tools count differential ends
 
 help:
 	@echo 'make run           runs pathtool on standard input. Proves and builds it first'
@@ -24,12 +27,16 @@ help:
 	@echo '                   seed, as in  make differential lines=1000000 seed=20'
 	@echo 'make ends          runs pathtool with ends that fail, little memory and large inputs.'
 	@echo '                   Proves and builds it first'
-	@echo 'make lib           builds the library for C and prints where it stands. Proves it first'
-	@echo 'make test-faces    tries the calls from C and from Rust. Proves and builds the library'
-	@echo '                   first; needs cc, and cargo for the calls from Rust'
-	@echo 'make install       puts the program, its manual page, the library, its header and its'
-	@echo '                   pkg-config file below PREFIX (/usr/local). Proves and builds first.'
-	@echo '                   install_program and install_library put one of the two'
+	@echo 'make lib           builds the libraries for C, an archive and a shared one beside it, and'
+	@echo '                   prints where they stand. Proves them first'
+	@echo 'make test-faces    tries the calls from C and from Rust, and the examples over SQLite and'
+	@echo '                   etcd. Proves and builds the library first; needs cc, cargo for the'
+	@echo '                   calls from Rust, and for etcd pathtool, as make run builds it'
+	@echo 'make install       puts the program, its manual page, the libraries, their headers and'
+	@echo '                   their pkg-config files below PREFIX (/usr/local). Proves and builds'
+	@echo '                   first what was not proved from these sources; compares no times.'
+	@echo '                   install_program and install_library put one of the two, and'
+	@echo '                   make uninstall takes all away'
 	@echo
 	@echo 'A first proof of the program (run, bench, differential, ends, install_program) takes'
 	@echo 'four to seven minutes on four cores, and one of the library (lib, test-faces,'
@@ -72,29 +79,46 @@ differential: $(PROGRAM)
 ends: $(PROGRAM)
 	@tools/ends
 
-$(LIBRARY): $(SOURCES)
-	@tools/library > /dev/null
-
-lib: $(LIBRARY)
-	@tools/library --join
+lib:
+	@tools/library
 
 test-faces: $(if $(UNIX_PATH_LIB),,lib)
 	@tools/test_faces
 
 install: install_program install_library
 
-install_program: $(PROGRAM)
-	@install -D -m 755 $(PROGRAM) $(DESTDIR)$(PREFIX)/bin/pathtool
-	@install -D -m 644 man/pathtool.1 $(DESTDIR)$(PREFIX)/share/man/man1/pathtool.1
-	@echo 'installed $(DESTDIR)$(PREFIX)/bin/pathtool'
-	@echo 'installed $(DESTDIR)$(PREFIX)/share/man/man1/pathtool.1'
+# What is put in place was proved from the sources as they are: not files' times are compared, but
+# what they hold.
+install_program:
+	@tools/stamps.py check pathtool || tools/build pathtool >&2
+	@tools/stamps.py check pathtool
+	@install -D -m 755 $(PROGRAM) $(PLACE)/bin/pathtool
+	@install -D -m 644 man/pathtool.1 $(PLACE)/share/man/man1/pathtool.1
+	@printf 'installed %s\n' $(PLACE)/bin/pathtool $(PLACE)/share/man/man1/pathtool.1
 
-install_library: $(LIBRARY)
-	@install -D -m 644 $(LIBRARY) $(DESTDIR)$(PREFIX)/lib/libunix_path_c.a
-	@install -D -m 644 include/unix_path.h $(DESTDIR)$(PREFIX)/include/unix_path.h
-	@install -d $(DESTDIR)$(PREFIX)/lib/pkgconfig
-	@sed 's|@PREFIX@|$(PREFIX)|' unix_path.pc.in \
-		> $(DESTDIR)$(PREFIX)/lib/pkgconfig/unix_path.pc
-	@echo 'installed $(DESTDIR)$(PREFIX)/lib/libunix_path_c.a'
-	@echo 'installed $(DESTDIR)$(PREFIX)/include/unix_path.h'
-	@echo 'installed $(DESTDIR)$(PREFIX)/lib/pkgconfig/unix_path.pc'
+install_library:
+	@$(if $(UNIX_PATH_LIB),,tools/library > /dev/null)
+	@tools/stamps.py check unix_path_c $(LIBRARIES) || \
+		{ echo '$(LIBRARIES) was not built from these sources' >&2; exit 1; }
+	@install -d $(PLACE)/lib/pkgconfig $(PLACE)/include
+	@install -m 644 include/unix_path.h include/unix_path.hpp $(PLACE)/include
+	@install -m 644 $(LIBRARIES)libunix_path_c.a $(PLACE)/lib
+	@sed '$(FILL)' unix_path.pc.in > $(PLACE)/lib/pkgconfig/unix_path.pc
+	@printf 'installed $(PLACE)/%s\n' include/unix_path.h include/unix_path.hpp \
+		lib/libunix_path_c.a lib/pkgconfig/unix_path.pc
+	@[ ! -e $(LIBRARIES)libunix_path.so.1 ] || $(MAKE) -s install_shared
+
+# Where there is no cc, there is no shared library.
+install_shared:
+	@install -m 755 $(LIBRARIES)libunix_path.so.1 $(PLACE)/lib
+	@ln -sf libunix_path.so.1 $(PLACE)/lib/libunix_path.so
+	@sed '$(FILL)' unix_path_shared.pc.in > $(PLACE)/lib/pkgconfig/unix_path_shared.pc
+	@printf 'installed $(PLACE)/%s\n' lib/libunix_path.so.1 lib/libunix_path.so \
+		lib/pkgconfig/unix_path_shared.pc
+
+uninstall:
+	@for file in bin/pathtool share/man/man1/pathtool.1 include/unix_path.h \
+		include/unix_path.hpp lib/libunix_path_c.a lib/libunix_path.so lib/libunix_path.so.1 \
+		lib/pkgconfig/unix_path.pc lib/pkgconfig/unix_path_shared.pc; do \
+		if [ -e "$(PLACE)/$$file" ]; then \
+			rm "$(PLACE)/$$file" && echo "removed $(PLACE)/$$file"; fi; done

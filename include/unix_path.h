@@ -4,22 +4,60 @@
  * needs none behind it. Its parts are the root, a leading `.`, and then each name and each `..`;
  * paths are equal if their parts are. No file is touched, and `..` is a part like a name. Only
  * unix_path_resolved, unix_path_join_within, unix_path_join_below, unix_path_climbs and
- * unix_path_check_request let `..` undo the name before it.
- * Cast a `char *` to `const uint8_t *`. No answer ends in a NUL.
+ * unix_path_check_request let `..` undo the name before it. For example, with <stdio.h> and
+ * <string.h>:
+ *
+ *     const char *root = "/srv", *request = "a/../b";
+ *     char out[64];
+ *     size_t room = sizeof out - 1;
+ *     size_t length = unix_path_join_below(root, strlen(root), request, strlen(request), false,
+ *                                          out, room);
+ *     if (!unix_path_is_length(length)) {
+ *         puts("refused");
+ *     } else if (length > room) {
+ *         puts("too long");
+ *     } else {
+ *         out[length] = '\0';
+ *         puts(out);
+ *     }
+ *
+ * It prints `/srv/b`.
  *
  * For every call:
  *  - It returns, whatever the bytes are, and reads nothing but the bytes and records given to it.
  *  - Lengths and places count bytes. A length is at most PTRDIFF_MAX.
- *  - No pointer is null, even if the length beside it is 0: for an empty std::string_view, whose
- *    data() may be null, pass "".
+ *  - A path of no bytes, and an out of no room, may have a null pointer; else no pointer is null.
+ *    The calls of the library itself take none: a function of this header, which isn't proved,
+ *    passes them another in its place. Without these functions, as through the library's symbols
+ *    and where UNIX_PATH_EXPORTS_ONLY was defined before this file, no pointer is null at all.
  *  - What a call writes (walk, part, place, out) overlaps nothing else that the call is given.
  *  - If a call answers false, the records that it would write to stay as they were.
  *  - No call keeps anything, so threads may call at the same time. None allocates except
- *    unix_path_resolved and unix_path_join_within, which free what they allocate by malloc.
+ *    unix_path_resolved and unix_path_join_within, which free what they allocate. They call malloc
+ *    and free, and these have to be of one allocator: don't make these two calls where malloc may
+ *    not be called, as in a signal handler, or in a forked child of a process with threads.
  *
  * The calls with `out` return how many bytes their answer has. If that is at most out_length, the
  * answer stands at the beginning of out, and the bytes behind it stay as they were. Else nothing is
- * written, and a second call with room for as many bytes writes all of the answer.
+ * written, and a second call with room for as many bytes writes all of the answer. No answer ends
+ * in a NUL: leave room for one and write it, as above, before an answer goes to the system, which
+ * cuts it at each NUL byte that it holds. Each call below says whether its answer may hold one, and
+ * unix_path_is_c_string whether it does.
+ *
+ * What is no length is a refusal; nothing is written then:
+ *
+ *     UNIX_PATH_SEPARATOR        unix_path_with_extension: the extension has a slash
+ *     UNIX_PATH_ESCAPES          unix_path_join_within, unix_path_join_below: the request climbs
+ *     UNIX_PATH_NO_MEMORY        unix_path_resolved, unix_path_join_within: an allocation failed
+ *     UNIX_PATH_NUL_IN_REQUEST   unix_path_join_below: the request has a NUL byte
+ *     UNIX_PATH_NOT_A_KEY        unix_path_from_key, unix_path_key_end: no path has this key
+ *     UNIX_PATH_NO_END           unix_path_key_end: the key is empty, and every key in its range
+ *
+ * All are greater than the length of any buffer, and unix_path_is_length tells them from lengths.
+ * None is SIZE_MAX: one more than a refusal is no size that malloc gives.
+ *
+ * The attributes by which a compiler warns of a misuse are left out if UNIX_PATH_NO_ATTRIBUTES was
+ * defined before this file, which needs C11 or C++11.
  */
 #ifndef UNIX_PATH_H
 #define UNIX_PATH_H
@@ -28,20 +66,33 @@
 #include <stddef.h>
 #include <stdint.h>
 
+/* The version. While its first number stays, no call goes, and none changes its type or what it
+ * answers, nor does a record or a number of this file: a program that was built with an older
+ * version runs with the shared library of a newer one. */
+#define UNIX_PATH_VERSION_MAJOR 1
+#define UNIX_PATH_VERSION_MINOR 1
+#define UNIX_PATH_VERSION "1.1"
+
 #ifdef __cplusplus
+static_assert(sizeof(size_t) == 8, "the library is for lengths of 64 bits");
 extern "C" {
+#else
+_Static_assert(sizeof(size_t) == 8, "the library is for lengths of 64 bits");
 #endif
 
-/* What unix_path_with_extension answers if the extension has a slash. Nothing is written. */
-#define UNIX_PATH_SEPARATOR SIZE_MAX
+/* What unix_path_with_extension answers if the extension has a slash. */
+#define UNIX_PATH_SEPARATOR (SIZE_MAX - 6)
 /* What unix_path_join_within and unix_path_join_below answer if the request climbs. Nothing is
- * written or allocated. */
+ * allocated. */
 #define UNIX_PATH_ESCAPES (SIZE_MAX - 1)
-/* What unix_path_resolved and unix_path_join_within answer if an allocation failed. Nothing is
- * written. */
+/* What unix_path_resolved and unix_path_join_within answer if an allocation failed. */
 #define UNIX_PATH_NO_MEMORY (SIZE_MAX - 2)
-/* What unix_path_join_below answers if the request has a NUL byte. Nothing is written. */
+/* What unix_path_join_below answers if the request has a NUL byte. */
 #define UNIX_PATH_NUL_IN_REQUEST (SIZE_MAX - 3)
+/* What unix_path_from_key and unix_path_key_end answer if the bytes are the key of no path. */
+#define UNIX_PATH_NOT_A_KEY (SIZE_MAX - 4)
+/* What unix_path_key_end answers to the empty key, whose range has all keys and no end. */
+#define UNIX_PATH_NO_END (SIZE_MAX - 5)
 
 /* What is left of a walk over a path: the bytes from front up to back. Nothing is left if front is
  * greater than back, or back is greater than the path's length: a record may hold anything. */
@@ -73,131 +124,138 @@ typedef struct {
 
 /* Begins a walk over the whole path, from 0 to the end of its last part. A record that holds 0 and
  * the path's length begins one too. */
-void unix_path_components(const uint8_t *path, size_t path_length, unix_path_walk *walk);
+void unix_path_components(const void *path, size_t path_length, unix_path_walk *walk);
 
 /* Takes the first part that is left; false if none is. For `/a` it gives the root, then `a`. */
-bool unix_path_next(const uint8_t *path, size_t path_length, unix_path_walk *walk,
+bool unix_path_next(const void *path, size_t path_length, unix_path_walk *walk,
                     unix_path_part *part);
 
 /* Takes the last part that is left; false if none is. For `/a` it gives `a`, then the root. */
-bool unix_path_next_back(const uint8_t *path, size_t path_length, unix_path_walk *walk,
+bool unix_path_next_back(const void *path, size_t path_length, unix_path_walk *walk,
                          unix_path_part *part);
 
 /* The place of the parts that are left, from the first to the end of the last. Of `a/./b/` it is
  * `a/./b` before any part is taken, and `b` after the first. */
-void unix_path_as_path(const uint8_t *path, size_t path_length, const unix_path_walk *walk,
+void unix_path_as_path(const void *path, size_t path_length, const unix_path_walk *walk,
                        unix_path_place *place);
 
-/* Places. An answer of no bytes stands somewhere in the path. */
+/* Places. An answer of no bytes stands somewhere in the path. No NUL stands behind a place: copy
+ * what goes to the system. A parent or a rest of no bytes stands for the current directory. */
 
 /* The path without its last part; false for the root and for the empty path. It begins where the
  * path begins. Of `/a//b/` it is `/a`, and of `a` it is empty. */
-bool unix_path_parent(const uint8_t *path, size_t path_length, unix_path_place *place);
+bool unix_path_parent(const void *path, size_t path_length, unix_path_place *place);
 
 /* The last part if it is a name; else false. Of `a/b.txt/.` it is `b.txt`. */
-bool unix_path_file_name(const uint8_t *path, size_t path_length, unix_path_place *place);
+bool unix_path_file_name(const void *path, size_t path_length, unix_path_place *place);
 
 /* The file name up to its last dot; all of it if that dot is its first byte or there is none.
  * False if there is no file name. Of `a.tar.gz` it is `a.tar`, and of `.a` it is `.a`. */
-bool unix_path_file_stem(const uint8_t *path, size_t path_length, unix_path_place *place);
+bool unix_path_file_stem(const void *path, size_t path_length, unix_path_place *place);
 
 /* The file name behind its last dot; false if that dot is its first byte, or there is no dot or no
  * file name. Of `a.tar.gz` it is `gz`. */
-bool unix_path_extension(const uint8_t *path, size_t path_length, unix_path_place *place);
+bool unix_path_extension(const void *path, size_t path_length, unix_path_place *place);
 
 /* The file name up to its first dot behind its first byte; all of it if there is none. False if
  * there is no file name. Of `a.tar.gz` it is `a`, and of `.a.rs` it is `.a`. */
-bool unix_path_file_prefix(const uint8_t *path, size_t path_length, unix_path_place *place);
+bool unix_path_file_prefix(const void *path, size_t path_length, unix_path_place *place);
 
 /* What follows base in the path; false if the path doesn't start with base. Of `/a//b/` and
  * `/a` it is `b`. */
-bool unix_path_strip_prefix(const uint8_t *path, size_t path_length, const uint8_t *base,
+bool unix_path_strip_prefix(const void *path, size_t path_length, const void *base,
                             size_t base_length, unix_path_place *place);
 
 /* Questions. */
 
 /* Whether the parts of b begin those of a: `/etc/passwd` starts with `/etc/`, and not with `/e`. */
-bool unix_path_starts_with(const uint8_t *a, size_t a_length, const uint8_t *b, size_t b_length);
+bool unix_path_starts_with(const void *a, size_t a_length, const void *b, size_t b_length);
 
 /* Whether the parts of b end those of a: `/etc/passwd` ends with `passwd`. */
-bool unix_path_ends_with(const uint8_t *a, size_t a_length, const uint8_t *b, size_t b_length);
+bool unix_path_ends_with(const void *a, size_t a_length, const void *b, size_t b_length);
 
 /* Whether a and b have the same parts. `a/./b//` and `a/b` have, and `./a` and `a` haven't. */
-bool unix_path_equal(const uint8_t *a, size_t a_length, const uint8_t *b, size_t b_length);
+bool unix_path_equal(const void *a, size_t a_length, const void *b, size_t b_length);
 
 /* The order by parts: -1, 0 or 1 if a is less than, equal to or greater than b. The root is
  * less than `.`, `.` is less than `..`, and `..` is less than a name; `a/b` is less than `a.b`. */
-int32_t unix_path_compare(const uint8_t *a, size_t a_length, const uint8_t *b, size_t b_length);
+int32_t unix_path_compare(const void *a, size_t a_length, const void *b, size_t b_length);
 
 /* A number that is the same for equal paths, and in each run. It has no key: whoever chooses the
  * paths can find many that share a number. */
-uint64_t unix_path_hash(const uint8_t *path, size_t path_length);
+uint64_t unix_path_hash(const void *path, size_t path_length);
 
 /* Whether the bytes are UTF-8. */
-bool unix_path_is_utf8(const uint8_t *path, size_t path_length);
+bool unix_path_is_utf8(const void *path, size_t path_length);
 
 /* Whether the path has a root, so that its first byte is a slash. */
-bool unix_path_is_absolute(const uint8_t *path, size_t path_length);
+bool unix_path_is_absolute(const void *path, size_t path_length);
 
 /* Whether the path has a root or ever goes above where it starts, even if later names come down
  * again. True for `/a` and `a/../../b`, and false for `a/../b`. */
-bool unix_path_climbs(const uint8_t *path, size_t path_length);
+bool unix_path_climbs(const void *path, size_t path_length);
 
 /* Why a path from outside is no request that stays below a root by names: 1 if it has a root, else
  * 2 if it climbs, else 3 if it has a NUL byte, at which a system call cuts it; 0 if it is one. */
-int32_t unix_path_check_request(const uint8_t *path, size_t path_length);
+int32_t unix_path_check_request(const void *path, size_t path_length);
 
 /* The place just behind the last slash of the longest string that both begin with; 0 if that
  * string has none. It counts bytes, not parts. For `a/./b` and `a/b` it is 2. */
-size_t unix_path_common_dir(const uint8_t *a, size_t a_length, const uint8_t *b, size_t b_length);
+size_t unix_path_common_dir(const void *a, size_t a_length, const void *b, size_t b_length);
 
 /* New paths and text, written to out. */
 
 /* path joined to base: path alone if it has a root; else base, a slash unless base is empty or
- * ends with one, and path. `/a` with `./b` gives `/a/./b`, and with `/b` gives `/b`. */
-size_t unix_path_join(const uint8_t *base, size_t base_length, const uint8_t *path,
-                      size_t path_length, uint8_t *out, size_t out_length);
+ * ends with one, and path. `/a` with `./b` gives `/a/./b`, and with `/b` gives `/b`. It has at
+ * most as many bytes as both and one more, and holds a NUL if what it is made of does. */
+size_t unix_path_join(const void *base, size_t base_length, const void *path,
+                      size_t path_length, void *out, size_t out_length);
 
 /* The path with its file name replaced, or with name joined to it if it has none. `/a/b.txt` with
- * `c` gives `/a/c`. */
-size_t unix_path_with_file_name(const uint8_t *path, size_t path_length, const uint8_t *name,
-                                size_t name_length, uint8_t *out, size_t out_length);
+ * `c` gives `/a/c`. It holds a NUL if what it is made of does. */
+size_t unix_path_with_file_name(const void *path, size_t path_length, const void *name,
+                                size_t name_length, void *out, size_t out_length);
 
 /* The path with its extension replaced, or taken away if the new one is empty; the path as it is
  * if it has no file name. UNIX_PATH_SEPARATOR if the extension has a slash. `a.rs` with
- * `txt` gives `a.txt`. */
-size_t unix_path_with_extension(const uint8_t *path, size_t path_length, const uint8_t *extension,
-                                size_t extension_length, uint8_t *out, size_t out_length);
+ * `txt` gives `a.txt`. It holds a NUL if what it is made of does. */
+size_t unix_path_with_extension(const void *path, size_t path_length, const void *extension,
+                                size_t extension_length, void *out, size_t out_length);
 
 /* The one shortest path with the same parts. Of `.//a/./b/` it is `./a/b`. It is never longer than
- * the path. */
-size_t unix_path_canonical(const uint8_t *path, size_t path_length, uint8_t *out,
+ * the path, and holds a NUL if a part does. */
+size_t unix_path_canonical(const void *path, size_t path_length, void *out,
                            size_t out_length);
 
 /* The path as UTF-8, with U+FFFD in place of what isn't. It has at most three times as many bytes
- * as the path. A length above SIZE_MAX is returned as SIZE_MAX. */
-size_t unix_path_to_string_lossy(const uint8_t *path, size_t path_length, uint8_t *out,
+ * as the path, and as many NULs. A length above SIZE_MAX is returned as SIZE_MAX. */
+size_t unix_path_to_string_lossy(const void *path, size_t path_length, void *out,
                                  size_t out_length);
 
 /* The path with each `..` dropped together with the name before it, in canonical spelling: `.` is
  * dropped too, and so is `..` behind the root. Without a root, a `..` with no name before it stays
  * in front. It goes by names alone: if a part may be a link, only the system knows where `..`
- * leads. UNIX_PATH_NO_MEMORY if an allocation failed. Of `a/../..//b/.` it is `../b`. */
-size_t unix_path_resolved(const uint8_t *path, size_t path_length, uint8_t *out,
+ * leads. UNIX_PATH_NO_MEMORY if an allocation failed. Of `a/../..//b/.` it is `../b`. It has at
+ * most as many bytes as the path, and may hold a NUL. An answer of no bytes, as of `a/..`, stands
+ * for the current directory: give the system `.` in its place. */
+size_t unix_path_resolved(const void *path, size_t path_length, void *out,
                           size_t out_length);
 
 /* The request joined to the root and resolved, so that it stays under the resolved root.
  * UNIX_PATH_ESCAPES exactly if the request climbs, before anything is allocated, and
  * UNIX_PATH_NO_MEMORY only if an allocation failed. It goes by names alone: if a part may be a
  * link, refuse a request in which unix_path_next gives a root or a `..`, and take unix_path_join.
- * An empty answer stands for `.`. `/srv` with `a/../b` gives `/srv/b`. */
-size_t unix_path_join_within(const uint8_t *root, size_t root_length, const uint8_t *request,
-                             size_t request_length, uint8_t *out, size_t out_length);
+ * An empty answer stands for `.`. It has at most as many bytes as both and one more, and holds a
+ * NUL if a part that stays does, of which unix_path_join_below tells. `/srv` with `a/../b` gives
+ * `/srv/b`. */
+size_t unix_path_join_within(const void *root, size_t root_length, const void *request,
+                             size_t request_length, void *out, size_t out_length);
 
 /* The request joined below the root: the root as it stands, byte for byte, and behind it the names
  * that the request resolves to, with a slash between two of them and, where one is wanted, behind
  * the root. Behind the root stand no `..`, no `.`, no NUL and no slash at the end; if the request
- * has no name, the answer is the root alone, and if that is empty too, it stands for `.`.
+ * has no name, the answer is the root alone, and if that is empty too, it stands for `.`. The
+ * answer holds a NUL only if the root does.
  *
  * as_url says how the request is read. If it is false, the answer is UNIX_PATH_ESCAPES exactly if
  * the request climbs; unix_path_check_request tells whether by a root. If it is true, as for the
@@ -208,8 +266,250 @@ size_t unix_path_join_within(const uint8_t *root, size_t root_length, const uint
  * It goes by names alone: if a part below the root may be a link, let the system refuse links. A
  * length above PTRDIFF_MAX is returned as PTRDIFF_MAX + 1. `/srv/` with `a/../b` gives `/srv/b`;
  * with `/../b` it gives `/srv/b` as a URL, and else UNIX_PATH_ESCAPES. */
-size_t unix_path_join_below(const uint8_t *root, size_t root_length, const uint8_t *request,
-                            size_t request_length, bool as_url, uint8_t *out, size_t out_length);
+size_t unix_path_join_below(const void *root, size_t root_length, const void *request,
+                            size_t request_length, bool as_url, void *out, size_t out_length);
+
+/* Keys, for a store that compares keys byte by byte, as memcmp does and then by length. Keys stand
+ * in the order of unix_path_compare, and are the same exactly if unix_path_equal is true.
+ *
+ * A key is the parts of the path, in order, each as these bytes:
+ *
+ *     the root                          00 01
+ *     a leading `.`                     00 02
+ *     each `..`                         00 03
+ *     a name                            its bytes, each that is less than 2F raised by one, then 00
+ *
+ * The key of `/srv//a-1.txt/..` is 00 01, 73 72 76 00, 61 2E 31 2F 74 78 74 00, 00 03, and that of
+ * the empty path has no bytes. One key begins another exactly if the other's path starts with its
+ * path: `a` is 61 00, and `ab` is 61 62 00. */
+
+/* The key of the path: at most two bytes more than the path has. Of `/a` it is 00 01 61 00. */
+size_t unix_path_key(const void *path, size_t path_length, void *out, size_t out_length);
+
+/* The path of the key: the canonical spelling of the paths that have it, which has at most half as
+ * many bytes more than the key. UNIX_PATH_NOT_A_KEY exactly if the bytes are the key of no path. Of
+ * 00 02 61 00 62 00 it is `./a/b`. */
+size_t unix_path_from_key(const void *key, size_t key_length, void *out, size_t out_length);
+
+/* The end of the key's range: the key with its last byte raised by one, and so as long as the key.
+ * A path starts with the key's path exactly if its key is not less than that key and less than this
+ * end. UNIX_PATH_NO_END exactly for the empty key: every key lies in its range. UNIX_PATH_NOT_A_KEY
+ * exactly if the bytes are the key of no path. Of 61 00, the key of `a`, it is 61 01. */
+size_t unix_path_key_end(const void *key, size_t key_length, void *out, size_t out_length);
+
+#ifdef __cplusplus
+#define UNIX_PATH_INLINE inline
+#else
+#define UNIX_PATH_INLINE static inline
+#endif
+
+/* Whether what a call with `out` answers is a length, and no refusal. It is false too for a length
+ * above PTRDIFF_MAX, which is SIZE_MAX / 2, and for which no buffer has room. */
+UNIX_PATH_INLINE bool unix_path_is_length(size_t answer) {
+    return answer <= SIZE_MAX / 2;
+}
+
+/* Whether no byte is NUL, so that the system reads all of the path once a NUL stands behind it. */
+UNIX_PATH_INLINE bool unix_path_is_c_string(const void *path, size_t path_length) {
+    const char *bytes = (const char *)path;
+    for (size_t at = 0; at < path_length; at++) {
+        if (bytes[at] == '\0') {
+            return false;
+        }
+    }
+    return true;
+}
+
+#ifndef UNIX_PATH_EXPORTS_ONLY
+/* From here on the name of each call stands for a function of this header, which makes the call
+ * with a pointer that isn't null in the place of one that may be. Compilers that know how are told
+ * what it reads and writes, and that its answer is to be looked at. */
+
+#if defined(__GNUC__) && !defined(UNIX_PATH_NO_ATTRIBUTES)
+#pragma GCC diagnostic push
+#pragma GCC diagnostic ignored "-Wredundant-decls"
+#define UNIX_PATH_NONNULL(...) __attribute__((__nonnull__(__VA_ARGS__)))
+#define UNIX_PATH_ALL_NONNULL __attribute__((__nonnull__))
+#if (defined(__cplusplus) && __cplusplus >= 201703L)                                               \
+    || (defined(__STDC_VERSION__) && __STDC_VERSION__ > 201710L)
+#define UNIX_PATH_ASKED [[nodiscard]]
+#else
+#define UNIX_PATH_ASKED __attribute__((__warn_unused_result__))
+#endif
+#if __has_attribute(__access__)
+#define UNIX_PATH_ACCESS(...) __attribute__((__access__(__VA_ARGS__)))
+#else
+#define UNIX_PATH_ACCESS(...)
+#endif
+#else
+#define UNIX_PATH_NONNULL(...)
+#define UNIX_PATH_ALL_NONNULL
+#define UNIX_PATH_ASKED
+#define UNIX_PATH_ACCESS(...)
+#endif
+
+#define UNIX_PATH_READS(bytes, length) UNIX_PATH_ACCESS(__read_only__, bytes, length)
+#define UNIX_PATH_FILLS(bytes, length) UNIX_PATH_ACCESS(__write_only__, bytes, length)
+#define UNIX_PATH_WRITES(record) UNIX_PATH_ACCESS(__write_only__, record) UNIX_PATH_NONNULL(record)
+#define UNIX_PATH_MOVES(record) UNIX_PATH_ACCESS(__read_write__, record) UNIX_PATH_NONNULL(record)
+#define UNIX_PATH_LOOKS(record) UNIX_PATH_ACCESS(__read_only__, record) UNIX_PATH_NONNULL(record)
+
+/* The bytes of a path, or some place if it has none. */
+UNIX_PATH_INLINE const void *unix_path_bytes(const void *path, size_t path_length) {
+    return path_length == 0 ? "" : path;
+}
+
+/* The room of an out, or `none` if it has none. */
+UNIX_PATH_INLINE void *unix_path_room(void *out, size_t out_length, void *none) {
+    return out_length == 0 ? none : out;
+}
+
+#define UNIX_PATH_ONE const void *a, size_t a_length
+#define UNIX_PATH_TWO UNIX_PATH_ONE, const void *b, size_t b_length
+#define UNIX_PATH_OUT void *out, size_t out_length
+#define UNIX_PATH_A unix_path_bytes(a, a_length), a_length
+#define UNIX_PATH_AB UNIX_PATH_A, unix_path_bytes(b, b_length), b_length
+#define UNIX_PATH_READS_ONE UNIX_PATH_READS(1, 2)
+#define UNIX_PATH_READS_TWO UNIX_PATH_READS(1, 2) UNIX_PATH_READS(3, 4)
+
+/* The call again, and the function that makes it: what it answers, its name, what compilers know
+ * of it, its parameters, and what the call is given. */
+#define UNIX_PATH_CALL(answer, name, known, parameters, given)                                     \
+    known UNIX_PATH_ALL_NONNULL answer unix_path_##name parameters;                                \
+    UNIX_PATH_ASKED known UNIX_PATH_INLINE answer unix_path_inline_##name parameters {             \
+        return unix_path_##name given;                                                             \
+    }
+#define UNIX_PATH_ASKS(answer, name)                                                               \
+    UNIX_PATH_CALL(answer, name, UNIX_PATH_READS_ONE, (UNIX_PATH_ONE), (UNIX_PATH_A))
+#define UNIX_PATH_ASKS_TWO(answer, name)                                                           \
+    UNIX_PATH_CALL(answer, name, UNIX_PATH_READS_TWO, (UNIX_PATH_TWO), (UNIX_PATH_AB))
+#define UNIX_PATH_STEPS(name)                                                                      \
+    UNIX_PATH_CALL(bool, name, UNIX_PATH_READS_ONE UNIX_PATH_MOVES(3) UNIX_PATH_WRITES(4),         \
+                   (UNIX_PATH_ONE, unix_path_walk *walk, unix_path_part *part),                    \
+                   (UNIX_PATH_A, walk, part))
+#define UNIX_PATH_FINDS(name)                                                                      \
+    UNIX_PATH_CALL(bool, name, UNIX_PATH_READS_ONE UNIX_PATH_WRITES(3),                            \
+                   (UNIX_PATH_ONE, unix_path_place *place), (UNIX_PATH_A, place))
+#define UNIX_PATH_FINDS_OF_TWO(name)                                                               \
+    UNIX_PATH_CALL(bool, name, UNIX_PATH_READS_TWO UNIX_PATH_WRITES(5),                            \
+                   (UNIX_PATH_TWO, unix_path_place *place), (UNIX_PATH_AB, place))
+
+/* The same for the calls with `out`. */
+#define UNIX_PATH_MAKES(name, known, parameters, ...)                                              \
+    known UNIX_PATH_ALL_NONNULL size_t unix_path_##name parameters;                                \
+    UNIX_PATH_ASKED known UNIX_PATH_INLINE size_t unix_path_inline_##name parameters {             \
+        char none[1];                                                                              \
+        return unix_path_##name(__VA_ARGS__, unix_path_room(out, out_length, none), out_length);   \
+    }
+#define UNIX_PATH_MAKES_OF_ONE(name)                                                               \
+    UNIX_PATH_MAKES(name, UNIX_PATH_READS_ONE UNIX_PATH_FILLS(3, 4),                               \
+                    (UNIX_PATH_ONE, UNIX_PATH_OUT), UNIX_PATH_A)
+#define UNIX_PATH_MAKES_OF_TWO(name)                                                               \
+    UNIX_PATH_MAKES(name, UNIX_PATH_READS_TWO UNIX_PATH_FILLS(5, 6),                               \
+                    (UNIX_PATH_TWO, UNIX_PATH_OUT), UNIX_PATH_AB)
+
+UNIX_PATH_READS_ONE UNIX_PATH_WRITES(3) UNIX_PATH_INLINE
+void unix_path_inline_components(UNIX_PATH_ONE, unix_path_walk *walk) {
+    unix_path_components(UNIX_PATH_A, walk);
+}
+UNIX_PATH_READS_ONE UNIX_PATH_LOOKS(3) UNIX_PATH_WRITES(4) UNIX_PATH_INLINE
+void unix_path_inline_as_path(UNIX_PATH_ONE, const unix_path_walk *walk, unix_path_place *place) {
+    unix_path_as_path(UNIX_PATH_A, walk, place);
+}
+UNIX_PATH_STEPS(next)
+UNIX_PATH_STEPS(next_back)
+UNIX_PATH_FINDS(parent)
+UNIX_PATH_FINDS(file_name)
+UNIX_PATH_FINDS(file_stem)
+UNIX_PATH_FINDS(extension)
+UNIX_PATH_FINDS(file_prefix)
+UNIX_PATH_FINDS_OF_TWO(strip_prefix)
+UNIX_PATH_ASKS_TWO(bool, starts_with)
+UNIX_PATH_ASKS_TWO(bool, ends_with)
+UNIX_PATH_ASKS_TWO(bool, equal)
+UNIX_PATH_ASKS_TWO(int32_t, compare)
+UNIX_PATH_ASKS(uint64_t, hash)
+UNIX_PATH_ASKS(bool, is_utf8)
+UNIX_PATH_ASKS(bool, is_absolute)
+UNIX_PATH_ASKS(bool, climbs)
+UNIX_PATH_ASKS(int32_t, check_request)
+UNIX_PATH_ASKS_TWO(size_t, common_dir)
+UNIX_PATH_MAKES_OF_TWO(join)
+UNIX_PATH_MAKES_OF_TWO(with_file_name)
+UNIX_PATH_MAKES_OF_TWO(with_extension)
+UNIX_PATH_MAKES_OF_ONE(canonical)
+UNIX_PATH_MAKES_OF_ONE(to_string_lossy)
+UNIX_PATH_MAKES_OF_ONE(resolved)
+UNIX_PATH_MAKES_OF_TWO(join_within)
+UNIX_PATH_MAKES(join_below, UNIX_PATH_READS_TWO UNIX_PATH_FILLS(6, 7),
+                (UNIX_PATH_TWO, bool as_url, UNIX_PATH_OUT), UNIX_PATH_AB, as_url)
+UNIX_PATH_MAKES_OF_ONE(key)
+UNIX_PATH_MAKES_OF_ONE(from_key)
+UNIX_PATH_MAKES_OF_ONE(key_end)
+
+#define unix_path_components unix_path_inline_components
+#define unix_path_as_path unix_path_inline_as_path
+#define unix_path_next unix_path_inline_next
+#define unix_path_next_back unix_path_inline_next_back
+#define unix_path_parent unix_path_inline_parent
+#define unix_path_file_name unix_path_inline_file_name
+#define unix_path_file_stem unix_path_inline_file_stem
+#define unix_path_extension unix_path_inline_extension
+#define unix_path_file_prefix unix_path_inline_file_prefix
+#define unix_path_strip_prefix unix_path_inline_strip_prefix
+#define unix_path_starts_with unix_path_inline_starts_with
+#define unix_path_ends_with unix_path_inline_ends_with
+#define unix_path_equal unix_path_inline_equal
+#define unix_path_compare unix_path_inline_compare
+#define unix_path_hash unix_path_inline_hash
+#define unix_path_is_utf8 unix_path_inline_is_utf8
+#define unix_path_is_absolute unix_path_inline_is_absolute
+#define unix_path_climbs unix_path_inline_climbs
+#define unix_path_check_request unix_path_inline_check_request
+#define unix_path_common_dir unix_path_inline_common_dir
+#define unix_path_join unix_path_inline_join
+#define unix_path_with_file_name unix_path_inline_with_file_name
+#define unix_path_with_extension unix_path_inline_with_extension
+#define unix_path_canonical unix_path_inline_canonical
+#define unix_path_to_string_lossy unix_path_inline_to_string_lossy
+#define unix_path_resolved unix_path_inline_resolved
+#define unix_path_join_within unix_path_inline_join_within
+#define unix_path_join_below unix_path_inline_join_below
+#define unix_path_key unix_path_inline_key
+#define unix_path_from_key unix_path_inline_from_key
+#define unix_path_key_end unix_path_inline_key_end
+
+#undef UNIX_PATH_NONNULL
+#undef UNIX_PATH_ALL_NONNULL
+#undef UNIX_PATH_ASKED
+#undef UNIX_PATH_ACCESS
+#undef UNIX_PATH_READS
+#undef UNIX_PATH_FILLS
+#undef UNIX_PATH_WRITES
+#undef UNIX_PATH_MOVES
+#undef UNIX_PATH_LOOKS
+#undef UNIX_PATH_ONE
+#undef UNIX_PATH_TWO
+#undef UNIX_PATH_OUT
+#undef UNIX_PATH_A
+#undef UNIX_PATH_AB
+#undef UNIX_PATH_READS_ONE
+#undef UNIX_PATH_READS_TWO
+#undef UNIX_PATH_CALL
+#undef UNIX_PATH_ASKS
+#undef UNIX_PATH_ASKS_TWO
+#undef UNIX_PATH_STEPS
+#undef UNIX_PATH_FINDS
+#undef UNIX_PATH_FINDS_OF_TWO
+#undef UNIX_PATH_MAKES
+#undef UNIX_PATH_MAKES_OF_ONE
+#undef UNIX_PATH_MAKES_OF_TWO
+#if defined(__GNUC__) && !defined(UNIX_PATH_NO_ATTRIBUTES)
+#pragma GCC diagnostic pop
+#endif
+#endif
+
+#undef UNIX_PATH_INLINE
 
 #ifdef __cplusplus
 }

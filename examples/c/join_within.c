@@ -13,12 +13,10 @@
 static void answer(const char *root, const char *request, size_t request_length) {
     char out[64];
     size_t room = sizeof out - 1;
-    size_t length = unix_path_join_within((const uint8_t *)root, strlen(root),
-                                          (const uint8_t *)request, request_length,
-                                          (uint8_t *)out, room);
-    if (length == UNIX_PATH_ESCAPES) {
+    size_t length = unix_path_join_within(root, strlen(root), request, request_length, out, room);
+    if (length == UNIX_PATH_ESCAPES || !unix_path_is_c_string(request, request_length)) {
         puts("refused");
-    } else if (length == UNIX_PATH_NO_MEMORY) {
+    } else if (!unix_path_is_length(length)) {
         puts("out of memory");
     } else if (length > room) {
         puts("too long");

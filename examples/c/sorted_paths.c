@@ -16,8 +16,7 @@ typedef struct {
 } line;
 
 static int by_parts(const line *a, const line *b) {
-    const uint8_t *first = (const uint8_t *)a->text, *second = (const uint8_t *)b->text;
-    return unix_path_compare(first, a->length, second, b->length);
+    return unix_path_compare(a->text, a->length, b->text, b->length);
 }
 
 /* Of equal paths the first line is less. */

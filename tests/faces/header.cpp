@@ -9,16 +9,12 @@
 
 namespace {
 
-const uint8_t *bytes(std::string_view text) {
-    return reinterpret_cast<const uint8_t *>(text.data());
-}
-
-using OfOne = size_t (*)(const uint8_t *, size_t, uint8_t *, size_t);
-using OfTwo = size_t (*)(const uint8_t *, size_t, const uint8_t *, size_t, uint8_t *, size_t);
-using Turn = bool (*)(const uint8_t *, size_t, unix_path_walk *, unix_path_part *);
-using Place = bool (*)(const uint8_t *, size_t, unix_path_place *);
-using Relation = bool (*)(const uint8_t *, size_t, const uint8_t *, size_t);
-using Truth = bool (*)(const uint8_t *, size_t);
+using OfOne = size_t (*)(const void *, size_t, void *, size_t);
+using OfTwo = size_t (*)(const void *, size_t, const void *, size_t, void *, size_t);
+using Turn = bool (*)(const void *, size_t, unix_path_walk *, unix_path_part *);
+using Place = bool (*)(const void *, size_t, unix_path_place *);
+using Relation = bool (*)(const void *, size_t, const void *, size_t);
+using Truth = bool (*)(const void *, size_t);
 
 constexpr std::array<OfOne, 3> of_one{unix_path_canonical, unix_path_to_string_lossy,
                                       unix_path_resolved};
@@ -34,8 +30,8 @@ constexpr std::array<Truth, 3> truths{unix_path_is_utf8, unix_path_is_absolute, 
 // The bytes that a call of one path gives.
 std::string output_of(OfOne call, std::string_view path) {
     uint8_t none = 0;
-    std::string out(call(bytes(path), path.size(), &none, 0), '\0');
-    call(bytes(path), path.size(), reinterpret_cast<uint8_t *>(out.data()), out.size());
+    std::string out(call(path.data(), path.size(), &none, 0), '\0');
+    call(path.data(), path.size(), out.data(), out.size());
     return out;
 }
 
@@ -48,35 +44,35 @@ int right_calls() {
     }
     for (OfTwo call : of_two) {
         uint8_t out[4] = {};
-        right += call(bytes(root), 1, bytes(root), 0, out, 4) == 1 && out[0] == '/';
+        right += call(root.data(), 1, root.data(), 0, out, 4) == 1 && out[0] == '/';
     }
     for (Turn call : turns) {
         unix_path_walk walk;
         unix_path_part part;
-        unix_path_components(bytes(root), 1, &walk);
-        right += call(bytes(root), 1, &walk, &part) && part.kind == UNIX_PATH_ROOT_DIR;
+        unix_path_components(root.data(), 1, &walk);
+        right += call(root.data(), 1, &walk, &part) && part.kind == UNIX_PATH_ROOT_DIR;
     }
     for (Place call : places) {
         unix_path_place place;
-        right += !call(bytes(root), 1, &place);
+        right += !call(root.data(), 1, &place);
     }
     for (Relation call : relations) {
-        right += call(bytes(root), 1, bytes(root), 1);
+        right += call(root.data(), 1, root.data(), 1);
     }
     for (Truth call : truths) {
-        right += call(bytes(root), 1);
+        right += call(root.data(), 1);
     }
     return right;
 }
 
-using Begin = void (*)(const uint8_t *, size_t, unix_path_walk *);
-using Left = void (*)(const uint8_t *, size_t, const unix_path_walk *, unix_path_place *);
-using Remainder = bool (*)(const uint8_t *, size_t, const uint8_t *, size_t, unix_path_place *);
-using Order = int32_t (*)(const uint8_t *, size_t, const uint8_t *, size_t);
-using Length = size_t (*)(const uint8_t *, size_t, const uint8_t *, size_t);
-using Hash = uint64_t (*)(const uint8_t *, size_t);
-using Reason = int32_t (*)(const uint8_t *, size_t);
-using Below = size_t (*)(const uint8_t *, size_t, const uint8_t *, size_t, bool, uint8_t *, size_t);
+using Begin = void (*)(const void *, size_t, unix_path_walk *);
+using Left = void (*)(const void *, size_t, const unix_path_walk *, unix_path_place *);
+using Remainder = bool (*)(const void *, size_t, const void *, size_t, unix_path_place *);
+using Order = int32_t (*)(const void *, size_t, const void *, size_t);
+using Length = size_t (*)(const void *, size_t, const void *, size_t);
+using Hash = uint64_t (*)(const void *, size_t);
+using Reason = int32_t (*)(const void *, size_t);
+using Below = size_t (*)(const void *, size_t, const void *, size_t, bool, void *, size_t);
 
 constexpr Begin components = unix_path_components;
 constexpr Left as_path = unix_path_as_path;
@@ -86,18 +82,32 @@ constexpr Length common_dir = unix_path_common_dir;
 constexpr Hash hash = unix_path_hash;
 constexpr Reason check_request = unix_path_check_request;
 constexpr Below join_below = unix_path_join_below;
+constexpr OfOne key = unix_path_key;
+constexpr OfOne from_key = unix_path_from_key;
+constexpr OfOne key_end = unix_path_key_end;
 
 // Whether a request with a root is refused as it stands, and joined as that of a URL.
 bool is_joined_below() {
     std::string_view root = "/srv", request = "/a/../b", want = "/srv/b";
     std::array<uint8_t, 8> out{};
     auto join = [&](bool as_url) {
-        return join_below(bytes(root), root.size(), bytes(request), request.size(), as_url,
+        return join_below(root.data(), root.size(), request.data(), request.size(), as_url,
                           out.data(), out.size());
     };
-    return check_request(bytes(request), request.size()) == 1
+    return check_request(request.data(), request.size()) == 1
            && join(false) == UNIX_PATH_ESCAPES && join(true) == want.size()
            && std::equal(want.begin(), want.end(), out.begin());
+}
+
+// Whether the key of a path, read back too, and the end of its range are right, and refusals.
+bool is_key_right() {
+    using namespace std::string_view_literals;
+    uint8_t none = 0;
+    std::string_view path = "/a", of_path = "\0\1a\0"sv;
+    return output_of(key, path) == of_path && output_of(from_key, of_path) == path
+           && output_of(key_end, of_path) == "\0\1a\1"sv
+           && key_end(&none, 0, &none, 1) == UNIX_PATH_NO_END
+           && key_end(path.data(), path.size(), &none, 1) == UNIX_PATH_NOT_A_KEY;
 }
 
 // Whether the calls that have a type of their own are right.
@@ -105,15 +115,16 @@ bool other_calls_are_right() {
     std::string_view path = ".//a/./b/", base = "./a", spelling = "./a/b";
     unix_path_walk walk;
     unix_path_place left, rest;
-    components(bytes(path), path.size(), &walk);
-    as_path(bytes(path), path.size(), &walk, &left);
+    components(path.data(), path.size(), &walk);
+    as_path(path.data(), path.size(), &walk, &left);
     return path.substr(left.start, left.length) == ".//a/./b"
-           && strip_prefix(bytes(path), path.size(), bytes(base), base.size(), &rest)
+           && strip_prefix(path.data(), path.size(), base.data(), base.size(), &rest)
            && path.substr(rest.start, rest.length) == "b"
-           && compare(bytes(path), path.size(), bytes(base), base.size()) == 1
-           && common_dir(bytes(path), path.size(), bytes(base), base.size()) == 2
-           && hash(bytes(path), path.size()) == hash(bytes(spelling), spelling.size())
-           && output_of(unix_path_canonical, path) == spelling && is_joined_below();
+           && compare(path.data(), path.size(), base.data(), base.size()) == 1
+           && common_dir(path.data(), path.size(), base.data(), base.size()) == 2
+           && hash(path.data(), path.size()) == hash(spelling.data(), spelling.size())
+           && output_of(unix_path_canonical, path) == spelling && is_joined_below()
+           && is_key_right();
 }
 
 }  // namespace

@@ -7,13 +7,40 @@
 
 static fence first_fence, second_fence;
 
+// The key of a path, beside which nothing can be read, is read back as the canonical path.
+static void key_read_back(view path) {
+    uint8_t bytes[16], canonical[16];
+    size_t length = unix_path_key(path.bytes, path.length, bytes, sizeof bytes);
+    view key = fence_in(second_fence, (view){bytes, length}, true);
+    uint8_t path_of_key[16];
+    size_t read = unix_path_from_key(key.bytes, key.length, path_of_key, sizeof path_of_key);
+    size_t wanted = unix_path_canonical(path.bytes, path.length, canonical, sizeof canonical);
+    CHECK(same_bytes((view){path_of_key, read}, (view){canonical, wanted}), "read back");
+}
+
+// The questions about one path, by what ties their answers together.
+static void questions_of(view path) {
+    bool is_absolute = unix_path_is_absolute(path.bytes, path.length);
+    bool climbs = unix_path_climbs(path.bytes, path.length);
+    int32_t reason = unix_path_check_request(path.bytes, path.length);
+    CHECK(is_absolute == (path.length > 0 && path.bytes[0] == '/'), "root");
+    CHECK((reason == 1) == is_absolute && (reason == 2) == (climbs && !is_absolute), "request");
+    text spelling = new_text(), lossy = new_text();
+    add_one(&spelling, unix_path_canonical, path);
+    add_one(&lossy, unix_path_to_string_lossy, path);
+    CHECK(hash(path) == hash(as_view(&spelling)), "hash");
+    CHECK(unix_path_is_utf8(path.bytes, path.length) == same_bytes(as_view(&lossy), path), "text");
+    free(spelling.bytes);
+    free(lossy.bytes);
+}
+
 // Each call of one path, beside which nothing can be read.
 static void call_all_of_one(view path) {
     static const call_of_place calls[] = {unix_path_parent, unix_path_file_name,
                                           unix_path_file_stem, unix_path_extension,
                                           unix_path_file_prefix};
     static const call_of_one writers[] = {unix_path_canonical, unix_path_to_string_lossy,
-                                          unix_path_resolved};
+                                          unix_path_resolved, unix_path_key};
     for (size_t at = 0; at < sizeof calls / sizeof *calls; at++) {
         unix_path_place place = no_place;
         bool is_there = calls[at](path.bytes, path.length, &place);
@@ -33,10 +60,12 @@ static void call_all_of_one(view path) {
     uint8_t *end = second_fence.begin + second_fence.size;
     CHECK(unix_path_join_below(path.bytes, path.length, path.bytes, path.length, true, end - below,
                                below) == below, "join below");
-    unix_path_climbs(path.bytes, path.length);
-    unix_path_is_utf8(path.bytes, path.length);
-    unix_path_is_absolute(path.bytes, path.length);
-    hash(path);
+    size_t range_end =
+        unix_path_key_end(path.bytes, path.length, end - path.length, path.length);
+    size_t read = unix_path_from_key(path.bytes, path.length, end - path.length, path.length);
+    CHECK((range_end == UNIX_PATH_NOT_A_KEY) == (read == UNIX_PATH_NOT_A_KEY), "no key");
+    key_read_back(path);
+    questions_of(path);
     walks_of(path);
 }
 

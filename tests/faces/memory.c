@@ -1,7 +1,19 @@
-// Which calls ask for memory, and what they do where it is refused. It is linked with --wrap for
-// malloc, realloc and free, so that each request of the library comes by here.
+// Which calls ask for memory, and what they do where it is refused. With the archive it is linked
+// with --wrap for malloc, realloc and free, so that each request of the library comes by here; the
+// shared library comes by here since a program's functions stand before those of the C library.
+// Of most calls only the requests are looked at, and not the answers.
 #define _DEFAULT_SOURCE
+#define UNIX_PATH_NO_ATTRIBUTES
 #include "check.h"
+
+#ifdef SHARED
+#define __real_malloc __libc_malloc
+#define __real_realloc __libc_realloc
+#define __real_free __libc_free
+#define __wrap_malloc malloc
+#define __wrap_realloc realloc
+#define __wrap_free free
+#endif
 
 void *__real_malloc(size_t size);
 void *__real_realloc(void *block, size_t size);
@@ -128,6 +140,12 @@ static void write_to(uint8_t *out, size_t room, view a, view b) {
     unix_path_to_string_lossy(a.bytes, a.length, out, room);
     unix_path_join_below(a.bytes, a.length, b.bytes, b.length, false, out, room);
     unix_path_join_below(a.bytes, a.length, b.bytes, b.length, true, out, room);
+    size_t length = unix_path_key(a.bytes, a.length, out, room);
+    uint8_t end[64];
+    unix_path_key_end(out, length <= room ? length : 0, end, sizeof end);
+    unix_path_from_key(out, length <= room ? length : 0, end, sizeof end);
+    unix_path_from_key(a.bytes, a.length, end, sizeof end);
+    unix_path_key_end(a.bytes, a.length, end, sizeof end);
 }
 
 // All other calls ask for no memory.

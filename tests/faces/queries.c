@@ -136,7 +136,7 @@ static void requests(void) {
         {"..\0/../..", 9, 2}, {"a\0.png", 6, 3},
     };
     for (size_t row = 0; row < sizeof rows / sizeof *rows; row++)
-        CHECK(unix_path_check_request((const uint8_t *)rows[row].path, rows[row].length)
+        CHECK(unix_path_check_request(rows[row].path, rows[row].length)
               == rows[row].answer, "row %zu", row);
 }
 

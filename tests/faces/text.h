@@ -21,15 +21,15 @@ typedef struct {
 } text;
 
 // A call that takes a part of a walk.
-typedef bool (*call_of_step)(const uint8_t *, size_t, unix_path_walk *, unix_path_part *);
+typedef bool (*call_of_step)(const void *, size_t, unix_path_walk *, unix_path_part *);
 // A call that finds a place in a path.
-typedef bool (*call_of_place)(const uint8_t *, size_t, unix_path_place *);
+typedef bool (*call_of_place)(const void *, size_t, unix_path_place *);
 // A question about a path, or about two.
-typedef bool (*call_of_truth)(const uint8_t *, size_t);
-typedef bool (*call_of_relation)(const uint8_t *, size_t, const uint8_t *, size_t);
+typedef bool (*call_of_truth)(const void *, size_t);
+typedef bool (*call_of_relation)(const void *, size_t, const void *, size_t);
 // A call that writes its answer into out, of one path or of two.
-typedef size_t (*call_of_one)(const uint8_t *, size_t, uint8_t *, size_t);
-typedef size_t (*call_of_two)(const uint8_t *, size_t, const uint8_t *, size_t, uint8_t *, size_t);
+typedef size_t (*call_of_one)(const void *, size_t, void *, size_t);
+typedef size_t (*call_of_two)(const void *, size_t, const void *, size_t, void *, size_t);
 
 static inline view view_of(const char *string) {
     return (view){(const uint8_t *)string, strlen(string)};
@@ -100,7 +100,7 @@ static inline bool add_two(text *buffer, call_of_two call, view a, view b) {
     size_t room = buffer->room - buffer->length;
     uint8_t *end = buffer->bytes + buffer->length;
     size_t length = call(a.bytes, a.length, b.bytes, b.length, end, room);
-    if (length >= UNIX_PATH_NO_MEMORY) {
+    if (!unix_path_is_length(length)) {
         return false;
     }
     if (length > room) {

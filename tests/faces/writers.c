@@ -145,7 +145,7 @@ static void request_in_room(fence around, size_t row, bool as_url, size_t room) 
     size_t answer = text == NULL ? refusal : wanted.length;
     uint8_t *out = around.begin + around.size - room;
     memset(out, 0xA5, room);
-    CHECK(unix_path_join_below(root.bytes, root.length, (const uint8_t *)requests[row].request,
+    CHECK(unix_path_join_below(root.bytes, root.length, requests[row].request,
                                requests[row].length, as_url, out, room) == answer,
           "row %zu, reading %d, room %zu", row, as_url, room);
     CHECK(is_written(out, room, answer <= room ? wanted : view_of("")),

@@ -1,0 +1,705 @@
+// Unix paths as plain bytes, for C++17 and later, over the calls of unix_path.h.
+//
+// A map that finds a path however it is spelled:
+//
+//     std::map<std::string, int, unix_path::less> sizes{{"src//main.c", 42}};
+//     std::string_view asked = "./src/main.c";
+//     if (auto rest = unix_path::view(asked).strip_prefix(".")) {
+//         auto found = sizes.find(*rest);
+//         std::puts(found == sizes.end() ? "none" : found->first.c_str());
+//     }
+//
+// It prints `src//main.c`. The look-up copies nothing.
+//
+// The calls of the library are proved, and what each answers stands in unix_path.h. This file isn't
+// proved: tests alone show that it passes them what they are to get, and hands on what they answer.
+//
+// Nothing here throws by itself, and all that is `noexcept` asks for no memory, but for `resolved`
+// and `join_within`, in which the library does: these answer refusal::no_memory if it gets none.
+// What gives a std::string throws std::bad_alloc if the string can't grow. A std::string_view with
+// a null pointer is an empty path everywhere. What is found in a path are its own bytes, so that
+// they have to live as long as the answer. For threads see unix_path.h.
+#ifndef UNIX_PATH_HPP
+#define UNIX_PATH_HPP
+
+#include <cstddef>
+#include <cstdint>
+#include <exception>
+#include <functional>
+#include <iterator>
+#include <optional>
+#include <string>
+#include <string_view>
+#include <type_traits>
+#include <utility>
+
+#include "unix_path.h"
+
+#if defined(__cpp_impl_three_way_comparison) && __has_include(<compare>)
+#include <compare>
+#endif
+
+#if defined(__has_cpp_attribute)
+#if __has_cpp_attribute(clang::lifetimebound)
+#define UNIX_PATH_LIFETIME [[clang::lifetimebound]]
+#endif
+#endif
+#ifndef UNIX_PATH_LIFETIME
+#define UNIX_PATH_LIFETIME
+#endif
+
+namespace unix_path {
+
+/// Why a call gives no bytes.
+enum class refusal {
+    /// The extension has a slash.
+    separator,
+    /// The request has a root, or goes above where it starts.
+    escapes,
+    /// The library got no memory.
+    no_memory,
+    /// The request has a NUL byte, at which a system call cuts it.
+    nul_in_request,
+    /// No path has these bytes as its key.
+    not_a_key,
+    /// The key is empty: every key lies in its range.
+    no_end,
+    /// The answer has more bytes than a buffer can have.
+    too_long,
+    /// The caller's buffer has less room than result::needed() says.
+    short_buffer,
+};
+
+/// What a call gives, or why it gives nothing.
+template <typename T>
+class [[nodiscard]] result {
+  public:
+    result(T value) noexcept(std::is_nothrow_move_constructible_v<T>)
+        : value_(std::move(value)), has_value_(true) {}
+    result(refusal why, std::size_t needed = 0) noexcept : needed_(needed), why_(why) {}
+
+    bool has_value() const noexcept { return has_value_; }
+    explicit operator bool() const noexcept { return has_value_; }
+
+    /// What the call gives. If it gives nothing, this ends the program by std::terminate.
+    const T &operator*() const & noexcept UNIX_PATH_LIFETIME { return checked().value_; }
+    T operator*() && noexcept(std::is_nothrow_move_constructible_v<T>) {
+        checked();
+        return std::move(value_);
+    }
+    const T *operator->() const noexcept UNIX_PATH_LIFETIME { return &checked().value_; }
+    T value_or(T other) const { return has_value_ ? value_ : std::move(other); }
+
+    /// Why it gives nothing; none if it gives something.
+    std::optional<refusal> why() const noexcept {
+        return has_value_ ? std::nullopt : std::optional<refusal>(why_);
+    }
+    /// How many bytes the buffer needs, if it was short; else 0.
+    std::size_t needed() const noexcept { return needed_; }
+
+  private:
+    const result &checked() const noexcept {
+        if (!has_value_) {
+            std::terminate();
+        }
+        return *this;
+    }
+
+    T value_{};
+    std::size_t needed_ = 0;
+    refusal why_ = refusal::too_long;
+    bool has_value_ = false;
+};
+
+/// The caller's room for an answer: a pointer and how many bytes may be written there, an array of
+/// `char`, or whatever has `data()` and `size()`, as a std::array, a std::vector or a std::span. An
+/// owner of bytes has to have a name, so that they live on.
+class buffer {
+  public:
+    constexpr buffer(char *data, std::size_t size) noexcept : data_(data), size_(size) {}
+    template <std::size_t size>
+    constexpr buffer(char (&array)[size]) noexcept : data_(array), size_(size) {}
+    template <typename T, typename = std::enable_if_t<std::is_convertible_v<
+                              decltype(std::declval<T &>().data()), char *>>>
+    constexpr buffer(T &room) noexcept : data_(room.data()), size_(room.size()) {}
+    template <typename T, typename = std::enable_if_t<std::is_convertible_v<
+                              decltype(std::declval<const T &>().data()), char *>>>
+    constexpr buffer(const T &room) noexcept : data_(room.data()), size_(room.size()) {}
+
+    constexpr char *data() const noexcept { return data_; }
+    constexpr std::size_t size() const noexcept { return size_; }
+
+  private:
+    char *data_;
+    std::size_t size_;
+};
+
+/// The kind of a part.
+enum class component_kind : std::uint32_t {
+    root_dir = UNIX_PATH_ROOT_DIR,
+    cur_dir = UNIX_PATH_CUR_DIR,
+    parent_dir = UNIX_PATH_PARENT_DIR,
+    normal = UNIX_PATH_NORMAL,
+};
+
+/// A part of a path: its kind and its bytes, which stand in the path.
+struct component {
+    component_kind kind;
+    std::string_view bytes;
+
+    friend bool operator==(component a, component b) noexcept {
+        return a.kind == b.kind && a.bytes == b.bytes;
+    }
+    friend bool operator!=(component a, component b) noexcept { return !(a == b); }
+};
+
+/// How a request is read: as a path that has to stay below where it starts, or as the decoded path
+/// of a URL, whose leading slashes are dropped and in which a `..` at the top stays at the top.
+enum class reading { as_path, as_url };
+
+/// What a path from outside is as a request that stays below a root by names.
+enum class request_check { is_fine = 0, has_root = 1, climbs = 2, has_nul = 3 };
+
+class components;
+class ancestors;
+
+/// A path: bytes that live elsewhere. Paths are compared by their parts: `a/./b//` is `a/b`. To
+/// compare bytes, compare `bytes()`.
+class view {
+  public:
+    constexpr view() noexcept = default;
+    constexpr view(std::string_view bytes) noexcept : bytes_(bytes) {}
+    view(const std::string &bytes UNIX_PATH_LIFETIME) noexcept : bytes_(bytes) {}
+    /// A string that ends at its first NUL. The null pointer is the empty path.
+    constexpr view(const char *string) noexcept
+        : bytes_(string == nullptr ? std::string_view() : std::string_view(string)) {}
+    view(std::nullptr_t) = delete;
+
+    constexpr std::string_view bytes() const noexcept { return bytes_; }
+    constexpr const char *data() const noexcept { return bytes_.data(); }
+    constexpr std::size_t size() const noexcept { return bytes_.size(); }
+    constexpr bool empty() const noexcept { return bytes_.empty(); }
+    /// Whether there is a NUL byte, at which a system call cuts the path.
+    constexpr bool has_nul() const noexcept {
+        return bytes_.find('\0') != std::string_view::npos;
+    }
+
+    // Comparisons by parts. None asks for memory.
+
+    /// -1, 0 or 1 if this path is less than the other, equal to it, or greater.
+    int compare(view other) const noexcept {
+        return unix_path_compare(data(), size(), other.data(), other.size());
+    }
+    friend bool operator==(view a, view b) noexcept {
+        return unix_path_equal(a.data(), a.size(), b.data(), b.size());
+    }
+    friend bool operator!=(view a, view b) noexcept { return !(a == b); }
+    friend bool operator<(view a, view b) noexcept { return a.compare(b) < 0; }
+    friend bool operator<=(view a, view b) noexcept { return a.compare(b) <= 0; }
+    friend bool operator>(view a, view b) noexcept { return a.compare(b) > 0; }
+    friend bool operator>=(view a, view b) noexcept { return a.compare(b) >= 0; }
+#ifdef __cpp_lib_three_way_comparison
+    friend std::weak_ordering operator<=>(view a, view b) noexcept { return a.compare(b) <=> 0; }
+#endif
+    /// A number that equal paths share. It has no key: whoever chooses the paths can find many that
+    /// share a number.
+    std::uint64_t hash() const noexcept { return unix_path_hash(data(), size()); }
+
+    // Questions. None asks for memory.
+
+    bool starts_with(view base) const noexcept {
+        return unix_path_starts_with(data(), size(), base.data(), base.size());
+    }
+    bool ends_with(view end) const noexcept {
+        return unix_path_ends_with(data(), size(), end.data(), end.size());
+    }
+    bool is_absolute() const noexcept { return unix_path_is_absolute(data(), size()); }
+    bool is_utf8() const noexcept { return unix_path_is_utf8(data(), size()); }
+    bool climbs() const noexcept { return unix_path_climbs(data(), size()); }
+    request_check check_request() const noexcept {
+        return static_cast<request_check>(unix_path_check_request(data(), size()));
+    }
+    /// The place just behind the last slash of the longest string that both begin with, or 0.
+    std::size_t common_dir(view other) const noexcept {
+        return unix_path_common_dir(data(), size(), other.data(), other.size());
+    }
+
+    // Pieces of the path. None asks for memory. A parent or a rest is a path, and a name is text.
+
+    std::optional<view> parent() const noexcept {
+        unix_path_place place;
+        return path_at(unix_path_parent(data(), size(), &place), place);
+    }
+    std::optional<view> strip_prefix(view base) const noexcept {
+        unix_path_place place;
+        return path_at(
+            unix_path_strip_prefix(data(), size(), base.data(), base.size(), &place), place);
+    }
+    std::optional<std::string_view> file_name() const noexcept {
+        unix_path_place place;
+        return text_at(unix_path_file_name(data(), size(), &place), place);
+    }
+    std::optional<std::string_view> file_stem() const noexcept {
+        unix_path_place place;
+        return text_at(unix_path_file_stem(data(), size(), &place), place);
+    }
+    std::optional<std::string_view> extension() const noexcept {
+        unix_path_place place;
+        return text_at(unix_path_extension(data(), size(), &place), place);
+    }
+    std::optional<std::string_view> file_prefix() const noexcept {
+        unix_path_place place;
+        return text_at(unix_path_file_prefix(data(), size(), &place), place);
+    }
+    /// The parts, in both directions.
+    unix_path::components components() const noexcept;
+    /// The path, its parent, the parent of that, and on to the last.
+    unix_path::ancestors ancestors() const noexcept;
+
+    // New paths and text: as a std::string, which alone asks for memory, or in the room of a
+    // buffer, which asks for none. What stands in a buffer has no NUL behind it. The system cuts a
+    // path at each NUL that it holds, which `has_nul` finds; to it a path of no bytes stands for
+    // `.`.
+
+    std::string join(view path) const;
+    result<std::string_view> join(view path, buffer out) const noexcept;
+    std::string with_file_name(view name) const;
+    result<std::string_view> with_file_name(view name, buffer out) const noexcept;
+    /// refusal::separator if the extension has a slash.
+    result<std::string> with_extension(std::string_view extension) const;
+    result<std::string_view> with_extension(std::string_view extension, buffer out) const noexcept;
+    std::string canonical() const;
+    result<std::string_view> canonical(buffer out) const noexcept;
+    std::string to_string_lossy() const;
+    result<std::string_view> to_string_lossy(buffer out) const noexcept;
+    /// refusal::no_memory if the library got none, which it asks for beside the string.
+    result<std::string> resolved() const;
+    result<std::string_view> resolved(buffer out) const noexcept;
+    /// This path is the root. refusal::escapes exactly if the request climbs, and
+    /// refusal::no_memory if the library got none, which it asks for beside the string.
+    result<std::string> join_within(view request) const;
+    result<std::string_view> join_within(view request, buffer out) const noexcept;
+    /// This path is the root. refusal::escapes exactly if the request climbs and isn't read as a
+    /// URL; else refusal::nul_in_request exactly if it has a NUL byte.
+    result<std::string> join_below(view request, reading how) const;
+    result<std::string_view> join_below(view request, reading how, buffer out) const noexcept;
+    /// The key by which a store that compares keys byte by byte keeps the path; unix_path.h says
+    /// how it is laid out.
+    std::string key() const;
+    result<std::string_view> key(buffer out) const noexcept;
+
+  private:
+    std::string_view text_at(unix_path_place place) const noexcept {
+        return bytes_.empty() ? bytes_ : std::string_view(data() + place.start, place.length);
+    }
+    std::optional<std::string_view> text_at(bool is_there, const unix_path_place &place) const
+        noexcept {
+        return is_there ? std::optional(text_at(place)) : std::nullopt;
+    }
+    std::optional<view> path_at(bool is_there, const unix_path_place &place) const noexcept {
+        return is_there ? std::optional(view(text_at(place))) : std::nullopt;
+    }
+
+    std::string_view bytes_;
+};
+
+/// A walk that takes parts from both ends. Those taken in front, those left, and those taken behind
+/// are the path's parts, however the calls are mixed. None of them asks for memory.
+class walk {
+  public:
+    explicit walk(view path) noexcept : path_(path) {
+        unix_path_components(path.data(), path.size(), &walk_);
+    }
+    /// The first part that is left; none if none is.
+    std::optional<component> next() noexcept {
+        unix_path_part part;
+        return part_at(unix_path_next(path_.data(), path_.size(), &walk_, &part), part);
+    }
+    /// The last part that is left; none if none is.
+    std::optional<component> next_back() noexcept {
+        unix_path_part part;
+        return part_at(unix_path_next_back(path_.data(), path_.size(), &walk_, &part), part);
+    }
+    /// The parts that are left, as a path.
+    view rest() const noexcept {
+        unix_path_place place;
+        unix_path_as_path(path_.data(), path_.size(), &walk_, &place);
+        return path_.bytes().substr(place.start, place.length);
+    }
+
+  private:
+    std::optional<component> part_at(bool is_there, const unix_path_part &part) const noexcept {
+        if (!is_there) {
+            return std::nullopt;
+        }
+        return component{static_cast<component_kind>(part.kind),
+                         {path_.data() + part.start, part.length}};
+    }
+
+    view path_;
+    unix_path_walk walk_;
+};
+
+/// The parts of a path, as a range in both directions.
+class components {
+  public:
+    /// A part's place, or the end. What `*` gives is a value and no reference, so that a loop may
+    /// keep it. Its bytes are the path's.
+    class iterator {
+      public:
+        using iterator_category = std::bidirectional_iterator_tag;
+        using value_type = component;
+        using difference_type = std::ptrdiff_t;
+        using reference = component;
+        /// What `->` gives.
+        class pointer {
+          public:
+            explicit pointer(component part) noexcept : part_(part) {}
+            const component *operator->() const noexcept { return &part_; }
+
+          private:
+            component part_;
+        };
+
+        iterator() noexcept = default;
+        component operator*() const noexcept {
+            return {static_cast<component_kind>(part_.kind),
+                    path_.bytes().substr(part_.start, part_.length)};
+        }
+        pointer operator->() const noexcept { return pointer(**this); }
+        iterator &operator++() noexcept {
+            unix_path_walk left = left_;
+            unix_path_part part;
+            if (left.front == unknown) {
+                left = {part_.start, path_.size()};
+                // The part itself.
+                (void)unix_path_next(path_.data(), path_.size(), &left, &part);
+            }
+            const bool is_left = unix_path_next(path_.data(), path_.size(), &left, &part);
+            *this = is_left ? iterator(path_, left, part) : iterator(path_, path_.size());
+            return *this;
+        }
+        iterator &operator--() noexcept {
+            unix_path_walk before = {0, part_.start};
+            unix_path_part part;
+            const bool is_there = unix_path_next_back(path_.data(), path_.size(), &before, &part);
+            before.front = unknown;
+            *this = is_there ? iterator(path_, before, part) : iterator(path_, path_.size());
+            return *this;
+        }
+        iterator operator++(int) noexcept {
+            iterator before = *this;
+            ++*this;
+            return before;
+        }
+        iterator operator--(int) noexcept {
+            iterator before = *this;
+            --*this;
+            return before;
+        }
+        /// Whether both stand at the same part of one path.
+        friend bool operator==(const iterator &a, const iterator &b) noexcept {
+            return a.part_.start == b.part_.start;
+        }
+        friend bool operator!=(const iterator &a, const iterator &b) noexcept { return !(a == b); }
+
+      private:
+        friend class components;
+        // The front of left_ behind a step back.
+        static constexpr std::size_t unknown = SIZE_MAX;
+
+        // Stands before all parts that begin at this place or behind it, or at the end.
+        iterator(view path, std::size_t start) noexcept
+            : path_(path), left_{start, path.size()}, part_{start, 0, UNIX_PATH_NORMAL} {}
+        iterator(view path, unix_path_walk left, const unix_path_part &part) noexcept
+            : path_(path), left_(left), part_(part) {}
+
+        view path_;
+        // What is left of a walk that gave the part.
+        unix_path_walk left_ = {0, 0};
+        unix_path_part part_ = {0, 0, UNIX_PATH_NORMAL};
+    };
+    using const_iterator = iterator;
+    using reverse_iterator = std::reverse_iterator<iterator>;
+    using value_type = component;
+
+    explicit components(view path) noexcept : path_(path) {}
+    iterator begin() const noexcept { return ++iterator(path_, 0); }
+    iterator end() const noexcept { return iterator(path_, path_.size()); }
+    reverse_iterator rbegin() const noexcept { return reverse_iterator(end()); }
+    reverse_iterator rend() const noexcept { return reverse_iterator(begin()); }
+    /// Whether there is no part, which is so for the empty path alone.
+    bool empty() const noexcept { return path_.empty(); }
+
+  private:
+    view path_;
+};
+
+/// A path and its parents, longest first, as a range in one direction.
+class ancestors {
+  public:
+    class iterator {
+      public:
+        using iterator_category = std::forward_iterator_tag;
+        using value_type = view;
+        using difference_type = std::ptrdiff_t;
+        using reference = const view &;
+        using pointer = const view *;
+
+        iterator() noexcept = default;
+        explicit iterator(view path) noexcept : path_(path) {}
+        const view &operator*() const noexcept { return *path_; }
+        const view *operator->() const noexcept { return &*path_; }
+        iterator &operator++() noexcept {
+            path_ = path_->parent();
+            return *this;
+        }
+        iterator operator++(int) noexcept {
+            iterator before = *this;
+            ++*this;
+            return before;
+        }
+        /// Whether both stand at the same ancestor of one path, or at the end.
+        friend bool operator==(const iterator &a, const iterator &b) noexcept {
+            return a.path_.has_value() == b.path_.has_value()
+                   && (!a.path_ || a.path_->size() == b.path_->size());
+        }
+        friend bool operator!=(const iterator &a, const iterator &b) noexcept { return !(a == b); }
+
+      private:
+        std::optional<view> path_;
+    };
+    using const_iterator = iterator;
+    using value_type = view;
+
+    explicit ancestors(view path) noexcept : path_(path) {}
+    iterator begin() const noexcept { return iterator(path_); }
+    iterator end() const noexcept { return iterator(); }
+
+  private:
+    view path_;
+};
+
+inline unix_path::components view::components() const noexcept {
+    return unix_path::components(*this);
+}
+inline unix_path::ancestors view::ancestors() const noexcept { return unix_path::ancestors(*this); }
+
+/// Compares paths by their parts: `std::map<std::string, V, less>` finds a view without a copy.
+struct less {
+    using is_transparent = void;
+    bool operator()(view a, view b) const noexcept { return a < b; }
+};
+
+/// Whether two paths have the same parts.
+struct equal_to {
+    using is_transparent = void;
+    bool operator()(view a, view b) const noexcept { return a == b; }
+};
+
+/// The hash of a path: `std::unordered_map<std::string, V, hash, equal_to>` takes equal paths for
+/// one key, and from C++20 on finds a view without a copy. For paths that others choose take a map,
+/// since the hash has no key.
+struct hash {
+    using is_transparent = void;
+    std::size_t operator()(view path) const noexcept { return path.hash(); }
+};
+
+namespace detail {
+
+inline refusal refusal_of(std::size_t answer) noexcept {
+    switch (answer) {
+    case UNIX_PATH_SEPARATOR: return refusal::separator;
+    case UNIX_PATH_ESCAPES: return refusal::escapes;
+    case UNIX_PATH_NO_MEMORY: return refusal::no_memory;
+    case UNIX_PATH_NUL_IN_REQUEST: return refusal::nul_in_request;
+    case UNIX_PATH_NOT_A_KEY: return refusal::not_a_key;
+    case UNIX_PATH_NO_END: return refusal::no_end;
+    default: return refusal::too_long;
+    }
+}
+
+// What the call writes to a string that begins with this room.
+template <typename Call>
+result<std::string> grown(std::size_t room, Call call) {
+    std::string out(room, '\0');
+    for (;;) {
+        const std::size_t length = call(out.data(), out.size());
+        if (!unix_path_is_length(length)) {
+            return refusal_of(length);
+        }
+        const bool is_written = length <= out.size();
+        out.resize(length);
+        if (is_written) {
+            return result<std::string>(std::move(out));
+        }
+    }
+}
+
+// What the call writes to the buffer.
+template <typename Call>
+result<std::string_view> written(buffer out, Call call) noexcept {
+    const std::size_t length = call(out.data(), out.size());
+    if (!unix_path_is_length(length)) {
+        return refusal_of(length);
+    }
+    if (length > out.size()) {
+        return {refusal::short_buffer, length};
+    }
+    return std::string_view(out.data(), length);
+}
+
+inline auto join_call(view a, view b) noexcept {
+    return [a, b](char *out, std::size_t room) noexcept {
+        return unix_path_join(a.data(), a.size(), b.data(), b.size(), out, room);
+    };
+}
+inline auto with_file_name_call(view a, view b) noexcept {
+    return [a, b](char *out, std::size_t room) noexcept {
+        return unix_path_with_file_name(a.data(), a.size(), b.data(), b.size(), out, room);
+    };
+}
+inline auto with_extension_call(view a, view b) noexcept {
+    return [a, b](char *out, std::size_t room) noexcept {
+        return unix_path_with_extension(a.data(), a.size(), b.data(), b.size(), out, room);
+    };
+}
+inline auto canonical_call(view a) noexcept {
+    return [a](char *out, std::size_t room) noexcept {
+        return unix_path_canonical(a.data(), a.size(), out, room);
+    };
+}
+// A length of which no buffer has as many bytes isn't told apart from others.
+inline auto to_string_lossy_call(view a) noexcept {
+    return [a](char *out, std::size_t room) noexcept {
+        const std::size_t length = unix_path_to_string_lossy(a.data(), a.size(), out, room);
+        return unix_path_is_length(length) ? length : std::size_t{PTRDIFF_MAX} + 1;
+    };
+}
+inline auto resolved_call(view a) noexcept {
+    return [a](char *out, std::size_t room) noexcept {
+        return unix_path_resolved(a.data(), a.size(), out, room);
+    };
+}
+inline auto join_within_call(view a, view b) noexcept {
+    return [a, b](char *out, std::size_t room) noexcept {
+        return unix_path_join_within(a.data(), a.size(), b.data(), b.size(), out, room);
+    };
+}
+inline auto join_below_call(view a, view b, reading how) noexcept {
+    return [a, b, how](char *out, std::size_t room) noexcept {
+        return unix_path_join_below(a.data(), a.size(), b.data(), b.size(), how == reading::as_url,
+                                    out, room);
+    };
+}
+
+inline auto key_call(view a) noexcept {
+    return [a](char *out, std::size_t room) noexcept {
+        return unix_path_key(a.data(), a.size(), out, room);
+    };
+}
+inline auto from_key_call(std::string_view key) noexcept {
+    return [key](char *out, std::size_t room) noexcept {
+        return unix_path_from_key(key.data(), key.size(), out, room);
+    };
+}
+inline auto key_end_call(std::string_view key) noexcept {
+    return [key](char *out, std::size_t room) noexcept {
+        return unix_path_key_end(key.data(), key.size(), out, room);
+    };
+}
+
+// The room for both paths and a byte between them.
+inline std::size_t room_of(view a, view b) noexcept { return a.size() + b.size() + 1; }
+
+}  // namespace detail
+
+inline std::string view::join(view path) const {
+    return *detail::grown(detail::room_of(*this, path), detail::join_call(*this, path));
+}
+inline result<std::string_view> view::join(view path, buffer out) const noexcept {
+    return detail::written(out, detail::join_call(*this, path));
+}
+inline std::string view::with_file_name(view name) const {
+    return *detail::grown(detail::room_of(*this, name), detail::with_file_name_call(*this, name));
+}
+inline result<std::string_view> view::with_file_name(view name, buffer out) const noexcept {
+    return detail::written(out, detail::with_file_name_call(*this, name));
+}
+inline result<std::string> view::with_extension(std::string_view extension) const {
+    return detail::grown(detail::room_of(*this, extension),
+                         detail::with_extension_call(*this, extension));
+}
+inline result<std::string_view> view::with_extension(std::string_view extension,
+                                                     buffer out) const noexcept {
+    return detail::written(out, detail::with_extension_call(*this, extension));
+}
+inline std::string view::canonical() const {
+    return *detail::grown(size(), detail::canonical_call(*this));
+}
+inline result<std::string_view> view::canonical(buffer out) const noexcept {
+    return detail::written(out, detail::canonical_call(*this));
+}
+inline std::string view::to_string_lossy() const {
+    return *detail::grown(size(), detail::to_string_lossy_call(*this));
+}
+inline result<std::string_view> view::to_string_lossy(buffer out) const noexcept {
+    return detail::written(out, detail::to_string_lossy_call(*this));
+}
+inline result<std::string> view::resolved() const {
+    return detail::grown(size(), detail::resolved_call(*this));
+}
+inline result<std::string_view> view::resolved(buffer out) const noexcept {
+    return detail::written(out, detail::resolved_call(*this));
+}
+inline result<std::string> view::join_within(view request) const {
+    return detail::grown(detail::room_of(*this, request), detail::join_within_call(*this, request));
+}
+inline result<std::string_view> view::join_within(view request, buffer out) const noexcept {
+    return detail::written(out, detail::join_within_call(*this, request));
+}
+inline result<std::string> view::join_below(view request, reading how) const {
+    return detail::grown(detail::room_of(*this, request),
+                         detail::join_below_call(*this, request, how));
+}
+inline result<std::string_view> view::join_below(view request, reading how,
+                                                 buffer out) const noexcept {
+    return detail::written(out, detail::join_below_call(*this, request, how));
+}
+inline std::string view::key() const {
+    return *detail::grown(size() + 2, detail::key_call(*this));
+}
+inline result<std::string_view> view::key(buffer out) const noexcept {
+    return detail::written(out, detail::key_call(*this));
+}
+
+/// The path of a key, as view::key gives it: the canonical spelling of the paths that have it.
+/// refusal::not_a_key exactly if no path has these bytes as its key.
+inline result<std::string> from_key(std::string_view key) {
+    return detail::grown(key.size() + key.size() / 2, detail::from_key_call(key));
+}
+inline result<std::string_view> from_key(std::string_view key, buffer out) noexcept {
+    return detail::written(out, detail::from_key_call(key));
+}
+
+/// The end of a key's range: a path starts with the key's path exactly if its own key is not less
+/// than the key and less than this end. refusal::no_end exactly for the empty key, and
+/// refusal::not_a_key exactly if no path has these bytes as its key.
+inline result<std::string> key_end(std::string_view key) {
+    return detail::grown(key.size(), detail::key_end_call(key));
+}
+inline result<std::string_view> key_end(std::string_view key, buffer out) noexcept {
+    return detail::written(out, detail::key_end_call(key));
+}
+
+}  // namespace unix_path
+
+/// The hash of unix_path::hash.
+template <>
+struct std::hash<unix_path::view> {
+    std::size_t operator()(unix_path::view path) const noexcept { return path.hash(); }
+};
+
+#undef UNIX_PATH_LIFETIME
+
+#endif

@@ -1,0 +1,154 @@
+// Keys of paths, read back, and the ends of their ranges: rows, and all short strings.
+#define _DEFAULT_SOURCE
+#include "check.h"
+#include "comparisons.h"
+
+// Bytes that may hold a NUL.
+#define BYTES(literal) {(const uint8_t *)(literal), sizeof(literal) - 1}
+
+// A path, its key, the end of the key's range, which that of the empty path lacks, and what the key
+// reads back as.
+static const struct {
+    view path, key, end, canonical;
+} rows[] = {
+    {BYTES(""), BYTES(""), BYTES(""), BYTES("")},
+    {BYTES("/"), BYTES("\x00\x01"), BYTES("\x00\x02"), BYTES("/")},
+    {BYTES("//."), BYTES("\x00\x01"), BYTES("\x00\x02"), BYTES("/")},
+    {BYTES("./"), BYTES("\x00\x02"), BYTES("\x00\x03"), BYTES(".")},
+    {BYTES(".."), BYTES("\x00\x03"), BYTES("\x00\x04"), BYTES("..")},
+    {BYTES("/.."), BYTES("\x00\x01\x00\x03"), BYTES("\x00\x01\x00\x04"), BYTES("/..")},
+    {BYTES(".././/.."), BYTES("\x00\x03\x00\x03"), BYTES("\x00\x03\x00\x04"), BYTES("../..")},
+    {BYTES("/a"), BYTES("\x00\x01\x61\x00"), BYTES("\x00\x01\x61\x01"), BYTES("/a")},
+    {BYTES("a//b/."), BYTES("\x61\x00\x62\x00"), BYTES("\x61\x00\x62\x01"), BYTES("a/b")},
+    {BYTES("./a.b/.."), BYTES("\x00\x02\x61\x2F\x62\x00\x00\x03"),
+     BYTES("\x00\x02\x61\x2F\x62\x00\x00\x04"), BYTES("./a.b/..")},
+    {BYTES("/srv//a-1.txt/.."), BYTES("\x00\x01srv\x00\x61\x2E\x31\x2Ftxt\x00\x00\x03"),
+     BYTES("\x00\x01srv\x00\x61\x2E\x31\x2Ftxt\x00\x00\x04"), BYTES("/srv/a-1.txt/..")},
+    {BYTES("\x00\x2D\x30\xFF/"), BYTES("\x01\x2E\x30\xFF\x00"), BYTES("\x01\x2E\x30\xFF\x01"),
+     BYTES("\x00\x2D\x30\xFF")},
+};
+
+static const size_t row_count = sizeof rows / sizeof *rows;
+
+// Bytes that are the key of no path.
+static const view no_keys[] = {
+    BYTES("\x61"), BYTES("\x00"), BYTES("\x00\x00"), BYTES("\x00\x04"), BYTES("\x61\x00\x62"),
+    BYTES("\x61\x00\x00\x01"), BYTES("\x00\x03\x00\x02"), BYTES("\x2F\x00"),
+    BYTES("\x2F\x2F\x00"), BYTES("\xFF"), BYTES("\x61\x00\xFF"), BYTES("/srv"),
+};
+
+static fence around;
+
+// Whether the call gives this answer and writes these bytes, if they fit, in so much room of the
+// fence.
+static bool is_answered(call_of_one call, view given, size_t answer, view wanted, size_t room) {
+    uint8_t *out = around.begin + around.size - room;
+    memset(out, 0xA5, room);
+    return call(given.bytes, given.length, out, room) == answer
+           && is_written(out, room, wanted.length <= room ? wanted : view_of(""));
+}
+
+static void keys_in_every_room(void) {
+    for (size_t row = 0; row < row_count; row++) {
+        view key = rows[row].key, end = rows[row].end;
+        size_t end_length = key.length == 0 ? UNIX_PATH_NO_END : end.length;
+        view canonical = rows[row].canonical;
+        for (size_t room = 0; room <= key.length + 3; room++) {
+            CHECK(is_answered(unix_path_key, rows[row].path, key.length, key, room),
+                  "row %zu, room %zu", row, room);
+            CHECK(is_answered(unix_path_key_end, key, end_length, end, room),
+                  "row %zu, room %zu", row, room);
+            CHECK(is_answered(unix_path_from_key, key, canonical.length, canonical, room),
+                  "row %zu, room %zu", row, room);
+        }
+    }
+}
+
+static void bytes_that_are_no_keys(void) {
+    for (size_t row = 0; row < sizeof no_keys / sizeof *no_keys; row++) {
+        for (size_t room = 0; room <= 8; room++) {
+            CHECK(is_answered(unix_path_key_end, no_keys[row], UNIX_PATH_NOT_A_KEY, view_of(""),
+                              room), "row %zu, room %zu", row, room);
+            CHECK(is_answered(unix_path_from_key, no_keys[row], UNIX_PATH_NOT_A_KEY, view_of(""),
+                              room), "row %zu, room %zu", row, room);
+        }
+    }
+}
+
+// The order in which a store keeps these keys.
+static int compare_keys(view a, view b) {
+    size_t shorter = a.length < b.length ? a.length : b.length;
+    int order = memcmp(a.bytes, b.bytes, shorter);
+    if (order != 0) {
+        return order < 0 ? -1 : 1;
+    }
+    return (a.length > b.length) - (a.length < b.length);
+}
+
+// What a call makes of these bytes, in this memory.
+static view made(call_of_one call, view given, uint8_t *memory, size_t room) {
+    size_t length = call(given.bytes, given.length, memory, room);
+    return (view){memory, length <= room ? length : 0};
+}
+
+static size_t keys_among_strings;
+
+// Bytes are read back only if they are the key of what they are read back as; a `#` stands for NUL.
+static void read_string(view string) {
+    uint8_t copy[16], path[16], again[16];
+    for (size_t at = 0; at < string.length; at++) {
+        copy[at] = string.bytes[at] == '#' ? 0 : string.bytes[at];
+    }
+    view bytes = {copy, string.length};
+    size_t length = unix_path_from_key(bytes.bytes, bytes.length, path, sizeof path);
+    if (length == UNIX_PATH_NOT_A_KEY) {
+        CHECK(unix_path_key_end(bytes.bytes, bytes.length, path, sizeof path)
+              == UNIX_PATH_NOT_A_KEY, "refused");
+        return;
+    }
+    keys_among_strings++;
+    view key = made(unix_path_key, (view){path, length}, again, sizeof again);
+    CHECK(same_bytes(key, bytes), "read back");
+}
+
+// A name of n bytes is one of 6^n, but for those that read back as `.` and `..`: so parts that may
+// stand anywhere have 2, 3, 4 and 5 bytes 6, 35, 216 and 1296 times, and in front there are two
+// more, of 2 bytes. That makes 1, 0, 8, 35, 264 and 1786 keys of 0 to 5 bytes.
+static void strings_as_keys(void) {
+    each_string("#a/\x01\x02\x03\x04", 5, read_string);
+    CHECK(keys_among_strings == 2094, "%zu keys", keys_among_strings);
+}
+
+static view first_of_pair;
+
+// Keys are in the order of their paths, and a path lies in the range of those that it starts with.
+static void pair_with(view path) {
+    uint8_t first[16], second[16], last[16];
+    view a = made(unix_path_key, first_of_pair, first, sizeof first);
+    view b = made(unix_path_key, path, second, sizeof second);
+    view end = made(unix_path_key_end, b, last, sizeof last);
+    CHECK(compare_keys(a, b) == compare(first_of_pair, path), "order");
+    bool is_in_range = compare_keys(b, a) <= 0 && (b.length == 0 || compare_keys(a, end) < 0);
+    CHECK(is_in_range == unix_path_starts_with(first_of_pair.bytes, first_of_pair.length,
+                                               path.bytes, path.length), "range");
+}
+
+static void pairs_of(view path) {
+    uint8_t copy[16];
+    memcpy(copy, path.bytes, path.length);
+    first_of_pair = (view){copy, path.length};
+    each_string("/.a0", 4, pair_with);
+}
+
+static void laws_of_keys(void) {
+    each_string("/.a0", 4, pairs_of);
+}
+
+int main(void) {
+    around = new_fence();
+    run("keys and ends of ranges in every room", keys_in_every_room);
+    run("bytes that are no keys", bytes_that_are_no_keys);
+    run("strings read as keys", strings_as_keys);
+    run("laws of keys", laws_of_keys);
+    return finish();
+}

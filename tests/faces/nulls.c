@@ -1,0 +1,123 @@
+// Each call with a null pointer for the empty path, and for an out without room: it answers what it
+// answers for a path of no bytes that stands somewhere.
+#define _DEFAULT_SOURCE
+#include "check.h"
+#include "comparisons.h"
+#include "records.h"
+
+static const view none = {NULL, 0};
+static const char *const others[] = {"", "/", "a.b", "x//y.tar/.", "../a", "./b"};
+static const size_t other_count = sizeof others / sizeof *others;
+
+static void walks_of_nothing(void) {
+    unix_path_walk walk = {1, 2};
+    unix_path_part part = no_part;
+    unix_path_place place = no_place;
+    unix_path_components(NULL, 0, &walk);
+    CHECK(walk.front == 0 && walk.back == 0, "%zu, %zu", walk.front, walk.back);
+    CHECK(!unix_path_next(NULL, 0, &walk, &part) && same_part(part, no_part), "next");
+    CHECK(!unix_path_next_back(NULL, 0, &walk, &part) && same_part(part, no_part), "next back");
+    unix_path_as_path(NULL, 0, &walk, &place);
+    CHECK(place.start == 0 && place.length == 0, "%zu, %zu", place.start, place.length);
+}
+
+static void places_in_nothing(void) {
+    static const call_of_place calls[] = {unix_path_parent, unix_path_file_name,
+                                          unix_path_file_stem, unix_path_extension,
+                                          unix_path_file_prefix};
+    for (size_t at = 0; at < sizeof calls / sizeof *calls; at++) {
+        unix_path_place place = no_place;
+        CHECK(!calls[at](NULL, 0, &place) && same_place(place, no_place), "call %zu", at);
+    }
+    for (size_t at = 0; at < other_count; at++) {
+        view path = view_of(others[at]);
+        unix_path_place place = no_place;
+        CHECK(unix_path_strip_prefix(path.bytes, path.length, NULL, 0, &place), "row %zu", at);
+        CHECK(same_bytes(view_at(path, place), path) || at == 3, "row %zu", at);
+        place = no_place;
+        CHECK(unix_path_strip_prefix(NULL, 0, path.bytes, path.length, &place) == (at == 0),
+              "row %zu", at);
+    }
+}
+
+static void questions_of_nothing(void) {
+    CHECK(hash(none) == hash(view_of("")) && unix_path_is_utf8(NULL, 0), "hash");
+    CHECK(!unix_path_is_absolute(NULL, 0) && !unix_path_climbs(NULL, 0), "root");
+    CHECK(unix_path_check_request(NULL, 0) == 0, "request");
+    for (size_t at = 0; at < other_count; at++) {
+        view path = view_of(others[at]);
+        CHECK(unix_path_starts_with(path.bytes, path.length, NULL, 0), "row %zu", at);
+        CHECK(unix_path_starts_with(NULL, 0, path.bytes, path.length) == (at == 0), "row %zu", at);
+        CHECK(unix_path_ends_with(path.bytes, path.length, NULL, 0), "row %zu", at);
+        CHECK(unix_path_ends_with(NULL, 0, path.bytes, path.length) == (at == 0), "row %zu", at);
+        CHECK(unix_path_equal(NULL, 0, path.bytes, path.length) == (at == 0), "row %zu", at);
+        CHECK(compare(none, path) == (at == 0 ? 0 : -1) && compare(path, none) == (at > 0),
+              "row %zu", at);
+        CHECK(common_dir(none, path) == 0 && common_dir(path, none) == 0, "row %zu", at);
+    }
+    CHECK(compare(none, none) == 0 && common_dir(none, none) == 0, "both");
+}
+
+// Makes a call with out in the room and, where there is none, with a null pointer too.
+static void write_both(call_of_two call, view a, view b, view wanted) {
+    uint8_t memory[16];
+    memset(memory, 0xA5, sizeof memory);
+    CHECK(call(a.bytes, a.length, b.bytes, b.length, memory, sizeof memory) == wanted.length,
+          "%zu", wanted.length);
+    CHECK(is_written(memory, sizeof memory, wanted), "%zu", wanted.length);
+    CHECK(call(a.bytes, a.length, b.bytes, b.length, NULL, 0) == wanted.length, "%zu",
+          wanted.length);
+}
+
+static size_t join_below(const void *root, size_t root_length, const void *request,
+                         size_t request_length, void *out, size_t out_length) {
+    return unix_path_join_below(root, root_length, request, request_length, true, out, out_length);
+}
+
+static void written_of_nothing(void) {
+    static const call_of_one calls[] = {unix_path_canonical, unix_path_to_string_lossy,
+                                        unix_path_resolved};
+    for (size_t at = 0; at < sizeof calls / sizeof *calls; at++) {
+        uint8_t memory[2] = {0xA5, 0xA5};
+        CHECK(calls[at](NULL, 0, memory, sizeof memory) == 0 && memory[0] == 0xA5, "call %zu", at);
+        CHECK(calls[at](NULL, 0, NULL, 0) == 0 && calls[at]("a", 1, NULL, 0) == 1, "call %zu", at);
+    }
+    view name = view_of("a.b"), nothing = view_of("");
+    write_both(unix_path_join, none, none, nothing);
+    write_both(unix_path_join, none, name, name);
+    write_both(unix_path_join, name, none, view_of("a.b/"));
+    write_both(unix_path_with_file_name, none, name, name);
+    write_both(unix_path_with_file_name, name, none, nothing);
+    write_both(unix_path_with_extension, none, name, nothing);
+    write_both(unix_path_with_extension, name, none, view_of("a"));
+    write_both(unix_path_join_within, none, none, nothing);
+    write_both(unix_path_join_within, none, name, name);
+    write_both(unix_path_join_within, name, none, name);
+    write_both(join_below, none, none, nothing);
+    write_both(join_below, none, name, name);
+    write_both(join_below, name, none, name);
+}
+
+// What is told apart from a length.
+static void lengths(void) {
+    CHECK(unix_path_is_length(0) && unix_path_is_length((size_t)PTRDIFF_MAX), "lengths");
+    CHECK(unix_path_is_c_string(NULL, 0) && unix_path_is_c_string("a/b", 3), "strings");
+    CHECK(!unix_path_is_c_string("a/b", 4) && !unix_path_is_c_string("", 1), "strings");
+    CHECK(!unix_path_is_length((size_t)PTRDIFF_MAX + 1), "no buffer");
+    CHECK(!unix_path_is_length(UNIX_PATH_SEPARATOR) && !unix_path_is_length(UNIX_PATH_ESCAPES),
+          "refusals");
+    CHECK(!unix_path_is_length(UNIX_PATH_NO_MEMORY), "refusals");
+    CHECK(!unix_path_is_length(UNIX_PATH_NUL_IN_REQUEST), "refusals");
+    char version[16];
+    snprintf(version, sizeof version, "%d.%d", UNIX_PATH_VERSION_MAJOR, UNIX_PATH_VERSION_MINOR);
+    CHECK(strcmp(version, UNIX_PATH_VERSION) == 0, "version %s", version);
+}
+
+int main(void) {
+    run("walks of nothing", walks_of_nothing);
+    run("places in nothing", places_in_nothing);
+    run("questions of nothing", questions_of_nothing);
+    run("written of nothing", written_of_nothing);
+    run("lengths", lengths);
+    return finish();
+}

@@ -1,0 +1,453 @@
+// The header for C++: each member hands on what the call of its name answers, and asks for no more
+// memory than it says.
+#include "unix_path.hpp"
+
+#include <sys/wait.h>
+#include <unistd.h>
+
+#include <algorithm>
+#include <array>
+#include <cstdio>
+#include <cstdlib>
+#include <functional>
+#include <map>
+#include <new>
+#include <set>
+#include <string>
+#include <type_traits>
+#include <unordered_map>
+#include <vector>
+
+#if __cplusplus >= 202002L && __has_include(<ranges>)
+#include <ranges>
+#include <span>
+static_assert(std::bidirectional_iterator<unix_path::components::iterator>);
+static_assert(std::ranges::bidirectional_range<unix_path::components>);
+static_assert(std::forward_iterator<unix_path::ancestors::iterator>);
+static_assert(std::ranges::forward_range<unix_path::ancestors>);
+static_assert(std::is_constructible_v<unix_path::buffer, std::span<char>>);
+static_assert(!std::is_constructible_v<unix_path::buffer, std::span<const char>>);
+#endif
+#ifdef __cpp_lib_three_way_comparison
+static_assert(std::three_way_comparable<unix_path::view, std::weak_ordering>);
+#endif
+
+namespace {
+
+std::size_t requests = 0;
+
+}  // namespace
+
+// Not inlined, since gcc would take the pairs apart and warn of them.
+__attribute__((noinline)) void *operator new(std::size_t size) {
+    requests++;
+    if (void *block = std::malloc(size == 0 ? 1 : size)) {
+        return block;
+    }
+    throw std::bad_alloc();
+}
+__attribute__((noinline)) void operator delete(void *block) noexcept { std::free(block); }
+__attribute__((noinline)) void operator delete(void *block, std::size_t) noexcept {
+    std::free(block);
+}
+
+namespace {
+
+using unix_path::buffer;
+using unix_path::component;
+using unix_path::component_kind;
+using unix_path::reading;
+using unix_path::refusal;
+using unix_path::result;
+using unix_path::view;
+using namespace std::string_view_literals;
+
+static_assert(std::is_trivially_copyable_v<view> && std::is_nothrow_default_constructible_v<view>);
+static_assert(!std::is_constructible_v<view, std::nullptr_t>);
+static_assert(!std::is_convertible_v<view, std::string_view>, "bytes are compared by `bytes()`");
+static_assert(view("a/b").size() == 3 && view().empty() && view("a\0b"sv).has_nul());
+static_assert(std::is_nothrow_invocable_v<unix_path::less, std::string, view>);
+static_assert(noexcept(view().join_within(view(), std::declval<buffer>())));
+static_assert(noexcept(view().parent()) && noexcept(view().compare(view())));
+static_assert(!std::is_constructible_v<buffer, const std::string &>);
+static_assert(!std::is_constructible_v<buffer, const char (&)[4]>);
+static_assert(std::is_constructible_v<buffer, std::array<char, 4> &>);
+static_assert(!std::is_constructible_v<buffer, std::array<char, 4>>);
+static_assert(!std::is_constructible_v<buffer, std::string>);
+static_assert(!std::is_constructible_v<buffer, view>);
+
+int wrong_checks = 0, passed_tests = 0, failed_tests = 0;
+
+#define CHECK(...)                                                                                 \
+    do {                                                                                           \
+        if (!(__VA_ARGS__) && wrong_checks++ < 5) {                                                \
+            std::printf("%s:%d: " #__VA_ARGS__ "\n", __FILE__, __LINE__);                          \
+        }                                                                                          \
+    } while (0)
+
+void run(const char *name, void (*test)()) {
+    wrong_checks = 0;
+    test();
+    (wrong_checks == 0 ? passed_tests : failed_tests)++;
+    std::printf("%s: %s\n", wrong_checks == 0 ? "passed" : "failed", name);
+}
+
+// Each string of at most `longest` of these letters.
+std::vector<std::string> strings(std::string_view letters, std::size_t longest) {
+    std::vector<std::string> all{""};
+    for (std::size_t begin = 0; longest > 0; longest--) {
+        const std::size_t end = all.size();
+        for (; begin < end; begin++) {
+            for (char letter : letters) {
+                all.push_back(all[begin] + letter);
+            }
+        }
+    }
+    return all;
+}
+
+void rows() {
+    CHECK(*view("/a//b/").parent() == "/a" && view("/a//b/").parent()->bytes() == "/a");
+    CHECK(!view("/").parent() && !view("").parent() && view("a").parent()->empty());
+    CHECK(view("a/b.txt/.").file_name() == "b.txt" && !view("a/..").file_name());
+    CHECK(view("a.tar.gz").file_stem() == "a.tar" && view(".a").file_stem() == ".a");
+    CHECK(view("a.tar.gz").extension() == "gz" && !view(".a").extension());
+    CHECK(view("a.tar.gz").file_prefix() == "a" && !view("..").file_prefix());
+    CHECK(view("/a//b/").strip_prefix("/a")->bytes() == "b" && !view("/a").strip_prefix("a"));
+    CHECK(view("/etc/passwd").starts_with("/etc/") && !view("/etc/passwd").starts_with("/e"));
+    CHECK(view("/etc/passwd").ends_with("passwd") && !view("a/b").ends_with("./b"));
+    CHECK(view("/a").is_absolute() && !view("a/").is_absolute());
+    CHECK(view("caf\xC3\xA9").is_utf8() && !view("caf\xE9").is_utf8());
+    CHECK(view("a/../../b").climbs() && !view("a/../b").climbs());
+    CHECK(view("a/./b").common_dir("a/b") == 2 && view("a/b").common_dir("ab") == 0);
+    CHECK(view("/a").check_request() == unix_path::request_check::has_root);
+    CHECK(view("..").check_request() == unix_path::request_check::climbs);
+    CHECK(view("a\0"sv).check_request() == unix_path::request_check::has_nul);
+    CHECK(view("a/../b").check_request() == unix_path::request_check::is_fine);
+}
+
+void comparisons() {
+    const std::string text = "a/./b//";
+    CHECK(view("a/./b//") == view("a/b") && text == view("a/b") && view("a/b") == "a/b/"sv);
+    CHECK(view("./a") != view("a") && view("a/b") < view("a.b") && view("a.b") > "a/b");
+    CHECK(view("a") <= view("a/") && view("a") >= view("a/") && view("/").compare(".") == -1);
+    CHECK(std::less<view>()("a/b", "a.b") && std::hash<view>()(text) == view("a/b").hash());
+    CHECK(view("a/b").hash() != view("ab").hash());
+#ifdef __cpp_lib_three_way_comparison
+    CHECK((view("a/b") <=> view("a.b")) < 0 && (view("a") <=> view("a/")) == 0);
+#endif
+}
+
+void written_strings() {
+    CHECK(view("/a").join("./b") == "/a/./b"sv && view("/a").join("/b") == "/b"sv);
+    CHECK(view("/a").join("./b").size() == 6);
+    CHECK(view("/a/b.txt").with_file_name("c") == "/a/c");
+    CHECK(*view("a.rs").with_extension("txt") == "a.txt");
+    CHECK(view("a.rs").with_extension("x/y").why() == refusal::separator);
+    CHECK(view(".//a/./b/").canonical() == "./a/b" && view("a\xFF").to_string_lossy() == "a\uFFFD");
+    CHECK(*view("a/../..//b/.").resolved() == "../b" && view("a/..").resolved()->empty());
+    CHECK(*view("/srv").join_within("a/../b") == "/srv/b");
+    CHECK(view("/srv").join_within("../b").why() == refusal::escapes);
+    CHECK(*view("/srv/").join_below("/../b", reading::as_url) == "/srv/b");
+    CHECK(view("/srv/").join_below("/../b", reading::as_path).why() == refusal::escapes);
+    CHECK(view("/srv").join_below("a\0"sv, reading::as_url).why() == refusal::nul_in_request);
+    CHECK(view("/a//b.c").key() == "\0\1a\0b/c\0"sv && view("").key().empty());
+    CHECK(*unix_path::from_key("\0\1a\0b/c\0"sv) == "/a/b.c" && unix_path::from_key("")->empty());
+    CHECK(unix_path::from_key("a").why() == refusal::not_a_key);
+    CHECK(*unix_path::key_end("a\0"sv) == "a\1" && unix_path::key_end("").why() == refusal::no_end);
+    CHECK(unix_path::key_end("a").why() == refusal::not_a_key);
+    CHECK(view("/srv").join_within("..").value_or("none") == "none");
+    CHECK(view("/srv").join_within("a").value_or("none") == "/srv/a");
+    CHECK(!view("/srv").join_within("a").why() && view("/srv").join_within("a")->size() == 6);
+    std::string taken = view("/srv").join_within("a").value_or("") + *view("b/..").resolved();
+    CHECK(taken == "/srv/a");
+}
+
+// A name for what stands in the path's own bytes: where it begins and how many they are.
+template <typename T>
+std::string place_of(view path, const std::optional<T> &found) {
+    if (!found) {
+        return "none";
+    }
+    return std::to_string(found->data() - path.data()) + '+' + std::to_string(found->size());
+}
+
+template <typename Call>
+std::string place_by(view path, Call call) {
+    unix_path_place place;
+    if (!call(path.data(), path.size(), &place)) {
+        return "none";
+    }
+    return std::to_string(place.start) + '+' + std::to_string(place.length);
+}
+
+// What stands where, beside the calls.
+void places() {
+    for (const std::string &path : strings("/.ab", 5)) {
+        if (path.empty()) {
+            continue;
+        }
+        const view it = path;
+        CHECK(place_of(it, it.parent()) == place_by(it, unix_path_parent));
+        CHECK(place_of(it, it.file_name()) == place_by(it, unix_path_file_name));
+        CHECK(place_of(it, it.file_stem()) == place_by(it, unix_path_file_stem));
+        CHECK(place_of(it, it.extension()) == place_by(it, unix_path_extension));
+        CHECK(place_of(it, it.file_prefix()) == place_by(it, unix_path_file_prefix));
+    }
+}
+
+std::vector<component> parts_of(view path) {
+    std::vector<component> parts;
+    unix_path_walk walk;
+    unix_path_part part;
+    unix_path_components(path.data(), path.size(), &walk);
+    while (unix_path_next(path.data(), path.size(), &walk, &part)) {
+        parts.push_back({static_cast<component_kind>(part.kind),
+                         path.bytes().substr(part.start, part.length)});
+    }
+    return parts;
+}
+
+// Steps of an iterator, to and fro, beside an index into the parts.
+void steps_of(view path, const std::vector<component> &parts, unsigned turns) {
+    const unix_path::components all = path.components();
+    auto at = all.begin();
+    std::size_t index = 0;
+    for (unsigned left = turns; left > 1; left >>= 1) {
+        if ((left & 1) == 1 ? index < parts.size() : index == 0) {
+            index += (left & 1) == 1 ? 1 : 0;
+            (left & 1) == 1 ? (void)++at : (void)0;
+        } else {
+            index -= (left & 1) == 1 ? 0 : 1;
+            (left & 1) == 1 ? (void)0 : (void)--at;
+        }
+        CHECK((at == all.begin()) == (index == 0) && (at == all.end()) == (index == parts.size()));
+        CHECK(index == parts.size() || (*at == parts[index] && at->bytes == parts[index].bytes));
+        CHECK(index == parts.size() || at->bytes.data() == parts[index].bytes.data());
+    }
+}
+
+void iterators() {
+    for (const std::string &path : strings("/.a", 6)) {
+        const std::vector<component> parts = parts_of(path);
+        const unix_path::components all = view(path).components();
+        CHECK(std::equal(all.begin(), all.end(), parts.begin(), parts.end()));
+        CHECK(std::equal(all.rbegin(), all.rend(), parts.rbegin(), parts.rend()));
+        CHECK(static_cast<std::size_t>(std::distance(all.begin(), all.end())) == parts.size());
+        CHECK(all.empty() == parts.empty());
+        for (unsigned turns = 1; turns < 128; turns++) {
+            steps_of(path, parts, turns);
+        }
+    }
+}
+
+// Parts taken from both ends, and what is left between.
+void walks() {
+    for (const std::string &path : strings("/.a", 5)) {
+        const std::vector<component> parts = parts_of(path);
+        for (unsigned turns = 0; turns < 8; turns++) {
+            unix_path::walk walk{view(path)};
+            std::size_t front = 0, behind = parts.size();
+            for (unsigned at = 0; at < 3; at++) {
+                const bool is_front = (turns >> at & 1) == 1, is_left = front < behind;
+                const auto part = is_front ? walk.next() : walk.next_back();
+                CHECK(part.has_value() == is_left);
+                CHECK(!is_left || *part == parts[is_front ? front++ : --behind]);
+            }
+            const std::vector<component> rest = parts_of(walk.rest());
+            CHECK(std::equal(rest.begin(), rest.end(), parts.begin() + std::ptrdiff_t(front),
+                             parts.begin() + std::ptrdiff_t(behind)));
+        }
+    }
+}
+
+void parents() {
+    for (const std::string &path : strings("/.a", 6)) {
+        std::vector<std::string_view> found, wanted{path};
+        for (const view &ancestor : view(path).ancestors()) {
+            found.push_back(ancestor.bytes());
+        }
+        for (auto parent = view(path).parent(); parent; parent = parent->parent()) {
+            wanted.push_back(parent->bytes());
+        }
+        CHECK(found == wanted);
+        const auto first = view(path).ancestors().begin();
+        CHECK(std::next(first) != first && first == view(path).ancestors().begin());
+    }
+    std::vector<std::string_view> found;
+    for (view ancestor : view("/a//b/.").ancestors()) {
+        found.push_back(ancestor.bytes());
+    }
+    CHECK(found == std::vector{"/a//b/."sv, "/a"sv, "/"sv});
+}
+
+// An answer as a string and in buffers of each size, which are the same.
+void in_each_room(const result<std::string> &whole,
+                  const std::function<result<std::string_view>(buffer)> &call) {
+    for (std::size_t room = 0; room <= 24; room++) {
+        std::array<char, 24> memory;
+        memory.fill('\x5A');
+        const auto written = call(buffer(memory.data(), room));
+        const std::size_t length = written ? written->size() : 0;
+        if (!whole) {
+            CHECK(written.why() == whole.why() && written.needed() == 0);
+        } else if (whole->size() > room) {
+            CHECK(written.why() == refusal::short_buffer && written.needed() == whole->size());
+        } else {
+            CHECK(*written == *whole && written->data() == memory.data() && !written.why());
+        }
+        CHECK(std::all_of(memory.begin() + std::ptrdiff_t(length), memory.end(),
+                          [](char byte) { return byte == '\x5A'; }));
+    }
+    CHECK(call(buffer(nullptr, 0)).has_value() == (whole.has_value() && whole->empty()));
+}
+
+void buffers() {
+    const std::vector<std::string> some{"",        "/",         "a.b", "/x//y.tar/.",
+                                        "a/../..", "../b\xFF", "./c"};
+    for (const std::string &path : some) {
+        const view a = path;
+        in_each_room(a.canonical(), [=](buffer out) { return a.canonical(out); });
+        in_each_room(a.to_string_lossy(), [=](buffer out) { return a.to_string_lossy(out); });
+        in_each_room(a.resolved(), [=](buffer out) { return a.resolved(out); });
+        const std::string key = a.key();
+        in_each_room(key, [=](buffer out) { return a.key(out); });
+        in_each_room(unix_path::from_key(key),
+                     [&](buffer out) { return unix_path::from_key(key, out); });
+        in_each_room(unix_path::key_end(key),
+                     [&](buffer out) { return unix_path::key_end(key, out); });
+        CHECK(*unix_path::from_key(key) == a.canonical());
+        for (const std::string &other : some) {
+            const view b = other;
+            const reading how = a.size() % 2 == 0 ? reading::as_path : reading::as_url;
+            in_each_room(a.join(b), [=](buffer out) { return a.join(b, out); });
+            in_each_room(a.with_file_name(b), [=](buffer out) { return a.with_file_name(b, out); });
+            in_each_room(a.with_extension(b.bytes()),
+                         [=](buffer out) { return a.with_extension(b.bytes(), out); });
+            in_each_room(a.join_within(b), [=](buffer out) { return a.join_within(b, out); });
+            in_each_room(a.join_below(b, how),
+                         [=](buffer out) { return a.join_below(b, how, out); });
+        }
+    }
+    char array[8];
+    std::string string(8, ' ');
+    std::vector<char> list(8);
+    CHECK(view("a").canonical(array)->data() == array);
+    CHECK(view("a").canonical(string)->data() == string.data());
+    CHECK(view("a").canonical(list)->data() == list.data());
+}
+
+// Each member with a null pointer for the empty path, and for the room of an empty buffer.
+void null_views() {
+    const view none{std::string_view()}, string = static_cast<const char *>(nullptr);
+    const buffer room(nullptr, 0);
+    CHECK(none.data() == nullptr && string.data() == nullptr && view().data() == nullptr);
+    CHECK(none == "" && none < "a" && none.hash() == view("").hash() && !none.has_nul());
+    CHECK(none.starts_with(none) && none.ends_with(string) && view("a").starts_with(none));
+    CHECK(!none.is_absolute() && none.is_utf8() && !none.climbs() && none.common_dir(none) == 0);
+    CHECK(none.check_request() == unix_path::request_check::is_fine);
+    CHECK(!none.parent() && !none.file_name() && !none.file_stem() && !none.extension());
+    CHECK(!none.file_prefix() && none.strip_prefix(none)->empty());
+    CHECK(view("a").strip_prefix(none)->bytes() == "a" && !none.strip_prefix("a"));
+    CHECK(none.components().begin() == none.components().end() && none.components().empty());
+    CHECK(std::distance(none.ancestors().begin(), none.ancestors().end()) == 1);
+    unix_path::walk walk(none);
+    CHECK(!walk.next() && !walk.next_back() && walk.rest().empty());
+    CHECK(none.join(none).empty() && none.join("a") == "a" && view("a").join(none) == "a/"sv);
+    CHECK(none.with_file_name(none).empty() && none.with_extension({})->empty());
+    CHECK(none.canonical().empty() && none.to_string_lossy().empty() && none.resolved()->empty());
+    CHECK(none.join_within(none)->empty() && none.join_below(none, reading::as_path)->empty());
+    CHECK(none.join(none, room)->empty() && none.with_file_name(none, room)->empty());
+    CHECK(none.with_extension({}, room)->empty() && none.canonical(room)->empty());
+    CHECK(none.to_string_lossy(room)->empty() && none.resolved(room)->empty());
+    CHECK(none.join_within(none, room)->empty());
+    CHECK(none.join_below(none, reading::as_url, room)->empty());
+    CHECK(none.key().empty() && none.key(room)->empty() && unix_path::from_key({})->empty());
+    CHECK(unix_path::from_key({}, room)->empty() && !unix_path::key_end({}, room));
+    CHECK(view("a").canonical(room).needed() == 1);
+}
+
+void maps() {
+    std::map<std::string, int, unix_path::less> sizes{{"src//main.c", 1}, {"a/b", 2}};
+    std::unordered_map<std::string, int, unix_path::hash, unix_path::equal_to> numbers{{"a/b", 3}};
+    std::set<view> set{"a/b", "a//b/.", "a.b"};
+    const view asked = "src/./main.c";
+    const std::size_t before = requests;
+    CHECK(sizes.find(asked) != sizes.end() && sizes.find(asked)->second == 1);
+    CHECK(sizes.find("src/main.h"sv) == sizes.end() && sizes.begin()->second == 2);
+    CHECK(set.size() == 2 && set.begin()->bytes() == "a/b" && set.count("a/./b") == 1);
+#ifdef __cpp_lib_generic_unordered_lookup
+    CHECK(numbers.find(view("a//b"))->second == 3);
+#endif
+    CHECK(requests == before);
+    CHECK(numbers.find("a//b/.")->second == 3 && numbers.count("ab") == 0);
+}
+
+// What asks for no memory, and that a string is asked for once.
+void memory() {
+    const std::string root = "/a/root/that/is/longer/than/a/short/string/can/be", name = "a/../b.c";
+    const view a = root, b = name;
+    char out[128];
+    std::size_t before = requests, length = 0;
+    for (component part : a.components()) {
+        length += part.bytes.size();
+    }
+    for (auto at = a.components().rbegin(); at != a.components().rend(); ++at) {
+        length += (*at).bytes.size();
+    }
+    for (view ancestor : a.ancestors()) {
+        length += ancestor.hash() % 2;
+    }
+    CHECK(a.join(b, out) && a.with_file_name(b, out) && a.with_extension(".x", out));
+    CHECK(a.canonical(out) && a.to_string_lossy(out) && a.resolved(out) && a.join_within(b, out));
+    CHECK(a.join_below(b, reading::as_path, out) && a == a && a <= a && !b.climbs() && length > 0);
+    CHECK(a.strip_prefix("/a/root")->file_name() == "be" && a.common_dir(b) == 0);
+    CHECK(requests == before);
+    const std::string joined = a.join(b), canonical = a.canonical(), text = a.to_string_lossy();
+    CHECK(requests == before + 3);
+    const auto within = a.join_within(b), below = a.join_below(b, reading::as_path);
+    CHECK(requests == before + 5 && *within == root + "/b.c" && *below == *within);
+}
+
+// Whether a child that looks at what isn't there is ended by std::terminate.
+bool ends_program(void (*look)()) {
+    std::fflush(stdout);
+    const pid_t child = fork();
+    if (child == 0) {
+        std::set_terminate([] { std::_Exit(7); });
+        look();
+        std::_Exit(0);
+    }
+    int status = 0;
+    return child > 0 && waitpid(child, &status, 0) == child && WIFEXITED(status)
+           && WEXITSTATUS(status) == 7;
+}
+
+void looked_at_refusals() {
+    CHECK(ends_program([] { std::puts((*view("a").join_within("..")).c_str()); }));
+    CHECK(ends_program([] { std::puts(view("a").join_within("..")->c_str()); }));
+    CHECK(ends_program([] {
+        const auto refused = view("a").with_extension("/");
+        std::puts((*refused).c_str());
+    }));
+    CHECK(!ends_program([] { (void)view("a").join_within("..").why(); }));
+}
+
+}  // namespace
+
+int main() {
+    run("rows", rows);
+    run("comparisons", comparisons);
+    run("written strings", written_strings);
+    run("places", places);
+    run("iterators", iterators);
+    run("walks", walks);
+    run("parents", parents);
+    run("buffers", buffers);
+    run("null views", null_views);
+    run("maps", maps);
+    run("memory", memory);
+    run("refusals that are looked at", looked_at_refusals);
+    std::printf("%d passed, %d failed\n", passed_tests, failed_tests);
+    return failed_tests != 0;
+}
