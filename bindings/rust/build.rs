@@ -4,8 +4,9 @@ use std::iter::once;
 use std::path::{Path, PathBuf};
 use std::process::{exit, Command};
 
-/// What decides where the library is found.
-const VARIABLES: [&str; 5] = [
+/// What decides whether the library is looked for, and where it is found.
+const VARIABLES: [&str; 6] = [
+    "DOCS_RS",
     "UNIX_PATH_LIB_DIR",
     "UNIX_PATH_LIB",
     "PKG_CONFIG",
@@ -108,6 +109,8 @@ fn refuse(places: &[Place]) -> ! {
     eprintln!("  - in the repository of unix_path: make lib");
     eprintln!("  - there: make install, so that `pkg-config unix_path` knows the library;");
     eprintln!("    below another PREFIX also set PKG_CONFIG_PATH to PREFIX/lib/pkgconfig");
-    eprintln!("  - set UNIX_PATH_LIB_DIR to the absolute path of the folder that holds {LIBRARY}");
+    eprintln!("  - set UNIX_PATH_LIB_DIR to the absolute path of the folder that holds {LIBRARY},");
+    eprintln!("    or UNIX_PATH_LIB to that of the file");
+    eprintln!("A folder that the environment names is the only one that is looked into.");
     exit(1)
 }

@@ -39,10 +39,11 @@ impl<P: AsRef<[u8]>> Ord for ByParts<P> {
     }
 }
 
-/// The hasher is fed one number, [`hash`](crate::hash). So two paths with the same number collide
-/// whatever the key of the hasher is.
+/// The hasher is fed what the parts feed it, one after the other: equal paths feed it the same, and
+/// if it has a key, that decides which other paths collide.
 impl<P: AsRef<[u8]>> Hash for ByParts<P> {
+    #[inline]
     fn hash<H: Hasher>(&self, state: &mut H) {
-        state.write_u64(crate::hash(self.0.as_ref()));
+        crate::components(self.0.as_ref()).hash(state);
     }
 }

@@ -8,7 +8,7 @@ use core::iter::FusedIterator;
 /// A part of a path. The order of parts is that of the variants, and that of names is by bytes.
 ///
 /// As Rust's `std::path::Component`, without prefixes.
-#[derive(Clone, Copy, Debug, PartialEq, Eq, PartialOrd, Ord, Hash)]
+#[derive(Clone, Copy, PartialEq, Eq, PartialOrd, Ord)]
 pub enum Component<'a> {
     /// The root: the path begins with `/`.
     RootDir,
@@ -49,6 +49,36 @@ impl<'a> Component<'a> {
             Part::NORMAL => part.of(path).map(Component::Normal),
             _ => None,
         }
+    }
+}
+
+/// The variant, and a name between quotes with its bytes as ASCII text, or escaped.
+///
+/// ```
+/// use unix_path_rattle::Component;
+/// assert_eq!(format!("{:?}", Component::Normal(b"a\n")), r#"Normal("a\n")"#);
+/// ```
+impl fmt::Debug for Component<'_> {
+    fn fmt(&self, f: &mut fmt::Formatter<'_>) -> fmt::Result {
+        match self {
+            Component::RootDir => f.write_str("RootDir"),
+            Component::CurDir => f.write_str("CurDir"),
+            Component::ParentDir => f.write_str("ParentDir"),
+            Component::Normal(name) => f
+                .debug_tuple("Normal")
+                .field(&format_args!("\"{}\"", name.escape_ascii()))
+                .finish(),
+        }
+    }
+}
+
+/// The hasher is fed the part's bytes, and a slash behind them, which no name of a path has: the
+/// parts of two paths feed it the same bytes only if the paths are equal.
+impl Hash for Component<'_> {
+    #[inline]
+    fn hash<H: Hasher>(&self, state: &mut H) {
+        state.write(self.as_bytes());
+        state.write_u8(b'/');
     }
 }
 
@@ -141,8 +171,10 @@ impl Ord for Components<'_> {
     }
 }
 
+/// The hasher is fed what the parts feed it that are left, one after the other.
 impl Hash for Components<'_> {
+    #[inline]
     fn hash<H: Hasher>(&self, state: &mut H) {
-        state.write_u64(crate::hash(self.as_path()));
+        self.clone().for_each(|part| part.hash(state));
     }
 }

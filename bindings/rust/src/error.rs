@@ -10,6 +10,7 @@ use core::fmt;
 /// assert_eq!(error.to_string(), "the buffer is too short for 4 bytes");
 /// ```
 #[derive(Clone, Copy, Debug, PartialEq, Eq)]
+#[non_exhaustive]
 pub enum Error {
     /// The buffer is too short for the answer.
     Short {
@@ -22,6 +23,8 @@ pub enum Error {
     Escapes,
     /// An allocation failed.
     NoMemory,
+    /// No path has these bytes as its key.
+    NotAKey,
 }
 
 impl fmt::Display for Error {
@@ -31,6 +34,7 @@ impl fmt::Display for Error {
             Error::Separator => f.write_str("extension contains a separator"),
             Error::Escapes => f.write_str("path leaves its root"),
             Error::NoMemory => f.write_str("out of memory"),
+            Error::NotAKey => f.write_str("not the key of a path"),
         }
     }
 }
@@ -38,8 +42,32 @@ impl fmt::Display for Error {
 #[cfg(feature = "std")]
 impl std::error::Error for Error {}
 
+/// The error of a program that reads and writes: `OutOfMemory` for `NoMemory`, which takes no
+/// memory, and for the others `InvalidInput` with the error itself in it.
+///
+/// ```
+/// use std::io;
+/// use unix_path_rattle::Error;
+/// let error = io::Error::from(Error::Escapes);
+/// assert_eq!(error.kind(), io::ErrorKind::InvalidInput);
+/// assert_eq!(error.to_string(), "path leaves its root");
+/// ```
+#[cfg(feature = "std")]
+impl From<Error> for std::io::Error {
+    fn from(error: Error) -> std::io::Error {
+        use std::io::ErrorKind::{InvalidInput, OutOfMemory};
+        match error {
+            Error::NoMemory => OutOfMemory.into(),
+            Error::Short { .. } | Error::Separator | Error::Escapes | Error::NotAKey => {
+                std::io::Error::new(InvalidInput, error)
+            }
+        }
+    }
+}
+
 /// Why a path is no request. Its text is that of the Rattle crate's `RequestError`.
 #[derive(Clone, Copy, Debug, PartialEq, Eq)]
+#[non_exhaustive]
 pub enum RequestError {
     /// The path has a root.
     Rooted,
@@ -61,3 +89,18 @@ impl fmt::Display for RequestError {
 
 #[cfg(feature = "std")]
 impl std::error::Error for RequestError {}
+
+/// The error of a program that reads and writes: `InvalidInput`, with the error itself in it.
+///
+/// ```
+/// use std::io;
+/// use unix_path_rattle::Request;
+/// let request = Request::new(b"/a").map_err(io::Error::from);
+/// assert_eq!(request.unwrap_err().kind(), io::ErrorKind::InvalidInput);
+/// ```
+#[cfg(feature = "std")]
+impl From<RequestError> for std::io::Error {
+    fn from(error: RequestError) -> std::io::Error {
+        std::io::Error::new(std::io::ErrorKind::InvalidInput, error)
+    }
+}

@@ -26,6 +26,7 @@ fn refusal(answer: usize) -> Error {
         SEPARATOR => Error::Separator,
         ESCAPES => Error::Escapes,
         NO_MEMORY => Error::NoMemory,
+        NOT_A_KEY => Error::NotAKey,
         needed => Error::Short { needed },
     }
 }
@@ -36,19 +37,35 @@ fn output(out: &[u8], answer: usize) -> Result<&[u8], Error> {
     out.get(..answer).ok_or_else(|| refusal(answer))
 }
 
+/// Lets a call write into the vector's capacity behind its first `kept` bytes. The vector then has
+/// those and what the call wrote; if the call fails, it is as long as it was.
+#[cfg(feature = "alloc")]
+#[inline]
+fn fill_behind(
+    bytes: &mut Vec<u8>,
+    kept: usize,
+    call: impl FnOnce(*mut u8, usize) -> usize,
+) -> Result<(), Error> {
+    let kept = kept.min(bytes.len());
+    let room = bytes.capacity() - kept;
+    // SAFETY: the place is in the vector's memory or at its end.
+    let answer = call(unsafe { bytes.as_mut_ptr().add(kept) }, room);
+    if answer > room {
+        return Err(refusal(answer));
+    }
+    // SAFETY: the capacity has that many bytes; the first were there before, and the library
+    // promises that it wrote the others.
+    unsafe { bytes.set_len(kept + answer) };
+    Ok(())
+}
+
 /// Lets a call write into the vector's capacity. The vector then has what the call wrote, and no
 /// more.
 #[cfg(feature = "alloc")]
 #[inline]
 fn fill(bytes: &mut Vec<u8>, call: impl FnOnce(*mut u8, usize) -> usize) -> Result<(), Error> {
     bytes.clear();
-    let answer = call(bytes.as_mut_ptr(), bytes.capacity());
-    if answer > bytes.capacity() {
-        return Err(refusal(answer));
-    }
-    // SAFETY: the capacity has that many bytes, and the library promises that it wrote them.
-    unsafe { bytes.set_len(answer) };
-    Ok(())
+    fill_behind(bytes, 0, call)
 }
 
 /// The bytes from `start` on, or `None` if they don't all lie in the path: no place is trusted.
@@ -242,7 +259,7 @@ pub(crate) fn fill_below(root: &[u8], request: &[u8], bytes: &mut Vec<u8>) -> Re
     })
 }
 
-/// Calls that write what they make of a path.
+/// Calls that write what they make of a path or of a key.
 #[derive(Clone, Copy)]
 pub(crate) struct Make(BytesOfOne);
 
@@ -250,6 +267,9 @@ impl Make {
     pub const CANONICAL: Make = Make(unix_path_canonical);
     pub const TO_STRING_LOSSY: Make = Make(unix_path_to_string_lossy);
     pub const RESOLVED: Make = Make(unix_path_resolved);
+    pub const KEY: Make = Make(unix_path_key);
+    pub const FROM_KEY: Make = Make(unix_path_from_key);
+    pub const KEY_END: Make = Make(unix_path_key_end);
 
     #[inline]
     pub fn write<'o>(self, path: &[u8], out: &'o mut [u8]) -> Result<&'o [u8], Error> {
@@ -298,6 +318,22 @@ impl MakeOfTwo {
         let (start, length) = (path.as_ptr(), path.len());
         // SAFETY: the slices are read, and the capacity is written.
         fill(bytes, |out, room| unsafe {
+            (self.0)(start, length, other.as_ptr(), other.len(), out, room)
+        })
+    }
+    /// The same behind the vector's first `kept` bytes, which stay.
+    #[cfg(feature = "alloc")]
+    #[inline]
+    pub fn fill_behind(
+        self,
+        bytes: &mut Vec<u8>,
+        kept: usize,
+        path: &[u8],
+        other: &[u8],
+    ) -> Result<(), Error> {
+        let (start, length) = (path.as_ptr(), path.len());
+        // SAFETY: the slices are read, and the capacity is written.
+        fill_behind(bytes, kept, |out, room| unsafe {
             (self.0)(start, length, other.as_ptr(), other.len(), out, room)
         })
     }

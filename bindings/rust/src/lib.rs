@@ -15,9 +15,11 @@
 //! assert_eq!(join(b"/tmp/", b"foo.txt", &mut out), Err(Error::Short { needed: 12 }));
 //! ```
 //!
-//! With the feature `alloc` the calls of [`owned`] give a `Vec<u8>`; with `std`, the default, those
-//! of [`os`] take and give `Path` and `OsStr` on Unix. No call panics, and a failed allocation is
-//! an error, [`Error::NoMemory`].
+//! With the feature `alloc` the calls of [`owned`] give a `Vec<u8>`, and those of [`edits`] change
+//! one; with `std`, the default, those of [`os`] take and give `Path` and `OsStr` on Unix. No call
+//! panics, and a failed allocation is an error, [`Error::NoMemory`].
+//!
+//! The crate `unix_path_typed` beside this one has the types and names of Rust's `Path`.
 //!
 //! # What is proved
 //!
@@ -48,9 +50,12 @@ extern crate std;
 mod buffers;
 mod by_parts;
 mod components;
+#[cfg(feature = "alloc")]
+pub mod edits;
 mod error;
 #[allow(unsafe_code)]
 mod ffi;
+mod keys;
 #[cfg(all(feature = "std", unix))]
 pub mod os;
 #[cfg(feature = "alloc")]
@@ -64,6 +69,7 @@ pub use buffers::{
 pub use by_parts::ByParts;
 pub use components::{Component, Components};
 pub use error::{Error, RequestError};
+pub use keys::{from_key, key, key_end};
 pub use queries::{
     check_request, climbs, common_dir, compare, components, ends_with, equal, extension, file_name,
     file_prefix, file_stem, hash, is_absolute, is_utf8, parent, starts_with, strip_prefix,

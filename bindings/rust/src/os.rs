@@ -290,3 +290,22 @@ pub fn join_within(root: impl AsRef<Path>, request: impl AsRef<Path>) -> Result<
 pub fn join_below(root: impl AsRef<Path>, request: Request<'_>) -> Result<PathBuf, Error> {
     owned::join_below(bytes(&root), request).map(path_buf)
 }
+
+/// As [`owned::key`].
+///
+/// ```
+/// assert_eq!(unix_path_rattle::os::key("a//b/.").unwrap(), b"a\0b\0");
+/// ```
+pub fn key(path: impl AsRef<Path>) -> Result<Vec<u8>, Error> {
+    owned::key(bytes(&path))
+}
+
+/// As [`owned::from_key`].
+///
+/// ```
+/// # use std::path::Path;
+/// assert_eq!(unix_path_rattle::os::from_key(b"a\0b\0").unwrap(), Path::new("a/b"));
+/// ```
+pub fn from_key(key: &[u8]) -> Result<PathBuf, Error> {
+    owned::from_key(key).map(path_buf)
+}

@@ -1,4 +1,4 @@
-//! The calls that make a path, with the answer in a new `Vec` or `String`.
+//! The calls that make a path or a key, with the answer in a new `Vec` or `String`.
 //!
 //! Each fails with [`Error::NoMemory`] if an allocation failed, and never with
 //! [`Error::Short`].
@@ -9,7 +9,7 @@ use alloc::string::String;
 use alloc::vec::Vec;
 
 /// What the call writes into a new vector that has room for `room` bytes.
-fn vec_with_room<F>(room: usize, fill: &F) -> Result<Vec<u8>, Error>
+pub(crate) fn vec_with_room<F>(room: usize, fill: &F) -> Result<Vec<u8>, Error>
 where
     F: Fn(&mut Vec<u8>) -> Result<(), Error>,
 {
@@ -121,4 +121,38 @@ pub fn join_below(root: &[u8], request: Request<'_>) -> Result<Vec<u8>, Error> {
     vec_of(root.len() + 1 + path.len(), |bytes| {
         ffi::fill_below(root, path, bytes)
     })
+}
+
+/// As [`key`](crate::key), in memory of its own.
+///
+/// ```
+/// assert_eq!(unix_path_rattle::owned::key(b"/a").unwrap(), b"\0\x01a\0");
+/// ```
+pub fn key(path: &[u8]) -> Result<Vec<u8>, Error> {
+    vec_of(path.len() + 2, |bytes| Make::KEY.fill(path, bytes))
+}
+
+/// As [`from_key`](crate::from_key), in memory of its own.
+///
+/// ```
+/// use unix_path_rattle::{owned, Error};
+/// assert_eq!(owned::from_key(b"\0\x02a\0").unwrap(), b"./a");
+/// assert_eq!(owned::from_key(b"a"), Err(Error::NotAKey));
+/// ```
+pub fn from_key(key: &[u8]) -> Result<Vec<u8>, Error> {
+    vec_of(key.len(), |bytes| Make::FROM_KEY.fill(key, bytes))
+}
+
+/// As [`key_end`](crate::key_end), in memory of its own.
+///
+/// ```
+/// use unix_path_rattle::owned::key_end;
+/// assert_eq!(key_end(b"a\0").unwrap().as_deref(), Some(&b"a\x01"[..]));
+/// assert_eq!(key_end(b""), Ok(None));
+/// ```
+pub fn key_end(key: &[u8]) -> Result<Option<Vec<u8>>, Error> {
+    if key.is_empty() {
+        return Ok(None);
+    }
+    vec_of(key.len(), |bytes| Make::KEY_END.fill(key, bytes)).map(Some)
 }

@@ -2,7 +2,7 @@
 use std::alloc::{GlobalAlloc, Layout, System};
 use std::cell::Cell;
 use std::ptr::null_mut;
-use unix_path_rattle::{owned, Error, Request};
+use unix_path_rattle::{edits, owned, Error, Request};
 
 thread_local! {
     /// Whether this thread is given no memory.
@@ -49,10 +49,14 @@ fn it_is_an_error() {
         assert_eq!(without_memory(|| call(b"a/b", b"c")), Err(Error::NoMemory));
         assert!(call(b"a/b", b"c").is_ok());
     }
-    for call in [owned::canonical, owned::resolved] {
+    for call in [owned::canonical, owned::resolved, owned::key] {
         assert_eq!(without_memory(|| call(b"a/b")), Err(Error::NoMemory));
         assert!(call(b"a/b").is_ok());
     }
+    let path = without_memory(|| owned::from_key(b"a\0"));
+    assert_eq!(path, Err(Error::NoMemory));
+    let end = without_memory(|| owned::key_end(b"a\0"));
+    assert_eq!(end, Err(Error::NoMemory));
     let request = Request::below(b"/a/../b").unwrap();
     let joined = without_memory(|| owned::join_below(b"/srv", request));
     assert_eq!(joined, Err(Error::NoMemory));
@@ -76,4 +80,42 @@ fn requests_are_joined_without() {
     };
     IS_REFUSED.set(false);
     assert!(is_joined);
+}
+
+/// An edit that puts something into the path.
+type Edit = fn(&mut Vec<u8>, &[u8]) -> Result<(), Error>;
+
+/// The edits, the last without its truth.
+const EDITS: [Edit; 3] = [edits::push, edits::set_file_name, |path, extension| {
+    edits::set_extension(path, extension).map(|_| ())
+}];
+
+#[test]
+fn edits_leave_the_path() {
+    for edit in EDITS {
+        for long in [&[b'x'; 40][..], &[b'x'; 400]] {
+            let mut path = b"/a/b".to_vec();
+            path.shrink_to_fit();
+            let failed = without_memory(|| edit(&mut path, long));
+            assert_eq!((failed, &path[..]), (Err(Error::NoMemory), &b"/a/b"[..]));
+            assert_eq!(edit(&mut path, long), Ok(()));
+        }
+    }
+    let mut path = b"/a/b".to_vec();
+    path.shrink_to_fit();
+    let failed = without_memory(|| edits::push(&mut path, b"/a/b/c/d/e/f"));
+    assert_eq!((failed, &path[..]), (Err(Error::NoMemory), &b"/a/b"[..]));
+}
+
+#[test]
+fn edits_in_room_need_none() {
+    for edit in EDITS {
+        let mut path = Vec::with_capacity(64);
+        path.extend(b"/a/b");
+        assert_eq!(without_memory(|| edit(&mut path, b"cde")), Ok(()));
+        assert!(path.ends_with(b"cde"));
+    }
+    let mut path = b"/a/b".to_vec();
+    let pushed = without_memory(|| edits::push(&mut path, b"/cd"));
+    assert_eq!((pushed, &path[..]), (Ok(()), &b"/cd"[..]));
 }

@@ -77,11 +77,19 @@ extern "C" {
         request_length: usize, out: *mut u8, out_length: usize) -> usize;
     pub fn unix_path_join_below(root: Start, root_length: usize, request: Start,
         request_length: usize, as_url: bool, out: *mut u8, out_length: usize) -> usize;
+
+    pub fn unix_path_key(path: Start, path_length: usize, out: *mut u8, out_length: usize) -> usize;
+    pub fn unix_path_from_key(key: Start, key_length: usize, out: *mut u8, out_length: usize)
+        -> usize;
+    pub fn unix_path_key_end(key: Start, key_length: usize, out: *mut u8, out_length: usize)
+        -> usize;
 }
 
 /// What `unix_path_with_extension` answers for an extension with a slash.
-pub const SEPARATOR: usize = usize::MAX;
+pub const SEPARATOR: usize = usize::MAX - 6;
 /// What `unix_path_join_within` and `unix_path_join_below` answer for a request that climbs.
 pub const ESCAPES: usize = usize::MAX - 1;
 /// What `unix_path_resolved` and `unix_path_join_within` answer if an allocation failed.
 pub const NO_MEMORY: usize = usize::MAX - 2;
+/// What `unix_path_from_key` and `unix_path_key_end` answer for bytes that are the key of no path.
+pub const NOT_A_KEY: usize = usize::MAX - 4;

@@ -43,9 +43,14 @@ where
     }
 }
 
+/// The end of the range of a key that isn't empty.
+fn key_end<'o>(key: &[u8], out: &'o mut [u8]) -> Result<&'o [u8], Error> {
+    paths::key_end(key, out).map(Option::unwrap)
+}
+
 #[test]
-fn of_one_path() {
-    let rows: [RowOfOne; 14] = [
+fn of_one_path_or_key() {
+    let rows: [RowOfOne; 25] = [
         (paths::canonical, b".//a/./b/", b"./a/b"),
         (paths::canonical, b"///", b"/"),
         (paths::canonical, b"", b""),
@@ -64,6 +69,17 @@ fn of_one_path() {
         (paths::resolved, b"/plain/names", b"/plain/names"),
         (paths::resolved, b"/..", b"/"),
         (paths::resolved, b"", b""),
+        (paths::key, b"", b""),
+        (paths::key, b"//.", b"\0\x01"),
+        (paths::key, b".//a.b/..", b"\0\x02a/b\0\0\x03"),
+        (paths::key, b"a0-/\xFF/\0", b"a0.\0\xFF\0\x01\0"),
+        (paths::from_key, b"", b""),
+        (paths::from_key, b"\0\x01", b"/"),
+        (paths::from_key, b"\0\x02a/b\0\0\x03", b"./a.b/.."),
+        (paths::from_key, b"\0\x03\0\x03\0\x03", b"../../.."),
+        (paths::from_key, b"a0.\0\xFF\0\x01\0", b"a0-/\xFF/\0"),
+        (key_end, b"\0\x01", b"\0\x02"),
+        (key_end, b"a\0b/c\0", b"a\0b/c\x01"),
     ];
     for (call, path, want) in rows {
         in_every_room(|out| call(path, out), want);
@@ -130,6 +146,19 @@ fn refusals_write_nothing() {
     );
     in_no_room(|out| paths::join_within(b"/a", b"..", out), Error::Escapes);
     in_no_room(|out| paths::join_within(b"/a", b"/a", out), Error::Escapes);
+    let no_keys: [&[u8]; 7] = [
+        b"a",
+        b"\0\x04",
+        b"a\0\0\x01",
+        b"\0\x01\0\x02",
+        b"/\0",
+        b"//\0",
+        b"\xFF",
+    ];
+    for bytes in no_keys {
+        in_no_room(|out| key_end(bytes, out), Error::NotAKey);
+        in_no_room(|out| paths::from_key(bytes, out), Error::NotAKey);
+    }
 }
 
 #[test]
@@ -149,6 +178,7 @@ fn errors_have_texts() {
         (Error::Separator, "extension contains a separator"),
         (Error::Escapes, "path leaves its root"),
         (Error::NoMemory, "out of memory"),
+        (Error::NotAKey, "not the key of a path"),
     ];
     for (error, want) in rows {
         assert_eq!(error.to_string(), want);

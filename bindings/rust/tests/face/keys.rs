@@ -1,7 +1,8 @@
-//! Paths as keys: hashes, and maps by parts.
+//! Paths as keys: hashes, maps by parts, and keys for ordered stores.
 use crate::short_strings::over;
 use std::collections::{BTreeMap, HashMap, HashSet};
-use unix_path_rattle::{hash, owned, ByParts};
+use std::hash::{Hash, Hasher};
+use unix_path_rattle::{compare, components, hash, owned, starts_with, ByParts, Component, Error};
 
 #[test]
 fn equal_paths_share_a_hash() {
@@ -33,4 +34,99 @@ fn maps_by_parts() {
     for s in &strings {
         assert_eq!(hashed[&ByParts(s)], ordered[&ByParts(s)]);
     }
+}
+
+/// The key of a path, part by part.
+fn key_of(path: &[u8]) -> Vec<u8> {
+    let codes = components(path).map(|part| match part {
+        Component::RootDir => b"\0\x01".to_vec(),
+        Component::CurDir => b"\0\x02".to_vec(),
+        Component::ParentDir => b"\0\x03".to_vec(),
+        Component::Normal(name) => name
+            .iter()
+            .map(|byte| byte + u8::from(*byte < b'/'))
+            .chain([0])
+            .collect(),
+    });
+    codes.flatten().collect()
+}
+
+#[test]
+fn keys_of_short_strings() {
+    for s in over(b"/.a0\0", 5) {
+        let key = owned::key(&s).unwrap();
+        assert_eq!(key, key_of(&s), "{}", s.escape_ascii());
+        assert_eq!(owned::from_key(&key), owned::canonical(&s));
+    }
+}
+
+/// What isn't the key of some path is refused.
+#[test]
+fn short_strings_as_keys() {
+    let keys: HashSet<_> = over(b"/.a\0\x01\x02", 5)
+        .iter()
+        .map(|s| key_of(s))
+        .collect();
+    for bytes in over(b"/a\0\x01\x02\x03", 5) {
+        match owned::from_key(&bytes) {
+            Ok(path) => assert_eq!(key_of(&path), bytes),
+            Err(error) => assert_eq!(error, Error::NotAKey),
+        }
+        assert_eq!(owned::from_key(&bytes).is_ok(), keys.contains(&bytes));
+    }
+}
+
+/// A store's order of keys is that of the paths, and a range has what starts with its path.
+#[test]
+fn keys_of_pairs() {
+    let strings = over(b"/.a0", 4);
+    for base in &strings {
+        let first = owned::key(base).unwrap();
+        let end = owned::key_end(&first).unwrap();
+        assert_eq!(end.is_none(), base.is_empty());
+        for s in &strings {
+            let key = owned::key(s).unwrap();
+            assert_eq!(key.cmp(&first), compare(s, base));
+            let is_in_range = first <= key && end.as_ref().map_or(true, |end| key < *end);
+            assert_eq!(is_in_range, starts_with(s, base));
+        }
+    }
+}
+
+/// A hasher that keeps what it is fed.
+#[derive(Default)]
+struct Fed(Vec<u8>);
+
+impl Hasher for Fed {
+    fn write(&mut self, bytes: &[u8]) {
+        self.0.extend_from_slice(bytes);
+    }
+
+    fn finish(&self) -> u64 {
+        0
+    }
+}
+
+/// What the key feeds a hasher.
+fn fed_by(key: impl Hash) -> Vec<u8> {
+    let mut hasher = Fed::default();
+    key.hash(&mut hasher);
+    hasher.0
+}
+
+/// So no two different paths collide under each key of a hasher.
+#[test]
+fn hashers_are_fed_the_parts() {
+    let (mut feeds, mut spellings) = (HashSet::new(), HashSet::new());
+    for s in over(b"/.ab", 5) {
+        let fed = fed_by(ByParts(&s));
+        let parts: Vec<_> = components(&s).collect();
+        assert_eq!(fed, parts.iter().flat_map(fed_by).collect::<Vec<u8>>());
+        assert_eq!(fed, fed_by(components(&s)));
+        let spelling = owned::canonical(&s).unwrap();
+        assert_eq!(fed, fed_by(ByParts(&spelling)), "{}", s.escape_ascii());
+        feeds.insert(fed);
+        spellings.insert(spelling);
+    }
+    assert_eq!(feeds.len(), spellings.len());
 }

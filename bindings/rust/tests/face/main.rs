@@ -2,6 +2,7 @@
 //! that are too short.
 mod beside_std;
 mod buffers;
+mod edits;
 mod keys;
 mod rows;
 mod short_strings;

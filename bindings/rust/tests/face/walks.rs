@@ -41,7 +41,7 @@ fn compared_by_what_is_left() {
     left.next();
     assert_eq!(left, components(b"a/b/."));
     assert!(left > components(b"a"));
-    assert_eq!(format!("{left:?}"), "[Normal([97]), Normal([98])]");
+    assert_eq!(format!("{left:?}"), r#"[Normal("a"), Normal("b")]"#);
 }
 
 #[test]
@@ -53,4 +53,14 @@ fn outlives_the_walk() {
     };
     assert_eq!(name, Some(Component::Normal(b"a.txt")));
     assert_eq!(left, b"/tmp");
+}
+
+#[test]
+fn debug_texts() {
+    let parts = components(b"/\"\xFF/..");
+    assert_eq!(
+        format!("{parts:?}"),
+        r#"[RootDir, Normal("\"\xff"), ParentDir]"#
+    );
+    assert_eq!(format!("{:?}", components(b".")), "[CurDir]");
 }

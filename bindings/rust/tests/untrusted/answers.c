@@ -1,4 +1,5 @@
 /* A library with the calls of unix_path.h that answer at random, and write where they may. */
+#define UNIX_PATH_EXPORTS_ONLY
 #include "unix_path.h"
 
 static _Thread_local uint64_t state = 88172645463325252u;
@@ -16,7 +17,7 @@ static size_t any_size(void)
 {
     switch (any() % 4) {
     case 0:
-        return SIZE_MAX - any() % 4;
+        return SIZE_MAX - any() % 7;
     case 1:
         return SIZE_MAX / 2 + any() % 3;
     default:
@@ -41,16 +42,17 @@ static bool any_part(unix_path_walk *walk, unix_path_part *part)
     return any() % 8 > 0;
 }
 
-static size_t any_bytes(uint8_t *out, size_t out_length)
+static size_t any_bytes(void *room, size_t out_length)
 {
+    uint8_t *out = room;
     for (size_t at = 0; at < out_length; at++)
         out[at] = (uint8_t)any();
     return any_size();
 }
 
-#define ONE const uint8_t *a, size_t a_length
-#define TWO ONE, const uint8_t *b, size_t b_length
-#define OUT uint8_t *out, size_t out_length
+#define ONE const void *a, size_t a_length
+#define TWO ONE, const void *b, size_t b_length
+#define OUT void *out, size_t out_length
 #define NONE_OF_ONE (void)a, (void)a_length
 #define NONE_OF_TWO NONE_OF_ONE, (void)b, (void)b_length
 
@@ -100,6 +102,9 @@ size_t unix_path_common_dir(TWO) { return NONE_OF_TWO, any_size(); }
 MAKE(unix_path_canonical)
 MAKE(unix_path_to_string_lossy)
 MAKE(unix_path_resolved)
+MAKE(unix_path_key)
+MAKE(unix_path_from_key)
+MAKE(unix_path_key_end)
 MAKE_OF_TWO(unix_path_join)
 MAKE_OF_TWO(unix_path_with_file_name)
 MAKE_OF_TWO(unix_path_with_extension)

@@ -2,7 +2,7 @@
 //!
 //! This holds with any library; `answers.c` makes one that answers at random.
 use std::path::Path;
-use unix_path_rattle::{self as paths, os, owned, Error, Request};
+use unix_path_rattle::{self as paths, edits, os, owned, Error, Request};
 
 const PATH: &[u8] = b"/a//b.c";
 const ROUNDS: usize = 20_000;
@@ -50,7 +50,13 @@ fn places() {
 
 #[test]
 fn buffers() {
-    let of_one = [paths::canonical, paths::to_string_lossy, paths::resolved];
+    let of_one = [
+        paths::canonical,
+        paths::to_string_lossy,
+        paths::resolved,
+        paths::key,
+        paths::from_key,
+    ];
     let of_two = [
         paths::join,
         paths::with_file_name,
@@ -71,6 +77,8 @@ fn buffers() {
         for call in of_two {
             assert!(is_inside(call(PATH, b"x", &mut out)));
         }
+        let end = paths::key_end(PATH, &mut out);
+        assert!(is_inside(end.map(Option::unwrap)));
         for request in [Request::new(PATH), Request::below(PATH)]
             .into_iter()
             .flatten()
@@ -101,7 +109,26 @@ fn memory_of_its_own() {
         }
         let _ = owned::canonical(PATH).map(|made| made.len());
         let _ = owned::resolved(PATH).map(|made| made.len());
+        let _ = owned::key(PATH).map(|made| made.len());
+        let _ = owned::from_key(PATH).map(|made| made.len());
+        let _ = owned::key_end(PATH).map(|made| made.map_or(0, |end| end.len()));
         let _ = owned::to_string_lossy(PATH).map(|text| text.chars().count());
         let _ = os::join(Path::new("a"), "b").map(|made| made.components().count());
+    }
+}
+
+#[test]
+fn edited_vectors() {
+    for _ in 0..ROUNDS {
+        let mut path = PATH.to_vec();
+        path.reserve(8);
+        for other in [&b"x"[..], b"/x", &[b'x'; 300]] {
+            let _ = edits::push(&mut path, other);
+            let _ = edits::set_file_name(&mut path, other);
+            let _ = edits::set_extension(&mut path, other);
+            let _ = edits::pop(&mut path);
+            assert!(path.len() <= path.capacity());
+            path.truncate(PATH.len());
+        }
     }
 }

@@ -1,0 +1,82 @@
+//! The parts of a path.
+use crate::path::Path;
+use crate::unix_str::UnixStr;
+use core::hash::{Hash, Hasher};
+use unix_path_rattle as calls;
+
+/// A part of a path. The order of parts is that of the variants, and that of names is by bytes.
+///
+/// As Rust's `std::path::Component`, without prefixes.
+///
+/// ```
+/// use unix_path_typed::{Component, Path};
+/// let parts: Vec<_> = Path::new("/tmp").components().collect();
+/// assert_eq!(parts, [Component::RootDir, Component::Normal("tmp".as_ref())]);
+/// assert_eq!(format!("{parts:?}"), r#"[RootDir, Normal("tmp")]"#);
+/// ```
+#[derive(Clone, Copy, Debug, PartialEq, Eq, PartialOrd, Ord)]
+pub enum Component<'a> {
+    /// The root: the path begins with `/`.
+    RootDir,
+    /// A `.` that stands first. Others are dropped.
+    CurDir,
+    /// A `..`, which is kept.
+    ParentDir,
+    /// A name.
+    Normal(&'a UnixStr),
+}
+
+impl<'a> Component<'a> {
+    /// The part's bytes: `/`, `.`, `..` or the name. As Rust's `Component::as_os_str`.
+    ///
+    /// ```
+    /// use unix_path_typed::{Component, UnixStr};
+    /// assert_eq!(Component::RootDir.as_unix_str(), "/");
+    /// assert_eq!(Component::Normal(UnixStr::new("a")).as_unix_str(), "a");
+    /// ```
+    #[must_use]
+    #[inline]
+    pub fn as_unix_str(self) -> &'a UnixStr {
+        match self {
+            Component::RootDir => UnixStr::of(b"/"),
+            Component::CurDir => UnixStr::of(b"."),
+            Component::ParentDir => UnixStr::of(b".."),
+            Component::Normal(name) => name,
+        }
+    }
+
+    /// The part that a part of slices is.
+    #[inline]
+    pub(crate) fn of(part: calls::Component<'a>) -> Component<'a> {
+        match part {
+            calls::Component::RootDir => Component::RootDir,
+            calls::Component::CurDir => Component::CurDir,
+            calls::Component::ParentDir => Component::ParentDir,
+            calls::Component::Normal(name) => Component::Normal(UnixStr::of(name)),
+        }
+    }
+}
+
+/// The hasher is fed the part's bytes, and a slash behind them, which no name of a path has: the
+/// parts of two paths feed it the same bytes only if the paths are equal.
+impl Hash for Component<'_> {
+    #[inline]
+    fn hash<H: Hasher>(&self, state: &mut H) {
+        state.write(self.as_unix_str().as_bytes());
+        state.write_u8(b'/');
+    }
+}
+
+impl AsRef<UnixStr> for Component<'_> {
+    #[inline]
+    fn as_ref(&self) -> &UnixStr {
+        self.as_unix_str()
+    }
+}
+
+impl AsRef<Path> for Component<'_> {
+    #[inline]
+    fn as_ref(&self) -> &Path {
+        self.as_unix_str().as_ref()
+    }
+}

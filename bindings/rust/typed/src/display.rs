@@ -1,0 +1,76 @@
+//! Paths as text.
+use crate::path::Path;
+use crate::unix_str::UnixStr;
+use core::fmt::{self, Write};
+
+/// A path that is printed as text; [`Path::display`](crate::Path::display) gives it.
+///
+/// Bytes that are UTF-8 are printed as a `str` is, with width, precision, fill and alignment. For
+/// others each part that isn't is printed as U+FFFD, without regard to these, and the text is
+/// allocated once. As Rust's `std::path::Display`.
+///
+/// ```
+/// use unix_path_typed::{Path, UnixStr};
+/// assert_eq!(format!("{:>6}", Path::new("/tmp").display()), "  /tmp");
+/// let path = Path::new(UnixStr::from_bytes(b"caf\xE9"));
+/// assert_eq!(path.display().to_string(), "caf\u{FFFD}");
+/// ```
+pub struct Display<'a> {
+    path: &'a Path,
+}
+
+impl<'a> Display<'a> {
+    #[inline]
+    pub(crate) fn new(path: &'a Path) -> Display<'a> {
+        Display { path }
+    }
+}
+
+impl fmt::Debug for Display<'_> {
+    fn fmt(&self, f: &mut fmt::Formatter<'_>) -> fmt::Result {
+        fmt::Debug::fmt(self.path, f)
+    }
+}
+
+impl fmt::Display for Display<'_> {
+    fn fmt(&self, f: &mut fmt::Formatter<'_>) -> fmt::Result {
+        match self.path.to_str() {
+            Some(text) => f.pad(text),
+            None => f.write_str(&self.path.to_string_lossy()),
+        }
+    }
+}
+
+/// Writes the character as it stands between quotes in a debug text.
+fn write_escaped(c: char, f: &mut fmt::Formatter<'_>) -> fmt::Result {
+    match c {
+        '\'' => f.write_char(c),
+        _ => c.escape_debug().try_for_each(|c| f.write_char(c)),
+    }
+}
+
+/// The bytes between quotes: text with Rust's escapes, and what isn't UTF-8 as `\xFF`. As the debug
+/// text of Rust's `OsStr`.
+impl fmt::Debug for UnixStr {
+    fn fmt(&self, f: &mut fmt::Formatter<'_>) -> fmt::Result {
+        f.write_char('"')?;
+        for chunk in self.as_bytes().utf8_chunks() {
+            chunk
+                .valid()
+                .chars()
+                .try_for_each(|c| write_escaped(c, f))?;
+            chunk
+                .invalid()
+                .iter()
+                .try_for_each(|byte| write!(f, "\\x{byte:02X}"))?;
+        }
+        f.write_char('"')
+    }
+}
+
+/// As the debug text of its bytes as a [`UnixStr`].
+impl fmt::Debug for Path {
+    fn fmt(&self, f: &mut fmt::Formatter<'_>) -> fmt::Result {
+        fmt::Debug::fmt(self.as_unix_str(), f)
+    }
+}

@@ -1,0 +1,311 @@
+//! Text of any bytes that can grow.
+use crate::path::Path;
+use crate::unix_str::UnixStr;
+use alloc::borrow::{Borrow, Cow};
+use alloc::boxed::Box;
+use alloc::string::String;
+use alloc::vec::Vec;
+use core::convert::Infallible;
+use core::fmt;
+use core::hash::{Hash, Hasher};
+use core::ops::{Deref, Index, RangeFull};
+use core::str::FromStr;
+
+/// A [`UnixStr`] that has memory of its own and can grow.
+///
+/// What allocates ends as a `Vec` does if memory is lacking. As Rust's `OsString` on Unix, and the
+/// `UnixString` of the crate `unix_str`.
+///
+/// ```
+/// use unix_path_typed::UnixString;
+/// let mut text = UnixString::from("a");
+/// text.push(".txt");
+/// assert_eq!(text, "a.txt");
+/// ```
+#[derive(Clone, Default, PartialEq, Eq, PartialOrd, Ord)]
+pub struct UnixString {
+    pub(crate) bytes: Vec<u8>,
+}
+
+impl UnixString {
+    /// No bytes. Does not allocate. As Rust's `OsString::new`.
+    ///
+    /// ```
+    /// assert!(unix_path_typed::UnixString::new().is_empty());
+    /// ```
+    #[must_use]
+    #[inline]
+    pub const fn new() -> UnixString {
+        UnixString { bytes: Vec::new() }
+    }
+
+    /// No bytes, with room for this many. As Rust's `OsString::with_capacity`.
+    ///
+    /// ```
+    /// assert!(unix_path_typed::UnixString::with_capacity(10).capacity() >= 10);
+    /// ```
+    #[must_use]
+    #[inline]
+    pub fn with_capacity(capacity: usize) -> UnixString {
+        UnixString::from_vec(Vec::with_capacity(capacity))
+    }
+
+    /// These bytes, in the same memory. As Rust's `OsStringExt::from_vec`.
+    ///
+    /// ```
+    /// use unix_path_typed::UnixString;
+    /// assert_eq!(UnixString::from_vec(b"a".to_vec()), "a");
+    /// ```
+    #[must_use]
+    #[inline]
+    pub const fn from_vec(bytes: Vec<u8>) -> UnixString {
+        UnixString { bytes }
+    }
+
+    /// The bytes, in the same memory. As Rust's `OsStringExt::into_vec`.
+    ///
+    /// ```
+    /// assert_eq!(unix_path_typed::UnixString::from("a").into_vec(), b"a");
+    /// ```
+    #[must_use]
+    #[inline]
+    pub fn into_vec(self) -> Vec<u8> {
+        self.bytes
+    }
+
+    /// The text that it holds. As Rust's `OsString::as_os_str`.
+    ///
+    /// ```
+    /// use unix_path_typed::{UnixStr, UnixString};
+    /// assert_eq!(UnixString::from("a").as_unix_str(), UnixStr::new("a"));
+    /// ```
+    #[must_use]
+    #[inline]
+    pub fn as_unix_str(&self) -> &UnixStr {
+        self
+    }
+
+    /// The same bytes as a `String`, in the same memory. Fails, with the text itself as the error,
+    /// if they aren't UTF-8. As Rust's `OsString::into_string`.
+    ///
+    /// ```
+    /// use unix_path_typed::UnixString;
+    /// assert_eq!(UnixString::from("a").into_string(), Ok("a".to_string()));
+    /// let broken = UnixString::from_vec(vec![0xE9]);
+    /// assert_eq!(broken.clone().into_string(), Err(broken));
+    /// ```
+    #[inline]
+    pub fn into_string(self) -> Result<String, UnixString> {
+        String::from_utf8(self.bytes).map_err(|error| UnixString::from_vec(error.into_bytes()))
+    }
+
+    /// Adds the text behind. Adds no slash. As Rust's `OsString::push`.
+    ///
+    /// ```
+    /// let mut text = unix_path_typed::UnixString::from("a");
+    /// text.push("b");
+    /// assert_eq!(text, "ab");
+    /// ```
+    #[inline]
+    pub fn push<S: AsRef<UnixStr>>(&mut self, s: S) {
+        self.bytes.extend_from_slice(s.as_ref().as_bytes());
+    }
+
+    /// For how many bytes there is room in all. As Rust's `OsString::capacity`.
+    ///
+    /// ```
+    /// assert_eq!(unix_path_typed::UnixString::new().capacity(), 0);
+    /// ```
+    #[must_use]
+    #[inline]
+    pub fn capacity(&self) -> usize {
+        self.bytes.capacity()
+    }
+
+    /// Takes all bytes away, and keeps the room. As Rust's `OsString::clear`.
+    ///
+    /// ```
+    /// let mut text = unix_path_typed::UnixString::from("a");
+    /// text.clear();
+    /// assert!(text.is_empty() && text.capacity() > 0);
+    /// ```
+    #[inline]
+    pub fn clear(&mut self) {
+        self.bytes.clear();
+    }
+
+    /// Makes room for this many bytes more, or for more than these. As Rust's
+    /// `OsString::reserve`.
+    ///
+    /// ```
+    /// let mut text = unix_path_typed::UnixString::from("a");
+    /// text.reserve(10);
+    /// assert!(text.capacity() >= 11);
+    /// ```
+    #[inline]
+    pub fn reserve(&mut self, additional: usize) {
+        self.bytes.reserve(additional);
+    }
+
+    /// Makes room for this many bytes more. As Rust's `OsString::reserve_exact`.
+    ///
+    /// ```
+    /// let mut text = unix_path_typed::UnixString::from("a");
+    /// text.reserve_exact(10);
+    /// assert!(text.capacity() >= 11);
+    /// ```
+    #[inline]
+    pub fn reserve_exact(&mut self, additional: usize) {
+        self.bytes.reserve_exact(additional);
+    }
+
+    /// Gives up room that isn't used. As Rust's `OsString::shrink_to_fit`.
+    ///
+    /// ```
+    /// let mut text = unix_path_typed::UnixString::with_capacity(100);
+    /// text.shrink_to_fit();
+    /// assert!(text.capacity() < 100);
+    /// ```
+    #[inline]
+    pub fn shrink_to_fit(&mut self) {
+        self.bytes.shrink_to_fit();
+    }
+
+    /// Gives up room that isn't used, but for this many bytes in all. As Rust's
+    /// `OsString::shrink_to`.
+    ///
+    /// ```
+    /// let mut text = unix_path_typed::UnixString::with_capacity(100);
+    /// text.shrink_to(20);
+    /// assert!(text.capacity() < 100);
+    /// ```
+    #[inline]
+    pub fn shrink_to(&mut self, min_capacity: usize) {
+        self.bytes.shrink_to(min_capacity);
+    }
+
+    /// The same bytes, in memory that has no room for more. As Rust's
+    /// `OsString::into_boxed_os_str`.
+    ///
+    /// ```
+    /// use unix_path_typed::UnixString;
+    /// assert_eq!(&*UnixString::from("a").into_boxed_unix_str(), "a");
+    /// ```
+    #[must_use]
+    #[inline]
+    pub fn into_boxed_unix_str(self) -> Box<UnixStr> {
+        UnixStr::in_box(self.bytes.into_boxed_slice())
+    }
+}
+
+impl Deref for UnixString {
+    type Target = UnixStr;
+
+    #[inline]
+    fn deref(&self) -> &UnixStr {
+        UnixStr::of(&self.bytes)
+    }
+}
+
+impl Index<RangeFull> for UnixString {
+    type Output = UnixStr;
+
+    #[inline]
+    fn index(&self, _: RangeFull) -> &UnixStr {
+        self
+    }
+}
+
+impl Borrow<UnixStr> for UnixString {
+    #[inline]
+    fn borrow(&self) -> &UnixStr {
+        self
+    }
+}
+
+/// As its text, as [`Borrow`] asks for.
+impl Hash for UnixString {
+    #[inline]
+    fn hash<H: Hasher>(&self, state: &mut H) {
+        self.as_unix_str().hash(state);
+    }
+}
+
+impl fmt::Debug for UnixString {
+    fn fmt(&self, f: &mut fmt::Formatter<'_>) -> fmt::Result {
+        fmt::Debug::fmt(self.as_unix_str(), f)
+    }
+}
+
+impl AsRef<UnixStr> for UnixString {
+    #[inline]
+    fn as_ref(&self) -> &UnixStr {
+        self
+    }
+}
+
+impl AsRef<Path> for UnixString {
+    #[inline]
+    fn as_ref(&self) -> &Path {
+        Path::of(&self.bytes)
+    }
+}
+
+/// A copy of the text.
+impl<T: AsRef<UnixStr> + ?Sized> From<&T> for UnixString {
+    #[inline]
+    fn from(s: &T) -> UnixString {
+        s.as_ref().to_unix_string()
+    }
+}
+
+/// In the same memory.
+impl From<String> for UnixString {
+    #[inline]
+    fn from(s: String) -> UnixString {
+        UnixString::from_vec(s.into_bytes())
+    }
+}
+
+/// In the same memory.
+impl From<Box<UnixStr>> for UnixString {
+    #[inline]
+    fn from(boxed: Box<UnixStr>) -> UnixString {
+        boxed.into_unix_string()
+    }
+}
+
+/// In the same memory if it has its own, else a copy.
+impl From<Cow<'_, UnixStr>> for UnixString {
+    #[inline]
+    fn from(cow: Cow<'_, UnixStr>) -> UnixString {
+        cow.into_owned()
+    }
+}
+
+impl FromStr for UnixString {
+    type Err = Infallible;
+
+    #[inline]
+    fn from_str(s: &str) -> Result<UnixString, Infallible> {
+        Ok(UnixString::from(s))
+    }
+}
+
+/// Adds each text behind the one before.
+impl<S: AsRef<UnixStr>> Extend<S> for UnixString {
+    #[inline]
+    fn extend<I: IntoIterator<Item = S>>(&mut self, texts: I) {
+        texts.into_iter().for_each(|text| self.push(text));
+    }
+}
+
+/// The texts, one behind the other.
+impl<S: AsRef<UnixStr>> FromIterator<S> for UnixString {
+    #[inline]
+    fn from_iter<I: IntoIterator<Item = S>>(texts: I) -> UnixString {
+        let mut joined = UnixString::new();
+        joined.extend(texts);
+        joined
+    }
+}

@@ -1,0 +1,108 @@
+//! Paths as keys of maps, looked up by another spelling.
+use crate::strings::*;
+use std::collections::{BTreeMap, HashMap, HashSet};
+use std::hash::{BuildHasher, Hash, Hasher, RandomState};
+use unix_path_typed::{Component, Path, PathBuf, UnixStr, UnixString};
+
+/// A hasher that keeps what it is fed.
+#[derive(Default)]
+struct Fed(Vec<u8>);
+
+impl Hasher for Fed {
+    fn write(&mut self, bytes: &[u8]) {
+        self.0.extend_from_slice(bytes);
+    }
+
+    fn finish(&self) -> u64 {
+        0
+    }
+}
+
+/// What the key feeds a hasher.
+fn fed_by(key: impl Hash) -> Vec<u8> {
+    let mut hasher = Fed::default();
+    key.hash(&mut hasher);
+    hasher.0
+}
+
+/// So no two different paths collide under each key of a hasher.
+#[test]
+fn hashers_are_fed_the_parts() {
+    let (mut feeds, mut paths) = (HashSet::new(), HashSet::new());
+    for s in short(6).iter().chain(&random(20_000)) {
+        let path = ours(s);
+        let fed = fed_by(path);
+        let parts: Vec<Component> = path.components().collect();
+        assert_eq!(fed, parts.iter().flat_map(fed_by).collect::<Vec<u8>>());
+        assert_eq!(fed, fed_by(path.to_path_buf()));
+        assert_eq!(fed, fed_by(path.components()));
+        feeds.insert(fed);
+        paths.insert(theirs(s).to_owned());
+    }
+    assert_eq!(feeds.len(), paths.len());
+}
+
+#[test]
+fn texts_feed_their_bytes() {
+    let text = UnixStr::new("a//b");
+    assert_eq!(fed_by(text), fed_by(&b"a//b"[..]));
+    assert_eq!(fed_by(text), fed_by(UnixString::from("a//b")));
+    assert_ne!(fed_by(text), fed_by(UnixStr::new("a/b")));
+}
+
+/// Each path is found by each of its spellings, as in a map of std's paths.
+#[test]
+fn maps() {
+    let (mut hashed, mut ordered) = (HashMap::new(), BTreeMap::new());
+    let mut want = HashMap::new();
+    let strings: Vec<Vec<u8>> = short(6).into_iter().chain(random(20_000)).collect();
+    for (number, s) in strings.iter().enumerate().rev() {
+        hashed.insert(PathBuf::from(ours(s)), number);
+        ordered.insert(PathBuf::from(ours(s)), number);
+        want.insert(theirs(s).to_owned(), number);
+    }
+    assert_eq!((hashed.len(), ordered.len()), (want.len(), want.len()));
+    for s in &strings {
+        let spellings = [
+            s.clone(),
+            [s, &b"/."[..]].concat(),
+            [s, &b"//"[..]].concat(),
+        ];
+        for spelling in spellings {
+            let want = want.get(theirs(&spelling));
+            assert_eq!(hashed.get(ours(&spelling)), want);
+            assert_eq!(ordered.get(ours(&spelling)), want);
+        }
+    }
+    let keys: Vec<_> = ordered.keys().map(|it| theirs(bytes(it))).collect();
+    assert!(keys.windows(2).all(|pair| pair[0] < pair[1]));
+}
+
+#[test]
+fn other_spellings() {
+    let hashed = HashMap::from([(PathBuf::from("/a//b"), 1)]);
+    let ordered = BTreeMap::from([(PathBuf::from("/a//b"), 1)]);
+    for spelling in ["/a/b", "//a/b/", "/a/./b/."] {
+        assert_eq!(hashed.get(Path::new(spelling)), Some(&1));
+        assert_eq!(ordered.get(Path::new(spelling)), Some(&1));
+    }
+    for other in ["a/b", "/a/b/c", "/a", "/a/../a/b"] {
+        assert_eq!(
+            (hashed.get(Path::new(other)), ordered.get(Path::new(other))),
+            (None, None)
+        );
+    }
+    let texts = HashMap::from([(UnixString::from("a"), 1)]);
+    assert_eq!(texts.get(UnixStr::new("a")), Some(&1));
+}
+
+/// Two paths that share a number under one key don't under most others.
+#[test]
+fn keys_of_hashers_count() {
+    let keys: Vec<RandomState> = (0..64).map(|_| RandomState::new()).collect();
+    let low = |key: &RandomState, path: &str| key.hash_one(Path::new(path)) % 16;
+    let met = keys
+        .iter()
+        .filter(|key| low(key, "/a/b") == low(key, "/a/c"));
+    assert!((0..30).contains(&met.count()));
+}

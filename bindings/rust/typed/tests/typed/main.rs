@@ -1,0 +1,8 @@
+//! What the types answer, beside those of `std::path`.
+mod edits;
+mod keys;
+mod owners;
+mod pairs;
+mod singles;
+mod strings;
+mod texts;

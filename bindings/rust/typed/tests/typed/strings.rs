@@ -1,0 +1,103 @@
+//! The byte strings that the tests take, and both sides' views of them.
+use std::ffi::OsStr;
+use std::os::unix::ffi::OsStrExt;
+use unix_path_typed::{Path, UnixStr};
+
+/// The strings of at most `longest` bytes over `/`, `.` and `a`, shorter ones first.
+pub fn short(longest: usize) -> Vec<Vec<u8>> {
+    let mut strings = vec![vec![]];
+    let mut at = 0;
+    while strings[at].len() < longest {
+        for letter in b"/.a" {
+            let longer = [&strings[at][..], &[*letter]].concat();
+            strings.push(longer);
+        }
+        at += 1;
+    }
+    strings
+}
+
+/// Numbers that look random, the same in every run (xorshift64).
+pub struct Random(u64);
+
+impl Random {
+    pub fn new() -> Random {
+        Random(0x2545_F491_4F6C_DD1D)
+    }
+
+    /// A number below this one.
+    pub fn below(&mut self, end: usize) -> usize {
+        self.0 ^= self.0 << 13;
+        self.0 ^= self.0 >> 7;
+        self.0 ^= self.0 << 17;
+        (self.0 >> 16) as usize % end
+    }
+
+    /// Up to 24 bytes: half of them `/` or `.`, and the others letters, NUL, a newline, a quote,
+    /// and bytes of which some make UTF-8.
+    pub fn string(&mut self) -> Vec<u8> {
+        let letters = b"////...//.ab\0\n\"\xC3\xA9\xE2\x82\xAC\xFF";
+        (0..self.below(25))
+            .map(|_| letters[self.below(letters.len())])
+            .collect()
+    }
+
+    /// A string that shares something with this one: its front, its end, or all of it, and in some
+    /// place what may leave its parts as they are.
+    pub fn variant(&mut self, s: &[u8]) -> Vec<u8> {
+        let cut = self.below(s.len() + 1);
+        let kept = [&s[..cut], &s[cut..], s][self.below(3)];
+        let at = self.below(kept.len() + 1);
+        let more = [&b""[..], b"/", b"/./", b"."][self.below(4)];
+        [&kept[..at], more, &kept[at..]].concat()
+    }
+}
+
+/// Random strings, the same in every run.
+pub fn random(count: usize) -> Vec<Vec<u8>> {
+    let mut random = Random::new();
+    (0..count).map(|_| random.string()).collect()
+}
+
+pub fn ours(bytes: &[u8]) -> &Path {
+    Path::new(UnixStr::from_bytes(bytes))
+}
+
+pub fn theirs(bytes: &[u8]) -> &std::path::Path {
+    std::path::Path::new(OsStr::from_bytes(bytes))
+}
+
+/// The bytes of our path or text.
+pub fn bytes<S: AsRef<UnixStr> + ?Sized>(text: &S) -> &[u8] {
+    text.as_ref().as_bytes()
+}
+
+/// The bytes of a path or text of std.
+pub fn std_bytes<S: AsRef<OsStr> + ?Sized>(text: &S) -> &[u8] {
+    text.as_ref().as_bytes()
+}
+
+/// The bytes, and where they stand unless there are none.
+pub fn place(found: &[u8]) -> (&[u8], Option<*const u8>) {
+    (found, found.first().map(|first| first as *const u8))
+}
+
+/// Both answers are the same bytes in the same place.
+#[track_caller]
+pub fn same_place(ours: Option<&UnixStr>, theirs: Option<&OsStr>, of: &[u8]) {
+    let ours = ours.map(|ours| place(ours.as_bytes()));
+    let theirs = theirs.map(|theirs| place(theirs.as_bytes()));
+    assert_eq!(ours, theirs, "{}", of.escape_ascii());
+}
+
+#[test]
+fn are_what_they_say() {
+    assert_eq!(short(2).len(), 1 + 3 + 9);
+    assert_eq!(
+        short(6).len(),
+        (0..=6).map(|length| 3_usize.pow(length)).sum::<usize>()
+    );
+    let strings = random(1000);
+    assert!(strings.iter().any(|s| s.len() == 24) && strings.iter().any(Vec::is_empty));
+    assert!(strings.iter().any(|s| std::str::from_utf8(s).is_err()));
+}
