@@ -1,0 +1,132 @@
+"""Tries unix_paths.UnixPath beside pathlib.PurePosixPath on random paths.
+
+test_unix_paths.py [COUNT] [SEED]       100,000 paths and a fixed seed, if none are given
+
+Where the two differ, one of these rules says why; each rule has to show, and each difference has to
+fall under one:
+"""
+import doctest
+import operator
+import random
+import sys
+from pathlib import PurePosixPath
+
+import unix_paths
+from unix_paths import UnixPath
+
+PATHS = {
+    "a leading `.` is a part": lambda path: path.split("/")[0] == ".",
+    "two slashes in front are one root": lambda path: path[:2] == "//" != path[1:3],
+}
+NAMES = {
+    "`..` is no name": lambda path: last_part(path) == "..",
+    "a name with two dots in front, or one behind, is cut otherwise":
+        lambda path: last_part(path)[:2] == ".." or last_part(path)[-1:] == ".",
+}
+BASE = "a path with a root starts with the path without parts too"
+EMPTY = "the path without parts is empty, and not `.`"
+ORDER = "the path without parts, then the root, and then `..`, are less than each name"
+PIECES = ["/", "/", "/", "//", ".", ".", "..", "a", "b", ".a", "a.b", "a.", "a.b.c", "-", "é",
+          "\udcff"]
+
+
+def last_part(path):
+    return (PurePosixPath(path).parts or ("",))[-1]
+
+
+def text(value):
+    """What a call gives, as text; a PurePosixPath without parts is the empty text."""
+    if not isinstance(value, str) and hasattr(value, "__getitem__"):
+        return [text(it) for it in value]
+    return "" if value == PurePosixPath() else str(value)
+
+
+def answer(call, *values):
+    try:
+        return call(*values)
+    except ValueError as error:
+        return type(error)
+
+
+def all_of(kind, path, other, name, suffix):
+    """What the calls give of a path, of another, a name and a suffix, by their names."""
+    it, that = kind(path), kind(other)
+    yield "path", it
+    for call in ("parts", "name", "stem", "suffix", "parent", "parents"):
+        yield call, getattr(it, call)
+    yield "is_absolute", it.is_absolute()
+    yield "with_name", answer(it.with_name, name)
+    yield "with_suffix", answer(it.with_suffix, suffix)
+    for call in ("joinpath", "relative_to", "is_relative_to"):
+        if hasattr(PurePosixPath, call):
+            yield call, answer(getattr(it, call), other)
+    yield "equal", it == that
+    yield "equal hashes", it != that or hash(it) == hash(that)
+    yield "parent of a join", (it / that).parent
+
+
+def rules_of(name, path, other):
+    """The rules by which the call of this name may answer otherwise."""
+    paths = path, other, str(UnixPath(path, other))
+    rules = [rule for rule, is_met in PATHS.items() if any(map(is_met, paths))]
+    if name in ("relative_to", "is_relative_to") and path[:1] == "/" and other == "":
+        rules.append(BASE)
+    if name in ("name", "stem", "suffix", "with_name", "with_suffix"):
+        rules += [rule for rule, is_met in NAMES.items() if is_met(path)]
+    return rules
+
+
+def differences(path, other, *words):
+    """Where the two differ: the call, and the rules that say so."""
+    pairs = zip(all_of(UnixPath, path, other, *words), all_of(PurePosixPath, path, other, *words))
+    for (name, ours), (_, theirs) in pairs:
+        if text(ours) != text(theirs):
+            yield name, rules_of(name, path, other)
+        elif PurePosixPath() in (theirs if name == "parents" else [theirs]):
+            yield name, [EMPTY]
+
+
+def orders_differ(path, other):
+    """Whether the two order the paths in other ways though their parts are the same."""
+    ours = UnixPath(path), UnixPath(other)
+    theirs = PurePosixPath(path), PurePosixPath(other)
+    compares = (operator.lt, operator.le, operator.gt, operator.ge)
+    return [it(*ours) for it in compares] != [it(*theirs) for it in compares]
+
+
+def first_difference(path, other):
+    """Where the parts of two paths first differ, of which a path without parts has an empty one;
+    none if one begins the other."""
+    pairs = zip(UnixPath(path).parts or [""], UnixPath(other).parts or [""])
+    return next((pair for pair in pairs if pair[0] != pair[1]), ())
+
+
+def main():
+    count = int(sys.argv[1]) if len(sys.argv) > 1 else 100_000
+    numbers = random.Random(sys.argv[2] if len(sys.argv) > 2 else "paths")
+    seen, wrong = dict.fromkeys([*PATHS, *NAMES, BASE, EMPTY, ORDER], 0), []
+    other = "a"
+    for _ in range(count):
+        path = "".join(numbers.choices(PIECES, k=numbers.randrange(8)))
+        if numbers.randrange(2):
+            other = "".join(numbers.choices(PIECES, k=numbers.randrange(4)))
+        name, suffix = numbers.choice(["x.y", "..", "x/y", ""]), numbers.choice([".x", "x", ""])
+        found = list(differences(path, other, name, suffix))
+        for rule in {rule for _, rules in found for rule in rules}:
+            seen[rule] += 1
+        wrong += [(path, other, name) for name, rules in found if not rules]
+        if not rules_of("order", path, other) and orders_differ(path, other):
+            seen[ORDER] += 1
+            if not {"", "/", ".."} & set(first_difference(path, other)):
+                wrong.append((path, other, "order"))
+    print(f"{count} paths; the rules by which some answers differ, and for how many paths:")
+    for rule, number in seen.items():
+        print(f"  {rule}: {number}")
+    for it in wrong[:5]:
+        print("differs by no rule:", it)
+    failures = doctest.testmod(unix_paths).failed
+    return 1 if wrong or failures or 0 in seen.values() else 0
+
+
+if __name__ == "__main__":
+    sys.exit(main())
