@@ -36,7 +36,7 @@ static TEXTS: [&[u8]; 16] = [
 ];
 
 // Sets the bytes to a path of many names of one to six letters, one in eight behind a `.`.
-fn make_deep(bytes: &mut Vec<u8>, random: &mut Random) -> Result<(), AllocError> {
+pub(crate) fn make_deep(bytes: &mut Vec<u8>, random: &mut Random) -> Result<(), AllocError> {
     bytes.clear();
     for _ in 0..NAMES {
         let word = random.next();

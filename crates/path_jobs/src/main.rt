@@ -1,14 +1,15 @@
 //! The jobs that users of paths wait for, on made-up inputs, for timing.
 //!
-//! `path_jobs JOB SEED COUNT` runs one of the jobs `manifest`, `table`, `requests`, `rules`, `long`
-//! and `server` on so many inputs, which the seed makes, and prints a digest of all its answers.
-//! `path_jobs all SEED COUNT` runs each. The same words print the same.
+//! `path_jobs JOB SEED COUNT` runs one of the jobs `manifest`, `table`, `requests`, `rules`,
+//! `long`, `server` and `pairs` on so many inputs, which the seed makes, and prints a digest of all
+//! its answers. `path_jobs all SEED COUNT` runs each. The same words print the same.
 #![tactic(auto)]
 
 mod digest;
 mod lines;
 mod long;
 mod manifest;
+mod pairs;
 mod random;
 mod requests;
 mod rules;
@@ -32,6 +33,7 @@ fn digest_of(alloc: Global, job: &str, seed: u64, count: u64) -> Result<Option<u
         "rules" => rules::run(alloc, seed, count)?,
         "long" => long::run(alloc, seed, count)?,
         "server" => server::run(alloc, seed, count)?,
+        "pairs" => pairs::run(alloc, seed, count)?,
         _ => return Ok(None),
     };
     Ok(Some(digest))
@@ -53,8 +55,9 @@ fn run_all(rt: &HostRuntime, seed: u64, count: u64) -> io::Result<bool> {
             return Ok(false);
         }
     }
-    // That of bench/later.txt.
+    // Those of bench/later.txt.
     let _is_job = run(rt, "server", seed, count)?;
+    let _is_job = run(rt, "pairs", seed, count)?;
     Ok(true)
 }
 

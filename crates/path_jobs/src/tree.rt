@@ -33,7 +33,7 @@ pub(crate) struct Tree<'a> {
 // What stands between two names or behind the last one: `/`, or more if the lowest three bits of
 // `noise` are 5 or greater.
 #[inline]
-fn gap(noise: u64) -> &'static str {
+pub(crate) fn gap(noise: u64) -> &'static str {
     match noise & 7 {
         5 => "//",
         6 => "/./",

@@ -1,0 +1,35 @@
+//! Byte strings behind each other in one buffer.
+use std::ffi::OsStr;
+use std::os::unix::ffi::OsStrExt;
+use std::path::Path;
+
+/// The bytes as a path.
+pub fn path_of(bytes: &[u8]) -> &Path {
+    Path::new(OsStr::from_bytes(bytes))
+}
+
+#[derive(Default)]
+pub struct Lines {
+    bytes: Vec<u8>,
+    ends: Vec<usize>,
+}
+
+impl Lines {
+    /// The buffer, for the bytes of the next line; `end_line` ends it.
+    pub fn buffer(&mut self) -> &mut Vec<u8> {
+        &mut self.bytes
+    }
+
+    pub fn end_line(&mut self) {
+        self.ends.push(self.bytes.len());
+    }
+
+    /// The lines as paths.
+    pub fn paths(&self) -> Vec<&Path> {
+        let starts = std::iter::once(0).chain(self.ends.iter().copied());
+        starts
+            .zip(&self.ends)
+            .map(|(start, end)| path_of(&self.bytes[start..*end]))
+            .collect()
+    }
+}

@@ -1,0 +1,76 @@
+//! Manifests are put in order: the paths of two listings, each once, in canonical form.
+use crate::digest::Digest;
+use crate::lines::Lines;
+use crate::random::Random;
+use crate::tree::{noise_of, shuffled, Tree};
+use std::collections::BTreeSet;
+use std::path::{Path, PathBuf};
+
+/// The shortest path with the same parts.
+pub fn canonical(path: &Path) -> PathBuf {
+    path.components().collect()
+}
+
+/// The noise for a path: one word in five gives the path another spelling.
+fn noise(word: u64) -> u64 {
+    if word.is_multiple_of(5) {
+        noise_of(word >> 8)
+    } else {
+        0
+    }
+}
+
+/// The paths of `count` files as a walk over the tree gives them, and then as many in another
+/// order, of which one in ten is a file of the walk in another spelling.
+fn listing(tree: Tree, seed: u64, count: u64) -> Lines {
+    let mut random = Random::new(seed);
+    let mut lines = Lines::default();
+    for place in 0..count {
+        tree.push(
+            lines.buffer(),
+            (place << 1) & 0xF_FFFF,
+            noise(random.next()),
+        );
+        lines.end_line();
+    }
+    for place in 0..count {
+        let word = random.next();
+        let number = shuffled(place, seed);
+        if word.is_multiple_of(10) {
+            tree.push(lines.buffer(), number, noise_of(word >> 8));
+        } else {
+            tree.push(lines.buffer(), number | 1, noise(word >> 4));
+        }
+        lines.end_line();
+    }
+    lines
+}
+
+/// The paths as a set in canonical form.
+fn order_set(paths: &[&Path], digest: &mut Digest) {
+    let set: BTreeSet<PathBuf> = paths.iter().map(|path| canonical(path)).collect();
+    for path in &set {
+        digest.add_path(path);
+    }
+}
+
+/// The paths in canonical form, sorted, and each once.
+fn order_list(paths: &[&Path], digest: &mut Digest) {
+    let mut list: Vec<PathBuf> = paths.iter().map(|path| canonical(path)).collect();
+    list.sort();
+    list.dedup();
+    for path in &list {
+        digest.add_path(path);
+    }
+}
+
+/// Orders two manifests of twice `count` paths each, one as a set and one as a list.
+pub fn run(seed: u64, count: u64) -> u64 {
+    let mut digest = Digest::default();
+    let packages = listing(Tree::new("usr/lib/packages", seed), seed, count);
+    order_set(&packages.paths(), &mut digest);
+    let other = seed ^ (1 << 40);
+    let backup = listing(Tree::new("/srv/backup/daily/host", other), other, count);
+    order_list(&backup.paths(), &mut digest);
+    digest.get()
+}

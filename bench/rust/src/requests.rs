@@ -1,0 +1,133 @@
+//! Requests are resolved under a root, as servers and sandboxes do.
+use crate::digest::Digest;
+use crate::lines::path_of;
+use crate::random::Random;
+use crate::tree::{noise_of, push_tag, Tree};
+use crate::within::{climbs, join_plain, join_within, resolved, way};
+use std::path::Path;
+
+pub static ROOTS: [&str; 8] = [
+    "/srv/www/site/public",
+    "/var/lib/tenant/7f/files",
+    "/home/build/sandbox/work",
+    "data/uploads",
+    "/srv/../srv/static//assets",
+    "/opt/app/share",
+    "./public",
+    "/",
+];
+
+/// Hidden folders, of which one stands in front of some requests.
+static HIDDEN: [&str; 4] = [".well-known/acme", ".git/objects", ".config/app", ".cache"];
+
+/// Beginnings of requests with `..`, `.` or a root; some of them climb.
+static UPS: [&str; 8] = [
+    "../",
+    "a/../../",
+    "a/b/../../c/../../",
+    "..",
+    "/",
+    "a/../",
+    "./..x/",
+    "./",
+];
+
+/// Adds a request that a hostile client sends: `../` by the hundred, or any bytes.
+fn push_hostile(out: &mut Vec<u8>, random: &mut Random, place: u64) {
+    let word = random.next();
+    push_tag(out, place);
+    if word & 1 == 0 {
+        out.extend_from_slice(b"/b/c");
+        for _ in 0..(word >> 8) & 127 {
+            out.extend_from_slice(b"/..");
+        }
+        return;
+    }
+    for _ in 0..8 + ((word >> 8) & 7) {
+        out.extend_from_slice(&random.next().to_le_bytes());
+    }
+}
+
+/// Adds a request. Most are plain paths, some with a hidden name in front; one in ten has `.`, `..`
+/// or `//`, a few climb, and a few are hostile. No two requests are the same: `place` is in each.
+pub fn push_request(out: &mut Vec<u8>, tree: Tree, random: &mut Random, place: u64) {
+    let word = random.next();
+    let number = word >> 24;
+    let mut noise = 0;
+    match word & 63 {
+        0 => return push_hostile(out, random, place),
+        1..=3 => {
+            out.extend_from_slice(UPS[((word >> 8) & 7) as usize].as_bytes());
+            tree.push_first(out, number);
+        }
+        4..=9 => {
+            tree.push_first(out, number);
+            noise = noise_of(word >> 8);
+        }
+        10 | 11 => {
+            tree.push_first(out, number);
+            out.extend_from_slice(b"/../");
+            tree.push_first(out, number ^ (1 << 20));
+        }
+        12..=17 => out.extend_from_slice(HIDDEN[((word >> 8) & 3) as usize].as_bytes()),
+        _ => tree.push_first(out, number),
+    }
+    tree.push_short(out, number, noise, place);
+}
+
+/// Adds the answer to a request: the join within the root, and what follows the root in it; 0 if
+/// the request leaves the root.
+fn answer(root: &Path, request: &Path, digest: &mut Digest) {
+    match join_within(root, request) {
+        Some(path) => {
+            digest.add_path(&path);
+            if let Ok(rest) = path.strip_prefix(root) {
+                digest.add_path(rest);
+            }
+        }
+        None => digest.add(0),
+    }
+}
+
+/// Adds the answer of those who trust no link: the plain join, if the request has no root and no
+/// `..`.
+fn answer_plain(root: &Path, request: &Path, digest: &mut Digest) {
+    digest.add_flag(climbs(request));
+    match join_plain(root, request) {
+        Some(path) => digest.add_path(&path),
+        None => digest.add(0),
+    }
+}
+
+/// Adds the answer of a mapper of links: what the request resolves to, and the way to it from a
+/// page.
+fn answer_link(page: &Path, request: &Path, digest: &mut Digest) {
+    digest.add_path(&resolved(request));
+    match way(page, request) {
+        Some(path) => digest.add_path(&path),
+        None => digest.add(1),
+    }
+}
+
+/// Answers `count` requests: each under three roots, and each as a link on the page of the request
+/// before it.
+pub fn run(seed: u64, count: u64) -> u64 {
+    let mut digest = Digest::default();
+    let mut random = Random::new(seed);
+    let tree = Tree::new("", seed);
+    let mut page = Vec::new();
+    let mut request = Vec::new();
+    for place in 0..count {
+        request.clear();
+        push_request(&mut request, tree, &mut random, place);
+        let asked = path_of(&request);
+        let root_at = |turn: u64| Path::new(ROOTS[(place.wrapping_add(turn) & 7) as usize]);
+        for turn in 0..3 {
+            answer(root_at(turn), asked, &mut digest);
+        }
+        answer_plain(root_at(3), asked, &mut digest);
+        answer_link(path_of(&page), asked, &mut digest);
+        page.clone_from(&request);
+    }
+    digest.get()
+}

@@ -1,0 +1,78 @@
+//! Paths from outside by names alone, for which `std::path` has no calls.
+use std::path::{Component, Path, PathBuf};
+
+/// Adds the parts to a resolved path: `..` takes away the name before it, and is dropped behind the
+/// root.
+pub fn push_resolved<'a>(kept: &mut PathBuf, parts: impl Iterator<Item = Component<'a>>) {
+    for part in parts {
+        match part {
+            Component::CurDir => {}
+            Component::ParentDir if kept.file_name().is_some() => {
+                kept.pop();
+            }
+            Component::ParentDir if kept.has_root() => {}
+            part => kept.push(part),
+        }
+    }
+}
+
+/// The path with each `..` dropped together with the name before it.
+pub fn resolved(path: &Path) -> PathBuf {
+    let mut kept = PathBuf::with_capacity(path.as_os_str().len());
+    push_resolved(&mut kept, path.components());
+    kept
+}
+
+/// Whether the path has a root or, read from the left, ever goes above where it starts.
+pub fn climbs(path: &Path) -> bool {
+    let mut depth = 0_usize;
+    for part in path.components() {
+        match part {
+            Component::Normal(_) => depth += 1,
+            Component::ParentDir if depth > 0 => depth -= 1,
+            Component::CurDir => {}
+            _ => return true,
+        }
+    }
+    false
+}
+
+/// The request joined to the root and resolved; `None` if it climbs.
+pub fn join_within(root: &Path, request: &Path) -> Option<PathBuf> {
+    if climbs(request) {
+        return None;
+    }
+    let len = root.as_os_str().len() + 1 + request.as_os_str().len();
+    let mut kept = PathBuf::with_capacity(len);
+    push_resolved(&mut kept, root.components().chain(request.components()));
+    Some(kept)
+}
+
+/// The request joined to the root, both as they stand; `None` if the request has a root or a `..`.
+pub fn join_plain(root: &Path, request: &Path) -> Option<PathBuf> {
+    let leaves = |part| matches!(part, Component::RootDir | Component::ParentDir);
+    if request.components().any(leaves) {
+        return None;
+    }
+    Some(root.join(request))
+}
+
+/// The way from one path to another by names: `..` for each name that is left of the first, and
+/// then what is left of the other. `None` if no path without a root leads there.
+pub fn way(from: &Path, to: &Path) -> Option<PathBuf> {
+    let (from, to) = (resolved(from), resolved(to));
+    if from.has_root() != to.has_root() {
+        return None;
+    }
+    let pairs = from.components().zip(to.components());
+    let shared = pairs.take_while(|(left, right)| left == right).count();
+    let mut way = PathBuf::with_capacity(from.as_os_str().len() + to.as_os_str().len());
+    for part in from.components().skip(shared) {
+        if part == Component::ParentDir {
+            return None;
+        }
+        way.push("..");
+    }
+    way.extend(to.components().skip(shared));
+    Some(way)
+}
