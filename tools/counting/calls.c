@@ -4,9 +4,10 @@
  *
  * The file holds records: four numbers of 32 bits, which are the lengths of the call's name and of
  * two paths and whether a row ends with this record; then the name, behind `unix_path_`, and both
- * paths. A call of one path gets the first. At a row's end `end_row` is called, so that callgrind
- * writes down what it counted and begins anew.
+ * paths. A call of one path, or of a key, gets the first. At a row's end `end_row` is called, so
+ * that callgrind writes down what it counted and begins anew.
  */
+#define UNIX_PATH_EXPORTS_ONLY
 #include "unix_path.h"
 #include <stdio.h>
 #include <stdlib.h>
@@ -66,6 +67,9 @@ CALL(with_extension, unix_path_with_extension(A, B, OUT))
 CALL(canonical, unix_path_canonical(A, OUT))
 CALL(to_string_lossy, unix_path_to_string_lossy(A, OUT))
 CALL(resolved, unix_path_resolved(A, OUT))
+CALL(key, unix_path_key(A, OUT))
+CALL(from_key, unix_path_from_key(A, OUT))
+CALL(key_end, unix_path_key_end(A, OUT))
 CALL(join_within, unix_path_join_within(A, B, OUT))
 /* A request with a root is one of a URL. */
 CALL(join_below, unix_path_join_below(A, B, b.length > 0 && b.bytes[0] == '/', OUT))
@@ -78,7 +82,8 @@ static const call calls[] = {
     NAMED(starts_with), NAMED(ends_with), NAMED(equal), NAMED(compare), NAMED(hash),
     NAMED(is_utf8), NAMED(is_absolute), NAMED(climbs), NAMED(check_request), NAMED(common_dir),
     NAMED(join), NAMED(with_file_name), NAMED(with_extension), NAMED(canonical),
-    NAMED(to_string_lossy), NAMED(resolved), NAMED(join_within), NAMED(join_below),
+    NAMED(to_string_lossy), NAMED(resolved), NAMED(key), NAMED(from_key), NAMED(key_end),
+    NAMED(join_within), NAMED(join_below),
 };
 
 /* The call whose name has these bytes; NULL if there is none. */

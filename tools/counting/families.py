@@ -144,6 +144,22 @@ PATHS = [
     ("tail_dots", lambda n: (b"a" + b"/." * n, b"b"), SCORES,
      f"{SPELLED} parent file_name components as_path with_file_name"),
     ("comes_down", lambda n: (cut(n, b"a/../"), b""), EDGES, "resolved"),
+    ("plain", lambda n: (plain(n), b""), EDGES, "key"),
+    ("rooted", lambda n: (b"/" + plain(n - 1), b""), EDGES, "key"),
+    ("dotted_names", lambda n: (cut(n, b"a.b-c/"), b""), EDGES, "key"),
+    ("gap_each", lambda n: (cut(n, b"a/./"), b""), EDGES, "key"),
+    ("double_slashes", lambda n: (cut(n, b"abcdefghijklmnop//"), b""), EDGES, "key"),
+    ("ups", lambda n: (cut(n, b"../"), b""), EDGES, "key"),
+    ("tail_slashes", lambda n: (b"a" + b"/" * n, b""), SCORES, "key"),
+]
+
+# Families of keys, and of bytes that are none.
+KEYS = [
+    ("key_plain", lambda n: plain(n).replace(b"/", b"\0") + b"\0", EDGES),
+    ("key_rooted", lambda n: b"\0\1" + plain(n).replace(b"/", b"\0") + b"\0", EDGES),
+    ("key_dotted_names", lambda n: cut(n, b"a/b.c\0"), EDGES),
+    ("key_ups", lambda n: cut(n, b"\0\3"), EDGES),
+    ("no_key", plain, EDGES),
 ]
 
 # Families of requests, which `climbs`, `check_request`, `join_within` and `join_below` get.
@@ -177,6 +193,8 @@ def families():
         yield title, lambda n, make=make: (ROOT, make(n)), sizes, "join_within join_below"
     for title, make, sizes in URLS:
         yield title, lambda n, make=make: (ROOT, make(n)), sizes, "join_below"
+    for title, make, sizes in KEYS:
+        yield title, lambda n, make=make: (make(n), b""), sizes, "from_key key_end"
     yield ("plain_root", lambda n: (b"/" + plain(n - 1), b"img/logo.png"), EDGES, "join_within")
 
 

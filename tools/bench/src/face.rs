@@ -1,6 +1,7 @@
 //! Times the Rust calls over the C face beside `std::path` on the same bytes, and prints our time
-//! over std's; below each, the time of the crates' own call, and of the call from C with nothing in
-//! between. It is a program of its own, since it is linked with the library of the face.
+//! over std's; below each, the time of the method of `unix_path_typed`, of the crates' own call, and
+//! of the call from C with nothing in between. It is a program of its own, since it is linked with
+//! the library of the face.
 #![allow(dead_code)] // The modules have more for the other program.
 mod called;
 mod calls;
@@ -74,6 +75,7 @@ fn print(options: &Options) -> bool {
     for row in ROWS.iter().filter(|row| options.has_row(row.name)) {
         let lines = [
             (row.name, Some(row.ours)),
+            ("  by the types", row.typed),
             ("  the crates' own", row.own),
             ("  the same, by a call", row.called),
             ("  the static call alone", Some(row.alone)),

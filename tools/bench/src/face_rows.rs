@@ -10,6 +10,7 @@ use std::ffi::OsStr;
 use std::os::unix::ffi::OsStrExt;
 use std::path::{Path, PathBuf};
 use unix_path_rattle::{self as paths, owned, Component};
+use unix_path_typed::{self as typed, UnixStr};
 
 /// What a side does; the number stands for its answer.
 pub type Side = fn(&[u8], &[u8]) -> u64;
@@ -20,6 +21,8 @@ pub struct Row {
     pub other: Other,
     pub ours: Side,
     pub std: Side,
+    /// The method of the types over ours.
+    pub typed: Option<Side>,
     /// The call of the crates themselves, in code of Rattle that may inline it.
     pub own: Option<Side>,
     /// The crates' call behind a function that isn't inlined and writes its answer for a caller.
@@ -35,6 +38,16 @@ fn std_path(bytes: &[u8]) -> &Path {
 
 /// The bytes of a path or of a string of the system.
 fn bytes(path: &(impl AsRef<OsStr> + ?Sized)) -> &[u8] {
+    path.as_ref().as_bytes()
+}
+
+/// The bytes as a path of the types.
+fn typed_path(bytes: &[u8]) -> &typed::Path {
+    typed::Path::new(UnixStr::from_bytes(bytes))
+}
+
+/// The bytes of a path, of a text or of a part of the types.
+fn typed_bytes(path: &(impl AsRef<UnixStr> + ?Sized)) -> &[u8] {
     path.as_ref().as_bytes()
 }
 
@@ -101,6 +114,7 @@ pub const ROWS: &[Row] = &[
         other: Other::Nothing,
         ours: |path, _| all(paths::components(path).map(Component::as_bytes)),
         std: |path, _| all(std_path(path).components().map(part_bytes)),
+        typed: Some(|path, _| all(typed_path(path).iter().map(typed_bytes))),
         own: Some(|path, _| one(ours_parts, path)),
         called: Some(|path, _| one(called_parts, path)),
         alone: |path, _| all(static_calls::parts(path)),
@@ -110,6 +124,7 @@ pub const ROWS: &[Row] = &[
         other: Other::Nothing,
         ours: |path, _| all(paths::components(path).rev().map(Component::as_bytes)),
         std: |path, _| all(std_path(path).components().rev().map(part_bytes)),
+        typed: Some(|path, _| all(typed_path(path).iter().rev().map(typed_bytes))),
         own: Some(|path, _| one(ours_parts_behind, path)),
         called: Some(|path, _| one(called_parts_behind, path)),
         alone: |path, _| all(static_calls::parts_behind(path)),
@@ -119,6 +134,7 @@ pub const ROWS: &[Row] = &[
         other: Other::Nothing,
         ours: |path, _| some(paths::parent(path)),
         std: |path, _| some(std_path(path).parent().map(bytes)),
+        typed: Some(|path, _| some(typed_path(path).parent().map(typed_bytes))),
         own: Some(|path, _| one(ours_parent, path)),
         called: Some(|path, _| one(called_parent, path)),
         alone: |path, _| some(static_calls::parent(path)),
@@ -128,6 +144,7 @@ pub const ROWS: &[Row] = &[
         other: Other::Nothing,
         ours: |path, _| some(paths::file_name(path)),
         std: |path, _| some(std_path(path).file_name().map(bytes)),
+        typed: Some(|path, _| some(typed_path(path).file_name().map(typed_bytes))),
         own: Some(|path, _| one(ours_file_name, path)),
         called: None,
         alone: |path, _| some(static_calls::file_name(path)),
@@ -137,6 +154,7 @@ pub const ROWS: &[Row] = &[
         other: Other::Front,
         ours: |path, base| paths::starts_with(path, base).into(),
         std: |path, base| std_path(path).starts_with(std_path(base)).into(),
+        typed: Some(|path, base| typed_path(path).starts_with(typed_path(base)).into()),
         own: Some(|path, other| two(ours_starts_with, path, other)),
         called: None,
         alone: |path, base| static_calls::starts_with(path, base).into(),
@@ -146,6 +164,7 @@ pub const ROWS: &[Row] = &[
         other: Other::Same,
         ours: |path, other| paths::equal(path, other).into(),
         std: |path, other| (std_path(path) == std_path(other)).into(),
+        typed: Some(|path, other| (typed_path(path) == typed_path(other)).into()),
         own: Some(|path, other| two(ours_eq, path, other)),
         called: Some(|path, other| two(called_eq, path, other)),
         alone: |path, other| static_calls::equal(path, other).into(),
@@ -155,6 +174,7 @@ pub const ROWS: &[Row] = &[
         other: Other::Next,
         ours: |path, other| paths::equal(path, other).into(),
         std: |path, other| (std_path(path) == std_path(other)).into(),
+        typed: Some(|path, other| (typed_path(path) == typed_path(other)).into()),
         own: Some(|path, other| two(ours_eq, path, other)),
         called: Some(|path, other| two(called_eq, path, other)),
         alone: |path, other| static_calls::equal(path, other).into(),
@@ -164,6 +184,7 @@ pub const ROWS: &[Row] = &[
         other: Other::Respelled,
         ours: |path, other| paths::equal(path, other).into(),
         std: |path, other| (std_path(path) == std_path(other)).into(),
+        typed: Some(|path, other| (typed_path(path) == typed_path(other)).into()),
         own: Some(|path, other| two(ours_eq, path, other)),
         called: Some(|path, other| two(called_eq, path, other)),
         alone: |path, other| static_calls::equal(path, other).into(),
@@ -173,6 +194,7 @@ pub const ROWS: &[Row] = &[
         other: Other::Next,
         ours: |path, other| paths::compare(path, other) as u64,
         std: |path, other| std_path(path).cmp(std_path(other)) as u64,
+        typed: Some(|path, other| typed_path(path).cmp(typed_path(other)) as u64),
         own: Some(|path, other| order(ours_cmp, path, other)),
         called: Some(|path, other| order(called_cmp, path, other)),
         alone: |path, other| static_calls::compare(path, other) as u64,
@@ -182,6 +204,11 @@ pub const ROWS: &[Row] = &[
         other: Other::Nothing,
         ours: |path, _| digest_of_path(owned::canonical(path)),
         std: |path, _| digest(bytes(&std_path(path).components().collect::<PathBuf>())),
+        typed: Some(|path, _| {
+            digest(typed_bytes(
+                &typed_path(path).components().collect::<typed::PathBuf>(),
+            ))
+        }),
         own: Some(|path, _| one(ours_canonical, path)),
         called: None,
         alone: |path, _| {
@@ -196,6 +223,7 @@ pub const ROWS: &[Row] = &[
         other: Other::Nothing,
         ours: |path, _| in_buffer(|out| paths::canonical(path, out)),
         std: |path, _| digest(bytes(&std_path(path).components().collect::<PathBuf>())),
+        typed: None,
         own: None,
         called: None,
         alone: |path, _| in_capacity(|out| digest(static_calls::canonical(path, out))),
@@ -205,6 +233,7 @@ pub const ROWS: &[Row] = &[
         other: Other::Name,
         ours: |path, other| digest_of_path(owned::join(path, other)),
         std: |path, other| digest(bytes(&std_path(path).join(std_path(other)))),
+        typed: Some(|path, other| digest(typed_bytes(&typed_path(path).join(typed_path(other))))),
         own: Some(|path, other| two(ours_join, path, other)),
         called: None,
         alone: |path, other| {
@@ -221,6 +250,7 @@ pub const ROWS: &[Row] = &[
         other: Other::Name,
         ours: |path, other| in_buffer(|out| paths::join(path, other, out)),
         std: |path, other| digest(bytes(&std_path(path).join(std_path(other)))),
+        typed: None,
         own: None,
         called: None,
         alone: |path, other| in_capacity(|out| digest(static_calls::join(path, other, out))),
