@@ -101,22 +101,6 @@ fn place_names(out: &mut [u8], at: usize, names: &[u8])
     out[at + names.len()] = 0;
 }
 
-// Overwrites the bytes of `out` from `at` on with those in a key of the run that stands first and
-// is `len` bytes long in the path.
-#[inline]
-fn place_run(out: &mut [u8], at: usize, bytes: &[u8], len: usize)
-    requires some { 0 < length bytes.now }
-    requires in_range { len ≤ length bytes.now }
-    requires room { at + length (run_key bytes.now len) ≤ length out.old }
-    ensures { out.new ≡ overlay at (run_key bytes.now len) out.old }
-{
-    if begins_with_parent(bytes) {
-        place_mark(out, at, 3);
-        return;
-    }
-    place_names(out, at, &bytes[..len]);
-}
-
 // Writes the code of the root or the `.` with which a path begins to the beginning of `out`.
 // Returns how many bytes it has.
 #[inline]
@@ -141,10 +125,16 @@ pub(crate) fn write_path(path: &[u8], out: &mut [u8]) -> usize
     let mut at = write_lead(path, out);
     let mut left = past_filler(path);
     while !left.is_empty() {
-        let end = run_len(left);
-        place_run(out, at, left, end);
-        at += run_key_len(left, end);
-        left = past_filler(&left[end..]);
+        if begins_with_parent(left) {
+            place_mark(out, at, 3);
+            at += 2;
+            left = past_filler(&left[2..]);
+        } else {
+            let end = first_break(left, b'/', b'.');
+            place_names(out, at, &left[..end]);
+            at += end + 1;
+            left = past_filler(&left[end..]);
+        }
     }
     at
 }
