@@ -25,6 +25,7 @@ pub mod CodedLaneLemmas
 pub mod StretchLemmas
 pub mod LeadLemmas
 pub mod RunLemmas
+pub mod UpLemmas
 pub mod WrittenLemmas
 pub mod KeyBreakLemmas
 pub mod KeyRunLemmas

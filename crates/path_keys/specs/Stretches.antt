@@ -49,3 +49,18 @@ pub record BeginsKey (key more : List ℕ) (n : ℕ) (old new : List ℕ) : Type
   pub key_is : key ≡ lead ++ more
   pub len_is : n ≡ length lead
   pub new_is : new ≡ overlay 0 lead old
+
+-- a slash stands first in s, and the piece behind it is `..`
+pub record IsUp (s : List ℕ) : Type 0 where
+  pub some : 1 < length s
+  pub slash_first : slice_index s 0 ≡ slash
+  pub up : begins_with_parent (drop 1 s) ≡ true
+
+-- the first `len` bytes of s have n bytes in a key, and these are put over the old buffer from `at`
+-- on; the others hold all values behind these
+pub record PutsFirst (s : List ℕ) (len at n : ℕ) (old new : List ℕ) : Type 0 where
+  pub lead : List ℕ
+  pub in_range : len ≤ length s
+  pub split : key_of (inner_values s) ≡ lead ++ key_of (inner_values (drop len s))
+  pub len_is : n ≡ length lead
+  pub new_is : new ≡ overlay at lead old

@@ -1,13 +1,13 @@
 //! The key of a path: the codes of its parts, one behind the other.
-ghost use Rattle.std.specs.Prelude.{◌≡◌, ◌+◌, ◌≤◌, ◌<◌, ◌^◌, ◌∷◌, ◌++◌, [], false, length, map};
-ghost use Rattle.std.specs.Prelude.{MatchOption};
+ghost use Rattle.std.specs.Prelude.{◌≡◌, ◌+◌, ◌*◌, ◌≤◌, ◌<◌, ◌^◌, ◌∷◌, ◌++◌, [], false, length};
+ghost use Rattle.std.specs.Prelude.{map, IsTrue, MatchOption};
 ghost use Rattle.unix_path.specs.CommonDir.{inner_values};
 ghost use Rattle.unix_path.specs.Parts.{values};
 ghost use Rattle.unix_path.specs.Scan.{is_idle};
 ghost use Rattle.path_runs.specs.Buffer.{buffer_after};
 ghost use Rattle.path_runs.specs.Overlay.{overlay};
 ghost use Rattle.path_keys.specs.Keys.{key_of};
-ghost use Rattle.path_keys.specs.Stretches.{coded, run_key, BeginsKey, IsRun};
+ghost use Rattle.path_keys.specs.Stretches.{coded, run_key, BeginsKey, IsRun, IsUp, PutsFirst};
 
 use crate::coded::place_coded;
 use crate::stretch::first_break;
@@ -116,6 +116,37 @@ fn write_lead(path: &[u8], out: &mut [u8]) -> usize
     2
 }
 
+// Whether a slash stands first, and the piece behind it is `..`.
+#[inline(always)]
+fn is_up(bytes: &[u8]) -> bool
+    ensures { IsTrue result → IsUp bytes.now }
+{
+    if bytes.len() < 2 {
+        return false;
+    }
+    if bytes[0] != b'/' {
+        return false;
+    }
+    begins_with_parent(&bytes[1..])
+}
+
+// Overwrites the bytes of `out` from `at` on with the mark of each `..` that stands first, with one
+// slash before it. Returns how many these are.
+#[inline(always)]
+fn place_ups(out: &mut [u8], at: usize, bytes: &[u8]) -> usize
+    requires { at + length (key_of (inner_values bytes.now)) ≤ length out.old }
+    ensures { PutsFirst bytes.now (3 * result) at (2 * result) out.old out.new }
+{
+    let mut count = 0;
+    let mut rest = bytes;
+    while is_up(rest) {
+        place_mark(out, at + 2 * count, 3);
+        count += 1;
+        rest = &rest[3..];
+    }
+    count
+}
+
 // Writes the key of a path to the beginning of `out`. Returns how many bytes it has.
 pub(crate) fn write_path(path: &[u8], out: &mut [u8]) -> usize
     requires { length (key_of (values path.now)) ≤ length out.old }
@@ -127,8 +158,9 @@ pub(crate) fn write_path(path: &[u8], out: &mut [u8]) -> usize
     while !left.is_empty() {
         if begins_with_parent(left) {
             place_mark(out, at, 3);
-            at += 2;
-            left = past_filler(&left[2..]);
+            let ups = place_ups(out, at + 2, &left[2..]);
+            at += 2 + 2 * ups;
+            left = past_filler(&left[2 + 3 * ups..]);
         } else {
             let end = first_break(left, b'/', b'.');
             place_names(out, at, &left[..end]);

@@ -1,32 +1,51 @@
-use Rattle.std.proofs.Common.{◌≡◌, ◌<◌, length, sym, ap, ◌∙◌, arith}
+use Rattle.std.proofs.Common.{◌≡◌, ◌<◌, ◌+◌, ◌*◌, length, drop, sym, ap, ◌∙◌, arith, subst}
 use Rattle.std.proofs.Common.{length-take-le}
 use Rattle.std.proofs.lemmas.Bool.Decides.{nat_tests}
-use Rattle.std.proofs.lemmas.List.{take_rest}
+use Rattle.std.proofs.lemmas.List.{drop-drop, take_rest}
 use Rattle.unix_path.specs.CommonDir.{inner_values}
 use Rattle.path_runs.proofs.WritingLemmas.{writes_last, writes_end}
+use Rattle.path_keys.specs.Keys.{key_of}
+use Rattle.path_keys.specs.Stretches.{PutsFirst}
 use Rattle.path_keys.proofs.LeadLemmas.{none_left}
-use Rattle.path_keys.proofs.WrittenLemmas.{room_up, room_names, written_up, written_names}
+use Rattle.path_keys.proofs.WrittenLemmas.{room_up, room_left, room_names}
+use Rattle.path_keys.proofs.WrittenLemmas.{written_up, written_first, written_names}
 use Rattle.path_keys.proofs.parts.write_path.Goals as goal
 
 pub place_mark-requires : goal.place_mark-requires
 place_mark-requires c = omega (
   arith,
   c.loop-left.auto.out,
-  room_up c.loop-left.left.now c.loop-left.invariant.busy
-      (sym c.begins_with_parent.ensures ∙ c.if-begins_with_parent.true)
+  room_up c.loop-left.left.now (sym c.begins_with_parent.ensures ∙ c.if-begins_with_parent.true)
       c.loop-left.invariant.written c.requires,
 )
 
+pub place_ups-ups-requires : goal.place_ups-ups-requires
+place_ups-ups-requires c =
+    let s = c.loop-left.left.now in
+    omega (
+      arith,
+      c.loop-left.auto.out,
+      c.place_mark.auto.out,
+      ap (λ r. length (key_of (inner_values r))) (take_rest s 2),
+      room_left (written_up s (sym c.begins_with_parent.ensures ∙ c.if-begins_with_parent.true)
+          c.loop-left.invariant.written c.place_mark.ensures) c.requires,
+    )
+
 pub loop-left-preserved-then-begins_with_parent : goal.loop-left-preserved-then-begins_with_parent
 loop-left-preserved-then-begins_with_parent c =
+    let s = c.loop-left.left.now in
+    let ups = c.place_ups-ups in
     let left = c.past_filler-left-then-begins_with_parent in
     record {
       busy = left.ensures.busy;
-      written = written_up c.loop-left.left.now left.result.now c.loop-left.invariant.busy
-          (sym c.begins_with_parent.ensures ∙ c.if-begins_with_parent.true)
-          c.loop-left.invariant.written
-          (ap inner_values (sym (take_rest c.loop-left.left.now 2)) ∙ left.ensures.same)
-          c.place_mark.ensures (omega arith);
+      written = written_first (drop 2 s) left.result.now
+          (written_up s (sym c.begins_with_parent.ensures ∙ c.if-begins_with_parent.true)
+          c.loop-left.invariant.written c.place_mark.ensures)
+          (subst (λ r. PutsFirst r (3 * ups.result) (c.loop-left.at + 2) (2 * ups.result)
+          c.place_mark.new.out ups.new.out) (take_rest s 2) ups.ensures)
+          (ap inner_values (drop-drop (3 * ups.result) 2 s
+          ∙ sym (take_rest s (2 + 3 * ups.result))) ∙ left.ensures.same)
+          (omega arith);
     }
 
 pub place_names-requires : goal.place_names-requires
