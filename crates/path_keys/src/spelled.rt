@@ -11,13 +11,17 @@ use crate::decoded::place_decoded;
 use crate::runs::{Run, next_run, run_in};
 
 // Overwrites the bytes of `out` from `at` on with `bytes`, as many as there is room for.
-#[inline]
+#[inline(always)]
 fn place(out: &mut [u8], at: usize, bytes: &[u8])
     requires { at ≤ length out.old }
     ensures { out.new ≡ overlay at (take (length out.old - at) bytes.now) out.old }
 {
-    let len = bytes.len().min(out.len() - at);
-    out[at..at + len].copy_from_slice(&bytes[..len]);
+    let room = out.len() - at;
+    if bytes.len() <= room {
+        out[at..at + bytes.len()].copy_from_slice(bytes);
+        return;
+    }
+    out[at..].copy_from_slice(&bytes[..room]);
 }
 
 // Overwrites the bytes of `out` from `at` on with those of the names that stand like this in a key,
@@ -37,7 +41,7 @@ fn place_names(out: &mut [u8], at: usize, names: &[u8])
 
 // Overwrites the bytes of `out` from `at` on with those of the run in a path before others, but for
 // a slash for which there is no room.
-#[inline]
+#[inline(always)]
 fn place_run(out: &mut [u8], at: usize, run: Run<'_>)
     requires { at + length (run_text run) ≤ length out.old + 1 }
     ensures { out.new ≡ overlay at (take (length out.old - at) (run_text run.entry)) out.old }
