@@ -81,6 +81,19 @@ names_none s n h b first v vs fit e =
     let breaks = subst Breaks named (key_breaks name vs fit.1) in
     false≢true (sym (b.none_before breaks.at breaks.in_range) ∙ breaks.is)
 
+-- bytes that don't begin with an end mark and have no break are no key
+pub no_break_none : (s : List ℕ) → eqb (get_or s 0 0) 0 ≡ false → FirstBreakOf 0 47 s (length s)
+    → (first : Bool) → HoldsNone first s
+no_break_none s e b first RootDir vs fit is =
+    false≢true (sym e ∙ ap (λ k. eqb (get_or k 0 0) 0) (sym is ∙ key_of-cons RootDir vs))
+no_break_none s e b first CurDir vs fit is =
+    false≢true (sym e ∙ ap (λ k. eqb (get_or k 0 0) 0) (sym is ∙ key_of-cons CurDir vs))
+no_break_none s e b first ParentDir vs fit is =
+    false≢true (sym e ∙ ap (λ k. eqb (get_or k 0 0) 0) (sym is ∙ key_of-cons ParentDir vs))
+no_break_none s e b first (Normal q) vs fit is =
+    let breaks = subst Breaks is (key_breaks q vs fit.1) in
+    false≢true (sym (b.none_before breaks.at breaks.in_range) ∙ breaks.is)
+
 -- the first end mark stands behind the first name
 mark_place : (s : List ℕ) {k : ℕ} (h : BeginsName s k)
     → position_or_len is_zero s ≡ length (map raised h.name)

@@ -29,4 +29,5 @@ pub mod UpLemmas
 pub mod WrittenLemmas
 pub mod KeyBreakLemmas
 pub mod KeyRunLemmas
+pub mod PlainNameLemmas
 pub mod PlainLemmas

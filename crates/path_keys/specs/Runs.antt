@@ -1,7 +1,7 @@
 -- What stands first in a key: a mark, or names with one end mark between two of them. No public
 -- clause cites these words.
 use Rattle.std.specs.Prelude.{◌≡◌, ◌<◌, ◌≤◌, ℕ, ◌==◌, Bool, List, ◌∷◌, ◌++◌, [], length, drop, map}
-use Rattle.std.specs.Prelude.{if◌then◌else◌}
+use Rattle.std.specs.Prelude.{false, slice_index, if◌then◌else◌}
 use Rattle.unix_path.specs.Parts.{slash, cur_dir, parent_dir, Value, Normal}
 use Rattle.path_keys.specs.Keys.{code, key_of}
 use Rattle.path_keys.specs.Codes.{lowered, text_of, AllFit, IsName}
@@ -47,6 +47,12 @@ pub record BeginsName (s : List ℕ) (n : ℕ) : Type 0 where
   pub len_is : n ≡ length name
   pub is_name : IsName name
   pub is : s ≡ code (Normal name) ++ drop (length (code (Normal name))) s
+
+-- the first byte is neither an end mark nor a raised dot
+pub record BeginsPlain (s : List ℕ) : Type 0 where
+  pub some : 0 < length s
+  pub no_mark : (slice_index s 0 == 0) ≡ false
+  pub no_dot : (slice_index s 0 == slash) ≡ false
 
 -- these bytes are the key of values that may stand there, whose text has at most `room` bytes
 pub record LeavesText (first : Bool) (s : List ℕ) (room : ℕ) : Type 0 where

@@ -1,7 +1,7 @@
 //! What stands first in a key: a mark, or names up to another mark.
-ghost use Rattle.std.specs.Prelude.{◌≡◌, ◌<◌, ◌^◌, Bool, length, None, IfSome};
-ghost use Rattle.path_keys.specs.Runs.{run_code, run_text, BeginsName, HoldsNone, LeavesText};
-ghost use Rattle.path_keys.specs.Runs.{TakesRun};
+ghost use Rattle.std.specs.Prelude.{◌≡◌, ◌<◌, ◌^◌, Bool, length, None, IfSome, IsTrue};
+ghost use Rattle.path_keys.specs.Runs.{run_code, run_text, BeginsName, BeginsPlain, HoldsNone};
+ghost use Rattle.path_keys.specs.Runs.{LeavesText, TakesRun};
 
 use crate::codes::{Code, code_in};
 use crate::stretch::first_break;
@@ -59,6 +59,35 @@ fn names_in(bytes: &[u8], len: usize) -> Option<Run<'_>>
     Some(Run::Names(&bytes[..end]))
 }
 
+// Whether a name begins here, with another byte than a raised dot.
+#[inline(always)]
+fn begins_plain(bytes: &[u8]) -> bool
+    ensures { IsTrue result → BeginsPlain bytes.now }
+{
+    if bytes.is_empty() {
+        return false;
+    }
+    if bytes[0] == 0 {
+        return false;
+    }
+    bytes[0] != b'/'
+}
+
+// As `names_in`, of which the first begins with another byte than a raised dot. It is neither `.`
+// nor `..`, and needn't be searched by itself.
+#[inline(always)]
+fn plain_names_in(bytes: &[u8]) -> Option<Run<'_>>
+    requires { BeginsPlain bytes.now }
+    ensures some { IfSome result (λ run. (first : Bool) → TakesRun first bytes.now run) }
+    ensures none { result ≡ None → ((first : Bool) → HoldsNone first bytes.now) }
+{
+    let end = first_break(bytes, 0, b'/');
+    if bytes.len() == end {
+        return None;
+    }
+    Some(Run::Names(&bytes[..end]))
+}
+
 // The run with which these bytes begin, as a path's first or behind others; `None` if they are the
 // key of no values that may stand there.
 #[inline(always)]
@@ -66,6 +95,9 @@ pub(crate) fn run_in(bytes: &[u8], first: bool) -> Option<Run<'_>>
     ensures some { IfSome result (λ run. TakesRun first bytes.now run) }
     ensures none { result ≡ None → HoldsNone first bytes.now }
 {
+    if begins_plain(bytes) {
+        return plain_names_in(bytes);
+    }
     let Some(code) = code_in(bytes, first) else {
         return None;
     };
