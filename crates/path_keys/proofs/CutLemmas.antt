@@ -18,7 +18,7 @@ use Rattle.path_keys.proofs.KeyReadLemmas.{spelled_read}
 use Rattle.path_keys.proofs.SpellLemmas.{SpellsOn, spells_none, spells_room, spells_one, spells_all}
 use Rattle.path_keys.proofs.RunReadLemmas.{fit_rest}
 use Rattle.path_keys.proofs.SpellLemmas.{spells_long}
-use Rattle.path_keys.proofs.TextLemmas.{IsText, lone, longer, text_is}
+use Rattle.path_keys.proofs.TextLemmas.{IsText, lone, longer, text_is, ups_text_len}
 
 -- bytes that are put in a buffer of which a front is kept are put in that, as far as they go
 overlay-take : (at m : ℕ) (bytes old : List ℕ) → at + m ≤ length old
@@ -139,7 +139,7 @@ cut_room h k = omega (arith, h.few, spells_room h.spells k)
 text_some : (run : Run) → 0 < length (run_text run)
 text_some Root = omega arith
 text_some Dot = omega arith
-text_some Up = omega arith
+text_some (Up n) = omega (arith, ups_text_len (n + 1))
 text_some (Names bytes) = omega (arith, length-append (map decoded bytes.now) (slash ∷ []))
 
 -- the text of one more run is written, as far as there is room

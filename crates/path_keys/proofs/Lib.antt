@@ -26,6 +26,7 @@ pub mod StretchLemmas
 pub mod LeadLemmas
 pub mod RunLemmas
 pub mod UpLemmas
+pub mod UpRunLemmas
 pub mod WrittenLemmas
 pub mod KeyBreakLemmas
 pub mod KeyRunLemmas

@@ -17,6 +17,7 @@ use Rattle.path_keys.proofs.KeyLemmas.{key_of-nil, key_of-cons, key_of-append}
 use Rattle.path_keys.proofs.OrderLemmas.{key_of-begins}
 use Rattle.path_keys.proofs.ReadLemmas.{starts, ReadsTo}
 use Rattle.path_keys.proofs.TextLemmas.{text_of-nil, text_of-cons, text_of-append}
+use Rattle.path_keys.proofs.TextLemmas.{ups_key_len, ups_text_len}
 
 -- values that may be all of a path's, and more that may stand behind them
 pub fit_all : (us vs : List Value) → AllFit true us → AllFit (starts us) vs
@@ -42,19 +43,39 @@ starts-more [] [] l = absurd (omega arith)
 starts-more [] (v ∷ vs) l = refl
 starts-more (u ∷ us) vs l = refl
 
+-- how many bytes a run of `..` has in a key, and in a path
+pub up_code_len : {run : Run} {n : ℕ} → run ≡ Up n → length (run_code run) ≡ 2 * n + 2
+up_code_len {run} {n} e = omega (arith, ap (λ r. length (run_code r)) e, ups_key_len (n + 1))
+
+pub up_text_len : {run : Run} {n : ℕ} → run ≡ Up n → length (run_text run) ≡ 3 * n + 3
+up_text_len {run} {n} e = omega (arith, ap (λ r. length (run_text r)) e, ups_text_len (n + 1))
+
 -- a run has a byte, and at most twice as many in a path
 pub run_small : (run : Run)
     → (0 < length (run_code run)) × (length (run_text run) ≤ 2 * length (run_code run))
 run_small Root = (omega arith, omega arith)
 run_small Dot = (omega arith, omega arith)
-run_small Up = (omega arith, omega arith)
+run_small (Up n) =
+    (omega (arith, ups_key_len (n + 1)), omega (arith, ups_key_len (n + 1), ups_text_len (n + 1)))
 run_small (Names bytes) =
     let code = length-append bytes.now (0 ∷ []) in
     let text = length-append (map decoded bytes.now) (slash ∷ []) in
     (omega (arith, code), omega (arith, code, text, length-map bytes.now decoded))
 
+-- a run has at most a byte more in a key than in a path
+pub code_small : (run : Run) → length (run_code run) ≤ length (run_text run) + 1
+code_small Root = omega arith
+code_small Dot = omega arith
+code_small (Up n) = omega (arith, ups_key_len (n + 1), ups_text_len (n + 1))
+code_small (Names bytes) = omega (
+  arith,
+  length-append bytes.now (0 ∷ []),
+  length-append (map decoded bytes.now) (slash ∷ []),
+  length-map bytes.now decoded,
+)
+
 -- the run that bytes begin with is no longer than they are
-run_within : {first : Bool} {s : List ℕ} {run : Run} → TakesRun first s run
+pub run_within : {first : Bool} {s : List ℕ} {run : Run} → TakesRun first s run
     → length (run_code run) ≤ length s
 run_within {first} {s} {run} h = omega (
   arith,

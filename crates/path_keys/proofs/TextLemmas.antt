@@ -1,5 +1,6 @@
 -- The bytes of values before others are their spelling and a slash, but for a lone root.
-use Rattle.std.proofs.Common.{◌≡◌, ◌<◌, ◌≤◌, ◌-◌, ◌+◌, ℕ, false, true, List, [], ◌∷◌, ◌++◌}
+use Rattle.std.proofs.Common.{◌≡◌, ◌<◌, ◌≤◌, ◌-◌, ◌+◌, ◌*◌, ℕ}
+use Rattle.std.proofs.Common.{zero, suc, false, true, List, [], ◌∷◌, ◌++◌}
 use Rattle.std.proofs.Common.{length, take, map, refl, sym, ap, ◌∙◌, arith, append_assoc}
 use Rattle.std.proofs.Common.{length-append, append-nil, ap₂, subst}
 use Rattle.std.proofs.lemmas.List.{take_at, length-map}
@@ -7,8 +8,10 @@ use Rattle.std.proofs.lemmas.List.Concat.{flat_map-append}
 use Rattle.unix_path.specs.Parts.{Value, RootDir, CurDir, ParentDir, Normal, slash, value_bytes}
 use Rattle.path_runs.specs.Spelling.{slashed_bytes, spelling_of}
 use Rattle.path_runs.proofs.SpellLemmas.{spelling_of-nil, spelling_of-root, spelling_of-cons}
-use Rattle.path_keys.specs.Keys.{raised, code}
+use Rattle.path_keys.specs.Keys.{raised, code, key_of}
+use Rattle.path_keys.specs.Runs.{ups}
 use Rattle.path_keys.specs.Codes.{slashed, text_of, Fits, AllFit}
+use Rattle.path_keys.proofs.KeyLemmas.{key_of-nil, key_of-cons}
 use Rattle.path_keys.proofs.NameLemmas.{some_bytes}
 
 pub text_of-nil : text_of [] ≡ []
@@ -127,3 +130,22 @@ pub text_of-spelled : (vs : List Value) → AllFit true vs → (text : List ℕ)
     × (length text ≤ 1 → text ≡ spelling_of vs)
 text_of-spelled vs h text e =
     trimmed_text (subst (λ t. IsText t (spelling_of vs)) (sym e) (text_is vs h))
+
+-- how many bytes some `..` have in a key, and in a path before others
+pub ups_key_len : (n : ℕ) → length (key_of (ups n)) ≡ 2 * n
+ups_key_len zero = ap length key_of-nil
+ups_key_len (suc n) = omega (
+  arith,
+  ap length (key_of-cons ParentDir (ups n)),
+  length-append (code ParentDir) (key_of (ups n)),
+  ups_key_len n,
+)
+
+pub ups_text_len : (n : ℕ) → length (text_of (ups n)) ≡ 3 * n
+ups_text_len zero = ap length text_of-nil
+ups_text_len (suc n) = omega (
+  arith,
+  ap length (text_of-cons ParentDir (ups n)),
+  length-append (slashed ParentDir) (text_of (ups n)),
+  ups_text_len n,
+)

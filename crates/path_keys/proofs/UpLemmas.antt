@@ -52,7 +52,7 @@ pub slash_up_long : (s : List ℕ) → IsUp s → 3 ≤ length s
 slash_up_long s h = omega (arith, length-parent_first (drop 1 s) h.up, length-drop 1 s, h.some)
 
 -- to put bytes in a buffer, and then more behind them, is to put both there at once
-overlay-overlay : (at : ℕ) (xs ys old : List ℕ) → at ≤ length old
+pub overlay-overlay : (at : ℕ) (xs ys old : List ℕ) → at ≤ length old
     → overlay (at + length xs) ys (overlay at xs old) ≡ overlay at (xs ++ ys) old
 overlay-overlay at xs ys old l =
     let first = take at old ++ xs in

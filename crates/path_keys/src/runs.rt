@@ -1,7 +1,7 @@
 //! What stands first in a key: a mark, or names up to another mark.
 ghost use Rattle.std.specs.Prelude.{◌≡◌, ◌<◌, ◌^◌, Bool, length, None, IfSome, IsTrue};
-ghost use Rattle.path_keys.specs.Runs.{run_code, run_text, BeginsName, BeginsPlain, HoldsNone};
-ghost use Rattle.path_keys.specs.Runs.{LeavesText, TakesRun};
+ghost use Rattle.path_keys.specs.Runs.{run_code, run_text, BeginsName, BeginsPlain, BeginsUps};
+ghost use Rattle.path_keys.specs.Runs.{HoldsNone, LeavesText, TakesRun};
 
 use crate::codes::{Code, code_in};
 use crate::stretch::first_break;
@@ -11,7 +11,8 @@ use crate::stretch::first_break;
 pub(crate) enum Run<'a> {
     Root,
     Dot,
-    Up,
+    // A `..`, and so many more behind it.
+    Up(usize),
     // Names as they stand in the key, without the last end mark.
     Names(&'a [u8]),
 }
@@ -24,8 +25,10 @@ impl<'a> Run<'a> {
         ensures { result ≡ length (run_code self.entry) }
     {
         match self {
+            Run::Root => 2,
+            Run::Dot => 2,
+            Run::Up(more) => 2 + 2 * more,
             Run::Names(names) => names.len() + 1,
-            _ => 2,
         }
     }
 
@@ -38,7 +41,7 @@ impl<'a> Run<'a> {
         match self {
             Run::Root => 1,
             Run::Dot => 2,
-            Run::Up => 3,
+            Run::Up(more) => 3 + 3 * more,
             Run::Names(names) => names.len() + 1,
         }
     }
@@ -57,6 +60,34 @@ fn names_in(bytes: &[u8], len: usize) -> Option<Run<'_>>
         return None;
     }
     Some(Run::Names(&bytes[..end]))
+}
+
+// Whether the mark of a `..` stands first.
+#[inline(always)]
+fn is_up(bytes: &[u8]) -> bool
+    ensures { IsTrue result → BeginsUps bytes.now 1 }
+{
+    if bytes.len() < 2 {
+        return false;
+    }
+    if bytes[0] != 0 {
+        return false;
+    }
+    bytes[1] == 3
+}
+
+// How many marks of a `..` stand first, one behind the other.
+#[inline(always)]
+fn up_count(bytes: &[u8]) -> usize
+    ensures { BeginsUps bytes.now result }
+{
+    let mut count = 0;
+    let mut rest = bytes;
+    while is_up(rest) {
+        count += 1;
+        rest = &rest[2..];
+    }
+    count
 }
 
 // Whether a name begins here, with another byte than a raised dot.
@@ -104,7 +135,7 @@ pub(crate) fn run_in(bytes: &[u8], first: bool) -> Option<Run<'_>>
     match code {
         Code::Root => Some(Run::Root),
         Code::Dot => Some(Run::Dot),
-        Code::Up => Some(Run::Up),
+        Code::Up => Some(Run::Up(up_count(&bytes[2..]))),
         Code::Name(name) => names_in(bytes, name.len()),
     }
 }

@@ -1,11 +1,11 @@
 //! The path of a key: how many bytes it has, and these written to a buffer of that length.
-ghost use Rattle.std.specs.Prelude.{◌≡◌, ◌≤◌, ◌+◌, ◌-◌, ◌∷◌, ◌++◌, [], length, map, take};
+ghost use Rattle.std.specs.Prelude.{◌≡◌, ◌≤◌, ◌+◌, ◌*◌, ◌-◌, ◌∷◌, ◌++◌, [], length, map, take};
 ghost use Rattle.std.specs.Prelude.{IfSome, None};
-ghost use Rattle.unix_path.specs.Parts.{slash};
+ghost use Rattle.unix_path.specs.Parts.{slash, ParentDir};
 ghost use Rattle.path_runs.specs.Overlay.{overlay};
 ghost use Rattle.path_keys.specs.Keys.{IsKey};
-ghost use Rattle.path_keys.specs.Codes.{HasPath, IsRead, ReadsAs};
-ghost use Rattle.path_keys.specs.Runs.{decoded, run_text};
+ghost use Rattle.path_keys.specs.Codes.{slashed, text_of, HasPath, IsRead, ReadsAs};
+ghost use Rattle.path_keys.specs.Runs.{decoded, run_text, ups};
 
 use crate::decoded::place_decoded;
 use crate::runs::{Run, next_run, run_in};
@@ -22,6 +22,40 @@ fn place(out: &mut [u8], at: usize, bytes: &[u8])
         return;
     }
     out[at..].copy_from_slice(&bytes[..room]);
+}
+
+// Overwrites three bytes of `out` from `at` on with `../`.
+#[inline(always)]
+fn place_up(out: &mut [u8], at: usize)
+    requires { at + 3 ≤ length out.old }
+    ensures { out.new ≡ overlay at (slashed ParentDir) out.old }
+{
+    out[at..at + 3].copy_from_slice(&[b'.', b'.', b'/']);
+}
+
+// Overwrites the bytes of `out` from `at` on with so many `../`.
+#[inline(always)]
+fn place_ups(out: &mut [u8], at: usize, count: usize)
+    requires { at + 3 * count ≤ length out.old }
+    ensures { out.new ≡ overlay at (text_of (ups count)) out.old }
+{
+    let mut done = 0;
+    while done < count {
+        place_up(out, at + 3 * done);
+        done += 1;
+    }
+}
+
+// Overwrites the bytes of `out` from `at` on with `../` and so many more, but for the last slash if
+// there is no room for it.
+#[inline(always)]
+fn place_up_run(out: &mut [u8], at: usize, more: usize)
+    requires { at + 3 * more + 3 ≤ length out.old + 1 }
+    ensures { out.new
+        ≡ overlay at (take (length out.old - at) (text_of (ups (more + 1)))) out.old }
+{
+    place_ups(out, at, more);
+    place(out, at + 3 * more, b"../");
 }
 
 // Overwrites the bytes of `out` from `at` on with those of the names that stand like this in a key,
@@ -49,7 +83,7 @@ fn place_run(out: &mut [u8], at: usize, run: Run<'_>)
     match run {
         Run::Root => place(out, at, b"/"),
         Run::Dot => place(out, at, b"./"),
-        Run::Up => place(out, at, b"../"),
+        Run::Up(more) => place_up_run(out, at, more),
         Run::Names(names) => place_names(out, at, names),
     }
 }

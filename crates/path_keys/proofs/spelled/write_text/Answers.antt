@@ -1,8 +1,10 @@
-use Rattle.std.proofs.Common.{subst, sym, ◌+◌, ◌-◌, take, drop, refl, ap, ◌∙◌, arith}
+use Rattle.std.proofs.Common.{subst, sym, ◌+◌, ◌-◌, length, take}
+use Rattle.std.proofs.Common.{drop, length-drop, refl, ap, ◌∙◌, arith}
 use Rattle.std.proofs.lemmas.List.{take_rest}
 use Rattle.path_runs.specs.Overlay.{overlay}
 use Rattle.path_keys.specs.Runs.{run_text, LeavesText}
 use Rattle.path_keys.proofs.CutLemmas.{cut_leaves, cut_none, cut_room, cut_one, cut_all}
+use Rattle.path_keys.proofs.RunReadLemmas.{code_small, run_small, run_within}
 use Rattle.path_keys.proofs.spelled.write_text.Goals as goal
 
 pub loop-run-init : goal.loop-run-init
@@ -16,6 +18,28 @@ next_run-requires c =
 pub place_run-requires : goal.place_run-requires
 place_run-requires c =
     omega (arith, c.loop-run.auto.out, cut_room c.loop-run.invariant c.in-Some.ensures.some)
+
+pub text_len-at-requires : goal.text_len-at-requires
+text_len-at-requires c =
+    omega (arith, c.loop-run.auto.out, cut_room c.loop-run.invariant c.in-Some.ensures.some)
+
+pub len-requires : goal.len-requires
+len-requires c = omega (
+  arith,
+  c.loop-run.auto.out,
+  cut_room c.loop-run.invariant c.in-Some.ensures.some,
+  code_small c.in-Some.run',
+)
+
+pub loop-run-smaller : goal.loop-run-smaller
+loop-run-smaller c = omega (
+  arith,
+  c.len.ensures,
+  ap length (take_rest c.loop-run.rest.now c.len.result),
+  length-drop c.len.result c.loop-run.rest.now,
+  run_within c.in-Some.ensures.some,
+  run_small c.in-Some.run',
+)
 
 pub overflow_add-at : goal.overflow_add-at
 overflow_add-at c =

@@ -1,0 +1,12 @@
+use Rattle.std.proofs.Common.{arith}
+use Rattle.path_keys.proofs.RunReadLemmas.{up_code_len}
+use Rattle.path_keys.proofs.runs.Run.len.Goals as goal
+
+pub overflow_mul-result : goal.overflow_mul-result
+overflow_mul-result c = omega (arith, c.requires, up_code_len c.in-Up.is)
+
+pub overflow_add-result : goal.overflow_add-result
+overflow_add-result c = omega (arith, c.requires, up_code_len c.in-Up.is)
+
+pub returns-in-Up : goal.returns-in-Up
+returns-in-Up c = omega (arith, up_code_len c.in-Up.is)
