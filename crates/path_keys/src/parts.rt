@@ -91,6 +91,15 @@ fn place_mark(out: &mut [u8], at: usize, mark: u8)
     out[at..at + 2].copy_from_slice(&[0, mark]);
 }
 
+// Overwrites two bytes of `out` from `at` on with the mark of a `..`.
+#[inline]
+fn place_up(out: &mut [u8], at: usize)
+    requires { at + 2 ≤ length out.old }
+    ensures { out.new ≡ overlay at (0 ∷ 3 ∷ []) out.old }
+{
+    place_mark(out, at, 3);
+}
+
 // Overwrites the bytes of `out` from `at` on with those of the names in a key.
 #[inline]
 fn place_names(out: &mut [u8], at: usize, names: &[u8])
@@ -140,7 +149,7 @@ fn place_ups(out: &mut [u8], at: usize, bytes: &[u8]) -> usize
     let mut count = 0;
     let mut rest = bytes;
     while is_up(rest) {
-        place_mark(out, at + 2 * count, 3);
+        place_up(out, at + 2 * count);
         count += 1;
         rest = &rest[3..];
     }
@@ -157,7 +166,7 @@ pub(crate) fn write_path(path: &[u8], out: &mut [u8]) -> usize
     let mut left = past_filler(path);
     while !left.is_empty() {
         if begins_with_parent(left) {
-            place_mark(out, at, 3);
+            place_up(out, at);
             let ups = place_ups(out, at + 2, &left[2..]);
             at += 2 + 2 * ups;
             left = past_filler(&left[2 + 3 * ups..]);

@@ -6,8 +6,8 @@ use Rattle.path_keys.proofs.parts.place_ups.Goals as goal
 pub loop-rest-init : goal.loop-rest-init
 loop-rest-init c = ups_none c.args.bytes.now c.args.at c.args.out.now (omega (arith, c.requires))
 
-pub place_mark-requires : goal.place_mark-requires
-place_mark-requires c = omega (
+pub place_up-requires : goal.place_up-requires
+place_up-requires c = omega (
   arith,
   c.loop-rest.auto.out,
   ups_room c.loop-rest.invariant (c.loop-rest-test.ensures refl) c.requires,
@@ -16,4 +16,4 @@ place_mark-requires c = omega (
 pub loop-rest-preserved : goal.loop-rest-preserved
 loop-rest-preserved c =
     ups_one c.loop-rest.invariant (c.loop-rest-test.ensures refl) (omega (arith, c.requires))
-    (take_rest c.loop-rest.rest.now 3) c.place_mark.ensures
+    (take_rest c.loop-rest.rest.now 3) c.place_up.ensures

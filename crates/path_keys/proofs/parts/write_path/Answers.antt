@@ -11,8 +11,8 @@ use Rattle.path_keys.proofs.WrittenLemmas.{room_up, room_left, room_names}
 use Rattle.path_keys.proofs.WrittenLemmas.{written_up, written_first, written_names}
 use Rattle.path_keys.proofs.parts.write_path.Goals as goal
 
-pub place_mark-requires : goal.place_mark-requires
-place_mark-requires c = omega (
+pub place_up-requires : goal.place_up-requires
+place_up-requires c = omega (
   arith,
   c.loop-left.auto.out,
   room_up c.loop-left.left.now (sym c.begins_with_parent.ensures ∙ c.if-begins_with_parent.true)
@@ -25,10 +25,10 @@ place_ups-ups-requires c =
     omega (
       arith,
       c.loop-left.auto.out,
-      c.place_mark.auto.out,
+      c.place_up.auto.out,
       ap (λ r. length (key_of (inner_values r))) (take_rest s 2),
       room_left (written_up s (sym c.begins_with_parent.ensures ∙ c.if-begins_with_parent.true)
-          c.loop-left.invariant.written c.place_mark.ensures) c.requires,
+          c.loop-left.invariant.written c.place_up.ensures) c.requires,
     )
 
 pub loop-left-preserved-then-begins_with_parent : goal.loop-left-preserved-then-begins_with_parent
@@ -40,9 +40,9 @@ loop-left-preserved-then-begins_with_parent c =
       busy = left.ensures.busy;
       written = written_first (drop 2 s) left.result.now
           (written_up s (sym c.begins_with_parent.ensures ∙ c.if-begins_with_parent.true)
-          c.loop-left.invariant.written c.place_mark.ensures)
+          c.loop-left.invariant.written c.place_up.ensures)
           (subst (λ r. PutsFirst r (3 * ups.result) (c.loop-left.at + 2) (2 * ups.result)
-          c.place_mark.new.out ups.new.out) (take_rest s 2) ups.ensures)
+          c.place_up.new.out ups.new.out) (take_rest s 2) ups.ensures)
           (ap inner_values (drop-drop (3 * ups.result) 2 s
           ∙ sym (take_rest s (2 + 3 * ups.result))) ∙ left.ensures.same)
           (omega arith);
