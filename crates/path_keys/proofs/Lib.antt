@@ -28,6 +28,7 @@ pub mod RunLemmas
 pub mod UpLemmas
 pub mod UpRunLemmas
 pub mod WrittenLemmas
+pub mod DotNameLemmas
 pub mod KeyBreakLemmas
 pub mod KeyRunLemmas
 pub mod PlainNameLemmas

@@ -34,7 +34,7 @@ up_key s e = (run-up s (up_busy s e) e).split
     ++ key_of (inner_values (drop 2 s))) e
 
 -- a slash in front holds no value
-inner_values-slash : (s : List ℕ) → inner_values (slash ∷ s) ≡ inner_values s
+pub inner_values-slash : (s : List ℕ) → inner_values (slash ∷ s) ≡ inner_values s
 inner_values-slash s =
     inner_values-pieces (slash ∷ s) ∙ ap names_of (slice_split-cons_yes is_slash slash s refl)
     ∙ sym (inner_values-pieces s)

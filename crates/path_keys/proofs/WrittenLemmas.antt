@@ -1,15 +1,14 @@
 -- A key written run by run.
-use Rattle.std.proofs.Common.{◌≡◌, ◌<◌, ◌≤◌, ◌+◌, ℕ, true, false, cond, List, []}
+use Rattle.std.proofs.Common.{◌≡◌, ◌≤◌, ◌+◌, ℕ, true, List, []}
 use Rattle.std.proofs.Common.{◌∷◌, ◌++◌, length, take, drop, map, ap, ◌∙◌}
 use Rattle.std.proofs.Common.{arith, sym, refl, append-nil, length-append, length-take-le}
 use Rattle.std.proofs.lemmas.List.{length-map}
 use Rattle.unix_path.specs.CommonDir.{inner_values}
-use Rattle.unix_path.specs.Scan.{begins_with_parent, is_idle}
+use Rattle.unix_path.specs.Scan.{begins_with_parent}
 use Rattle.path_runs.specs.Overlay.{overlay}
 use Rattle.path_runs.proofs.WritingLemmas.{WritesOn, writes_room, writes_stretch}
 use Rattle.path_keys.specs.Keys.{key_of}
-use Rattle.path_keys.specs.Stretches.{coded, FirstBreak, PutsFirst}
-use Rattle.path_keys.proofs.RunLemmas.{run-names}
+use Rattle.path_keys.specs.Stretches.{coded, AreNamesTo, PutsFirst}
 use Rattle.path_keys.proofs.UpLemmas.{up_key}
 
 -- there is room for the mark of a `..`
@@ -43,14 +42,6 @@ written_first {whole} {old} {out} {new} {at} {len} {n} {end} s left h puts same 
     (puts.split ∙ ap (λ vs. puts.lead ++ key_of vs) same) puts.new_is
     (ends ∙ ap (λ k. at + k) puts.len_is)
 
--- the key of a string that begins with names
-names_key : (s : List ℕ) (n : ℕ) → 0 < length s → is_idle s 0 ≡ false
-    → begins_with_parent s ≡ false → FirstBreak s n
-    → key_of (inner_values s) ≡ (map coded (take n s) ++ 0 ∷ []) ++ key_of (inner_values (drop n s))
-names_key s n l busy e b = (run-names s n l busy e b).split
-    ∙ ap (λ t. cond t (0 ∷ 3 ∷ []) (map coded (take n s) ++ 0 ∷ [])
-    ++ key_of (inner_values (drop n s))) e
-
 names_len : (s : List ℕ) (n : ℕ) → n ≤ length s → length (map coded (take n s) ++ 0 ∷ []) ≡ n + 1
 names_len s n l = omega (
   arith,
@@ -60,25 +51,23 @@ names_len s n l = omega (
 )
 
 -- there is room for the names that stand first, with their end mark
-pub room_names : {whole old out : List ℕ} {at : ℕ} (s : List ℕ) (n : ℕ) → 0 < length s
-    → is_idle s 0 ≡ false → begins_with_parent s ≡ false → FirstBreak s n
+pub room_names : {whole old out : List ℕ} {at : ℕ} (s : List ℕ) (n : ℕ) → AreNamesTo s n
     → WritesOn whole old at out (key_of (inner_values s)) → length whole ≤ length old
     → at + n + 1 ≤ length old
-room_names {whole} {old} {out} {at} s n l busy e b h fits = omega (
+room_names {whole} {old} {out} {at} s n names h fits = omega (
   arith,
-  names_len s n b.in_range,
-  writes_room (map coded (take n s) ++ 0 ∷ []) (key_of (inner_values (drop n s))) h
-      (names_key s n l busy e b) fits,
+  names_len s n names.in_range,
+  writes_room (map coded (take n s) ++ 0 ∷ []) (key_of (inner_values (drop n s))) h names.split
+      fits,
 )
 
 -- the names that stand first are written
 pub written_names : {whole old out new : List ℕ} {at end : ℕ} (s left : List ℕ) (n : ℕ)
-    → 0 < length s → is_idle s 0 ≡ false → begins_with_parent s ≡ false → FirstBreak s n
-    → WritesOn whole old at out (key_of (inner_values s))
+    → AreNamesTo s n → WritesOn whole old at out (key_of (inner_values s))
     → inner_values (drop n s) ≡ inner_values left
     → new ≡ overlay at (map coded (take n s) ++ 0 ∷ []) out
     → end ≡ at + n + 1 → WritesOn whole old end new (key_of (inner_values left))
-written_names {whole} {old} {out} {new} {at} {end} s left n l busy e b h same placed ends =
+written_names {whole} {old} {out} {new} {at} {end} s left n names h same placed ends =
     writes_stretch (map coded (take n s) ++ 0 ∷ []) (key_of (inner_values left)) h
-    (names_key s n l busy e b ∙ ap (λ vs. (map coded (take n s) ++ 0 ∷ []) ++ key_of vs) same)
-    placed (omega (arith, ends, names_len s n b.in_range))
+    (names.split ∙ ap (λ vs. (map coded (take n s) ++ 0 ∷ []) ++ key_of vs) same)
+    placed (omega (arith, ends, names_len s n names.in_range))

@@ -64,3 +64,19 @@ pub record PutsFirst (s : List ℕ) (len at n : ℕ) (old new : List ℕ) : Type
   pub split : key_of (inner_values s) ≡ lead ++ key_of (inner_values (drop len s))
   pub len_is : n ≡ length lead
   pub new_is : new ≡ overlay at lead old
+
+-- s begins with a name that begins with a dot, and not with two
+pub record BeginsDotName (s : List ℕ) : Type 0 where
+  pub some : 1 < length s
+  pub dot_first : slice_index s 0 ≡ dot
+  pub no_dot : slice_index s 1 ≡ dot → ⊥
+  pub no_slash : slice_index s 1 ≡ slash → ⊥
+
+-- the first n bytes of s are names, a slash or nothing follows, and the others hold all values
+-- behind these
+pub record AreNamesTo (s : List ℕ) (n : ℕ) : Type 0 where
+  pub some : 0 < n
+  pub in_range : n ≤ length s
+  pub slash_there : n < length s → slice_index s n ≡ slash
+  pub split : key_of (inner_values s)
+      ≡ (map coded (take n s) ++ 0 ∷ []) ++ key_of (inner_values (drop n s))

@@ -1,4 +1,4 @@
-use Rattle.std.proofs.Common.{◌≡◌, ◌<◌, ◌+◌, ◌*◌, length, drop, sym, ap, ◌∙◌, arith, subst}
+use Rattle.std.proofs.Common.{◌≡◌, ◌+◌, ◌*◌, length, drop, sym, ap, ◌∙◌, arith, subst}
 use Rattle.std.proofs.Common.{length-take-le}
 use Rattle.std.proofs.lemmas.Bool.Decides.{nat_tests}
 use Rattle.std.proofs.lemmas.List.{drop-drop, take_rest}
@@ -50,27 +50,23 @@ loop-left-preserved-then-begins_with_parent c =
 
 pub place_names-requires : goal.place_names-requires
 place_names-requires c =
-    let some : 0 < length c.loop-left.left.now = grind (arith, nat_tests) in
-    let n = c.first_break-end.result in
+    let n = c.names_len-end.result in
     omega (
       arith,
       c.loop-left.auto.out,
-      length-take-le n c.loop-left.left.now c.first_break-end.ensures.in_range,
-      room_names c.loop-left.left.now n some c.loop-left.invariant.busy
-          (sym c.begins_with_parent.ensures ∙ c.if-begins_with_parent.false)
-          c.first_break-end.ensures c.loop-left.invariant.written c.requires,
+      length-take-le n c.loop-left.left.now c.names_len-end.ensures.in_range,
+      room_names c.loop-left.left.now n c.names_len-end.ensures c.loop-left.invariant.written
+          c.requires,
     )
 
 pub loop-left-preserved : goal.loop-left-preserved
 loop-left-preserved c =
-    let some : 0 < length c.loop-left.left.now = grind (arith, nat_tests) in
-    let n = c.first_break-end.result in
+    let n = c.names_len-end.result in
     let left = c.past_filler-left-else-begins_with_parent in
     record {
       busy = left.ensures.busy;
-      written = written_names c.loop-left.left.now left.result.now n some c.loop-left.invariant.busy
-          (sym c.begins_with_parent.ensures ∙ c.if-begins_with_parent.false)
-          c.first_break-end.ensures c.loop-left.invariant.written
+      written = written_names c.loop-left.left.now left.result.now n c.names_len-end.ensures
+          c.loop-left.invariant.written
           (ap inner_values (sym (take_rest c.loop-left.left.now n)) ∙ left.ensures.same)
           c.place_names.ensures (omega arith);
     }
