@@ -119,3 +119,27 @@ fn equal_paths_are_one_entry(rt: HostRuntime) -> Result<(), Fail> {
     assert!(rt; tree.is_empty() && has_at(alloc, &tree, b"a.b", None)?);
     Ok(())
 }
+
+#[test]
+fn the_last_of_equal_paths_stays(rt: HostRuntime) -> Result<(), Fail> {
+    let alloc = rt.alloc();
+    let mut tree = tree_of(alloc, &["a/b"])?;
+    let files = [(Path::from_text("c"), 2), (Path::from_text("a//b"), 3)];
+    tree.extend(files.iter().copied())?;
+    assert!(rt; has_at(alloc, &tree, b"a/b", Some(3))? && has_at(alloc, &tree, b"c", Some(2))?);
+    tree.extend(std::iter::empty())?;
+    assert!(rt; tree.len() == 2);
+    Ok(())
+}
+
+#[test]
+fn keys_and_values_are_shown(rt: HostRuntime) -> Result<(), Fail> {
+    let alloc = rt.alloc();
+    let tree = tree_of(alloc, &["a.b", "a//b"])?;
+    let shown = format!(in alloc; "{tree:?}")?;
+    assert!(rt;
+        shown.as_str() == "{[97, 0, 98, 0]: 2, [97, 47, 98, 0]: 1}",
+        "{shown}"
+    );
+    Ok(())
+}

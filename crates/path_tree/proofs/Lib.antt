@@ -3,3 +3,4 @@ pub mod RowLemmas
 pub mod OwnLemmas
 pub mod NearestLemmas
 pub mod UnderLemmas
+pub mod ManyLemmas

@@ -19,19 +19,18 @@ use Rattle.path_keys.proofs.CodeLemmas.{values-coded}
 use Rattle.path_keys.proofs.OrderLemmas.{key_of-begins, begins-key_of}
 use Rattle.path_keys.proofs.RangeLemmas.{begins-lies_under, end_of-nil, end_of-some}
 use Rattle.path_tree.specs.Read.{is_own, key_values, values_from}
-use Rattle.path_tree.specs.Rows.{rows_under}
 use Rattle.path_tree.proofs.ReadLemmas.{bytes_cmp-own, own-is, own-values}
 use Rattle.path_tree.proofs.RowLemmas.{AllOwn, Own, all_own, keys_cmp, rows_by}
 
 -- a key begins another exactly if its values begin the other's
 module _ (k l : List ℕ) (own : is_own k ≡ true) (other : is_own l ≡ true) where
-  key_begins : Begins (key_values k) (key_values l) → Begins k l
+  pub key_begins : Begins (key_values k) (key_values l) → Begins k l
   key_begins begins =
       subst₂ Begins (own-is k own) (own-is l other)
       (begins-key_of _ _
       (subst₂ Begins (sym (own-values k own)) (sym (own-values l other)) begins))
 
-  values_begin : Begins k l → Begins (key_values k) (key_values l)
+  pub values_begin : Begins k l → Begins (key_values k) (key_values l)
   values_begin begins =
       let s = spelling_of (key_values k) in
       let t = spelling_of (key_values l) in
@@ -101,28 +100,27 @@ unfolding values_from
 all-under base none v =
     sym (ap (λ k. is_under (key_values k) v) none ∙ under_from_begins [] v (v, refl))
 
-module _ {K V : Type 0} (bytes_of : K → List ℕ) (test : K → Bool) (base : List Value)
-    (is : (k : K) → is_own (bytes_of k) ≡ true
-    → test k ≡ is_under base (key_values (bytes_of k))) where
+module _ {K V : Type 0} (bytes_of : K → List ℕ) (test : K → Bool) (keep : List Value → Bool)
+    (is : (k : K) → is_own (bytes_of k) ≡ true → test k ≡ keep (key_values (bytes_of k))) where
   filter-all_own : (entries : List (K × V)) → AllOwn bytes_of entries
       → rows_by bytes_of (filter (λ e. test e.0) entries)
-      ≡ rows_under base (rows_by bytes_of entries)
+      ≡ filter (λ row. keep row.0) (rows_by bytes_of entries)
   filter-all_own [] all = refl
   filter-all_own (e ∷ entries) all =
       let row : List Value × V = (key_values (bytes_of e.0), e.1) in
       let kept = filter (λ (e : K × V). test e.0) entries in
-      let rows = rows_under base (rows_by bytes_of entries) in
+      let rows = filter (λ row. keep row.0) (rows_by bytes_of entries) in
       ap (λ b. rows_by bytes_of (cond b (e ∷ kept) kept)) (is e.0 all.0)
-      ∙ elim (is_under base row.0) as (λ b.
+      ∙ elim (keep row.0) as (λ b.
       rows_by bytes_of (cond b (e ∷ kept) kept) ≡ cond b (row ∷ rows) rows) [
         | true ↦ ap (λ rows. row ∷ rows) (filter-all_own entries all.1)
         | false ↦ filter-all_own entries all.1
       ]
 
-  -- the entries whose keys pass a test that tells those under a base are the rows under it
+  -- the entries whose keys pass a test of their values are the rows that pass it
   pub filter-rows_by : (entries : List (K × V)) → Own bytes_of entries
       → rows_by bytes_of (filter (λ e. test e.0) entries)
-      ≡ rows_under base (rows_by bytes_of entries)
+      ≡ filter (λ row. keep row.0) (rows_by bytes_of entries)
   filter-rows_by entries all = filter-all_own entries (all_own bytes_of entries all)
 
 module _ {K V : Type 0} (bytes_of : K → List ℕ) where

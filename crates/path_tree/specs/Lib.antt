@@ -4,4 +4,5 @@ pub mod Made
 pub mod Tree
 pub mod Lent
 pub mod Nearest
+pub mod Many
 pub mod Laws

@@ -1,5 +1,5 @@
 -- Rows of values by the keys that stand for them. Not in Rust's std.
-use Rattle.std.specs.Prelude.{ℕ, List, filter, map}
+use Rattle.std.specs.Prelude.{ℕ, List, filter, map, not}
 use Rattle.std.specs.Global.{Vec}
 use Rattle.unix_path.specs.Parts.{Value}
 use Rattle.path_table.specs.Table.{is_under}
@@ -16,3 +16,8 @@ key_rows entries = map (λ e. (key_values e.0.items, e.1)) entries
 -- the rows whose values begin with base's, in their order
 abbrev pub rows_under : {V : Type 0} → List Value → List (List Value × V) → List (List Value × V)
 rows_under base rows = filter (λ row. is_under base row.0) rows
+
+-- the rows whose values don't begin with base's, in their order
+abbrev pub rows_outside : {V : Type 0} → List Value → List (List Value × V)
+    → List (List Value × V)
+rows_outside base rows = filter (λ row. not (is_under base row.0)) rows

@@ -15,6 +15,7 @@ ghost use Rattle.path_keys.specs.Keys.{key_of};
 ghost use Rattle.path_tree.specs.Read.{is_own, key_values};
 
 mod entries;
+mod many;
 mod nearest;
 mod ranges;
 
@@ -22,6 +23,7 @@ use crate::made::{MadeKey, bytes_of, owned_key};
 use path_keys::PathKey;
 use std::alloc::{AllocError, Global};
 use std::collections::BTreeMap;
+use std::fmt;
 use unix_path::Path;
 
 /// Values by path: a tree in which equal paths are one key, kept as the bytes of `PathKey`.
@@ -213,5 +215,14 @@ impl<V> PathTree<V> {
         ensures { table_of self.new ≡ [] }
     {
         self.entries.clear();
+    }
+}
+
+/// The bytes of the keys and their values, in path order. As Rust's `BTreeMap` shows them.
+///
+/// With 1 at `a/b` it is `{[97, 0, 98, 0]: 1}`.
+impl<V: fmt::Debug> fmt::Debug for PathTree<V> {
+    fn fmt<W: fmt::Write>(&self, f: &mut fmt::Formatter<W>) -> fmt::Result {
+        self.entries.fmt(f)
     }
 }

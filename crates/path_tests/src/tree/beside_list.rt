@@ -72,6 +72,14 @@ impl PlainList {
         Ok(old)
     }
 
+    // Inserts each of these at its path, one after the other.
+    fn insert_all(&mut self, alloc: Global, files: &[(Path<'_>, u32)]) -> Result<(), AllocError> {
+        for (path, value) in files {
+            self.insert(path.to_path_buf(alloc)?, *value)?;
+        }
+        Ok(())
+    }
+
     fn remove(&mut self, path: Path<'_>) -> Option<u32> {
         match self.place(path) {
             Some(place) if place < self.files.len() => {
@@ -81,6 +89,14 @@ impl PlainList {
             _ => None,
         }
     }
+
+    // Removes the paths that start with this one, and says how many there were.
+    fn remove_under(&mut self, base: Path<'_>) -> usize {
+        let before = self.files.len();
+        self.files
+            .retain(|file| !file.0.as_path().starts_with(base));
+        before.wrapping_sub(self.files.len())
+    }
 }
 
 fn are_alike(found: Option<(Path<'_>, &u32)>, want: Option<(Path<'_>, u32)>) -> bool {
@@ -89,6 +105,32 @@ fn are_alike(found: Option<(Path<'_>, &u32)>, want: Option<(Path<'_>, u32)>) -> 
         (None, None) => true,
         _ => false,
     }
+}
+
+// Whether the tree has each file of the list.
+fn has_all(tree: &PathTree<u32>, plain: &PlainList) -> Result<bool, AllocError> {
+    for (path, value) in &plain.files {
+        if tree.get_path(path.as_path())? != Some(value) {
+            return Ok(false);
+        }
+    }
+    Ok(tree.len() == plain.files.len())
+}
+
+// Inserts the value at the path and another at a random path into both, and says whether they are
+// alike then.
+fn extends_alike(
+    alloc: Global,
+    random: &mut Random,
+    tree: &mut PathTree<u32>,
+    plain: &mut PlainList,
+    file: (Path<'_>, u32),
+) -> Result<bool, AllocError> {
+    let other = path_from(alloc, random)?;
+    let files = [file, (other.as_path(), file.1.wrapping_add(CALLS)), file];
+    tree.extend(files.iter().copied())?;
+    plain.insert_all(alloc, files.as_slice())?;
+    has_all(tree, plain)
 }
 
 // Makes one call of the tree and one of the list, and says whether they answer alike.
@@ -102,7 +144,7 @@ fn answers_alike(
     let owned = path_from(alloc, random)?;
     let path = owned.as_path();
     let key = PathKey::of(alloc, path)?;
-    Ok(match random.next() % 12 {
+    Ok(match random.next() % 14 {
         0..3 => tree.insert(path, value)? == plain.insert(path.to_path_buf(alloc)?, value)?,
         3 => tree.remove(&key) == plain.remove(path),
         4 => tree.remove_path(path)? == plain.remove(path),
@@ -110,6 +152,8 @@ fn answers_alike(
         6 => tree.contains(&key) == plain.get(path).is_some(),
         7 => tree.get_path(path)?.copied() == plain.get(path),
         8 => tree.under(&key)?.count() == plain.count_under(path),
+        9 => extends_alike(alloc, random, tree, plain, (path, value))?,
+        10 => tree.remove_under(&key) == plain.remove_under(path) && has_all(tree, plain)?,
         _ => are_alike(tree.nearest(path)?, plain.nearest(path)),
     })
 }

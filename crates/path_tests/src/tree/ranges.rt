@@ -55,6 +55,32 @@ fn what_is_under_a_base(rt: HostRuntime) -> Result<(), Fail> {
     Ok(())
 }
 
+// Whether the tree of the row's paths has as many removed under the base as the row says, and has
+// the others still, of which none is equal to one that was removed.
+fn removes_under(alloc: Global, row: &Row) -> Result<bool, AllocError> {
+    let mut tree = tree_of(alloc, row.0)?;
+    let base = Path::from_text(row.1);
+    if tree.remove_under(&PathKey::of(alloc, base)?) != row.2.len() {
+        return Ok(false);
+    }
+    for path in row.0 {
+        let path = Path::from_text(path);
+        let is_removed = row.2.iter().any(|under| Path::from_text(under) == path);
+        if tree.contains_path(path)? == is_removed {
+            return Ok(false);
+        }
+    }
+    Ok(tree.len().wrapping_add(row.2.len()) == row.0.len())
+}
+
+#[test]
+fn what_is_removed_under_a_base(rt: HostRuntime) -> Result<(), Fail> {
+    for row in UNDER.iter() {
+        assert!(rt; removes_under(rt.alloc(), row)?, "{}", row.1);
+    }
+    Ok(())
+}
+
 // Whether the entry is this value at this path.
 fn is_entry(
     alloc: Global,

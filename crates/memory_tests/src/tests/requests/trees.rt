@@ -92,3 +92,24 @@ fn tree_paths_under(rt: HostRuntime) -> Result<(), Fail> {
         Err(AllocError) => report(false, is_as_before(&tree, &key)),
     }
 }
+
+// Whether the tree has the first paths of these, as many as the list of what is at them, and that.
+fn has_first(tree: &PathTree<u32>, wanted: &[(Path<'_>, u32)]) -> bool {
+    for (path, value) in wanted {
+        match tree.get_path(*path) {
+            Ok(found) if found == Some(value) => {}
+            _ => return false,
+        }
+    }
+    tree.len() == wanted.len()
+}
+
+#[test]
+fn tree_extended(rt: HostRuntime) -> Result<(), Fail> {
+    let mut tree = PathTree::new(rt.alloc());
+    let files = [(path("b"), 1), (path("a/b"), 2), (path("c"), 3)];
+    match tree.extend(files.iter().copied()) {
+        Ok(()) => report(true, has_first(&tree, &files)),
+        Err(AllocError) => report(false, has_first(&tree, &files[..tree.len().min(2)])),
+    }
+}

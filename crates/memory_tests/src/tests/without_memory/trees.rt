@@ -18,12 +18,18 @@ fn is_found(tree: &PathTree<u8>, key: &PathKey, name: &[u8]) -> Result<bool, All
     Ok(by_path && is_in && nearest && tree.get(key) == Some(&2))
 }
 
-// Whether both entries are taken, by the key and by the path.
-fn is_emptied(tree: &mut PathTree<u8>, key: &PathKey, name: &[u8]) -> Result<bool, AllocError> {
+// Whether all entries are taken, by the key, by the path, and two under the base.
+fn is_emptied(
+    tree: &mut PathTree<u8>,
+    key: &PathKey,
+    name: &[u8],
+    base: &PathKey,
+) -> Result<bool, AllocError> {
     let is_refused = fails(tree.insert(path("c"), 3));
     let by_key = tree.remove(key) == Some(2);
     let by_path = tree.remove_path(Path::from_bytes(name))? == Some(1);
-    Ok(is_refused && by_key && by_path && tree.is_empty())
+    let by_base = tree.remove_under(base) == 2;
+    Ok(is_refused && by_key && by_path && by_base && tree.is_empty())
 }
 
 // The longest path of which each key fits the stack, for which look-ups promise success.
@@ -35,10 +41,13 @@ fn trees_are_asked_and_emptied_without_memory(rt: HostRuntime) -> Result<(), Fai
     name.resize(511, b'a')?;
     tree.insert(Path::from_bytes(&name), 1)?;
     tree.insert(path("a/b"), 2)?;
+    tree.insert(path("x/y"), 3)?;
+    tree.insert(path("x"), 4)?;
     let key = PathKey::of(alloc, path("a/./b"))?;
+    let base = PathKey::of(alloc, path("x/"))?;
     let _dry = drought(alloc)?;
     let is_found = is_found(&tree, &key, &name);
-    let is_emptied = is_emptied(&mut tree, &key, &name);
+    let is_emptied = is_emptied(&mut tree, &key, &name, &base);
     assert!(rt; is_found? && is_emptied?);
     Ok(())
 }

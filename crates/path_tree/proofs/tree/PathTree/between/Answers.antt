@@ -1,5 +1,6 @@
 use Rattle.std.proofs.Common.{◌∙◌, ◌&&◌, ap, is_le, not}
 use Rattle.path_keys.specs.Ranges.{bytes_cmp}
+use Rattle.path_table.specs.Table.{is_under}
 use Rattle.path_tree.specs.Read.{key_values}
 use Rattle.path_tree.specs.Rows.{Key, key_rows}
 use Rattle.path_tree.proofs.UnderLemmas.{between-under, filter-rows_by, forward}
@@ -16,6 +17,6 @@ returns-clause-rows g c =
     ap key_rows (c.range.ensures.between tt)
     ∙ filter-rows_by (λ (k : Key). k.items)
     (λ k. is_le (bytes_cmp first k.items) && not (is_le (bytes_cmp end k.items)))
-    (key_values first)
+    (is_under (key_values first))
     (λ k other. between-under first end k.items c.requires.ends c.requires.own other)
     tree.entries.entries tree.own

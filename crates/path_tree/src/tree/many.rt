@@ -1,0 +1,66 @@
+//! Many entries at once: inserted one after the other, and removed by a base.
+ghost use Rattle.std.specs.Prelude.{◌≡◌, OnOk, OnErr, length};
+ghost use Rattle.std.specs.Iterator.{IsFinite};
+ghost use Rattle.path_keys.specs.Held.{key_bytes};
+ghost use Rattle.path_tree.specs.Many.{InsertsAll, InsertsBeginning};
+ghost use Rattle.path_tree.specs.Read.{key_values};
+ghost use Rattle.path_tree.specs.Rows.{rows_outside, rows_under};
+
+use super::PathTree;
+use crate::made::bytes_of;
+use path_keys::PathKey;
+use std::alloc::AllocError;
+use unix_path::Path;
+
+impl<V> PathTree<V> {
+    ghost use Rattle.path_tree.specs.Tree.{table_of};
+
+    /// Inserts each of these values at its path, one after the other.
+    ///
+    /// The caller shows that `items` may be asked for a next item, and that it ends. Of equal paths
+    /// the last one's value stays. Allocates as `insert` does for each item; if an allocation
+    /// fails, the tree is as the insertions before it left it, and that item is dropped. As
+    /// `Extend` of Rust's `BTreeMap`.
+    ///
+    /// With 1 at `a/b`, extended by 2 at `c` and 3 at `a//b`, it has 3 at `a/b`, and 2 at `c`.
+    #[tactic(auto, using(crate::proofs::ManyLemmas::inserted_all_snoc))]
+    pub fn extend<'a, I: Iterator<Item = (Path<'a>, V)>>(
+        &mut self,
+        items: I,
+    ) -> Result<(), AllocError>
+    where
+        V: Drop,
+        requires can { I.can_next items }
+        requires ends { IsFinite (I.remaining items) }
+        ensures ok { OnOk result
+            (InsertsAll I.next_gives items (table_of self.old) (table_of self.new)) }
+        ensures err { OnErr result
+            (InsertsBeginning I.next_gives items (table_of self.old) (table_of self.new)) }
+    {
+        for (path, value) in items {
+            self.insert(path, value)?;
+        }
+        Ok(())
+    }
+
+    /// Removes each entry whose key starts with that of the base, and returns how many there were.
+    ///
+    /// Whole parts count: `a.b` isn't under `a`. Visits every entry. Does not allocate. Not in
+    /// Rust's std; as `BTreeMap::retain`.
+    ///
+    /// With 1 at `a/b`, 2 at `a` and 3 at `a.b`, under `a` it removes 2, and leaves 3 at `a.b`.
+    pub fn remove_under(&mut self, base: &PathKey) -> usize
+    where
+        V: Drop,
+        ensures rows { table_of self.new
+            ≡ rows_outside (key_values (key_bytes base.now)) (table_of self.old) }
+        ensures count { result
+            ≡ length (rows_under (key_values (key_bytes base.now)) (table_of self.old)) }
+    {
+        let base = bytes_of(base);
+        let before = self.entries.len();
+        self.entries
+            .retain(|key, _| !key.as_slice().starts_with(base));
+        before - self.entries.len()
+    }
+}
