@@ -129,6 +129,8 @@ fn the_last_of_equal_paths_stays(rt: HostRuntime) -> Result<(), Fail> {
     assert!(rt; has_at(alloc, &tree, b"a/b", Some(3))? && has_at(alloc, &tree, b"c", Some(2))?);
     tree.extend(std::iter::empty())?;
     assert!(rt; tree.len() == 2);
+    let tree = PathTree::from_iter(alloc, files.iter().chain(files.iter()).copied())?;
+    assert!(rt; tree.len() == 2 && has_at(alloc, &tree, b"a/b", Some(3))?);
     Ok(())
 }
 

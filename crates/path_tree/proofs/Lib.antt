@@ -4,3 +4,4 @@ pub mod OwnLemmas
 pub mod NearestLemmas
 pub mod UnderLemmas
 pub mod ManyLemmas
+pub mod DifferenceLemmas

@@ -5,4 +5,5 @@ pub mod Tree
 pub mod Lent
 pub mod Nearest
 pub mod Many
+pub mod Difference
 pub mod Laws

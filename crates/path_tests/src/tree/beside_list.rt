@@ -1,6 +1,6 @@
 //! Random calls of a tree, beside a plain list of the same paths and values.
 use crate::random::Random;
-use path_keys::PathKey;
+use path_keys::{PathKey, path_of};
 use path_tree::PathTree;
 use std::alloc::{AllocError, Global};
 use std::test::Fail;
@@ -133,6 +133,42 @@ fn extends_alike(
     has_all(tree, plain)
 }
 
+// Whether the tree has what a tree of three random paths lacks, as the list says it: as many
+// entries, and each of them a file of the list at a path that isn't one of the three.
+fn lacks_alike(
+    alloc: Global,
+    random: &mut Random,
+    tree: &PathTree<u32>,
+    plain: &PlainList,
+) -> Result<bool, AllocError> {
+    let mut other = PlainList {
+        files: Vec::new(alloc),
+    };
+    let mut others = PathTree::new(alloc);
+    for value in 0..3u32 {
+        let path = path_from(alloc, random)?;
+        others.insert(path.as_path(), value)?;
+        other.insert(path, value)?;
+    }
+    let mut count = 0usize;
+    for (path, _) in &plain.files {
+        if other.place(path.as_path()).is_none() {
+            count = count.wrapping_add(1);
+        }
+    }
+    let found = tree.difference(&others)?;
+    for (key, value) in &found {
+        let Ok(path) = path_of(alloc, key) else {
+            return Ok(false);
+        };
+        let path = path.as_path();
+        if other.place(path).is_some() || plain.get(path) != Some(**value) {
+            return Ok(false);
+        }
+    }
+    Ok(found.len() == count)
+}
+
 // Makes one call of the tree and one of the list, and says whether they answer alike.
 fn answers_alike(
     alloc: Global,
@@ -144,7 +180,7 @@ fn answers_alike(
     let owned = path_from(alloc, random)?;
     let path = owned.as_path();
     let key = PathKey::of(alloc, path)?;
-    Ok(match random.next() % 14 {
+    Ok(match random.next() % 15 {
         0..3 => tree.insert(path, value)? == plain.insert(path.to_path_buf(alloc)?, value)?,
         3 => tree.remove(&key) == plain.remove(path),
         4 => tree.remove_path(path)? == plain.remove(path),
@@ -153,6 +189,7 @@ fn answers_alike(
         7 => tree.get_path(path)?.copied() == plain.get(path),
         8 => tree.under(&key)?.count() == plain.count_under(path),
         9 => extends_alike(alloc, random, tree, plain, (path, value))?,
+        11 => lacks_alike(alloc, random, tree, plain)?,
         10 => tree.remove_under(&key) == plain.remove_under(path) && has_all(tree, plain)?,
         _ => are_alike(tree.nearest(path)?, plain.nearest(path)),
     })

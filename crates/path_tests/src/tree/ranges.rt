@@ -116,3 +116,14 @@ fn values_in_path_order(rt: HostRuntime) -> Result<(), Fail> {
     assert!(rt; values.as_slice() == [4, 2, 1, 3].as_slice());
     Ok(())
 }
+
+#[test]
+fn what_another_tree_lacks(rt: HostRuntime) -> Result<(), Fail> {
+    let alloc = rt.alloc();
+    let tree = tree_of(alloc, &["a/b", "c", "a.b"])?;
+    let found = tree.difference(&tree_of(alloc, &["a//b", "b"])?)?;
+    let want: [(&[u8], &u32); 2] = [(b"a/b\x00", &3), (b"c\x00", &2)];
+    assert!(rt; found.as_slice() == want.as_slice());
+    assert!(rt; tree.difference(&tree)?.is_empty());
+    Ok(())
+}

@@ -1,6 +1,7 @@
 //! Many entries at once: inserted one after the other, and removed by a base.
-ghost use Rattle.std.specs.Prelude.{◌≡◌, OnOk, OnErr, length};
+ghost use Rattle.std.specs.Prelude.{◌≡◌, List, [], IfOk, OnOk, OnErr, length};
 ghost use Rattle.std.specs.Iterator.{IsFinite};
+ghost use Rattle.unix_path.specs.Parts.{Value};
 ghost use Rattle.path_keys.specs.Held.{key_bytes};
 ghost use Rattle.path_tree.specs.Many.{InsertsAll, InsertsBeginning};
 ghost use Rattle.path_tree.specs.Read.{key_values};
@@ -9,11 +10,35 @@ ghost use Rattle.path_tree.specs.Rows.{rows_outside, rows_under};
 use super::PathTree;
 use crate::made::bytes_of;
 use path_keys::PathKey;
-use std::alloc::AllocError;
+use std::alloc::{AllocError, Global};
 use unix_path::Path;
 
 impl<V> PathTree<V> {
     ghost use Rattle.path_tree.specs.Tree.{table_of};
+
+    /// A tree of these values, each inserted at its path, one after the other.
+    ///
+    /// The caller shows that `items` may be asked for a next item, and that it ends. Of equal paths
+    /// the last one's value stays. Allocates as `insert` does for each item; fails if an allocation
+    /// fails, and then all values are dropped. As `FromIterator` of Rust's `BTreeMap`.
+    ///
+    /// Of 1 at `a/b`, 2 at `c` and 3 at `a//b` it has 3 at `a/b`, and 2 at `c`.
+    pub fn from_iter<'a, I: Iterator<Item = (Path<'a>, V)>>(
+        alloc: Global,
+        items: I,
+    ) -> Result<PathTree<V>, AllocError>
+    where
+        V: Drop,
+        requires can { I.can_next items }
+        requires ends { IsFinite (I.remaining items) }
+        ensures ok { IfOk result (λ tree. InsertsAll I.next_gives items [] (table_of tree)) }
+        ensures err { OnErr result
+            ((rows : List (List Value × V)) × InsertsBeginning I.next_gives items [] rows) }
+    {
+        let mut tree = PathTree::new(alloc);
+        tree.extend(items)?;
+        Ok(tree)
+    }
 
     /// Inserts each of these values at its path, one after the other.
     ///

@@ -113,3 +113,23 @@ fn tree_extended(rt: HostRuntime) -> Result<(), Fail> {
         Err(AllocError) => report(false, has_first(&tree, &files[..tree.len().min(2)])),
     }
 }
+
+#[test]
+fn tree_of_many(rt: HostRuntime) -> Result<(), Fail> {
+    let files = [(path("b"), 1), (path("a/b"), 2), (path("c"), 3)];
+    match PathTree::from_iter(rt.alloc(), files.iter().copied()) {
+        Ok(tree) => report(true, has_first(&tree, &files)),
+        Err(AllocError) => report(false, true),
+    }
+}
+
+#[test]
+fn tree_paths_lacking(rt: HostRuntime) -> Result<(), Fail> {
+    let files = [(path("b"), 1), (path("a/b"), 2), (path("c"), 3)];
+    let tree = PathTree::from_iter(rt.alloc(), files.iter().copied())?;
+    let other = PathTree::from_iter(rt.alloc(), files[..1].iter().copied())?;
+    match tree.difference(&other) {
+        Ok(found) => report(true, found.len() == 2),
+        Err(AllocError) => report(false, has_first(&tree, &files)),
+    }
+}
