@@ -1,8 +1,8 @@
 //! A table of mounts: paths below mount points, mapped to files below the roots mounted there.
-ghost use Rattle.std.specs.Prelude.{IfOk, IfSome};
+ghost use Rattle.std.specs.Prelude.{◌≡◌, IfOk, IfSome, None};
 ghost use Rattle.unix_path.specs.Buffers.{path_bytes};
 ghost use Rattle.path_tree.specs.Tree.{table_of};
-ghost use Rattle.callers.specs.Mounts.{IsMounted};
+ghost use Rattle.callers.specs.Mounts.{IsMounted, IsUnmounted};
 
 use path_tree::PathTree;
 use path_within::{Request, Root};
@@ -24,6 +24,8 @@ pub fn mounted_file(
 ) -> Result<Option<PathBuf>, AllocError>
     ensures file { IfOk result (λ found. IfSome found (λ file.
         IsMounted path.entry.bytes.now (table_of mounts.now) (path_bytes file))) }
+    ensures none { IfOk result (λ found. found ≡ None
+        → IsUnmounted path.entry.bytes.now (table_of mounts.now)) }
 {
     let Some((left, root)) = mounts.nearest(path)? else {
         return Ok(None);
