@@ -6,7 +6,8 @@
 //!
 //! Each call there is the call of that name here. What has no such call, or another meaning:
 //! - `canonical` collects the components; an edit list is a loop; a table is a `BTreeMap`, and what
-//!   is below a folder a range of it. A look-up borrows its path, which a `PathTable` can't.
+//!   is below a folder a range of it; so is a tree. A look-up borrows its path, which a `PathTable`
+//!   can't, and a `PathTree` can. The entry nearest to a path is looked for among its ancestors.
 //! - `within.rs` has what `std::path` lacks for paths from outside, `common_dir` stands in
 //!   `rules.rs`, and `server.rs` checks a request once by these.
 //! - JSON, for which Rust's library has nothing, is the string that such a value holds.
@@ -16,6 +17,7 @@
 //! - A `/` in an extension is refused there, and panics here: no job has one. No call here tells
 //!   that memory is short.
 mod digest;
+mod keyed;
 mod lines;
 mod long;
 mod manifest;
@@ -34,7 +36,7 @@ use std::process::ExitCode;
 /// A job: its name, and what runs it with a seed and a count, and gives the digest.
 type Job = (&'static str, fn(u64, u64) -> u64);
 
-static JOBS: [Job; 7] = [
+static JOBS: [Job; 8] = [
     ("manifest", manifest::run),
     ("table", table::run),
     ("requests", requests::run),
@@ -42,6 +44,7 @@ static JOBS: [Job; 7] = [
     ("long", long::run),
     ("server", server::run),
     ("pairs", pairs::run),
+    ("tree", keyed::run),
 ];
 
 /// Runs the jobs of this name, or all, and prints their digests. Gives whether there are any.

@@ -8,17 +8,17 @@ use std::ops::Bound::{Included, Unbounded};
 use std::path::{Path, PathBuf};
 
 /// A table of paths, each with the number of its file.
-type Table = BTreeMap<PathBuf, u64>;
+pub type Table = BTreeMap<PathBuf, u64>;
 
 /// The path of a file, made in a buffer that keeps its memory.
-fn path_in<'a>(buffer: &'a mut Vec<u8>, tree: Tree, number: u64, noise: u64) -> &'a Path {
+pub fn path_in<'a>(buffer: &'a mut Vec<u8>, tree: Tree, number: u64, noise: u64) -> &'a Path {
     buffer.clear();
     tree.push(buffer, number, noise);
     path_of(buffer)
 }
 
 /// A table of `count` files, inserted in an order that looks random.
-fn filled(tree: Tree, seed: u64, count: u64) -> Table {
+pub fn filled(tree: Tree, seed: u64, count: u64) -> Table {
     let mut buffer = Vec::new();
     let mut table = Table::new();
     for place in 0..count {
@@ -30,7 +30,7 @@ fn filled(tree: Tree, seed: u64, count: u64) -> Table {
 
 /// Looks up each file by another spelling of its path. One look-up in three is of a path in the
 /// same folder at which no file stands.
-fn look_up(tree: Tree, table: &Table, seed: u64, count: u64) -> u64 {
+pub fn look_up(tree: Tree, table: &Table, seed: u64, count: u64) -> u64 {
     let mut buffer = Vec::new();
     let mut random = Random::new(seed);
     let mut sum = 0_u64;
@@ -46,7 +46,7 @@ fn look_up(tree: Tree, table: &Table, seed: u64, count: u64) -> u64 {
 }
 
 /// Removes every eighth file that was put in.
-fn remove(tree: Tree, table: &mut Table, seed: u64, count: u64) -> u64 {
+pub fn remove(tree: Tree, table: &mut Table, seed: u64, count: u64) -> u64 {
     let mut buffer = Vec::new();
     let mut sum = 0_u64;
     for place in 0..count / 8 {

@@ -1,11 +1,12 @@
 //! The jobs that users of paths wait for, on made-up inputs, for timing.
 //!
 //! `path_jobs JOB SEED COUNT` runs one of the jobs `manifest`, `table`, `requests`, `rules`,
-//! `long`, `server` and `pairs` on so many inputs, which the seed makes, and prints a digest of all
-//! its answers. `path_jobs all SEED COUNT` runs each. The same words print the same.
+//! `long`, `server`, `pairs` and `tree` on so many inputs, which the seed makes, and prints a digest
+//! of all its answers. `path_jobs all SEED COUNT` runs each. The same words print the same.
 #![tactic(auto)]
 
 mod digest;
+mod keyed;
 mod lines;
 mod long;
 mod manifest;
@@ -34,6 +35,7 @@ fn digest_of(alloc: Global, job: &str, seed: u64, count: u64) -> Result<Option<u
         "long" => long::run(alloc, seed, count)?,
         "server" => server::run(alloc, seed, count)?,
         "pairs" => pairs::run(alloc, seed, count)?,
+        "tree" => keyed::run(alloc, seed, count)?,
         _ => return Ok(None),
     };
     Ok(Some(digest))
@@ -58,6 +60,7 @@ fn run_all(rt: &HostRuntime, seed: u64, count: u64) -> io::Result<bool> {
     // Those of bench/later.txt.
     let _is_job = run(rt, "server", seed, count)?;
     let _is_job = run(rt, "pairs", seed, count)?;
+    let _is_job = run(rt, "tree", seed, count)?;
     Ok(true)
 }
 

@@ -16,6 +16,7 @@ mod rows;
 mod sizes;
 mod std_calls;
 mod std_tables;
+mod std_trees;
 mod std_within;
 mod tables;
 mod targets;

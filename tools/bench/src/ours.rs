@@ -42,4 +42,47 @@ extern "C" {
         count: usize,
         rounds: u64,
     ) -> u64;
+    pub fn ours_tree_insert(lines: Start, len: usize) -> u64;
+    pub fn ours_tree_get(
+        lines: Start,
+        len: usize,
+        asked: Start,
+        count: usize,
+        rounds: u64,
+    ) -> u64;
+    pub fn ours_tree_get_key(
+        lines: Start,
+        len: usize,
+        asked: Start,
+        count: usize,
+        rounds: u64,
+    ) -> u64;
+    pub fn ours_tree_under(
+        lines: Start,
+        len: usize,
+        bases: Start,
+        count: usize,
+        rounds: u64,
+    ) -> u64;
+    pub fn ours_tree_nearest(
+        lines: Start,
+        len: usize,
+        asked: Start,
+        count: usize,
+        rounds: u64,
+    ) -> u64;
+    pub fn ours_sort_keys(
+        lines: Start,
+        len: usize,
+        asked: Start,
+        count: usize,
+        rounds: u64,
+    ) -> u64;
+    pub fn ours_sort_paths(
+        lines: Start,
+        len: usize,
+        asked: Start,
+        count: usize,
+        rounds: u64,
+    ) -> u64;
 }

@@ -6,7 +6,7 @@ use std::ops::Bound::{Included, Unbounded};
 use std::path::{Path, PathBuf};
 
 /// The paths that these lines are.
-unsafe fn paths_of(lines: Start, len: usize) -> Vec<PathBuf> {
+pub unsafe fn paths_of(lines: Start, len: usize) -> Vec<PathBuf> {
     let lines = bytes_of(lines, len).split(|byte| *byte == b'\n');
     lines
         .map(|line| path_of(line.as_ptr(), line.len()).to_path_buf())
@@ -14,7 +14,7 @@ unsafe fn paths_of(lines: Start, len: usize) -> Vec<PathBuf> {
 }
 
 /// A table of these paths, with the number of the line at each.
-unsafe fn table_of(lines: Start, len: usize) -> BTreeMap<PathBuf, u64> {
+pub unsafe fn table_of(lines: Start, len: usize) -> BTreeMap<PathBuf, u64> {
     let mut table = BTreeMap::new();
     let lines = bytes_of(lines, len).split(|byte| *byte == b'\n');
     for (number, line) in lines.enumerate() {

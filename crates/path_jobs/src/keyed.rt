@@ -1,0 +1,141 @@
+//! A tree of files by their keys is filled, looked up and listed below its folders.
+use crate::digest::Digest;
+use crate::random::Random;
+use crate::tree::{Tree, noise_of, shuffled};
+use path_keys::PathKey;
+use path_tree::PathTree;
+use std::alloc::{AllocError, Global};
+use unix_path::Path;
+use unix_path::bytes::UnixStr;
+
+// The path of a file, made in a buffer that keeps its memory.
+fn path_in<'a>(
+    buffer: &'a mut Vec<u8>,
+    tree: Tree<'_>,
+    number: u64,
+    noise: u64,
+) -> Result<Path<'a>, AllocError> {
+    buffer.clear();
+    tree.push(buffer, number, noise)?;
+    Ok(Path::new(UnixStr::from_bytes(buffer)))
+}
+
+// A tree of `count` files, inserted in an order that looks random.
+fn filled(
+    alloc: Global,
+    tree: Tree<'_>,
+    seed: u64,
+    count: u64,
+) -> Result<PathTree<u64>, AllocError> {
+    let mut buffer = Vec::new(alloc);
+    let mut files = PathTree::new(alloc);
+    for place in 0..count {
+        let number = shuffled(place, seed);
+        files.insert(path_in(&mut buffer, tree, number, 0)?, number)?;
+    }
+    Ok(files)
+}
+
+// Looks up each file by another spelling of its path. One look-up in three is of a path in the same
+// folder at which no file stands.
+fn look_up(
+    alloc: Global,
+    tree: Tree<'_>,
+    files: &PathTree<u64>,
+    seed: u64,
+    count: u64,
+) -> Result<u64, AllocError> {
+    let mut buffer = Vec::new(alloc);
+    let mut random = Random::new(seed);
+    let mut sum = 0_u64;
+    for place in 0..count {
+        let word = random.next();
+        let number = shuffled(place, seed) | u64::from(word % 3 == 0);
+        let path = path_in(&mut buffer, tree, number, noise_of(word >> 8))?;
+        if let Some(value) = files.get_path(path)? {
+            sum = sum.wrapping_add(*value);
+        }
+    }
+    Ok(sum)
+}
+
+// Removes every eighth file that was put in.
+fn remove(
+    alloc: Global,
+    tree: Tree<'_>,
+    files: &mut PathTree<u64>,
+    seed: u64,
+    count: u64,
+) -> Result<u64, AllocError> {
+    let mut buffer = Vec::new(alloc);
+    let mut sum = 0_u64;
+    for place in 0..count / 8 {
+        let path = path_in(&mut buffer, tree, shuffled(place << 3, seed), 0)?;
+        if let Some(value) = files.remove_path(path)? {
+            sum = sum.wrapping_add(value);
+        }
+    }
+    Ok(sum)
+}
+
+// Lists what is below some folders: all large ones, and one in eight of those with 16 files.
+fn list_below(
+    alloc: Global,
+    tree: Tree<'_>,
+    files: &PathTree<u64>,
+    count: u64,
+    digest: &mut Digest,
+) -> Result<(), AllocError> {
+    let mut buffer = Vec::new(alloc);
+    let mut folder = PathKey::new(alloc);
+    for place in 0..count / 32 {
+        let number = place.wrapping_mul(128) & 0xF_FFFF;
+        if tree.is_in_large(number) && number & 8191 != 0 {
+            continue;
+        }
+        let file = path_in(&mut buffer, tree, number, 0)?;
+        folder.set(file.parent().unwrap_or(file))?;
+        for (_, value) in files.under(&folder)? {
+            digest.add(*value);
+        }
+    }
+    Ok(())
+}
+
+// Finds the nearest entry above a path below each file: the file, if it wasn't removed.
+fn find_nearest(
+    alloc: Global,
+    tree: Tree<'_>,
+    files: &PathTree<u64>,
+    seed: u64,
+    count: u64,
+) -> Result<u64, AllocError> {
+    let mut buffer = Vec::new(alloc);
+    let mut sum = 0_u64;
+    for place in 0..count {
+        buffer.clear();
+        tree.push(&mut buffer, shuffled(place, seed), 0)?;
+        buffer.extend_from_slice(b"/src/lib.rs")?;
+        let path = Path::new(UnixStr::from_bytes(&buffer));
+        if let Some((rest, value)) = files.nearest(path)? {
+            sum = sum.wrapping_add(*value ^ rest.as_unix_str().len() as u64);
+        }
+    }
+    Ok(sum)
+}
+
+// Fills a tree with `count` files, looks up each, lists some folders, removes some files, and finds
+// the nearest file above a path below each.
+pub(crate) fn run(alloc: Global, seed: u64, count: u64) -> Result<u64, AllocError> {
+    let mut digest = Digest::new();
+    let tree = Tree::new("/srv/volumes/store", seed);
+    let mut files = filled(alloc, tree, seed, count)?;
+    digest.add(look_up(alloc, tree, &files, seed, count)?);
+    list_below(alloc, tree, &files, count, &mut digest)?;
+    digest.add(remove(alloc, tree, &mut files, seed, count)?);
+    digest.add(find_nearest(alloc, tree, &files, seed, count)?);
+    for (_, value) in files.iter() {
+        digest.add(*value);
+    }
+    Ok(digest.get())
+}
