@@ -8,6 +8,7 @@ mod calls;
 mod clock;
 mod corpora;
 mod digest;
+mod face_maps;
 mod face_rows;
 mod options;
 mod ours;
@@ -62,7 +63,7 @@ fn print_line(name: &str, row: &Row, side: Side, corpora: &[Corpus], options: &O
     is_same
 }
 
-/// Prints the table, and answers whether all answers were the same.
+/// Prints the table, and that of maps, and answers whether all answers were the same.
 fn print(options: &Options) -> bool {
     let mut corpora = corpora();
     corpora.retain(|corpus| options.has_corpus(corpus.name));
@@ -86,7 +87,7 @@ fn print(options: &Options) -> bool {
             }
         }
     }
-    is_same
+    is_same & face_maps::print(&corpora, options)
 }
 
 fn main() -> ExitCode {

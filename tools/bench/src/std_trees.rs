@@ -1,7 +1,7 @@
 //! Rust's side of the trees and of the sorts: a `BTreeMap` and a `HashMap` from paths, and a list of
 //! paths, asked as `trees.rt.in` asks ours.
 use crate::calls::Start;
-use crate::std_calls::{add, bytes_of, path_of, NONE};
+use crate::std_calls::{add, NONE};
 use crate::std_tables::{paths_of, table_of};
 use std::collections::HashMap;
 use std::ops::Bound::{Included, Unbounded};

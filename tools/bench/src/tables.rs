@@ -130,7 +130,10 @@ fn lines() -> [Lines; 2] {
     let in_order = lines_of(&paths);
     random.shuffle(&mut paths);
     let shuffled = lines_of(&paths);
-    let rules: Vec<Vec<u8>> = paths[..RULES].iter().map(|path| folder(path).to_vec()).collect();
+    let rules: Vec<Vec<u8>> = paths[..RULES]
+        .iter()
+        .map(|path| folder(path).to_vec())
+        .collect();
     let mut many = realistic(SORTED);
     let sorted = lines_of(&many);
     random.shuffle(&mut many);

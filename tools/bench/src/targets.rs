@@ -28,6 +28,9 @@ const TARGETS: &[(&str, &str, f64)] = &[
     ("display", "broken", 0.5),
     ("table under", "", 0.8),
     ("table memory", "", 1.1),
+    ("tree get beside hash", "", 3.0),
+    ("tree under", "", 0.8),
+    ("tree memory", "", 1.1),
 ];
 
 /// The greatest ratio that is wanted of a row on a corpus: 1 if no line of the table says another.
