@@ -1,6 +1,6 @@
 //! The first and the last place of a byte, and how far two byte strings are the same.
 ghost use Rattle.std.specs.Prelude.{◌≡◌, ℕ, ◌+◌, ◌-◌, ◌<◌, ◌≤◌, ◌==◌, false, length, take, drop};
-ghost use Rattle.std.specs.Prelude.{slice_index, nat_eq, min, IsTrue};
+ghost use Rattle.std.specs.Prelude.{slice_index, nat_eq, min, IsTrue, ◌||◌, true};
 ghost use Rattle.std.specs.List.{position_or_len, common_prefix_len};
 ghost use Rattle.unix_bytes.specs.Lanes.{hit_mask};
 
@@ -122,6 +122,70 @@ pub fn past_last(bytes: &[u8], byte: u8) -> usize
         end -= 16;
     }
     past_last_in_few(bytes, end, byte)
+}
+
+// The place just after the last of two bytes among the first `len`, or 0 if neither stands there.
+#[inline]
+fn past_last_of_two_in_few(bytes: &[u8], len: usize, first: u8, second: u8) -> usize
+    requires { len ≤ length bytes.now }
+    ensures in_range { result ≤ len }
+    ensures after { 0 < result → (slice_index bytes.now (result - 1) == first
+        || slice_index bytes.now (result - 1) == second) ≡ true }
+    ensures none_behind { (k : ℕ) → result ≤ k → k < len →
+        (slice_index bytes.now k == first || slice_index bytes.now k == second) ≡ false }
+{
+    let mut past = len;
+    while past > 0 {
+        if bytes[past - 1] == first || bytes[past - 1] == second {
+            return past;
+        }
+        past -= 1;
+    }
+    past
+}
+
+// The place just after the last of two bytes among the 16 from `at` on, counted from `at`, or 0 if
+// neither stands there.
+#[inline]
+fn past_last_of_two_in_lanes(bytes: &[u8], at: usize, first: u8, second: u8) -> usize
+    requires { at + 16 ≤ length bytes.now }
+    ensures in_range { result ≤ 16 }
+    ensures after { 0 < result → (slice_index bytes.now (at + result - 1) == first
+        || slice_index bytes.now (at + result - 1) == second) ≡ true }
+    ensures none_behind { (k : ℕ) → at + result ≤ k → k < at + 16 →
+        (slice_index bytes.now k == first || slice_index bytes.now k == second) ≡ false }
+{
+    let past_first = past_last_in_lanes(bytes, at, first);
+    let past_second = past_last_in_lanes(bytes, at, second);
+    if past_first < past_second {
+        past_second
+    } else {
+        past_first
+    }
+}
+
+/// The place just after the last byte that is one of two, or 0 if there is none. Does not allocate.
+/// Not in Rust's std; as one more than `memrchr2` of the crate `memchr`.
+///
+/// `past_last_of_two(b"a:b;c", b':', b';')` is 4.
+#[must_use]
+#[inline]
+pub fn past_last_of_two(bytes: &[u8], first: u8, second: u8) -> usize
+    ensures in_range { result ≤ length bytes.now }
+    ensures after { 0 < result → (slice_index bytes.now (result - 1) == first
+        || slice_index bytes.now (result - 1) == second) ≡ true }
+    ensures none_behind { (k : ℕ) → result ≤ k → k < length bytes.now →
+        (slice_index bytes.now k == first || slice_index bytes.now k == second) ≡ false }
+{
+    let mut end = bytes.len();
+    while end >= 16 {
+        let past = past_last_of_two_in_lanes(bytes, end - 16, first, second);
+        if past > 0 {
+            return end - 16 + past;
+        }
+        end -= 16;
+    }
+    past_last_of_two_in_few(bytes, end, first, second)
 }
 
 // How many bytes both begin with, compared byte by byte; the lesser length is `most`.

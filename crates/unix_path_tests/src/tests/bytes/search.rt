@@ -1,6 +1,6 @@
 //! Rows of places of bytes, and of how long a common beginning is.
 use std::process::Abort;
-use unix_bytes::search::{common_len, first_place, near_common_len, past_last};
+use unix_bytes::search::{common_len, first_place, near_common_len, past_last, past_last_of_two};
 
 // Asserts where `:` stands first, and which place is just after the last one.
 fn assert_places(rt: &impl Abort, bytes: &[u8], first: usize, past: usize) {
@@ -25,6 +25,29 @@ fn long_bytes(rt: HostRuntime) {
     assert_places(&rt, b"123456789abcdef0123456789abcdef0", 32, 0);
     assert_places(&rt, b"12:456789abcdef0123456789abcd:f01", 2, 30);
     assert_places(&rt, b"123456789abcdef0:23456789abcdef01", 16, 17);
+}
+
+// The place just after the last `:` or `;`. Of the last three, the one byte stands in a block of 16,
+// and the other in front of it or behind it.
+static LAST_OF_TWO: [(&[u8], usize); 10] = [
+    (b"", 0),
+    (b"abc", 0),
+    (b":", 1),
+    (b";a", 1),
+    (b"a:b;c", 4),
+    (b"a;b:c", 4),
+    (b"123456789abcdef0123456789abcdef0", 0),
+    (b"12:456789abcdef0123456;89abcdef0", 23),
+    (b"1;3456789abcdef0123456:89abcdef01", 23),
+    (b";:3456789abcdef0123456789abcdef01", 2),
+];
+
+#[test]
+fn last_of_two_bytes(rt: HostRuntime) {
+    for &(bytes, past) in &LAST_OF_TWO {
+        assert!(rt; past_last_of_two(bytes, b':', b';') == past);
+        assert!(rt; past_last_of_two(bytes, b';', b':') == past);
+    }
 }
 
 // Two byte strings, and the length of their common prefix. In the second row the byte that differs
