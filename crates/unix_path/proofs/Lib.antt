@@ -36,6 +36,8 @@ pub mod SuffixLemmas
 pub mod GapLemmas
 pub mod EditLemmas
 pub mod NameEndLemmas
+pub mod NamedLemmas
+pub mod StemCutLemmas
 pub mod CommonPrefixLemmas
 pub mod CommonDirLemmas
 pub mod BehindLemmas

@@ -3,14 +3,16 @@
 //! For code that goes through the bytes of a path itself. `Path` and `Components` have what other
 //! callers need.
 ghost use Rattle.std.specs.Prelude.{◌≡◌, ℕ, ◌+◌, ◌<◌, ◌≤◌, true, false, length, drop};
-ghost use Rattle.std.specs.Prelude.{None, IfSome};
-ghost use Rattle.unix_path.specs.Edits.{dot_before};
+ghost use Rattle.std.specs.Prelude.{None, Some, IfSome, IsTrue, ◌↔◌, take};
+ghost use Rattle.unix_path.specs.Edits.{dot_before, stem_end_of};
+ghost use Rattle.unix_path.specs.Extensions.{name_end_of};
 ghost use Rattle.unix_path.specs.Joins.{is_open};
 ghost use Rattle.unix_path.specs.Parts.{inner_parts};
 ghost use Rattle.unix_path.specs.Scan.{begins_with_parent, ends_with_parent, gap_bytes, is_idle};
 ghost use Rattle.unix_path.specs.Scan.{is_break, is_trailing};
 
 use std::simd::prelude::*;
+use unix_bytes::search::past_last_of_two;
 
 /// Whether the byte at `at` is a slash, or a `.` that a slash or the end follows.
 ///
@@ -250,6 +252,55 @@ pub fn ends_with_parent(bytes: &[u8]) -> bool
         && len > 1
         && bytes[len - 2] == b'.'
         && (len == 2 || bytes[len - 3] == b'/')
+}
+
+/// Whether the bytes end in a name: the last piece is not empty, and neither `.` nor `..`.
+///
+/// Looks at the last three bytes. Does not allocate. Not in Rust's std.
+///
+/// It is true for `a/.b`, and false for `a/`, `a/.` and `a/..`.
+#[inline]
+pub fn ends_in_name(bytes: &[u8]) -> bool
+    ensures { IsTrue result ↔ (name_end_of bytes.now ≡ Some (length bytes.now)) }
+{
+    if bytes.is_empty() {
+        return false;
+    }
+    let len = bytes.len();
+    if bytes[len - 1] != b'.' {
+        return bytes[len - 1] != b'/';
+    }
+    if len == 1 || bytes[len - 2] == b'/' {
+        return false;
+    }
+    !ends_with_parent(bytes)
+}
+
+/// The place where the stem ends of the name that the bytes end in. The first `known` bytes have to
+/// end in a stem themselves, unless there are none.
+///
+/// Looks back to the last dot or slash, and not at the bytes before `known`, but for the last of
+/// them. Does not allocate. Not in Rust's std.
+///
+/// For `a/b.rs` and 0 it is 3, and for `a/bcd` and 4 it is 5.
+#[inline]
+pub fn stem_end(bytes: &[u8], known: usize) -> usize
+    requires name { name_end_of bytes.now ≡ Some (length bytes.now) }
+    requires in_range { known ≤ length bytes.now }
+    requires stem { 0 < known → stem_end_of (take known bytes.now) ≡ Some known }
+    ensures value { stem_end_of bytes.now ≡ Some result }
+    ensures forward { known ≤ result }
+    ensures in_range { result ≤ length bytes.now }
+{
+    let past = past_last_of_two(&bytes[known..], b'.', b'/');
+    if past == 0 {
+        return bytes.len();
+    }
+    let place = known + past - 1;
+    if place == 0 || bytes[place] == b'/' || bytes[place - 1] == b'/' {
+        return bytes.len();
+    }
+    place
 }
 
 /// Whether a path without a root can be put behind these bytes as it stands: whether there is no

@@ -5,9 +5,10 @@ ghost use Rattle.unix_path.specs.Names.{file_name_of, stem_of, extension_of, fil
 ghost use Rattle.unix_path.specs.Edits.{before_name_of, stem_end_of};
 ghost use Rattle.unix_path.specs.Extensions.{name_end_of};
 
-use crate::cursor::{Component, Components};
+use crate::cursor::{Component, Components, trimmed_len};
 use crate::names::{name_prefix, split_name};
 use crate::path::Path;
+use crate::scan::{ends_in_name, stem_end};
 use unix_bytes::bytes::UnixStr;
 
 impl<'a> Path<'a> {
@@ -110,29 +111,23 @@ impl<'a> Path<'a> {
         ensures value { result ≡ stem_end_of self.now.bytes.now }
         ensures in_range { IfSome result (λ end. end ≤ length self.now.bytes.now) }
     {
-        let Some(last) = Components::last_part(self.bytes) else {
+        let Some(end) = self.name_end() else {
             return None;
         };
-        match last.part {
-            Component::Normal(name) => {
-                Some(last.end - name.bytes.len() + split_name(name.bytes).0.len())
-            }
-            _ => None,
-        }
+        Some(stem_end(&self.bytes[..end], 0))
     }
 
-    // The place just after the file name, or `None` if there is none.
+    // The place just after the file name, or `None` if there is none. Only the last part's end is
+    // read, and what stands behind it.
     #[inline]
     pub(crate) fn name_end(&self) -> Option<usize>
         ensures value { result ≡ name_end_of self.now.bytes.now }
         ensures in_range { IfSome result (λ end. end ≤ length self.now.bytes.now) }
     {
-        let Some(last) = Components::last_part(self.bytes) else {
+        let end = trimmed_len(self.bytes, self.bytes.len());
+        if !ends_in_name(&self.bytes[..end]) {
             return None;
-        };
-        match last.part {
-            Component::Normal(_) => Some(last.end),
-            _ => None,
         }
+        Some(end)
     }
 }

@@ -1,7 +1,7 @@
 //! Rows of what single bytes of a path are.
 use unix_path::scan::{
-    any_break, begins_with_parent, dot_before, ends_with_parent, first_break, idle_len, is_idle,
-    is_open, is_trailing,
+    any_break, begins_with_parent, dot_before, ends_in_name, ends_with_parent, first_break, idle_len,
+    is_idle, is_open, is_trailing, stem_end,
 };
 
 // Bytes, `x` for each that is filler or a lead from in front, the same from behind, and how many
@@ -121,4 +121,73 @@ fn pieces_are_parents(rt: HostRuntime) {
     assert!(rt; is_open(b""));
     assert!(rt; dot_before(b"") == None);
     assert!(rt; dot_before(b"rs") == Some(b'.'));
+}
+
+// Bytes, and whether they end in a name.
+static NAMES: [(&[u8], bool); 18] = [
+    (b"", false),
+    (b"/", false),
+    (b".", false),
+    (b"..", false),
+    (b"...", true),
+    (b"a", true),
+    (b"a/", false),
+    (b"a/.", false),
+    (b"/.", false),
+    (b"a/..", false),
+    (b"/..", false),
+    (b"a/...", true),
+    (b"a/b", true),
+    (b"a.", true),
+    (b"a..", true),
+    (b"/.a", true),
+    (b"..a", true),
+    (b"a/b..", true),
+];
+
+#[test]
+fn names_at_the_end(rt: HostRuntime) {
+    for &(bytes, is_named) in &NAMES {
+        assert!(rt; ends_in_name(bytes) == is_named);
+    }
+}
+
+// Bytes that end in a name, how many of them are known to end in a stem, and where the stem ends.
+static STEMS: [(&[u8], usize, usize); 18] = [
+    (b"a", 0, 1),
+    (b"a.b", 0, 1),
+    (b"a.b", 1, 1),
+    (b".a", 0, 2),
+    (b".a", 2, 2),
+    (b".a.b", 2, 2),
+    (b"..a", 0, 1),
+    (b"...", 0, 2),
+    (b"a.", 0, 1),
+    (b"a.b.c", 0, 3),
+    (b"a.b/c", 0, 5),
+    (b"a.b/.c", 0, 6),
+    (b"a/b.c", 1, 3),
+    (b"a/bcd", 4, 5),
+    (b"a/b.c/d", 1, 7),
+    (b"a/.b", 1, 4),
+    (b"a/0123456789abcdef0123456789.ab", 1, 28),
+    (b"a.b/0123456789abcdef0123456789ab", 0, 32),
+];
+
+fn has_stem(bytes: &[u8], known: usize, end: usize) -> bool {
+    if !ends_in_name(bytes) || bytes.len() < known {
+        return false;
+    }
+    if known == 0 {
+        return stem_end(bytes, 0) == end;
+    }
+    let front = &bytes[..known];
+    ends_in_name(front) && stem_end(front, 0) == known && stem_end(bytes, known) == end
+}
+
+#[test]
+fn stems_at_the_end(rt: HostRuntime) {
+    for &(bytes, known, end) in &STEMS {
+        assert!(rt; has_stem(bytes, known, end));
+    }
 }

@@ -1,27 +1,23 @@
-use Rattle.std.proofs.Common.{take, refl}
-use Rattle.unix_path.proofs.ComponentLemmas.{file_name_of-normal, file_name_of-other}
-use Rattle.unix_path.proofs.NameEndLemmas.{name_end_of-none, name_end_of-some, name_end-le}
-use Rattle.unix_path.proofs.ParentLemmas.{file_name_of-none}
+use Rattle.std.proofs.Common.{length, sym, ap, ◌∙◌, arith, take_all}
+use Rattle.std.proofs.lemmas.Bool.{true≢false}
+use Rattle.unix_path.specs.Parts.{parts}
+use Rattle.unix_path.proofs.NamedLemmas.{name_end_of-ended, name_end_of-unnamed}
+use Rattle.unix_path.proofs.TrimLemmas.{EndsInPart-take}
 use Rattle.unix_path.proofs.path.Path.name_end.Goals as goal
 
-pub returns-in_default-clause-value : goal.returns-in_default-clause-value
-returns-in_default-clause-value c =
+pub returns-then-not-ends_in_name-clause-value : goal.returns-then-not-ends_in_name-clause-value
+returns-then-not-ends_in_name-clause-value c =
     let s = c.args.self.now.bytes.now in
-    name_end_of-none s (file_name_of-none s (c.in_default.ensures.none refl))
+    let end = c.trimmed_len-end in
+    name_end_of-unnamed s end.result
+    (end.ensures.same ∙ ap parts (take_all (length s) s (omega arith)))
+    (EndsInPart-take s end.result end.ensures.in_range end.ensures.ends)
+    (λ is. true≢false (sym (c.ends_in_name.ensures.1 is) ∙ c.if-not-ends_in_name.true))
 
-pub returns-in_default-part-clause-value : goal.returns-in_default-part-clause-value
-returns-in_default-part-clause-value c =
+pub returns-clause-value : goal.returns-clause-value
+returns-clause-value c =
     let s = c.args.self.now.bytes.now in
-    name_end_of-none s (file_name_of-other s (take c.in-Some.last.before s)
-    c.in-Some.last.part c.in-Some.ensures.some.value c.in_default-part.not-Normal)
-
-pub returns-in-Normal-clause-value : goal.returns-in-Normal-clause-value
-returns-in-Normal-clause-value c =
-    let s = c.args.self.now.bytes.now in
-    let last = c.in-Some.ensures.some in
-    name_end_of-some s _ c.in-Some.last.end
-    (file_name_of-normal s (take c.in-Some.last.before s) last.value c.in-Normal.is) last.end_is
-
-pub returns-in-Normal-clause-in_range : goal.returns-in-Normal-clause-in_range
-returns-in-Normal-clause-in_range c =
-    name_end-le c.args.self.now.bytes.now c.in-Some.last.end c.in-Some.ensures.some.end_is
+    let end = c.trimmed_len-end in
+    name_end_of-ended s end.result end.ensures.in_range
+    (end.ensures.same ∙ ap parts (take_all (length s) s (omega arith)))
+    (c.ends_in_name.ensures.0 c.if-not-ends_in_name.false)

@@ -1,0 +1,60 @@
+use Rattle.std.proofs.Common.{◌≡◌, ℕ, ◌+◌, ◌-◌, ◌≤◌, ◌<◌, List, drop, take, length, ap, arith, eq-eqb}
+use Rattle.std.proofs.Common.{length-drop, ne_eqb}
+use Rattle.std.proofs.lemmas.List.{take_rest}
+use Rattle.unix_path.proofs.NamedLemmas.{ends_in_name}
+use Rattle.unix_path.proofs.StemCutLemmas.{dot_at, plain_from, stem_end-cut, stem_end-known}
+use Rattle.unix_path.proofs.StemCutLemmas.{stem_end-lead, stem_end-slash}
+use Rattle.unix_path.proofs.scan.stem_end.Goals.{then-place-eq0-via-then-place-eq0}
+use Rattle.unix_path.proofs.scan.stem_end.Goals.{then-place-eq0-via-else-place-eq0+then-bytes-place-eq47}
+use Rattle.unix_path.proofs.scan.stem_end.Goals.{then-place-eq0-via-else-place-eq0+else-bytes-place-eq47+then-bytes-place-eq47-2}
+use Rattle.unix_path.proofs.scan.stem_end.Goals as goal
+
+pub returns-then-past-eq0-clause-value : goal.returns-then-past-eq0-clause-value
+returns-then-past-eq0-clause-value c =
+    let s = c.args.bytes.now in
+    let past = c.past_last_of_two-past in
+    stem_end-known s c.args.known (ends_in_name s c.requires.name) c.requires.in_range
+    c.requires.stem
+    (plain_from s _ c.args.known past.result c.args.known c.requires.in_range
+    (take_rest s c.args.known) past.ensures.none_behind (omega (arith, c.if-past-eq0.true)))
+
+-- the place is in the string
+fits : (s : List ℕ) (known past : ℕ) → known ≤ length s
+    → past ≤ length (take (length s - known) (drop known s)) → (past ≡ 0 → ⊥)
+    → known + past - 1 < length s
+fits s known past l h some =
+    omega (arith, ap length (take_rest s known), length-drop known s)
+
+pub returns-then-place-eq0-clause-value : goal.returns-then-place-eq0-clause-value
+returns-then-place-eq0-clause-value c =
+    let s = c.args.bytes.now in
+    let known = c.args.known in
+    let past = c.past_last_of_two-past in
+    let place = known + past.result - 1 in
+    let some = c.if-past-eq0.false in
+    let h = ends_in_name s c.requires.name in
+    let plain = plain_from s _ known past.result (place + 1) c.requires.in_range
+    (take_rest s known) past.ensures.none_behind (omega arith) in
+    elim c.then-place-eq0.branch [
+      | then-place-eq0-via-then-place-eq0 w ↦
+          stem_end-lead s place h (fits s known past.result c.requires.in_range past.ensures.in_range some) plain (λ some. absurd (omega (arith, w.if-place-eq0.true)))
+      | then-place-eq0-via-else-place-eq0+then-bytes-place-eq47 w ↦
+          stem_end-slash s place h (fits s known past.result c.requires.in_range past.ensures.in_range some) plain w.if-bytes-place-eq47.true
+      | then-place-eq0-via-else-place-eq0+else-bytes-place-eq47+then-bytes-place-eq47-2 w ↦
+          stem_end-lead s place h (fits s known past.result c.requires.in_range past.ensures.in_range some) plain (λ _. eq-eqb _ 47 w.if-bytes-place-eq47-2.true)
+    ]
+
+pub returns-clause-value : goal.returns-clause-value
+returns-clause-value c =
+    let s = c.args.bytes.now in
+    let known = c.args.known in
+    let past = c.past_last_of_two-past in
+    let place = known + past.result - 1 in
+    let some = c.if-past-eq0.false in
+    let h = ends_in_name s c.requires.name in
+    let plain = plain_from s _ known past.result (place + 1) c.requires.in_range
+    (take_rest s known) past.ensures.none_behind (omega arith) in
+    stem_end-cut s place h (fits s known past.result c.requires.in_range past.ensures.in_range some) plain
+    (dot_at s _ known past.result place (take_rest s known) (omega arith) (omega arith)
+    (past.ensures.after (omega arith)) c.if-bytes-place-eq47.false)
+    (omega (arith, c.if-place-eq0.false)) (ne_eqb _ 47 c.if-bytes-place-eq47-2.false)
