@@ -42,3 +42,5 @@ pub mod OverlayLemmas
 pub mod WritingLemmas
 pub mod CopyLemmas
 pub mod MixedLemmas
+pub mod KnownLemmas
+pub mod EditStepLemmas

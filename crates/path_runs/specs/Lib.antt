@@ -6,6 +6,7 @@ pub mod SpellingLaws
 pub mod EditLists
 pub mod EditViews
 pub mod EditErrors
+pub mod Known
 pub mod CallsMixed
 pub mod JoinLaws
 pub mod EditLaws

@@ -9,7 +9,13 @@ ghost use Rattle.unix_path.specs.Prefixes.{Begins, stripped_of};
 ghost use Rattle.unix_path.specs.Parts.{values, SameValues};
 ghost use Rattle.path_runs.specs.EditViews.{edit_value, extension_answer};
 ghost use Rattle.path_runs.specs.EditLists.{edit_of, edits_of, may_allocate};
+ghost use Rattle.path_runs.specs.Known.{IsKnown};
 
+mod known;
+mod step;
+
+use crate::edits::known::Known;
+use crate::edits::step::{add_extension, pop, push, set_extension, set_file_name};
 use std::alloc::{AllocError, Global};
 use std::error::Error;
 use std::fmt;
@@ -89,8 +95,15 @@ fn extension_answer(edited: Result<bool, ExtensionError>) -> Result<Answer, Allo
     }
 }
 
-// Makes one edit and returns its answer.
-fn apply_one(path: &mut PathBuf, edit: &Edit<'_>) -> Result<Answer, AllocError>
+// Makes one edit of a path of which some is known, and returns its answer.
+fn apply_one(
+    alloc: Global,
+    path: &mut PathBuf,
+    known: &mut Known,
+    edit: &Edit<'_>,
+) -> Result<Answer, AllocError>
+    requires { IsKnown (path_bytes path.old) known.old }
+    ensures known { OnOk result (IsKnown (path_bytes path.new) known.new) }
     ensures ok { OnOk result
         (path_bytes path.new ≡ (edit_of (path_bytes path.old) (edit_value edit.now)).0) }
     ensures value { IfOk result
@@ -100,18 +113,21 @@ fn apply_one(path: &mut PathBuf, edit: &Edit<'_>) -> Result<Answer, AllocError>
 {
     match edit {
         Edit::Push(other) => {
-            path.push(*other)?;
+            push(path, known, *other)?;
             Ok(Answer::Plain)
         }
-        Edit::Pop => Ok(Answer::Flag(path.pop())),
+        Edit::Pop => Ok(Answer::Flag(pop(path, known))),
         Edit::SetFileName(name) => {
-            path.set_file_name(*name)?;
+            set_file_name(path, known, *name)?;
             Ok(Answer::Plain)
         }
-        Edit::SetExtension(extension) => extension_answer(path.set_extension(*extension)),
-        Edit::AddExtension(extension) => extension_answer(path.add_extension(*extension)),
+        Edit::SetExtension(extension) => {
+            extension_answer(set_extension(alloc, path, known, *extension))
+        }
+        Edit::AddExtension(extension) => extension_answer(add_extension(path, known, *extension)),
         Edit::Clear => {
             path.clear();
+            *known = Known::new();
             Ok(Answer::Plain)
         }
     }
@@ -150,8 +166,9 @@ pub fn apply(
         Ok(answers) => answers,
         Err(_) => return Err(ApplyError { done: 0 }),
     };
+    let mut known = Known::new();
     for (done, edit) in edits.iter().enumerate() {
-        match apply_one(path, edit) {
+        match apply_one(alloc, path, &mut known, edit) {
             Ok(answer) => answers.push_reserved(answer),
             Err(_) => return Err(ApplyError { done }),
         }

@@ -1,0 +1,26 @@
+use Rattle.std.proofs.Common.{sym, ap, ◌∙◌}
+use Rattle.std.proofs.lemmas.List.{take-take}
+use Rattle.unix_path.specs.Edits.{stem_end_of}
+use Rattle.unix_path.proofs.NamedLemmas.{name_end_of-take}
+use Rattle.unix_path.proofs.StemCutLemmas.{stem_end_of-take}
+use Rattle.path_runs.proofs.edits.known.Known.stem_end.Goals as goal
+
+pub stem_end-stem-requires-clause-name : goal.stem_end-stem-requires-clause-name
+stem_end-stem-requires-clause-name c =
+    name_end_of-take c.args.path.now c.args.end c.requires.name c.requires.in_range
+
+pub stem_end-stem-requires-clause-stem : goal.stem_end-stem-requires-clause-stem
+stem_end-stem-requires-clause-stem c = λ some.
+    let start = c.start-start in
+    ap stem_end_of (take-take start.result c.args.end c.args.path.now start.ensures.in_range)
+    ∙ (start.ensures.value c.args.path.now c.requires.known).ends some
+
+pub returns-then-stem-end-clause-value : goal.returns-then-stem-end-clause-value
+returns-then-stem-end-clause-value c =
+    sym (stem_end_of-take c.args.path.now c.args.end c.requires.name)
+    ∙ c.stem_end-stem.ensures.value
+
+pub returns-else-stem-end-clause-value : goal.returns-else-stem-end-clause-value
+returns-else-stem-end-clause-value c =
+    sym (stem_end_of-take c.args.path.now c.args.end c.requires.name)
+    ∙ c.stem_end-stem.ensures.value

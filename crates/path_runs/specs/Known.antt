@@ -1,0 +1,23 @@
+-- What a list of edits keeps of its path's first bytes. No public clause cites it.
+use Rattle.std.specs.Prelude.{◌≡◌, ◌<◌, ◌≤◌, ℕ, List, length, take, Some}
+use Rattle.unix_path.specs.Parts.{parts}
+use Rattle.unix_path.specs.Edits.{stem_end_of}
+use Rattle.unix_path.specs.Steps.{EndsInPart}
+use Rattle.path_runs.specs.declared.edits.known.Known.{Known}
+
+-- among the first `len` bytes the last part ends at `end`, and the bytes behind it are filler
+pub record KnowsEnd (s : List ℕ) (end len : ℕ) : Type 0 where
+  pub in_order : end ≤ len
+  pub in_range : len ≤ length s
+  pub same : parts (take end s) ≡ parts (take len s)
+  pub ends : EndsInPart (take end s)
+
+-- the first bytes end in the stem of their file name, unless there are none
+pub record KnowsStem (s : List ℕ) (stem : ℕ) : Type 0 where
+  pub in_range : stem ≤ length s
+  pub ends : 0 < stem → stem_end_of (take stem s) ≡ Some stem
+
+-- all that is known is so of s
+pub record IsKnown (s : List ℕ) (known : Known) : Type 0 where
+  pub end : KnowsEnd s known.end known.len
+  pub stem : KnowsStem s known.stem

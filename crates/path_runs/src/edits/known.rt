@@ -1,0 +1,130 @@
+//! What a list of edits knows of its path's first bytes, so that it doesn't read them again.
+ghost use Rattle.std.specs.Prelude.{◌≡◌, ℕ, ◌-◌, ◌<◌, ◌≤◌, List, length, take, Some, IfSome, false};
+ghost use Rattle.unix_path.specs.Edits.{stem_end_of};
+ghost use Rattle.unix_path.specs.Extensions.{name_end_of};
+ghost use Rattle.unix_path.specs.Parts.{parts};
+ghost use Rattle.unix_path.specs.Scan.{is_trailing};
+ghost use Rattle.unix_path.specs.Steps.{EndsInPart};
+ghost use Rattle.path_runs.specs.Known.{IsKnown, KnowsStem};
+
+use unix_path::scan::{ends_in_name, is_trailing, stem_end};
+
+// The place where the last part of the path ends, or `least` if that is greater.
+#[inline]
+fn trimmed_to(path: &[u8], least: usize) -> usize
+    requires { least ≤ length path.now }
+    ensures forward { least ≤ result }
+    ensures in_range { result ≤ length path.now }
+    ensures same { parts (take result path.now) ≡ parts path.now }
+    ensures ends { least < result → is_trailing path.now (result - 1) ≡ false }
+{
+    let mut end = path.len();
+    while least < end && is_trailing(path, end - 1) {
+        end -= 1;
+    }
+    end
+}
+
+// What is known of a path's first bytes, as long as these stay.
+#[derive(Drop)]
+pub(super) struct Known {
+    // Among the first `len` bytes the last part ends at `end`.
+    end: usize,
+    len: usize,
+    // The first `stem` bytes end in the stem of their file name, unless there are none.
+    stem: usize,
+}
+
+impl Known {
+    // Nothing.
+    #[inline]
+    pub(super) fn new() -> Known
+        ensures { (s : List ℕ) → IsKnown s result }
+    {
+        Known {
+            end: 0,
+            len: 0,
+            stem: 0,
+        }
+    }
+
+    // The place where the last part of the path ends. The bytes of which that is known aren't read.
+    #[inline]
+    pub(super) fn part_end(&mut self, path: &[u8]) -> usize
+        requires { IsKnown path.now self.old }
+        ensures known { IsKnown path.now self.new }
+        ensures in_range { result ≤ length path.now }
+        ensures same { parts (take result path.now) ≡ parts path.now }
+        ensures ends { EndsInPart (take result path.now) }
+    {
+        let end = trimmed_to(path, self.len);
+        if end == self.len {
+            self.len = path.len();
+            return self.end;
+        }
+        self.end = end;
+        self.len = path.len();
+        end
+    }
+
+    // The place where the file name of the path ends, or `None` if there is none.
+    #[inline]
+    pub(super) fn name_end(&mut self, path: &[u8]) -> Option<usize>
+        requires { IsKnown path.now self.old }
+        ensures known { IsKnown path.now self.new }
+        ensures value { result ≡ name_end_of path.now }
+        ensures in_range { IfSome result (λ end. end ≤ length path.now) }
+    {
+        let end = self.part_end(path);
+        if !ends_in_name(&path[..end]) {
+            return None;
+        }
+        Some(end)
+    }
+
+    // The place where the stem of the file name ends, which ends at `end`. Of the bytes that are
+    // known to end in a stem only the last is read.
+    #[inline]
+    pub(super) fn stem_end(&mut self, path: &[u8], end: usize) -> usize
+        requires known { IsKnown path.now self.old }
+        requires name { name_end_of path.now ≡ Some end }
+        requires in_range { end ≤ length path.now }
+        ensures known { IsKnown path.now self.new }
+        ensures value { stem_end_of path.now ≡ Some result }
+        ensures in_range { result ≤ end }
+    {
+        let start = self.start(end);
+        let stem = stem_end(&path[..end], start);
+        if stem == end {
+            self.stem = end;
+        }
+        stem
+    }
+
+    // How many of the first `end` bytes are known to end in a stem.
+    #[inline]
+    fn start(&self, end: usize) -> usize
+        ensures value { (s : List ℕ) → IsKnown s self.now → KnowsStem s result }
+        ensures in_range { result ≤ end }
+    {
+        if end < self.stem {
+            return 0;
+        }
+        self.stem
+    }
+
+    // Only the first `kept` bytes stay.
+    #[inline]
+    pub(super) fn cut(&mut self, kept: usize)
+        ensures { (s t : List ℕ) → IsKnown s self.old → kept ≤ length t
+            → take kept s ≡ take kept t → IsKnown t self.new }
+    {
+        if kept < self.len {
+            self.end = 0;
+            self.len = 0;
+        }
+        if kept < self.stem {
+            self.stem = 0;
+        }
+    }
+}

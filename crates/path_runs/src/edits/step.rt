@@ -1,0 +1,181 @@
+//! The edits of a list one by one, each from what is known of the path.
+ghost use Rattle.std.specs.Prelude.{◌≡◌, ◌↔◌, ◌≤◌, [], true, length, take, IfOk, OnOk, OnErr, IsOk};
+ghost use Rattle.std.specs.Prelude.{IsErrOf, is_some};
+ghost use Rattle.unix_path.specs.Buffers.{path_bytes, capacity};
+ghost use Rattle.unix_path.specs.Edits.{popped_of, with_name_of, with_extension_of};
+ghost use Rattle.unix_path.specs.Extensions.{added_extension_of, has_slash};
+ghost use Rattle.unix_path.specs.Joins.{join_of};
+ghost use Rattle.unix_path.specs.Names.{file_name_of};
+ghost use Rattle.unix_path.specs.Parents.{parent_of};
+ghost use Rattle.unix_path.specs.Parts.{values};
+ghost use Rattle.path_runs.specs.Known.{IsKnown};
+
+use crate::edits::known::Known;
+use std::alloc::{AllocError, Global};
+use std::mem;
+use unix_path::bytes::UnixStr;
+use unix_path::{ExtensionError, Path, PathBuf};
+
+// Joins the other path to the path.
+#[inline]
+#[tactic(auto, using(crate::proofs::EditStepLemmas::IsKnown_join))]
+pub(super) fn push(path: &mut PathBuf, known: &mut Known, other: Path<'_>) -> Result<(), AllocError>
+    requires { IsKnown (path_bytes path.old) known.old }
+    ensures known { OnOk result (IsKnown (path_bytes path.new) known.new) }
+    ensures ok { OnOk result
+        (path_bytes path.new ≡ join_of (path_bytes path.old) other.entry.bytes.now) }
+    ensures err { OnErr result (path_bytes path.new ≡ path_bytes path.old) }
+{
+    if other.has_root() {
+        *known = Known::new();
+        return path.push(other);
+    }
+    path.push(other)
+}
+
+// Cuts the path to its parent and returns true. If there is no parent, leaves it and returns false.
+#[inline]
+pub(super) fn pop(path: &mut PathBuf, known: &mut Known) -> bool
+    requires { IsKnown (path_bytes path.old) known.old }
+    ensures known { IsKnown (path_bytes path.new) known.new }
+    ensures value { result ≡ is_some (parent_of (path_bytes path.old)) }
+    ensures bytes { path_bytes path.new ≡ popped_of (path_bytes path.old) }
+{
+    let view = path.as_path();
+    let end = known.part_end(view.as_unix_str().as_bytes());
+    if end <= 1 && view.has_root() {
+        return false;
+    }
+    let is_popped = path.pop();
+    known.cut(path.as_path().as_unix_str().len());
+    is_popped
+}
+
+// Replaces the file name, or joins the name to a path that has none.
+#[inline]
+#[tactic(auto, using(crate::proofs::EditStepLemmas::name_cases))]
+pub(super) fn set_file_name(
+    path: &mut PathBuf,
+    known: &mut Known,
+    name: UnixStr<'_>,
+) -> Result<(), AllocError>
+    requires { IsKnown (path_bytes path.old) known.old }
+    ensures known { OnOk result (IsKnown (path_bytes path.new) known.new) }
+    ensures ok { OnOk result
+        (path_bytes path.new ≡ with_name_of (path_bytes path.old) name.entry.bytes.now) }
+    ensures err { OnErr result (path_bytes path.new ≡ path_bytes path.old) }
+{
+    let bytes = path.as_path().as_unix_str().as_bytes();
+    let Some(_) = known.name_end(bytes) else {
+        return push(path, known, Path::new(name));
+    };
+    path.set_file_name(name)?;
+    // Behind what stays of the path stand a slash, perhaps, and the name.
+    let len = path.as_path().as_unix_str().len();
+    known.cut(len.saturating_sub(name.len() + 1));
+    Ok(())
+}
+
+// Drops all bytes behind the first `len`, and keeps the memory.
+fn truncate(alloc: Global, path: &mut PathBuf, len: usize)
+    ensures { path_bytes path.new ≡ take len (path_bytes path.old) }
+{
+    let mut text = mem::replace(path, PathBuf::new(alloc)).into_unix_string();
+    text.truncate(len);
+    *path = PathBuf::from(text);
+}
+
+// Makes room for a path of `len` bytes, as a push that makes it grow does.
+#[inline]
+fn make_room(path: &mut PathBuf, len: usize) -> Result<(), AllocError>
+    ensures bytes { path_bytes path.new ≡ path_bytes path.old }
+{
+    if len <= path.capacity() {
+        return Ok(());
+    }
+    path.reserve(len - path.as_path().as_unix_str().len())
+}
+
+// Whether a byte of an extension is a slash.
+#[inline]
+fn has_slash(extension: &[u8]) -> bool
+    ensures { result ≡ has_slash extension.now }
+{
+    extension.contains(&b'/')
+}
+
+// Replaces the extension of the file name, or removes it if the new one is empty.
+#[inline]
+#[tactic(auto, using(crate::proofs::EditStepLemmas::extension_cases))]
+pub(super) fn set_extension(
+    alloc: Global,
+    path: &mut PathBuf,
+    known: &mut Known,
+    extension: UnixStr<'_>,
+) -> Result<bool, ExtensionError>
+    requires { IsKnown (path_bytes path.old) known.old }
+    ensures known { IsKnown (path_bytes path.new) known.new }
+    ensures separator { IsErrOf result ExtensionError.Separator
+        ↔ (has_slash extension.entry.bytes.now ≡ true) }
+    ensures value { IfOk result
+        (λ answer. answer ≡ is_some (file_name_of (values (path_bytes path.old)))) }
+    ensures ok { OnOk result
+        (path_bytes path.new ≡ with_extension_of (path_bytes path.old) extension.entry.bytes.now) }
+    ensures err { OnErr result (path_bytes path.new ≡ path_bytes path.old) }
+    ensures succeeds_empty { extension.entry.bytes.now ≡ [] → IsOk result }
+{
+    let new = extension.as_bytes();
+    if has_slash(new) {
+        return Err(ExtensionError::Separator);
+    }
+    let bytes = path.as_path().as_unix_str().as_bytes();
+    let Some(end) = known.name_end(bytes) else {
+        return Ok(false);
+    };
+    let stem = known.stem_end(bytes, end);
+    known.cut(stem);
+    if new.is_empty() {
+        truncate(alloc, path, stem);
+        return Ok(true);
+    }
+    make_room(path, stem + 1 + new.len())?;
+    if stem == end {
+        return path.add_extension(extension);
+    }
+    path.set_extension(extension)
+}
+
+// Puts a dot and the extension behind the file name, unless the extension is empty.
+#[inline]
+#[tactic(auto, using(crate::proofs::EditStepLemmas::added_cases))]
+pub(super) fn add_extension(
+    path: &mut PathBuf,
+    known: &mut Known,
+    extension: UnixStr<'_>,
+) -> Result<bool, ExtensionError>
+    requires { IsKnown (path_bytes path.old) known.old }
+    ensures known { IsKnown (path_bytes path.new) known.new }
+    ensures separator { IsErrOf result ExtensionError.Separator
+        ↔ (has_slash extension.entry.bytes.now ≡ true) }
+    ensures value { IfOk result
+        (λ answer. answer ≡ is_some (file_name_of (values (path_bytes path.old)))) }
+    ensures ok { OnOk result
+        (path_bytes path.new ≡ added_extension_of (path_bytes path.old) extension.entry.bytes.now) }
+    ensures err { OnErr result (path_bytes path.new ≡ path_bytes path.old) }
+    ensures succeeds_empty { extension.entry.bytes.now ≡ [] → IsOk result }
+{
+    let more = extension.as_bytes();
+    if has_slash(more) {
+        return Err(ExtensionError::Separator);
+    }
+    let bytes = path.as_path().as_unix_str().as_bytes();
+    let Some(end) = known.name_end(bytes) else {
+        return Ok(false);
+    };
+    if more.is_empty() {
+        return Ok(true);
+    }
+    known.cut(end);
+    make_room(path, end + 1 + more.len())?;
+    path.add_extension(extension)
+}
