@@ -137,7 +137,7 @@ length-resolved s = by_test (is_rooted s)
     )
 
 -- a join has one byte more than both at most
-length-join_of : (a b : List ℕ) → length (join_of a b) ≤ length a + 1 + length b
+pub length-join_of : (a b : List ℕ) → length (join_of a b) ≤ length a + 1 + length b
 length-join_of a b = by_test (is_rooted b)
     (λ r. omega (arith, ap length (join_of_rooted a b r)))
     (λ r. by_test (is_open a) (λ o. omega (arith, length-join_of_open a b r o))

@@ -92,6 +92,19 @@ pub fn climbs(path: Path<'_>) -> bool
     false
 }
 
+/// Whether the path has a root or any `..`, wherever it stands.
+///
+/// Joined to a root as it stands, a path without them goes down from it by its names alone:
+/// `join_plain` refuses each other. Does not allocate. Not in Rust's std.
+///
+/// For `/a` and `a/../b` it is true; for `./a` and `..a` it is false.
+#[must_use]
+pub fn has_root_or_up(path: Path<'_>) -> bool
+    ensures { result ≡ has_root_or_up (values path.entry.bytes.now) }
+{
+    is_spelled_unless_up(path).is_none()
+}
+
 /// The request joined to the root and resolved: a path that stays under the resolved root.
 ///
 /// The error is `Escapes` exactly if the request climbs, before anything is allocated, and `Memory`
@@ -145,7 +158,7 @@ pub fn join_plain(alloc: Global, root: Path<'_>, request: Path<'_>) -> Result<Pa
         (values (path_bytes p))) }
     ensures succeeds { root.entry.bytes.now ≡ [] → request.entry.bytes.now ≡ [] → IsOk result }
 {
-    if is_spelled_unless_up(request).is_none() {
+    if has_root_or_up(request) {
         return Err(WithinError::Escapes);
     }
     laws::plain_stays_within();

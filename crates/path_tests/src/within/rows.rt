@@ -2,7 +2,7 @@
 use super::{bytes_of, is_joined_plain, is_joined_within};
 use path_within::resolved::resolved;
 use path_within::way::way;
-use path_within::within::climbs;
+use path_within::within::{climbs, has_root_or_up};
 use std::alloc::{AllocError, Global};
 use unix_path::Path;
 
@@ -40,6 +40,24 @@ static CLIMBS: [(&'static str, bool); 12] = [
     ("a/../..", true),
     ("a/../../root/x", true),
     ("/a", true),
+];
+
+// A path, and whether it has a root or a `..`.
+static ROOTS_AND_UPS: [(&'static str, bool); 14] = [
+    ("", false),
+    (".", false),
+    ("./a", false),
+    ("a//b/.", false),
+    ("..a/a../...", false),
+    ("a/b/c/d/e/f/g/h/i/..j", false),
+    ("/", true),
+    ("//a", true),
+    ("..", true),
+    ("./..", true),
+    ("../", true),
+    ("a/../b", true),
+    ("a//..", true),
+    ("a/b/c/d/e/f/g/h/i/../j", true),
 ];
 
 // Two paths, and the path that is made of both, if there is one.
@@ -122,6 +140,13 @@ fn rows_resolved(rt: HostRuntime) {
 fn rows_that_climb(rt: HostRuntime) {
     for row in CLIMBS.iter() {
         assert!(rt; climbs(Path::from_text(row.0)) == row.1, "{}", row.0);
+    }
+}
+
+#[test]
+fn rows_with_roots_and_ups(rt: HostRuntime) {
+    for row in ROOTS_AND_UPS.iter() {
+        assert!(rt; has_root_or_up(Path::from_text(row.0)) == row.1, "{}", row.0);
     }
 }
 
