@@ -47,11 +47,15 @@
  * What is no length is a refusal; nothing is written then:
  *
  *     UNIX_PATH_SEPARATOR        unix_path_with_extension: the extension has a slash
- *     UNIX_PATH_ESCAPES          unix_path_join_within, unix_path_join_below: the request climbs
+ *     UNIX_PATH_ESCAPES          unix_path_join_within, unix_path_join_below: the request climbs;
+ *                                unix_path_join_plain: it has a root or a `..`
  *     UNIX_PATH_NO_MEMORY        unix_path_resolved, unix_path_join_within: an allocation failed
  *     UNIX_PATH_NUL_IN_REQUEST   unix_path_join_below: the request has a NUL byte
  *     UNIX_PATH_NOT_A_KEY        unix_path_from_key, unix_path_key_end: no path has this key
  *     UNIX_PATH_NO_END           unix_path_key_end: the key is empty, and every key in its range
+ *     UNIX_PATH_TOO_LONG         unix_path_to_string_lossy, unix_path_with_extension,
+ *                                unix_path_join_below, unix_path_join_plain, unix_path_from_key:
+ *                                the answer has more than PTRDIFF_MAX bytes
  *
  * All are greater than the length of any buffer, and unix_path_is_length tells them from lengths.
  * None is SIZE_MAX: one more than a refusal is no size that malloc gives.
@@ -82,8 +86,8 @@ _Static_assert(sizeof(size_t) == 8, "the library is for lengths of 64 bits");
 
 /* What unix_path_with_extension answers if the extension has a slash. */
 #define UNIX_PATH_SEPARATOR (SIZE_MAX - 6)
-/* What unix_path_join_within and unix_path_join_below answer if the request climbs. Nothing is
- * allocated. */
+/* What unix_path_join_within and unix_path_join_below answer if the request climbs, and
+ * unix_path_join_plain if it has a root or a `..`. Nothing is allocated. */
 #define UNIX_PATH_ESCAPES (SIZE_MAX - 1)
 /* What unix_path_resolved and unix_path_join_within answer if an allocation failed. */
 #define UNIX_PATH_NO_MEMORY (SIZE_MAX - 2)
@@ -93,6 +97,9 @@ _Static_assert(sizeof(size_t) == 8, "the library is for lengths of 64 bits");
 #define UNIX_PATH_NOT_A_KEY (SIZE_MAX - 4)
 /* What unix_path_key_end answers to the empty key, whose range has all keys and no end. */
 #define UNIX_PATH_NO_END (SIZE_MAX - 5)
+/* What a call that has a refusal answers in place of a length above PTRDIFF_MAX, which is
+ * SIZE_MAX / 2, and which no buffer has. */
+#define UNIX_PATH_TOO_LONG (SIZE_MAX / 2 + 1)
 
 /* What is left of a walk over a path: the bytes from front up to back. Nothing is left if front is
  * greater than back, or back is greater than the path's length: a record may hold anything. */
@@ -228,7 +235,7 @@ size_t unix_path_canonical(const void *path, size_t path_length, void *out,
                            size_t out_length);
 
 /* The path as UTF-8, with U+FFFD in place of what isn't. It has at most three times as many bytes
- * as the path, and as many NULs. A length above SIZE_MAX is returned as SIZE_MAX. */
+ * as the path, and as many NULs. UNIX_PATH_TOO_LONG exactly if it has more than PTRDIFF_MAX. */
 size_t unix_path_to_string_lossy(const void *path, size_t path_length, void *out,
                                  size_t out_length);
 
@@ -244,12 +251,19 @@ size_t unix_path_resolved(const void *path, size_t path_length, void *out,
 /* The request joined to the root and resolved, so that it stays under the resolved root.
  * UNIX_PATH_ESCAPES exactly if the request climbs, before anything is allocated, and
  * UNIX_PATH_NO_MEMORY only if an allocation failed. It goes by names alone: if a part may be a
- * link, refuse a request in which unix_path_next gives a root or a `..`, and take unix_path_join.
- * An empty answer stands for `.`. It has at most as many bytes as both and one more, and holds a
- * NUL if a part that stays does, of which unix_path_join_below tells. `/srv` with `a/../b` gives
- * `/srv/b`. */
+ * link, take unix_path_join_plain, and let the system refuse links. An empty answer stands for `.`.
+ * It has at most as many bytes as both and one more, and holds a NUL if a part that stays does, of
+ * which unix_path_join_below tells. `/srv` with `a/../b` gives `/srv/b`. */
 size_t unix_path_join_within(const void *root, size_t root_length, const void *request,
                              size_t request_length, void *out, size_t out_length);
+
+/* The request joined to the root, both as they stand, so that the request goes down from the root
+ * by its names: for roots in or under which links may stand. UNIX_PATH_ESCAPES exactly if the
+ * request has a root or a `..`. It has at most as many bytes as both and one more, and holds a NUL
+ * if what it is made of does. `/srv/../www` with `./a` gives `/srv/../www/./a`, and `a/../b` is
+ * refused. */
+size_t unix_path_join_plain(const void *root, size_t root_length, const void *request,
+                            size_t request_length, void *out, size_t out_length);
 
 /* The request joined below the root: the root as it stands, byte for byte, and behind it the names
  * that the request resolves to, with a slash between two of them and, where one is wanted, behind
@@ -263,9 +277,9 @@ size_t unix_path_join_within(const void *root, size_t root_length, const void *r
  * the answer is UNIX_PATH_NUL_IN_REQUEST exactly if the request has a NUL, at which a system call
  * cuts it.
  *
- * It goes by names alone: if a part below the root may be a link, let the system refuse links. A
- * length above PTRDIFF_MAX is returned as PTRDIFF_MAX + 1. `/srv/` with `a/../b` gives `/srv/b`;
- * with `/../b` it gives `/srv/b` as a URL, and else UNIX_PATH_ESCAPES. */
+ * It goes by names alone: if a part below the root may be a link, let the system refuse links. It
+ * has at most as many bytes as both and one more. `/srv/` with `a/../b` gives `/srv/b`; with
+ * `/../b` it gives `/srv/b` as a URL, and else UNIX_PATH_ESCAPES. */
 size_t unix_path_join_below(const void *root, size_t root_length, const void *request,
                             size_t request_length, bool as_url, void *out, size_t out_length);
 
@@ -304,9 +318,10 @@ size_t unix_path_key_end(const void *key, size_t key_length, void *out, size_t o
 #endif
 
 /* Whether what a call with `out` answers is a length, and no refusal. It is false too for a length
- * above PTRDIFF_MAX, which is SIZE_MAX / 2, and for which no buffer has room. */
+ * above PTRDIFF_MAX, for which no buffer has room, and which the calls without refusals answer as
+ * it is. */
 UNIX_PATH_INLINE bool unix_path_is_length(size_t answer) {
-    return answer <= SIZE_MAX / 2;
+    return answer < UNIX_PATH_TOO_LONG;
 }
 
 /* Whether no byte is NUL, so that the system reads all of the path once a NUL stands behind it. */
@@ -441,6 +456,7 @@ UNIX_PATH_MAKES_OF_ONE(canonical)
 UNIX_PATH_MAKES_OF_ONE(to_string_lossy)
 UNIX_PATH_MAKES_OF_ONE(resolved)
 UNIX_PATH_MAKES_OF_TWO(join_within)
+UNIX_PATH_MAKES_OF_TWO(join_plain)
 UNIX_PATH_MAKES(join_below, UNIX_PATH_READS_TWO UNIX_PATH_FILLS(6, 7),
                 (UNIX_PATH_TWO, bool as_url, UNIX_PATH_OUT), UNIX_PATH_AB, as_url)
 UNIX_PATH_MAKES_OF_ONE(key)
@@ -474,6 +490,7 @@ UNIX_PATH_MAKES_OF_ONE(key_end)
 #define unix_path_to_string_lossy unix_path_inline_to_string_lossy
 #define unix_path_resolved unix_path_inline_resolved
 #define unix_path_join_within unix_path_inline_join_within
+#define unix_path_join_plain unix_path_inline_join_plain
 #define unix_path_join_below unix_path_inline_join_below
 #define unix_path_key unix_path_inline_key
 #define unix_path_from_key unix_path_inline_from_key

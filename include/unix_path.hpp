@@ -54,7 +54,7 @@ namespace unix_path {
 enum class refusal {
     /// The extension has a slash.
     separator,
-    /// The request has a root, or goes above where it starts.
+    /// The request has a root, or goes above where it starts; for join_plain, it has any `..`.
     escapes,
     /// The library got no memory.
     no_memory,
@@ -279,6 +279,10 @@ class view {
     /// refusal::no_memory if the library got none, which it asks for beside the string.
     result<std::string> join_within(view request) const;
     result<std::string_view> join_within(view request, buffer out) const noexcept;
+    /// This path is the root, and both stay as they are spelled. refusal::escapes exactly if the
+    /// request has a root or a `..`.
+    result<std::string> join_plain(view request) const;
+    result<std::string_view> join_plain(view request, buffer out) const noexcept;
     /// This path is the root. refusal::escapes exactly if the request climbs and isn't read as a
     /// URL; else refusal::nul_in_request exactly if it has a NUL byte.
     result<std::string> join_below(view request, reading how) const;
@@ -569,11 +573,9 @@ inline auto canonical_call(view a) noexcept {
         return unix_path_canonical(a.data(), a.size(), out, room);
     };
 }
-// A length of which no buffer has as many bytes isn't told apart from others.
 inline auto to_string_lossy_call(view a) noexcept {
     return [a](char *out, std::size_t room) noexcept {
-        const std::size_t length = unix_path_to_string_lossy(a.data(), a.size(), out, room);
-        return unix_path_is_length(length) ? length : std::size_t{PTRDIFF_MAX} + 1;
+        return unix_path_to_string_lossy(a.data(), a.size(), out, room);
     };
 }
 inline auto resolved_call(view a) noexcept {
@@ -584,6 +586,11 @@ inline auto resolved_call(view a) noexcept {
 inline auto join_within_call(view a, view b) noexcept {
     return [a, b](char *out, std::size_t room) noexcept {
         return unix_path_join_within(a.data(), a.size(), b.data(), b.size(), out, room);
+    };
+}
+inline auto join_plain_call(view a, view b) noexcept {
+    return [a, b](char *out, std::size_t room) noexcept {
+        return unix_path_join_plain(a.data(), a.size(), b.data(), b.size(), out, room);
     };
 }
 inline auto join_below_call(view a, view b, reading how) noexcept {
@@ -657,6 +664,12 @@ inline result<std::string> view::join_within(view request) const {
 }
 inline result<std::string_view> view::join_within(view request, buffer out) const noexcept {
     return detail::written(out, detail::join_within_call(*this, request));
+}
+inline result<std::string> view::join_plain(view request) const {
+    return detail::grown(detail::room_of(*this, request), detail::join_plain_call(*this, request));
+}
+inline result<std::string_view> view::join_plain(view request, buffer out) const noexcept {
+    return detail::written(out, detail::join_plain_call(*this, request));
 }
 inline result<std::string> view::join_below(view request, reading how) const {
     return detail::grown(detail::room_of(*this, request),

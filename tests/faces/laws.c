@@ -100,6 +100,18 @@ static void joins_below(view root, view request, bool climbs) {
     CHECK(same_bytes((view){below, strict}, (view){within, joined}), "below and within");
 }
 
+// Whether the root or a `..` is among the parts.
+static bool has_root_or_up(view path) {
+    unix_path_walk walk = {0, path.length};
+    unix_path_part part;
+    while (unix_path_next(path.bytes, path.length, &walk, &part)) {
+        if (part.kind == UNIX_PATH_ROOT_DIR || part.kind == UNIX_PATH_PARENT_DIR) {
+            return true;
+        }
+    }
+    return false;
+}
+
 static view first_of_pair;
 
 // Laws that tie the calls of two paths together.
@@ -126,6 +138,7 @@ static void pair_with(view path) {
     }
     bool climbs = unix_path_climbs(b.bytes, b.length);
     CHECK(add_two(&second, unix_path_join_within, a, b) == !climbs, "escapes");
+    CHECK(add_two(&second, unix_path_join_plain, a, b) == !has_root_or_up(b), "root or up");
     joins_below(a, b, climbs);
     add_two(&first, unix_path_with_file_name, a, b);
     add_two(&first, unix_path_with_extension, a, b);

@@ -138,6 +138,7 @@ static void write_to(uint8_t *out, size_t room, view a, view b) {
     unix_path_with_extension(a.bytes, a.length, b.bytes, b.length, out, room);
     unix_path_canonical(a.bytes, a.length, out, room);
     unix_path_to_string_lossy(a.bytes, a.length, out, room);
+    unix_path_join_plain(a.bytes, a.length, b.bytes, b.length, out, room);
     unix_path_join_below(a.bytes, a.length, b.bytes, b.length, false, out, room);
     unix_path_join_below(a.bytes, a.length, b.bytes, b.length, true, out, room);
     size_t length = unix_path_key(a.bytes, a.length, out, room);

@@ -93,6 +93,9 @@ static void written_of_nothing(void) {
     write_both(unix_path_join_within, none, none, nothing);
     write_both(unix_path_join_within, none, name, name);
     write_both(unix_path_join_within, name, none, name);
+    write_both(unix_path_join_plain, none, none, nothing);
+    write_both(unix_path_join_plain, none, name, name);
+    write_both(unix_path_join_plain, name, none, view_of("a.b/"));
     write_both(join_below, none, none, nothing);
     write_both(join_below, none, name, name);
     write_both(join_below, name, none, name);
@@ -103,7 +106,8 @@ static void lengths(void) {
     CHECK(unix_path_is_length(0) && unix_path_is_length((size_t)PTRDIFF_MAX), "lengths");
     CHECK(unix_path_is_c_string(NULL, 0) && unix_path_is_c_string("a/b", 3), "strings");
     CHECK(!unix_path_is_c_string("a/b", 4) && !unix_path_is_c_string("", 1), "strings");
-    CHECK(!unix_path_is_length((size_t)PTRDIFF_MAX + 1), "no buffer");
+    CHECK(UNIX_PATH_TOO_LONG == (size_t)PTRDIFF_MAX + 1, "one byte more than a buffer has");
+    CHECK(!unix_path_is_length(UNIX_PATH_TOO_LONG), "no buffer");
     CHECK(!unix_path_is_length(UNIX_PATH_SEPARATOR) && !unix_path_is_length(UNIX_PATH_ESCAPES),
           "refusals");
     CHECK(!unix_path_is_length(UNIX_PATH_NO_MEMORY), "refusals");

@@ -68,6 +68,7 @@ static_assert(!std::is_convertible_v<view, std::string_view>, "bytes are compare
 static_assert(view("a/b").size() == 3 && view().empty() && view("a\0b"sv).has_nul());
 static_assert(std::is_nothrow_invocable_v<unix_path::less, std::string, view>);
 static_assert(noexcept(view().join_within(view(), std::declval<buffer>())));
+static_assert(noexcept(view().join_plain(view(), std::declval<buffer>())));
 static_assert(noexcept(view().parent()) && noexcept(view().compare(view())));
 static_assert(!std::is_constructible_v<buffer, const std::string &>);
 static_assert(!std::is_constructible_v<buffer, const char (&)[4]>);
@@ -148,6 +149,8 @@ void written_strings() {
     CHECK(*view("a/../..//b/.").resolved() == "../b" && view("a/..").resolved()->empty());
     CHECK(*view("/srv").join_within("a/../b") == "/srv/b");
     CHECK(view("/srv").join_within("../b").why() == refusal::escapes);
+    CHECK(*view("/srv/..").join_plain("./a") == "/srv/.././a");
+    CHECK(view("/srv").join_plain("a/../b").why() == refusal::escapes);
     CHECK(*view("/srv/").join_below("/../b", reading::as_url) == "/srv/b");
     CHECK(view("/srv/").join_below("/../b", reading::as_path).why() == refusal::escapes);
     CHECK(view("/srv").join_below("a\0"sv, reading::as_url).why() == refusal::nul_in_request);
@@ -325,6 +328,7 @@ void buffers() {
             in_each_room(a.with_extension(b.bytes()),
                          [=](buffer out) { return a.with_extension(b.bytes(), out); });
             in_each_room(a.join_within(b), [=](buffer out) { return a.join_within(b, out); });
+            in_each_room(a.join_plain(b), [=](buffer out) { return a.join_plain(b, out); });
             in_each_room(a.join_below(b, how),
                          [=](buffer out) { return a.join_below(b, how, out); });
         }
@@ -361,6 +365,7 @@ void null_views() {
     CHECK(none.with_extension({}, room)->empty() && none.canonical(room)->empty());
     CHECK(none.to_string_lossy(room)->empty() && none.resolved(room)->empty());
     CHECK(none.join_within(none, room)->empty());
+    CHECK(none.join_plain(none)->empty() && none.join_plain(none, room)->empty());
     CHECK(none.join_below(none, reading::as_url, room)->empty());
     CHECK(none.key().empty() && none.key(room)->empty() && unix_path::from_key({})->empty());
     CHECK(unix_path::from_key({}, room)->empty() && !unix_path::key_end({}, room));
@@ -400,6 +405,7 @@ void memory() {
     }
     CHECK(a.join(b, out) && a.with_file_name(b, out) && a.with_extension(".x", out));
     CHECK(a.canonical(out) && a.to_string_lossy(out) && a.resolved(out) && a.join_within(b, out));
+    CHECK(a.join_plain("c", out) && a.join_plain(b, out).why() == refusal::escapes);
     CHECK(a.join_below(b, reading::as_path, out) && a == a && a <= a && !b.climbs() && length > 0);
     CHECK(a.strip_prefix("/a/root")->file_name() == "be" && a.common_dir(b) == 0);
     CHECK(requests == before);

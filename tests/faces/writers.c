@@ -24,6 +24,10 @@ static const struct {
     {NULL, unix_path_join_within, "/srv/www", "a/../b", "/srv/www/b"},
     {NULL, unix_path_join_within, "..//root/.", "x//y/.", "../root/x/y"},
     {NULL, unix_path_join_within, "", "", ""},
+    {NULL, unix_path_join_plain, "/srv/../www", "./a", "/srv/../www/./a"},
+    {NULL, unix_path_join_plain, "/srv", "a//b/", "/srv/a//b/"},
+    {NULL, unix_path_join_plain, "", "..a", "..a"},
+    {NULL, unix_path_join_plain, "/srv", "", "/srv/"},
     {unix_path_canonical, NULL, ".//a/./b/", NULL, "./a/b"},
     {unix_path_canonical, NULL, "/.", NULL, "/"},
     {unix_path_canonical, NULL, "", NULL, ""},
@@ -92,6 +96,7 @@ static void fenced_buffers(void) {
 }
 
 static void refusals(void) {
+    static const char *const ups[] = {"/", "/a", "..", "a/..", "a/../b", "./..", "a/b/c/../d/."};
     view path = view_of("a.rs"), extension = view_of("x/y"), request = view_of("a/../../x");
     for (size_t room = 0; room <= 16; room++) {
         uint8_t memory[16];
@@ -100,6 +105,11 @@ static void refusals(void) {
                                        memory, room) == UNIX_PATH_SEPARATOR, "room %zu", room);
         CHECK(unix_path_join_within(path.bytes, path.length, request.bytes, request.length,
                                     memory, room) == UNIX_PATH_ESCAPES, "room %zu", room);
+        for (size_t row = 0; row < sizeof ups / sizeof *ups; row++) {
+            view up = view_of(ups[row]);
+            CHECK(unix_path_join_plain(path.bytes, path.length, up.bytes, up.length, memory, room)
+                  == UNIX_PATH_ESCAPES, "row %zu, room %zu", row, room);
+        }
         CHECK(is_written(memory, sizeof memory, view_of("")), "room %zu", room);
     }
 }

@@ -162,7 +162,7 @@ KEYS = [
     ("no_key", plain, EDGES),
 ]
 
-# Families of requests, which `climbs`, `check_request`, `join_within` and `join_below` get.
+# Families of requests, which `climbs`, `check_request` and the joins with a root get.
 REQUESTS = [
     ("plain", plain, EDGES),
     ("slash_end", lambda n: plain(n - 1) + b"/", EDGES),
@@ -190,7 +190,8 @@ def families():
     yield from PAIRS + PATHS
     for title, make, sizes in REQUESTS:
         yield title, lambda n, make=make: (make(n), b""), sizes, "climbs check_request"
-        yield title, lambda n, make=make: (ROOT, make(n)), sizes, "join_within join_below"
+        yield (title, lambda n, make=make: (ROOT, make(n)), sizes,
+               "join_within join_plain join_below")
     for title, make, sizes in URLS:
         yield title, lambda n, make=make: (ROOT, make(n)), sizes, "join_below"
     for title, make, sizes in KEYS:

@@ -108,8 +108,8 @@ pub fn resolved<'o>(path: &[u8], out: &'o mut [u8]) -> Result<&'o [u8], Error> {
 /// Fails with `Escapes` exactly if the request [climbs](crate::climbs), before anything is
 /// allocated. Else it allocates once, one byte more than both paths have, and frees what it
 /// allocates; it fails with `NoMemory` if the allocation failed, and with `Short`. It goes by names
-/// alone: if a part of the root or of the request may be a link, let the system refuse links. Not
-/// in Rust's std.
+/// alone: if a part of the root or of the request may be a link, take [`join_plain`], and let the
+/// system refuse links. Not in Rust's std.
 ///
 /// ```
 /// use unix_path_rattle::{join_within, Error};
@@ -120,4 +120,22 @@ pub fn resolved<'o>(path: &[u8], out: &'o mut [u8]) -> Result<&'o [u8], Error> {
 #[inline]
 pub fn join_within<'o>(root: &[u8], request: &[u8], out: &'o mut [u8]) -> Result<&'o [u8], Error> {
     MakeOfTwo::JOIN_WITHIN.write(root, request, out)
+}
+
+/// The request joined to the root, both as they stand, so that it goes down from the root by its
+/// names.
+///
+/// It is for roots in or under which links may stand: each `..` of the root stays. It has at most
+/// one byte more than both. Fails with `Escapes` exactly if the request has a root or a `..`, and
+/// with `Short`. Does not allocate. Not in Rust's std.
+///
+/// ```
+/// use unix_path_rattle::{join_plain, Error};
+/// let mut out = [0; 24];
+/// assert_eq!(join_plain(b"/srv/../www", b"./a", &mut out), Ok(&b"/srv/../www/./a"[..]));
+/// assert_eq!(join_plain(b"/srv/../www", b"a/../b", &mut out), Err(Error::Escapes));
+/// ```
+#[inline]
+pub fn join_plain<'o>(root: &[u8], request: &[u8], out: &'o mut [u8]) -> Result<&'o [u8], Error> {
+    MakeOfTwo::JOIN_PLAIN.write(root, request, out)
 }

@@ -19,7 +19,7 @@ pub enum Error {
     },
     /// The extension has a slash.
     Separator,
-    /// The request would leave the root.
+    /// The request would leave the root or, for `join_plain`, has a root or a `..`.
     Escapes,
     /// An allocation failed.
     NoMemory,

@@ -297,6 +297,7 @@ impl MakeOfTwo {
     pub const WITH_FILE_NAME: MakeOfTwo = MakeOfTwo(unix_path_with_file_name);
     pub const WITH_EXTENSION: MakeOfTwo = MakeOfTwo(unix_path_with_extension);
     pub const JOIN_WITHIN: MakeOfTwo = MakeOfTwo(unix_path_join_within);
+    pub const JOIN_PLAIN: MakeOfTwo = MakeOfTwo(unix_path_join_plain);
 
     #[inline]
     pub fn write<'o>(

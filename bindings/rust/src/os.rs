@@ -279,6 +279,18 @@ pub fn join_within(root: impl AsRef<Path>, request: impl AsRef<Path>) -> Result<
     owned::join_within(bytes(&root), bytes(&request)).map(path_buf)
 }
 
+/// As [`owned::join_plain`].
+///
+/// ```
+/// # use std::path::Path;
+/// use unix_path_rattle::{os::join_plain, Error};
+/// assert_eq!(join_plain("/srv/..", "a").unwrap(), Path::new("/srv/../a"));
+/// assert_eq!(join_plain("/srv/..", "a/../b"), Err(Error::Escapes));
+/// ```
+pub fn join_plain(root: impl AsRef<Path>, request: impl AsRef<Path>) -> Result<PathBuf, Error> {
+    owned::join_plain(bytes(&root), bytes(&request)).map(path_buf)
+}
+
 /// As [`owned::join_below`].
 ///
 /// ```

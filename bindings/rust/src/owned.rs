@@ -109,6 +109,19 @@ pub fn join_within(root: &[u8], request: &[u8]) -> Result<Vec<u8>, Error> {
     })
 }
 
+/// As [`join_plain`](crate::join_plain), in memory of its own.
+///
+/// ```
+/// use unix_path_rattle::{owned, Error};
+/// assert_eq!(owned::join_plain(b"/srv/..", b"./a").unwrap(), b"/srv/.././a");
+/// assert_eq!(owned::join_plain(b"/srv/..", b"a/../b"), Err(Error::Escapes));
+/// ```
+pub fn join_plain(root: &[u8], request: &[u8]) -> Result<Vec<u8>, Error> {
+    vec_of(root.len() + 1 + request.len(), |bytes| {
+        MakeOfTwo::JOIN_PLAIN.fill(root, request, bytes)
+    })
+}
+
 /// As [`Request::join_below`](crate::Request::join_below), in memory of its own.
 ///
 /// ```

@@ -44,6 +44,7 @@ fn it_is_an_error() {
         owned::with_file_name,
         owned::with_extension,
         owned::join_within,
+        owned::join_plain,
     ];
     for call in of_two {
         assert_eq!(without_memory(|| call(b"a/b", b"c")), Err(Error::NoMemory));

@@ -1,6 +1,10 @@
 -- What a call answers in place of a length, where it gives no bytes.
 use Rattle.std.specs.Prelude.{ℕ, ◌-◌, ◌<◌, ◌^◌}
 
+-- `PTRDIFF_MAX + 1`: the answer has more bytes than a buffer can have
+abbrev pub too_long : ℕ
+too_long = 2 ^ 63
+
 -- `SIZE_MAX - 1`: the request would leave its root
 abbrev pub escapes : ℕ
 escapes = 2 ^ 64 - 2
@@ -21,6 +25,10 @@ not_a_key = 2 ^ 64 - 5
 abbrev pub no_end : ℕ
 no_end = 2 ^ 64 - 6
 
+-- `SIZE_MAX - 6`: the extension has a slash
+abbrev pub separator : ℕ
+separator = 2 ^ 64 - 7
+
 -- the answer is a length, and so less than each of these
 abbrev pub IsLength : ℕ → Type 0
-IsLength answer = answer < no_end
+IsLength answer = answer < too_long

@@ -1,21 +1,21 @@
 //! Joins, and copies of paths with another file name or extension.
-ghost use Rattle.std.specs.Prelude.{◌≡◌, ◌≤◌, ◌+◌, true, false, length, IfSome};
+ghost use Rattle.std.specs.Prelude.{◌≡◌, ◌↔◌, ◌⊎◌, ◌≤◌, ◌+◌, true, false, length, IfSome};
 ghost use Rattle.unix_path.specs.Edits.{before_name_of, dot_before, stem_end_of};
 ghost use Rattle.unix_path.specs.Edits.{with_extension_of, with_name_of};
 ghost use Rattle.unix_path.specs.Extensions.{has_slash};
 ghost use Rattle.unix_path.specs.Joins.{is_open, join_of};
 ghost use Rattle.unix_path.specs.Scan.{gap_bytes};
 ghost use Rattle.unix_path_c.specs.Layout.{layout_bytes};
+ghost use Rattle.unix_path_c.specs.Refusals.{IsLength, separator, too_long};
 ghost use Rattle.path_runs.specs.Buffer.{buffer_after};
 
 use crate::places::last_end;
-use crate::writing::{gap_len, place, place_gap};
+use crate::writing::{gap_len, place, place_gap, told_len};
 use unix_path::scan::{dot_before, is_open};
 use unix_path::{Component, Path};
 
-/// What `unix_path_with_extension` answers if the extension has a slash. No buffer has as many
-/// bytes.
-pub const SEPARATOR: usize = usize::MAX - 6;
+// The answer if an extension has a slash.
+const SEPARATOR: usize = usize::MAX - 6;
 
 // What an answer is made of: a beginning, then a gap of one byte or none, and an end.
 #[derive(Clone, Copy)]
@@ -169,24 +169,27 @@ pub extern "C" fn unix_path_with_file_name(path: &[u8], name: &[u8], out: &mut [
 ///
 /// The extension, with a dot before it unless it is empty, replaces what stands behind the stem of
 /// the file name; a path without a file name stays as it is. If the extension has a `/`, the answer
-/// is `UNIX_PATH_SEPARATOR`, and nothing is written. If `out` has room for all of it, the answer
-/// stands at its beginning, and the bytes behind stay; else nothing is written. Lengths are in
-/// bytes. `out` overlaps neither slice, and no pointer is null. Does not allocate. As Rust's
+/// is `UNIX_PATH_SEPARATOR`, and nothing is written; if the path would have more than `PTRDIFF_MAX`
+/// bytes, which no buffer has, it is `UNIX_PATH_TOO_LONG`. If `out` has room for all of it, the
+/// answer stands at its beginning, and the bytes behind stay; else nothing is written. Lengths are
+/// in bytes. `out` overlaps neither slice, and no pointer is null. Does not allocate. As Rust's
 /// `Path::with_extension`, except that Rust's panics for a separator, and gives `..` for `..a`
 /// whatever the extension is.
 ///
 /// `foo.rs/.` with the extension `txt` is `foo.txt`, of 7 bytes, and `..` stays `..`.
 #[unsafe(no_mangle)]
 pub extern "C" fn unix_path_with_extension(path: &[u8], extension: &[u8], out: &mut [u8]) -> usize
-    ensures separator { has_slash extension.now ≡ true → result ≡ SEPARATOR }
-    ensures kept { has_slash extension.now ≡ true → out.new ≡ out.old }
+    ensures answers { IsLength result ⊎ ((result ≡ separator) ⊎ (result ≡ too_long)) }
+    ensures separator { (result ≡ separator) ↔ (has_slash extension.now ≡ true) }
+    ensures too_long { result ≡ too_long
+        → too_long ≤ length (with_extension_of path.now extension.now) }
+    ensures length { IsLength result → result ≡ length (with_extension_of path.now extension.now) }
     ensures out { has_slash extension.now ≡ false
         → out.new ≡ buffer_after (with_extension_of path.now extension.now) out.old }
-    ensures length { has_slash extension.now ≡ false
-        → result ≡ length (with_extension_of path.now extension.now) }
+    ensures kept { has_slash extension.now ≡ true → out.new ≡ out.old }
 {
     if extension.contains(&b'/') {
         return SEPARATOR;
     }
-    extension_layout(Path { bytes: path }, extension).write(out)
+    told_len(extension_layout(Path { bytes: path }, extension).write(out))
 }

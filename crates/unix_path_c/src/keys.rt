@@ -5,9 +5,9 @@ ghost use Rattle.path_runs.specs.Buffer.{buffer_after};
 ghost use Rattle.path_runs.specs.Spelling.{spelling_of};
 ghost use Rattle.path_keys.specs.Keys.{key_of, IsKey};
 ghost use Rattle.path_keys.specs.Ranges.{end_of};
-ghost use Rattle.unix_path_c.specs.Refusals.{IsLength, no_end, not_a_key};
+ghost use Rattle.unix_path_c.specs.Refusals.{IsLength, no_end, not_a_key, too_long};
 
-use crate::writing::place;
+use crate::writing::{place, told_len};
 use path_keys::{is_key, write_key, write_path_of};
 use unix_path::Path;
 
@@ -40,23 +40,26 @@ pub extern "C" fn unix_path_key(path: &[u8], out: &mut [u8]) -> usize
 /// It is the canonical spelling of the paths that have the key, and has at most half as many bytes
 /// more than the key. If `out` has room for all of it, it stands at the beginning of `out`, and the
 /// bytes behind stay; else nothing is written. The answer is `UNIX_PATH_NOT_A_KEY` exactly if the
-/// bytes are the key of no path, and then nothing is written. `out` doesn't overlap the key, and no
-/// pointer is null. Does not allocate. Not in Rust's std.
+/// bytes are the key of no path, and then nothing is written; it is `UNIX_PATH_TOO_LONG` if the
+/// path has more than `PTRDIFF_MAX` bytes, which no buffer has. `out` doesn't overlap the key, and
+/// no pointer is null. Does not allocate. Not in Rust's std.
 ///
 /// For 00 02 61 00 62 00 it is `./a/b`, of 5 bytes. 61, 00 04 and 61 00 00 01 are no keys.
 #[unsafe(no_mangle)]
 pub extern "C" fn unix_path_from_key(key: &[u8], out: &mut [u8]) -> usize
-    ensures answers { IsLength result ⊎ (result ≡ not_a_key) }
+    ensures answers { IsLength result ⊎ ((result ≡ not_a_key) ⊎ (result ≡ too_long)) }
     ensures not_a_key { (result ≡ not_a_key) ↔ (IsKey key.now → ⊥) }
+    ensures too_long { (s : List ℕ) → key_of (values s) ≡ key.now
+        → result ≡ too_long → too_long ≤ length (spelling_of (values s)) }
     ensures length { (s : List ℕ) → key_of (values s) ≡ key.now
-        → result ≡ length (spelling_of (values s)) }
+        → IsLength result → result ≡ length (spelling_of (values s)) }
     ensures out { (s : List ℕ) → key_of (values s) ≡ key.now
         → out.new ≡ buffer_after (spelling_of (values s)) out.old }
     ensures short { IsLength result → 2 * result ≤ 3 * length key.now }
     ensures refused { result ≡ not_a_key → out.new ≡ out.old }
 {
     match write_path_of(key, out) {
-        Some(len) => len,
+        Some(len) => told_len(len),
         None => NOT_A_KEY,
     }
 }

@@ -1,19 +1,20 @@
 //! Paths from outside: resolved, and joined so that they stay under a root.
-ghost use Rattle.std.specs.Prelude.{◌≡◌, ◌↔◌, ◌⊎◌, true, false, length, IfOk, IsErrOf};
+ghost use Rattle.std.specs.Prelude.{◌≡◌, ◌↔◌, ◌⊎◌, ◌≤◌, ◌+◌, true, false, length, IfOk, IsErrOf};
 ghost use Rattle.unix_path.specs.Joins.{join_of};
 ghost use Rattle.unix_path.specs.Parts.{is_rooted, values};
 ghost use Rattle.unix_path.specs.Prefixes.{Begins};
 ghost use Rattle.path_within.specs.Resolved.{resolved_bytes_of};
 ghost use Rattle.path_within.specs.Below.{below_of, has_nul, names_below, IsBelow};
-ghost use Rattle.path_within.specs.Climbs.{Climbs};
+ghost use Rattle.path_within.specs.Climbs.{Climbs, has_root_or_up};
 ghost use Rattle.path_within.specs.Requests.{request_names};
 ghost use Rattle.unix_path_c.specs.Refusals.{IsLength, escapes, no_memory, nul_in_request};
-ghost use Rattle.unix_path_c.specs.SaturatedSize.{buffer_size};
+ghost use Rattle.unix_path_c.specs.Refusals.{too_long};
 ghost use Rattle.path_runs.specs.Buffer.{buffer_after};
 
-use crate::writing::place_whole;
+use crate::joins::unix_path_join;
+use crate::writing::{place_whole, told_len};
 use path_within::resolved::resolved;
-use path_within::within::join_within;
+use path_within::within::{has_root_or_up, join_within};
 use path_within::{Request, RequestError, WithinError};
 use std::alloc::Global;
 use unix_path::Path;
@@ -26,9 +27,6 @@ const NO_MEMORY: usize = usize::MAX - 2;
 
 // The answer if a request has a NUL byte.
 const NUL_IN_REQUEST: usize = usize::MAX - 3;
-
-// One byte more than the longest buffer has.
-const NO_BUFFER: usize = 1 << 63;
 
 /// The path with each `..` dropped together with the name before it, in canonical spelling: `.` is
 /// dropped too, and so is `..` behind the root. Without a root, a `..` with no name before it stays
@@ -97,6 +95,40 @@ pub extern "C" fn unix_path_join_within(
     }
 }
 
+/// The request joined to the root, both as they stand, if the request has neither a root nor a
+/// `..`.
+///
+/// It is for roots in or under which links may stand: the request goes down by names alone, and
+/// each `..` of the root stays. The answer is `UNIX_PATH_ESCAPES` exactly if the request has a root
+/// or any `..`. Else it is how many bytes the join has, at most one more than both paths, or
+/// `UNIX_PATH_TOO_LONG` if that is more than `PTRDIFF_MAX`, which no buffer has. If `out` has room
+/// for them all they stand at its beginning, and what stood behind them stays; else nothing is
+/// written. `out` may overlap neither path.
+///
+/// A slash at the end of the request stays, a NUL passes, and the answer may be the root itself,
+/// with a slash behind it. Does not allocate. Not in Rust's std; as `path_within`'s `join_plain`.
+///
+/// `/srv/../www` with `./a` is `/srv/../www/./a`, and with `a/../b` it is refused.
+#[unsafe(no_mangle)]
+pub extern "C" fn unix_path_join_plain(root: &[u8], request: &[u8], out: &mut [u8]) -> usize
+    ensures answers { IsLength result ⊎ ((result ≡ escapes) ⊎ (result ≡ too_long)) }
+    ensures escapes { (result ≡ escapes) ↔ (has_root_or_up (values request.now) ≡ true) }
+    ensures too_long { result ≡ too_long → too_long ≤ length (join_of root.now request.now) }
+    ensures length { IsLength result → result ≡ length (join_of root.now request.now) }
+    ensures short { IsLength result → result ≤ length root.now + 1 + length request.now }
+    ensures out { IsLength result
+        → out.new ≡ buffer_after (join_of root.now request.now) out.old }
+    ensures within { IsLength result
+        → Begins (values root.now) (values (join_of root.now request.now)) }
+    ensures escaped { result ≡ escapes → out.new ≡ out.old }
+    ensures long { result ≡ too_long → out.new ≡ out.old }
+{
+    if has_root_or_up(Path::from_bytes(request)) {
+        return ESCAPES;
+    }
+    told_len(unix_path_join(root, request, out))
+}
+
 // The request of a path from outside: as the path of a URL, or one that has to stay below where it
 // starts.
 #[inline]
@@ -118,21 +150,12 @@ fn read_request(path: Path<'_>, as_url: bool) -> Result<Request<'_>, RequestErro
     Request::new(path)
 }
 
-// The length of a join as it is told: no buffer has more than `NO_BUFFER` bytes.
-#[inline]
-fn told_len(len: usize) -> usize
-    ensures { result ≡ buffer_size len }
-{
-    if len < NO_BUFFER { len } else { NO_BUFFER }
-}
-
 /// The request joined below the root: the root's bytes as they stand, and behind them the request's
 /// names, resolved, with a `/` between two of them and, where one is wanted, behind the root.
 ///
-/// The answer is how many bytes that is; a length above `PTRDIFF_MAX`, of which no buffer has as
-/// many bytes, is answered as `PTRDIFF_MAX + 1`. If `out` has room for them all they stand at its
-/// beginning, and what stood behind them stays; else nothing is written. `out` may overlap neither
-/// path.
+/// The answer is how many bytes that is, or `UNIX_PATH_TOO_LONG` if that is more than
+/// `PTRDIFF_MAX`, which no buffer has. If `out` has room for them all they stand at its beginning,
+/// and what stood behind them stays; else nothing is written. `out` may overlap neither path.
 ///
 /// If `as_url` is false, the answer is `UNIX_PATH_ESCAPES` exactly if the request climbs: it has a
 /// root, or goes above where it starts. If `as_url` is true, the request is read as the path of a
@@ -153,20 +176,24 @@ pub extern "C" fn unix_path_join_below(
     as_url: bool,
     out: &mut [u8],
 ) -> usize
-    ensures answers { IsLength result ⊎ ((result ≡ escapes) ⊎ (result ≡ nul_in_request)) }
+    ensures answers { IsLength result
+        ⊎ ((result ≡ escapes) ⊎ ((result ≡ nul_in_request) ⊎ (result ≡ too_long))) }
     ensures escapes { (result ≡ escapes)
         ↔ ((as_url ≡ false) × Climbs (values request.now)) }
     ensures nul { (result ≡ nul_in_request)
         ↔ ((has_nul request.now ≡ true)
         × (as_url ≡ false → Climbs (values request.now) → ⊥)) }
-    ensures length { IsLength result → result
-        ≡ buffer_size (length (below_of root.now (names_below (values request.now)))) }
+    ensures too_long { result ≡ too_long
+        → too_long ≤ length (below_of root.now (names_below (values request.now))) }
+    ensures length { IsLength result
+        → result ≡ length (below_of root.now (names_below (values request.now))) }
     ensures out { IsLength result
         → out.new ≡ buffer_after (below_of root.now (names_below (values request.now))) out.old }
     ensures below { IsLength result
         → IsBelow root.now (below_of root.now (names_below (values request.now))) }
     ensures escaped { result ≡ escapes → out.new ≡ out.old }
     ensures refused { result ≡ nul_in_request → out.new ≡ out.old }
+    ensures long { result ≡ too_long → out.new ≡ out.old }
 {
     match read_request(Path::from_bytes(request), as_url) {
         Ok(request) => told_len(request.write_below(Path::from_bytes(root), out)),

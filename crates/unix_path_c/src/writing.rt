@@ -3,6 +3,19 @@ ghost use Rattle.std.specs.Prelude.{◌≡◌, ◌≤◌, ◌<◌, ◌+◌, ◌^
 ghost use Rattle.unix_path.specs.Scan.{gap_bytes};
 ghost use Rattle.path_runs.specs.Buffer.{buffer_after};
 ghost use Rattle.path_runs.specs.Overlay.{overlay};
+ghost use Rattle.unix_path_c.specs.SaturatedSize.{buffer_size};
+
+// The answer in place of a length that no buffer has. It is one byte more than the longest buffer
+// has.
+const TOO_LONG: usize = 1 << 63;
+
+// A length as it is told: `TOO_LONG` if no buffer has as many bytes.
+#[inline]
+pub(crate) fn told_len(len: usize) -> usize
+    ensures { result ≡ buffer_size len }
+{
+    if len < TOO_LONG { len } else { TOO_LONG }
+}
 
 // Writes the bytes from `at` on, over as many bytes.
 #[inline]

@@ -75,6 +75,8 @@ extern "C" {
         -> usize;
     pub fn unix_path_join_within(root: Start, root_length: usize, request: Start,
         request_length: usize, out: *mut u8, out_length: usize) -> usize;
+    pub fn unix_path_join_plain(root: Start, root_length: usize, request: Start,
+        request_length: usize, out: *mut u8, out_length: usize) -> usize;
     pub fn unix_path_join_below(root: Start, root_length: usize, request: Start,
         request_length: usize, as_url: bool, out: *mut u8, out_length: usize) -> usize;
 
@@ -87,7 +89,8 @@ extern "C" {
 
 /// What `unix_path_with_extension` answers for an extension with a slash.
 pub const SEPARATOR: usize = usize::MAX - 6;
-/// What `unix_path_join_within` and `unix_path_join_below` answer for a request that climbs.
+/// What `unix_path_join_within` and `unix_path_join_below` answer for a request that climbs, and
+/// `unix_path_join_plain` for one with a root or a `..`.
 pub const ESCAPES: usize = usize::MAX - 1;
 /// What `unix_path_resolved` and `unix_path_join_within` answer if an allocation failed.
 pub const NO_MEMORY: usize = usize::MAX - 2;

@@ -88,7 +88,7 @@ fn of_one_path_or_key() {
 
 #[test]
 fn of_two() {
-    let rows: [RowOfTwo; 19] = [
+    let rows: [RowOfTwo; 22] = [
         (paths::join, b"a", b"b", b"a/b"),
         (paths::join, b"a/", b"b", b"a/b"),
         (paths::join, b"a", b"/b", b"/b"),
@@ -108,6 +108,9 @@ fn of_two() {
         (paths::join_within, b"/srv/../www", b"", b"/www"),
         (paths::join_within, b"", b"a/..", b""),
         (paths::join_within, b"../x", b"./y", b"../x/y"),
+        (paths::join_plain, b"/srv/..", b"./a", b"/srv/.././a"),
+        (paths::join_plain, b"/srv", b"", b"/srv/"),
+        (paths::join_plain, b"", b"a//..b/", b"a//..b/"),
     ];
     for (call, path, other, want) in rows {
         in_every_room(|out| call(path, other, out), want);
@@ -146,6 +149,8 @@ fn refusals_write_nothing() {
     );
     in_no_room(|out| paths::join_within(b"/a", b"..", out), Error::Escapes);
     in_no_room(|out| paths::join_within(b"/a", b"/a", out), Error::Escapes);
+    in_no_room(|out| paths::join_plain(b"/a", b"b/..", out), Error::Escapes);
+    in_no_room(|out| paths::join_plain(b"/a", b"/", out), Error::Escapes);
     let no_keys: [&[u8]; 7] = [
         b"a",
         b"\0\x04",

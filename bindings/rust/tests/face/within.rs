@@ -54,12 +54,21 @@ fn resolved_and_climbing() {
     }
 }
 
+/// The join, if the request has neither a root nor a `..`.
+fn plain_join(root: &[u8], request: &[u8]) -> Result<Vec<u8>, Error> {
+    if components(request).any(|part| matches!(part, Component::RootDir | Component::ParentDir)) {
+        return Err(Error::Escapes);
+    }
+    owned::join(root, request)
+}
+
 #[test]
 fn joined_within() {
     let strings = over(b"/.a", 5);
     for root in &strings {
         for request in &strings {
             let joined = owned::join_within(root, request);
+            assert_eq!(owned::join_plain(root, request), plain_join(root, request));
             if climbs(request) {
                 assert_eq!(joined, Err(Error::Escapes));
                 continue;

@@ -109,6 +109,7 @@ MAKE_OF_TWO(unix_path_join)
 MAKE_OF_TWO(unix_path_with_file_name)
 MAKE_OF_TWO(unix_path_with_extension)
 MAKE_OF_TWO(unix_path_join_within)
+MAKE_OF_TWO(unix_path_join_plain)
 size_t unix_path_join_below(TWO, bool as_url, OUT)
 {
     return NONE_OF_TWO, (void)as_url, any_bytes(out, out_length);

@@ -62,6 +62,7 @@ fn buffers() {
         paths::with_file_name,
         paths::with_extension,
         paths::join_within,
+        paths::join_plain,
     ];
     for _ in 0..ROUNDS {
         let mut out = [0; 12];
@@ -96,6 +97,7 @@ fn memory_of_its_own() {
         owned::with_file_name,
         owned::with_extension,
         owned::join_within,
+        owned::join_plain,
     ];
     for _ in 0..ROUNDS {
         for call in of_two {

@@ -1,6 +1,9 @@
 //! Rows of joins, and of paths with another file name or extension, in buffers of 0 to 31 bytes.
-use crate::joins::{SEPARATOR, unix_path_join, unix_path_with_extension, unix_path_with_file_name};
+use crate::joins::{unix_path_join, unix_path_with_extension, unix_path_with_file_name};
 use crate::tests::rooms::{holds, is_answered};
+
+// The answer to an extension with a slash.
+const SEPARATOR: usize = usize::MAX - 6;
 
 // A path, a path to join to it, and the join.
 static JOINS: [(&'static str, &'static str, &'static str); 16] = [

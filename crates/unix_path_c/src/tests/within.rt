@@ -1,6 +1,8 @@
 //! Rows of resolved paths and of joins that stay under a root, in buffers of 0 to 31 bytes.
 use crate::tests::rooms::is_answered;
-use crate::within::{unix_path_join_below, unix_path_join_within, unix_path_resolved};
+use crate::within::{
+    unix_path_join_below, unix_path_join_plain, unix_path_join_within, unix_path_resolved,
+};
 use std::alloc::Global;
 
 // The answer to a request that would leave its root.
@@ -40,6 +42,26 @@ static JOINS: [(&'static str, &'static str, Option<&'static str>); 13] = [
     ("../root", "a", Some("../root/a")),
     ("", "a/..", Some("")),
     ("/", "a\0/../etc", Some("/etc")),
+];
+
+// A root, a request, and their join as they stand, unless it is refused.
+static PLAIN_JOINS: [(&'static str, &'static str, Option<&'static str>); 16] = [
+    ("/srv/../www", "./a", Some("/srv/../www/./a")),
+    ("/srv/../www", "a//b/", Some("/srv/../www/a//b/")),
+    ("/srv", "", Some("/srv/")),
+    ("/srv/", "a", Some("/srv/a")),
+    ("/", "a", Some("/a")),
+    ("", "", Some("")),
+    ("", "./a", Some("./a")),
+    ("/srv", ".", Some("/srv/.")),
+    ("/srv", "..foo/...", Some("/srv/..foo/...")),
+    ("/srv", "a\0b", Some("/srv/a\0b")),
+    ("/srv", "..", None),
+    ("/srv", "a/../b", None),
+    ("/srv", "a/b/c/d/e/f/g/h/..", None),
+    ("/srv", "./..", None),
+    ("/srv", "/a", None),
+    ("", "/", None),
 ];
 
 // What is answered for a request below a root: the join, or the number that refuses it.
@@ -141,6 +163,16 @@ fn is_joined(alloc: Global, row: &(&str, &str, Option<&str>)) -> bool {
     }
 }
 
+// Whether the join of both as they stand is written, if there is room for it, or is refused if none
+// is wanted.
+fn is_joined_plain(row: &(&str, &str, Option<&str>)) -> bool {
+    let call = |out: &mut [u8]| unix_path_join_plain(row.0.as_bytes(), row.1.as_bytes(), out);
+    match row.2 {
+        Some(want) => is_answered(call, want.len(), want.as_bytes()),
+        None => is_answered(call, ESCAPES, b""),
+    }
+}
+
 #[test]
 fn rows_resolved(rt: HostRuntime) {
     for row in RESOLUTIONS.iter() {
@@ -152,6 +184,13 @@ fn rows_resolved(rt: HostRuntime) {
 fn rows_joined_within(rt: HostRuntime) {
     for row in JOINS.iter() {
         assert!(rt; is_joined(rt.alloc(), row), "{} {}", row.0, row.1);
+    }
+}
+
+#[test]
+fn rows_joined_plain(rt: HostRuntime) {
+    for row in PLAIN_JOINS.iter() {
+        assert!(rt; is_joined_plain(row), "{} {}", row.0, row.1);
     }
 }
 
