@@ -3,8 +3,8 @@
  * A path is a pointer to its bytes and how many there are. It may hold any byte, NUL too, and
  * needs none behind it. Its parts are the root, a leading `.`, and then each name and each `..`;
  * paths are equal if their parts are. No file is touched, and `..` is a part like a name. Only
- * unix_path_resolved, unix_path_join_within, unix_path_join_below, unix_path_climbs and
- * unix_path_check_request let `..` undo the name before it. For example, with <stdio.h> and
+ * unix_path_resolved, unix_path_join_within, unix_path_join_below, unix_path_way, unix_path_climbs
+ * and unix_path_check_request let `..` undo the name before it. For example, with <stdio.h> and
  * <string.h>:
  *
  *     const char *root = "/srv", *request = "a/../b";
@@ -33,9 +33,10 @@
  *  - What a call writes (walk, part, place, out) overlaps nothing else that the call is given.
  *  - If a call answers false, the records that it would write to stay as they were.
  *  - No call keeps anything, so threads may call at the same time. None allocates except
- *    unix_path_resolved and unix_path_join_within, which free what they allocate. They call malloc
- *    and free, and these have to be of one allocator: don't make these two calls where malloc may
- *    not be called, as in a signal handler, or in a forked child of a process with threads.
+ *    unix_path_resolved, unix_path_join_within and unix_path_way, which free what they allocate.
+ *    They call malloc and free, and these have to be of one allocator: don't make these three calls
+ *    where malloc may not be called, as in a signal handler, or in a forked child of a process with
+ *    threads.
  *
  * The calls with `out` return how many bytes their answer has. If that is at most out_length, the
  * answer stands at the beginning of out, and the bytes behind it stay as they were. Else nothing is
@@ -49,10 +50,12 @@
  *     UNIX_PATH_SEPARATOR        unix_path_with_extension: the extension has a slash
  *     UNIX_PATH_ESCAPES          unix_path_join_within, unix_path_join_below: the request climbs;
  *                                unix_path_join_plain: it has a root or a `..`
- *     UNIX_PATH_NO_MEMORY        unix_path_resolved, unix_path_join_within: an allocation failed
+ *     UNIX_PATH_NO_MEMORY        unix_path_resolved, unix_path_join_within, unix_path_way: an
+ *                                allocation failed
  *     UNIX_PATH_NUL_IN_REQUEST   unix_path_join_below: the request has a NUL byte
  *     UNIX_PATH_NOT_A_KEY        unix_path_from_key, unix_path_key_end: no path has this key
  *     UNIX_PATH_NO_END           unix_path_key_end: the key is empty, and every key in its range
+ *     UNIX_PATH_NO_WAY           unix_path_way: no path without a root leads there
  *     UNIX_PATH_TOO_LONG         unix_path_to_string_lossy, unix_path_with_extension,
  *                                unix_path_join_below, unix_path_join_plain, unix_path_from_key:
  *                                the answer has more than PTRDIFF_MAX bytes
@@ -89,7 +92,8 @@ _Static_assert(sizeof(size_t) == 8, "the library is for lengths of 64 bits");
 /* What unix_path_join_within and unix_path_join_below answer if the request climbs, and
  * unix_path_join_plain if it has a root or a `..`. Nothing is allocated. */
 #define UNIX_PATH_ESCAPES (SIZE_MAX - 1)
-/* What unix_path_resolved and unix_path_join_within answer if an allocation failed. */
+/* What unix_path_resolved, unix_path_join_within and unix_path_way answer if an allocation
+ * failed. */
 #define UNIX_PATH_NO_MEMORY (SIZE_MAX - 2)
 /* What unix_path_join_below answers if the request has a NUL byte. */
 #define UNIX_PATH_NUL_IN_REQUEST (SIZE_MAX - 3)
@@ -97,6 +101,8 @@ _Static_assert(sizeof(size_t) == 8, "the library is for lengths of 64 bits");
 #define UNIX_PATH_NOT_A_KEY (SIZE_MAX - 4)
 /* What unix_path_key_end answers to the empty key, whose range has all keys and no end. */
 #define UNIX_PATH_NO_END (SIZE_MAX - 5)
+/* What unix_path_way answers if no path without a root leads from the first path to the other. */
+#define UNIX_PATH_NO_WAY (SIZE_MAX - 7)
 /* What a call that has a refusal answers in place of a length above PTRDIFF_MAX, which is
  * SIZE_MAX / 2, and which no buffer has. */
 #define UNIX_PATH_TOO_LONG (SIZE_MAX / 2 + 1)
@@ -283,6 +289,16 @@ size_t unix_path_join_plain(const void *root, size_t root_length, const void *re
 size_t unix_path_join_below(const void *root, size_t root_length, const void *request,
                             size_t request_length, bool as_url, void *out, size_t out_length);
 
+/* The way from one path to another by names: of both resolved, without the parts that they then
+ * both begin with, `..` for each name that is left of the first, and then what is left of the
+ * other. UNIX_PATH_NO_WAY if one has a root and the other has none, or if a `..` is left of the
+ * first: then no path without a root leads there. UNIX_PATH_NO_MEMORY only if an allocation failed,
+ * which none does between the same bytes. It goes by names alone: if a part may be a link, only the
+ * system knows where `..` leads. It holds a NUL if a part that stays does, and an answer of no
+ * bytes stands for `.`. From `/a/b/c` to `/a/d` it is `../../d`. */
+size_t unix_path_way(const void *from, size_t from_length, const void *to, size_t to_length,
+                     void *out, size_t out_length);
+
 /* Keys, for a store that compares keys byte by byte, as memcmp does and then by length. Keys stand
  * in the order of unix_path_compare, and are the same exactly if unix_path_equal is true.
  *
@@ -459,6 +475,7 @@ UNIX_PATH_MAKES_OF_TWO(join_within)
 UNIX_PATH_MAKES_OF_TWO(join_plain)
 UNIX_PATH_MAKES(join_below, UNIX_PATH_READS_TWO UNIX_PATH_FILLS(6, 7),
                 (UNIX_PATH_TWO, bool as_url, UNIX_PATH_OUT), UNIX_PATH_AB, as_url)
+UNIX_PATH_MAKES_OF_TWO(way)
 UNIX_PATH_MAKES_OF_ONE(key)
 UNIX_PATH_MAKES_OF_ONE(from_key)
 UNIX_PATH_MAKES_OF_ONE(key_end)
@@ -492,6 +509,7 @@ UNIX_PATH_MAKES_OF_ONE(key_end)
 #define unix_path_join_within unix_path_inline_join_within
 #define unix_path_join_plain unix_path_inline_join_plain
 #define unix_path_join_below unix_path_inline_join_below
+#define unix_path_way unix_path_inline_way
 #define unix_path_key unix_path_inline_key
 #define unix_path_from_key unix_path_inline_from_key
 #define unix_path_key_end unix_path_inline_key_end

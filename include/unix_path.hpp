@@ -14,8 +14,9 @@
 // The calls of the library are proved, and what each answers stands in unix_path.h. This file isn't
 // proved: tests alone show that it passes them what they are to get, and hands on what they answer.
 //
-// Nothing here throws by itself, and all that is `noexcept` asks for no memory, but for `resolved`
-// and `join_within`, in which the library does: these answer refusal::no_memory if it gets none.
+// Nothing here throws by itself, and all that is `noexcept` asks for no memory, but for `resolved`,
+// `join_within` and `way`, in which the library does: these answer refusal::no_memory if it gets
+// none.
 // What gives a std::string throws std::bad_alloc if the string can't grow. A std::string_view with
 // a null pointer is an empty path everywhere. What is found in a path are its own bytes, so that
 // they have to live as long as the answer. For threads see unix_path.h.
@@ -64,6 +65,8 @@ enum class refusal {
     not_a_key,
     /// The key is empty: every key lies in its range.
     no_end,
+    /// No path without a root leads there.
+    no_way,
     /// The answer has more bytes than a buffer can have.
     too_long,
     /// The caller's buffer has less room than result::needed() says.
@@ -287,6 +290,10 @@ class view {
     /// URL; else refusal::nul_in_request exactly if it has a NUL byte.
     result<std::string> join_below(view request, reading how) const;
     result<std::string_view> join_below(view request, reading how, buffer out) const noexcept;
+    /// The way from this path to the other by names. refusal::no_way if no path without a root leads
+    /// there, and refusal::no_memory if the library got none, which it asks for beside the string.
+    result<std::string> way(view to) const;
+    result<std::string_view> way(view to, buffer out) const noexcept;
     /// The key by which a store that compares keys byte by byte keeps the path; unix_path.h says
     /// how it is laid out.
     std::string key() const;
@@ -519,6 +526,7 @@ inline refusal refusal_of(std::size_t answer) noexcept {
     case UNIX_PATH_NUL_IN_REQUEST: return refusal::nul_in_request;
     case UNIX_PATH_NOT_A_KEY: return refusal::not_a_key;
     case UNIX_PATH_NO_END: return refusal::no_end;
+    case UNIX_PATH_NO_WAY: return refusal::no_way;
     default: return refusal::too_long;
     }
 }
@@ -597,6 +605,11 @@ inline auto join_below_call(view a, view b, reading how) noexcept {
     return [a, b, how](char *out, std::size_t room) noexcept {
         return unix_path_join_below(a.data(), a.size(), b.data(), b.size(), how == reading::as_url,
                                     out, room);
+    };
+}
+inline auto way_call(view a, view b) noexcept {
+    return [a, b](char *out, std::size_t room) noexcept {
+        return unix_path_way(a.data(), a.size(), b.data(), b.size(), out, room);
     };
 }
 
@@ -678,6 +691,12 @@ inline result<std::string> view::join_below(view request, reading how) const {
 inline result<std::string_view> view::join_below(view request, reading how,
                                                  buffer out) const noexcept {
     return detail::written(out, detail::join_below_call(*this, request, how));
+}
+inline result<std::string> view::way(view to) const {
+    return detail::grown(detail::room_of(*this, to), detail::way_call(*this, to));
+}
+inline result<std::string_view> view::way(view to, buffer out) const noexcept {
+    return detail::written(out, detail::way_call(*this, to));
 }
 inline std::string view::key() const {
     return *detail::grown(size() + 2, detail::key_call(*this));

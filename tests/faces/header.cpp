@@ -21,6 +21,7 @@ constexpr std::array<OfOne, 3> of_one{unix_path_canonical, unix_path_to_string_l
 constexpr std::array<OfTwo, 5> of_two{unix_path_join, unix_path_with_file_name,
                                       unix_path_with_extension, unix_path_join_within,
                                       unix_path_join_plain};
+constexpr OfTwo way = unix_path_way;
 constexpr std::array<Turn, 2> turns{unix_path_next, unix_path_next_back};
 constexpr std::array<Place, 5> places{unix_path_parent, unix_path_file_name, unix_path_file_stem,
                                       unix_path_extension, unix_path_file_prefix};
@@ -116,6 +117,7 @@ bool other_calls_are_right() {
     std::string_view path = ".//a/./b/", base = "./a", spelling = "./a/b";
     unix_path_walk walk;
     unix_path_place left, rest;
+    std::array<uint8_t, 2> up{};
     components(path.data(), path.size(), &walk);
     as_path(path.data(), path.size(), &walk, &left);
     return path.substr(left.start, left.length) == ".//a/./b"
@@ -124,6 +126,7 @@ bool other_calls_are_right() {
            && compare(path.data(), path.size(), base.data(), base.size()) == 1
            && common_dir(path.data(), path.size(), base.data(), base.size()) == 2
            && hash(path.data(), path.size()) == hash(spelling.data(), spelling.size())
+           && way(path.data(), path.size(), base.data(), base.size(), up.data(), 2) == 2
            && output_of(unix_path_canonical, path) == spelling && is_joined_below()
            && is_key_right();
 }

@@ -112,6 +112,26 @@ static bool has_root_or_up(view path) {
     return false;
 }
 
+// A path joined with its way to another resolves to the other; there is no way if just one has a
+// root.
+static void way_leads(view from, view to) {
+    text way = new_text(), there = new_text(), found = new_text(), wanted = new_text();
+    bool is_way = add_two(&way, unix_path_way, from, to);
+    bool roots = unix_path_is_absolute(from.bytes, from.length)
+                 == unix_path_is_absolute(to.bytes, to.length);
+    CHECK(roots || !is_way, "roots");
+    if (is_way) {
+        add_two(&there, unix_path_join, from, as_view(&way));
+        add_one(&found, unix_path_resolved, as_view(&there));
+        add_one(&wanted, unix_path_resolved, to);
+        CHECK(same_bytes(as_view(&found), as_view(&wanted)), "way");
+    }
+    free(way.bytes);
+    free(there.bytes);
+    free(found.bytes);
+    free(wanted.bytes);
+}
+
 static view first_of_pair;
 
 // Laws that tie the calls of two paths together.
@@ -140,6 +160,7 @@ static void pair_with(view path) {
     CHECK(add_two(&second, unix_path_join_within, a, b) == !climbs, "escapes");
     CHECK(add_two(&second, unix_path_join_plain, a, b) == !has_root_or_up(b), "root or up");
     joins_below(a, b, climbs);
+    way_leads(a, b);
     add_two(&first, unix_path_with_file_name, a, b);
     add_two(&first, unix_path_with_extension, a, b);
     free(first.bytes);

@@ -52,18 +52,23 @@ static void refuse(size_t number) {
 static const char *const paths[] = {"a/../..//b/.", "/../a", "a/b", ".a/..b", "//", "a/.."};
 static const size_t path_count = sizeof paths / sizeof *paths;
 
-// Makes the call of a row, which asks for memory: of one path, or of two and no climbing request.
+// Makes the call of a row, which asks for memory: of one path, or of two between which there is a
+// way, and of which the second is no climbing request.
 static size_t call_row(size_t row, uint8_t *out, size_t room) {
     view path = view_of(paths[row % path_count]), request = view_of("x/../y//z/.");
     if (row < path_count) {
         return unix_path_resolved(path.bytes, path.length, out, room);
     }
-    return unix_path_join_within(path.bytes, path.length, request.bytes, request.length, out, room);
+    if (row < 2 * path_count) {
+        return unix_path_join_within(path.bytes, path.length, request.bytes, request.length, out,
+                                     room);
+    }
+    return unix_path_way(path.bytes, path.length, path.bytes, path.length - 1, out, room);
 }
 
 // Each request is refused once; without a refusal the call gives an answer.
 static void refused_requests(void) {
-    for (size_t row = 0; row < 2 * path_count; row++) {
+    for (size_t row = 0; row < 3 * path_count; row++) {
         size_t number = 0;
         do {
             uint8_t memory[64];
@@ -97,6 +102,10 @@ static void without_requests(void) {
     }
     refuse(1);
     CHECK(unix_path_resolved(root.bytes, 0, memory, sizeof memory) == 0 && requests == 0, "empty");
+    CHECK(unix_path_way(root.bytes, root.length, root.bytes, root.length, memory, sizeof memory)
+          == 0 && requests == 0, "the same bytes");
+    CHECK(unix_path_way(root.bytes, root.length, root.bytes + 1, root.length - 1, memory,
+                        sizeof memory) == UNIX_PATH_NO_WAY && requests == 0, "no way");
 }
 
 static void walk(view path) {

@@ -96,6 +96,9 @@ static void written_of_nothing(void) {
     write_both(unix_path_join_plain, none, none, nothing);
     write_both(unix_path_join_plain, none, name, name);
     write_both(unix_path_join_plain, name, none, view_of("a.b/"));
+    write_both(unix_path_way, none, none, nothing);
+    write_both(unix_path_way, none, name, name);
+    write_both(unix_path_way, name, none, view_of(".."));
     write_both(join_below, none, none, nothing);
     write_both(join_below, none, name, name);
     write_both(join_below, name, none, name);
@@ -112,6 +115,7 @@ static void lengths(void) {
           "refusals");
     CHECK(!unix_path_is_length(UNIX_PATH_NO_MEMORY), "refusals");
     CHECK(!unix_path_is_length(UNIX_PATH_NUL_IN_REQUEST), "refusals");
+    CHECK(!unix_path_is_length(UNIX_PATH_NO_WAY), "refusals");
     char version[16];
     snprintf(version, sizeof version, "%d.%d", UNIX_PATH_VERSION_MAJOR, UNIX_PATH_VERSION_MINOR);
     CHECK(strcmp(version, UNIX_PATH_VERSION) == 0, "version %s", version);

@@ -151,6 +151,8 @@ void written_strings() {
     CHECK(view("/srv").join_within("../b").why() == refusal::escapes);
     CHECK(*view("/srv/..").join_plain("./a") == "/srv/.././a");
     CHECK(view("/srv").join_plain("a/../b").why() == refusal::escapes);
+    CHECK(*view("/a/b/c").way("/a/d") == "../../d" && view("a//b").way("a/b")->empty());
+    CHECK(view("../x").way("y").why() == refusal::no_way);
     CHECK(*view("/srv/").join_below("/../b", reading::as_url) == "/srv/b");
     CHECK(view("/srv/").join_below("/../b", reading::as_path).why() == refusal::escapes);
     CHECK(view("/srv").join_below("a\0"sv, reading::as_url).why() == refusal::nul_in_request);
@@ -329,6 +331,7 @@ void buffers() {
                          [=](buffer out) { return a.with_extension(b.bytes(), out); });
             in_each_room(a.join_within(b), [=](buffer out) { return a.join_within(b, out); });
             in_each_room(a.join_plain(b), [=](buffer out) { return a.join_plain(b, out); });
+            in_each_room(a.way(b), [=](buffer out) { return a.way(b, out); });
             in_each_room(a.join_below(b, how),
                          [=](buffer out) { return a.join_below(b, how, out); });
         }
@@ -365,6 +368,7 @@ void null_views() {
     CHECK(none.with_extension({}, room)->empty() && none.canonical(room)->empty());
     CHECK(none.to_string_lossy(room)->empty() && none.resolved(room)->empty());
     CHECK(none.join_within(none, room)->empty());
+    CHECK(none.way(none)->empty() && none.way(none, room)->empty());
     CHECK(none.join_plain(none)->empty() && none.join_plain(none, room)->empty());
     CHECK(none.join_below(none, reading::as_url, room)->empty());
     CHECK(none.key().empty() && none.key(room)->empty() && unix_path::from_key({})->empty());

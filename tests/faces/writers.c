@@ -28,6 +28,10 @@ static const struct {
     {NULL, unix_path_join_plain, "/srv", "a//b/", "/srv/a//b/"},
     {NULL, unix_path_join_plain, "", "..a", "..a"},
     {NULL, unix_path_join_plain, "/srv", "", "/srv/"},
+    {NULL, unix_path_way, "/a/b/c", "/a/d", "../../d"},
+    {NULL, unix_path_way, "a/./b/", "a/b", ""},
+    {NULL, unix_path_way, "/srv/www", "/srv/www2/x/..", "../www2"},
+    {NULL, unix_path_way, "a/b", "", "../.."},
     {unix_path_canonical, NULL, ".//a/./b/", NULL, "./a/b"},
     {unix_path_canonical, NULL, "/.", NULL, "/"},
     {unix_path_canonical, NULL, "", NULL, ""},
@@ -105,6 +109,10 @@ static void refusals(void) {
                                        memory, room) == UNIX_PATH_SEPARATOR, "room %zu", room);
         CHECK(unix_path_join_within(path.bytes, path.length, request.bytes, request.length,
                                     memory, room) == UNIX_PATH_ESCAPES, "room %zu", room);
+        CHECK(unix_path_way(path.bytes, path.length, ups[0], 1, memory, room)
+              == UNIX_PATH_NO_WAY, "room %zu", room);
+        CHECK(unix_path_way(ups[2], 2, path.bytes, path.length, memory, room)
+              == UNIX_PATH_NO_WAY, "room %zu", room);
         for (size_t row = 0; row < sizeof ups / sizeof *ups; row++) {
             view up = view_of(ups[row]);
             CHECK(unix_path_join_plain(path.bytes, path.length, up.bytes, up.length, memory, room)

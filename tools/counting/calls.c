@@ -70,6 +70,7 @@ CALL(resolved, unix_path_resolved(A, OUT))
 CALL(key, unix_path_key(A, OUT))
 CALL(from_key, unix_path_from_key(A, OUT))
 CALL(key_end, unix_path_key_end(A, OUT))
+CALL(way, unix_path_way(A, B, OUT))
 CALL(join_within, unix_path_join_within(A, B, OUT))
 CALL(join_plain, unix_path_join_plain(A, B, OUT))
 /* A request with a root is one of a URL. */
@@ -84,7 +85,7 @@ static const call calls[] = {
     NAMED(is_utf8), NAMED(is_absolute), NAMED(climbs), NAMED(check_request), NAMED(common_dir),
     NAMED(join), NAMED(with_file_name), NAMED(with_extension), NAMED(canonical),
     NAMED(to_string_lossy), NAMED(resolved), NAMED(key), NAMED(from_key), NAMED(key_end),
-    NAMED(join_within), NAMED(join_plain), NAMED(join_below),
+    NAMED(way), NAMED(join_within), NAMED(join_plain), NAMED(join_below),
 };
 
 /* The call whose name has these bytes; NULL if there is none. */

@@ -139,3 +139,24 @@ pub fn join_within<'o>(root: &[u8], request: &[u8], out: &'o mut [u8]) -> Result
 pub fn join_plain<'o>(root: &[u8], request: &[u8], out: &'o mut [u8]) -> Result<&'o [u8], Error> {
     MakeOfTwo::JOIN_PLAIN.write(root, request, out)
 }
+
+/// The way from one path to another by names: of both resolved, without the parts that they then
+/// both begin with, `..` for each name that is left of the first, and then what is left of the
+/// other. A way of no bytes stands for the current directory.
+///
+/// It goes by names alone: if a part may be a link, only the system knows where `..` leads. Fails
+/// with `NoWay` if one path has a root and the other has none, or if a `..` is left of the first:
+/// then no path without a root leads there. Allocates the way, once, or not at all if that is
+/// empty, and before that each path that isn't resolved as it stands, and frees what it allocates;
+/// fails with `NoMemory` if an allocation failed, and with `Short`. Not in Rust's std.
+///
+/// ```
+/// use unix_path_rattle::{way, Error};
+/// let mut out = [0; 16];
+/// assert_eq!(way(b"/a/b/c", b"/a/d", &mut out), Ok(&b"../../d"[..]));
+/// assert_eq!(way(b"../x", b"y", &mut out), Err(Error::NoWay));
+/// ```
+#[inline]
+pub fn way<'o>(from: &[u8], to: &[u8], out: &'o mut [u8]) -> Result<&'o [u8], Error> {
+    MakeOfTwo::WAY.write(from, to, out)
+}

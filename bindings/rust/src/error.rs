@@ -25,6 +25,8 @@ pub enum Error {
     NoMemory,
     /// No path has these bytes as its key.
     NotAKey,
+    /// No path without a root leads from the first path to the other.
+    NoWay,
 }
 
 impl fmt::Display for Error {
@@ -35,6 +37,7 @@ impl fmt::Display for Error {
             Error::Escapes => f.write_str("path leaves its root"),
             Error::NoMemory => f.write_str("out of memory"),
             Error::NotAKey => f.write_str("not the key of a path"),
+            Error::NoWay => f.write_str("no way from one path to the other"),
         }
     }
 }
@@ -58,9 +61,11 @@ impl From<Error> for std::io::Error {
         use std::io::ErrorKind::{InvalidInput, OutOfMemory};
         match error {
             Error::NoMemory => OutOfMemory.into(),
-            Error::Short { .. } | Error::Separator | Error::Escapes | Error::NotAKey => {
-                std::io::Error::new(InvalidInput, error)
-            }
+            Error::Short { .. }
+            | Error::Separator
+            | Error::Escapes
+            | Error::NotAKey
+            | Error::NoWay => std::io::Error::new(InvalidInput, error),
         }
     }
 }

@@ -27,6 +27,7 @@ fn refusal(answer: usize) -> Error {
         ESCAPES => Error::Escapes,
         NO_MEMORY => Error::NoMemory,
         NOT_A_KEY => Error::NotAKey,
+        NO_WAY => Error::NoWay,
         needed => Error::Short { needed },
     }
 }
@@ -298,6 +299,7 @@ impl MakeOfTwo {
     pub const WITH_EXTENSION: MakeOfTwo = MakeOfTwo(unix_path_with_extension);
     pub const JOIN_WITHIN: MakeOfTwo = MakeOfTwo(unix_path_join_within);
     pub const JOIN_PLAIN: MakeOfTwo = MakeOfTwo(unix_path_join_plain);
+    pub const WAY: MakeOfTwo = MakeOfTwo(unix_path_way);
 
     #[inline]
     pub fn write<'o>(

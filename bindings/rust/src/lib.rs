@@ -64,7 +64,7 @@ mod queries;
 mod request;
 
 pub use buffers::{
-    canonical, join, join_plain, join_within, resolved, to_string_lossy, with_extension,
+    canonical, join, join_plain, join_within, resolved, to_string_lossy, way, with_extension,
     with_file_name,
 };
 pub use by_parts::ByParts;

@@ -303,6 +303,16 @@ pub fn join_below(root: impl AsRef<Path>, request: Request<'_>) -> Result<PathBu
     owned::join_below(bytes(&root), request).map(path_buf)
 }
 
+/// As [`owned::way`].
+///
+/// ```
+/// # use std::path::Path;
+/// assert_eq!(unix_path_rattle::os::way("/a/b/c", "/a/d").unwrap(), Path::new("../../d"));
+/// ```
+pub fn way(from: impl AsRef<Path>, to: impl AsRef<Path>) -> Result<PathBuf, Error> {
+    owned::way(bytes(&from), bytes(&to)).map(path_buf)
+}
+
 /// As [`owned::key`].
 ///
 /// ```

@@ -136,6 +136,19 @@ pub fn join_below(root: &[u8], request: Request<'_>) -> Result<Vec<u8>, Error> {
     })
 }
 
+/// As [`way`](crate::way), in memory of its own.
+///
+/// ```
+/// use unix_path_rattle::{owned, Error};
+/// assert_eq!(owned::way(b"/a/b/c", b"/a/d").unwrap(), b"../../d");
+/// assert_eq!(owned::way(b"../x", b"y"), Err(Error::NoWay));
+/// ```
+pub fn way(from: &[u8], to: &[u8]) -> Result<Vec<u8>, Error> {
+    vec_of(from.len() + 1 + to.len(), |bytes| {
+        MakeOfTwo::WAY.fill(from, to, bytes)
+    })
+}
+
 /// As [`key`](crate::key), in memory of its own.
 ///
 /// ```

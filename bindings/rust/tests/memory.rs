@@ -45,6 +45,7 @@ fn it_is_an_error() {
         owned::with_extension,
         owned::join_within,
         owned::join_plain,
+        owned::way,
     ];
     for call in of_two {
         assert_eq!(without_memory(|| call(b"a/b", b"c")), Err(Error::NoMemory));
@@ -69,6 +70,8 @@ fn it_is_an_error() {
 fn empty_answers_need_none() {
     assert_eq!(without_memory(|| owned::canonical(b"")), Ok(vec![]));
     assert_eq!(without_memory(|| owned::resolved(b"")), Ok(vec![]));
+    let no_way = without_memory(|| unix_path_rattle::way(b"/a", b"b", &mut []).map(<[u8]>::len));
+    assert_eq!(no_way, Err(Error::NoWay));
 }
 
 #[test]

@@ -29,6 +29,10 @@ no_end = 2 ^ 64 - 6
 abbrev pub separator : ℕ
 separator = 2 ^ 64 - 7
 
+-- `SIZE_MAX - 7`: no path without a root leads there
+abbrev pub no_way : ℕ
+no_way = 2 ^ 64 - 8
+
 -- the answer is a length, and so less than each of these
 abbrev pub IsLength : ℕ → Type 0
 IsLength answer = answer < too_long

@@ -12,5 +12,6 @@ mod queries;
 #[cfg(test)]
 mod tests;
 mod walks;
+mod way;
 mod within;
 mod writing;

@@ -8,4 +8,5 @@ mod places;
 mod queries;
 mod rooms;
 mod walks;
+mod way;
 mod within;

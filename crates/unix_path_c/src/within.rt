@@ -23,7 +23,7 @@ use unix_path::Path;
 const ESCAPES: usize = usize::MAX - 1;
 
 // The answer if an allocation failed.
-const NO_MEMORY: usize = usize::MAX - 2;
+pub(crate) const NO_MEMORY: usize = usize::MAX - 2;
 
 // The answer if a request has a NUL byte.
 const NUL_IN_REQUEST: usize = usize::MAX - 3;

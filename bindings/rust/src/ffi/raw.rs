@@ -79,6 +79,8 @@ extern "C" {
         request_length: usize, out: *mut u8, out_length: usize) -> usize;
     pub fn unix_path_join_below(root: Start, root_length: usize, request: Start,
         request_length: usize, as_url: bool, out: *mut u8, out_length: usize) -> usize;
+    pub fn unix_path_way(from: Start, from_length: usize, to: Start, to_length: usize,
+        out: *mut u8, out_length: usize) -> usize;
 
     pub fn unix_path_key(path: Start, path_length: usize, out: *mut u8, out_length: usize) -> usize;
     pub fn unix_path_from_key(key: Start, key_length: usize, out: *mut u8, out_length: usize)
@@ -92,7 +94,10 @@ pub const SEPARATOR: usize = usize::MAX - 6;
 /// What `unix_path_join_within` and `unix_path_join_below` answer for a request that climbs, and
 /// `unix_path_join_plain` for one with a root or a `..`.
 pub const ESCAPES: usize = usize::MAX - 1;
-/// What `unix_path_resolved` and `unix_path_join_within` answer if an allocation failed.
+/// What `unix_path_resolved`, `unix_path_join_within` and `unix_path_way` answer if an allocation
+/// failed.
 pub const NO_MEMORY: usize = usize::MAX - 2;
 /// What `unix_path_from_key` and `unix_path_key_end` answer for bytes that are the key of no path.
 pub const NOT_A_KEY: usize = usize::MAX - 4;
+/// What `unix_path_way` answers if no path without a root leads there.
+pub const NO_WAY: usize = usize::MAX - 7;

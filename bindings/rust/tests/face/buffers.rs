@@ -88,7 +88,7 @@ fn of_one_path_or_key() {
 
 #[test]
 fn of_two() {
-    let rows: [RowOfTwo; 22] = [
+    let rows: [RowOfTwo; 26] = [
         (paths::join, b"a", b"b", b"a/b"),
         (paths::join, b"a/", b"b", b"a/b"),
         (paths::join, b"a", b"/b", b"/b"),
@@ -111,6 +111,10 @@ fn of_two() {
         (paths::join_plain, b"/srv/..", b"./a", b"/srv/.././a"),
         (paths::join_plain, b"/srv", b"", b"/srv/"),
         (paths::join_plain, b"", b"a//..b/", b"a//..b/"),
+        (paths::way, b"/a/b/c", b"/a/d", b"../../d"),
+        (paths::way, b"a/./b/", b"a//b", b""),
+        (paths::way, b"x", b"../y", b"../../y"),
+        (paths::way, b"/a", b"/", b".."),
     ];
     for (call, path, other, want) in rows {
         in_every_room(|out| call(path, other, out), want);
@@ -149,6 +153,8 @@ fn refusals_write_nothing() {
     );
     in_no_room(|out| paths::join_within(b"/a", b"..", out), Error::Escapes);
     in_no_room(|out| paths::join_within(b"/a", b"/a", out), Error::Escapes);
+    in_no_room(|out| paths::way(b"a", b"/a", out), Error::NoWay);
+    in_no_room(|out| paths::way(b"../x", b"y", out), Error::NoWay);
     in_no_room(|out| paths::join_plain(b"/a", b"b/..", out), Error::Escapes);
     in_no_room(|out| paths::join_plain(b"/a", b"/", out), Error::Escapes);
     let no_keys: [&[u8]; 7] = [
@@ -184,6 +190,7 @@ fn errors_have_texts() {
         (Error::Escapes, "path leaves its root"),
         (Error::NoMemory, "out of memory"),
         (Error::NotAKey, "not the key of a path"),
+        (Error::NoWay, "no way from one path to the other"),
     ];
     for (error, want) in rows {
         assert_eq!(error.to_string(), want);

@@ -160,6 +160,31 @@ fn bad_requests() {
     }
 }
 
+/// The way by the parts that both resolve to; an error if there is none.
+fn way_by_parts(from: &[u8], to: &[u8]) -> Result<Vec<u8>, Error> {
+    let (from, to) = (kept_parts(from), kept_parts(to));
+    let shared = from.iter().zip(&to).take_while(|(a, b)| a == b).count();
+    let (left, onward) = (&from[shared..], &to[shared..]);
+    if left.iter().any(|part| *part == b".." || *part == b"/") || onward.first() == Some(&&b"/"[..])
+    {
+        return Err(Error::NoWay);
+    }
+    let ups = left.iter().map(|_| &b".."[..]);
+    Ok(spelling(
+        &ups.chain(onward.iter().copied()).collect::<Vec<_>>(),
+    ))
+}
+
+#[test]
+fn ways() {
+    let strings = over(b"/.a", 5);
+    for from in &strings {
+        for to in &strings {
+            assert_eq!(owned::way(from, to), way_by_parts(from, to));
+        }
+    }
+}
+
 #[test]
 fn is_canonical() {
     for s in over(b"/.a", 6) {

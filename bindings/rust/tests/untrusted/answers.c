@@ -17,7 +17,7 @@ static size_t any_size(void)
 {
     switch (any() % 4) {
     case 0:
-        return SIZE_MAX - any() % 7;
+        return SIZE_MAX - any() % 8;
     case 1:
         return SIZE_MAX / 2 + any() % 3;
     default:
@@ -110,6 +110,7 @@ MAKE_OF_TWO(unix_path_with_file_name)
 MAKE_OF_TWO(unix_path_with_extension)
 MAKE_OF_TWO(unix_path_join_within)
 MAKE_OF_TWO(unix_path_join_plain)
+MAKE_OF_TWO(unix_path_way)
 size_t unix_path_join_below(TWO, bool as_url, OUT)
 {
     return NONE_OF_TWO, (void)as_url, any_bytes(out, out_length);

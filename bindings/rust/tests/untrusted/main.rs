@@ -63,6 +63,7 @@ fn buffers() {
         paths::with_extension,
         paths::join_within,
         paths::join_plain,
+        paths::way,
     ];
     for _ in 0..ROUNDS {
         let mut out = [0; 12];
@@ -98,6 +99,7 @@ fn memory_of_its_own() {
         owned::with_extension,
         owned::join_within,
         owned::join_plain,
+        owned::way,
     ];
     for _ in 0..ROUNDS {
         for call in of_two {
