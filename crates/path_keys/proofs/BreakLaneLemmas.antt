@@ -14,27 +14,27 @@ use Rattle.std.proofs.lemmas.Simd.{length-chunk, get_or-chunk}
 use Rattle.path_keys.specs.Stretches.{is_break_of}
 
 -- all bits of a lane where the test is true
-abbrev lane : Bool → ℕ
+abbrev pub lane : Bool → ℕ
 lane b = cond b 255 0
 
-and_lane : (a b : Bool) → bit_and (lane a) (lane b) ≡ lane (a && b)
+pub and_lane : (a b : Bool) → bit_and (lane a) (lane b) ≡ lane (a && b)
 and_lane true true = refl
 and_lane true false = refl
 and_lane false true = refl
 and_lane false false = refl
 
-or_lane : (a b : Bool) → bit_or (lane a) (lane b) ≡ lane (a || b)
+pub or_lane : (a b : Bool) → bit_or (lane a) (lane b) ≡ lane (a || b)
 or_lane true true = refl
 or_lane true false = refl
 or_lane false true = refl
 or_lane false false = refl
 
-top_lane : (a : Bool) → top 7 (lane a) ≡ a
+pub top_lane : (a : Bool) → top 7 (lane a) ≡ a
 top_lane true = refl
 top_lane false = refl
 
 -- the lanes of n bytes that tell where one is y
-abbrev hits : ℕ → List ℕ → ℕ → List ℕ
+abbrev pub hits : ℕ → List ℕ → ℕ → List ℕ
 hits n xs y = zip2 (λ a b. lane (eqb a b)) xs (replicate n y)
 
 -- the lanes of n bytes that tell where a break is, by the bytes that follow them
@@ -44,11 +44,11 @@ break_lanes n m p here next =
     (zip2 (λ a b. bit_or a b) (hits n next m) (hits n next p))
 
 -- the i-th of n lanes tells b
-record Tells (n : ℕ) (xs : List ℕ) (i : ℕ) (b : Bool) : Type 0 where
-  size : length xs ≡ n
-  is : get_or xs i 0 ≡ lane b
+pub record Tells (n : ℕ) (xs : List ℕ) (i : ℕ) (b : Bool) : Type 0 where
+  pub size : length xs ≡ n
+  pub is : get_or xs i 0 ≡ lane b
 
-Tells-hits : (n : ℕ) (xs : List ℕ) (y i : ℕ) → length xs ≡ n → i < n
+pub Tells-hits : (n : ℕ) (xs : List ℕ) (y i : ℕ) → length xs ≡ n → i < n
     → Tells n (hits n xs y) i (eqb (get_or xs i 0) y)
 Tells-hits n xs y i l few = record {
   size = length-zip2 (λ a b. lane (eqb a b)) xs (replicate n y)
@@ -58,7 +58,7 @@ Tells-hits n xs y i l few = record {
       ∙ ap (λ z. lane (eqb (get_or xs i 0) z)) (get_or-replicate n i y 0 few);
 }
 
-Tells-zip2 : (n : ℕ) (f : ℕ → ℕ → ℕ) (t : Bool → Bool → Bool)
+pub Tells-zip2 : (n : ℕ) (f : ℕ → ℕ → ℕ) (t : Bool → Bool → Bool)
     → ((a b : Bool) → f (lane a) (lane b) ≡ lane (t a b)) → (xs ys : List ℕ) (i : ℕ) (a b : Bool)
     → i < n → Tells n xs i a → Tells n ys i b → Tells n (zip2 f xs ys) i (t a b)
 Tells-zip2 n f t same xs ys i a b few h k = record {

@@ -1,22 +1,28 @@
 -- A path written run by run, where there is no room for a last slash.
-use Rattle.std.proofs.Common.{◌≡◌, ◌≤◌, ◌+◌, ◌-◌, ℕ, Bool, true, List, [], ◌∷◌, ◌++◌}
+use Rattle.std.proofs.Common.{◌≡◌, ◌≤◌, ◌+◌, ◌-◌, ℕ, List, [], ◌∷◌, ◌++◌}
 use Rattle.std.proofs.Common.{length, take, drop, refl, sym, ap, ap₂, ◌∙◌, arith, subst, ◌<◌}
 use Rattle.std.proofs.Common.{length-append, length-take-le, take_all, append_assoc, append-nil}
-use Rattle.std.proofs.Common.{⊎_elim, false, map}
+use Rattle.std.proofs.Common.{⊎_elim, map, length-drop}
 use Rattle.std.proofs.lemmas.Bool.{cases_lt}
-use Rattle.std.proofs.lemmas.List.{take_at, take-take, take-append-le, drop-take, drop_all}
+use Rattle.std.proofs.lemmas.List.{length-map, take_at, take-take, take-append-le, drop-take, drop_all}
 use Rattle.std.proofs.Math.Seq.{take-append-add}
 use Rattle.unix_path.specs.Parts.{Value, slash, values}
 use Rattle.path_runs.specs.Overlay.{overlay}
 use Rattle.path_runs.specs.Spelling.{spelling_of}
-use Rattle.path_keys.specs.Codes.{text_of, AllFit, HasPath, IsRead, ReadsAs}
-use Rattle.path_keys.specs.Runs.{decoded, run_code, run_text, HoldsNone, LeavesText, TakesRun}
+use Rattle.std.specs.Borrow.{Bor}
+use Rattle.path_keys.specs.Keys.{code, key_of}
+use Rattle.path_keys.specs.Codes.{text_of, HasPath, IsRead, ReadsAs}
+use Rattle.path_keys.specs.Runs.{decoded, lead_text, run_code, run_text, BeginsLead}
+use Rattle.path_keys.specs.Runs.{HoldsNone, LeavesText, TakesRun}
+use Rattle.path_keys.specs.declared.runs.Lead.{Lead}
 use Rattle.path_keys.specs.declared.runs.Run.{Run}
-use Rattle.path_keys.specs.declared.runs.Run.TheVariants.{Root, Dot, Up, Names}
+use Rattle.path_keys.specs.declared.runs.Run.TheVariants.{Up, Names}
 use Rattle.path_keys.proofs.FitLemmas.{values-fit}
+use Rattle.path_keys.proofs.CodeLemmas.{code-length}
+use Rattle.path_keys.proofs.KeyLemmas.{key_of-cons}
+use Rattle.path_keys.proofs.PlainLemmas.{plain_left}
 use Rattle.path_keys.proofs.KeyReadLemmas.{spelled_read}
-use Rattle.path_keys.proofs.SpellLemmas.{SpellsOn, spells_none, spells_room, spells_one, spells_all}
-use Rattle.path_keys.proofs.RunReadLemmas.{fit_rest}
+use Rattle.path_keys.proofs.SpellLemmas.{SpellsOn, spells_lead, spells_room, spells_one, spells_all}
 use Rattle.path_keys.proofs.SpellLemmas.{spells_long}
 use Rattle.path_keys.proofs.TextLemmas.{IsText, lone, longer, text_is, ups_text_len}
 
@@ -52,18 +58,31 @@ overlay-take at m bytes old l =
     (take_all m bytes few)))
     (cases_lt m (length bytes))
 
+-- bytes put first in a buffer of which a front is kept are put first in that, as far as they go
+cut_first : (m : ℕ) (bytes old : List ℕ) → m ≤ length old
+    → take m (overlay 0 bytes old) ≡ overlay 0 (take m bytes) (take m old)
+cut_first m bytes old l =
+    let whole : 0 + m ≡ m = omega arith in
+    ap (λ n. take n (overlay 0 bytes old)) (sym whole)
+    ∙ overlay-take 0 m bytes old (omega arith)
+    ∙ ap (λ n. overlay 0 (take m bytes) (take n old)) whole
+
 -- the text of some values of the key is written to a buffer that has room for all of it, and of
 -- which the front is `out`
-pub record SpellsCut (key rest old : List ℕ) (first : Bool) (at : ℕ) (out : List ℕ) : Type 0 where
+pub record SpellsCut (key rest old : List ℕ) (at : ℕ) (out : List ℕ) : Type 0 where
   pub wide : List ℕ
   pub wide_out : List ℕ
-  pub spells : SpellsOn key rest wide first at wide_out
+  pub spells : SpellsOn key rest wide at wide_out
   pub few : length wide ≤ length old + 1
   pub enough : length old ≤ length wide
   pub cut : out ≡ take (length old) wide_out
 
-pub cut_none : (key old : List ℕ) → HasPath key (length old) → SpellsCut key key old true 0 old
-cut_none key old h = by (text_is (values h.path) (values-fit h.path))
+-- the text of the lead is written, as far as there is room
+pub cut_lead : {key rest old out : List ℕ} {lead : Lead} {at : ℕ} → HasPath key (length old)
+    → BeginsLead key rest lead → out ≡ overlay 0 (take (length old) (lead_text lead)) old
+    → at ≡ length (lead_text lead) → SpellsCut key rest old at out
+cut_lead {key} {rest} {old} {out} {lead} {at} h k placed ends =
+    by (text_is (values h.path) (values-fit h.path))
   where
     reads : (n : ℕ) → n ≡ length (text_of (values h.path)) → ReadsAs key n
     reads n e = record {
@@ -76,40 +95,38 @@ cut_none key old h = by (text_is (values h.path) (values-fit h.path))
     spelled : length old ≡ length (spelling_of (values h.path))
     spelled = h.len_is ∙ ap length h.read.spelled
 
-    by : IsText (text_of (values h.path)) (spelling_of (values h.path))
-        → SpellsCut key key old true 0 old
-    by (lone l e) = record {
-      wide = old;
-      wide_out = old;
-      spells = spells_none key old (reads (length old) (spelled ∙ ap length (sym e)));
-      few = omega arith;
-      enough = omega arith;
-      cut = sym (take_all (length old) old (omega arith));
+    within : (wide : List ℕ) → ReadsAs key (length wide) → length wide ≤ length old + 1
+        → length old ≤ length wide → old ≡ take (length old) wide → SpellsCut key rest old at out
+    within wide r few enough front = record {
+      wide = wide;
+      wide_out = overlay 0 (lead_text lead) wide;
+      spells = spells_lead r k refl ends;
+      few = few;
+      enough = enough;
+      cut = placed ∙ ap (overlay 0 (take (length old) (lead_text lead))) front
+          ∙ sym (cut_first (length old) (lead_text lead) wide enough);
     }
+
+    by : IsText (text_of (values h.path)) (spelling_of (values h.path))
+        → SpellsCut key rest old at out
+    by (lone l e) = within old (reads (length old) (spelled ∙ ap length (sym e))) (omega arith)
+        (omega arith) (sym (take_all (length old) old (omega arith)))
     by (longer l e) =
         let wide = old ++ 0 ∷ [] in
         let long : length wide ≡ length old + 1 = length-append old (0 ∷ []) in
-        record {
-          wide = wide;
-          wide_out = wide;
-          spells = spells_none key wide (reads (length wide)
-              (omega (
-                arith,
-                long,
-                spelled,
-                ap length e,
-                length-append (spelling_of (values h.path)) (slash ∷ []),
-              )));
-          few = omega (arith, long);
-          enough = omega (arith, long);
-          cut = sym (take_at old (0 ∷ []) (length old) refl);
-        }
+        within wide (reads (length wide) (omega (
+          arith,
+          long,
+          spelled,
+          ap length e,
+          length-append (spelling_of (values h.path)) (slash ∷ []),
+        ))) (omega (arith, long)) (omega (arith, long)) (sym (take_at old (0 ∷ []) (length old) refl))
 
 -- the text of what is left of the key has at most a byte more than there is room
-pub cut_leaves : {key rest old out : List ℕ} {first : Bool} {at : ℕ}
-    → SpellsCut key rest old first at out
-    → (at ≤ length old + 1) × LeavesText first rest (length old + 1 - at)
-cut_leaves {key} {rest} {old} {out} {first} {at} h =
+pub cut_leaves : {key rest old out : List ℕ} {at : ℕ}
+    → SpellsCut key rest old at out
+    → (at ≤ length old + 1) × LeavesText rest (length old + 1 - at)
+cut_leaves {key} {rest} {old} {out} {at} h =
     let k = h.spells in
     let w = k.written in
     let count : at + length (text_of k.ws) ≤ length old + 1 =
@@ -124,31 +141,29 @@ cut_leaves {key} {rest} {old} {out} {first} {at} h =
       omega (arith, count),
       record {
         ws = k.ws;
-        fit = subst (λ b. AllFit b k.ws) (sym k.first_is) (fit_rest k.us k.ws k.fit);
+        fit = k.inner;
         rest_is = k.rest_is;
         short = omega (arith, count);
       },
     )
 
 -- there is room for the text of the next run, but for a last slash
-pub cut_room : {key rest old out : List ℕ} {first : Bool} {at : ℕ} {run : Run}
-    → SpellsCut key rest old first at out → TakesRun first rest run
+pub cut_room : {key rest old out : List ℕ} {at : ℕ} {run : Run}
+    → SpellsCut key rest old at out → TakesRun rest run
     → at + length (run_text run) ≤ length old + 1
 cut_room h k = omega (arith, h.few, spells_room h.spells k)
 
 text_some : (run : Run) → 0 < length (run_text run)
-text_some Root = omega arith
-text_some Dot = omega arith
 text_some (Up n) = omega (arith, ups_text_len (n + 1))
 text_some (Names bytes) = omega (arith, length-append (map decoded bytes.now) (slash ∷ []))
 
 -- the text of one more run is written, as far as there is room
-pub cut_one : {key rest old out more new : List ℕ} {first : Bool} {at end : ℕ} {run : Run}
-    → SpellsCut key rest old first at out → TakesRun first rest run
+pub cut_one : {key rest old out more new : List ℕ} {at end : ℕ} {run : Run}
+    → SpellsCut key rest old at out → TakesRun rest run
     → more ≡ drop (length (run_code run)) rest
     → new ≡ overlay at (take (length old - at) (run_text run)) out
-    → end ≡ at + length (run_text run) → SpellsCut key more old false end new
-cut_one {key} {rest} {old} {out} {more} {new} {first} {at} {end} {run} h k e placed ends =
+    → end ≡ at + length (run_text run) → SpellsCut key more old end new
+cut_one {key} {rest} {old} {out} {more} {new} {at} {end} {run} h k e placed ends =
     let n = length old in
     let in_room : at ≤ n = omega (arith, text_some run, cut_room h k) in
     let whole : at + (n - at) ≡ n = omega arith in
@@ -166,10 +181,10 @@ cut_one {key} {rest} {old} {out} {more} {new} {first} {at} {end} {run} h k e pla
     }
 
 -- if no run is left, the path is written
-pub cut_all : {key rest old out : List ℕ} {first : Bool} {at : ℕ}
-    → SpellsCut key rest old first at out → HoldsNone first rest → HasPath key (length old)
+pub cut_all : {key rest old out : List ℕ} {at : ℕ}
+    → SpellsCut key rest old at out → HoldsNone rest → HasPath key (length old)
     → IsRead key out
-cut_all {key} {rest} {old} {out} {first} {at} h none p = subst (IsRead key) (sym is)
+cut_all {key} {rest} {old} {out} {at} h none p = subst (IsRead key) (sym is)
     (spelled_read key (values p.path) (values-fit p.path) p.read.key_is)
   where
     vs : List Value
@@ -189,3 +204,41 @@ cut_all {key} {rest} {old} {out} {first} {at} h none p = subst (IsRead key) (sym
 
     is : out ≡ spelling_of vs
     is = text ∙ by (text_is vs (values-fit p.path))
+
+-- nothing is the key of no values
+nothing_none : (s : List ℕ) → length s ≤ 0 → HoldsNone s
+nothing_none s l v vs fit e = omega (
+  arith,
+  l,
+  ap length e,
+  ap length (key_of-cons v vs),
+  length-append (code v) (key_of vs),
+  code-length v,
+)
+
+-- if what is left has as many bytes as there is room for its text, and these are put there as names,
+-- the path is written
+pub cut_plain : {key rest old out new : List ℕ} {at : ℕ} (b : Bor (List ℕ))
+    → SpellsCut key rest old at out → length rest ≡ length old + 1 - at → 0 < length rest
+    → new ≡ overlay at (map decoded (take (length old - at) rest)) out
+    → HasPath key (length old) → IsRead key new
+cut_plain {key} {rest} {old} {out} {new} {at} b h long some placed p =
+    let n = length old - at in
+    let leaves = cut_leaves h in
+    let names = take n rest in
+    let bytes : Bor (List ℕ) = record b { now = names } in
+    let less : n ≡ length rest - 1 = omega (arith, long, leaves.0) in
+    let run = plain_left bytes rest (length old + 1 - at) leaves.1 long some
+    (ap (λ k. take k rest) less) in
+    let size : length names ≡ n = length-take-le n rest (omega (arith, less)) in
+    let text : take n (map decoded names ++ slash ∷ []) ≡ map decoded names =
+    take_at (map decoded names) (slash ∷ []) n (length-map names decoded ∙ size) in
+    cut_all (cut_one h run refl (placed ∙ ap (λ t. overlay at t out) (sym text)) refl)
+    (nothing_none _ (omega (
+      arith,
+      length-drop (length (names ++ 0 ∷ [])) rest,
+      length-append names (0 ∷ []),
+      size,
+      less,
+      some,
+    ))) p

@@ -45,7 +45,7 @@ Fits-first CurDir h = refl
 Fits-first ParentDir h = tt
 Fits-first (Normal name) h = h
 
-AllFit-first : (vs : List Value) → AllFit false vs → AllFit true vs
+pub AllFit-first : (vs : List Value) → AllFit false vs → AllFit true vs
 AllFit-first [] h = tt
 AllFit-first (v ∷ vs) h = (Fits-first v h.0, h.1)
 

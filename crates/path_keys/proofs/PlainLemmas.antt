@@ -1,6 +1,6 @@
 -- Keys of values without a `..`: as long as their text, which is each byte of theirs changed.
-use Rattle.std.proofs.Common.{◌≡◌, ◌<◌, ◌≤◌, ◌-◌, ℕ, Bool, false, List, [], ◌∷◌}
-use Rattle.std.proofs.Common.{◌++◌, length, take, map, get_or, refl, sym, ap, ap₂, ◌∙◌}
+use Rattle.std.proofs.Common.{◌≡◌, ◌<◌, ◌≤◌, ◌-◌, ℕ, false, List, [], ◌∷◌}
+use Rattle.std.proofs.Common.{◌++◌, length, take, map, refl, sym, ap, ap₂, ◌∙◌}
 use Rattle.std.proofs.Common.{subst, arith, append_assoc, append-nil, length-append}
 use Rattle.std.proofs.lemmas.Bool.{true≢false}
 use Rattle.std.proofs.lemmas.List.{drop_all, length-map, map-append, take_at}
@@ -108,13 +108,12 @@ ends_in_mark p (q ∷ ps) =
     }
 
 -- names whose key is all that is left are a run
-all_names : (first : Bool) (bytes : Bor (List ℕ)) (s : List ℕ) (ws : List Value) → AreNames ws
-    → s ≡ key_of ws → 0 < length s → bytes.now ≡ take (length s - 1) s
-    → TakesRun first s (Names bytes)
-all_names first bytes s ws h e l is = by h.names h.is h.hold
+all_names : (bytes : Bor (List ℕ)) (s : List ℕ) (ws : List Value) → AreNames ws
+    → s ≡ key_of ws → 0 < length s → bytes.now ≡ take (length s - 1) s → TakesRun s (Names bytes)
+all_names bytes s ws h e l is = by h.names h.is h.hold
   where
     by : (ps : List (List ℕ)) → ws ≡ map Normal ps → AllByRecursion IsName ps
-        → TakesRun first s (Names bytes)
+        → TakesRun s (Names bytes)
     by [] same hold = absurd (omega (arith, ap length (e ∙ ap key_of same ∙ key_of-nil)))
     by (p ∷ ps) same hold =
         let vs = map Normal (p ∷ ps) in
@@ -130,7 +129,7 @@ all_names first bytes s ws h e l is = by h.names h.is h.hold
         record {
           vs = vs;
           some = omega arith;
-          fit = names_fit first (p ∷ ps) hold;
+          fit = names_fit false (p ∷ ps) hold;
           code_is = sym key_is ∙ code;
           text_is = text_of-key (p ∷ ps) hold ∙ ap (map decoded) (sym key_is ∙ code)
               ∙ map-append decoded bytes.now (0 ∷ []);
@@ -139,30 +138,10 @@ all_names first bytes s ws h e l is = by h.names h.is h.hold
               ∙ append-nil (bytes.now ++ 0 ∷ []));
         }
 
--- what is left behind others, and has as many bytes as there are left for its text, is names
-pub plain_behind : (first : Bool) (bytes : Bor (List ℕ)) (s : List ℕ) (room : ℕ)
-    → LeavesText first s room → first ≡ false → length s ≡ room → 0 < length s
-    → bytes.now ≡ take (length s - 1) s → TakesRun first s (Names bytes)
-plain_behind first bytes s room h behind long l is =
-    all_names first bytes s h.ws (are_names h.ws (subst (λ b. AllFit b h.ws) behind h.fit)
-    (omega (arith, h.short, long, ap length h.rest_is))) h.rest_is l is
-
--- and so is what begins with no mark
-pub plain_first : (first : Bool) (bytes : Bor (List ℕ)) (s : List ℕ) (room : ℕ)
-    → LeavesText first s room → length s ≡ room → 0 < length s → (get_or s 0 0 ≡ 0 → ⊥)
-    → bytes.now ≡ take (length s - 1) s → TakesRun first s (Names bytes)
-plain_first first bytes s room h long l named is =
-    all_names first bytes s h.ws (are_names h.ws (fit h.ws h.fit h.rest_is)
-    (omega (arith, h.short, long, ap length h.rest_is))) h.rest_is l is
-  where
-    marked : (v : Value) (vs : List Value) → s ≡ key_of (v ∷ vs)
-        → get_or (code v ++ key_of vs) 0 0 ≡ 0 → ⊥
-    marked v vs e zero_is =
-        named (ap (λ k. get_or k 0 0) (e ∙ key_of-cons v vs) ∙ zero_is)
-
-    fit : (ws : List Value) → AllFit first ws → s ≡ key_of ws → AllFit false ws
-    fit [] f e = tt
-    fit (RootDir ∷ ws) f e = absurd (marked RootDir ws e refl)
-    fit (CurDir ∷ ws) f e = absurd (marked CurDir ws e refl)
-    fit (ParentDir ∷ ws) f e = f
-    fit (Normal name ∷ ws) f e = f
+-- what is left, and has as many bytes as there are left for its text, is names
+pub plain_left : (bytes : Bor (List ℕ)) (s : List ℕ) (room : ℕ) → LeavesText s room
+    → length s ≡ room → 0 < length s → bytes.now ≡ take (length s - 1) s
+    → TakesRun s (Names bytes)
+plain_left bytes s room h long l is =
+    all_names bytes s h.ws (are_names h.ws h.fit (omega (arith, h.short, long, ap length h.rest_is)))
+    h.rest_is l is

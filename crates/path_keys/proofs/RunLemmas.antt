@@ -1,11 +1,10 @@
 -- What stands first in a path, a `..` or a stretch of names, in a key.
 use Rattle.std.proofs.Common.{◌≡◌, ◌<◌, ◌≤◌, ◌+◌, ℕ, true, false, cond, eqb, List, []}
 use Rattle.std.proofs.Common.{◌∷◌, ◌++◌, length, take, drop, map, get_or, refl, sym, ap, ap₂, ◌∙◌}
-use Rattle.std.proofs.Common.{subst, arith, append-nil, eqb-true}
-use Rattle.std.proofs.Common.{filter, take-append-drop, ◌&&◌, ◌||◌, ⊎_elim}
-use Rattle.std.proofs.lemmas.Bool.{and_parts, cases_lt, false≢true}
-use Rattle.std.proofs.lemmas.List.{take_all, drop_all, drop_more, get_or-take, get_or_past}
-use Rattle.std.proofs.lemmas.List.{get_or_default, length-take-le, map-append}
+use Rattle.std.proofs.Common.{subst, arith, append-nil, eq-eqb}
+use Rattle.std.proofs.Common.{filter, take-append-drop, ⊎_elim}
+use Rattle.std.proofs.lemmas.Bool.{cases_lt, false≢true}
+use Rattle.std.proofs.lemmas.List.{take_all, drop_all, drop_more, map-append}
 use Rattle.std.proofs.lemmas.List.Elements.{filter-append}
 use Rattle.std.proofs.lemmas.List.Splits.{slice_split-cons_yes, slice_split-cons_no}
 use Rattle.std.specs.List.{AllByRecursion, slice_split, onto_first, position_or_len}
@@ -23,7 +22,8 @@ use Rattle.unix_path.proofs.PlaceLemmas.{values-inner_parts}
 use Rattle.path_runs.proofs.PieceValueLemmas.{inner_values-pieces, names_of}
 use Rattle.path_keys.specs.Keys.{key_of}
 use Rattle.path_keys.specs.Codes.{AllFit, IsName}
-use Rattle.path_keys.specs.Stretches.{coded, is_break_of, FirstBreak, FirstBreakOf, IsRun}
+use Rattle.path_keys.specs.Stretches.{coded, AreNamesTo, FirstStop, IsRun}
+use Rattle.path_keys.proofs.StopLemmas.{stop_mark, unstopped_to}
 use Rattle.path_keys.proofs.FitLemmas.{values-fit}
 use Rattle.path_keys.proofs.KeyLemmas.{key_of-cons, key_of-append}
 use Rattle.path_keys.proofs.LeadLemmas.{values-busy}
@@ -90,40 +90,14 @@ inner_values-cut t r =
     ∙ names_of-append (slice_split is_slash t) (slice_split is_slash r)
     ∙ sym (ap₂ (λ vs ws. vs ++ ws) (inner_values-pieces t) (inner_values-pieces (slash ∷ r)))
 
--- the byte behind i reads the same in the string up to its first break
-next_same : (m p : ℕ) (s : List ℕ) (n i : ℕ) → FirstBreakOf m p s n → i < n
-    → get_or (take n s) (i + 1) m ≡ get_or s (i + 1) m
-next_same m p s n i h l = ⊎_elim
-    (λ before. get_or-take n s (i + 1) m before)
-    (λ last.
-    get_or_past (take n s) (i + 1) m (omega (arith, length-take-le n s h.in_range))
-    ∙ sym (ap (λ k. get_or s k m) {x = i + 1} {y = n} (omega arith) ∙ end))
-    (cases_lt (i + 1) n)
-  where
-    end : get_or s n m ≡ m
-    end = ⊎_elim
-        (λ inside. get_or_default s n m 0 inside
-        ∙ eqb-true _ m (and_parts (eqb (get_or s n 0) m) _ (h.breaks inside)).0)
-        (λ past. get_or_past s n m past)
-        (cases_lt n (length s))
-
--- the string up to its first break has no break
-pub unbroken_to : (m p : ℕ) (s : List ℕ) (n : ℕ) → FirstBreakOf m p s n
-    → (i : ℕ) → i < length (take n s) → is_break_of m p (take n s) i ≡ false
-unbroken_to m p s n h i l =
-    let few : i < n = omega (arith, length-take-le n s h.in_range) in
-    ap₂ (λ x y. eqb x m && (eqb y m || eqb y p)) (get_or-take n s i 0 few)
-    (next_same m p s n i h few) ∙ h.none_before i few
-
--- the string is what stands before its first break, and then a slash, or nothing
-cut_at : (s : List ℕ) (n : ℕ) → FirstBreak s n → n < length s
+-- the string is what stands before its first stop, and then a slash, or nothing
+cut_at : (s : List ℕ) (n : ℕ) → FirstStop s n → n < length s
     → drop n s ≡ slash ∷ drop (n + 1) s
 cut_at s n h l = drop_more s n 0 l
-    ∙ ap (λ b. b ∷ drop (n + 1) s)
-    (eqb-true _ 47 (and_parts (eqb (get_or s n 0) 47) _ (h.breaks l)).0)
+    ∙ ap (λ b. b ∷ drop (n + 1) s) (stop_mark 47 46 s n h l)
 
--- the pieces of the string begin with those of what stands before its first break
-whole_pieces : (s : List ℕ) (n : ℕ) → FirstBreak s n → (p : List ℕ) (ps : List (List ℕ))
+-- the pieces of the string begin with those of what stands before its first stop
+whole_pieces : (s : List ℕ) (n : ℕ) → FirstStop s n → (p : List ℕ) (ps : List (List ℕ))
     → slice_split is_slash (take n s) ≡ p ∷ ps
     → (qs : List (List ℕ)) × (slice_split is_slash s ≡ p ∷ (ps ++ qs))
 whole_pieces s n h p ps e = ⊎_elim
@@ -144,8 +118,8 @@ whole_pieces s n h p ps e = ⊎_elim
 cons_first : {p q : List ℕ} {ps qs : List (List ℕ)} → p ∷ ps ≡ q ∷ qs → p ≡ q
 cons_first e = cc
 
--- the first piece of the string is that of what stands before its first break
-first_same : (s : List ℕ) (n : ℕ) → FirstBreak s n
+-- the first piece of the string is that of what stands before its first stop
+first_same : (s : List ℕ) (n : ℕ) → FirstStop s n
     → (ps : List (List ℕ)) × (slice_split is_slash (take n s) ≡ first_piece s ∷ ps)
 first_same s n h =
     let some = some_piece (take n s) in
@@ -153,8 +127,8 @@ first_same s n h =
     let same : some.0 ≡ first_piece s = cons_first (sym rest.1 ∙ slice_split-first s) in
     (some.1, some.2 ∙ ap (λ p. p ∷ some.1) same)
 
--- the key of what stands before the first break, and of what is left
-split_at : (s : List ℕ) (n : ℕ) → FirstBreak s n
+-- the key of what stands before the first stop, and of what is left
+split_at : (s : List ℕ) (n : ℕ) → FirstStop s n
     → inner_values s ≡ inner_values (take n s) ++ inner_values (drop n s)
 split_at s n h = ⊎_elim
     (λ inside.
@@ -167,17 +141,17 @@ split_at s n h = ⊎_elim
     ∙ ap (λ vs. inner_values s ++ vs) inner_values-nil ∙ append-nil (inner_values s)))
     (cases_lt n (length s))
 
--- if the first break is at 0, a slash stands there
-first_breaks : (s : List ℕ) (n : ℕ) → 0 < length s → FirstBreak s n → n ≤ 0
+-- if the first stop is at 0, a slash stands there
+first_stops : (s : List ℕ) (n : ℕ) → 0 < length s → FirstStop s n → n ≤ 0
     → eqb (get_or s 0 0) 47 ≡ true
-first_breaks s n l h none =
+first_stops s n l h none =
     let zero_is : n ≡ 0 = omega arith in
     ap (λ k. eqb (get_or s k 0) 47) (sym zero_is)
-    ∙ (and_parts (eqb (get_or s n 0) 47) _ (h.breaks (omega arith))).0
+    ∙ eq-eqb (get_or s n 0) 47 (stop_mark 47 46 s n h (omega arith))
 
--- what stands before the first break is a run of names
+-- what stands before the first stop is a run of names
 pub run-names : (s : List ℕ) (n : ℕ) → 0 < length s → is_idle s 0 ≡ false
-    → begins_with_parent s ≡ false → FirstBreak s n → IsRun s n
+    → begins_with_parent s ≡ false → FirstStop s n → IsRun s n
 run-names s n l busy e h =
     let t = take n s in
     let first = first_same s n h in
@@ -185,15 +159,27 @@ run-names s n l busy e h =
     subst (AllByRecursion IsName) (sym first.1) (
       first_name s l busy e,
       subst (λ ps. AllByRecursion IsName (later ps)) first.1
-          (later_names t (unbroken_to 47 46 s n h)),
+          (later_names t (unstopped_to 47 46 s n h)),
     ) in
     record {
       some = ⊎_elim (λ some. some) (λ none. absurd (false≢true
-          (sym (busy_no_slash s busy) ∙ first_breaks s n l h none)))
+          (sym (busy_no_slash s busy) ∙ first_stops s n l h none)))
           (cases_lt 0 n);
       in_range = h.in_range;
       split = ap key_of (split_at s n h)
           ∙ key_of-append (inner_values t) (inner_values (drop n s))
           ∙ ap (λ c. c ++ key_of (inner_values (drop n s)))
           (stretch_key t names ∙ sym (ap (λ b. cond b (0 ∷ 3 ∷ []) (map coded t ++ 0 ∷ [])) e));
+    }
+
+-- what stands before the first stop are names
+pub names_to : (s : List ℕ) (n : ℕ) → 0 < length s → is_idle s 0 ≡ false
+    → begins_with_parent s ≡ false → FirstStop s n → AreNamesTo s n
+names_to s n l busy e h =
+    let run = run-names s n l busy e h in
+    record {
+      some = run.some;
+      in_range = run.in_range;
+      split = run.split ∙ ap (λ t. cond t (0 ∷ 3 ∷ []) (map coded (take n s) ++ 0 ∷ [])
+          ++ key_of (inner_values (drop n s))) e;
     }

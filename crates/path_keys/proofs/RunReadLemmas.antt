@@ -1,5 +1,5 @@
 -- A key that is read run by run.
-use Rattle.std.proofs.Common.{◌≡◌, ◌<◌, ◌≤◌, ◌+◌, ◌*◌, ℕ, Bool, true, false, List, [], ◌∷◌, ◌++◌}
+use Rattle.std.proofs.Common.{◌≡◌, ◌<◌, ◌≤◌, ◌+◌, ◌*◌, ℕ, true, false, List, [], ◌∷◌, ◌++◌}
 use Rattle.std.proofs.Common.{length, drop, refl, sym, ap, ◌∙◌, arith, subst, append_assoc}
 use Rattle.std.proofs.Common.{append-nil, length-append, length-drop}
 use Rattle.std.proofs.Common.{map}
@@ -7,22 +7,23 @@ use Rattle.std.proofs.lemmas.List.{append_cancel_left, length-map}
 use Rattle.unix_path.specs.Parts.{Value, values}
 use Rattle.unix_path.specs.Parts.{slash}
 use Rattle.path_keys.specs.Keys.{code, key_of, IsKey}
-use Rattle.path_keys.specs.Codes.{slashed, text_of, AllFit, HasNoCode, TakesCode}
-use Rattle.path_keys.specs.Runs.{decoded, run_code, run_text, HoldsNone, TakesRun}
+use Rattle.path_keys.specs.Codes.{slashed, text_of, AllFit, ReadsAs}
+use Rattle.path_keys.specs.Runs.{decoded, lead_text, run_code, run_text}
+use Rattle.path_keys.specs.Runs.{BeginsLead, HoldsNone, TakesRun}
 use Rattle.path_keys.specs.declared.runs.Run.{Run}
-use Rattle.path_keys.specs.declared.runs.Run.TheVariants.{Root, Dot, Up, Names}
-use Rattle.path_keys.proofs.CodeLemmas.{values-coded}
-use Rattle.path_keys.proofs.FitLemmas.{AllFit-coded, values-fit}
+use Rattle.path_keys.specs.declared.runs.Lead.{Lead}
+use Rattle.path_keys.specs.declared.runs.Run.TheVariants.{Up, Names}
+use Rattle.path_keys.proofs.CodeLemmas.{code-length, values-coded}
+use Rattle.path_keys.proofs.FitLemmas.{AllFit-coded, AllFit-first, values-fit}
 use Rattle.path_keys.proofs.KeyLemmas.{key_of-nil, key_of-cons, key_of-append}
 use Rattle.path_keys.proofs.OrderLemmas.{key_of-begins}
-use Rattle.path_keys.proofs.ReadLemmas.{starts, ReadsTo}
-use Rattle.path_keys.proofs.TextLemmas.{text_of-nil, text_of-cons, text_of-append}
+use Rattle.path_keys.proofs.ReadLemmas.{starts}
+use Rattle.path_keys.proofs.TextLemmas.{text_of-nil, text_of-cons, text_of-append, length-slashed}
 use Rattle.path_keys.proofs.TextLemmas.{ups_key_len, ups_text_len}
 
--- values that may be all of a path's, and more that may stand behind them
-pub fit_all : (us vs : List Value) → AllFit true us → AllFit (starts us) vs
-    → AllFit true (us ++ vs)
-fit_all [] vs h k = k
+-- values that may be all of a path's, and more that may stand behind others
+pub fit_all : (us vs : List Value) → AllFit true us → AllFit false vs → AllFit true (us ++ vs)
+fit_all [] vs h k = AllFit-first vs k
 fit_all (u ∷ us) vs h k = (h.0, behind us h.1)
   where
     behind : (us : List Value) → AllFit false us → AllFit false (us ++ vs)
@@ -53,8 +54,6 @@ up_text_len {run} {n} e = omega (arith, ap (λ r. length (run_text r)) e, ups_te
 -- a run has a byte, and at most twice as many in a path
 pub run_small : (run : Run)
     → (0 < length (run_code run)) × (length (run_text run) ≤ 2 * length (run_code run))
-run_small Root = (omega arith, omega arith)
-run_small Dot = (omega arith, omega arith)
 run_small (Up n) =
     (omega (arith, ups_key_len (n + 1)), omega (arith, ups_key_len (n + 1), ups_text_len (n + 1)))
 run_small (Names bytes) =
@@ -64,8 +63,6 @@ run_small (Names bytes) =
 
 -- a run has at most a byte more in a key than in a path
 pub code_small : (run : Run) → length (run_code run) ≤ length (run_text run) + 1
-code_small Root = omega arith
-code_small Dot = omega arith
 code_small (Up n) = omega (arith, ups_key_len (n + 1), ups_text_len (n + 1))
 code_small (Names bytes) = omega (
   arith,
@@ -75,24 +72,68 @@ code_small (Names bytes) = omega (
 )
 
 -- the run that bytes begin with is no longer than they are
-pub run_within : {first : Bool} {s : List ℕ} {run : Run} → TakesRun first s run
+pub run_within : {s : List ℕ} {run : Run} → TakesRun s run
     → length (run_code run) ≤ length s
-run_within {first} {s} {run} h = omega (
+run_within {s} {run} h = omega (
   arith,
   ap length h.is,
   length-append (run_code run) (drop (length (run_code run)) s),
   length-drop (length (run_code run)) s,
 )
 
+-- values have at most twice as many bytes in a path as in a key
+text_short : (vs : List Value) → length (text_of vs) ≤ 2 * length (key_of vs)
+text_short [] = omega (arith, ap length text_of-nil)
+text_short (v ∷ vs) = omega (
+  arith,
+  text_short vs,
+  length-slashed v,
+  code-length v,
+  ap length (text_of-cons v vs),
+  ap length (key_of-cons v vs),
+  length-append (slashed v) (text_of vs),
+  length-append (code v) (key_of vs),
+)
+
+-- `rest` is what is left of the key behind values that may be a path's, whose text has `len` bytes;
+-- in a path's key it is that of values behind the first
+pub record ReadsRuns (key rest : List ℕ) (len : ℕ) : Type 0 where
+  pub us : List Value
+  pub fit : AllFit true us
+  pub inner : (ws : List Value) → AllFit true (us ++ ws) → key_of ws ≡ rest → AllFit false ws
+  pub whole : key_of us ++ rest ≡ key
+  pub len_is : len ≡ length (text_of us)
+  pub small : len + 2 * length rest ≤ 2 * length key
+
+-- the lead is read
+pub reads_lead : {key rest : List ℕ} {lead : Lead} {len : ℕ} → BeginsLead key rest lead
+    → len ≡ length (lead_text lead) → ReadsRuns key rest len
+reads_lead {key} {rest} {lead} {len} h count = record {
+  us = h.vs;
+  fit = h.fit;
+  inner = h.inner;
+  whole = h.key_is;
+  len_is = count ∙ ap length (sym h.text_is);
+  small = omega (
+    arith,
+    count,
+    ap length h.text_is,
+    text_short h.vs,
+    ap length h.key_is,
+    length-append (key_of h.vs) rest,
+  );
+}
+
 -- one more run is read
-pub reads_run : {key rest more : List ℕ} {first : Bool} {len n : ℕ} {run : Run}
-    → ReadsTo key rest first len → TakesRun first rest run
+pub reads_run : {key rest more : List ℕ} {len n : ℕ} {run : Run}
+    → ReadsRuns key rest len → TakesRun rest run
     → more ≡ drop (length (run_code run)) rest
-    → n ≡ len + length (run_text run) → ReadsTo key more false n
-reads_run {key} {rest} {more} {first} {len} {n} {run} h k e count = record {
+    → n ≡ len + length (run_text run) → ReadsRuns key more n
+reads_run {key} {rest} {more} {len} {n} {run} h k e count = record {
   us = h.us ++ k.vs;
-  fit = fit_all h.us k.vs h.fit (subst (λ b. AllFit b k.vs) h.first_is k.fit);
-  first_is = sym (starts-more h.us k.vs k.some);
+  fit = fit_all h.us k.vs h.fit k.fit;
+  inner = λ ws fit _. subst (λ b. AllFit b ws) (starts-more h.us k.vs k.some)
+      (fit_rest (h.us ++ k.vs) ws fit);
   whole =
       ap (λ c. c ++ more) (key_of-append h.us k.vs ∙ ap (λ c. key_of h.us ++ c) k.code_is)
       ∙ append_assoc (key_of h.us) (run_code run) more
@@ -117,10 +158,24 @@ reads_run {key} {rest} {more} {first} {len} {n} {run} h k e count = record {
   );
 }
 
+-- if nothing is left, all of the key is read
+pub reads_all : {key rest : List ℕ} {len : ℕ} → ReadsRuns key rest len → length rest ≤ 0
+    → ReadsAs key len
+reads_all {key} {rest} {len} h none = record {
+  vs = h.us;
+  fit = h.fit;
+  key_is = sym (append-nil (key_of h.us)) ∙ ap (λ r. key_of h.us ++ r) (empty rest none) ∙ h.whole;
+  len_is = h.len_is;
+}
+  where
+    empty : (r : List ℕ) → length r ≤ 0 → [] ≡ r
+    empty [] l = refl
+    empty (x ∷ r) l = absurd (omega arith)
+
 -- if something is left that is the key of no values, no path has the key
-pub reads_no_run : {key rest : List ℕ} {first : Bool} {len : ℕ} → ReadsTo key rest first len
-    → HoldsNone first rest → 0 < length rest → IsKey key → ⊥
-reads_no_run {key} {rest} {first} {len} h none some is = by begins.0 begins.1
+pub reads_no_run : {key rest : List ℕ} {len : ℕ} → ReadsRuns key rest len
+    → HoldsNone rest → 0 < length rest → IsKey key → ⊥
+reads_no_run {key} {rest} {len} h none some is = by begins.0 begins.1
   where
     begins : (ws : List Value) × (h.us ++ ws ≡ values is.0)
     begins = key_of-begins h.us (values is.0) (AllFit-coded true h.us h.fit) (values-coded is.0)
@@ -133,23 +188,5 @@ reads_no_run {key} {rest} {first} {len} h none some is = by begins.0 begins.1
     by : (ws : List Value) → h.us ++ ws ≡ values is.0 → ⊥
     by [] e = omega (arith, ap length (left [] e), ap length key_of-nil)
     by (w ∷ ws) e = none w ws
-        (subst (λ b. AllFit b (w ∷ ws)) (sym h.first_is) (fit_rest h.us (w ∷ ws)
-        (subst (AllFit true) (sym e) (values-fit is.0))))
+        (h.inner (w ∷ ws) (subst (AllFit true) (sym e) (values-fit is.0)) (left (w ∷ ws) e))
         (left (w ∷ ws) e)
-
--- a mark or a name alone is a run
-pub takes_run : {first : Bool} {s : List ℕ} (v : Value) (run : Run) → TakesCode first s v
-    → code v ≡ run_code run → slashed v ≡ run_text run → TakesRun first s run
-takes_run {first} {s} v run k coded spelled = record {
-  vs = v ∷ [];
-  some = omega arith;
-  fit = (k.fits, tt);
-  code_is = key_of-cons v [] ∙ ap (λ c. code v ++ c) key_of-nil ∙ append-nil (code v) ∙ coded;
-  text_is = text_of-cons v [] ∙ ap (λ t. slashed v ++ t) text_of-nil ∙ append-nil (slashed v)
-      ∙ spelled;
-  is = k.is ∙ ap (λ c. c ++ drop (length c) s) coded;
-}
-
--- bytes that begin with no code are the key of no values, unless of none
-pub no_code_none : {first : Bool} {s : List ℕ} → HasNoCode first s → HoldsNone first s
-no_code_none none v vs fit e = none v (key_of vs) fit.0 (sym (key_of-cons v vs) ∙ e)

@@ -1,5 +1,5 @@
 -- Each `..` that stands first in a key, in a path.
-use Rattle.std.proofs.Common.{◌≡◌, ◌≤◌, ◌+◌, ◌-◌, ◌*◌, ℕ, zero, suc, Bool, false, List, []}
+use Rattle.std.proofs.Common.{◌≡◌, ◌≤◌, ◌+◌, ◌-◌, ◌*◌, ℕ, zero, suc, false, List, []}
 use Rattle.std.proofs.Common.{◌∷◌, ◌++◌, length, take, drop, get_or, refl, sym, ap, ap₂, ◌∙◌}
 use Rattle.std.proofs.Common.{arith, append_assoc, append-nil, length-drop}
 use Rattle.std.proofs.lemmas.List.{drop-drop, length-replicate, take-append-drop}
@@ -35,10 +35,10 @@ ups_key-behind n = ap key_of (ups_behind n) ∙ key_of-append (ups n) (ParentDir
     ∙ ap (λ t. key_of (ups n) ++ t)
     (key_of-cons ParentDir [] ∙ ap (λ t. code ParentDir ++ t) key_of-nil)
 
--- any number of `..` may stand behind others, or first
-ups_fit : (first : Bool) (n : ℕ) → AllFit first (ups n)
-ups_fit first zero = tt
-ups_fit first (suc n) = (tt, ups_fit false n)
+-- any number of `..` may stand behind others
+ups_fit : (n : ℕ) → AllFit false (ups n)
+ups_fit zero = tt
+ups_fit (suc n) = (tt, ups_fit n)
 
 -- two bytes that are a mark
 pub one_up : (s : List ℕ) → 2 ≤ length s → get_or s 0 0 ≡ 0 → get_or s 1 0 ≡ 3 → BeginsUps s 1
@@ -49,6 +49,14 @@ one_up (b ∷ c ∷ s) l e f = record {
   is = ap₂ (λ b c. b ∷ c ∷ s) e f ∙ ap (λ c. c ++ s) (sym (key_of-cons ParentDir []
       ∙ ap (λ k. code ParentDir ++ k) key_of-nil));
 }
+
+-- and these two bytes are there if it is
+pub up_bytes : (s : List ℕ) → BeginsUps s 1 → (get_or s 0 0 ≡ 0) × (get_or s 1 0 ≡ 3)
+up_bytes s h =
+    let mark : key_of (ups 1) ≡ code ParentDir =
+    key_of-cons ParentDir [] ∙ ap (λ k. code ParentDir ++ k) key_of-nil in
+    let is : s ≡ 0 ∷ 3 ∷ drop 2 s = h.is ∙ ap (λ c. c ++ drop 2 s) mark in
+    (ap (λ r. get_or r 0 0) is, ap (λ r. get_or r 1 0) is)
 
 -- the codes of `n` `..` are counted, and `rest` is what follows these
 pub record UpsCounted (s rest : List ℕ) (n : ℕ) : Type 0 where
@@ -90,14 +98,16 @@ counted_one {s} {rest} {more} {n} h up e =
     }
 
 -- a `..` and those behind it are a run
-pub ups_run : (first : Bool) (s : List ℕ) (n : ℕ) → s ≡ (0 ∷ 3 ∷ []) ++ drop 2 s
-    → BeginsUps (drop 2 s) n → TakesRun first s (Up n)
-ups_run first s n e h =
+pub ups_run : (s : List ℕ) (n : ℕ) → BeginsUps s 1 → BeginsUps (drop 2 s) n → TakesRun s (Up n)
+ups_run s n up h =
+    let mark : key_of (ups 1) ≡ code ParentDir =
+    key_of-cons ParentDir [] ∙ ap (λ k. code ParentDir ++ k) key_of-nil in
+    let e : s ≡ (0 ∷ 3 ∷ []) ++ drop 2 s = up.is ∙ ap (λ c. c ++ drop 2 s) mark in
     let count : 2 + 2 * n ≡ length (key_of (ups (n + 1))) = omega (arith, ups_key_len (n + 1)) in
     record {
       vs = ups (n + 1);
       some = omega (arith, length-replicate (n + 1) ParentDir);
-      fit = ups_fit first (n + 1);
+      fit = ups_fit (n + 1);
       code_is = refl;
       text_is = refl;
       is = e ∙ ap (λ r. (0 ∷ 3 ∷ []) ++ r) (h.is ∙ ap (λ r. key_of (ups n) ++ r)

@@ -2,7 +2,7 @@
 -- such stretches. No public clause cites these words.
 use Rattle.std.specs.Prelude.{◌≡◌, ◌<◌, ◌≤◌, ℕ, ◌+◌, ◌==◌, Bool, true, false, ◌||◌, ◌&&◌, List, []}
 use Rattle.std.specs.Prelude.{◌∷◌, ◌++◌, length, take, drop, map, slice_index, slice_index_or}
-use Rattle.std.specs.Prelude.{if◌then◌else◌}
+use Rattle.std.specs.Prelude.{if◌then◌else◌, bit_and}
 use Rattle.unix_path.specs.CommonDir.{inner_values}
 use Rattle.unix_path.specs.Parts.{slash, dot}
 use Rattle.unix_path.specs.Scan.{begins_with_parent}
@@ -15,19 +15,36 @@ is_break_of mark point s i =
     let next = slice_index_or s (i + 1) mark in
     slice_index s i == mark && (next == mark || next == point)
 
--- the first break of s is at `at`, or s has none and is `at` bytes long
-pub record FirstBreakOf (mark point : ℕ) (s : List ℕ) (at : ℕ) : Type 0 where
-  pub in_range : at ≤ length s
-  pub breaks : at < length s → is_break_of mark point s at ≡ true
-  pub none_before : (i : ℕ) → i < at → is_break_of mark point s i ≡ false
+-- neither has a bit of 208, which few bytes lack with which names begin
+abbrev pub HasFewBits : ℕ → ℕ → Type 0
+HasFewBits mark point = (bit_and mark 208 ≡ 0) × (bit_and point 208 ≡ 0)
 
--- the byte at i is a slash, and behind it stands another, a dot, or nothing
-abbrev pub is_break : List ℕ → ℕ → Bool
-is_break = is_break_of slash dot
+-- at i no name begins, of pieces that stand between these marks: the piece there is empty, the point
+-- alone, or two of them
+abbrev pub none_begins : ℕ → ℕ → List ℕ → ℕ → Bool
+none_begins mark point s i =
+    let first = slice_index_or s i mark in
+    let second = slice_index_or s (i + 1) mark in
+    let third = slice_index_or s (i + 2) mark in
+    first == mark || (first == point && (second == mark || (second == point && third == mark)))
+
+-- the byte at i is this mark, and behind it no name begins
+abbrev pub is_stop_of : ℕ → ℕ → List ℕ → ℕ → Bool
+is_stop_of mark point s i = slice_index s i == mark && none_begins mark point s (i + 1)
+
+-- the first stop of s is at `at`, or s has none and is `at` bytes long
+pub record FirstStopOf (mark point : ℕ) (s : List ℕ) (at : ℕ) : Type 0 where
+  pub in_range : at ≤ length s
+  pub stops : at < length s → is_stop_of mark point s at ≡ true
+  pub none_before : (i : ℕ) → i < at → is_stop_of mark point s i ≡ false
+
+-- the byte at i is a slash, and behind it no name begins
+abbrev pub is_stop : List ℕ → ℕ → Bool
+is_stop = is_stop_of slash dot
 
 -- that of a path
-abbrev pub FirstBreak : List ℕ → ℕ → Type 0
-FirstBreak = FirstBreakOf slash dot
+abbrev pub FirstStop : List ℕ → ℕ → Type 0
+FirstStop = FirstStopOf slash dot
 
 -- the byte of a stretch in a key: the end mark of a name where the path has a slash
 abbrev pub coded : ℕ → ℕ
@@ -65,18 +82,9 @@ pub record PutsFirst (s : List ℕ) (len at n : ℕ) (old new : List ℕ) : Type
   pub len_is : n ≡ length lead
   pub new_is : new ≡ overlay at lead old
 
--- s begins with a name that begins with a dot, and not with two
-pub record BeginsDotName (s : List ℕ) : Type 0 where
-  pub some : 1 < length s
-  pub dot_first : slice_index s 0 ≡ dot
-  pub no_dot : slice_index s 1 ≡ dot → ⊥
-  pub no_slash : slice_index s 1 ≡ slash → ⊥
-
--- the first n bytes of s are names, a slash or nothing follows, and the others hold all values
--- behind these
+-- the first n bytes of s are names, and the others hold all values behind these
 pub record AreNamesTo (s : List ℕ) (n : ℕ) : Type 0 where
   pub some : 0 < n
   pub in_range : n ≤ length s
-  pub slash_there : n < length s → slice_index s n ≡ slash
   pub split : key_of (inner_values s)
       ≡ (map coded (take n s) ++ 0 ∷ []) ++ key_of (inner_values (drop n s))

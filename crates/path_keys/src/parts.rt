@@ -1,17 +1,17 @@
 //! The key of a path: the codes of its parts, one behind the other.
 ghost use Rattle.std.specs.Prelude.{◌≡◌, ◌+◌, ◌*◌, ◌≤◌, ◌<◌, ◌^◌, ◌∷◌, ◌++◌, [], false, length};
-ghost use Rattle.std.specs.Prelude.{drop, map, IsTrue, MatchOption};
+ghost use Rattle.std.specs.Prelude.{map, IsTrue, MatchOption};
 ghost use Rattle.unix_path.specs.CommonDir.{inner_values};
 ghost use Rattle.unix_path.specs.Parts.{values};
 ghost use Rattle.unix_path.specs.Scan.{begins_with_parent, is_idle};
 ghost use Rattle.path_runs.specs.Buffer.{buffer_after};
 ghost use Rattle.path_runs.specs.Overlay.{overlay};
 ghost use Rattle.path_keys.specs.Keys.{key_of};
-ghost use Rattle.path_keys.specs.Stretches.{coded, run_key, AreNamesTo, BeginsDotName, BeginsKey};
+ghost use Rattle.path_keys.specs.Stretches.{coded, run_key, AreNamesTo, BeginsKey};
 ghost use Rattle.path_keys.specs.Stretches.{IsRun, IsUp, PutsFirst};
 
 use crate::coded::place_coded;
-use crate::stretch::first_break;
+use crate::stretch::first_stop;
 use unix_path::scan::{begins_with_parent, idle_len, is_idle};
 
 // What follows the filler, slashes and `.` pieces, in front.
@@ -52,7 +52,7 @@ fn run_len(bytes: &[u8]) -> usize
     if begins_with_parent(bytes) {
         return 2;
     }
-    first_break(bytes, b'/', b'.')
+    first_stop(bytes, b'/', b'.')
 }
 
 // How many bytes a run has in a key that is this long in the path.
@@ -126,21 +126,6 @@ fn write_lead(path: &[u8], out: &mut [u8]) -> usize
     2
 }
 
-// Whether the slash at `at` has a name behind it that begins with a dot, and with no second one.
-#[inline(always)]
-fn is_dot_name(bytes: &[u8], at: usize) -> bool
-    requires { at ≤ length bytes.now }
-    ensures { IsTrue result → BeginsDotName (drop (at + 1) bytes.now) }
-{
-    if bytes.len() - at < 3 {
-        return false;
-    }
-    if bytes[at + 1] != b'.' {
-        return false;
-    }
-    bytes[at + 2] != b'.' && bytes[at + 2] != b'/'
-}
-
 // How many bytes stand first that are names with one slash between two of them.
 #[inline(always)]
 fn names_len(bytes: &[u8]) -> usize
@@ -149,11 +134,7 @@ fn names_len(bytes: &[u8]) -> usize
     requires no_up { begins_with_parent bytes.now ≡ false }
     ensures { AreNamesTo bytes.now result }
 {
-    let mut end = first_break(bytes, b'/', b'.');
-    while is_dot_name(bytes, end) {
-        end += 1 + first_break(&bytes[end + 1..], b'/', b'.');
-    }
-    end
+    first_stop(bytes, b'/', b'.')
 }
 
 // Whether a slash stands first, and the piece behind it is `..`.

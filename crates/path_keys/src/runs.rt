@@ -1,16 +1,72 @@
-//! What stands first in a key: a mark, or names up to another mark.
-ghost use Rattle.std.specs.Prelude.{◌≡◌, ◌<◌, ◌^◌, Bool, length, None, IfSome, IsTrue};
-ghost use Rattle.path_keys.specs.Runs.{run_code, run_text, BeginsName, BeginsPlain, BeginsUps};
+//! What stands first in a key: a lead, and then each `..`, or names up to another mark.
+ghost use Rattle.std.specs.Prelude.{◌≡◌, ◌<◌, ◌≤◌, ◌^◌, false, length, None, IfSome, IsTrue};
+ghost use Rattle.path_keys.specs.Runs.{lead_text, run_code, run_text, BeginsLead, BeginsUps};
 ghost use Rattle.path_keys.specs.Runs.{HoldsNone, LeavesText, TakesRun};
 
-use crate::codes::{Code, code_in};
-use crate::stretch::first_break;
+use crate::stretch::{first_stop, none_begins};
 
-// What stands first in a key.
+// The root or the `.` with which a path begins, if it begins with one.
 #[derive(Clone, Copy)]
-pub(crate) enum Run<'a> {
+pub(crate) enum Lead {
+    Absent,
     Root,
     Dot,
+}
+
+impl Lead {
+    // How many bytes it has in a path before others.
+    #[inline(always)]
+    pub(crate) fn len_in_path(self) -> usize
+        ensures { result ≡ length (lead_text self) }
+    {
+        match self {
+            Lead::Absent => 0,
+            Lead::Root => 1,
+            Lead::Dot => 2,
+        }
+    }
+}
+
+// A key's lead, and what follows it.
+#[derive(Clone, Copy)]
+pub(crate) struct Started<'a> {
+    pub(crate) lead: Lead,
+    pub(crate) rest: &'a [u8],
+}
+
+// The lead of a key, and what follows it.
+#[inline(always)]
+pub(crate) fn past_lead(key: &[u8]) -> Started<'_>
+    ensures { BeginsLead key.now result.rest.now result.lead }
+{
+    let absent = Started {
+        lead: Lead::Absent,
+        rest: key,
+    };
+    if key.len() < 2 {
+        return absent;
+    }
+    if key[0] != 0 {
+        return absent;
+    }
+    if key[1] == 1 {
+        return Started {
+            lead: Lead::Root,
+            rest: &key[2..],
+        };
+    }
+    if key[1] == 2 {
+        return Started {
+            lead: Lead::Dot,
+            rest: &key[2..],
+        };
+    }
+    absent
+}
+
+// What stands first in a key behind its lead.
+#[derive(Clone, Copy)]
+pub(crate) enum Run<'a> {
     // A `..`, and so many more behind it.
     Up(usize),
     // Names as they stand in the key, without the last end mark.
@@ -19,43 +75,43 @@ pub(crate) enum Run<'a> {
 
 impl<'a> Run<'a> {
     // How many bytes it has in the key.
-    #[inline]
+    #[inline(always)]
     pub(crate) fn len(self) -> usize
         requires { length (run_code self) < 2 ^ 64 }
         ensures { result ≡ length (run_code self.entry) }
     {
         match self {
-            Run::Root => 2,
-            Run::Dot => 2,
             Run::Up(more) => 2 + 2 * more,
             Run::Names(names) => names.len() + 1,
         }
     }
 
     // How many bytes it has in a path before others.
-    #[inline]
+    #[inline(always)]
     pub(crate) fn text_len(self) -> usize
         requires { length (run_text self) < 2 ^ 64 }
         ensures { result ≡ length (run_text self.entry) }
     {
         match self {
-            Run::Root => 1,
-            Run::Dot => 2,
             Run::Up(more) => 3 + 3 * more,
             Run::Names(names) => names.len() + 1,
         }
     }
 }
 
-// The names that stand first, up to a mark or the end, and of which the first has `len` bytes;
-// `None` if no end mark stands behind the last of them, and the bytes are no key.
+// The names that stand first, up to a mark or the end; `None` if no name does, or no end mark stands
+// behind the last of them, and the bytes are no key.
 #[inline(always)]
-fn names_in(bytes: &[u8], len: usize) -> Option<Run<'_>>
-    requires { BeginsName bytes.now len }
-    ensures some { IfSome result (λ run. (first : Bool) → TakesRun first bytes.now run) }
-    ensures none { result ≡ None → ((first : Bool) → HoldsNone first bytes.now) }
+fn names_in(bytes: &[u8]) -> Option<Run<'_>>
+    requires { BeginsUps bytes.now 1 → ⊥ }
+    ensures some { IfSome result (λ run. TakesRun bytes.now run) }
+    ensures none { result ≡ None → HoldsNone bytes.now }
 {
-    let end = len + first_break(&bytes[len..], 0, b'/');
+    // A slash is a raised dot.
+    if none_begins(bytes, 0, 0, b'/') {
+        return None;
+    }
+    let end = first_stop(bytes, 0, b'/');
     if end == bytes.len() {
         return None;
     }
@@ -65,7 +121,8 @@ fn names_in(bytes: &[u8], len: usize) -> Option<Run<'_>>
 // Whether the mark of a `..` stands first.
 #[inline(always)]
 fn is_up(bytes: &[u8]) -> bool
-    ensures { IsTrue result → BeginsUps bytes.now 1 }
+    ensures up { IsTrue result → BeginsUps bytes.now 1 }
+    ensures other { result ≡ false → BeginsUps bytes.now 1 → ⊥ }
 {
     if bytes.len() < 2 {
         return false;
@@ -90,73 +147,30 @@ fn up_count(bytes: &[u8]) -> usize
     count
 }
 
-// Whether a name begins here, with another byte than a raised dot.
+// The run with which these bytes begin; `None` if they are the key of no values that may stand
+// behind others.
 #[inline(always)]
-fn begins_plain(bytes: &[u8]) -> bool
-    ensures { IsTrue result → BeginsPlain bytes.now }
+pub(crate) fn run_in(bytes: &[u8]) -> Option<Run<'_>>
+    ensures some { IfSome result (λ run. TakesRun bytes.now run) }
+    ensures none { result ≡ None → HoldsNone bytes.now }
 {
-    if bytes.is_empty() {
-        return false;
+    if is_up(bytes) {
+        return Some(Run::Up(up_count(&bytes[2..])));
     }
-    if bytes[0] == 0 {
-        return false;
-    }
-    bytes[0] != b'/'
-}
-
-// As `names_in`, of which the first begins with another byte than a raised dot. It is neither `.`
-// nor `..`, and needn't be searched by itself.
-#[inline(always)]
-fn plain_names_in(bytes: &[u8]) -> Option<Run<'_>>
-    requires { BeginsPlain bytes.now }
-    ensures some { IfSome result (λ run. (first : Bool) → TakesRun first bytes.now run) }
-    ensures none { result ≡ None → ((first : Bool) → HoldsNone first bytes.now) }
-{
-    let end = first_break(bytes, 0, b'/');
-    if bytes.len() == end {
-        return None;
-    }
-    Some(Run::Names(&bytes[..end]))
-}
-
-// The run with which these bytes begin, as a path's first or behind others; `None` if they are the
-// key of no values that may stand there.
-#[inline(always)]
-pub(crate) fn run_in(bytes: &[u8], first: bool) -> Option<Run<'_>>
-    ensures some { IfSome result (λ run. TakesRun first bytes.now run) }
-    ensures none { result ≡ None → HoldsNone first bytes.now }
-{
-    if begins_plain(bytes) {
-        return plain_names_in(bytes);
-    }
-    let Some(code) = code_in(bytes, first) else {
-        return None;
-    };
-    match code {
-        Code::Root => Some(Run::Root),
-        Code::Dot => Some(Run::Dot),
-        Code::Up => Some(Run::Up(up_count(&bytes[2..]))),
-        Code::Name(name) => names_in(bytes, name.len()),
-    }
+    names_in(bytes)
 }
 
 // The run with which these bytes begin, which are what is left of a key; `room` is how many bytes
 // are left for their text. As many bytes as that are names alone, since each `..` has more bytes in
 // a path than in a key; then they needn't be searched.
 #[inline(always)]
-pub(crate) fn next_run(bytes: &[u8], first: bool, room: usize) -> Option<Run<'_>>
-    requires { LeavesText first bytes.now room }
-    ensures some { IfSome result (λ run. TakesRun first bytes.now run) }
-    ensures none { result ≡ None → HoldsNone first bytes.now }
+pub(crate) fn next_run(bytes: &[u8], room: usize) -> Option<Run<'_>>
+    requires { LeavesText bytes.now room }
+    ensures some { IfSome result (λ run. TakesRun bytes.now run) }
+    ensures none { result ≡ None → HoldsNone bytes.now }
 {
     if bytes.len() == room && room > 0 {
-        let names = &bytes[..room - 1];
-        if !first {
-            return Some(Run::Names(names));
-        }
-        if bytes[0] != 0 {
-            return Some(Run::Names(names));
-        }
+        return Some(Run::Names(&bytes[..room - 1]));
     }
-    run_in(bytes, first)
+    run_in(bytes)
 }

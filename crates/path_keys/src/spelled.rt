@@ -5,10 +5,10 @@ ghost use Rattle.unix_path.specs.Parts.{slash, ParentDir};
 ghost use Rattle.path_runs.specs.Overlay.{overlay};
 ghost use Rattle.path_keys.specs.Keys.{IsKey};
 ghost use Rattle.path_keys.specs.Codes.{slashed, text_of, HasPath, IsRead, ReadsAs};
-ghost use Rattle.path_keys.specs.Runs.{decoded, run_text, ups};
+ghost use Rattle.path_keys.specs.Runs.{decoded, lead_text, run_text, ups};
 
 use crate::decoded::place_decoded;
-use crate::runs::{Run, next_run, run_in};
+use crate::runs::{Lead, Run, next_run, past_lead, run_in};
 
 // Overwrites the bytes of `out` from `at` on with `bytes`, as many as there is room for.
 #[inline(always)]
@@ -81,33 +81,45 @@ fn place_run(out: &mut [u8], at: usize, run: Run<'_>)
     ensures { out.new ≡ overlay at (take (length out.old - at) (run_text run.entry)) out.old }
 {
     match run {
-        Run::Root => place(out, at, b"/"),
-        Run::Dot => place(out, at, b"./"),
         Run::Up(more) => place_up_run(out, at, more),
         Run::Names(names) => place_names(out, at, names),
     }
 }
 
+// Overwrites the first bytes of `out` with those of the lead in a path before others, but for a
+// slash for which there is no room.
+#[inline(always)]
+fn place_lead(out: &mut [u8], lead: Lead)
+    ensures { out.new ≡ overlay 0 (take (length out.old) (lead_text lead)) out.old }
+{
+    match lead {
+        Lead::Absent => {}
+        Lead::Root => place(out, 0, b"/"),
+        Lead::Dot => place(out, 0, b"./"),
+    }
+}
+
 // How many bytes the path of a key has before others; `None` if it is the key of no path.
+#[inline(always)]
 fn text_len(key: &[u8]) -> Option<usize>
     ensures some { IfSome result (λ len. ReadsAs key.now len) }
     ensures none { result ≡ None → IsKey key.now → ⊥ }
 {
-    let mut rest = key;
-    let mut first = true;
-    let mut len = 0;
-    while let Some(run) = run_in(rest, first) {
+    let started = past_lead(key);
+    let mut rest = started.rest;
+    let mut len = started.lead.len_in_path();
+    while !rest.is_empty() {
+        let Some(run) = run_in(rest) else {
+            return None;
+        };
         len += run.text_len();
         rest = &rest[run.len()..];
-        first = false;
-    }
-    if !rest.is_empty() {
-        return None;
     }
     Some(len)
 }
 
 // How many bytes the path of a key has; `None` if it is the key of no path.
+#[inline]
 pub(crate) fn path_len(key: &[u8]) -> Option<usize>
     ensures some { IfSome result (λ len. HasPath key.now len) }
     ensures none { result ≡ None → IsKey key.now → ⊥ }
@@ -122,18 +134,37 @@ pub(crate) fn path_len(key: &[u8]) -> Option<usize>
     Some(len)
 }
 
+// As `write_text`, run by run.
+#[inline(never)]
+fn write_runs(key: &[u8], out: &mut [u8])
+    requires { HasPath key.now (length out.old) }
+    ensures { IsRead key.now out.new }
+{
+    let started = past_lead(key);
+    place_lead(out, started.lead);
+    let mut rest = started.rest;
+    let mut at = started.lead.len_in_path();
+    while let Some(run) = next_run(rest, out.len() + 1 - at) {
+        place_run(out, at, run);
+        at += run.text_len();
+        rest = &rest[run.len()..];
+    }
+}
+
 // Writes the path of a key over all of `out`.
+#[inline(always)]
 pub(crate) fn write_text(key: &[u8], out: &mut [u8])
     requires { HasPath key.now (length out.old) }
     ensures { IsRead key.now out.new }
 {
-    let mut rest = key;
-    let mut first = true;
-    let mut at = 0;
-    while let Some(run) = next_run(rest, first, out.len() + 1 - at) {
-        place_run(out, at, run);
-        at += run.text_len();
-        rest = &rest[run.len()..];
-        first = false;
+    let started = past_lead(key);
+    place_lead(out, started.lead);
+    let at = started.lead.len_in_path();
+    let room = out.len() + 1 - at;
+    // Most keys are names alone behind a lead, as many bytes as their text.
+    if started.rest.len() != room || room == 0 {
+        write_runs(key, out);
+        return;
     }
+    place_decoded(out, at, &started.rest[..room - 1]);
 }

@@ -1,41 +1,56 @@
 //! Where a stretch of names ends, in a path or a key.
-ghost use Rattle.std.specs.Prelude.{◌≡◌, ℕ, ◌+◌, ◌<◌, ◌≤◌, false, length};
-ghost use Rattle.path_keys.specs.Stretches.{is_break_of, FirstBreakOf};
+ghost use Rattle.std.specs.Prelude.{◌≡◌, ℕ, ◌+◌, ◌<◌, ◌≤◌, ◌==◌, false, true, length};
+ghost use Rattle.std.specs.Prelude.{slice_index_or};
+ghost use Rattle.path_keys.specs.Stretches.{is_break_of, is_stop_of, none_begins, FirstStopOf};
+ghost use Rattle.path_keys.specs.Stretches.{HasFewBits};
 
 use std::simd::prelude::*;
 
-// Whether the byte at `at` is this mark, and behind it stands another, this point, or nothing.
+// Whether this mark stands at `at`, or nothing.
 #[inline(always)]
-fn is_break(bytes: &[u8], at: usize, mark: u8, point: u8) -> bool
-    requires { at < length bytes.now }
-    ensures { result ≡ is_break_of mark point bytes.now at }
+fn ends_at(bytes: &[u8], at: usize, mark: u8) -> bool
+    ensures { result ≡ (slice_index_or bytes.now at mark == mark) }
 {
-    bytes[at] == mark && (at + 1 == bytes.len() || bytes[at + 1] == mark || bytes[at + 1] == point)
+    at >= bytes.len() || bytes[at] == mark
 }
 
-// How many of the 16 bytes from `at` on stand before the first break among them, or 16 if none is
-// there.
+// Whether no name begins at `at`: before a mark or the end stand nothing, this point, or two.
 #[inline(always)]
-fn unbroken_in_lanes(bytes: &[u8], at: usize, mark: u8, point: u8) -> usize
-    requires { at + 17 ≤ length bytes.now }
-    ensures in_range { result ≤ 16 }
-    ensures none_before { (i : ℕ) → at ≤ i → i < at + result
+pub(crate) fn none_begins(bytes: &[u8], at: usize, mark: u8, point: u8) -> bool
+    ensures { result ≡ none_begins mark point bytes.now at }
+{
+    ends_at(bytes, at, mark)
+        || (bytes[at] == point
+            && (ends_at(bytes, at + 1, mark)
+                || (bytes[at + 1] == point && ends_at(bytes, at + 2, mark))))
+}
+
+// Whether the byte at `at` is this mark, and behind it no name begins.
+#[inline(always)]
+fn is_stop(bytes: &[u8], at: usize, mark: u8, point: u8) -> bool
+    requires { at < length bytes.now }
+    ensures { result ≡ is_stop_of mark point bytes.now at }
+{
+    bytes[at] == mark && none_begins(bytes, at + 1, mark, point)
+}
+
+// Whether one of the 16 bytes from `at` on is a mark with one of a few bytes behind it, among which
+// are the mark and the point, and to which names in paths seldom begin. Else none of them is a stop.
+#[inline(always)]
+fn may_break(bytes: &[u8], at: usize, mark: u8, point: u8) -> bool
+    requires room { at + 17 ≤ length bytes.now }
+    requires apart { HasFewBits mark point }
+    ensures { result ≡ false → (i : ℕ) → at ≤ i → i < at + 16
         → is_break_of mark point bytes.now i ≡ false }
 {
-    let marks = u8x16::splat(mark);
-    let here = u8x16::from_slice(&bytes[at..]);
-    let next = u8x16::from_slice(&bytes[at + 1..]);
-    let is_next = next.simd_eq(marks) | next.simd_eq(u8x16::splat(point));
-    let breaks = (here.simd_eq(marks) & is_next).to_bitmask();
-    if breaks == 0 {
-        16
-    } else {
-        breaks.trailing_zeros() as usize
-    }
+    let here = u8x16::from_slice(&bytes[at..]) ^ u8x16::splat(mark);
+    let next = u8x16::from_slice(&bytes[at + 1..]) & u8x16::splat(0xD0);
+    // A byte is 0 where the mark is, and the byte behind has none of these bits.
+    (here | next).simd_eq(u8x16::splat(0)).to_bitmask() != 0
 }
 
-// How many of the 8 bytes from `at` on stand before the first break among them, or 8 if none is
-// there.
+// How many of the 8 bytes from `at` on stand before the first that is a mark with another behind it,
+// or with the point; 8 if none is.
 #[inline(always)]
 fn unbroken_in_half(bytes: &[u8], at: usize, mark: u8, point: u8) -> usize
     requires { at + 9 ≤ length bytes.now }
@@ -55,13 +70,37 @@ fn unbroken_in_half(bytes: &[u8], at: usize, mark: u8, point: u8) -> usize
     }
 }
 
-// The place of the first break, or of the last byte if none is before that, of fewer than 17 bytes.
-// It is 0 for fewer than 9 bytes.
+// How many of the 16 bytes from `at` on stand before the first stop among them, or 16 if none is
+// there.
 #[inline(always)]
-fn unbroken_short(bytes: &[u8], mark: u8, point: u8) -> usize
-    requires { length bytes.now < 17 }
+fn unstopped_in_lanes(bytes: &[u8], at: usize, mark: u8, point: u8) -> usize
+    requires { at + 19 ≤ length bytes.now }
+    ensures in_range { result ≤ 16 }
+    ensures none_before { (i : ℕ) → at ≤ i → i < at + result
+        → is_stop_of mark point bytes.now i ≡ false }
+{
+    let marks = u8x16::splat(mark);
+    let points = u8x16::splat(point);
+    let here = u8x16::from_slice(&bytes[at..]);
+    let first = u8x16::from_slice(&bytes[at + 1..]);
+    let second = u8x16::from_slice(&bytes[at + 2..]);
+    let third = u8x16::from_slice(&bytes[at + 3..]);
+    let is_two = second.simd_eq(points) & third.simd_eq(marks);
+    let is_point = first.simd_eq(points) & (second.simd_eq(marks) | is_two);
+    let stops = (here.simd_eq(marks) & (first.simd_eq(marks) | is_point)).to_bitmask();
+    if stops == 0 {
+        16
+    } else {
+        stops.trailing_zeros() as usize
+    }
+}
+
+// As `unstopped_len`, of fewer than 19 bytes. It is 0 for fewer than 9 bytes.
+#[inline(always)]
+fn unstopped_short(bytes: &[u8], mark: u8, point: u8) -> usize
+    requires { length bytes.now < 19 }
     ensures in_range { result ≤ length bytes.now }
-    ensures none_before { (i : ℕ) → i < result → is_break_of mark point bytes.now i ≡ false }
+    ensures none_before { (i : ℕ) → i < result → is_stop_of mark point bytes.now i ≡ false }
 {
     if bytes.len() < 9 {
         return 0;
@@ -70,41 +109,68 @@ fn unbroken_short(bytes: &[u8], mark: u8, point: u8) -> usize
     if len < 8 {
         return len;
     }
-    let last = bytes.len() - 9;
-    last + unbroken_in_half(bytes, last, mark, point)
+    let from = if bytes.len() < 17 { bytes.len() - 9 } else { 8 };
+    from + unbroken_in_half(bytes, from, mark, point)
 }
 
-// The place of the first break, or of the last byte if none is before that. It is 0 for fewer than
-// 9 bytes.
+// The first of the places `start`, `start` and 16, and so on, from which on 16 bytes may hold a
+// break, or the first that isn't before `last`.
 #[inline(always)]
-fn unbroken_len(bytes: &[u8], mark: u8, point: u8) -> usize
-    ensures in_range { result ≤ length bytes.now }
-    ensures none_before { (i : ℕ) → i < result → is_break_of mark point bytes.now i ≡ false }
+fn past_unbroken(bytes: &[u8], start: usize, last: usize, mark: u8, point: u8) -> usize
+    requires apart { HasFewBits mark point }
+    requires room { last + 17 ≤ length bytes.now }
+    requires in_order { start < last + 16 }
+    ensures forward { start ≤ result }
+    ensures in_range { result < last + 16 }
+    ensures none_before { (i : ℕ) → start ≤ i → i < result
+        → is_break_of mark point bytes.now i ≡ false }
 {
-    if bytes.len() < 17 {
-        return unbroken_short(bytes, mark, point);
-    }
-    let last = bytes.len() - 17;
-    let mut at = 0;
-    while at < last {
-        let len = unbroken_in_lanes(bytes, at, mark, point);
-        if len < 16 {
-            return at + len;
-        }
+    let mut at = start;
+    while at < last && !may_break(bytes, at, mark, point) {
         at += 16;
     }
-    last + unbroken_in_lanes(bytes, last, mark, point)
+    at
 }
 
-// The place of the first break, or the length if there is none. The bytes are searched 16 at a
-// time, and one by one from the place where that search ends. In a path the mark is a slash, and
-// the point a dot; in a key they are the bytes that stand for these, 0 and a slash.
+// A place before which no stop is, near the first one, or near the end if none is there.
 #[inline(always)]
-pub(crate) fn first_break(bytes: &[u8], mark: u8, point: u8) -> usize
-    ensures { FirstBreakOf mark point bytes.now result }
+fn unstopped_len(bytes: &[u8], mark: u8, point: u8) -> usize
+    requires { HasFewBits mark point }
+    ensures in_range { result ≤ length bytes.now }
+    ensures none_before { (i : ℕ) → i < result → is_stop_of mark point bytes.now i ≡ false }
 {
-    let mut at = unbroken_len(bytes, mark, point);
-    while at < bytes.len() && !is_break(bytes, at, mark, point) {
+    if bytes.len() < 19 {
+        return unstopped_short(bytes, mark, point);
+    }
+    let last = bytes.len() - 19;
+    let mut at = 0;
+    while at < last {
+        at = past_unbroken(bytes, at, last, mark, point);
+        if at < last {
+            let len = unstopped_in_lanes(bytes, at, mark, point);
+            if len < 16 {
+                return at + len;
+            }
+            at += 16;
+        }
+    }
+    let from = at.min(last + 2);
+    if !may_break(bytes, from, mark, point) {
+        return from + 16;
+    }
+    last + unstopped_in_lanes(bytes, last, mark, point)
+}
+
+// The place of the first stop, or the length if there is none. The bytes are searched 16 at a time,
+// and one by one from the place where that search ends. In a path the mark is a slash, and the point
+// a dot; in a key they are the bytes that stand for these, 0 and a slash.
+#[inline(always)]
+pub(crate) fn first_stop(bytes: &[u8], mark: u8, point: u8) -> usize
+    requires { HasFewBits mark point }
+    ensures { FirstStopOf mark point bytes.now result }
+{
+    let mut at = unstopped_len(bytes, mark, point);
+    while at < bytes.len() && !is_stop(bytes, at, mark, point) {
         at += 1;
     }
     at

@@ -9,5 +9,5 @@ returns-then-begins_with_parent c =
 
 pub returns : goal.returns
 returns c =
-    run-names c.args.bytes.now c.first_break.result c.requires.some c.requires.busy
-    (sym c.begins_with_parent.ensures ∙ c.if-begins_with_parent.false) c.first_break.ensures
+    run-names c.args.bytes.now c.first_stop.result c.requires.some c.requires.busy
+    (sym c.begins_with_parent.ensures ∙ c.if-begins_with_parent.false) c.first_stop.ensures

@@ -8,5 +8,5 @@ loop-rest-init c = counted_none c.args.bytes.now
 
 pub loop-rest-preserved : goal.loop-rest-preserved
 loop-rest-preserved c =
-    counted_one c.loop-rest.invariant (c.loop-rest-test.ensures refl)
+    counted_one c.loop-rest.invariant (c.loop-rest-test.ensures.up refl)
     (take_rest c.loop-rest.rest.now 2)

@@ -1,9 +1,9 @@
 use Rattle.std.proofs.Common.{length}
-use Rattle.path_keys.proofs.ReadLemmas.{ReadsTo}
+use Rattle.path_keys.proofs.RunReadLemmas.{ReadsRuns}
 use Rattle.path_keys.proofs.spelled.text_len.Given as goal
 
-abbrev pub invariant-loop-run : goal.invariant-loop-run
-invariant-loop-run l = ReadsTo l.key l.rest l.first l.len
+abbrev pub invariant-loop-rest : goal.invariant-loop-rest
+invariant-loop-rest l = ReadsRuns l.key l.rest l.len
 
-abbrev pub decreases-loop-run : goal.decreases-loop-run
-decreases-loop-run l = length l.rest
+abbrev pub decreases-loop-rest : goal.decreases-loop-rest
+decreases-loop-rest l = length l.rest

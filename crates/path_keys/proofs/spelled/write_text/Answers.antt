@@ -1,64 +1,29 @@
-use Rattle.std.proofs.Common.{subst, sym, ◌+◌, ◌-◌, length, take}
-use Rattle.std.proofs.Common.{drop, length-drop, refl, ap, ◌∙◌, arith}
-use Rattle.std.proofs.lemmas.List.{take_rest}
+use Rattle.std.proofs.Common.{◌≡◌, ◌≤◌, ◌-◌, ◌+◌, length, take, map, ap, ◌∙◌, arith}
 use Rattle.path_runs.specs.Overlay.{overlay}
-use Rattle.path_keys.specs.Runs.{run_text, LeavesText}
-use Rattle.path_keys.proofs.CutLemmas.{cut_leaves, cut_none, cut_room, cut_one, cut_all}
-use Rattle.path_keys.proofs.RunReadLemmas.{code_small, run_small, run_within}
+use Rattle.path_keys.specs.Runs.{decoded}
+use Rattle.path_keys.proofs.CutLemmas.{cut_lead, cut_leaves, cut_plain}
 use Rattle.path_keys.proofs.spelled.write_text.Goals as goal
 
-pub loop-run-init : goal.loop-run-init
-loop-run-init c = cut_none c.args.key.now c.args.out.now c.requires
-
-pub next_run-requires : goal.next_run-requires
-next_run-requires c =
-    subst (λ n. LeavesText c.loop-run.first c.loop-run.rest.now (n + 1 - c.loop-run.at))
-    (sym c.loop-run.auto.out) (cut_leaves c.loop-run.invariant).1
-
-pub place_run-requires : goal.place_run-requires
-place_run-requires c =
-    omega (arith, c.loop-run.auto.out, cut_room c.loop-run.invariant c.in-Some.ensures.some)
-
-pub text_len-at-requires : goal.text_len-at-requires
-text_len-at-requires c =
-    omega (arith, c.loop-run.auto.out, cut_room c.loop-run.invariant c.in-Some.ensures.some)
-
-pub len-requires : goal.len-requires
-len-requires c = omega (
+pub overflow_sub-room : goal.overflow_sub-room
+overflow_sub-room c = omega (
   arith,
-  c.loop-run.auto.out,
-  cut_room c.loop-run.invariant c.in-Some.ensures.some,
-  code_small c.in-Some.run',
+  c.place_lead.auto.out,
+  (cut_leaves (cut_lead c.requires c.past_lead-started.ensures c.place_lead.ensures
+      c.len_in_path-at.ensures)).0,
 )
-
-pub loop-run-smaller : goal.loop-run-smaller
-loop-run-smaller c = omega (
-  arith,
-  c.len.ensures,
-  ap length (take_rest c.loop-run.rest.now c.len.result),
-  length-drop c.len.result c.loop-run.rest.now,
-  run_within c.in-Some.ensures.some,
-  run_small c.in-Some.run',
-)
-
-pub overflow_add-at : goal.overflow_add-at
-overflow_add-at c =
-    omega (
-      arith,
-      c.loop-run.auto.out,
-      cut_room c.loop-run.invariant c.in-Some.ensures.some,
-      c.text_len-at.ensures,
-    )
-
-pub loop-run-preserved : goal.loop-run-preserved
-loop-run-preserved c =
-    cut_one c.loop-run.invariant c.in-Some.ensures.some
-    (take_rest c.loop-run.rest.now c.len.result
-    ∙ ap (λ n. drop n c.loop-run.rest.now) c.len.ensures)
-    (c.place_run.ensures ∙ ap (λ n. overlay c.loop-run.at
-    (take (n - c.loop-run.at) (run_text c.in-Some.run')) c.loop-run.out)
-    c.loop-run.auto.out)
-    (ap (λ n. c.loop-run.at + n) c.text_len-at.ensures)
 
 pub returns : goal.returns
-returns c = cut_all c.loop-run.invariant (c.in_default.ensures.none refl) c.requires
+returns c =
+    let rest = c.past_lead-started.result.rest in
+    let at = c.len_in_path-at.result in
+    let same = c.place_lead.auto.out in
+    let cut = cut_lead c.requires c.past_lead-started.ensures c.place_lead.ensures
+    c.len_in_path-at.ensures in
+    let within : at ≤ length c.args.out.now + 1 = (cut_leaves cut).0 in
+    let long : length rest.now ≡ length c.args.out.now + 1 - at =
+    omega (arith, c.if-started-room.false, same) in
+    let less : length c.place_lead.new.out + 1 - at - 1 ≡ length c.args.out.now - at =
+    omega (arith, within, same) in
+    cut_plain rest cut long (omega (arith, c.if-started-room.false, c.if-room-eq0.false))
+    (c.place_decoded.ensures ∙ ap (λ n. overlay at (map decoded (take n rest.now))
+    c.place_lead.new.out) less) c.requires

@@ -1,11 +1,11 @@
 use Rattle.std.proofs.Common.{◌≡◌, ℕ, ◌-◌, ◌<◌, ◌≤◌, false, length}
-use Rattle.path_keys.specs.Stretches.{is_break_of}
-use Rattle.path_keys.proofs.stretch.first_break.Given as goal
+use Rattle.path_keys.specs.Stretches.{is_stop_of}
+use Rattle.path_keys.proofs.stretch.first_stop.Given as goal
 
 abbrev pub invariant-loop-at : goal.invariant-loop-at
 invariant-loop-at l = record {
   in_range : l.at ≤ length l.bytes;
-  none_before : (i : ℕ) → i < l.at → is_break_of l.mark l.point l.bytes i ≡ false;
+  none_before : (i : ℕ) → i < l.at → is_stop_of l.mark l.point l.bytes i ≡ false;
 }
 
 abbrev pub decreases-loop-at : goal.decreases-loop-at
