@@ -95,6 +95,18 @@ impl PathKey {
         self.bytes.as_slice()
     }
 
+    /// The bytes of the key, as the vector that holds them. Does not allocate. Not in Rust's std.
+    ///
+    /// A `BTreeMap` whose keys are vectors is asked for a range by such: that of the key of `..` has
+    /// 00 03.
+    #[must_use]
+    #[inline]
+    pub fn as_vec(&self) -> &Vec<u8>
+        ensures { result.now.items ≡ key_bytes self.now }
+    {
+        &self.bytes
+    }
+
     /// The key of the parent, as `key_parent` gives it. Does not allocate. Not in Rust's std.
     ///
     /// For the key of `a/b` it is 61 00.

@@ -17,7 +17,7 @@ use Rattle.path_table.proofs.BeginLemmas.{begins_from_under, under_from_begins}
 use Rattle.path_keys.specs.Ranges.{bytes_cmp, end_of, LiesUnder}
 use Rattle.path_keys.proofs.CodeLemmas.{values-coded}
 use Rattle.path_keys.proofs.OrderLemmas.{key_of-begins, begins-key_of}
-use Rattle.path_keys.proofs.RangeLemmas.{begins-lies_under, end_of-nil, end_of-some}
+use Rattle.path_keys.proofs.RangeLemmas.{begins-lies_under, end_of-some}
 use Rattle.path_tree.specs.Read.{is_own, key_values, values_from}
 use Rattle.path_tree.proofs.ReadLemmas.{bytes_cmp-own, own-is, own-values}
 use Rattle.path_tree.proofs.RowLemmas.{AllOwn, Own, all_own, keys_cmp, rows_by}
@@ -154,8 +154,3 @@ pub forward : (base end : List ℕ) → end_of base ≡ Some end → is_gt (byte
 forward base end ends =
     let lies = (begins-lies_under base base).0 ([], append-nil base) in
     ap is_gt (subst (λ o. IfSome o (λ end. bytes_cmp base end ≡ Less)) ends lies.1)
-
--- the empty key's range has no end
-pub some-end : (base end : List ℕ) → base ≡ [] → end_of base ≡ Some end → ⊥
-some-end base end none ends =
-    let e = sym end_of-nil ∙ ap end_of (sym none) ∙ ends in cc

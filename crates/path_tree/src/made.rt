@@ -80,3 +80,12 @@ pub(crate) fn bytes_of(key: &PathKey) -> &[u8]
 {
     key.as_bytes()
 }
+
+// The vector that holds the bytes of a key that is kept.
+#[inline]
+pub(crate) fn vec_of(key: &PathKey) -> &Vec<u8>
+    ensures own { is_own result.now.items ≡ true }
+    ensures bytes { result.now.items ≡ key_bytes key.now }
+{
+    key.as_vec()
+}

@@ -11,7 +11,7 @@ ghost use Rattle.path_tree.specs.Read.{is_own, key_values};
 ghost use Rattle.path_tree.specs.Rows.{Key, key_rows, rows_under};
 
 use super::PathTree;
-use crate::made::bytes_of;
+use crate::made::vec_of;
 use path_keys::{KeyRange, PathKey};
 use std::alloc::AllocError;
 use std::collections::btree_map::{Iter, Range};
@@ -37,8 +37,8 @@ impl<V> PathTree<V> {
     ///
     /// Whole parts count: `a.b` isn't under `a`. An entry at the base comes first. A key without
     /// the base's bytes in front is that of what follows the base. The walk visits no other
-    /// entries. Allocates twice, as many bytes as the base's key has, or not at all for the empty
-    /// path; fails if an allocation fails. Not in Rust's std.
+    /// entries. Allocates once, as many bytes as the base's key has, or not at all for the empty path;
+    /// fails if the allocation fails. Not in Rust's std.
     ///
     /// With 1 at `a/b`, 2 at `a` and 3 at `a.b`, under `a` it gives 61 00 with 2, and then
     /// 61 00 62 00 with 1.
@@ -54,17 +54,16 @@ impl<V> PathTree<V> {
         let Some(end) = end else {
             return Ok(self.entries.range(..));
         };
-        let first = Vec::from_slice(self.alloc, bytes_of(base))?;
-        Ok(self.between(first, end))
+        Ok(self.between(vec_of(base), &end))
     }
 
     // The entries under the base with the first key, with which the range begins that ends before
     // the second.
-    fn between(&self, first: Vec<u8>, end: Vec<u8>) -> Range<'_, Vec<u8>, V>
-        requires own { is_own first.items ≡ true }
-        requires ends { end_of first.items ≡ Some end.items }
+    fn between(&self, first: &Vec<u8>, end: &Vec<u8>) -> Range<'_, Vec<u8>, V>
+        requires own { is_own first.now.items ≡ true }
+        requires ends { end_of first.now.items ≡ Some end.now.items }
         ensures rows { key_rows result
-            ≡ rows_under (key_values first.items) (table_of self.now) }
+            ≡ rows_under (key_values first.now.items) (table_of self.now) }
         ensures runs { ShowsInOrder (deref_pair {K = Key} {X = V}) }
         ensures runs_back { ShowsInReverse (deref_pair {K = Key} {X = V}) }
         ensures fits { length result < 2 ^ 63 }

@@ -7,13 +7,13 @@ use Rattle.path_tree.proofs.UnderLemmas.{between-under, filter-rows_by, forward}
 use Rattle.path_tree.proofs.tree.PathTree.between.Goals as goal
 
 pub range-requires : goal.range-requires
-range-requires g c = forward c.args.first.items c.args.end.items c.requires.ends
+range-requires g c = forward c.args.first.now.items c.args.end.now.items c.requires.ends
 
 pub returns-clause-rows : goal.returns-clause-rows
 returns-clause-rows g c =
     let tree = c.args.self.now in
-    let first = c.args.first.items in
-    let end = c.args.end.items in
+    let first = c.args.first.now.items in
+    let end = c.args.end.now.items in
     ap key_rows (c.range.ensures.between tt)
     ∙ filter-rows_by (λ (k : Key). k.items)
     (λ k. is_le (bytes_cmp first k.items) && not (is_le (bytes_cmp end k.items)))

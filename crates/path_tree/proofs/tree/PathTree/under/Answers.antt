@@ -1,10 +1,10 @@
-use Rattle.std.proofs.Common.{◌≡◌, ◌∙◌, None, Some, true, ap, rules}
+use Rattle.std.proofs.Common.{◌≡◌, ◌∙◌, None, true, ap, rules}
 use Rattle.path_keys.specs.Held.{key_bytes}
 use Rattle.path_keys.specs.Ranges.{end_of}
 use Rattle.path_table.specs.Table.{is_under}
 use Rattle.path_tree.specs.Read.{key_values}
 use Rattle.path_tree.specs.Rows.{Key, key_rows}
-use Rattle.path_tree.proofs.UnderLemmas.{all-under, endless, filter-rows_by, some-end}
+use Rattle.path_tree.proofs.UnderLemmas.{all-under, endless, filter-rows_by}
 use Rattle.path_tree.proofs.tree.PathTree.under.Goals as goal
 
 pub returns-in_default-clause-rows : goal.returns-in_default-clause-rows
@@ -15,9 +15,3 @@ returns-in_default-clause-rows g c =
     ap key_rows (c.range.ensures.between tt)
     ∙ filter-rows_by (λ (k : Key). k.items) (λ k. true) (is_under (key_values base))
     (λ k own. all-under base (endless base ends) (key_values k.items)) tree.entries.entries tree.own
-
-pub returns-in_err-first-clause-succeeds : goal.returns-in_err-first-clause-succeeds
-returns-in_err-first-clause-succeeds g c = λ none.
-    let base = key_bytes c.args.base.now in
-    let ends : end_of base ≡ Some c.in-Some.end.items = search rules in
-    absurd (some-end base c.in-Some.end.items none ends)
