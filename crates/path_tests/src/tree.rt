@@ -1,6 +1,7 @@
 //! Rows of calls of a tree, its callers, and a tree beside a plain list.
 mod beside_list;
 mod callers;
+mod children;
 mod nearest;
 mod ranges;
 

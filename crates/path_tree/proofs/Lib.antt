@@ -5,3 +5,7 @@ pub mod NearestLemmas
 pub mod UnderLemmas
 pub mod ManyLemmas
 pub mod DifferenceLemmas
+pub mod WalkLemmas
+pub mod ChildKeyLemmas
+pub mod ChildLemmas
+pub mod ChildWalkLemmas

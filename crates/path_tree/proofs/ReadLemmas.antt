@@ -48,7 +48,7 @@ values_from-code first (Normal (b ∷ n)) h key =
     (values_from-name n b [] key h.no_slash.1)
 
 -- the key of values that may be a path's stands for these
-key_values-key_of : (first : Bool) (vs : List Value) → AllFit first vs
+pub key_values-key_of : (first : Bool) (vs : List Value) → AllFit first vs
     → key_values (key_of vs) ≡ vs
 unfolding values_from
 key_values-key_of first [] h = ap key_values key_of-nil

@@ -6,4 +6,5 @@ pub mod Lent
 pub mod Nearest
 pub mod Many
 pub mod Difference
+pub mod Children
 pub mod Laws

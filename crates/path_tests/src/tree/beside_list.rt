@@ -4,7 +4,7 @@ use path_keys::{PathKey, path_of};
 use path_tree::PathTree;
 use std::alloc::{AllocError, Global};
 use std::test::Fail;
-use unix_path::{Path, PathBuf};
+use unix_path::{Component, Path, PathBuf};
 
 const TREES: u64 = 60;
 
@@ -19,6 +19,14 @@ fn path_from(alloc: Global, random: &mut Random) -> Result<PathBuf, AllocError> 
         bytes.push(LETTERS[(random.next() & 7) as usize])?;
     }
     Path::from_bytes(&bytes).to_path_buf(alloc)
+}
+
+// The part that follows the base in the path, if one does.
+fn first_behind<'a>(path: Path<'a>, base: Path<'_>) -> Option<Component<'a>> {
+    match path.strip_prefix(base) {
+        Ok(rest) => rest.components().next(),
+        Err(_) => None,
+    }
 }
 
 // Paths, no two of them equal, and their values.
@@ -44,6 +52,23 @@ impl PlainList {
         let mut count = 0usize;
         for (path, _) in &self.files {
             if path.as_path().starts_with(base) {
+                count = count.wrapping_add(1);
+            }
+        }
+        count
+    }
+
+    // How many children the base has: parts that come first behind it, each counted once.
+    fn count_children(&self, base: Path<'_>) -> usize {
+        let mut count = 0usize;
+        for (place, (path, _)) in self.files.iter().enumerate() {
+            let first = first_behind(path.as_path(), base);
+            let is_known = self
+                .files
+                .iter()
+                .take(place)
+                .any(|file| first_behind(file.0.as_path(), base) == first);
+            if first.is_some() && !is_known {
                 count = count.wrapping_add(1);
             }
         }
@@ -169,6 +194,30 @@ fn lacks_alike(
     Ok(found.len() == count)
 }
 
+// Whether the tree has the children of the base that the list says: as many, each the base and one
+// part more, with what stands there, and the path of some file begins with it.
+fn has_children(
+    alloc: Global,
+    tree: &PathTree<u32>,
+    plain: &PlainList,
+    base: Path<'_>,
+) -> Result<bool, AllocError> {
+    let found = tree.children(&PathKey::of(alloc, base)?)?;
+    let depth = base.components().count().wrapping_add(1);
+    for (key, value) in &found {
+        let Ok(path) = path_of(alloc, key) else {
+            return Ok(false);
+        };
+        let path = path.as_path();
+        let is_below = path.starts_with(base) && path.components().count() == depth;
+        let is_found = plain.count_under(path) > 0 && plain.get(path) == value.copied();
+        if !is_below || !is_found {
+            return Ok(false);
+        }
+    }
+    Ok(found.len() == plain.count_children(base))
+}
+
 // Makes one call of the tree and one of the list, and says whether they answer alike.
 fn answers_alike(
     alloc: Global,
@@ -180,7 +229,7 @@ fn answers_alike(
     let owned = path_from(alloc, random)?;
     let path = owned.as_path();
     let key = PathKey::of(alloc, path)?;
-    Ok(match random.next() % 15 {
+    Ok(match random.next() % 17 {
         0..3 => tree.insert(path, value)? == plain.insert(path.to_path_buf(alloc)?, value)?,
         3 => tree.remove(&key) == plain.remove(path),
         4 => tree.remove_path(path)? == plain.remove(path),
@@ -190,6 +239,7 @@ fn answers_alike(
         8 => tree.under(&key)?.count() == plain.count_under(path),
         9 => extends_alike(alloc, random, tree, plain, (path, value))?,
         11 => lacks_alike(alloc, random, tree, plain)?,
+        12 | 13 => has_children(alloc, tree, plain, path)?,
         10 => tree.remove_under(&key) == plain.remove_under(path) && has_all(tree, plain)?,
         _ => are_alike(tree.nearest(path)?, plain.nearest(path)),
     })

@@ -133,3 +133,13 @@ fn tree_paths_lacking(rt: HostRuntime) -> Result<(), Fail> {
         Err(AllocError) => report(false, has_first(&tree, &files)),
     }
 }
+
+#[test]
+fn tree_children(rt: HostRuntime) -> Result<(), Fail> {
+    let files = [(path("b"), 1), (path("a/b"), 2), (path("a/c"), 3)];
+    let tree = PathTree::from_iter(rt.alloc(), files.iter().copied())?;
+    match tree.children(&PathKey::new(rt.alloc())) {
+        Ok(found) => report(true, found.len() == 2),
+        Err(AllocError) => report(false, has_first(&tree, &files)),
+    }
+}

@@ -6,8 +6,8 @@ use std::alloc::AllocError;
 use std::test::Fail;
 use unix_path::Path;
 
-// Whether a path is found, by its key and by itself, and whether it is the nearest of what is below
-// it.
+// Whether a path is found, by its key and by itself, has no children, and is the nearest of what is
+// below it.
 fn is_found(tree: &PathTree<u8>, key: &PathKey, name: &[u8]) -> Result<bool, AllocError> {
     let by_path = tree.get_path(Path::from_bytes(name))? == Some(&1);
     let is_in = tree.contains(key) && tree.contains_path(path("a//b"))?;
@@ -15,7 +15,8 @@ fn is_found(tree: &PathTree<u8>, key: &PathKey, name: &[u8]) -> Result<bool, All
         Some((rest, value)) => rest == path("c") && *value == 2,
         None => false,
     };
-    Ok(by_path && is_in && nearest && tree.get(key) == Some(&2))
+    let is_childless = tree.children(key)?.is_empty();
+    Ok(by_path && is_in && is_childless && nearest && tree.get(key) == Some(&2))
 }
 
 // Whether all entries are taken, by the key, by the path, and two under the base.
