@@ -107,6 +107,18 @@ impl PathKey {
         &self.bytes
     }
 
+    /// The bytes of the key in the vector that held them. Does not allocate. Not in Rust's std; as
+    /// `String::into_bytes`.
+    ///
+    /// It may have more capacity than the key has bytes. For the key of `..` it has 00 03.
+    #[must_use]
+    pub fn into_vec(self) -> Vec<u8>
+        ensures { result.items ≡ key_bytes self }
+    {
+        let PathKey { bytes } = self;
+        bytes
+    }
+
     /// The key of the parent, as `key_parent` gives it. Does not allocate. Not in Rust's std.
     ///
     /// For the key of `a/b` it is 61 00.

@@ -191,14 +191,15 @@ fn ranges_parents_and_names(rt: HostRuntime) -> Result<(), Fail> {
 // Whether a key takes another path's place in the room that it has, and shows its bytes.
 fn is_reused(alloc: Global) -> Result<bool, AllocError> {
     let mut key = PathKey::new(alloc);
-    let is_empty = key.as_bytes().is_empty();
+    let is_empty = key.as_bytes().is_empty() && key.as_vec().is_empty();
     key.set(Path::from_text("a/b/c"))?;
     key.set(Path::from_text("/"))?;
     let shown = format!(in alloc; "{key:?}")?;
     Ok(
         is_empty
             && key.as_bytes() == b"\x00\x01".as_slice()
-            && shown.as_str() == "PathKey { bytes: [0, 1] }",
+            && shown.as_str() == "PathKey { bytes: [0, 1] }"
+            && key.into_vec().as_slice() == b"\x00\x01".as_slice(),
     )
 }
 

@@ -89,6 +89,8 @@ fn long_paths_are_found(rt: HostRuntime) -> Result<(), Fail> {
     for len in [510, 511, 512] {
         let name = long_name(alloc, len)?;
         assert!(rt; has_at(alloc, &tree, &name, Some(len as u32))?, "{len}");
+        let again = tree.insert(Path::from_bytes(&name), len as u32)?;
+        assert!(rt; again == Some(len as u32), "{len}");
         assert!(rt;
             tree.remove_path(Path::from_bytes(&name))? == Some(len as u32),
             "{len}"

@@ -5,7 +5,7 @@ ghost use Rattle.path_keys.specs.Held.{key_bytes};
 ghost use Rattle.path_keys.specs.Keys.{key_of};
 ghost use Rattle.path_tree.specs.Read.{is_own, key_values};
 
-use path_keys::{PathKey, key_len, write_key};
+use path_keys::{PathKey, write_key};
 use std::alloc::{AllocError, Global};
 use unix_path::Path;
 
@@ -47,6 +47,16 @@ impl MadeKey {
         Ok(MadeKey::Long(key))
     }
 
+    // The bytes of the key, in a vector of their own. That of a long key is the one that holds it.
+    pub(crate) fn into_vec(self, alloc: Global) -> Result<Vec<u8>, AllocError>
+        ensures { IfOk result (λ key. key.items ≡ made_bytes self) }
+    {
+        match self {
+            MadeKey::Short(key) => Vec::from_slice(alloc, &key.room[..key.len]),
+            MadeKey::Long(key) => Ok(key.into_vec()),
+        }
+    }
+
     // The bytes of the key.
     #[inline]
     pub(crate) fn as_bytes(&self) -> &[u8]
@@ -57,19 +67,6 @@ impl MadeKey {
             MadeKey::Long(key) => key.as_bytes(),
         }
     }
-}
-
-// The bytes of the path's key, in a list of their own.
-pub(crate) fn owned_key(alloc: Global, path: Path<'_>) -> Result<Vec<u8>, AllocError>
-    ensures own { IfOk result (λ key. is_own key.items ≡ true) }
-    ensures values { IfOk result (λ key. key_values key.items ≡ values path.entry.bytes.now) }
-{
-    let mut key = Vec::new(alloc);
-    let len = key_len(path);
-    key.reserve_exact(len)?;
-    key.resize(len, 0)?;
-    write_key(path, &mut key);
-    Ok(key)
 }
 
 // The bytes of a key that is kept.
