@@ -1,6 +1,11 @@
 //! Keys that own their bytes.
 ghost use Rattle.std.specs.Prelude.{◌≡◌, ◌≤◌, [], length};
 ghost use Rattle.std.specs.Prelude.{◌↔◌, ℕ, List, map, IfOk, OnOk, OnErr, IsOk, IsTrue, option_map};
+ghost use Rattle.std.specs.Prelude.{Some};
+ghost use Rattle.std.specs.Cmp.{on_po, on_total};
+ghost use Rattle.std.specs.Cmp.Lexicographic.{slice_cmp, texts_po, texts_ties, nat_list_cmp_total};
+ghost use Rattle.std.specs.Ordering.{nat_cmp};
+ghost use Rattle.std.proofs.Common.{refl};
 ghost use Rattle.unix_path.specs.Names.{file_name_of};
 ghost use Rattle.unix_path.specs.Parents.{parent_of};
 ghost use Rattle.unix_path.specs.Parts.{values};
@@ -13,6 +18,8 @@ use crate::fill::{fill_key, room_for_key};
 use crate::last::{key_name, key_parent, key_starts_with};
 pub use range::KeyRange;
 use std::alloc::{AllocError, Global};
+use std::cmp::Ordering;
+use unix_bytes::order::compare_bytes;
 use unix_path::Path;
 
 /// The key of a path: bytes that a store may compare in place of the path.
@@ -21,7 +28,7 @@ use unix_path::Path;
 /// and are equal exactly if the paths are. It keeps its allocator. Not in Rust's std.
 ///
 /// The key of `/a` is the bytes 00 01 61 00, and that of `a.b/..` is 61 2F 62 00 00 03.
-#[derive(Debug, Drop, PartialEq, Eq, PartialOrd, Ord, Hash)]
+#[derive(Debug, Drop, PartialEq, Eq, Hash)]
 pub struct PathKey {
     bytes: Vec<u8>,
     ghost is_key: { ∥ IsKey bytes.items ∥₁ },
@@ -155,5 +162,35 @@ impl PathKey {
             → (IsTrue result ↔ Begins (values t) (values s)) }
     {
         key_starts_with(self.as_bytes(), base.as_bytes())
+    }
+}
+
+/// The order of `cmp`.
+impl PartialOrd for PathKey {
+    ghost use Rattle.path_keys.specs.Held.{key_bytes};
+
+    ghost partial_cmp = { λ x y. Some (slice_cmp nat_cmp (key_bytes x) (key_bytes y)) };
+
+    ghost laws = { on_po key_bytes texts_po };
+
+    fn partial_cmp(&self, other: &Self) -> Option<Ordering> {
+        Some(self.cmp(other))
+    }
+}
+
+/// Keys are ordered by their bytes, which puts them in the order of their paths. Does not allocate.
+impl Ord for PathKey {
+    ghost use Rattle.path_keys.specs.Held.{key_bytes};
+
+    ghost cmp = { λ x y. slice_cmp nat_cmp (key_bytes x) (key_bytes y) };
+
+    ghost total = { on_total key_bytes nat_list_cmp_total };
+
+    ghost matches_partial_cmp = { λ x y. refl };
+
+    ghost matches_eq = { λ x y. texts_ties (key_bytes x) (key_bytes y) };
+
+    fn cmp(&self, other: &Self) -> Ordering {
+        compare_bytes(&self.bytes, &other.bytes)
     }
 }

@@ -26,3 +26,4 @@ pub mod PrinterLemmas
 pub mod PushLemmas
 pub mod HitLemmas
 pub mod CommonLemmas
+pub mod CompareLemmas

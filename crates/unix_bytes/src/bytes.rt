@@ -1,15 +1,21 @@
 //! Byte strings as Unix has them in paths and names.
 ghost use Rattle.std.specs.Prelude.{◌≡◌, ◌↔◌, ◌++◌, ◌≤◌, [], length, take, IsTrue, IfOk, IsOk};
-ghost use Rattle.std.specs.Prelude.{OnOk, IsSome, IfSome};
+ghost use Rattle.std.specs.Prelude.{OnOk, IsSome, IfSome, Some};
+ghost use Rattle.std.specs.Cmp.{on_po, on_total};
+ghost use Rattle.std.specs.Cmp.Lexicographic.{slice_cmp, texts_po, texts_ties, nat_list_cmp_total};
+ghost use Rattle.std.specs.Ordering.{nat_cmp};
+ghost use Rattle.std.proofs.Common.{refl};
 ghost use Rattle.std.specs.String.{string_bytes};
 ghost use Rattle.unix_bytes.specs.Utf8.{IsText};
 ghost use Rattle.unix_bytes.specs.Lossy.{lossy_of};
 ghost use Rattle.unix_bytes.specs.Chunks.{replacement_for};
 
 use crate::lossy::Utf8Lossy;
+use crate::order::compare_bytes;
 use crate::printer::{BUFFER_LEN, show_first};
 use crate::utf8::{split_text, to_text};
 use std::alloc::{AllocError, Global};
+use std::cmp::Ordering;
 use std::fmt;
 use std::hash::{Hash, Hasher};
 
@@ -24,7 +30,7 @@ pub use text::LossyText;
 /// It may hold any byte, NUL included. Two are compared byte by byte, and a proper prefix is the
 /// lesser. A copy copies the view, and not the bytes.
 /// As the crate `unix_str`'s type of that name, which stands for Rust's `OsStr` on Unix.
-#[derive(Clone, Copy, PartialEq, Eq, PartialOrd, Ord)]
+#[derive(Clone, Copy, PartialEq, Eq)]
 pub struct UnixStr<'a> {
     /// The bytes.
     pub bytes: &'a [u8],
@@ -128,6 +134,32 @@ impl<'a> UnixStr<'a> {
         }
         let lossy = lossy_string(alloc, text, broken, rest)?;
         Ok(LossyText::Owned(lossy))
+    }
+}
+
+/// The order of `cmp`.
+impl PartialOrd for UnixStr<'_> {
+    ghost partial_cmp = { λ x y. Some (slice_cmp nat_cmp x.bytes.now y.bytes.now) };
+
+    ghost laws = { on_po (λ x. x.bytes.now) texts_po };
+
+    fn partial_cmp(&self, other: &Self) -> Option<Ordering> {
+        Some(self.cmp(other))
+    }
+}
+
+/// Byte strings are ordered by their bytes, and a proper prefix is the lesser. Does not allocate.
+impl Ord for UnixStr<'_> {
+    ghost cmp = { λ x y. slice_cmp nat_cmp x.bytes.now y.bytes.now };
+
+    ghost total = { on_total (λ x. x.bytes.now) nat_list_cmp_total };
+
+    ghost matches_partial_cmp = { λ x y. refl };
+
+    ghost matches_eq = { λ x y. texts_ties x.bytes.now y.bytes.now };
+
+    fn cmp(&self, other: &Self) -> Ordering {
+        compare_bytes(self.bytes, other.bytes)
     }
 }
 

@@ -4,6 +4,7 @@
 pub mod bytes;
 pub mod laws;
 pub mod lossy;
+pub mod order;
 mod printer;
 pub mod search;
 mod utf8;

@@ -1,10 +1,16 @@
 //! Byte strings that own their bytes.
 ghost use Rattle.std.specs.Prelude.{◌≡◌, ◌+◌, ◌<◌, ◌≤◌, [], ◌++◌, length, take, max, min};
-ghost use Rattle.std.specs.Prelude.{IfOk, OnOk, OnErr, IsOk, string_bytes, vec_capacity};
+ghost use Rattle.std.specs.Prelude.{IfOk, OnOk, OnErr, IsOk, Some, string_bytes, vec_capacity};
+ghost use Rattle.std.specs.Cmp.{on_po, on_total};
+ghost use Rattle.std.specs.Cmp.Lexicographic.{slice_cmp, texts_po, texts_ties, nat_list_cmp_total};
+ghost use Rattle.std.specs.Ordering.{nat_cmp};
+ghost use Rattle.std.proofs.Common.{refl};
 ghost use Rattle.unix_bytes.specs.Owned.{owned_bytes, owned_capacity, owned_room};
 
 use crate::bytes::UnixStr;
+use crate::order::compare_bytes;
 use std::alloc::{AllocError, Global};
+use std::cmp::Ordering;
 use std::fmt;
 use std::hash::{Hash, Hasher};
 
@@ -13,7 +19,7 @@ use std::hash::{Hash, Hasher};
 /// It keeps its allocator. If an allocation fails, its bytes stay as they were. It is compared and
 /// hashed as the `UnixStr` of its bytes.
 /// As the crate `unix_str`'s type of that name, which stands for Rust's `OsString` on Unix.
-#[derive(Drop, PartialEq, Eq, PartialOrd, Ord)]
+#[derive(Drop, PartialEq, Eq)]
 pub struct UnixString {
     bytes: Vec<u8>,
 }
@@ -245,6 +251,32 @@ impl From<String> for UnixString {
         UnixString {
             bytes: text.into_bytes(),
         }
+    }
+}
+
+/// The order of `cmp`.
+impl PartialOrd for UnixString {
+    ghost partial_cmp = { λ x y. Some (slice_cmp nat_cmp (owned_bytes x) (owned_bytes y)) };
+
+    ghost laws = { on_po owned_bytes texts_po };
+
+    fn partial_cmp(&self, other: &Self) -> Option<Ordering> {
+        Some(self.cmp(other))
+    }
+}
+
+/// Ordered as the `UnixStr` of its bytes. Does not allocate.
+impl Ord for UnixString {
+    ghost cmp = { λ x y. slice_cmp nat_cmp (owned_bytes x) (owned_bytes y) };
+
+    ghost total = { on_total owned_bytes nat_list_cmp_total };
+
+    ghost matches_partial_cmp = { λ x y. refl };
+
+    ghost matches_eq = { λ x y. texts_ties (owned_bytes x) (owned_bytes y) };
+
+    fn cmp(&self, other: &Self) -> Ordering {
+        compare_bytes(&self.bytes, &other.bytes)
     }
 }
 

@@ -11,6 +11,7 @@ ghost use Rattle.std.specs.String.{string_bytes};
 ghost use Rattle.std.proofs.Common.{ap, refl};
 ghost use Rattle.unix_bytes.specs.Text.{text_bytes, IsBorrowed};
 
+use crate::order::compare_bytes;
 use std::alloc::{AllocError, Global};
 use std::cmp::Ordering;
 use std::fmt;
@@ -107,7 +108,7 @@ impl Ord for LossyText<'_> {
     ghost matches_eq = { λ x y. texts_ties (text_bytes x) (text_bytes y) };
 
     fn cmp(&self, other: &Self) -> Ordering {
-        self.as_str().cmp(other.as_str())
+        compare_bytes(self.as_str().as_bytes(), other.as_str().as_bytes())
     }
 }
 

@@ -4,4 +4,5 @@ mod callers;
 mod chunks;
 mod formats;
 mod lossy_texts;
+mod order;
 mod search;
