@@ -1,7 +1,6 @@
 pub mod ReadLemmas
 pub mod RowLemmas
 pub mod OwnLemmas
-pub mod ReplaceLemmas
 pub mod NearestLemmas
 pub mod UnderLemmas
 pub mod ManyLemmas

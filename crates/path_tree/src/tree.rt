@@ -1,6 +1,6 @@
 //! A tree of values by path, over the standard library's ordered map of keys.
 ghost use Rattle.std.specs.Prelude.{◌≡◌, ◌↔◌, ◌≤◌, [], length, is_some};
-ghost use Rattle.std.specs.Prelude.{IfOk, OnOk, OnErr, IsOk, IsSome, IsTrue, None, Some};
+ghost use Rattle.std.specs.Prelude.{IfOk, OnOk, OnErr, IsOk, IsTrue, None, Some};
 ghost use Rattle.std.specs.Borrow.{sem};
 ghost use Rattle.std.specs.BTreeMap.{insert_entry, is_at};
 ghost use Rattle.std.specs.List.{AllPass};
@@ -60,10 +60,10 @@ impl<V> PathTree<V> {
     /// Inserts the value at the path, and returns the value that an equal path had; `None` if there
     /// was no such path.
     ///
-    /// If an equal path is there, its value is replaced, and nothing is allocated if the path's key
-    /// has at most 512 bytes, as it has for each path of up to 510. Else allocates for the path's
-    /// key, and for a new place in the tree; fails if an allocation fails: then the tree stays as it
-    /// was, and the value is dropped. As Rust's `BTreeMap::insert`.
+    /// Allocates for the path's key, even if an equal path is there, and for a new place in the
+    /// tree; fails if an allocation fails: then the tree stays as it was, and the value is dropped.
+    /// For a path that is there `get_mut` gives the place of its value, and doesn't allocate. As
+    /// Rust's `BTreeMap::insert`.
     ///
     /// With 1 at `a/b`, inserting 2 at `a//b/` gives 1 and leaves 2 at `a/b` alone.
     pub fn insert(&mut self, path: Path<'_>, value: V) -> Result<Option<V>, AllocError>
@@ -78,17 +78,10 @@ impl<V> PathTree<V> {
         ensures others { OnOk result
             (SameElsewhere (values path.entry.bytes.now) (table_of self.old) (table_of self.new)) }
         ensures err { OnErr result (table_of self.new ≡ table_of self.old) }
-        ensures succeeds { length (key_of (values path.entry.bytes.now)) ≤ 512
-            → IsSome (value_at (values path.entry.bytes.now) (table_of self.old)) → IsOk result }
     {
         let made = MadeKey::of(self.alloc, path)?;
-        match self.replace(made.as_bytes(), value) {
-            Ok(old) => Ok(Some(old)),
-            Err(value) => {
-                let key = made.into_vec(self.alloc)?;
-                self.put(key, value)
-            }
-        }
+        let key = made.into_vec(self.alloc)?;
+        self.put(key, value)
     }
 
     /// The value at the path of this key; `None` if there is no such path. Does not allocate. As

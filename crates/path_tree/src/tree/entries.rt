@@ -1,6 +1,5 @@
 //! The entries of a tree by the bytes of their keys.
-ghost use Rattle.std.specs.Prelude.{◌≡◌, true, IfErr, IfOk, OnOk, OnErr, None, Some};
-ghost use Rattle.std.specs.Prelude.{is_some};
+ghost use Rattle.std.specs.Prelude.{◌≡◌, true, IfOk, OnOk, OnErr, None, Some, is_some};
 ghost use Rattle.std.specs.Borrow.{sem};
 ghost use Rattle.std.specs.BTreeMap.{insert_entry, is_at};
 ghost use Rattle.std.specs.Map.{remove_entry};
@@ -11,7 +10,6 @@ ghost use Rattle.path_tree.specs.Read.{is_own, key_values};
 
 use super::PathTree;
 use std::alloc::AllocError;
-use std::mem;
 
 impl<V> PathTree<V> {
     ghost use Rattle.path_tree.specs.Lent.{lends_value};
@@ -44,29 +42,6 @@ impl<V> PathTree<V> {
             ≡ value_at (key_values key.now) (table_of self.old) }
     {
         self.entries.get_mut(key)
-    }
-
-    // Puts the value in the place of the one at the path of this key, and gives that one; gives the
-    // value back if there is no such path.
-    #[inline]
-    pub(super) fn replace(&mut self, key: &[u8], value: V) -> Result<V, V>
-        requires { is_own key.now ≡ true }
-        ensures rows { OnOk result (table_of self.new
-            ≡ insert_entry values_cmp (table_of self.old) (key_values key.now) value) }
-        ensures old { IfOk result (λ old. Some old
-            ≡ value_at (key_values key.now) (table_of self.old)) }
-        ensures found { OnOk result
-            (value_at (key_values key.now) (table_of self.new) ≡ Some value) }
-        ensures others { OnOk result
-            (SameElsewhere (key_values key.now) (table_of self.old) (table_of self.new)) }
-        ensures value_returned { IfErr result (λ back. back ≡ value) }
-        ensures absent { OnErr result (value_at (key_values key.now) (table_of self.old) ≡ None) }
-        ensures err { OnErr result (table_of self.new ≡ table_of self.old) }
-    {
-        match self.entries.get_mut(key) {
-            Some(place) => Ok(mem::replace(place, value)),
-            None => Err(value),
-        }
     }
 
     // Puts the value at the path of this key, and gives the one that was there.

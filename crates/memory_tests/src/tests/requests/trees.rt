@@ -41,17 +41,6 @@ fn tree_path_inserted(rt: HostRuntime) -> Result<(), Fail> {
 }
 
 #[test]
-fn tree_equal_path_inserted(rt: HostRuntime) -> Result<(), Fail> {
-    let alloc = rt.alloc();
-    let mut tree = PathTree::new(alloc);
-    tree.insert(path("a/b"), 7u32)?;
-    match tree.insert(path("a//b"), 8) {
-        Ok(before) => report(true, before == Some(7) && tree.len() == 1),
-        Err(AllocError) => report(false, false),
-    }
-}
-
-#[test]
 fn tree_path_found(rt: HostRuntime) -> Result<(), Fail> {
     let name = long_name(rt.alloc())?;
     let tree = tree_with(rt.alloc(), &name)?;

@@ -19,8 +19,8 @@ fn is_found(tree: &PathTree<u8>, key: &PathKey, name: &[u8]) -> Result<bool, All
     Ok(by_path && is_in && is_childless && nearest && tree.get(key) == Some(&2))
 }
 
-// Whether a new path is refused, an equal one has its value replaced, and all entries are taken, by
-// the key, by the path, and two under the base.
+// Whether a new path is refused, and all entries are taken, by the key, by the path, and two under
+// the base.
 fn is_emptied(
     tree: &mut PathTree<u8>,
     key: &PathKey,
@@ -28,11 +28,10 @@ fn is_emptied(
     base: &PathKey,
 ) -> Result<bool, AllocError> {
     let is_refused = fails(tree.insert(path("c"), 3));
-    let is_replaced = tree.insert(path("a//b/"), 2)? == Some(2);
     let by_key = tree.remove(key) == Some(2);
     let by_path = tree.remove_path(Path::from_bytes(name))? == Some(1);
     let by_base = tree.remove_under(base) == 2;
-    Ok(is_refused && is_replaced && by_key && by_path && by_base && tree.is_empty())
+    Ok(is_refused && by_key && by_path && by_base && tree.is_empty())
 }
 
 // The longest path of which each key fits the stack, for which look-ups promise success.
