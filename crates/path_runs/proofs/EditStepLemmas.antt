@@ -54,15 +54,16 @@ keeps-fewer s t k n h l = record {
   same = sym (take-take k n s l) ∙ ap (take k) h.same ∙ take-take k n t l;
 }
 
--- what is known of a string is known of one that keeps these bytes
-pub IsKnown-keeps : (s t : List ℕ) (n : ℕ) (k : Known) → IsKnown s k → Keeps s t n
-    → k.len ≤ n → k.stem ≤ n → IsKnown t k
-IsKnown-keeps s t n k h keeps few short = record {
-  end = KnowsEnd-kept s t n k.end k.len h.end keeps.in_range keeps.same few;
-  stem = KnowsStem-kept s t n k.stem h.stem keeps.in_range keeps.same short;
+-- what is known of a string is known of one that keeps all its bytes
+IsKnown-keeps : (s t : List ℕ) (k : Known) → IsKnown s k → Keeps s t (length s) → IsKnown t k
+IsKnown-keeps s t k h keeps = record {
+  end = KnowsEnd-kept s t (length s) k.end k.len h.end keeps.in_range keeps.same h.end.in_range;
+  stack = h.stack;
+  stems = λ i l. KnowsStem-kept s t (length s) _ (h.stems i l) keeps.in_range keeps.same
+      (h.stems i l).in_range;
 }
 
--- as `IsKnown-keeps`, for what a cut to n bytes leaves
+-- what a cut to n bytes leaves of what is known is known of a string that keeps these
 pub IsKnown-cut : (s t : List ℕ) (n : ℕ) (k l : Known)
     → ((s t : List ℕ) → IsKnown s k → n ≤ length t → take n s ≡ take n t → IsKnown t l)
     → IsKnown s k → Keeps s t n → IsKnown t l
@@ -90,10 +91,7 @@ keeps-join s b r = by_test (is_open s)
 -- what is known of a path is known of its join with a path that has no root
 pub IsKnown_join : (s b : List ℕ) (k : Known) → IsKnown s k → is_rooted b ≡ false
     → IsKnown (join_of s b) k
-IsKnown_join s b k h r =
-    let end = h.end.in_range in
-    let stem = h.stem.in_range in
-    IsKnown-keeps s (join_of s b) (length s) k h (keeps-join s b r) end stem
+IsKnown_join s b k h r = IsKnown-keeps s (join_of s b) k h (keeps-join s b r)
 
 -- a parent begins its path
 popped-front : (s : List ℕ) (o : Option (List ℕ)) → o ≡ parent_of s

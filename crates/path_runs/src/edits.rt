@@ -12,6 +12,7 @@ ghost use Rattle.path_runs.specs.EditLists.{edit_of, edits_of, may_allocate};
 ghost use Rattle.path_runs.specs.Known.{IsKnown};
 
 mod known;
+mod stems;
 mod step;
 
 use crate::edits::known::Known;

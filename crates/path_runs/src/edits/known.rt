@@ -5,8 +5,9 @@ ghost use Rattle.unix_path.specs.Extensions.{name_end_of};
 ghost use Rattle.unix_path.specs.Parts.{parts};
 ghost use Rattle.unix_path.specs.Scan.{is_trailing};
 ghost use Rattle.unix_path.specs.Steps.{EndsInPart};
-ghost use Rattle.path_runs.specs.Known.{IsKnown, KnowsStem};
+ghost use Rattle.path_runs.specs.Known.{IsKnown, IsStack, KnowsStem, KnowsStems};
 
+use crate::edits::stems::Stems;
 use unix_path::scan::{ends_in_name, is_trailing, stem_end};
 
 // The place where the last part of the path ends, or `least` if that is greater.
@@ -31,8 +32,8 @@ pub(super) struct Known {
     // Among the first `len` bytes the last part ends at `end`.
     end: usize,
     len: usize,
-    // The first `stem` bytes end in the stem of their file name, unless there are none.
-    stem: usize,
+    // Up to these places the path ends in the stem of a name.
+    stems: Stems,
 }
 
 impl Known {
@@ -44,7 +45,7 @@ impl Known {
         Known {
             end: 0,
             len: 0,
-            stem: 0,
+            stems: Stems::new(),
         }
     }
 
@@ -96,7 +97,7 @@ impl Known {
         let start = self.start(end);
         let stem = stem_end(&path[..end], start);
         if stem == end {
-            self.stem = end;
+            self.stems.add(end);
         }
         stem
     }
@@ -104,27 +105,28 @@ impl Known {
     // How many of the first `end` bytes are known to end in a stem.
     #[inline]
     fn start(&self, end: usize) -> usize
-        ensures value { (s : List ℕ) → IsKnown s self.now → KnowsStem s result }
+        requires { IsStack self.now.stems }
+        ensures value { (s : List ℕ) → KnowsStems s self.now.stems → KnowsStem s result }
         ensures in_range { result ≤ end }
     {
-        if end < self.stem {
+        let place = self.stems.last_place();
+        if end < place {
             return 0;
         }
-        self.stem
+        place
     }
 
     // Only the first `kept` bytes stay.
     #[inline]
     pub(super) fn cut(&mut self, kept: usize)
+        requires { IsStack self.old.stems }
         ensures { (s t : List ℕ) → IsKnown s self.old → kept ≤ length t
             → take kept s ≡ take kept t → IsKnown t self.new }
     {
+        self.stems.cut(kept);
         if kept < self.len {
             self.end = 0;
             self.len = 0;
-        }
-        if kept < self.stem {
-            self.stem = 0;
         }
     }
 }

@@ -14,7 +14,8 @@ returns-then-end-self-clause-known c =
           (h.same ∙ ap (λ k. parts (take k s)) (sym c.if-end-self.true)
           ∙ c.trimmed_to-end.ensures.same)
           h.ends;
-      stem = c.requires.stem;
+      stack = c.requires.stack;
+      stems = c.requires.stems;
     }
 
 pub returns-then-end-self-clause-same : goal.returns-then-end-self-clause-same
@@ -30,7 +31,8 @@ returns-clause-known c =
       end = KnowsEnd-all s end.result end.ensures.in_range end.ensures.same
           (EndsInPart-take s end.result end.ensures.in_range
           (λ some. end.ensures.ends (omega (arith, end.ensures.forward, c.if-end-self.false))));
-      stem = c.requires.stem;
+      stack = c.requires.stack;
+      stems = c.requires.stems;
     }
 
 pub returns-clause-ends : goal.returns-clause-ends

@@ -1,4 +1,4 @@
-use Rattle.std.proofs.Common.{sym, ap, ◌∙◌}
+use Rattle.std.proofs.Common.{Some, sym, ap, ◌∙◌}
 use Rattle.std.proofs.lemmas.List.{take-take}
 use Rattle.unix_path.specs.Edits.{stem_end_of}
 use Rattle.unix_path.proofs.NamedLemmas.{name_end_of-take}
@@ -13,7 +13,17 @@ pub stem_end-stem-requires-clause-stem : goal.stem_end-stem-requires-clause-stem
 stem_end-stem-requires-clause-stem c = λ some.
     let start = c.start-start in
     ap stem_end_of (take-take start.result c.args.end c.args.path.now start.ensures.in_range)
-    ∙ (start.ensures.value c.args.path.now c.requires.known).ends some
+    ∙ (start.ensures.value c.args.path.now c.requires.known.stems).ends some
+
+pub returns-then-stem-end-clause-known : goal.returns-then-stem-end-clause-known
+returns-then-stem-end-clause-known c = record {
+  end = c.requires.known.end;
+  stack = c.add.ensures.stack;
+  stems = c.add.ensures.known c.args.path.now c.requires.known.stems (record {
+    in_range = c.requires.in_range;
+    ends = λ _. c.stem_end-stem.ensures.value ∙ ap Some c.if-stem-end.true;
+  });
+}
 
 pub returns-then-stem-end-clause-value : goal.returns-then-stem-end-clause-value
 returns-then-stem-end-clause-value c =
