@@ -47,7 +47,8 @@
  *
  * What is no length is a refusal; nothing is written then:
  *
- *     UNIX_PATH_SEPARATOR        unix_path_with_extension: the extension has a slash
+ *     UNIX_PATH_SEPARATOR        unix_path_with_extension, unix_path_with_added_extension: the
+ *                                extension has a slash
  *     UNIX_PATH_ESCAPES          unix_path_join_within, unix_path_join_below: the request climbs;
  *                                unix_path_join_plain: it has a root or a `..`
  *     UNIX_PATH_NO_MEMORY        unix_path_resolved, unix_path_join_within, unix_path_way: an
@@ -57,8 +58,9 @@
  *     UNIX_PATH_NO_END           unix_path_key_end: the key is empty, and every key in its range
  *     UNIX_PATH_NO_WAY           unix_path_way: no path without a root leads there
  *     UNIX_PATH_TOO_LONG         unix_path_to_string_lossy, unix_path_with_extension,
- *                                unix_path_join_below, unix_path_join_plain, unix_path_from_key:
- *                                the answer has more than PTRDIFF_MAX bytes
+ *                                unix_path_with_added_extension, unix_path_join_below,
+ *                                unix_path_join_plain, unix_path_from_key: the answer has more than
+ *                                PTRDIFF_MAX bytes
  *
  * All are greater than the length of any buffer, and unix_path_is_length tells them from lengths.
  * None is SIZE_MAX: one more than a refusal is no size that malloc gives.
@@ -87,7 +89,8 @@ extern "C" {
 _Static_assert(sizeof(size_t) == 8, "the library is for lengths of 64 bits");
 #endif
 
-/* What unix_path_with_extension answers if the extension has a slash. */
+/* What unix_path_with_extension and unix_path_with_added_extension answer if the extension has a
+ * slash. */
 #define UNIX_PATH_SEPARATOR (SIZE_MAX - 6)
 /* What unix_path_join_within and unix_path_join_below answer if the request climbs, and
  * unix_path_join_plain if it has a root or a `..`. Nothing is allocated. */
@@ -201,6 +204,9 @@ uint64_t unix_path_hash(const void *path, size_t path_length);
 /* Whether the bytes are UTF-8. */
 bool unix_path_is_utf8(const void *path, size_t path_length);
 
+/* Whether unix_path_canonical gives the same bytes: true for `./a/b`, and false for `a//b`. */
+bool unix_path_is_canonical(const void *path, size_t path_length);
+
 /* Whether the path has a root, so that its first byte is a slash. */
 bool unix_path_is_absolute(const void *path, size_t path_length);
 
@@ -234,6 +240,13 @@ size_t unix_path_with_file_name(const void *path, size_t path_length, const void
  * `txt` gives `a.txt`. It holds a NUL if what it is made of does. */
 size_t unix_path_with_extension(const void *path, size_t path_length, const void *extension,
                                 size_t extension_length, void *out, size_t out_length);
+
+/* The path with an extension added to its file name, behind a dot; the path as it is if it has no
+ * file name, or if the extension is empty. UNIX_PATH_SEPARATOR if the extension has a slash.
+ * `a.tar` with `gz` gives `a.tar.gz`. It has at most as many bytes as both and one more, and holds
+ * a NUL if what it is made of does. */
+size_t unix_path_with_added_extension(const void *path, size_t path_length, const void *extension,
+                                      size_t extension_length, void *out, size_t out_length);
 
 /* The one shortest path with the same parts. Of `.//a/./b/` it is `./a/b`. It is never longer than
  * the path, and holds a NUL if a part does. */
@@ -461,6 +474,7 @@ UNIX_PATH_ASKS_TWO(bool, equal)
 UNIX_PATH_ASKS_TWO(int32_t, compare)
 UNIX_PATH_ASKS(uint64_t, hash)
 UNIX_PATH_ASKS(bool, is_utf8)
+UNIX_PATH_ASKS(bool, is_canonical)
 UNIX_PATH_ASKS(bool, is_absolute)
 UNIX_PATH_ASKS(bool, climbs)
 UNIX_PATH_ASKS(int32_t, check_request)
@@ -468,6 +482,7 @@ UNIX_PATH_ASKS_TWO(size_t, common_dir)
 UNIX_PATH_MAKES_OF_TWO(join)
 UNIX_PATH_MAKES_OF_TWO(with_file_name)
 UNIX_PATH_MAKES_OF_TWO(with_extension)
+UNIX_PATH_MAKES_OF_TWO(with_added_extension)
 UNIX_PATH_MAKES_OF_ONE(canonical)
 UNIX_PATH_MAKES_OF_ONE(to_string_lossy)
 UNIX_PATH_MAKES_OF_ONE(resolved)
@@ -496,6 +511,7 @@ UNIX_PATH_MAKES_OF_ONE(key_end)
 #define unix_path_compare unix_path_inline_compare
 #define unix_path_hash unix_path_inline_hash
 #define unix_path_is_utf8 unix_path_inline_is_utf8
+#define unix_path_is_canonical unix_path_inline_is_canonical
 #define unix_path_is_absolute unix_path_inline_is_absolute
 #define unix_path_climbs unix_path_inline_climbs
 #define unix_path_check_request unix_path_inline_check_request
@@ -503,6 +519,7 @@ UNIX_PATH_MAKES_OF_ONE(key_end)
 #define unix_path_join unix_path_inline_join
 #define unix_path_with_file_name unix_path_inline_with_file_name
 #define unix_path_with_extension unix_path_inline_with_extension
+#define unix_path_with_added_extension unix_path_inline_with_added_extension
 #define unix_path_canonical unix_path_inline_canonical
 #define unix_path_to_string_lossy unix_path_inline_to_string_lossy
 #define unix_path_resolved unix_path_inline_resolved

@@ -218,6 +218,8 @@ class view {
     }
     bool is_absolute() const noexcept { return unix_path_is_absolute(data(), size()); }
     bool is_utf8() const noexcept { return unix_path_is_utf8(data(), size()); }
+    /// Whether `canonical` gives the same bytes.
+    bool is_canonical() const noexcept { return unix_path_is_canonical(data(), size()); }
     bool climbs() const noexcept { return unix_path_climbs(data(), size()); }
     request_check check_request() const noexcept {
         return static_cast<request_check>(unix_path_check_request(data(), size()));
@@ -271,6 +273,10 @@ class view {
     /// refusal::separator if the extension has a slash.
     result<std::string> with_extension(std::string_view extension) const;
     result<std::string_view> with_extension(std::string_view extension, buffer out) const noexcept;
+    /// refusal::separator if the extension has a slash.
+    result<std::string> with_added_extension(std::string_view extension) const;
+    result<std::string_view> with_added_extension(std::string_view extension, buffer out) const
+        noexcept;
     std::string canonical() const;
     result<std::string_view> canonical(buffer out) const noexcept;
     std::string to_string_lossy() const;
@@ -576,6 +582,11 @@ inline auto with_extension_call(view a, view b) noexcept {
         return unix_path_with_extension(a.data(), a.size(), b.data(), b.size(), out, room);
     };
 }
+inline auto with_added_extension_call(view a, view b) noexcept {
+    return [a, b](char *out, std::size_t room) noexcept {
+        return unix_path_with_added_extension(a.data(), a.size(), b.data(), b.size(), out, room);
+    };
+}
 inline auto canonical_call(view a) noexcept {
     return [a](char *out, std::size_t room) noexcept {
         return unix_path_canonical(a.data(), a.size(), out, room);
@@ -653,6 +664,14 @@ inline result<std::string> view::with_extension(std::string_view extension) cons
 inline result<std::string_view> view::with_extension(std::string_view extension,
                                                      buffer out) const noexcept {
     return detail::written(out, detail::with_extension_call(*this, extension));
+}
+inline result<std::string> view::with_added_extension(std::string_view extension) const {
+    return detail::grown(detail::room_of(*this, extension),
+                         detail::with_added_extension_call(*this, extension));
+}
+inline result<std::string_view> view::with_added_extension(std::string_view extension,
+                                                           buffer out) const noexcept {
+    return detail::written(out, detail::with_added_extension_call(*this, extension));
 }
 inline std::string view::canonical() const {
     return *detail::grown(size(), detail::canonical_call(*this));

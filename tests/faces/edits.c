@@ -33,29 +33,22 @@ static const char *set_file_name(text *path, view name) {
     return "ok";
 }
 
-static const char *set_extension(text *path, view extension) {
+// Puts the path with the extension, as the call sets or adds it, in the place of the path.
+static const char *edit_extension(text *path, call_of_two call, view extension) {
     unix_path_place name;
     bool is_named = unix_path_file_name(path->bytes, path->length, &name);
-    if (!replace(path, unix_path_with_extension, extension)) {
+    if (!replace(path, call, extension)) {
         return "separator";
     }
     return is_named ? "true" : "false";
 }
 
+static const char *set_extension(text *path, view extension) {
+    return edit_extension(path, unix_path_with_extension, extension);
+}
+
 static const char *add_extension(text *path, view extension) {
-    unix_path_place name;
-    if (memchr(extension.bytes, '/', extension.length) != NULL) {
-        return "separator";
-    }
-    if (!unix_path_file_name(path->bytes, path->length, &name)) {
-        return "false";
-    }
-    if (extension.length > 0) {
-        path->length = name.start + name.length;
-        add_string(path, ".");
-        add(path, extension);
-    }
-    return "true";
+    return edit_extension(path, unix_path_with_added_extension, extension);
 }
 
 static const char *clear(text *path, view rest) {

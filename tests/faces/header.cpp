@@ -18,16 +18,17 @@ using Truth = bool (*)(const void *, size_t);
 
 constexpr std::array<OfOne, 3> of_one{unix_path_canonical, unix_path_to_string_lossy,
                                       unix_path_resolved};
-constexpr std::array<OfTwo, 5> of_two{unix_path_join, unix_path_with_file_name,
-                                      unix_path_with_extension, unix_path_join_within,
-                                      unix_path_join_plain};
+constexpr std::array<OfTwo, 6> of_two{unix_path_join, unix_path_with_file_name,
+                                      unix_path_with_extension, unix_path_with_added_extension,
+                                      unix_path_join_within, unix_path_join_plain};
 constexpr OfTwo way = unix_path_way;
 constexpr std::array<Turn, 2> turns{unix_path_next, unix_path_next_back};
 constexpr std::array<Place, 5> places{unix_path_parent, unix_path_file_name, unix_path_file_stem,
                                       unix_path_extension, unix_path_file_prefix};
 constexpr std::array<Relation, 3> relations{unix_path_starts_with, unix_path_ends_with,
                                             unix_path_equal};
-constexpr std::array<Truth, 3> truths{unix_path_is_utf8, unix_path_is_absolute, unix_path_climbs};
+constexpr std::array<Truth, 4> truths{unix_path_is_utf8, unix_path_is_absolute, unix_path_climbs,
+                                      unix_path_is_canonical};
 
 // The bytes that a call of one path gives.
 std::string output_of(OfOne call, std::string_view path) {
@@ -134,7 +135,7 @@ bool other_calls_are_right() {
 }  // namespace
 
 int main() {
-    bool is_right = right_calls() == 21 && other_calls_are_right();
+    bool is_right = right_calls() == 23 && other_calls_are_right();
     std::puts(is_right ? "1 passed, 0 failed" : "0 passed, 1 failed");
     return is_right ? 0 : 1;
 }

@@ -29,6 +29,8 @@ static void questions_of(view path) {
     add_one(&spelling, unix_path_canonical, path);
     add_one(&lossy, unix_path_to_string_lossy, path);
     CHECK(hash(path) == hash(as_view(&spelling)), "hash");
+    CHECK(unix_path_is_canonical(path.bytes, path.length)
+          == same_bytes(as_view(&spelling), path), "canonical");
     CHECK(unix_path_is_utf8(path.bytes, path.length) == same_bytes(as_view(&lossy), path), "text");
     free(spelling.bytes);
     free(lossy.bytes);
@@ -163,6 +165,8 @@ static void pair_with(view path) {
     way_leads(a, b);
     add_two(&first, unix_path_with_file_name, a, b);
     add_two(&first, unix_path_with_extension, a, b);
+    bool has_slash = b.length > 0 && memchr(b.bytes, '/', b.length) != NULL;
+    CHECK(add_two(&first, unix_path_with_added_extension, a, b) == !has_slash, "separator");
     free(first.bytes);
     free(second.bytes);
 }

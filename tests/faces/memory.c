@@ -126,6 +126,7 @@ static void ask(view a, view b) {
     unix_path_common_dir(a.bytes, a.length, b.bytes, b.length);
     unix_path_hash(a.bytes, a.length);
     unix_path_is_utf8(a.bytes, a.length);
+    unix_path_is_canonical(a.bytes, a.length);
     unix_path_is_absolute(a.bytes, a.length);
     unix_path_climbs(a.bytes, a.length);
     unix_path_check_request(a.bytes, a.length);
@@ -145,6 +146,7 @@ static void write_to(uint8_t *out, size_t room, view a, view b) {
     unix_path_join(a.bytes, a.length, b.bytes, b.length, out, room);
     unix_path_with_file_name(a.bytes, a.length, b.bytes, b.length, out, room);
     unix_path_with_extension(a.bytes, a.length, b.bytes, b.length, out, room);
+    unix_path_with_added_extension(a.bytes, a.length, b.bytes, b.length, out, room);
     unix_path_canonical(a.bytes, a.length, out, room);
     unix_path_to_string_lossy(a.bytes, a.length, out, room);
     unix_path_join_plain(a.bytes, a.length, b.bytes, b.length, out, room);

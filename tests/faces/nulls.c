@@ -42,6 +42,7 @@ static void places_in_nothing(void) {
 
 static void questions_of_nothing(void) {
     CHECK(hash(none) == hash(view_of("")) && unix_path_is_utf8(NULL, 0), "hash");
+    CHECK(unix_path_is_canonical(NULL, 0), "canonical");
     CHECK(!unix_path_is_absolute(NULL, 0) && !unix_path_climbs(NULL, 0), "root");
     CHECK(unix_path_check_request(NULL, 0) == 0, "request");
     for (size_t at = 0; at < other_count; at++) {
@@ -90,6 +91,8 @@ static void written_of_nothing(void) {
     write_both(unix_path_with_file_name, name, none, nothing);
     write_both(unix_path_with_extension, none, name, nothing);
     write_both(unix_path_with_extension, name, none, view_of("a"));
+    write_both(unix_path_with_added_extension, none, name, nothing);
+    write_both(unix_path_with_added_extension, name, none, name);
     write_both(unix_path_join_within, none, none, nothing);
     write_both(unix_path_join_within, none, name, name);
     write_both(unix_path_join_within, name, none, name);

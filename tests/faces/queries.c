@@ -115,6 +115,9 @@ static void truths(void) {
     } rows[] = {
         {unix_path_is_utf8, "caf\xC3\xA9", true}, {unix_path_is_utf8, "caf\xE9", false},
         {unix_path_is_utf8, "\xED\xA0\x80", false}, {unix_path_is_utf8, "", true},
+        {unix_path_is_canonical, "./a/b", true}, {unix_path_is_canonical, "/", true},
+        {unix_path_is_canonical, "", true}, {unix_path_is_canonical, "a//b", false},
+        {unix_path_is_canonical, "a/./b", false}, {unix_path_is_canonical, "a/", false},
         {unix_path_is_absolute, "/a", true}, {unix_path_is_absolute, "a/", false},
         {unix_path_is_absolute, "", false}, {unix_path_climbs, "/a", true},
         {unix_path_climbs, "a/../../root/x", true}, {unix_path_climbs, "a/../..foo", false},

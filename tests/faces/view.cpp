@@ -117,6 +117,7 @@ void rows() {
     CHECK(view("/a//b/").strip_prefix("/a")->bytes() == "b" && !view("/a").strip_prefix("a"));
     CHECK(view("/etc/passwd").starts_with("/etc/") && !view("/etc/passwd").starts_with("/e"));
     CHECK(view("/etc/passwd").ends_with("passwd") && !view("a/b").ends_with("./b"));
+    CHECK(view("./a/b").is_canonical() && !view("a//b").is_canonical());
     CHECK(view("/a").is_absolute() && !view("a/").is_absolute());
     CHECK(view("caf\xC3\xA9").is_utf8() && !view("caf\xE9").is_utf8());
     CHECK(view("a/../../b").climbs() && !view("a/../b").climbs());
@@ -145,6 +146,8 @@ void written_strings() {
     CHECK(view("/a/b.txt").with_file_name("c") == "/a/c");
     CHECK(*view("a.rs").with_extension("txt") == "a.txt");
     CHECK(view("a.rs").with_extension("x/y").why() == refusal::separator);
+    CHECK(*view("a.tar").with_added_extension("gz") == "a.tar.gz");
+    CHECK(view("a.rs").with_added_extension("x/y").why() == refusal::separator);
     CHECK(view(".//a/./b/").canonical() == "./a/b" && view("a\xFF").to_string_lossy() == "a\uFFFD");
     CHECK(*view("a/../..//b/.").resolved() == "../b" && view("a/..").resolved()->empty());
     CHECK(*view("/srv").join_within("a/../b") == "/srv/b");
@@ -329,6 +332,8 @@ void buffers() {
             in_each_room(a.with_file_name(b), [=](buffer out) { return a.with_file_name(b, out); });
             in_each_room(a.with_extension(b.bytes()),
                          [=](buffer out) { return a.with_extension(b.bytes(), out); });
+            in_each_room(a.with_added_extension(b.bytes()),
+                         [=](buffer out) { return a.with_added_extension(b.bytes(), out); });
             in_each_room(a.join_within(b), [=](buffer out) { return a.join_within(b, out); });
             in_each_room(a.join_plain(b), [=](buffer out) { return a.join_plain(b, out); });
             in_each_room(a.way(b), [=](buffer out) { return a.way(b, out); });
@@ -352,7 +357,7 @@ void null_views() {
     CHECK(none == "" && none < "a" && none.hash() == view("").hash() && !none.has_nul());
     CHECK(none.starts_with(none) && none.ends_with(string) && view("a").starts_with(none));
     CHECK(!none.is_absolute() && none.is_utf8() && !none.climbs() && none.common_dir(none) == 0);
-    CHECK(none.check_request() == unix_path::request_check::is_fine);
+    CHECK(none.check_request() == unix_path::request_check::is_fine && none.is_canonical());
     CHECK(!none.parent() && !none.file_name() && !none.file_stem() && !none.extension());
     CHECK(!none.file_prefix() && none.strip_prefix(none)->empty());
     CHECK(view("a").strip_prefix(none)->bytes() == "a" && !none.strip_prefix("a"));
@@ -365,6 +370,7 @@ void null_views() {
     CHECK(none.canonical().empty() && none.to_string_lossy().empty() && none.resolved()->empty());
     CHECK(none.join_within(none)->empty() && none.join_below(none, reading::as_path)->empty());
     CHECK(none.join(none, room)->empty() && none.with_file_name(none, room)->empty());
+    CHECK(none.with_added_extension({})->empty() && none.with_added_extension({}, room)->empty());
     CHECK(none.with_extension({}, room)->empty() && none.canonical(room)->empty());
     CHECK(none.to_string_lossy(room)->empty() && none.resolved(room)->empty());
     CHECK(none.join_within(none, room)->empty());
@@ -408,6 +414,7 @@ void memory() {
         length += ancestor.hash() % 2;
     }
     CHECK(a.join(b, out) && a.with_file_name(b, out) && a.with_extension(".x", out));
+    CHECK(a.with_added_extension(".x", out) && a.is_canonical());
     CHECK(a.canonical(out) && a.to_string_lossy(out) && a.resolved(out) && a.join_within(b, out));
     CHECK(a.join_plain("c", out) && a.join_plain(b, out).why() == refusal::escapes);
     CHECK(a.join_below(b, reading::as_path, out) && a == a && a <= a && !b.climbs() && length > 0);

@@ -21,6 +21,10 @@ static const struct {
     {NULL, unix_path_with_extension, "foo.bar.baz", "txt", "foo.bar.txt"},
     {NULL, unix_path_with_extension, "foo.txt", "", "foo"},
     {NULL, unix_path_with_extension, "foo/..", "bar", "foo/.."},
+    {NULL, unix_path_with_added_extension, "foo.tar/.", "gz", "foo.tar.gz"},
+    {NULL, unix_path_with_added_extension, "a/.b", "c.d", "a/.b.c.d"},
+    {NULL, unix_path_with_added_extension, "foo/", "", "foo/"},
+    {NULL, unix_path_with_added_extension, "foo/..", "bar", "foo/.."},
     {NULL, unix_path_join_within, "/srv/www", "a/../b", "/srv/www/b"},
     {NULL, unix_path_join_within, "..//root/.", "x//y/.", "../root/x/y"},
     {NULL, unix_path_join_within, "", "", ""},
@@ -107,6 +111,9 @@ static void refusals(void) {
         memset(memory, 0xA5, sizeof memory);
         CHECK(unix_path_with_extension(path.bytes, path.length, extension.bytes, extension.length,
                                        memory, room) == UNIX_PATH_SEPARATOR, "room %zu", room);
+        CHECK(unix_path_with_added_extension(path.bytes, path.length, extension.bytes,
+                                             extension.length, memory, room)
+              == UNIX_PATH_SEPARATOR, "room %zu", room);
         CHECK(unix_path_join_within(path.bytes, path.length, request.bytes, request.length,
                                     memory, room) == UNIX_PATH_ESCAPES, "room %zu", room);
         CHECK(unix_path_way(path.bytes, path.length, ups[0], 1, memory, room)

@@ -64,6 +64,8 @@ CALL(common_dir, unix_path_common_dir(A, B))
 CALL(join, unix_path_join(A, B, OUT))
 CALL(with_file_name, unix_path_with_file_name(A, B, OUT))
 CALL(with_extension, unix_path_with_extension(A, B, OUT))
+CALL(with_added_extension, unix_path_with_added_extension(A, B, OUT))
+CALL(is_canonical, unix_path_is_canonical(A))
 CALL(canonical, unix_path_canonical(A, OUT))
 CALL(to_string_lossy, unix_path_to_string_lossy(A, OUT))
 CALL(resolved, unix_path_resolved(A, OUT))
@@ -83,8 +85,9 @@ static const call calls[] = {
     NAMED(file_name), NAMED(file_stem), NAMED(extension), NAMED(file_prefix), NAMED(strip_prefix),
     NAMED(starts_with), NAMED(ends_with), NAMED(equal), NAMED(compare), NAMED(hash),
     NAMED(is_utf8), NAMED(is_absolute), NAMED(climbs), NAMED(check_request), NAMED(common_dir),
-    NAMED(join), NAMED(with_file_name), NAMED(with_extension), NAMED(canonical),
-    NAMED(to_string_lossy), NAMED(resolved), NAMED(key), NAMED(from_key), NAMED(key_end),
+    NAMED(join), NAMED(with_file_name), NAMED(with_extension), NAMED(with_added_extension),
+    NAMED(is_canonical), NAMED(canonical), NAMED(to_string_lossy), NAMED(resolved), NAMED(key),
+    NAMED(from_key), NAMED(key_end),
     NAMED(way), NAMED(join_within), NAMED(join_plain), NAMED(join_below),
 };
 

@@ -121,16 +121,16 @@ PAIRS = [
 ]
 
 # Families of paths, and of what goes with a path.
-SPELLED = "canonical resolved"
+SPELLED = "is_canonical canonical resolved"
 PLACES = "parent file_name file_stem extension file_prefix"
 WALKS = "components next next_back as_path"
 PATHS = [
     ("plain", lambda n: (plain(n), b"new.rs"), EDGES,
      f"{SPELLED} {PLACES} {WALKS} hash is_utf8 to_string_lossy join with_file_name"),
-    ("plain", lambda n: (plain(n), b"rs"), EDGES, "with_extension"),
+    ("plain", lambda n: (plain(n), b"rs"), EDGES, "with_extension with_added_extension"),
     ("rooted", lambda n: (b"/" + plain(n - 1), b""), EDGES, f"{SPELLED} is_absolute"),
     ("dotted_name", lambda n: (plain(n - 8) + b"/a.tar.gz", b"rs"), EDGES,
-     "file_stem extension file_prefix with_extension"),
+     "file_stem extension file_prefix with_extension with_added_extension"),
     ("broken_text", lambda n: (cut(n, b"caf\xe9/"), b""), EDGES, "is_utf8 to_string_lossy"),
     ("accents", lambda n: (cut(n, b"caf\xc3\xa9/"), b""), EDGES, "is_utf8 to_string_lossy"),
     ("gap_first", lambda n: (b"a//" + plain(n - 3), b""), EDGES, SPELLED),

@@ -55,6 +55,27 @@ pub fn with_extension<'o>(
     MakeOfTwo::WITH_EXTENSION.write(path, extension, out)
 }
 
+/// The path with `extension` added to its file name, behind a dot. A path without a file name stays
+/// as it is, and so does each path if the extension is empty.
+///
+/// Fails with `Separator` exactly if the extension has a slash, and with `Short`. Does not
+/// allocate. As Rust's `Path::with_added_extension`, which panics for a separator.
+///
+/// ```
+/// use unix_path_rattle::{with_added_extension, Error};
+/// let mut out = [0; 16];
+/// assert_eq!(with_added_extension(b"b.tar", b"gz", &mut out), Ok(&b"b.tar.gz"[..]));
+/// assert_eq!(with_added_extension(b"b.tar", b"d/e", &mut out), Err(Error::Separator));
+/// ```
+#[inline]
+pub fn with_added_extension<'o>(
+    path: &[u8],
+    extension: &[u8],
+    out: &'o mut [u8],
+) -> Result<&'o [u8], Error> {
+    MakeOfTwo::WITH_ADDED_EXTENSION.write(path, extension, out)
+}
+
 /// The shortest path with the same parts.
 ///
 /// It has at most as many bytes as the path. Fails only with `Short`. Does not allocate. As

@@ -182,6 +182,7 @@ pub(crate) struct Ask(TruthOfOne);
 
 impl Ask {
     pub const IS_UTF8: Ask = Ask(unix_path_is_utf8);
+    pub const IS_CANONICAL: Ask = Ask(unix_path_is_canonical);
     pub const IS_ABSOLUTE: Ask = Ask(unix_path_is_absolute);
     pub const CLIMBS: Ask = Ask(unix_path_climbs);
 
@@ -297,6 +298,7 @@ impl MakeOfTwo {
     pub const JOIN: MakeOfTwo = MakeOfTwo(unix_path_join);
     pub const WITH_FILE_NAME: MakeOfTwo = MakeOfTwo(unix_path_with_file_name);
     pub const WITH_EXTENSION: MakeOfTwo = MakeOfTwo(unix_path_with_extension);
+    pub const WITH_ADDED_EXTENSION: MakeOfTwo = MakeOfTwo(unix_path_with_added_extension);
     pub const JOIN_WITHIN: MakeOfTwo = MakeOfTwo(unix_path_join_within);
     pub const JOIN_PLAIN: MakeOfTwo = MakeOfTwo(unix_path_join_plain);
     pub const WAY: MakeOfTwo = MakeOfTwo(unix_path_way);

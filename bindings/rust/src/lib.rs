@@ -64,8 +64,8 @@ mod queries;
 mod request;
 
 pub use buffers::{
-    canonical, join, join_plain, join_within, resolved, to_string_lossy, way, with_extension,
-    with_file_name,
+    canonical, join, join_plain, join_within, resolved, to_string_lossy, way, with_added_extension,
+    with_extension, with_file_name,
 };
 pub use by_parts::ByParts;
 pub use components::{Component, Components};
@@ -73,6 +73,7 @@ pub use error::{Error, RequestError};
 pub use keys::{from_key, key, key_end};
 pub use queries::{
     check_request, climbs, common_dir, compare, components, ends_with, equal, extension, file_name,
-    file_prefix, file_stem, hash, is_absolute, is_utf8, parent, starts_with, strip_prefix,
+    file_prefix, file_stem, hash, is_absolute, is_canonical, is_utf8, parent, starts_with,
+    strip_prefix,
 };
 pub use request::Request;

@@ -184,6 +184,16 @@ pub fn is_utf8(path: impl AsRef<Path>) -> bool {
     crate::is_utf8(bytes(&path))
 }
 
+/// As [`crate::is_canonical`].
+///
+/// ```
+/// assert!(unix_path_rattle::os::is_canonical("./a/b"));
+/// ```
+#[must_use]
+pub fn is_canonical(path: impl AsRef<Path>) -> bool {
+    crate::is_canonical(bytes(&path))
+}
+
 /// As [`crate::climbs`].
 ///
 /// ```
@@ -236,6 +246,20 @@ pub fn with_extension(
     extension: impl AsRef<OsStr>,
 ) -> Result<PathBuf, Error> {
     owned::with_extension(bytes(&path), extension.as_ref().as_bytes()).map(path_buf)
+}
+
+/// As [`owned::with_added_extension`].
+///
+/// ```
+/// # use std::path::Path;
+/// let made = unix_path_rattle::os::with_added_extension("b.tar", "gz");
+/// assert_eq!(made.unwrap(), Path::new("b.tar.gz"));
+/// ```
+pub fn with_added_extension(
+    path: impl AsRef<Path>,
+    extension: impl AsRef<OsStr>,
+) -> Result<PathBuf, Error> {
+    owned::with_added_extension(bytes(&path), extension.as_ref().as_bytes()).map(path_buf)
 }
 
 /// As [`owned::canonical`].

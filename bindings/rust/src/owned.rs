@@ -66,6 +66,19 @@ pub fn with_extension(path: &[u8], extension: &[u8]) -> Result<Vec<u8>, Error> {
     })
 }
 
+/// As [`with_added_extension`](crate::with_added_extension), in memory of its own.
+///
+/// ```
+/// use unix_path_rattle::{owned, Error};
+/// assert_eq!(owned::with_added_extension(b"b.tar", b"gz").unwrap(), b"b.tar.gz");
+/// assert_eq!(owned::with_added_extension(b"b.tar", b"d/e"), Err(Error::Separator));
+/// ```
+pub fn with_added_extension(path: &[u8], extension: &[u8]) -> Result<Vec<u8>, Error> {
+    vec_of(path.len() + 1 + extension.len(), |bytes| {
+        MakeOfTwo::WITH_ADDED_EXTENSION.fill(path, extension, bytes)
+    })
+}
+
 /// As [`canonical`](crate::canonical), in memory of its own.
 ///
 /// ```

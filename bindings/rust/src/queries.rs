@@ -179,6 +179,19 @@ pub fn is_utf8(path: &[u8]) -> bool {
     Ask::IS_UTF8.ask(path)
 }
 
+/// Whether the path is the shortest with its parts: whether [`canonical`](crate::canonical) gives
+/// the same bytes. Not in Rust's std.
+///
+/// ```
+/// assert!(unix_path_rattle::is_canonical(b"./a/b"));
+/// assert!(!unix_path_rattle::is_canonical(b"a//b"));
+/// ```
+#[must_use]
+#[inline]
+pub fn is_canonical(path: &[u8]) -> bool {
+    Ask::IS_CANONICAL.ask(path)
+}
+
 /// Whether the path begins with a slash. As Rust's `Path::is_absolute`.
 ///
 /// ```

@@ -43,6 +43,7 @@ fn it_is_an_error() {
         owned::join,
         owned::with_file_name,
         owned::with_extension,
+        owned::with_added_extension,
         owned::join_within,
         owned::join_plain,
         owned::way,

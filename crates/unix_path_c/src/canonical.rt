@@ -1,10 +1,10 @@
-//! The canonical spelling, in a buffer of the caller's.
-ghost use Rattle.std.specs.Prelude.{◌≡◌, length};
+//! The canonical spelling, in a buffer of the caller's, and whether a path is spelled so.
+ghost use Rattle.std.specs.Prelude.{◌≡◌, ◌↔◌, length, IsTrue};
 ghost use Rattle.unix_path.specs.Parts.{values};
 ghost use Rattle.path_runs.specs.Buffer.{buffer_after};
 ghost use Rattle.path_runs.specs.Spelling.{spelling_of};
 
-use path_runs::canonical::write_canonical;
+use path_runs::canonical::{is_canonical, write_canonical};
 use unix_path::Path;
 
 /// Writes the canonical spelling of a path to `out`, and gives how many bytes it has.
@@ -23,4 +23,17 @@ pub extern "C" fn unix_path_canonical(path: &[u8], out: &mut [u8]) -> usize
     ensures length { result ≡ length (spelling_of (values path.now)) }
 {
     write_canonical(Path { bytes: path }, out)
+}
+
+/// Whether the path is in canonical spelling: whether `unix_path_canonical` gives the same bytes for
+/// it.
+///
+/// Does not allocate. Not in Rust's std.
+///
+/// For `./a/b` and the empty path it is true, and for `a//b`, `a/./b` and `a/` it is false.
+#[unsafe(no_mangle)]
+pub extern "C" fn unix_path_is_canonical(path: &[u8]) -> bool
+    ensures { IsTrue result ↔ (path.now ≡ spelling_of (values path.now)) }
+{
+    is_canonical(Path::from_bytes(path))
 }

@@ -2,7 +2,7 @@
 ghost use Rattle.std.specs.Prelude.{◌≡◌, ◌↔◌, ◌⊎◌, ◌≤◌, ◌+◌, true, false, length, IfSome};
 ghost use Rattle.unix_path.specs.Edits.{before_name_of, dot_before, stem_end_of};
 ghost use Rattle.unix_path.specs.Edits.{with_extension_of, with_name_of};
-ghost use Rattle.unix_path.specs.Extensions.{has_slash};
+ghost use Rattle.unix_path.specs.Extensions.{added_extension_of, has_slash, name_end_of};
 ghost use Rattle.unix_path.specs.Joins.{is_open, join_of};
 ghost use Rattle.unix_path.specs.Scan.{gap_bytes};
 ghost use Rattle.unix_path_c.specs.Layout.{layout_bytes};
@@ -82,6 +82,14 @@ fn join_layout<'a>(base: Path<'a>, path: Path<'a>) -> Layout<'a>
     }
 }
 
+// Whether a byte of an extension is a slash.
+#[inline]
+fn has_slash(extension: &[u8]) -> bool
+    ensures { result ≡ has_slash extension.now }
+{
+    extension.contains(&b'/')
+}
+
 // What stands before the file name, or all of the path if there is none.
 #[inline]
 fn before_name(path: Path<'_>) -> Path<'_>
@@ -112,21 +120,60 @@ fn stem_end(path: Path<'_>) -> Option<usize>
     Some(last_end(path) - name.bytes.len() + stem.bytes.len())
 }
 
+// Where the file name ends.
+#[inline]
+fn name_end(path: Path<'_>) -> Option<usize>
+    ensures value { result ≡ name_end_of path.entry.bytes.now }
+    ensures in_range { IfSome result (λ end. end ≤ length path.entry.bytes.now) }
+{
+    let Some(_name) = path.file_name() else {
+        return None;
+    };
+    Some(last_end(path))
+}
+
+// What a path that stays as it is is made of.
+#[inline]
+fn whole_layout<'a>(path: Path<'a>) -> Layout<'a>
+    ensures { layout_bytes result ≡ path.entry.bytes.now }
+{
+    Layout {
+        beginning: path.bytes,
+        gap: None,
+        end: &[],
+    }
+}
+
 // What a path with another extension is made of.
 #[inline]
 fn extension_layout<'a>(path: Path<'a>, extension: &'a [u8]) -> Layout<'a>
     ensures { layout_bytes result ≡ with_extension_of path.entry.bytes.now extension.now }
 {
     let Some(end) = stem_end(path) else {
-        return Layout {
-            beginning: path.bytes,
-            gap: None,
-            end: &[],
-        };
+        return whole_layout(path);
     };
     Layout {
         beginning: &path.bytes[..end],
         gap: dot_before(extension),
+        end: extension,
+    }
+}
+
+// What a path with an extension added is made of.
+#[inline]
+#[tactic(auto, using(unix_path::proofs::NameEndLemmas::added_cases))]
+fn added_layout<'a>(path: Path<'a>, extension: &'a [u8]) -> Layout<'a>
+    ensures { layout_bytes result ≡ added_extension_of path.entry.bytes.now extension.now }
+{
+    if extension.is_empty() {
+        return whole_layout(path);
+    }
+    let Some(end) = name_end(path) else {
+        return whole_layout(path);
+    };
+    Layout {
+        beginning: &path.bytes[..end],
+        gap: Some(b'.'),
         end: extension,
     }
 }
@@ -188,8 +235,40 @@ pub extern "C" fn unix_path_with_extension(path: &[u8], extension: &[u8], out: &
         → out.new ≡ buffer_after (with_extension_of path.now extension.now) out.old }
     ensures kept { has_slash extension.now ≡ true → out.new ≡ out.old }
 {
-    if extension.contains(&b'/') {
+    if has_slash(extension) {
         return SEPARATOR;
     }
     told_len(extension_layout(Path { bytes: path }, extension).write(out))
+}
+
+/// Writes the path with an extension added to `out`, and gives how many bytes it has then.
+///
+/// The extension is put behind the file name with a dot before it; a path without a file name stays
+/// as it is, and so does each path if the extension is empty. If the extension has a `/`, the
+/// answer is `UNIX_PATH_SEPARATOR`, and nothing is written; if the path would have more than
+/// `PTRDIFF_MAX` bytes, which no buffer has, it is `UNIX_PATH_TOO_LONG`. If `out` has room for all
+/// of it, the answer stands at its beginning, and the bytes behind stay; else nothing is written.
+/// Lengths are in bytes. `out` overlaps neither slice, and no pointer is null. Does not allocate.
+/// As Rust's `Path::with_added_extension`, which panics for a separator.
+///
+/// `foo.tar/.` with the extension `gz` added is `foo.tar.gz`, of 10 bytes, and `..` stays `..`.
+#[unsafe(no_mangle)]
+pub extern "C" fn unix_path_with_added_extension(
+    path: &[u8],
+    extension: &[u8],
+    out: &mut [u8],
+) -> usize
+    ensures answers { IsLength result ⊎ ((result ≡ separator) ⊎ (result ≡ too_long)) }
+    ensures separator { (result ≡ separator) ↔ (has_slash extension.now ≡ true) }
+    ensures too_long { result ≡ too_long
+        → too_long ≤ length (added_extension_of path.now extension.now) }
+    ensures length { IsLength result → result ≡ length (added_extension_of path.now extension.now) }
+    ensures out { has_slash extension.now ≡ false
+        → out.new ≡ buffer_after (added_extension_of path.now extension.now) out.old }
+    ensures kept { has_slash extension.now ≡ true → out.new ≡ out.old }
+{
+    if has_slash(extension) {
+        return SEPARATOR;
+    }
+    told_len(added_layout(Path { bytes: path }, extension).write(out))
 }

@@ -1,18 +1,6 @@
 //! Answers to lists of edits.
 use unix_path_rattle::{self as paths, owned, Error};
 
-/// The path with the extension added to its file name; the library has no call for it.
-fn with_added_extension(path: &[u8], extension: &[u8]) -> Result<Vec<u8>, Error> {
-    if extension.contains(&b'/') {
-        return Err(Error::Separator);
-    }
-    if extension.is_empty() || paths::file_name(path).is_none() {
-        return Ok(path.to_vec());
-    }
-    // Nothing stands before the first part, so this goes up to the end of the file name.
-    Ok([paths::components(path).as_path(), b".", extension].concat())
-}
-
 /// A call that makes a path with another extension.
 type Extend = fn(&[u8], &[u8]) -> Result<Vec<u8>, Error>;
 
@@ -60,7 +48,7 @@ fn edit(edited: &mut Vec<u8>, field: &[u8]) -> Result<Option<&'static str>, Erro
             "ok"
         }
         (Some(b"ext"), Some(new)) => edit_extension(edited, new, owned::with_extension)?,
-        (Some(b"add"), Some(new)) => edit_extension(edited, new, with_added_extension)?,
+        (Some(b"add"), Some(new)) => edit_extension(edited, new, owned::with_added_extension)?,
         _ => return Ok(None),
     };
     Ok(Some(word))

@@ -56,6 +56,7 @@ extern "C" {
     pub fn unix_path_compare(a: Start, a_length: usize, b: Start, b_length: usize) -> i32;
     pub fn unix_path_hash(path: Start, path_length: usize) -> u64;
     pub fn unix_path_is_utf8(path: Start, path_length: usize) -> bool;
+    pub fn unix_path_is_canonical(path: Start, path_length: usize) -> bool;
     pub fn unix_path_is_absolute(path: Start, path_length: usize) -> bool;
     pub fn unix_path_climbs(path: Start, path_length: usize) -> bool;
     pub fn unix_path_check_request(path: Start, path_length: usize) -> i32;
@@ -66,6 +67,8 @@ extern "C" {
     pub fn unix_path_with_file_name(path: Start, path_length: usize, name: Start,
         name_length: usize, out: *mut u8, out_length: usize) -> usize;
     pub fn unix_path_with_extension(path: Start, path_length: usize, extension: Start,
+        extension_length: usize, out: *mut u8, out_length: usize) -> usize;
+    pub fn unix_path_with_added_extension(path: Start, path_length: usize, extension: Start,
         extension_length: usize, out: *mut u8, out_length: usize) -> usize;
     pub fn unix_path_canonical(path: Start, path_length: usize, out: *mut u8, out_length: usize)
         -> usize;
@@ -89,7 +92,8 @@ extern "C" {
         -> usize;
 }
 
-/// What `unix_path_with_extension` answers for an extension with a slash.
+/// What `unix_path_with_extension` and `unix_path_with_added_extension` answer for an extension with
+/// a slash.
 pub const SEPARATOR: usize = usize::MAX - 6;
 /// What `unix_path_join_within` and `unix_path_join_below` answer for a request that climbs, and
 /// `unix_path_join_plain` for one with a root or a `..`.

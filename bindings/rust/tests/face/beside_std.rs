@@ -117,6 +117,9 @@ fn joins() {
                 assert_eq!(made, Err(Error::Separator));
             } else {
                 assert_eq!(made, Ok(bytes(&with_extension(p, text(b)))));
+                let want = p.with_added_extension(text(b));
+                let made = paths::with_added_extension(a, b, &mut out);
+                assert_eq!(made, Ok(bytes(&want)));
             }
         }
     }

@@ -88,7 +88,7 @@ fn of_one_path_or_key() {
 
 #[test]
 fn of_two() {
-    let rows: [RowOfTwo; 26] = [
+    let rows: [RowOfTwo; 30] = [
         (paths::join, b"a", b"b", b"a/b"),
         (paths::join, b"a/", b"b", b"a/b"),
         (paths::join, b"a", b"/b", b"/b"),
@@ -104,6 +104,15 @@ fn of_two() {
         (paths::with_extension, b"a/b.c", b"d.e", b"a/b.d.e"),
         (paths::with_extension, b"a/..", b"d", b"a/.."),
         (paths::with_extension, b"", b"d", b""),
+        (
+            paths::with_added_extension,
+            b"foo.tar/.",
+            b"gz",
+            b"foo.tar.gz",
+        ),
+        (paths::with_added_extension, b"a/..foo", b"", b"a/..foo"),
+        (paths::with_added_extension, b"a/", b"", b"a/"),
+        (paths::with_added_extension, b"a/..", b"d", b"a/.."),
         (paths::join_within, b"/srv/www", b"a/../b", b"/srv/www/b"),
         (paths::join_within, b"/srv/../www", b"", b"/www"),
         (paths::join_within, b"", b"a/..", b""),
@@ -153,6 +162,10 @@ fn refusals_write_nothing() {
     );
     in_no_room(|out| paths::join_within(b"/a", b"..", out), Error::Escapes);
     in_no_room(|out| paths::join_within(b"/a", b"/a", out), Error::Escapes);
+    in_no_room(
+        |out| paths::with_added_extension(b"..", b"/", out),
+        Error::Separator,
+    );
     in_no_room(|out| paths::way(b"a", b"/a", out), Error::NoWay);
     in_no_room(|out| paths::way(b"../x", b"y", out), Error::NoWay);
     in_no_room(|out| paths::join_plain(b"/a", b"b/..", out), Error::Escapes);

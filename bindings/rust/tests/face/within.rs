@@ -190,5 +190,7 @@ fn is_canonical() {
     for s in over(b"/.a", 6) {
         let resolved = owned::resolved(&s).unwrap();
         assert_eq!(owned::canonical(&resolved).as_ref(), Ok(&resolved));
+        let is_its_own = owned::canonical(&s).as_ref() == Ok(&s);
+        assert_eq!(unix_path_rattle::is_canonical(&s), is_its_own);
     }
 }

@@ -40,6 +40,7 @@ fn places() {
             Some(paths::common_dir(PATH, b"/a//c")),
         ];
         let _ = paths::check_request(PATH);
+        let _ = paths::is_canonical(PATH);
         assert!(found
             .into_iter()
             .flatten()
@@ -61,6 +62,7 @@ fn buffers() {
         paths::join,
         paths::with_file_name,
         paths::with_extension,
+        paths::with_added_extension,
         paths::join_within,
         paths::join_plain,
         paths::way,
@@ -97,6 +99,7 @@ fn memory_of_its_own() {
         owned::join,
         owned::with_file_name,
         owned::with_extension,
+        owned::with_added_extension,
         owned::join_within,
         owned::join_plain,
         owned::way,

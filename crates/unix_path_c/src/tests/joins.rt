@@ -1,5 +1,8 @@
 //! Rows of joins, and of paths with another file name or extension, in buffers of 0 to 31 bytes.
-use crate::joins::{unix_path_join, unix_path_with_extension, unix_path_with_file_name};
+use crate::joins::{
+    unix_path_join, unix_path_with_added_extension, unix_path_with_extension,
+    unix_path_with_file_name,
+};
 use crate::tests::rooms::{holds, is_answered};
 
 // The answer to an extension with a slash.
@@ -66,6 +69,27 @@ static EXTENSIONS: [(&'static str, &'static str, &'static str); 19] = [
     ("/", "foo", "/"),
 ];
 
+// A path, an extension, and the path with that extension added.
+static ADDED_EXTENSIONS: [(&'static str, &'static str, &'static str); 17] = [
+    ("foo", "txt", "foo.txt"),
+    ("foo.tar", "gz", "foo.tar.gz"),
+    ("foo.tar", "", "foo.tar"),
+    ("foo/", "", "foo/"),
+    ("foo.", "txt", "foo..txt"),
+    (".test", "txt", ".test.txt"),
+    ("foo.rs/.", "txt", "foo.rs.txt"),
+    ("a.b/c.d//", "e.f", "a.b/c.d.e.f"),
+    ("/a", ".", "/a.."),
+    ("", "foo", ""),
+    (".", "foo", "."),
+    ("./.", "foo", "./."),
+    ("..", "foo", ".."),
+    ("foo/..", "bar", "foo/.."),
+    ("foo/../", "bar", "foo/../"),
+    ("/", "foo", "/"),
+    ("//", "", "//"),
+];
+
 // Whether the join is written, if there is room for it.
 fn is_joined(row: &(&str, &str, &str)) -> bool {
     let call = |out: &mut [u8]| unix_path_join(row.0.as_bytes(), row.1.as_bytes(), out);
@@ -110,6 +134,23 @@ fn extensions_in_every_room(rt: HostRuntime) {
     }
 }
 
+// Whether the path with that extension added is written, if there is room for it.
+fn has_added_extension(row: &(&str, &str, &str)) -> bool {
+    let call = |out: &mut [u8]| unix_path_with_added_extension(
+        row.0.as_bytes(),
+        row.1.as_bytes(),
+        out,
+    );
+    is_answered(call, row.2.len(), row.2.as_bytes())
+}
+
+#[test]
+fn added_extensions_in_every_room(rt: HostRuntime) {
+    for row in ADDED_EXTENSIONS.iter() {
+        assert!(rt; has_added_extension(row), "{} with {} added", row.0, row.1);
+    }
+}
+
 #[test]
 fn bytes_that_are_no_text_are_kept(rt: HostRuntime) {
     let mut out = [b'#'; 8];
@@ -119,10 +160,11 @@ fn bytes_that_are_no_text_are_kept(rt: HostRuntime) {
     assert!(rt; holds(&out, b"\xff.\xfe"));
 }
 
-// Whether the extension is refused, and nothing is written.
+// Whether the extension is refused, set or added, and nothing is written.
 fn is_refused(extension: &str) -> bool {
     let mut out = [b'#'; 16];
     unix_path_with_extension(b"foo.rs", extension.as_bytes(), &mut out) == SEPARATOR
+        && unix_path_with_added_extension(b"..", extension.as_bytes(), &mut out) == SEPARATOR
         && holds(&out, b"")
 }
 

@@ -1,13 +1,12 @@
-use Rattle.std.proofs.Common.{[], ◌++◌, sym, ◌∙◌, append-nil}
+use Rattle.std.proofs.Common.{sym, ◌∙◌}
 use Rattle.unix_path.specs.Scan.{gap_bytes}
 use Rattle.unix_path.proofs.EditLemmas.{with_extension_of-none, with_extension_of-some}
 use Rattle.unix_path_c.proofs.joins.extension_layout.Goals as goal
 
 pub returns-in_default : goal.returns-in_default
-returns-in_default c =
-    let s = c.args.path.bytes.now in
-    append-nil (s ++ []) ∙ append-nil s
-    ∙ sym (with_extension_of-none s c.args.extension.now c.in_default.ensures.value)
+returns-in_default c = c.whole_layout.ensures
+    ∙ sym (with_extension_of-none c.args.path.bytes.now c.args.extension.now
+    c.in_default.ensures.value)
 
 pub returns : goal.returns
 returns c =
