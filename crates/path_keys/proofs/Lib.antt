@@ -18,6 +18,7 @@ pub mod LastCodeLemmas
 pub mod KeyReadLemmas
 pub mod BeginLemmas
 pub mod BreakLaneLemmas
+pub mod SameLaneLemmas
 pub mod MayBreakLemmas
 pub mod StopLemmas
 pub mod StopLaneLemmas

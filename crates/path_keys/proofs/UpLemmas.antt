@@ -1,11 +1,12 @@
 -- Each `..` that stands first in a path, in a key.
 use Rattle.std.proofs.Common.{◌≡◌, ◌≤◌, ◌+◌, ◌*◌, ℕ, true, false, cond, eqb, List, []}
 use Rattle.std.proofs.Common.{◌∷◌, ◌++◌, length, take, drop, map, get_or, refl, sym, ap, ap₂, ◌∙◌}
-use Rattle.std.proofs.Common.{arith, append-nil, append_assoc, eqb-true, ◌&&◌}
+use Rattle.std.proofs.Common.{arith, append-nil, append_assoc, eqb-true, ◌&&◌, ⊎_elim, take_all}
 use Rattle.std.proofs.Common.{length-append, length-take-le, length-drop}
-use Rattle.std.proofs.lemmas.Bool.{and_parts}
+use Rattle.std.proofs.lemmas.Bool.{and_parts, cases_lt}
 use Rattle.std.proofs.lemmas.List.{drop-drop, take-append-drop}
 use Rattle.std.proofs.lemmas.List.Splits.{slice_split-cons_yes}
+use Rattle.std.specs.Prelude.{codes}
 use Rattle.unix_path.specs.CommonDir.{inner_values}
 use Rattle.unix_path.specs.Parts.{is_slash, slash}
 use Rattle.unix_path.specs.Scan.{begins_with_parent, is_idle}
@@ -84,11 +85,13 @@ ups_none s at old l = record {
     here : at + 0 ≡ at
     here = omega arith
 
--- there is room for the mark of one more `..`
-pub ups_room : {s rest old out : List ℕ} {at count : ℕ} → UpsPut s rest at count old out
-    → IsUp rest → at + length (key_of (inner_values s)) ≤ length old
-    → at + 2 * count + 2 ≤ length old
-ups_room {s} {rest} {old} {out} {at} {count} h up fits =
+-- there is room for the marks of more `..`
+pub ups_room : {s rest old out : List ℕ} {at count : ℕ} (k : ℕ) (marks : List ℕ)
+    → UpsPut s rest at count old out
+    → key_of (inner_values rest) ≡ marks ++ key_of (inner_values (drop (3 * k) rest))
+    → at + length (key_of (inner_values s)) ≤ length old
+    → at + 2 * count + length marks ≤ length old
+ups_room {s} {rest} {old} {out} {at} {count} k marks h up fits =
     let p = h.puts in
     let more = key_of (inner_values (drop (3 * count) s)) in
     omega (
@@ -98,37 +101,73 @@ ups_room {s} {rest} {old} {out} {at} {count} h up fits =
       ap length p.split,
       length-append p.lead more,
       ap (λ r. length (key_of (inner_values r))) h.rest_is,
-      ap length (slash_up_key rest up),
-      length-append (0 ∷ 3 ∷ []) (key_of (inner_values (drop 3 rest))),
+      ap length up,
+      length-append marks (key_of (inner_values (drop (3 * k) rest))),
     )
 
--- the mark of one more `..` is put
-pub ups_one : {s rest more old out new : List ℕ} {at count : ℕ} → UpsPut s rest at count old out
-    → IsUp rest → at ≤ length old → more ≡ drop 3 rest
-    → new ≡ overlay (at + 2 * count) (0 ∷ 3 ∷ []) out → UpsPut s more at (count + 1) old new
-ups_one {s} {rest} {more} {old} {out} {new} {at} {count} h up l e placed =
+-- the marks of more `..` are put
+pub ups_more : {s rest more old out new : List ℕ} {at count : ℕ} (k : ℕ) (marks : List ℕ)
+    → UpsPut s rest at count old out
+    → key_of (inner_values rest) ≡ marks ++ key_of (inner_values (drop (3 * k) rest))
+    → 2 * k ≡ length marks → 3 * k ≤ length rest → at ≤ length old → more ≡ drop (3 * k) rest
+    → new ≡ overlay (at + 2 * count) marks out → UpsPut s more at (count + k) old new
+ups_more {s} {rest} {more} {old} {out} {new} {at} {count} k marks h up long within l e placed =
     let p = h.puts in
-    let mark : List ℕ = 0 ∷ 3 ∷ [] in
-    let behind : drop 3 rest ≡ drop (3 * (count + 1)) s =
-    ap (drop 3) h.rest_is ∙ drop-drop 3 (3 * count) s
-    ∙ ap (λ n. drop n s) {x = 3 * count + 3} {y = 3 * (count + 1)} (omega arith) in
+    let behind : drop (3 * k) rest ≡ drop (3 * (count + k)) s =
+    ap (drop (3 * k)) h.rest_is ∙ drop-drop (3 * k) (3 * count) s
+    ∙ ap (λ n. drop n s) {x = 3 * count + 3 * k} {y = 3 * (count + k)} (omega arith) in
     record {
       puts = record {
-        lead = p.lead ++ mark;
+        lead = p.lead ++ marks;
         in_range = omega (
           arith,
           p.in_range,
-          slash_up_long rest up,
+          within,
           ap length h.rest_is,
           length-drop (3 * count) s,
         );
         split = p.split ∙ ap (λ r. p.lead ++ key_of (inner_values r)) (sym h.rest_is)
-            ∙ ap (λ k. p.lead ++ k) (slash_up_key rest up)
-            ∙ sym (append_assoc p.lead mark (key_of (inner_values (drop 3 rest))))
-            ∙ ap (λ r. (p.lead ++ mark) ++ key_of (inner_values r)) behind;
-        len_is = omega (arith, p.len_is, length-append p.lead mark);
-        new_is = placed ∙ ap₂ (λ n o. overlay (at + n) mark o) p.len_is p.new_is
-            ∙ overlay-overlay at p.lead mark old l;
+            ∙ ap (λ k. p.lead ++ k) up
+            ∙ sym (append_assoc p.lead marks (key_of (inner_values (drop (3 * k) rest))))
+            ∙ ap (λ r. (p.lead ++ marks) ++ key_of (inner_values r)) behind;
+        len_is = omega (arith, p.len_is, long, length-append p.lead marks);
+        new_is = placed ∙ ap₂ (λ n o. overlay (at + n) marks o) p.len_is p.new_is
+            ∙ overlay-overlay at p.lead marks old l;
       };
       rest_is = e ∙ behind;
     }
+
+-- the key of five times a slash and `..`, and what follows a slash
+five_first : (t : List ℕ)
+    → key_of (inner_values (codes "/../../../../../" ++ t))
+    ≡ (0 ∷ 3 ∷ 0 ∷ 3 ∷ 0 ∷ 3 ∷ 0 ∷ 3 ∷ 0 ∷ 3 ∷ []) ++ key_of (inner_values (slash ∷ t))
+five_first t =
+    up (codes "../../../../" ++ t) ∙ ap (λ k. (0 ∷ 3 ∷ []) ++ k)
+    (up (codes "../../../" ++ t) ∙ ap (λ k. (0 ∷ 3 ∷ []) ++ k)
+    (up (codes "../../" ++ t) ∙ ap (λ k. (0 ∷ 3 ∷ []) ++ k)
+    (up (codes "../" ++ t) ∙ ap (λ k. (0 ∷ 3 ∷ []) ++ k) (up t))))
+  where
+    up : (r : List ℕ)
+        → key_of (inner_values (codes "/../" ++ r)) ≡ (0 ∷ 3 ∷ []) ++ key_of (inner_values (slash ∷ r))
+    up r = slash_up_key (codes "/../" ++ r) (record {
+      some = omega arith;
+      slash_first = refl;
+      up = refl;
+    })
+
+pub five_key : (s : List ℕ) → take 16 s ≡ codes "/../../../../../"
+    → key_of (inner_values s)
+    ≡ (0 ∷ 3 ∷ 0 ∷ 3 ∷ 0 ∷ 3 ∷ 0 ∷ 3 ∷ 0 ∷ 3 ∷ []) ++ key_of (inner_values (drop 15 s))
+five_key s e =
+    let whole : s ≡ codes "/../../../../../" ++ drop 16 s =
+    sym (take-append-drop 16 s) ∙ ap (λ t. t ++ drop 16 s) e in
+    ap (λ s. key_of (inner_values s)) whole ∙ five_first (drop 16 s)
+    ∙ ap (λ r. (0 ∷ 3 ∷ 0 ∷ 3 ∷ 0 ∷ 3 ∷ 0 ∷ 3 ∷ 0 ∷ 3 ∷ []) ++ key_of (inner_values r))
+    (sym (ap (drop 15) whole))
+
+-- the bytes of these
+pub five_long : (s : List ℕ) → take 16 s ≡ codes "/../../../../../" → 16 ≤ length s
+five_long s e = ⊎_elim
+    (λ few. absurd (omega (arith, ap length (sym (take_all 16 s (omega arith)) ∙ e))))
+    (λ enough. enough)
+    (cases_lt (length s) 16)

@@ -1,10 +1,11 @@
 -- Each `..` that stands first in a key, in a path.
 use Rattle.std.proofs.Common.{◌≡◌, ◌≤◌, ◌+◌, ◌-◌, ◌*◌, ℕ, zero, suc, false, List, []}
 use Rattle.std.proofs.Common.{◌∷◌, ◌++◌, length, take, drop, get_or, refl, sym, ap, ap₂, ◌∙◌}
-use Rattle.std.proofs.Common.{arith, append_assoc, append-nil, length-drop}
+use Rattle.std.proofs.Common.{arith, append_assoc, append-nil, length-drop, take_all}
 use Rattle.std.proofs.lemmas.List.{drop-drop, length-replicate, take-append-drop}
 use Rattle.std.proofs.Math.Seq.{take-append-add}
 use Rattle.unix_path.specs.Parts.{ParentDir}
+use Rattle.std.specs.Simd.Lanes.{chunk}
 use Rattle.path_runs.specs.Overlay.{overlay}
 use Rattle.path_keys.specs.Keys.{code, key_of}
 use Rattle.path_keys.specs.Codes.{slashed, text_of, AllFit}
@@ -29,11 +30,6 @@ pub ups_text-behind : (n : ℕ) → text_of (ups (n + 1)) ≡ text_of (ups n) ++
 ups_text-behind n = ap text_of (ups_behind n) ∙ text_of-append (ups n) (ParentDir ∷ [])
     ∙ ap (λ t. text_of (ups n) ++ t)
     (text_of-cons ParentDir [] ∙ ap (λ t. slashed ParentDir ++ t) text_of-nil)
-
-ups_key-behind : (n : ℕ) → key_of (ups (n + 1)) ≡ key_of (ups n) ++ code ParentDir
-ups_key-behind n = ap key_of (ups_behind n) ∙ key_of-append (ups n) (ParentDir ∷ [])
-    ∙ ap (λ t. key_of (ups n) ++ t)
-    (key_of-cons ParentDir [] ∙ ap (λ t. code ParentDir ++ t) key_of-nil)
 
 -- any number of `..` may stand behind others
 ups_fit : (n : ℕ) → AllFit false (ups n)
@@ -72,14 +68,18 @@ counted_none s = record {
   rest_is = refl;
 }
 
-pub counted_one : {s rest more : List ℕ} {n : ℕ} → UpsCounted s rest n → BeginsUps rest 1
-    → more ≡ drop 2 rest → UpsCounted s more (n + 1)
-counted_one {s} {rest} {more} {n} h up e =
-    let behind : drop 2 rest ≡ drop (2 * (n + 1)) s =
-    ap (drop 2) h.rest_is ∙ drop-drop 2 (2 * n) s
-    ∙ ap (λ k. drop k s) {x = 2 * n + 2} {y = 2 * (n + 1)} (omega arith) in
-    let mark : key_of (ups 1) ≡ code ParentDir =
-    key_of-cons ParentDir [] ∙ ap (λ k. code ParentDir ++ k) key_of-nil in
+-- some `..` and more behind them are as many together
+ups_append : (n k : ℕ) → ups (n + k) ≡ ups n ++ ups k
+ups_append zero k = ap ups {x = zero + k} {y = k} (omega arith)
+ups_append (suc n) k = ap ups {x = suc n + k} {y = suc (n + k)} (omega arith)
+    ∙ ap (λ vs. ParentDir ∷ vs) (ups_append n k)
+
+pub counted_more : {s rest more : List ℕ} {n : ℕ} (k : ℕ) → UpsCounted s rest n → BeginsUps rest k
+    → more ≡ drop (2 * k) rest → UpsCounted s more (n + k)
+counted_more {s} {rest} {more} {n} k h up e =
+    let behind : drop (2 * k) rest ≡ drop (2 * (n + k)) s =
+    ap (drop (2 * k)) h.rest_is ∙ drop-drop (2 * k) (2 * n) s
+    ∙ ap (λ j. drop j s) {x = 2 * n + 2 * k} {y = 2 * (n + k)} (omega arith) in
     record {
       begins = record {
         in_range = omega (
@@ -90,31 +90,50 @@ counted_one {s} {rest} {more} {n} h up e =
           length-drop (2 * n) s,
         );
         is = h.begins.is ∙ ap (λ r. key_of (ups n) ++ r) (sym h.rest_is)
-            ∙ ap (λ r. key_of (ups n) ++ r) (up.is ∙ ap (λ c. c ++ drop 2 rest) mark)
-            ∙ sym (append_assoc (key_of (ups n)) (code ParentDir) (drop 2 rest))
-            ∙ ap₂ (λ k r. k ++ r) (sym (ups_key-behind n)) behind;
+            ∙ ap (λ r. key_of (ups n) ++ r) up.is
+            ∙ sym (append_assoc (key_of (ups n)) (key_of (ups k)) (drop (2 * k) rest))
+            ∙ ap₂ (λ c r. c ++ r) (sym (ap key_of (ups_append n k)
+            ∙ key_of-append (ups n) (ups k))) behind;
       };
       rest_is = e ∙ behind;
     }
 
--- a `..` and those behind it are a run
-pub ups_run : (s : List ℕ) (n : ℕ) → BeginsUps s 1 → BeginsUps (drop 2 s) n → TakesRun s (Up n)
-ups_run s n up h =
-    let mark : key_of (ups 1) ≡ code ParentDir =
-    key_of-cons ParentDir [] ∙ ap (λ k. code ParentDir ++ k) key_of-nil in
-    let e : s ≡ (0 ∷ 3 ∷ []) ++ drop 2 s = up.is ∙ ap (λ c. c ++ drop 2 s) mark in
-    let count : 2 + 2 * n ≡ length (key_of (ups (n + 1))) = omega (arith, ups_key_len (n + 1)) in
+-- the codes of four `..`
+four_key : key_of (ups 4) ≡ 0 ∷ 3 ∷ 0 ∷ 3 ∷ 0 ∷ 3 ∷ 0 ∷ 3 ∷ []
+four_key = key_of-cons ParentDir (ups 3) ∙ ap (λ k. code ParentDir ++ k)
+    (key_of-cons ParentDir (ups 2) ∙ ap (λ k. code ParentDir ++ k)
+    (key_of-cons ParentDir (ups 1) ∙ ap (λ k. code ParentDir ++ k)
+    (key_of-cons ParentDir [] ∙ ap (λ k. code ParentDir ++ k) key_of-nil)))
+
+pub four_ups : (s : List ℕ) → 8 ≤ length s → chunk 0 8 s ≡ 0 ∷ 3 ∷ 0 ∷ 3 ∷ 0 ∷ 3 ∷ 0 ∷ 3 ∷ []
+    → BeginsUps s 4
+four_ups s l e = record {
+  in_range = l;
+  is = sym (take-append-drop 8 s) ∙ ap (λ t. t ++ drop 8 s) (e ∙ sym four_key);
+}
+
+-- their text
+pub four_text : (at : ℕ) (old : List ℕ) → let up = slashed ParentDir in
+    overlay at (up ++ up ++ up ++ up) old ≡ overlay at (text_of (ups 4)) old
+four_text at old = ap (λ t. overlay at t old) (sym (
+    text_of-cons ParentDir (ups 3) ∙ ap (λ t. slashed ParentDir ++ t)
+    (text_of-cons ParentDir (ups 2) ∙ ap (λ t. slashed ParentDir ++ t)
+    (text_of-cons ParentDir (ups 1) ∙ ap (λ t. slashed ParentDir ++ t)
+    (text_of-cons ParentDir [] ∙ ap (λ t. slashed ParentDir ++ t) text_of-nil)))
+    ))
+
+-- each `..` that is counted is in a run
+pub ups_run : (s : List ℕ) (n : ℕ) → BeginsUps s (n + 1) → TakesRun s (Up n)
+ups_run s n h =
+    let count : 2 * (n + 1) ≡ length (key_of (ups (n + 1))) =
+    omega (arith, ups_key_len (n + 1)) in
     record {
       vs = ups (n + 1);
       some = omega (arith, length-replicate (n + 1) ParentDir);
       fit = ups_fit (n + 1);
       code_is = refl;
       text_is = refl;
-      is = e ∙ ap (λ r. (0 ∷ 3 ∷ []) ++ r) (h.is ∙ ap (λ r. key_of (ups n) ++ r)
-          (drop-drop (2 * n) 2 s))
-          ∙ sym (append_assoc (code ParentDir) (key_of (ups n)) (drop (2 + 2 * n) s))
-          ∙ ap₂ (λ k m. k ++ drop m s)
-          (sym (ap key_of (ups_first n) ∙ key_of-cons ParentDir (ups n))) count;
+      is = h.is ∙ ap (λ k. key_of (ups (n + 1)) ++ drop k s) count;
     }
 
 -- nothing is put
@@ -125,15 +144,32 @@ ups_put_none at old = sym (ap (λ t. overlay at t old) text_of-nil
     here : at + 0 ≡ at
     here = omega arith
 
+-- nothing is put of none, as far as there is room
+pub ups_put_cut : (at n : ℕ) (old : List ℕ) → n ≡ 0
+    → old ≡ overlay at (take (length old - at) (text_of (ups n))) old
+ups_put_cut at n old e = ups_put_none at old
+    ∙ ap (λ t. overlay at t old) (text_of-nil
+    ∙ sym (take_all (length old - at) [] (omega arith)) ∙ ap (take (length old - at))
+    (sym (ap (λ k. text_of (ups k)) e ∙ text_of-nil)))
+
+-- more `../` are put
+pub ups_put_more : (at n k : ℕ) (old out new : List ℕ) → at ≤ length old
+    → out ≡ overlay at (text_of (ups n)) old
+    → new ≡ overlay (at + 3 * n) (text_of (ups k)) out
+    → new ≡ overlay at (text_of (ups (n + k))) old
+ups_put_more at n k old out new l is placed =
+    placed ∙ ap₂ (λ j o. overlay (at + j) (text_of (ups k)) o) (sym (ups_text_len n)) is
+    ∙ overlay-overlay at (text_of (ups n)) (text_of (ups k)) old l
+    ∙ ap (λ t. overlay at t old) (sym (ap text_of (ups_append n k) ∙ text_of-append (ups n) (ups k)))
+
 -- one more `../` is put
 pub ups_put_one : (at n : ℕ) (old out new : List ℕ) → at ≤ length old
     → out ≡ overlay at (text_of (ups n)) old
     → new ≡ overlay (at + 3 * n) (slashed ParentDir) out
     → new ≡ overlay at (text_of (ups (n + 1))) old
-ups_put_one at n old out new l is placed =
-    placed ∙ ap₂ (λ k o. overlay (at + k) (slashed ParentDir) o) (sym (ups_text_len n)) is
-    ∙ overlay-overlay at (text_of (ups n)) (slashed ParentDir) old l
-    ∙ ap (λ t. overlay at t old) (sym (ups_text-behind n))
+ups_put_one at n old out new l is placed = ups_put_more at n 1 old out new l is
+    (placed ∙ ap (λ t. overlay (at + 3 * n) t out) (sym (text_of-cons ParentDir []
+    ∙ ap (λ t. slashed ParentDir ++ t) text_of-nil)))
 
 -- the last `../` is put, as far as there is room
 pub ups_put_last : (at n : ℕ) (old out new : List ℕ) → at + 3 * n + 3 ≤ length old + 1

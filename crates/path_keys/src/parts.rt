@@ -1,6 +1,6 @@
 //! The key of a path: the codes of its parts, one behind the other.
 ghost use Rattle.std.specs.Prelude.{◌≡◌, ◌+◌, ◌*◌, ◌≤◌, ◌<◌, ◌^◌, ◌∷◌, ◌++◌, [], false, length};
-ghost use Rattle.std.specs.Prelude.{map, IsTrue, MatchOption};
+ghost use Rattle.std.specs.Prelude.{codes, map, take, IsTrue, MatchOption};
 ghost use Rattle.unix_path.specs.CommonDir.{inner_values};
 ghost use Rattle.unix_path.specs.Parts.{values};
 ghost use Rattle.unix_path.specs.Scan.{begins_with_parent, is_idle};
@@ -12,6 +12,7 @@ ghost use Rattle.path_keys.specs.Stretches.{IsRun, IsUp, PutsFirst};
 
 use crate::coded::place_coded;
 use crate::stretch::first_stop;
+use std::simd::prelude::*;
 use unix_path::scan::{begins_with_parent, idle_len, is_idle};
 
 // What follows the filler, slashes and `.` pieces, in front.
@@ -151,6 +152,43 @@ fn is_up(bytes: &[u8]) -> bool
     begins_with_parent(&bytes[1..])
 }
 
+// Whether five `..` stand first, with one slash before each, and another behind them.
+#[inline(always)]
+fn are_five_ups(bytes: &[u8]) -> bool
+    ensures { IsTrue result → take 16 bytes.now ≡ codes "/../../../../../" }
+{
+    if bytes.len() < 16 {
+        return false;
+    }
+    let ups = u8x16::from_array(*b"/../../../../../");
+    u8x16::from_slice(bytes).simd_eq(ups).to_bitmask() == 65535
+}
+
+// Overwrites ten bytes of `out` from `at` on with the marks of five `..`.
+#[inline(always)]
+fn place_five_ups(out: &mut [u8], at: usize)
+    requires { at + 10 ≤ length out.old }
+    ensures { out.new ≡ overlay at (0 ∷ 3 ∷ 0 ∷ 3 ∷ 0 ∷ 3 ∷ 0 ∷ 3 ∷ 0 ∷ 3 ∷ []) out.old }
+{
+    out[at..at + 10].copy_from_slice(&[0, 3, 0, 3, 0, 3, 0, 3, 0, 3]);
+}
+
+// As `place_ups`, in groups of five.
+#[inline(always)]
+fn place_fives(out: &mut [u8], at: usize, bytes: &[u8]) -> usize
+    requires { at + length (key_of (inner_values bytes.now)) ≤ length out.old }
+    ensures { PutsFirst bytes.now (3 * result) at (2 * result) out.old out.new }
+{
+    let mut count = 0;
+    let mut rest = bytes;
+    while are_five_ups(rest) {
+        place_five_ups(out, at + 2 * count);
+        count += 5;
+        rest = &rest[15..];
+    }
+    count
+}
+
 // Overwrites the bytes of `out` from `at` on with the mark of each `..` that stands first, with one
 // slash before it. Returns how many these are.
 #[inline(always)]
@@ -158,8 +196,8 @@ fn place_ups(out: &mut [u8], at: usize, bytes: &[u8]) -> usize
     requires { at + length (key_of (inner_values bytes.now)) ≤ length out.old }
     ensures { PutsFirst bytes.now (3 * result) at (2 * result) out.old out.new }
 {
-    let mut count = 0;
-    let mut rest = bytes;
+    let mut count = place_fives(out, at, bytes);
+    let mut rest = &bytes[3 * count..];
     while is_up(rest) {
         place_up(out, at + 2 * count);
         count += 1;

@@ -4,6 +4,7 @@ ghost use Rattle.path_keys.specs.Runs.{lead_text, run_code, run_text, BeginsLead
 ghost use Rattle.path_keys.specs.Runs.{HoldsNone, LeavesText, TakesRun};
 
 use crate::stretch::{first_stop, none_begins};
+use std::simd::prelude::*;
 
 // The root or the `.` with which a path begins, if it begins with one.
 #[derive(Clone, Copy)]
@@ -133,13 +134,43 @@ fn is_up(bytes: &[u8]) -> bool
     bytes[1] == 3
 }
 
-// How many marks of a `..` stand first, one behind the other.
+// Whether the marks of four `..` stand first.
 #[inline(always)]
-fn up_count(bytes: &[u8]) -> usize
+fn are_four_ups(bytes: &[u8]) -> bool
+    ensures { IsTrue result → BeginsUps bytes.now 4 }
+{
+    if bytes.len() < 8 {
+        return false;
+    }
+    let marks = u8x8::from_array([0, 3, 0, 3, 0, 3, 0, 3]);
+    u8x8::from_slice(bytes).simd_eq(marks).to_bitmask() == 255
+}
+
+// How many marks of a `..` stand first, in groups of four.
+#[inline(always)]
+fn up_fours(bytes: &[u8]) -> usize
     ensures { BeginsUps bytes.now result }
 {
     let mut count = 0;
     let mut rest = bytes;
+    while are_four_ups(rest) {
+        count += 4;
+        rest = &rest[8..];
+    }
+    count
+}
+
+// How many marks of a `..` stand first, one behind the other.
+#[inline(always)]
+fn up_count(bytes: &[u8]) -> usize
+    ensures ups { BeginsUps bytes.now result }
+    ensures other { result ≡ 0 → BeginsUps bytes.now 1 → ⊥ }
+{
+    if !is_up(bytes) {
+        return 0;
+    }
+    let mut count = up_fours(bytes);
+    let mut rest = &bytes[2 * count..];
     while is_up(rest) {
         count += 1;
         rest = &rest[2..];
@@ -154,8 +185,9 @@ pub(crate) fn run_in(bytes: &[u8]) -> Option<Run<'_>>
     ensures some { IfSome result (λ run. TakesRun bytes.now run) }
     ensures none { result ≡ None → HoldsNone bytes.now }
 {
-    if is_up(bytes) {
-        return Some(Run::Up(up_count(&bytes[2..])));
+    let ups = up_count(bytes);
+    if ups > 0 {
+        return Some(Run::Up(ups - 1));
     }
     names_in(bytes)
 }

@@ -24,6 +24,19 @@ fn place(out: &mut [u8], at: usize, bytes: &[u8])
     out[at..].copy_from_slice(&bytes[..room]);
 }
 
+// Overwrites the bytes of `out` from `at` on with `..` and, if there is room for it, a slash.
+#[inline(always)]
+fn place_last_up(out: &mut [u8], at: usize)
+    requires { at + 2 ≤ length out.old }
+    ensures { out.new ≡ overlay at (take (length out.old - at) (slashed ParentDir)) out.old }
+{
+    out[at..at + 2].copy_from_slice(b"..");
+    let end = at + 2;
+    if end < out.len() {
+        out[end] = b'/';
+    }
+}
+
 // Overwrites three bytes of `out` from `at` on with `../`.
 #[inline(always)]
 fn place_up(out: &mut [u8], at: usize)
@@ -33,29 +46,57 @@ fn place_up(out: &mut [u8], at: usize)
     out[at..at + 3].copy_from_slice(&[b'.', b'.', b'/']);
 }
 
+// Overwrites twelve bytes of `out` from `at` on with four times `../`.
+#[inline(always)]
+fn place_four(out: &mut [u8], at: usize)
+    requires { at + 12 ≤ length out.old }
+    ensures { let up = slashed ParentDir in
+        out.new ≡ overlay at (up ++ up ++ up ++ up) out.old }
+{
+    out[at..at + 12].copy_from_slice(b"../../../../");
+}
+
+// Overwrites the bytes of `out` from `at` on with `../`, in groups of four and at most so many.
+// Returns how many these are.
+#[inline(always)]
+fn place_fours(out: &mut [u8], at: usize, count: usize) -> usize
+    requires { at + 3 * count ≤ length out.old }
+    ensures few { result ≤ count }
+    ensures out { out.new ≡ overlay at (text_of (ups result)) out.old }
+{
+    let mut done = 0;
+    while done + 4 <= count {
+        place_four(out, at + 3 * done);
+        done += 4;
+    }
+    done
+}
+
 // Overwrites the bytes of `out` from `at` on with so many `../`.
 #[inline(always)]
 fn place_ups(out: &mut [u8], at: usize, count: usize)
     requires { at + 3 * count ≤ length out.old }
     ensures { out.new ≡ overlay at (text_of (ups count)) out.old }
 {
-    let mut done = 0;
+    let mut done = place_fours(out, at, count);
     while done < count {
         place_up(out, at + 3 * done);
         done += 1;
     }
 }
 
-// Overwrites the bytes of `out` from `at` on with `../` and so many more, but for the last slash if
-// there is no room for it.
+// Overwrites the bytes of `out` from `at` on with so many `../`, but for the last slash if there is
+// no room for it.
 #[inline(always)]
-fn place_up_run(out: &mut [u8], at: usize, more: usize)
-    requires { at + 3 * more + 3 ≤ length out.old + 1 }
-    ensures { out.new
-        ≡ overlay at (take (length out.old - at) (text_of (ups (more + 1)))) out.old }
+fn place_up_run(out: &mut [u8], at: usize, count: usize)
+    requires { at + 3 * count ≤ length out.old + 1 }
+    ensures { out.new ≡ overlay at (take (length out.old - at) (text_of (ups count))) out.old }
 {
-    place_ups(out, at, more);
-    place(out, at + 3 * more, b"../");
+    if count == 0 {
+        return;
+    }
+    place_ups(out, at, count - 1);
+    place_last_up(out, at + 3 * (count - 1));
 }
 
 // Overwrites the bytes of `out` from `at` on with those of the names that stand like this in a key,
@@ -81,7 +122,7 @@ fn place_run(out: &mut [u8], at: usize, run: Run<'_>)
     ensures { out.new ≡ overlay at (take (length out.old - at) (run_text run.entry)) out.old }
 {
     match run {
-        Run::Up(more) => place_up_run(out, at, more),
+        Run::Up(more) => place_up_run(out, at, more + 1),
         Run::Names(names) => place_names(out, at, names),
     }
 }

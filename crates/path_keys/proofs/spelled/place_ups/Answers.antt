@@ -1,11 +1,11 @@
 use Rattle.std.proofs.Common.{arith}
-use Rattle.path_keys.proofs.UpRunLemmas.{ups_put_none, ups_put_one}
+use Rattle.path_keys.proofs.UpRunLemmas.{ups_put_one}
 use Rattle.path_keys.proofs.spelled.place_ups.Goals as goal
 
 pub loop-done-init : goal.loop-done-init
 loop-done-init c = record {
-  in_range = omega arith;
-  put = ups_put_none c.args.at c.args.out.now;
+  in_range = c.place_fours-done.ensures.few;
+  put = c.place_fours-done.ensures.out;
 }
 
 pub loop-done-preserved : goal.loop-done-preserved
