@@ -4,6 +4,7 @@ mod callers;
 mod children;
 mod nearest;
 mod ranges;
+mod sorted;
 
 use path_keys::PathKey;
 use path_tree::PathTree;

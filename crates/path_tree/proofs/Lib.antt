@@ -1,6 +1,8 @@
 pub mod ReadLemmas
 pub mod RowLemmas
 pub mod OwnLemmas
+pub mod SortedLemmas
+pub mod SortedWalkLemmas
 pub mod NearestLemmas
 pub mod UnderLemmas
 pub mod ManyLemmas

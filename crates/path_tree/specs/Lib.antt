@@ -7,4 +7,6 @@ pub mod Nearest
 pub mod Many
 pub mod Difference
 pub mod Children
+pub mod Sorted
+pub mod Errors
 pub mod Laws

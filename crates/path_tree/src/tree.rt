@@ -20,9 +20,11 @@ mod entries;
 mod many;
 mod nearest;
 mod ranges;
+mod sorted;
 
 use crate::made::{MadeKey, bytes_of};
 use path_keys::PathKey;
+pub use sorted::SortedError;
 use std::alloc::{AllocError, Global};
 use std::collections::BTreeMap;
 use std::fmt;

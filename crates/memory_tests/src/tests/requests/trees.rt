@@ -3,7 +3,7 @@
 use super::super::path;
 use super::report;
 use path_keys::PathKey;
-use path_tree::PathTree;
+use path_tree::{PathTree, SortedError};
 use std::alloc::{AllocError, Global};
 use std::test::Fail;
 use unix_path::Path;
@@ -120,6 +120,16 @@ fn tree_of_many(rt: HostRuntime) -> Result<(), Fail> {
     match PathTree::from_iter(rt.alloc(), files.iter().copied()) {
         Ok(tree) => report(true, has_first(&tree, &files)),
         Err(AllocError) => report(false, true),
+    }
+}
+
+#[test]
+fn tree_of_sorted(rt: HostRuntime) -> Result<(), Fail> {
+    let files = [(path("a/b"), 1), (path("b"), 2), (path("c"), 3)];
+    match PathTree::from_sorted(rt.alloc(), files.iter().copied()) {
+        Ok(tree) => report(true, has_first(&tree, &files)),
+        Err(SortedError::Memory(AllocError)) => report(false, true),
+        Err(SortedError::NotRising) => report(true, false),
     }
 }
 

@@ -1,0 +1,101 @@
+//! Trees of paths that rise, by hand, and beside the same paths inserted one by one.
+use super::has_at;
+use path_tree::{PathTree, SortedError};
+use std::alloc::{AllocError, Global};
+use std::test::Fail;
+use unix_path::Path;
+
+// Paths, and whether they rise.
+static RISING: [(&'static [&'static str], bool); 10] = [
+    (&[], true),
+    (&["a//b"], true),
+    (&["", "/", "/a", ".", "./a", "..", "../a", "a"], true),
+    (&["a", "a/b", "a.b", "ab"], true),
+    (&["\u{0}\u{2}", "\u{1}", "/a"], false),
+    (&["a/b", "a"], false),
+    (&["a.b", "a/b"], false),
+    (&["a/b", "a//b/."], false),
+    (&["a", "b", "c", "b"], false),
+    (&["", ""], false),
+];
+
+// The paths and their places, from 1.
+fn placed(
+    alloc: Global,
+    paths: &[&'static str],
+) -> Result<Vec<(Path<'static>, u32)>, AllocError> {
+    let mut items = Vec::new(alloc);
+    let mut place = 0u32;
+    for path in paths {
+        place = place.wrapping_add(1);
+        items.push((Path::from_text(path), place))?;
+    }
+    Ok(items)
+}
+
+// Whether the paths make a tree of them all, or are refused, as the row says.
+fn is_made(alloc: Global, paths: &[&'static str], rise: bool) -> Result<bool, AllocError> {
+    let items = placed(alloc, paths)?;
+    match PathTree::from_sorted(alloc, items.iter().copied()) {
+        Ok(tree) => {
+            for (path, place) in items.iter() {
+                if !has_at(alloc, &tree, path.as_unix_str().as_bytes(), Some(*place))? {
+                    return Ok(false);
+                }
+            }
+            Ok(rise && tree.len() == paths.len())
+        }
+        Err(SortedError::NotRising) => Ok(!rise),
+        Err(SortedError::Memory(error)) => Err(error),
+    }
+}
+
+#[test]
+fn paths_that_rise_make_a_tree(rt: HostRuntime) -> Result<(), Fail> {
+    for (paths, rise) in RISING.iter() {
+        assert!(rt; is_made(rt.alloc(), paths, *rise)?, "{paths:?}");
+    }
+    Ok(())
+}
+
+// Names of two letters, which rise.
+fn letters(alloc: Global) -> Result<Vec<[u8; 2]>, AllocError> {
+    let mut names = Vec::new(alloc);
+    for first in b'a'..=b'z' {
+        for second in b'a'..=b'z' {
+            names.push([first, second])?;
+        }
+    }
+    Ok(names)
+}
+
+// Whether a tree of many rising paths has the entries that it has if they are inserted, in their
+// order.
+fn is_as_inserted(alloc: Global) -> Result<bool, AllocError> {
+    let names = letters(alloc)?;
+    let mut items = Vec::new(alloc);
+    for name in &names {
+        items.push((Path::from_bytes(name.as_slice()), name[1]))?;
+    }
+    let inserted = PathTree::from_iter(alloc, items.iter().copied())?;
+    match PathTree::from_sorted(alloc, items.iter().copied()) {
+        Ok(tree) => Ok(tree.len() == names.len() && tree.iter().eq(inserted.iter())),
+        Err(_) => Ok(false),
+    }
+}
+
+#[test]
+fn many_paths_make_the_tree_of_their_insertions(rt: HostRuntime) -> Result<(), Fail> {
+    assert!(rt; is_as_inserted(rt.alloc())?);
+    Ok(())
+}
+
+#[test]
+fn errors_of_trees_are_printed(rt: HostRuntime) -> Result<(), Fail> {
+    let alloc = rt.alloc();
+    let falls = format!(in alloc; "{:>21}", SortedError::NotRising)?;
+    assert!(rt; falls.as_str() == " the paths don't rise", "{falls}");
+    let memory = format!(in alloc; "{}", SortedError::from(AllocError))?;
+    assert!(rt; memory.as_str() == "out of memory", "{memory}");
+    Ok(())
+}

@@ -1,0 +1,61 @@
+use Rattle.std.proofs.Common.{◌≡◌, ◌∷◌, ◌++◌, ◌∙◌, [], ap, rules, subst, sym, true}
+use Rattle.path_tree.specs.Read.{is_own, key_values}
+use Rattle.path_tree.proofs.SortedWalkLemmas.{Listed, listed_more, listed_none, made_own, made_rows}
+use Rattle.path_tree.proofs.SortedWalkLemmas.{rise, stops}
+use Rattle.path_tree.proofs.tree.PathTree.from_sorted.Goals as goal
+
+pub loop-path-init : goal.loop-path-init
+loop-path-init g c = subst (λ l. Listed l []) (sym c.new-entries.ensures.items) listed_none
+
+pub returns-then-not-rises-clause-not_rising : goal.returns-then-not-rises-clause-not_rising
+returns-then-not-rises-clause-not_rising g c = λ _.
+    let key = c.in_ok-key.key in
+    let made = c.in_ok-key.ensures in
+    stops c.loop-path.entries.items c.loop-path.yielded c.loop-path.invariant key c.in-Some.path
+    (ap is_own made ∙ c.in_ok-of.ensures.own) (ap key_values made ∙ c.in_ok-of.ensures.values)
+    g.I.Iterator.next_gives c.args.items c.in-Some.value c.next.new.self
+    (search (
+      rules,
+      c.loop-path.yielded_by,
+      c.in-Some.ensures.steps,
+      c.into_iter-path-iterator.ensures.into_iter_gives,
+    ))
+    c.rises.result (search rules)
+    (λ none. c.rises.ensures.first (c.deref.ensures.value ∙ none))
+    (λ front last is. c.rises.ensures.others front last (c.deref.ensures.value ∙ is))
+
+pub loop-path-preserved : goal.loop-path-preserved
+loop-path-preserved g c =
+    let key = c.in_ok-key.key in
+    let made = c.in_ok-key.ensures in
+    let rises : c.rises.result ≡ true = search rules in
+    subst (λ l. Listed l (c.loop-path.yielded ++ (c.in-Some.path, c.in-Some.value) ∷ []))
+    (sym c.in_ok-put_last.ensures)
+    (listed_more c.loop-path.entries.items c.loop-path.yielded c.loop-path.invariant key
+    c.in-Some.path (ap is_own made ∙ c.in_ok-of.ensures.own)
+    (ap key_values made ∙ c.in_ok-of.ensures.values) c.in-Some.value
+    (λ front last is. sym (c.rises.ensures.others front last (c.deref.ensures.value ∙ is))
+    ∙ rises))
+
+pub invariant_of-result : goal.invariant_of-result
+invariant_of-result g c =
+    record {
+      own = made_own c.loop-path.entries.items c.loop-path.yielded c.loop-path.invariant
+          c.in_ok-map_of.field-0 c.in_ok-map_of.ensures;
+    }
+
+pub returns-clause-ok : goal.returns-clause-ok
+returns-clause-ok g c = record {
+  entries = c.loop-path.yielded;
+  all_items = (
+    c.next.new.self,
+    (
+      c.loop-path.path-iterator,
+      search (rules, c.loop-path.yielded_by, c.into_iter-path-iterator.ensures.into_iter_gives),
+      c.in-None.ensures.steps,
+    ),
+  );
+  rise = rise c.loop-path.entries.items c.loop-path.yielded c.loop-path.invariant;
+  rows_are = made_rows c.loop-path.entries.items c.loop-path.yielded c.loop-path.invariant
+      c.in_ok-map_of.field-0 c.in_ok-map_of.ensures;
+}

@@ -1,0 +1,5 @@
+use Rattle.path_tree.proofs.SortedWalkLemmas.{Listed}
+use Rattle.path_tree.proofs.tree.PathTree.from_sorted.Given as goal
+
+abbrev pub invariant-loop-path : goal.invariant-loop-path
+invariant-loop-path g l = Listed l.entries.items l.yielded

@@ -1,0 +1,9 @@
+-- What the errors of trees are printed as. Not in Rust's std.
+use Rattle.std.specs.Prelude.{ℕ, List, codes}
+use Rattle.path_tree.specs.declared.tree.sorted.SortedError.{SortedError}
+use Rattle.path_tree.specs.declared.tree.sorted.SortedError.TheVariants.{Memory, NotRising}
+
+-- what an error of items that should rise is printed as
+abbrev pub sorted_error_text : SortedError → List ℕ
+sorted_error_text NotRising = codes "the paths don't rise"
+sorted_error_text (Memory error) = codes "out of memory"
