@@ -7,6 +7,7 @@ pub mod NearestLemmas
 pub mod UnderLemmas
 pub mod ManyLemmas
 pub mod DifferenceLemmas
+pub mod ChangedLemmas
 pub mod WalkLemmas
 pub mod ChildKeyLemmas
 pub mod ChildLemmas

@@ -6,6 +6,7 @@ pub mod Lent
 pub mod Nearest
 pub mod Many
 pub mod Difference
+pub mod Changed
 pub mod Children
 pub mod Sorted
 pub mod Errors

@@ -191,7 +191,27 @@ fn lacks_alike(
             return Ok(false);
         }
     }
-    Ok(found.len() == count)
+    Ok(found.len() == count && changes_alike(tree, plain, &others, &other)?)
+}
+
+// Whether the trees have as many files with different values as the lists.
+fn changes_alike(
+    tree: &PathTree<u32>,
+    plain: &PlainList,
+    others: &PathTree<u32>,
+    other: &PlainList,
+) -> Result<bool, AllocError> {
+    let mut count = 0usize;
+    for (path, value) in &plain.files {
+        let is_changed = match other.get(path.as_path()) {
+            Some(found) => found != *value,
+            None => false,
+        };
+        if is_changed {
+            count = count.wrapping_add(1);
+        }
+    }
+    Ok(tree.changed(others)?.len() == count)
 }
 
 // Whether the tree has the children of the base that the list says: as many, each the base and one

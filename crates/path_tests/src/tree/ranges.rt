@@ -127,3 +127,19 @@ fn what_another_tree_lacks(rt: HostRuntime) -> Result<(), Fail> {
     assert!(rt; tree.difference(&tree)?.is_empty());
     Ok(())
 }
+
+#[test]
+fn what_another_tree_has_changed(rt: HostRuntime) -> Result<(), Fail> {
+    let alloc = rt.alloc();
+    let tree = tree_of(alloc, &["a/b", "c", "a.b", "d"])?;
+    let other = tree_of(alloc, &["a//b", "b", "c/", "a.b", "d/."])?;
+    let found = tree.changed(&other)?;
+    let want: [(&[u8], &u32, &u32); 3] = [
+        (b"a/b\x00", &3, &4),
+        (b"c\x00", &2, &3),
+        (b"d\x00", &4, &5),
+    ];
+    assert!(rt; found.as_slice() == want.as_slice());
+    assert!(rt; tree.changed(&tree)?.is_empty());
+    Ok(())
+}

@@ -145,6 +145,18 @@ fn tree_paths_lacking(rt: HostRuntime) -> Result<(), Fail> {
 }
 
 #[test]
+fn tree_paths_changed(rt: HostRuntime) -> Result<(), Fail> {
+    let files = [(path("b"), 1), (path("a/b"), 2), (path("c"), 3)];
+    let tree = PathTree::from_iter(rt.alloc(), files.iter().copied())?;
+    let others = [(path("b"), 1), (path("a//b"), 5), (path("c"), 6)];
+    let other = PathTree::from_iter(rt.alloc(), others.iter().copied())?;
+    match tree.changed(&other) {
+        Ok(found) => report(true, found.len() == 2),
+        Err(AllocError) => report(false, has_first(&tree, &files)),
+    }
+}
+
+#[test]
 fn tree_children(rt: HostRuntime) -> Result<(), Fail> {
     let files = [(path("b"), 1), (path("a/b"), 2), (path("a/c"), 3)];
     let tree = PathTree::from_iter(rt.alloc(), files.iter().copied())?;
