@@ -30,7 +30,8 @@
  *    The calls of the library itself take none: a function of this header, which isn't proved,
  *    passes them another in its place. Without these functions, as through the library's symbols
  *    and where UNIX_PATH_EXPORTS_ONLY was defined before this file, no pointer is null at all.
- *  - What a call writes (walk, part, place, out) overlaps nothing else that the call is given.
+ *  - What a call writes (walk, part, place, next, ancestor, chunk, out) overlaps nothing else that
+ *    the call is given.
  *  - If a call answers false, the records that it would write to stay as they were.
  *  - No call keeps anything, so threads may call at the same time. None allocates except
  *    unix_path_resolved, unix_path_join_within and unix_path_way, which free what they allocate.
@@ -135,6 +136,12 @@ typedef struct {
     size_t start, length;
 } unix_path_place;
 
+/* A chunk of a path: valid_length bytes of UTF-8 from `start` on, and behind them broken_length
+ * bytes that are none. */
+typedef struct {
+    size_t start, valid_length, broken_length;
+} unix_path_chunk;
+
 /* Walks. The parts taken in front, those that are left and those taken behind are the path's
  * parts, however the calls are mixed. */
 
@@ -154,6 +161,21 @@ bool unix_path_next_back(const void *path, size_t path_length, unix_path_walk *w
  * `a/./b` before any part is taken, and `b` after the first. */
 void unix_path_as_path(const void *path, size_t path_length, const unix_path_walk *walk,
                        unix_path_place *place);
+
+/* Gives the next of the path's ancestors: the path itself, its parent, the parent of that, and so
+ * on; false if none is left. next is how many bytes it has: the path's length for the first, and
+ * SIZE_MAX once none is left. None is left either if next is any other number greater than the
+ * path's length. For `../a` they are the path's first 4 bytes, then 2, then 0. */
+bool unix_path_next_ancestor(const void *path, size_t path_length, size_t *next,
+                             unix_path_place *ancestor);
+
+/* Gives the next chunk of the path: UTF-8 as far as it goes, and the broken bytes behind it, at
+ * most 3, for which unix_path_to_string_lossy has one U+FFFD; false if none is left. next is where
+ * it begins: 0 for the first, and the path's length once none is left. None is left either if next
+ * is greater. Only the last chunk can have no broken bytes. For 61 FF 62 it gives `a` with FF, then
+ * `b` with nothing. */
+bool unix_path_next_chunk(const void *path, size_t path_length, size_t *next,
+                          unix_path_chunk *chunk);
 
 /* Places. An answer of no bytes stands somewhere in the path. No NUL stands behind a place: copy
  * what goes to the system. A parent or a rest of no bytes stands for the current directory. */
@@ -462,6 +484,11 @@ void unix_path_inline_as_path(UNIX_PATH_ONE, const unix_path_walk *walk, unix_pa
 }
 UNIX_PATH_STEPS(next)
 UNIX_PATH_STEPS(next_back)
+UNIX_PATH_CALL(bool, next_ancestor, UNIX_PATH_READS_ONE UNIX_PATH_MOVES(3) UNIX_PATH_WRITES(4),
+               (UNIX_PATH_ONE, size_t *next, unix_path_place *ancestor),
+               (UNIX_PATH_A, next, ancestor))
+UNIX_PATH_CALL(bool, next_chunk, UNIX_PATH_READS_ONE UNIX_PATH_MOVES(3) UNIX_PATH_WRITES(4),
+               (UNIX_PATH_ONE, size_t *next, unix_path_chunk *chunk), (UNIX_PATH_A, next, chunk))
 UNIX_PATH_FINDS(parent)
 UNIX_PATH_FINDS(file_name)
 UNIX_PATH_FINDS(file_stem)
@@ -499,6 +526,8 @@ UNIX_PATH_MAKES_OF_ONE(key_end)
 #define unix_path_as_path unix_path_inline_as_path
 #define unix_path_next unix_path_inline_next
 #define unix_path_next_back unix_path_inline_next_back
+#define unix_path_next_ancestor unix_path_inline_next_ancestor
+#define unix_path_next_chunk unix_path_inline_next_chunk
 #define unix_path_parent unix_path_inline_parent
 #define unix_path_file_name unix_path_inline_file_name
 #define unix_path_file_stem unix_path_inline_file_stem

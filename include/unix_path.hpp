@@ -156,6 +156,17 @@ struct component {
     friend bool operator!=(component a, component b) noexcept { return !(a == b); }
 };
 
+/// A chunk of a path: UTF-8 as far as it goes, and the broken bytes behind it, at most 3, for which
+/// the lossy text has one U+FFFD. Only the last chunk can have none. Both stand in the path.
+struct chunk {
+    std::string_view valid, broken;
+
+    friend bool operator==(chunk a, chunk b) noexcept {
+        return a.valid == b.valid && a.broken == b.broken;
+    }
+    friend bool operator!=(chunk a, chunk b) noexcept { return !(a == b); }
+};
+
 /// How a request is read: as a path that has to stay below where it starts, or as the decoded path
 /// of a URL, whose leading slashes are dropped and in which a `..` at the top stays at the top.
 enum class reading { as_path, as_url };
@@ -165,6 +176,7 @@ enum class request_check { is_fine = 0, has_root = 1, climbs = 2, has_nul = 3 };
 
 class components;
 class ancestors;
+class chunks;
 
 /// A path: bytes that live elsewhere. Paths are compared by their parts: `a/./b//` is `a/b`. To
 /// compare bytes, compare `bytes()`.
@@ -260,6 +272,8 @@ class view {
     unix_path::components components() const noexcept;
     /// The path, its parent, the parent of that, and on to the last.
     unix_path::ancestors ancestors() const noexcept;
+    /// The chunks of UTF-8 and of broken bytes.
+    unix_path::chunks chunks() const noexcept;
 
     // New paths and text: as a std::string, which alone asks for memory, or in the room of a
     // buffer, which asks for none. What stands in a buffer has no NUL behind it. The system cuts a
@@ -296,8 +310,9 @@ class view {
     /// URL; else refusal::nul_in_request exactly if it has a NUL byte.
     result<std::string> join_below(view request, reading how) const;
     result<std::string_view> join_below(view request, reading how, buffer out) const noexcept;
-    /// The way from this path to the other by names. refusal::no_way if no path without a root leads
-    /// there, and refusal::no_memory if the library got none, which it asks for beside the string.
+    /// The way from this path to the other by names. refusal::no_way if no path without a root
+    /// leads there, and refusal::no_memory if the library got none, which it asks for beside the
+    /// string.
     result<std::string> way(view to) const;
     result<std::string_view> way(view to, buffer out) const noexcept;
     /// The key by which a store that compares keys byte by byte keeps the path; unix_path.h says
@@ -464,11 +479,15 @@ class ancestors {
         using pointer = const view *;
 
         iterator() noexcept = default;
-        explicit iterator(view path) noexcept : path_(path) {}
+        explicit iterator(view path) noexcept : whole_(path), next_(path.size()) { ++*this; }
         const view &operator*() const noexcept { return *path_; }
         const view *operator->() const noexcept { return &*path_; }
         iterator &operator++() noexcept {
-            path_ = path_->parent();
+            unix_path_place place;
+            const bool is_there =
+                unix_path_next_ancestor(whole_.data(), whole_.size(), &next_, &place);
+            path_ = is_there ? std::optional(view(whole_.bytes().substr(0, place.length)))
+                             : std::nullopt;
             return *this;
         }
         iterator operator++(int) noexcept {
@@ -484,6 +503,9 @@ class ancestors {
         friend bool operator!=(const iterator &a, const iterator &b) noexcept { return !(a == b); }
 
       private:
+        // The path whose ancestors these are, and how many bytes the next has.
+        view whole_;
+        std::size_t next_ = SIZE_MAX;
         std::optional<view> path_;
     };
     using const_iterator = iterator;
@@ -497,10 +519,66 @@ class ancestors {
     view path_;
 };
 
+/// The chunks of a path, as a range in one direction.
+class chunks {
+  public:
+    class iterator {
+      public:
+        using iterator_category = std::forward_iterator_tag;
+        using value_type = chunk;
+        using difference_type = std::ptrdiff_t;
+        using reference = const chunk &;
+        using pointer = const chunk *;
+
+        iterator() noexcept = default;
+        explicit iterator(view path) noexcept : path_(path), next_(0) { ++*this; }
+        const chunk &operator*() const noexcept { return *chunk_; }
+        const chunk *operator->() const noexcept { return &*chunk_; }
+        iterator &operator++() noexcept {
+            unix_path_chunk found;
+            if (!unix_path_next_chunk(path_.data(), path_.size(), &next_, &found)) {
+                chunk_ = std::nullopt;
+                return *this;
+            }
+            const std::string_view left = path_.bytes().substr(found.start);
+            chunk_ = chunk{left.substr(0, found.valid_length),
+                           left.substr(found.valid_length, found.broken_length)};
+            return *this;
+        }
+        iterator operator++(int) noexcept {
+            iterator before = *this;
+            ++*this;
+            return before;
+        }
+        /// Whether both stand at the same chunk of one path, or at the end.
+        friend bool operator==(const iterator &a, const iterator &b) noexcept {
+            return a.chunk_.has_value() == b.chunk_.has_value()
+                   && (!a.chunk_ || a.next_ == b.next_);
+        }
+        friend bool operator!=(const iterator &a, const iterator &b) noexcept { return !(a == b); }
+
+      private:
+        // The path, and where its next chunk begins.
+        view path_;
+        std::size_t next_ = SIZE_MAX;
+        std::optional<chunk> chunk_;
+    };
+    using const_iterator = iterator;
+    using value_type = chunk;
+
+    explicit chunks(view path) noexcept : path_(path) {}
+    iterator begin() const noexcept { return iterator(path_); }
+    iterator end() const noexcept { return iterator(); }
+
+  private:
+    view path_;
+};
+
 inline unix_path::components view::components() const noexcept {
     return unix_path::components(*this);
 }
 inline unix_path::ancestors view::ancestors() const noexcept { return unix_path::ancestors(*this); }
+inline unix_path::chunks view::chunks() const noexcept { return unix_path::chunks(*this); }
 
 /// Compares paths by their parts: `std::map<std::string, V, less>` finds a view without a copy.
 struct less {

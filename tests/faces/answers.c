@@ -38,11 +38,10 @@ bool back(request *line) {
 
 bool ancestors(request *line) {
     view path = line->fields[0];
-    unix_path_place place;
-    add_item(line, path);
-    while (unix_path_parent(path.bytes, path.length, &place)) {
-        path = view_at(path, place);
-        add_item(line, path);
+    size_t next = path.length;
+    unix_path_place ancestor;
+    while (unix_path_next_ancestor(path.bytes, path.length, &next, &ancestor)) {
+        add_item(line, view_at(path, ancestor));
     }
     return true;
 }

@@ -77,6 +77,11 @@ using Hash = uint64_t (*)(const void *, size_t);
 using Reason = int32_t (*)(const void *, size_t);
 using Below = size_t (*)(const void *, size_t, const void *, size_t, bool, void *, size_t);
 
+using Ancestor = bool (*)(const void *, size_t, size_t *, unix_path_place *);
+using Chunk = bool (*)(const void *, size_t, size_t *, unix_path_chunk *);
+
+constexpr Ancestor next_ancestor = unix_path_next_ancestor;
+constexpr Chunk next_chunk = unix_path_next_chunk;
 constexpr Begin components = unix_path_components;
 constexpr Left as_path = unix_path_as_path;
 constexpr Remainder strip_prefix = unix_path_strip_prefix;
@@ -113,6 +118,18 @@ bool is_key_right() {
            && key_end(path.data(), path.size(), &none, 1) == UNIX_PATH_NOT_A_KEY;
 }
 
+// Whether the calls that a caller walks by a number give the root as one ancestor and one chunk.
+bool are_cursors_right() {
+    std::string_view root = "/";
+    size_t length = 1, place = 0;
+    unix_path_place ancestor;
+    unix_path_chunk chunk;
+    return next_ancestor(root.data(), 1, &length, &ancestor) && ancestor.length == 1
+           && !next_ancestor(root.data(), 1, &length, &ancestor)
+           && next_chunk(root.data(), 1, &place, &chunk) && chunk.valid_length == 1
+           && !next_chunk(root.data(), 1, &place, &chunk);
+}
+
 // Whether the calls that have a type of their own are right.
 bool other_calls_are_right() {
     std::string_view path = ".//a/./b/", base = "./a", spelling = "./a/b";
@@ -129,7 +146,7 @@ bool other_calls_are_right() {
            && hash(path.data(), path.size()) == hash(spelling.data(), spelling.size())
            && way(path.data(), path.size(), base.data(), base.size(), up.data(), 2) == 2
            && output_of(unix_path_canonical, path) == spelling && is_joined_below()
-           && is_key_right();
+           && is_key_right() && are_cursors_right();
 }
 
 }  // namespace

@@ -36,6 +36,36 @@ static void questions_of(view path) {
     free(lossy.bytes);
 }
 
+// The ancestors are the path and each parent of one.
+static void ancestors_are_parents(view path) {
+    size_t next = path.length;
+    unix_path_place ancestor, wanted = {0, path.length};
+    bool is_wanted = true;
+    while (unix_path_next_ancestor(path.bytes, path.length, &next, &ancestor)) {
+        CHECK(is_wanted && same_place(ancestor, wanted), "ancestor of %zu", ancestor.length);
+        is_wanted = unix_path_parent(path.bytes, wanted.length, &wanted);
+    }
+    CHECK(!is_wanted && next == SIZE_MAX, "%zu is left", wanted.length);
+}
+
+// The chunks stand side by side, and as they are shown they are the lossy text.
+static void chunks_are_shown(view path) {
+    text shown = new_text(), lossy = new_text();
+    size_t next = 0, end = 0;
+    unix_path_chunk chunk;
+    while (unix_path_next_chunk(path.bytes, path.length, &next, &chunk)) {
+        CHECK(chunk.start == end && chunk.broken_length <= 3, "chunk at %zu", chunk.start);
+        add(&shown, (view){path.bytes + chunk.start, chunk.valid_length});
+        add_string(&shown, chunk.broken_length == 0 ? "" : "\xEF\xBF\xBD");
+        end = chunk.start + chunk.valid_length + chunk.broken_length;
+        CHECK(next == end, "ends at %zu", end);
+    }
+    add_one(&lossy, unix_path_to_string_lossy, path);
+    CHECK(end == path.length && same_bytes(as_view(&shown), as_view(&lossy)), "shown");
+    free(shown.bytes);
+    free(lossy.bytes);
+}
+
 // Each call of one path, beside which nothing can be read.
 static void call_all_of_one(view path) {
     static const call_of_place calls[] = {unix_path_parent, unix_path_file_name,
@@ -68,6 +98,8 @@ static void call_all_of_one(view path) {
     CHECK((range_end == UNIX_PATH_NOT_A_KEY) == (read == UNIX_PATH_NOT_A_KEY), "no key");
     key_read_back(path);
     questions_of(path);
+    ancestors_are_parents(path);
+    chunks_are_shown(path);
     walks_of(path);
 }
 

@@ -116,6 +116,13 @@ static void walk(view path) {
     unix_path_next(path.bytes, path.length, &walk, &part);
     unix_path_next_back(path.bytes, path.length, &walk, &part);
     unix_path_as_path(path.bytes, path.length, &walk, &place);
+    size_t next = path.length;
+    while (unix_path_next_ancestor(path.bytes, path.length, &next, &place)) {
+    }
+    unix_path_chunk chunk;
+    next = 0;
+    while (unix_path_next_chunk(path.bytes, path.length, &next, &chunk)) {
+    }
 }
 
 static void ask(view a, view b) {

@@ -19,6 +19,14 @@ static void walks_of_nothing(void) {
     CHECK(!unix_path_next_back(NULL, 0, &walk, &part) && same_part(part, no_part), "next back");
     unix_path_as_path(NULL, 0, &walk, &place);
     CHECK(place.start == 0 && place.length == 0, "%zu, %zu", place.start, place.length);
+    size_t next = 0;
+    unix_path_chunk chunk = no_chunk;
+    CHECK(!unix_path_next_chunk(NULL, 0, &next, &chunk) && same_chunk(chunk, no_chunk) && next == 0,
+          "chunk");
+    CHECK(unix_path_next_ancestor(NULL, 0, &next, &place) && place.length == 0, "ancestor");
+    place = no_place;
+    CHECK(!unix_path_next_ancestor(NULL, 0, &next, &place) && same_place(place, no_place)
+          && next == SIZE_MAX, "no ancestor");
 }
 
 static void places_in_nothing(void) {

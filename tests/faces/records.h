@@ -16,6 +16,13 @@ static inline bool same_part(unix_path_part a, unix_path_part b) {
     return a.start == b.start && a.length == b.length && a.kind == b.kind;
 }
 
+static const unix_path_chunk no_chunk = {SIZE_MAX, SIZE_MAX - 1, SIZE_MAX - 2};
+
+static inline bool same_chunk(unix_path_chunk a, unix_path_chunk b) {
+    return a.start == b.start && a.valid_length == b.valid_length
+           && a.broken_length == b.broken_length;
+}
+
 static inline bool is_inside(view path, unix_path_place place) {
     return place.start <= path.length && place.length <= path.length - place.start;
 }

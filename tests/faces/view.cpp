@@ -25,6 +25,8 @@ static_assert(std::bidirectional_iterator<unix_path::components::iterator>);
 static_assert(std::ranges::bidirectional_range<unix_path::components>);
 static_assert(std::forward_iterator<unix_path::ancestors::iterator>);
 static_assert(std::ranges::forward_range<unix_path::ancestors>);
+static_assert(std::forward_iterator<unix_path::chunks::iterator>);
+static_assert(std::ranges::forward_range<unix_path::chunks>);
 static_assert(std::is_constructible_v<unix_path::buffer, std::span<char>>);
 static_assert(!std::is_constructible_v<unix_path::buffer, std::span<const char>>);
 #endif
@@ -289,6 +291,26 @@ void parents() {
     CHECK(found == std::vector{"/a//b/."sv, "/a"sv, "/"sv});
 }
 
+// The chunks stand side by side in the path, and what they show is the lossy text.
+void chunks() {
+    for (const std::string &path : strings("a\xFF\xE2\x82", 5)) {
+        const view it = path;
+        std::string bytes, shown;
+        for (const unix_path::chunk &chunk : it.chunks()) {
+            CHECK(chunk.valid.data() == it.data() + bytes.size() && chunk.broken.size() <= 3);
+            bytes.append(chunk.valid).append(chunk.broken);
+            shown.append(chunk.valid).append(chunk.broken.empty() ? "" : "\uFFFD");
+        }
+        CHECK(bytes == path && shown == it.to_string_lossy());
+        const auto first = it.chunks().begin();
+        CHECK((first == it.chunks().end()) == path.empty() && first == it.chunks().begin());
+        CHECK(path.empty() || std::next(first) != first);
+    }
+    const auto chunks = view("a\xFF" "b"sv).chunks();
+    const std::vector<unix_path::chunk> found(chunks.begin(), chunks.end());
+    CHECK(found == std::vector<unix_path::chunk>{{"a"sv, "\xFF"sv}, {"b"sv, ""sv}});
+}
+
 // An answer as a string and in buffers of each size, which are the same.
 void in_each_room(const result<std::string> &whole,
                   const std::function<result<std::string_view>(buffer)> &call) {
@@ -363,6 +385,7 @@ void null_views() {
     CHECK(view("a").strip_prefix(none)->bytes() == "a" && !none.strip_prefix("a"));
     CHECK(none.components().begin() == none.components().end() && none.components().empty());
     CHECK(std::distance(none.ancestors().begin(), none.ancestors().end()) == 1);
+    CHECK(none.chunks().begin() == none.chunks().end());
     unix_path::walk walk(none);
     CHECK(!walk.next() && !walk.next_back() && walk.rest().empty());
     CHECK(none.join(none).empty() && none.join("a") == "a" && view("a").join(none) == "a/"sv);
@@ -413,6 +436,9 @@ void memory() {
     for (view ancestor : a.ancestors()) {
         length += ancestor.hash() % 2;
     }
+    for (const unix_path::chunk &chunk : a.chunks()) {
+        length += chunk.valid.size();
+    }
     CHECK(a.join(b, out) && a.with_file_name(b, out) && a.with_extension(".x", out));
     CHECK(a.with_added_extension(".x", out) && a.is_canonical());
     CHECK(a.canonical(out) && a.to_string_lossy(out) && a.resolved(out) && a.join_within(b, out));
@@ -460,6 +486,7 @@ int main() {
     run("iterators", iterators);
     run("walks", walks);
     run("parents", parents);
+    run("chunks", chunks);
     run("buffers", buffers);
     run("null views", null_views);
     run("maps", maps);

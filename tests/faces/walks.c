@@ -53,6 +53,46 @@ static void absurd_walks(void) {
     }
 }
 
+// A length or a place past the path's end has nothing left, and stays as it is.
+static void absurd_cursors(void) {
+    static const size_t values[] = {4, 5, SIZE_MAX / 2, SIZE_MAX - 1, SIZE_MAX};
+    view path = view_of("a/b");
+    for (size_t at = 0; at < sizeof values / sizeof *values; at++) {
+        size_t next = values[at];
+        unix_path_place place = no_place;
+        unix_path_chunk chunk = no_chunk;
+        CHECK(!unix_path_next_ancestor(path.bytes, path.length, &next, &place), "%zu", at);
+        CHECK(!unix_path_next_chunk(path.bytes, path.length, &next, &chunk), "%zu", at);
+        CHECK(same_place(place, no_place) && same_chunk(chunk, no_chunk), "%zu", at);
+        CHECK(next == values[at], "%zu", at);
+    }
+}
+
+static void chunks_of_rows(void) {
+    static const struct {
+        const char *path;
+        size_t count;
+        unix_path_chunk chunks[3];
+    } rows[] = {
+        {"", 0, {{0, 0, 0}}},
+        {"caf\xC3\xA9", 1, {{0, 5, 0}}},
+        {"a\xFF" "b", 2, {{0, 1, 1}, {2, 1, 0}}},
+        {"\xF0\x90\x80" "A", 2, {{0, 0, 3}, {3, 1, 0}}},
+        {"\xED\xA0\x80", 3, {{0, 0, 1}, {1, 0, 1}, {2, 0, 1}}},
+        {"a/\xE2\x82", 1, {{0, 2, 2}}},
+    };
+    for (size_t row = 0; row < sizeof rows / sizeof *rows; row++) {
+        view path = view_of(rows[row].path);
+        size_t next = 0, count = 0;
+        unix_path_chunk chunk;
+        while (unix_path_next_chunk(path.bytes, path.length, &next, &chunk) && count < 3) {
+            CHECK(same_chunk(chunk, rows[row].chunks[count]), "row %zu, chunk %zu", row, count);
+            count++;
+        }
+        CHECK(count == rows[row].count && next == path.length, "row %zu: %zu", row, count);
+    }
+}
+
 // Any places in order inside the path are a walk over the bytes between them.
 static void walks_between(view path) {
     for (size_t back = 0; back <= path.length; back++) {
@@ -80,5 +120,7 @@ int main(void) {
     run("walks from both ends", walks_from_both_ends);
     run("walks with absurd places", absurd_walks);
     run("walks with any places", any_walks);
+    run("ancestors and chunks past the end", absurd_cursors);
+    run("chunks", chunks_of_rows);
     return finish();
 }

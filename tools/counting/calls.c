@@ -37,7 +37,9 @@ static size_t out_length;
         unix_path_place place;                                                                    \
         unix_path_part part;                                                                      \
         unix_path_walk walk = {0, a.length};                                                      \
-        (void)b, (void)place, (void)part, (void)walk;                                             \
+        unix_path_chunk chunk;                                                                    \
+        size_t length = a.length, start = 0;                                                      \
+        (void)b, (void)place, (void)part, (void)walk, (void)chunk, (void)length, (void)start;     \
         __VA_ARGS__;                                                                              \
     }
 
@@ -45,6 +47,8 @@ CALL(components, unix_path_components(A, &walk))
 CALL(next, while (unix_path_next(A, &walk, &part)))
 CALL(next_back, while (unix_path_next_back(A, &walk, &part)))
 CALL(as_path, unix_path_as_path(A, &walk, &place))
+CALL(next_ancestor, while (unix_path_next_ancestor(A, &length, &place)))
+CALL(next_chunk, while (unix_path_next_chunk(A, &start, &chunk)))
 CALL(parent, unix_path_parent(A, &place))
 CALL(file_name, unix_path_file_name(A, &place))
 CALL(file_stem, unix_path_file_stem(A, &place))
@@ -81,8 +85,9 @@ CALL(join_below, unix_path_join_below(A, B, b.length > 0 && b.bytes[0] == '/', O
 #define NAMED(name) {#name, name}
 
 static const call calls[] = {
-    NAMED(components), NAMED(next), NAMED(next_back), NAMED(as_path), NAMED(parent),
-    NAMED(file_name), NAMED(file_stem), NAMED(extension), NAMED(file_prefix), NAMED(strip_prefix),
+    NAMED(components), NAMED(next), NAMED(next_back), NAMED(as_path), NAMED(next_ancestor),
+    NAMED(next_chunk), NAMED(parent), NAMED(file_name), NAMED(file_stem), NAMED(extension),
+    NAMED(file_prefix), NAMED(strip_prefix),
     NAMED(starts_with), NAMED(ends_with), NAMED(equal), NAMED(compare), NAMED(hash),
     NAMED(is_utf8), NAMED(is_absolute), NAMED(climbs), NAMED(check_request), NAMED(common_dir),
     NAMED(join), NAMED(with_file_name), NAMED(with_extension), NAMED(with_added_extension),

@@ -123,7 +123,7 @@ PAIRS = [
 # Families of paths, and of what goes with a path.
 SPELLED = "is_canonical canonical resolved"
 PLACES = "parent file_name file_stem extension file_prefix"
-WALKS = "components next next_back as_path"
+WALKS = "components next next_back as_path next_ancestor next_chunk"
 PATHS = [
     ("plain", lambda n: (plain(n), b"new.rs"), EDGES,
      f"{SPELLED} {PLACES} {WALKS} hash is_utf8 to_string_lossy join with_file_name"),
@@ -131,10 +131,13 @@ PATHS = [
     ("rooted", lambda n: (b"/" + plain(n - 1), b""), EDGES, f"{SPELLED} is_absolute"),
     ("dotted_name", lambda n: (plain(n - 8) + b"/a.tar.gz", b"rs"), EDGES,
      "file_stem extension file_prefix with_extension with_added_extension"),
-    ("broken_text", lambda n: (cut(n, b"caf\xe9/"), b""), EDGES, "is_utf8 to_string_lossy"),
-    ("accents", lambda n: (cut(n, b"caf\xc3\xa9/"), b""), EDGES, "is_utf8 to_string_lossy"),
+    ("broken_text", lambda n: (cut(n, b"caf\xe9/"), b""), EDGES,
+     "is_utf8 to_string_lossy next_chunk"),
+    ("accents", lambda n: (cut(n, b"caf\xc3\xa9/"), b""), EDGES,
+     "is_utf8 to_string_lossy next_chunk"),
     ("gap_first", lambda n: (b"a//" + plain(n - 3), b""), EDGES, SPELLED),
-    ("gap_each", lambda n: (cut(n, b"a/./"), b""), EDGES, f"{SPELLED} next next_back hash parent"),
+    ("gap_each", lambda n: (cut(n, b"a/./"), b""), EDGES,
+     f"{SPELLED} next next_back next_ancestor hash parent"),
     ("gap_each_name", lambda n: (respelled_each(plain(n)), b""), EDGES, SPELLED),
     ("name_before_gap", lambda n: (name(n - 3) + b"/./a", b""), EDGES, SPELLED),
     ("name_behind_gap", lambda n: (b"a//" + name(n - 3), b""), EDGES, SPELLED),

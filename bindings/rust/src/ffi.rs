@@ -140,6 +140,38 @@ impl Step {
     }
 }
 
+/// The next ancestor of a path, which has `next` bytes; then it is told how many the one behind has.
+#[inline]
+pub(crate) fn next_ancestor<'a>(path: &'a [u8], next: &mut usize) -> Option<&'a [u8]> {
+    let mut place = Place::NOWHERE;
+    // SAFETY: the slice is read, and the number and the place are written.
+    let is_there = unsafe { unix_path_next_ancestor(path.as_ptr(), path.len(), next, &mut place) };
+    if is_there {
+        place.of(path)
+    } else {
+        None
+    }
+}
+
+/// The text and the broken bytes of the next chunk, which begins at `next`; then it is told where
+/// the one behind begins.
+#[inline]
+pub(crate) fn next_chunk<'a>(path: &'a [u8], next: &mut usize) -> Option<(&'a [u8], &'a [u8])> {
+    let mut chunk = Chunk {
+        start: 0,
+        valid_length: 0,
+        broken_length: 0,
+    };
+    // SAFETY: the slice is read, and the number and the chunk are written.
+    let is_there = unsafe { unix_path_next_chunk(path.as_ptr(), path.len(), next, &mut chunk) };
+    if !is_there {
+        return None;
+    }
+    let valid = cut(path, chunk.start, chunk.valid_length)?;
+    let end = chunk.start.checked_add(chunk.valid_length)?;
+    Some((valid, cut(path, end, chunk.broken_length)?))
+}
+
 /// Calls that find something in a path.
 pub(crate) struct Find(PlaceInOne);
 

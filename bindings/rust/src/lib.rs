@@ -62,6 +62,7 @@ pub mod os;
 pub mod owned;
 mod queries;
 mod request;
+mod walks;
 
 pub use buffers::{
     canonical, join, join_plain, join_within, resolved, to_string_lossy, way, with_added_extension,
@@ -72,8 +73,9 @@ pub use components::{Component, Components};
 pub use error::{Error, RequestError};
 pub use keys::{from_key, key, key_end};
 pub use queries::{
-    check_request, climbs, common_dir, compare, components, ends_with, equal, extension, file_name,
-    file_prefix, file_stem, hash, is_absolute, is_canonical, is_utf8, parent, starts_with,
-    strip_prefix,
+    ancestors, check_request, chunks, climbs, common_dir, compare, components, ends_with, equal,
+    extension, file_name, file_prefix, file_stem, hash, is_absolute, is_canonical, is_utf8, parent,
+    starts_with, strip_prefix,
 };
 pub use request::Request;
+pub use walks::{Ancestors, Chunk, Chunks};

@@ -2,6 +2,7 @@
 use crate::components::Components;
 use crate::error::RequestError;
 use crate::ffi::{self, Ask, AskTwo, Find};
+use crate::walks::{Ancestors, Chunks};
 use core::cmp::Ordering;
 
 /// The parts of the path, one by one from either end.
@@ -18,6 +19,35 @@ use core::cmp::Ordering;
 #[inline]
 pub fn components(path: &[u8]) -> Components<'_> {
     Components::new(path)
+}
+
+/// The path, its parent, the parent of that, and so on to the last.
+///
+/// As Rust's `Path::ancestors`.
+///
+/// ```
+/// assert!(unix_path_rattle::ancestors(b"/a//b/").eq([&b"/a//b/"[..], b"/a", b"/"]));
+/// ```
+#[must_use]
+#[inline]
+pub fn ancestors(path: &[u8]) -> Ancestors<'_> {
+    Ancestors::new(path)
+}
+
+/// The chunks of the path: UTF-8 as far as it goes, and the broken bytes behind it, for which
+/// [`to_string_lossy`](crate::to_string_lossy) has one U+FFFD.
+///
+/// As Rust's `<[u8]>::utf8_chunks`.
+///
+/// ```
+/// use unix_path_rattle::{chunks, Chunk};
+/// let (first, last) = (Chunk { valid: b"a", broken: b"\xFF" }, Chunk { valid: b"b", broken: b"" });
+/// assert!(chunks(b"a\xFFb").eq([first, last]));
+/// ```
+#[must_use]
+#[inline]
+pub fn chunks(path: &[u8]) -> Chunks<'_> {
+    Chunks::new(path)
 }
 
 /// The path without its last part, unless that is the root or there is none.

@@ -14,3 +14,5 @@ pub mod NameLemmas
 pub mod StepLemmas
 pub mod RangeLemmas
 pub mod KeyPathLemmas
+pub mod AncestorLemmas
+pub mod ChunkLemmas

@@ -33,7 +33,7 @@ parent_stands s parent e =
     (ap (λ w. take (length w) s) is ∙ take-rest s 1 ∙ sym is)
 
 -- what stands between two strings
-take-inside : (x y z : List ℕ) → take (length y) (drop (length x) ((x ++ y) ++ z)) ≡ y
+pub take-inside : (x y z : List ℕ) → take (length y) (drop (length x) ((x ++ y) ++ z)) ≡ y
 take-inside x y z =
     ap (λ t. take (length y) (drop (length x) t)) (append_assoc x y z)
     ∙ ap (take (length y)) (drop-append_seam x (y ++ z)) ∙ take-append_seam y z

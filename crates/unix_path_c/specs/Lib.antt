@@ -1,4 +1,6 @@
 pub mod Places
+pub mod Ancestors
+pub mod Chunks
 pub mod Walks
 pub mod Queries
 pub mod Refusals

@@ -1,7 +1,9 @@
 //! The calls of `unix_path` and of the crates above it, for C: `include/unix_path.h` declares them.
 #![tactic(auto)]
 
+mod ancestors;
 mod canonical;
+mod chunks;
 mod firsts;
 mod joins;
 mod keys;

@@ -1,5 +1,7 @@
 //! Rows of calls, as a caller from C makes them.
+mod ancestors;
 mod canonical;
+mod chunks;
 mod joins;
 mod keys;
 mod lossy;

@@ -1,5 +1,5 @@
 //! Answers that are lists, with a tab between two items.
-use std::iter::{once, successors};
+use std::iter::once;
 use unix_path_rattle::{self as paths, owned, ByParts, Component, Error};
 
 /// Adds the items, with a tab between two of them.
@@ -19,7 +19,7 @@ pub fn push_parts<'a>(parts: impl Iterator<Item = Component<'a>>, answer: &mut V
 
 /// Adds the path and each path above it as a list.
 pub fn push_ancestors(path: &[u8], answer: &mut Vec<u8>) {
-    push_list(successors(Some(path), |path| paths::parent(path)), answer);
+    push_list(paths::ancestors(path), answer);
 }
 
 /// Adds what the turns take from both ends, and what is left; false where a letter is no turn.

@@ -27,6 +27,14 @@ pub struct Place {
     pub(super) length: usize,
 }
 
+/// Where a chunk of text and broken bytes stands in a path.
+#[repr(C)]
+pub struct Chunk {
+    pub(super) start: usize,
+    pub(super) valid_length: usize,
+    pub(super) broken_length: usize,
+}
+
 pub type TruthOfOne = unsafe extern "C" fn(Start, usize) -> bool;
 pub type TruthOfTwo = unsafe extern "C" fn(Start, usize, Start, usize) -> bool;
 pub type StepOfWalk = unsafe extern "C" fn(Start, usize, *mut Walk, *mut Part) -> bool;
@@ -41,6 +49,11 @@ extern "C" {
     pub fn unix_path_next_back(path: Start, path_length: usize, walk: *mut Walk, part: *mut Part)
         -> bool;
     pub fn unix_path_as_path(path: Start, path_length: usize, walk: *const Walk, place: *mut Place);
+
+    pub fn unix_path_next_ancestor(path: Start, path_length: usize, next: *mut usize,
+        ancestor: *mut Place) -> bool;
+    pub fn unix_path_next_chunk(path: Start, path_length: usize, next: *mut usize,
+        chunk: *mut Chunk) -> bool;
 
     pub fn unix_path_parent(path: Start, path_length: usize, place: *mut Place) -> bool;
     pub fn unix_path_file_name(path: Start, path_length: usize, place: *mut Place) -> bool;

@@ -70,11 +70,32 @@ fn names() {
     for s in over(LETTERS, LONGEST) {
         let p = path(&s);
         same_place(paths::parent(&s), p.parent().map(bytes), &s);
+        assert!(paths::ancestors(&s).eq(p.ancestors().map(bytes)));
         same_place(paths::file_name(&s), p.file_name().map(bytes), &s);
         same_place(paths::file_stem(&s), p.file_stem().map(bytes), &s);
         same_place(paths::extension(&s), p.extension().map(bytes), &s);
         same_place(paths::file_prefix(&s), file_prefix(p), &s);
         assert_eq!(paths::is_absolute(&s), p.is_absolute());
+    }
+}
+
+#[test]
+fn chunks() {
+    for s in over(b"a\xE2\x82\xFF", LONGEST) {
+        let (mut all, mut shown) = (vec![], String::new());
+        for chunk in paths::chunks(&s) {
+            all.extend([chunk.valid, chunk.broken].concat());
+            shown.push_str(std::str::from_utf8(chunk.valid).unwrap());
+            shown.push_str(if chunk.broken.is_empty() {
+                ""
+            } else {
+                "\u{FFFD}"
+            });
+        }
+        assert_eq!(
+            (all, shown),
+            (s.clone(), String::from_utf8_lossy(&s).into())
+        );
     }
 }
 
@@ -102,6 +123,15 @@ fn with_extension(path: &Path, extension: &OsStr) -> PathBuf {
     edited
 }
 
+/// A copy with the extension behind its file name, as `Path::with_added_extension`, which older
+/// compilers lack.
+fn with_added_extension(path: &Path, extension: &[u8]) -> Vec<u8> {
+    if extension.is_empty() || path.file_name().is_none() {
+        return bytes(path).to_vec();
+    }
+    [bytes(path.components().as_path()), b".", extension].concat()
+}
+
 #[test]
 fn joins() {
     let strings = over(LETTERS, LONGEST);
@@ -117,9 +147,8 @@ fn joins() {
                 assert_eq!(made, Err(Error::Separator));
             } else {
                 assert_eq!(made, Ok(bytes(&with_extension(p, text(b)))));
-                let want = p.with_added_extension(text(b));
                 let made = paths::with_added_extension(a, b, &mut out);
-                assert_eq!(made, Ok(bytes(&want)));
+                assert_eq!(made, Ok(&with_added_extension(p, b)[..]));
             }
         }
     }

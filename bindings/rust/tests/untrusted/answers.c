@@ -78,6 +78,19 @@ void unix_path_as_path(ONE, const unix_path_walk *walk, unix_path_place *place)
 #define MAKE_OF_TWO(name) \
     size_t name(TWO, OUT) { return NONE_OF_TWO, any_bytes(out, out_length); }
 
+bool unix_path_next_ancestor(ONE, size_t *next, unix_path_place *ancestor)
+{
+    *next = any_size();
+    return NONE_OF_ONE, any_place(ancestor);
+}
+bool unix_path_next_chunk(ONE, size_t *next, unix_path_chunk *chunk)
+{
+    *next = any_size();
+    chunk->start = any_size();
+    chunk->valid_length = any_size();
+    chunk->broken_length = any_size();
+    return NONE_OF_ONE, any() % 8 > 0;
+}
 STEP(unix_path_next)
 STEP(unix_path_next_back)
 FIND(unix_path_parent)

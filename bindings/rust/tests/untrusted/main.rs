@@ -28,6 +28,16 @@ fn walks() {
 }
 
 #[test]
+fn ancestors_and_chunks() {
+    for _ in 0..ROUNDS {
+        assert!(paths::ancestors(PATH).take(4).all(|it| lies_in(it, PATH)));
+        for chunk in paths::chunks(PATH).take(4) {
+            assert!(lies_in(chunk.valid, PATH) && lies_in(chunk.broken, PATH));
+        }
+    }
+}
+
+#[test]
 fn places() {
     for _ in 0..ROUNDS {
         let found = [

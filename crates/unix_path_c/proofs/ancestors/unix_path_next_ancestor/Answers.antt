@@ -1,0 +1,30 @@
+use Rattle.std.proofs.Common.{◌≡◌, ◌∷◌, length, take, arith, true≢false}
+use Rattle.unix_path_c.specs.Ancestors.{ancestors_left}
+use Rattle.unix_path_c.proofs.AncestorLemmas.{ancestors_left-last, ancestors_left-parent}
+use Rattle.unix_path_c.proofs.ancestors.unix_path_next_ancestor.Goals as goal
+use Rattle.unix_path_c.proofs.ancestors.unix_path_next_ancestor.Goals.{In-Some, In-None}
+
+with_parent : (c : In-Some) → ancestors_left c.args.path.now c.args.next.now
+    ≡ take c.args.next.now c.args.path.now
+    ∷ ancestors_left c.args.path.now (length c.in-Some.parent.bytes.now)
+with_parent c = ancestors_left-parent c.args.path.now c.in-Some.parent.bytes.now
+    c.args.next.now c.if-length-path.false c.in-Some.ensures.value
+
+pub returns-in-Some-clause-ancestors : goal.returns-in-Some-clause-ancestors
+returns-in-Some-clause-ancestors c = λ _. with_parent c
+
+pub returns-in-Some-clause-ended : goal.returns-in-Some-clause-ended
+returns-in-Some-clause-ended c =
+    let step = with_parent c in (λ no. absurd (true≢false no), λ none. absurd (cc))
+
+without_parent : (c : In-None) → ancestors_left c.args.path.now c.args.next.now
+    ≡ take c.args.next.now c.args.path.now ∷ ancestors_left c.args.path.now 18446744073709551615
+without_parent c = ancestors_left-last c.args.path.now c.args.next.now 18446744073709551615
+    c.if-length-path.false c.in-None.ensures.value (omega arith)
+
+pub returns-in-None-clause-ancestors : goal.returns-in-None-clause-ancestors
+returns-in-None-clause-ancestors c = λ _. without_parent c
+
+pub returns-in-None-clause-ended : goal.returns-in-None-clause-ended
+returns-in-None-clause-ended c =
+    let step = without_parent c in (λ no. absurd (true≢false no), λ none. absurd (cc))
