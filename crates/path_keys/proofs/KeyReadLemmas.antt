@@ -1,16 +1,19 @@
 -- What a key reads back as.
-use Rattle.std.proofs.Common.{◌≡◌, ◌<◌, ◌≤◌, ◌-◌, ℕ, List, length, refl, sym, ap, ◌∙◌, arith}
+use Rattle.std.proofs.Common.{◌≡◌, ◌<◌, ◌≤◌, ◌-◌, ℕ, List, [], length, refl, sym, ap, ◌∙◌, arith}
 use Rattle.std.proofs.Common.{◌++◌, drop, ap₂, true, Option, Some, None, is_some, IfSome, IsTrue}
 use Rattle.std.proofs.Common.{length-take-le}
 use Rattle.std.proofs.lemmas.Bool.{cond-false, lt-leb}
 use Rattle.unix_path.specs.Parts.{Value, values}
+use Rattle.unix_path.proofs.PartLemmas.{values-nil}
 use Rattle.path_runs.specs.Buffer.{buffer_after}
 use Rattle.path_runs.specs.Spelling.{spelling_of}
 use Rattle.path_runs.proofs.OverlayLemmas.{buffer_after-fits}
 use Rattle.path_keys.specs.Keys.{key_of, IsKey}
 use Rattle.path_keys.specs.Codes.{text_of, AllFit, HasPath, IsRead, ReadsAs}
+use Rattle.path_runs.proofs.SpellLemmas.{spelling_of-nil}
 use Rattle.path_keys.proofs.CodeLemmas.{values-coded}
 use Rattle.path_keys.proofs.FitLemmas.{values-spelled}
+use Rattle.path_keys.proofs.KeyLemmas.{key_of-nil}
 use Rattle.path_keys.proofs.OrderLemmas.{key_of-same}
 use Rattle.path_keys.proofs.TextLemmas.{text_of-spelled}
 
@@ -87,3 +90,14 @@ written_back {key} {path} {n} old s h read e room =
     let long = spelled_long s h e in
     ap₂ (λ p k. p ++ drop k old) (read_back key path s read e) long
     ∙ sym (buffer_after-fits (spelling_of (values s)) old (omega (arith, long)))
+
+-- the empty key is that of the empty path
+empty_values : (key : List ℕ) → key ≡ [] → key_of (values []) ≡ key
+empty_values key e = ap key_of values-nil ∙ key_of-nil ∙ sym e
+
+pub empty_key : (key : List ℕ) → key ≡ [] → IsKey key
+empty_key key e = ([], empty_values key e)
+
+pub empty_long : (key : List ℕ) (len : ℕ) → HasPath key len → key ≡ [] → len ≡ 0
+empty_long key len h e = spelled_long [] h (empty_values key e)
+    ∙ ap length (ap spelling_of values-nil ∙ spelling_of-nil)

@@ -1,6 +1,6 @@
 //! The path of a key, read back.
-ghost use Rattle.std.specs.Prelude.{◌≡◌, ◌↔◌, ℕ, List, length, IfOk, IsErrOf, IsTrue, None, Some};
-ghost use Rattle.std.specs.Prelude.{is_some};
+ghost use Rattle.std.specs.Prelude.{◌≡◌, ◌↔◌, ℕ, List, [], length, IfOk, IsErrOf, IsOk, IsTrue};
+ghost use Rattle.std.specs.Prelude.{is_some, None, Some};
 ghost use Rattle.std.specs.Fmt.{padded};
 ghost use Rattle.unix_path.specs.Buffers.{path_bytes};
 ghost use Rattle.unix_path.specs.Parts.{values};
@@ -63,7 +63,8 @@ impl From<AllocError> for KeyError {
 // The path of a key, of `len` bytes.
 fn read_text(alloc: Global, key: &[u8], len: usize) -> Result<Vec<u8>, AllocError>
     requires { HasPath key.now len }
-    ensures { IfOk result (λ text. IsRead key.now text.items) }
+    ensures read { IfOk result (λ text. IsRead key.now text.items) }
+    ensures succeeds { len ≡ 0 → IsOk result }
 {
     let mut text = Vec::with_capacity(alloc, len)?;
     text.resize(len, 0)?;
@@ -93,6 +94,7 @@ pub fn path_of(alloc: Global, key: &[u8]) -> Result<PathBuf, KeyError>
     ensures values { IfOk result (λ p. key_of (values (path_bytes p)) ≡ key.now) }
     ensures read_back { (s : List ℕ) → key_of (values s) ≡ key.now
         → IfOk result (λ p. path_bytes p ≡ spelling_of (values s)) }
+    ensures succeeds { key.now ≡ [] → IsOk result }
 {
     let Some(len) = path_len(key) else {
         return Err(KeyError::NotAKey);

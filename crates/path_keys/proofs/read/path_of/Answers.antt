@@ -1,7 +1,7 @@
-use Rattle.std.proofs.Common.{ap, ◌∙◌}
+use Rattle.std.proofs.Common.{refl, ap, ◌∙◌}
 use Rattle.unix_path.specs.Parts.{values}
 use Rattle.path_keys.specs.Keys.{key_of}
-use Rattle.path_keys.proofs.KeyReadLemmas.{path_key, read_back}
+use Rattle.path_keys.proofs.KeyReadLemmas.{empty_key, empty_long, path_key, read_back}
 use Rattle.path_keys.proofs.read.path_of.Goals as goal
 
 pub returns-in_err-text-clause-not_a_key : goal.returns-in_err-text-clause-not_a_key
@@ -19,8 +19,16 @@ returns-clause-not_a_key c = (
 pub returns-clause-values : goal.returns-clause-values
 returns-clause-values c =
     let bytes = c.from-2.ensures ∙ c.from.ensures in
-    ap (λ p. key_of (values p)) bytes ∙ c.in_ok-text.ensures.key_is
+    ap (λ p. key_of (values p)) bytes ∙ c.in_ok-text.ensures.read.key_is
 
 pub returns-clause-read_back : goal.returns-clause-read_back
 returns-clause-read_back c = λ s e.
-    c.from-2.ensures ∙ c.from.ensures ∙ read_back c.args.key.now _ s c.in_ok-text.ensures e
+    c.from-2.ensures ∙ c.from.ensures ∙ read_back c.args.key.now _ s c.in_ok-text.ensures.read e
+
+pub returns-in_default-clause-succeeds : goal.returns-in_default-clause-succeeds
+returns-in_default-clause-succeeds c = λ e.
+    absurd (c.in_default.ensures.none refl (empty_key c.args.key.now e))
+
+pub returns-in_err-text-clause-succeeds : goal.returns-in_err-text-clause-succeeds
+returns-in_err-text-clause-succeeds c = λ e. absurd (let k = c.in_err-text.ensures.succeeds
+    (empty_long c.args.key.now c.in-Some.len c.in-Some.ensures.some e) in cc)
