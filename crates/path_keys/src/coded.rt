@@ -58,6 +58,37 @@ fn place_half(out: &mut [u8], to: usize, bytes: &[u8], from: usize)
         .copy_to_slice(&mut out[to..]);
 }
 
+// Overwrites 4 bytes of `out` from `to` on with those of the stretch from `from` on in a key.
+#[inline(always)]
+fn place_quarter(out: &mut [u8], to: usize, bytes: &[u8], from: usize)
+    requires room { to + 4 ≤ length out.old }
+    requires some { from + 4 ≤ length bytes.now }
+    ensures { out.new ≡ put_chunk to out.old (map coded (take 4 (drop from bytes.now))) }
+{
+    let here = u8x4::from_slice(&bytes[from..]);
+    let slash = u8x4::splat(b'/');
+    let raised = here.simd_lt(slash).select(here + u8x4::splat(1), here);
+    here.simd_eq(slash)
+        .select(u8x4::splat(0), raised)
+        .copy_to_slice(&mut out[to..]);
+}
+
+// Overwrites the bytes of `out` from `at` on with those of the stretch, fewer than 8 bytes, in a key.
+#[inline(always)]
+fn place_tiny(out: &mut [u8], at: usize, bytes: &[u8])
+    requires room { at + length bytes.now ≤ length out.old }
+    requires few { length bytes.now < 8 }
+    ensures { out.new ≡ overlay at (map coded bytes.now) out.old }
+{
+    if bytes.len() < 4 {
+        place_few(out, at, bytes);
+        return;
+    }
+    let last = bytes.len() - 4;
+    place_quarter(out, at, bytes, 0);
+    place_quarter(out, at + last, bytes, last);
+}
+
 // Overwrites the bytes of `out` from `at` on with those of the stretch, fewer than 16 bytes, in a
 // key.
 #[inline]
@@ -67,7 +98,7 @@ fn place_short(out: &mut [u8], at: usize, bytes: &[u8])
     ensures { out.new ≡ overlay at (map coded bytes.now) out.old }
 {
     if bytes.len() < 8 {
-        place_few(out, at, bytes);
+        place_tiny(out, at, bytes);
         return;
     }
     let last = bytes.len() - 8;

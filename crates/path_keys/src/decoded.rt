@@ -61,6 +61,39 @@ fn place_half(out: &mut [u8], to: usize, names: &[u8], from: usize)
         .copy_to_slice(&mut out[to..]);
 }
 
+// Overwrites 4 bytes of `out` from `to` on with those of the names that stand from `from` on in a
+// key.
+#[inline(always)]
+fn place_quarter(out: &mut [u8], to: usize, names: &[u8], from: usize)
+    requires room { to + 4 ≤ length out.old }
+    requires some { from + 4 ≤ length names.now }
+    ensures { out.new ≡ put_chunk to out.old (map decoded (take 4 (drop from names.now))) }
+{
+    let here = u8x4::from_slice(&names[from..]);
+    let slash = u8x4::splat(b'/');
+    let lowered = here.simd_gt(slash).select(here, here - u8x4::splat(1));
+    here.simd_eq(u8x4::splat(0))
+        .select(slash, lowered)
+        .copy_to_slice(&mut out[to..]);
+}
+
+// Overwrites the bytes of `out` from `at` on with those of the names, fewer than 8 bytes, that stand
+// like this in a key.
+#[inline(always)]
+fn place_tiny(out: &mut [u8], at: usize, names: &[u8])
+    requires room { at + length names.now ≤ length out.old }
+    requires few { length names.now < 8 }
+    ensures { out.new ≡ overlay at (map decoded names.now) out.old }
+{
+    if names.len() < 4 {
+        place_few(out, at, names);
+        return;
+    }
+    let last = names.len() - 4;
+    place_quarter(out, at, names, 0);
+    place_quarter(out, at + last, names, last);
+}
+
 // Overwrites the bytes of `out` from `at` on with those of the names, fewer than 16 bytes, that
 // stand like this in a key.
 #[inline]
@@ -70,7 +103,7 @@ fn place_short(out: &mut [u8], at: usize, names: &[u8])
     ensures { out.new ≡ overlay at (map decoded names.now) out.old }
 {
     if names.len() < 8 {
-        place_few(out, at, names);
+        place_tiny(out, at, names);
         return;
     }
     let last = names.len() - 8;
