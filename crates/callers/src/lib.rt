@@ -1,11 +1,13 @@
 //! Small users of paths: a file server, an unpacker of archives, mappers of URLs, a table of mounts,
-//! a manifest, a tree of files and an index.
+//! a router, manifests and what changes from one to another, a tree of files and an index.
 #![tactic(auto)]
 
 pub mod archive;
+pub mod changes;
 pub mod index;
 pub mod manifest;
 pub mod mounts;
+pub mod router;
 pub mod safe;
 pub mod server;
 pub mod site;

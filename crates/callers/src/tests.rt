@@ -1,8 +1,10 @@
 //! Rows of calls, each of which shows a rule.
 use crate::archive::{UnpackError, target_of};
+use crate::changes::changes_from;
 use crate::index::{place_of, value_at};
 use crate::manifest::normalise;
 use crate::mounts::mounted_file;
+use crate::router::route;
 use crate::safe::stays_below;
 use crate::server::find_file;
 use crate::site::file_of;
@@ -82,6 +84,20 @@ static FILES: [(&'static str, Option<&'static str>); 7] = [
     ("/staticx/a", None),
     ("/static/../a", Some("refused")),
     ("/static/a/../../www/a", Some("refused")),
+];
+
+// A path, the handler of its route and what is left for it, with 1 at `/`, 2 at `/api`, 3 at
+// `/api/v1` and 4 at `static`, and the fallback 0.
+static ROUTED: [(&'static str, u8, &'static str); 9] = [
+    ("/api//users", 2, "users"),
+    ("/apis/", 1, "apis"),
+    ("/api/v1/./users/7", 3, "users/7"),
+    ("//api/v1", 3, ""),
+    ("/", 1, ""),
+    ("/api/../x", 2, "../x"),
+    ("static/a.css", 4, "a.css"),
+    ("api/users", 0, "api/users"),
+    ("", 0, ""),
 ];
 
 // Whether the path that was found has the bytes that are wanted.
@@ -329,5 +345,56 @@ fn mounts_have_files(rt: HostRuntime) -> Result<(), Fail> {
         assert!(rt; is(found, row.1), "{}", row.0);
     }
     assert!(rt; mounted_file(rt.alloc(), &mounts, Path::from_text("/a\0"))?.is_none());
+    Ok(())
+}
+
+// A tree of these paths, with these values.
+fn tree_of(alloc: Global, files: &[(&str, u8)]) -> Result<PathTree<u8>, AllocError> {
+    let mut tree = PathTree::new(alloc);
+    for (path, value) in files {
+        tree.insert(Path::from_text(path), *value)?;
+    }
+    Ok(tree)
+}
+
+// Whether the path goes to the handler, with what is left of it.
+fn is_routed(routes: &PathTree<u8>, row: &(&str, u8, &str)) -> Result<bool, AllocError> {
+    let (handler, left) = route(routes, &0, Path::from_text(row.0))?;
+    Ok(*handler == row.1 && left.as_unix_str() == UnixStr::new(row.2))
+}
+
+#[test]
+fn paths_are_routed(rt: HostRuntime) -> Result<(), Fail> {
+    let routes = [("/", 1), ("/api/", 2), ("/api/v1", 3), ("static", 4)];
+    let routes = tree_of(rt.alloc(), routes.as_slice())?;
+    for row in ROUTED.iter() {
+        assert!(rt; is_routed(&routes, row)?, "{}", row.0);
+    }
+    Ok(())
+}
+
+// What is new, gone and different from the first of these manifests to the second.
+fn has_changed(alloc: Global) -> Result<bool, AllocError> {
+    let before = [("a", 1), ("b", 2), ("d//e", 5), ("d.e", 6)];
+    let before = tree_of(alloc, before.as_slice())?;
+    let after = [("d/e/", 5), ("c", 4), ("a", 3), ("./a", 7)];
+    let after = tree_of(alloc, after.as_slice())?;
+    let changes = changes_from(&before, &after)?;
+    let new: [(&[u8], &u8); 2] = [(b"\x00\x02a\x00", &7), (b"c\x00", &4)];
+    let gone: [(&[u8], &u8); 2] = [(b"b\x00", &2), (b"d/e\x00", &6)];
+    let different: [(&[u8], &u8, &u8); 1] = [(b"a\x00", &3, &1)];
+    Ok(
+        changes.new.as_slice() == new.as_slice()
+            && changes.gone.as_slice() == gone.as_slice()
+            && changes.different.as_slice() == different.as_slice(),
+    )
+}
+
+#[test]
+fn manifests_are_compared(rt: HostRuntime) -> Result<(), Fail> {
+    assert!(rt; has_changed(rt.alloc())?);
+    let tree = tree_of(rt.alloc(), [("a", 1)].as_slice())?;
+    let none = changes_from(&tree, &tree)?;
+    assert!(rt; none.new.is_empty() && none.gone.is_empty() && none.different.is_empty());
     Ok(())
 }
