@@ -47,16 +47,6 @@ impl MadeKey {
         Ok(MadeKey::Long(key))
     }
 
-    // The bytes of the key, in a vector of their own. That of a long key is the one that holds it.
-    pub(crate) fn into_vec(self, alloc: Global) -> Result<Vec<u8>, AllocError>
-        ensures { IfOk result (λ key. key.items ≡ made_bytes self) }
-    {
-        match self {
-            MadeKey::Short(key) => Vec::from_slice(alloc, &key.room[..key.len]),
-            MadeKey::Long(key) => Ok(key.into_vec()),
-        }
-    }
-
     // The bytes of the key.
     #[inline]
     pub(crate) fn as_bytes(&self) -> &[u8]
@@ -67,6 +57,15 @@ impl MadeKey {
             MadeKey::Long(key) => key.as_bytes(),
         }
     }
+}
+
+// The bytes of the path's key, in a vector of their own.
+pub(crate) fn owned_key(alloc: Global, path: Path<'_>) -> Result<Vec<u8>, AllocError>
+    ensures own { IfOk result (λ key. is_own key.items ≡ true) }
+    ensures values { IfOk result (λ key. key_values key.items ≡ values path.entry.bytes.now) }
+{
+    let key = PathKey::of(alloc, path)?;
+    Ok(key.into_vec())
 }
 
 // The bytes of a key that is kept.

@@ -23,7 +23,7 @@ mod nearest;
 mod ranges;
 mod sorted;
 
-use crate::made::{MadeKey, bytes_of};
+use crate::made::{MadeKey, bytes_of, owned_key};
 use path_keys::PathKey;
 pub use sorted::SortedError;
 use std::alloc::{AllocError, Global};
@@ -82,8 +82,7 @@ impl<V> PathTree<V> {
             (SameElsewhere (values path.entry.bytes.now) (table_of self.old) (table_of self.new)) }
         ensures err { OnErr result (table_of self.new ≡ table_of self.old) }
     {
-        let made = MadeKey::of(self.alloc, path)?;
-        let key = made.into_vec(self.alloc)?;
+        let key = owned_key(self.alloc, path)?;
         self.put(key, value)
     }
 

@@ -9,7 +9,7 @@ ghost use Rattle.path_tree.specs.Rows.{Key};
 ghost use Rattle.path_tree.specs.Sorted.{ListsAll, StopsRising};
 
 use super::PathTree;
-use crate::made::MadeKey;
+use crate::made::owned_key;
 use std::alloc::{AllocError, Global};
 use std::collections::BTreeMap;
 use std::error::Error;
@@ -123,7 +123,7 @@ impl<V> PathTree<V> {
     {
         let mut entries = Vec::new(alloc);
         for (path, value) in items {
-            let key = MadeKey::of(alloc, path)?.into_vec(alloc)?;
+            let key = owned_key(alloc, path)?;
             if !rises(&entries, &key) {
                 return Err(SortedError::NotRising);
             }

@@ -1,5 +1,4 @@
-use Rattle.std.proofs.Common.{◌≡◌, ◌∷◌, ◌++◌, ◌∙◌, [], ap, rules, subst, sym, true}
-use Rattle.path_tree.specs.Read.{is_own, key_values}
+use Rattle.std.proofs.Common.{◌≡◌, ◌∷◌, ◌++◌, ◌∙◌, [], rules, subst, sym, true}
 use Rattle.path_tree.proofs.SortedWalkLemmas.{Listed, listed_more, listed_none, made_own, made_rows}
 use Rattle.path_tree.proofs.SortedWalkLemmas.{rise, stops}
 use Rattle.path_tree.proofs.tree.PathTree.from_sorted.Goals as goal
@@ -11,8 +10,7 @@ pub returns-then-not-rises-clause-not_rising : goal.returns-then-not-rises-claus
 returns-then-not-rises-clause-not_rising g c = λ _.
     let key = c.in_ok-key.key in
     let made = c.in_ok-key.ensures in
-    stops c.loop-path.entries.items c.loop-path.yielded c.loop-path.invariant key c.in-Some.path
-    (ap is_own made ∙ c.in_ok-of.ensures.own) (ap key_values made ∙ c.in_ok-of.ensures.values)
+    stops c.loop-path.entries.items c.loop-path.yielded c.loop-path.invariant key c.in-Some.path made.own made.values
     g.I.Iterator.next_gives c.args.items c.in-Some.value c.next.new.self
     (search (
       rules,
@@ -32,8 +30,7 @@ loop-path-preserved g c =
     subst (λ l. Listed l (c.loop-path.yielded ++ (c.in-Some.path, c.in-Some.value) ∷ []))
     (sym c.in_ok-put_last.ensures)
     (listed_more c.loop-path.entries.items c.loop-path.yielded c.loop-path.invariant key
-    c.in-Some.path (ap is_own made ∙ c.in_ok-of.ensures.own)
-    (ap key_values made ∙ c.in_ok-of.ensures.values) c.in-Some.value
+    c.in-Some.path made.own made.values c.in-Some.value
     (λ front last is. sym (c.rises.ensures.others front last (c.deref.ensures.value ∙ is))
     ∙ rises))
 
