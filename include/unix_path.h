@@ -253,13 +253,15 @@ size_t unix_path_join(const void *base, size_t base_length, const void *path,
                       size_t path_length, void *out, size_t out_length);
 
 /* The path with its file name replaced, or with name joined to it if it has none. `/a/b.txt` with
- * `c` gives `/a/c`. It holds a NUL if what it is made of does. */
+ * `c` gives `/a/c`. It has at most as many bytes as both and one more, and holds a NUL if what it
+ * is made of does. */
 size_t unix_path_with_file_name(const void *path, size_t path_length, const void *name,
                                 size_t name_length, void *out, size_t out_length);
 
 /* The path with its extension replaced, or taken away if the new one is empty; the path as it is
  * if it has no file name. UNIX_PATH_SEPARATOR if the extension has a slash. `a.rs` with
- * `txt` gives `a.txt`. It holds a NUL if what it is made of does. */
+ * `txt` gives `a.txt`. It has at most as many bytes as both and one more, and holds a NUL if what
+ * it is made of does. */
 size_t unix_path_with_extension(const void *path, size_t path_length, const void *extension,
                                 size_t extension_length, void *out, size_t out_length);
 
@@ -318,8 +320,8 @@ size_t unix_path_join_plain(const void *root, size_t root_length, const void *re
  * the answer is UNIX_PATH_NUL_IN_REQUEST exactly if the request has a NUL, at which a system call
  * cuts it.
  *
- * It goes by names alone: if a part below the root may be a link, let the system refuse links. It
- * has at most as many bytes as both and one more. `/srv/` with `a/../b` gives `/srv/b`; with
+ * It goes by names alone: if a part below the root may be a link, let the system refuse links. The
+ * answer has at most as many bytes as both and one more. `/srv/` with `a/../b` gives `/srv/b`; with
  * `/../b` it gives `/srv/b` as a URL, and else UNIX_PATH_ESCAPES. */
 size_t unix_path_join_below(const void *root, size_t root_length, const void *request,
                             size_t request_length, bool as_url, void *out, size_t out_length);

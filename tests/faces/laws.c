@@ -36,6 +36,31 @@ static void questions_of(view path) {
     free(lossy.bytes);
 }
 
+// No answer of one path is longer than the header says, so that this much room is enough.
+static void room_for_one(view path) {
+    uint8_t out[16];
+    size_t n = path.length;
+    CHECK(unix_path_canonical(path.bytes, n, out, n) <= n, "canonical");
+    CHECK(unix_path_resolved(path.bytes, n, out, n) <= n, "resolved");
+    CHECK(unix_path_to_string_lossy(path.bytes, n, out, 3 * n) <= 3 * n, "lossy");
+    CHECK(unix_path_key(path.bytes, n, out, n + 2) <= n + 2, "key");
+}
+
+// And no length of two paths is.
+static void room_for_two(view a, view b) {
+    static const call_of_two calls[] = {unix_path_join, unix_path_with_file_name,
+                                        unix_path_with_extension, unix_path_with_added_extension,
+                                        unix_path_join_within, unix_path_join_plain};
+    uint8_t out[16];
+    size_t room = a.length + 1 + b.length;
+    for (size_t at = 0; at < sizeof calls / sizeof *calls; at++) {
+        size_t length = calls[at](a.bytes, a.length, b.bytes, b.length, out, room);
+        CHECK(length <= room || !unix_path_is_length(length), "call %zu", at);
+    }
+    CHECK(unix_path_join_below(a.bytes, a.length, b.bytes, b.length, true, out, room) <= room,
+          "join below");
+}
+
 // The ancestors are the path and each parent of one.
 static void ancestors_are_parents(view path) {
     size_t next = path.length;
@@ -98,6 +123,7 @@ static void call_all_of_one(view path) {
     CHECK((range_end == UNIX_PATH_NOT_A_KEY) == (read == UNIX_PATH_NOT_A_KEY), "no key");
     key_read_back(path);
     questions_of(path);
+    room_for_one(path);
     ancestors_are_parents(path);
     chunks_are_shown(path);
     walks_of(path);
@@ -195,6 +221,7 @@ static void pair_with(view path) {
     CHECK(add_two(&second, unix_path_join_plain, a, b) == !has_root_or_up(b), "root or up");
     joins_below(a, b, climbs);
     way_leads(a, b);
+    room_for_two(a, b);
     add_two(&first, unix_path_with_file_name, a, b);
     add_two(&first, unix_path_with_extension, a, b);
     bool has_slash = b.length > 0 && memchr(b.bytes, '/', b.length) != NULL;

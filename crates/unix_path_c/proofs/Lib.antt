@@ -16,3 +16,4 @@ pub mod RangeLemmas
 pub mod KeyPathLemmas
 pub mod AncestorLemmas
 pub mod ChunkLemmas
+pub mod BoundLemmas

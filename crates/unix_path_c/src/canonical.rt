@@ -1,5 +1,5 @@
 //! The canonical spelling, in a buffer of the caller's, and whether a path is spelled so.
-ghost use Rattle.std.specs.Prelude.{◌≡◌, ◌↔◌, length, IsTrue};
+ghost use Rattle.std.specs.Prelude.{◌≡◌, ◌↔◌, ◌≤◌, length, IsTrue};
 ghost use Rattle.unix_path.specs.Parts.{values};
 ghost use Rattle.path_runs.specs.Buffer.{buffer_after};
 ghost use Rattle.path_runs.specs.Spelling.{spelling_of};
@@ -17,16 +17,17 @@ use unix_path::Path;
 /// collected into a `PathBuf`.
 ///
 /// For `.//a/./b/` it is `./a/b`, of 5 bytes.
+#[tactic(auto, using(crate::proofs::BoundLemmas::bounds))]
 #[unsafe(no_mangle)]
 pub extern "C" fn unix_path_canonical(path: &[u8], out: &mut [u8]) -> usize
     ensures out { out.new ≡ buffer_after (spelling_of (values path.now)) out.old }
     ensures length { result ≡ length (spelling_of (values path.now)) }
+    ensures short { result ≤ length path.now }
 {
     write_canonical(Path { bytes: path }, out)
 }
 
-/// Whether the path is in canonical spelling: whether `unix_path_canonical` gives the same bytes for
-/// it.
+/// Whether the path is in canonical spelling, so that `unix_path_canonical` gives the same bytes.
 ///
 /// Does not allocate. Not in Rust's std.
 ///

@@ -186,10 +186,12 @@ fn added_layout<'a>(path: Path<'a>, extension: &'a [u8]) -> Layout<'a>
 /// path, and no pointer is null. Does not allocate. As Rust's `Path::join`.
 ///
 /// `/etc` joined with `passwd` is `/etc/passwd`, of 11 bytes, and `a` with the empty path is `a/`.
+#[tactic(auto, using(crate::proofs::BoundLemmas::bounds))]
 #[unsafe(no_mangle)]
 pub extern "C" fn unix_path_join(base: &[u8], path: &[u8], out: &mut [u8]) -> usize
     ensures out { out.new ≡ buffer_after (join_of base.now path.now) out.old }
     ensures length { result ≡ length (join_of base.now path.now) }
+    ensures short { result ≤ length base.now + 1 + length path.now }
 {
     join_layout(Path { bytes: base }, Path { bytes: path }).write(out)
 }
@@ -204,10 +206,12 @@ pub extern "C" fn unix_path_join(base: &[u8], path: &[u8], out: &mut [u8]) -> us
 ///
 /// `/tmp/foo.txt` with the file name `bar.txt` is `/tmp/bar.txt`, of 12 bytes, and `foo/..` with
 /// `bar` is `foo/../bar`.
+#[tactic(auto, using(crate::proofs::BoundLemmas::bounds))]
 #[unsafe(no_mangle)]
 pub extern "C" fn unix_path_with_file_name(path: &[u8], name: &[u8], out: &mut [u8]) -> usize
     ensures out { out.new ≡ buffer_after (with_name_of path.now name.now) out.old }
     ensures length { result ≡ length (with_name_of path.now name.now) }
+    ensures short { result ≤ length path.now + 1 + length name.now }
 {
     join_layout(before_name(Path { bytes: path }), Path { bytes: name }).write(out)
 }
@@ -224,6 +228,7 @@ pub extern "C" fn unix_path_with_file_name(path: &[u8], name: &[u8], out: &mut [
 /// whatever the extension is.
 ///
 /// `foo.rs/.` with the extension `txt` is `foo.txt`, of 7 bytes, and `..` stays `..`.
+#[tactic(auto, using(crate::proofs::BoundLemmas::bounds))]
 #[unsafe(no_mangle)]
 pub extern "C" fn unix_path_with_extension(path: &[u8], extension: &[u8], out: &mut [u8]) -> usize
     ensures answers { IsLength result ⊎ ((result ≡ separator) ⊎ (result ≡ too_long)) }
@@ -231,6 +236,7 @@ pub extern "C" fn unix_path_with_extension(path: &[u8], extension: &[u8], out: &
     ensures too_long { result ≡ too_long
         → too_long ≤ length (with_extension_of path.now extension.now) }
     ensures length { IsLength result → result ≡ length (with_extension_of path.now extension.now) }
+    ensures short { IsLength result → result ≤ length path.now + 1 + length extension.now }
     ensures out { has_slash extension.now ≡ false
         → out.new ≡ buffer_after (with_extension_of path.now extension.now) out.old }
     ensures kept { has_slash extension.now ≡ true → out.new ≡ out.old }
@@ -252,6 +258,7 @@ pub extern "C" fn unix_path_with_extension(path: &[u8], extension: &[u8], out: &
 /// As Rust's `Path::with_added_extension`, which panics for a separator.
 ///
 /// `foo.tar/.` with the extension `gz` added is `foo.tar.gz`, of 10 bytes, and `..` stays `..`.
+#[tactic(auto, using(crate::proofs::BoundLemmas::bounds))]
 #[unsafe(no_mangle)]
 pub extern "C" fn unix_path_with_added_extension(
     path: &[u8],
@@ -263,6 +270,7 @@ pub extern "C" fn unix_path_with_added_extension(
     ensures too_long { result ≡ too_long
         → too_long ≤ length (added_extension_of path.now extension.now) }
     ensures length { IsLength result → result ≡ length (added_extension_of path.now extension.now) }
+    ensures short { IsLength result → result ≤ length path.now + 1 + length extension.now }
     ensures out { has_slash extension.now ≡ false
         → out.new ≡ buffer_after (added_extension_of path.now extension.now) out.old }
     ensures kept { has_slash extension.now ≡ true → out.new ≡ out.old }

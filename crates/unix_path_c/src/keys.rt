@@ -1,5 +1,6 @@
 //! Keys of paths for ordered stores, in a buffer of the caller's.
-ghost use Rattle.std.specs.Prelude.{◌≡◌, ◌↔◌, ◌⊎◌, ◌<◌, ◌≤◌, ◌*◌, ℕ, List, [], length, IfSome};
+ghost use Rattle.std.specs.Prelude.{◌≡◌, ◌↔◌, ◌⊎◌, ◌<◌, ◌≤◌, ◌+◌, ◌*◌, ℕ, List, [], length};
+ghost use Rattle.std.specs.Prelude.{IfSome};
 ghost use Rattle.unix_path.specs.Parts.{values};
 ghost use Rattle.path_runs.specs.Buffer.{buffer_after};
 ghost use Rattle.path_runs.specs.Spelling.{spelling_of};
@@ -27,10 +28,12 @@ const NO_END: usize = usize::MAX - 5;
 /// pointer is null. Does not allocate. Not in Rust's std.
 ///
 /// For `/a` it is 00 01 61 00, of 4 bytes, and for the empty path it has no bytes.
+#[tactic(auto, using(crate::proofs::BoundLemmas::bounds))]
 #[unsafe(no_mangle)]
 pub extern "C" fn unix_path_key(path: &[u8], out: &mut [u8]) -> usize
     ensures out { out.new ≡ buffer_after (key_of (values path.now)) out.old }
     ensures length { result ≡ length (key_of (values path.now)) }
+    ensures short { result ≤ length path.now + 2 }
 {
     write_key(Path { bytes: path }, out)
 }

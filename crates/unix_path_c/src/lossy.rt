@@ -1,5 +1,5 @@
 //! The lossy text, in a buffer of the caller's.
-ghost use Rattle.std.specs.Prelude.{◌≡◌, ◌↔◌, ◌⊎◌, ◌≤◌, length};
+ghost use Rattle.std.specs.Prelude.{◌≡◌, ◌↔◌, ◌⊎◌, ◌≤◌, ◌*◌, length};
 ghost use Rattle.unix_bytes.specs.Chunks.{replacement_for};
 ghost use Rattle.unix_bytes.specs.Lossy.{lossy_of};
 ghost use Rattle.unix_path_c.specs.Refusals.{IsLength, too_long};
@@ -51,18 +51,21 @@ fn write_lossy(path: &[u8], out: &mut [u8])
 /// Writes the lossy text of a path to `out`, and gives how many bytes it has.
 ///
 /// It is the path itself if that is UTF-8 (RFC 3629 section 4); otherwise U+FFFD, of 3 bytes,
-/// stands for each broken front. If `out` has room for all of it, it stands at the beginning of
-/// `out`, and the bytes behind stay; else nothing is written. Lengths are in bytes. The answer is
-/// `UNIX_PATH_TOO_LONG` exactly if the text has more than `PTRDIFF_MAX` bytes, for which no buffer
-/// has room; only a path longer than a third of that can have such a text. `out` doesn't overlap
-/// the path, and no pointer is null. Does not allocate. As Rust's `Path::to_string_lossy`.
+/// stands for each broken front. So it has at most three times as many bytes as the path. If `out`
+/// has room for all of it, it stands at the beginning of `out`, and the bytes behind stay; else
+/// nothing is written. Lengths are in bytes. The answer is `UNIX_PATH_TOO_LONG` exactly if the text
+/// has more than `PTRDIFF_MAX` bytes, for which no buffer has room; only a path longer than a third
+/// of that can have such a text. `out` doesn't overlap the path, and no pointer is null. Does not
+/// allocate. As Rust's `Path::to_string_lossy`.
 ///
 /// For the bytes 61 FF it is `a` and U+FFFD, of 4 bytes.
+#[tactic(auto, using(crate::proofs::BoundLemmas::bounds))]
 #[unsafe(no_mangle)]
 pub extern "C" fn unix_path_to_string_lossy(path: &[u8], out: &mut [u8]) -> usize
     ensures answers { IsLength result ⊎ (result ≡ too_long) }
     ensures too_long { (result ≡ too_long) ↔ (too_long ≤ length (lossy_of path.now)) }
     ensures length { IsLength result → result ≡ length (lossy_of path.now) }
+    ensures short { IsLength result → result ≤ 3 * length path.now }
     ensures out { out.new ≡ buffer_after (lossy_of path.now) out.old }
     ensures long { result ≡ too_long → out.new ≡ out.old }
 {

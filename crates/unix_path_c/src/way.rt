@@ -36,8 +36,8 @@ const NO_WAY: usize = usize::MAX - 7;
 pub extern "C" fn unix_path_way(alloc: Global, from: &[u8], to: &[u8], out: &mut [u8]) -> usize
     ensures answers { IsLength result ⊎ ((result ≡ no_way) ⊎ (result ≡ no_memory)) }
     ensures no_way { result ≡ no_way → way_of (values from.now) (values to.now) ≡ None }
-    ensures length { IsLength result → Some result
-        ≡ option_map (λ steps. length (spelling_of steps)) (way_of (values from.now) (values to.now)) }
+    ensures length { IsLength result → Some result ≡ option_map
+        (λ steps. length (spelling_of steps)) (way_of (values from.now) (values to.now)) }
     ensures out { IsLength result → IfSome (way_of (values from.now) (values to.now))
         (λ steps. out.new ≡ buffer_after (spelling_of steps) out.old) }
     ensures succeeds { from.now ≡ to.now → result ≡ no_memory → ⊥ }

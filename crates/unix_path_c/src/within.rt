@@ -32,10 +32,10 @@ const NUL_IN_REQUEST: usize = usize::MAX - 3;
 /// dropped too, and so is `..` behind the root. Without a root, a `..` with no name before it stays
 /// in front.
 ///
-/// The answer is how many bytes that is. If `out` has room for them all they stand at its
-/// beginning, and what stood behind them stays; else nothing is written. `UNIX_PATH_NO_MEMORY` is
-/// the answer if an allocation fails, and then nothing is written either. `out` may not overlap the
-/// path.
+/// The answer is how many bytes that is, at most as many as the path has. If `out` has room for
+/// them all they stand at its beginning, and what stood behind them stays; else nothing is written.
+/// `UNIX_PATH_NO_MEMORY` is the answer if an allocation fails, and then nothing is written either.
+/// `out` may not overlap the path.
 ///
 /// It goes by names alone: if a part before a `..` may be a link, only the system knows where that
 /// `..` leads. An answer of no bytes stands for the current directory. Allocates once, as many
@@ -44,10 +44,12 @@ const NUL_IN_REQUEST: usize = usize::MAX - 3;
 /// 0.
 ///
 /// For `a/../..//b/.` it is `../b`, for `/../a` it is `/a`, and for `a/..` the empty path.
+#[tactic(auto, using(crate::proofs::BoundLemmas::bounds))]
 #[unsafe(no_mangle)]
 pub extern "C" fn unix_path_resolved(alloc: Global, path: &[u8], out: &mut [u8]) -> usize
     ensures answers { IsLength result ⊎ (result ≡ no_memory) }
     ensures length { IsLength result → result ≡ length (resolved_bytes_of path.now) }
+    ensures short { IsLength result → result ≤ length path.now }
     ensures out { IsLength result
         → out.new ≡ buffer_after (resolved_bytes_of path.now) out.old }
     ensures refused { result ≡ no_memory → out.new ≡ out.old }
@@ -60,16 +62,18 @@ pub extern "C" fn unix_path_resolved(alloc: Global, path: &[u8], out: &mut [u8])
 
 /// The request joined to the root, and resolved, so that it stays under the resolved root.
 ///
-/// The answer is how many bytes that is. If `out` has room for them all they stand at its
-/// beginning, and what stood behind them stays; else nothing is written. `UNIX_PATH_ESCAPES` is the
-/// answer exactly if the request climbs, before anything is allocated, and `UNIX_PATH_NO_MEMORY` if
-/// the allocation fails; in both cases nothing is written. `out` may overlap neither path.
+/// The answer is how many bytes that is, at most one more than both paths. If `out` has room for
+/// them all they stand at its beginning, and what stood behind them stays; else nothing is written.
+/// `UNIX_PATH_ESCAPES` is the answer exactly if the request climbs, before anything is allocated,
+/// and `UNIX_PATH_NO_MEMORY` if the allocation fails; in both cases nothing is written. `out` may
+/// overlap neither path.
 ///
 /// It goes by names alone: if a part of the root or of the request may be a link, only the system
 /// knows where the join leads. Allocates once, one byte more than both paths have, and frees what
 /// it allocates. C passes nothing for `alloc`. Not in Rust's std.
 ///
 /// `/srv/www` with `a/../b` is `/srv/www/b`, and with `a/../../x` it is refused.
+#[tactic(auto, using(crate::proofs::BoundLemmas::bounds))]
 #[unsafe(no_mangle)]
 pub extern "C" fn unix_path_join_within(
     alloc: Global,
@@ -81,6 +85,7 @@ pub extern "C" fn unix_path_join_within(
     ensures escapes { (result ≡ escapes) ↔ Climbs (values request.now) }
     ensures length { IsLength result
         → result ≡ length (resolved_bytes_of (join_of root.now request.now)) }
+    ensures short { IsLength result → result ≤ length root.now + 1 + length request.now }
     ensures out { IsLength result
         → out.new ≡ buffer_after (resolved_bytes_of (join_of root.now request.now)) out.old }
     ensures within { IsLength result → Begins (values (resolved_bytes_of root.now))
@@ -109,6 +114,7 @@ pub extern "C" fn unix_path_join_within(
 /// with a slash behind it. Does not allocate. Not in Rust's std; as `path_within`'s `join_plain`.
 ///
 /// `/srv/../www` with `./a` is `/srv/../www/./a`, and with `a/../b` it is refused.
+#[tactic(auto, using(crate::proofs::BoundLemmas::bounds))]
 #[unsafe(no_mangle)]
 pub extern "C" fn unix_path_join_plain(root: &[u8], request: &[u8], out: &mut [u8]) -> usize
     ensures answers { IsLength result ⊎ ((result ≡ escapes) ⊎ (result ≡ too_long)) }
@@ -153,9 +159,10 @@ fn read_request(path: Path<'_>, as_url: bool) -> Result<Request<'_>, RequestErro
 /// The request joined below the root: the root's bytes as they stand, and behind them the request's
 /// names, resolved, with a `/` between two of them and, where one is wanted, behind the root.
 ///
-/// The answer is how many bytes that is, or `UNIX_PATH_TOO_LONG` if that is more than
-/// `PTRDIFF_MAX`, which no buffer has. If `out` has room for them all they stand at its beginning,
-/// and what stood behind them stays; else nothing is written. `out` may overlap neither path.
+/// The answer is how many bytes that is, at most one more than both paths, or `UNIX_PATH_TOO_LONG`
+/// if that is more than `PTRDIFF_MAX`, which no buffer has. If `out` has room for them all they
+/// stand at its beginning, and what stood behind them stays; else nothing is written. `out` may
+/// overlap neither path.
 ///
 /// If `as_url` is false, the answer is `UNIX_PATH_ESCAPES` exactly if the request climbs: it has a
 /// root, or goes above where it starts. If `as_url` is true, the request is read as the path of a
@@ -169,6 +176,7 @@ fn read_request(path: Path<'_>, as_url: bool) -> Result<Request<'_>, RequestErro
 ///
 /// `/srv/www` with `a/../b` is `/srv/www/b`; with `/../a` it is `/srv/www/a` as a URL, and else
 /// refused.
+#[tactic(auto, using(crate::proofs::BoundLemmas::bounds))]
 #[unsafe(no_mangle)]
 pub extern "C" fn unix_path_join_below(
     root: &[u8],
@@ -187,6 +195,7 @@ pub extern "C" fn unix_path_join_below(
         → too_long ≤ length (below_of root.now (names_below (values request.now))) }
     ensures length { IsLength result
         → result ≡ length (below_of root.now (names_below (values request.now))) }
+    ensures short { IsLength result → result ≤ length root.now + 1 + length request.now }
     ensures out { IsLength result
         → out.new ≡ buffer_after (below_of root.now (names_below (values request.now))) out.old }
     ensures below { IsLength result

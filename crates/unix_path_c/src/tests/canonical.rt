@@ -34,8 +34,8 @@ static SPELLINGS: [(&'static [u8], &'static [u8]); 27] = [
     (b"/./a\xffb", b"/a\xffb"),
 ];
 
-// Whether the path's canonical spelling is written, if there is room for it, and is told from a path
-// that isn't spelled so.
+// Whether the path's canonical spelling is written, if there is room for it, and is told from a
+// path that isn't spelled so.
 fn is_spelled(row: &(&[u8], &[u8])) -> bool {
     is_answered(|out| unix_path_canonical(row.0, out), row.1.len(), row.1)
         && unix_path_is_canonical(row.0) == (row.0 == row.1)

@@ -9,7 +9,8 @@ const OLD_CHUNK: Chunk = Chunk {
     broken_length: 80,
 };
 
-// Bytes, and of each chunk where it starts, how many bytes of text it has, and how many broken ones.
+// Bytes, and of each chunk where it starts, how many bytes of text it has, and how many broken
+// ones.
 static CHUNKS: [(&[u8], &[(usize, usize, usize)]); 12] = [
     (b"", &[]),
     (b"a/b", &[(0, 3, 0)]),

@@ -1,9 +1,8 @@
-use Rattle.std.proofs.Common.{sym, ap, ◌∙◌, arith}
+use Rattle.std.proofs.Common.{sym, ap, ◌∙◌}
 use Rattle.unix_path.specs.Parts.{values}
 use Rattle.path_runs.specs.JoinLaws.{values_added}
 use Rattle.path_runs.proofs.LeadLemmas.{values-join_of_values_added}
 use Rattle.path_within.specs.Climbs.{has_root_or_up}
-use Rattle.path_within.proofs.BoundLemmas.{length-join_of}
 use Rattle.path_within.proofs.RequestLemmas.{request_rootless}
 use Rattle.unix_path_c.proofs.within.unix_path_join_plain.Goals as goal
 
@@ -15,11 +14,3 @@ returns-clause-within c = λ _.
     (ap (λ s. has_root_or_up (values s)) (sym c.from_bytes.ensures.bytes)
     ∙ sym c.has_root_or_up.ensures ∙ c.if-has_root_or_up.false) in
     (values_added root request, sym (values-join_of_values_added root request plain))
-
-pub returns-clause-short : goal.returns-clause-short
-returns-clause-short c = λ _. omega (
-  arith,
-  c.told_len.ensures,
-  c.unix_path_join.ensures.length,
-  length-join_of c.args.root.now c.args.request.now,
-)
