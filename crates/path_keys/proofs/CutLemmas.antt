@@ -2,9 +2,11 @@
 use Rattle.std.proofs.Common.{◌≡◌, ◌≤◌, ◌+◌, ◌-◌, ℕ, List, [], ◌∷◌, ◌++◌}
 use Rattle.std.proofs.Common.{length, take, drop, refl, sym, ap, ap₂, ◌∙◌, arith, subst, ◌<◌}
 use Rattle.std.proofs.Common.{length-append, length-take-le, take_all, append_assoc, append-nil}
+use Rattle.std.proofs.Common.{◌*◌, zero, suc}
 use Rattle.std.proofs.Common.{⊎_elim, map, length-drop}
 use Rattle.std.proofs.lemmas.Bool.{cases_lt}
-use Rattle.std.proofs.lemmas.List.{length-map, take_at, take-take, take-append-le, drop-take, drop_all}
+use Rattle.std.proofs.lemmas.List.{length-map, take_at, take_rest, take-take, take-append-le}
+use Rattle.std.proofs.lemmas.List.{drop-take, drop_all}
 use Rattle.std.proofs.Math.Seq.{take-append-add}
 use Rattle.unix_path.specs.Parts.{Value, slash, values}
 use Rattle.path_runs.specs.Overlay.{overlay}
@@ -13,7 +15,7 @@ use Rattle.std.specs.Borrow.{Bor}
 use Rattle.path_keys.specs.Keys.{code, key_of}
 use Rattle.path_keys.specs.Codes.{text_of, HasPath, IsRead, ReadsAs}
 use Rattle.path_keys.specs.Runs.{decoded, lead_text, run_code, run_text, BeginsLead}
-use Rattle.path_keys.specs.Runs.{HoldsNone, LeavesText, TakesRun}
+use Rattle.path_keys.specs.Runs.{ups, BeginsUps, HoldsNone, LeavesText, TakesRun}
 use Rattle.path_keys.specs.declared.runs.Lead.{Lead}
 use Rattle.path_keys.specs.declared.runs.Run.{Run}
 use Rattle.path_keys.specs.declared.runs.Run.TheVariants.{Up, Names}
@@ -24,7 +26,9 @@ use Rattle.path_keys.proofs.PlainLemmas.{plain_left}
 use Rattle.path_keys.proofs.KeyReadLemmas.{spelled_read}
 use Rattle.path_keys.proofs.SpellLemmas.{SpellsOn, spells_lead, spells_room, spells_one, spells_all}
 use Rattle.path_keys.proofs.SpellLemmas.{spells_long}
-use Rattle.path_keys.proofs.TextLemmas.{IsText, lone, longer, text_is, ups_text_len}
+use Rattle.path_keys.proofs.TextLemmas.{IsText, lone, longer, text_is, text_of-nil, ups_key_len}
+use Rattle.path_keys.proofs.TextLemmas.{ups_text_len}
+use Rattle.path_keys.proofs.UpRunLemmas.{ups_put_none, ups_run}
 
 -- bytes that are put in a buffer of which a front is kept are put in that, as far as they go
 overlay-take : (at m : ℕ) (bytes old : List ℕ) → at + m ≤ length old
@@ -120,7 +124,8 @@ cut_lead {key} {rest} {old} {out} {lead} {at} h k placed ends =
           spelled,
           ap length e,
           length-append (spelling_of (values h.path)) (slash ∷ []),
-        ))) (omega (arith, long)) (omega (arith, long)) (sym (take_at old (0 ∷ []) (length old) refl))
+        ))) (omega (arith, long)) (omega (arith, long))
+        (sym (take_at old (0 ∷ []) (length old) refl))
 
 -- the text of what is left of the key has at most a byte more than there is room
 pub cut_leaves : {key rest old out : List ℕ} {at : ℕ}
@@ -180,6 +185,50 @@ cut_one {key} {rest} {old} {out} {more} {new} {at} {end} {run} h k e placed ends
           ∙ ap (λ k. take k (overlay at (run_text run) h.wide_out)) whole;
     }
 
+-- each `..` that stands first is written, as far as there is room, and there is that
+pub cut_ups_room : {key rest old out : List ℕ} {at : ℕ} (n : ℕ) → SpellsCut key rest old at out
+    → BeginsUps rest n → at + 3 * n ≤ length old + 1
+cut_ups_room zero h up = omega (arith, (cut_leaves h).0)
+cut_ups_room {key} {rest} {old} {out} {at} (suc n) h up =
+    let one : suc n ≡ n + 1 = omega arith in
+    omega (
+      arith,
+      cut_room h (ups_run rest n (subst (BeginsUps rest) one up)),
+      ups_text_len (n + 1),
+    )
+
+cut_ups : {key rest old out more new : List ℕ} {at end : ℕ} (n : ℕ)
+    → SpellsCut key rest old at out → BeginsUps rest n → more ≡ drop (2 * n) rest
+    → new ≡ overlay at (take (length old - at) (text_of (ups n))) out
+    → end ≡ at + 3 * n → SpellsCut key more old end new
+cut_ups {key} {rest} {old} {out} {more} {new} {at} {end} zero h up e placed ends =
+    subst (λ r. SpellsCut key r old end new) (sym e)
+    (subst (λ o. SpellsCut key rest old end o) (nothing ∙ sym placed)
+    (subst (λ k. SpellsCut key rest old k out) {x = at} {y = end} (omega (arith, ends)) h))
+  where
+    nothing : out ≡ overlay at (take (length old - at) (text_of (ups 0))) out
+    nothing = ups_put_none at out ∙ ap (λ t. overlay at t out) (text_of-nil
+        ∙ sym (take_all (length old - at) [] (omega arith))
+        ∙ ap (take (length old - at)) (sym text_of-nil))
+cut_ups {key} {rest} {old} {out} {more} {new} {at} {end} (suc n) h up e placed ends =
+    let one : suc n ≡ n + 1 = omega arith in
+    cut_one h (ups_run rest n (subst (BeginsUps rest) one up))
+    (e ∙ ap (λ k. drop k rest) {x = 2 * suc n} {y = length (key_of (ups (n + 1)))}
+    (omega (arith, ups_key_len (n + 1))))
+    (placed ∙ ap (λ k. overlay at (take (length old - at) (text_of (ups k))) out) one)
+    (omega (arith, ends, ups_text_len (n + 1)))
+
+-- the lead and each `..` behind it are written, as far as there is room
+pub cut_started : {key rest old out new : List ℕ} {lead : Lead} {at : ℕ} (n : ℕ)
+    → HasPath key (length old) → BeginsLead key rest lead
+    → out ≡ overlay 0 (take (length old) (lead_text lead)) old → length out ≡ length old
+    → at ≡ length (lead_text lead) → BeginsUps rest n
+    → new ≡ overlay at (take (length out - at) (text_of (ups n))) out
+    → SpellsCut key (take (length rest - 2 * n) (drop (2 * n) rest)) old (at + 3 * n) new
+cut_started {key} {rest} {old} {out} {new} {lead} {at} n p begins placed same ends up puts =
+    cut_ups n (cut_lead p begins placed ends) up (take_rest rest (2 * n))
+    (puts ∙ ap (λ k. overlay at (take (k - at) (text_of (ups n))) out) same) refl
+
 -- if no run is left, the path is written
 pub cut_all : {key rest old out : List ℕ} {at : ℕ}
     → SpellsCut key rest old at out → HoldsNone rest → HasPath key (length old)
@@ -206,7 +255,7 @@ cut_all {key} {rest} {old} {out} {at} h none p = subst (IsRead key) (sym is)
     is = text ∙ by (text_is vs (values-fit p.path))
 
 -- nothing is the key of no values
-nothing_none : (s : List ℕ) → length s ≤ 0 → HoldsNone s
+pub nothing_none : (s : List ℕ) → length s ≤ 0 → HoldsNone s
 nothing_none s l v vs fit e = omega (
   arith,
   l,
@@ -216,8 +265,8 @@ nothing_none s l v vs fit e = omega (
   code-length v,
 )
 
--- if what is left has as many bytes as there is room for its text, and these are put there as names,
--- the path is written
+-- if what is left has as many bytes as there is room for its text, and these are put there as
+-- names, the path is written
 pub cut_plain : {key rest old out new : List ℕ} {at : ℕ} (b : Bor (List ℕ))
     → SpellsCut key rest old at out → length rest ≡ length old + 1 - at → 0 < length rest
     → new ≡ overlay at (map decoded (take (length old - at) rest)) out

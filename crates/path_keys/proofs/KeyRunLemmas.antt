@@ -22,7 +22,8 @@ use Rattle.path_keys.specs.declared.runs.Run.TheVariants.{Names}
 use Rattle.path_keys.specs.Stretches.{coded, is_stop, is_stop_of, none_begins, FirstStopOf}
 use Rattle.path_keys.proofs.StopLemmas.{no_name, no_name-same, none_begins-take, stop_end}
 use Rattle.path_keys.proofs.StopLemmas.{stop_mark, unstopped_to}
-use Rattle.path_keys.proofs.StretchLemmas.{all_pieces_names, names_of-names, some_piece, stretch_key}
+use Rattle.path_keys.proofs.StretchLemmas.{all_pieces_names, names_of-names, some_piece}
+use Rattle.path_keys.proofs.StretchLemmas.{stretch_key}
 use Rattle.path_keys.proofs.TextLemmas.{text_of-slashed}
 
 coded-decoded : (b : ℕ) → coded (decoded b) ≡ b

@@ -143,5 +143,5 @@ pub plain_left : (bytes : Bor (List ℕ)) (s : List ℕ) (room : ℕ) → Leaves
     → length s ≡ room → 0 < length s → bytes.now ≡ take (length s - 1) s
     → TakesRun s (Names bytes)
 plain_left bytes s room h long l is =
-    all_names bytes s h.ws (are_names h.ws h.fit (omega (arith, h.short, long, ap length h.rest_is)))
-    h.rest_is l is
+    all_names bytes s h.ws
+    (are_names h.ws h.fit (omega (arith, h.short, long, ap length h.rest_is))) h.rest_is l is

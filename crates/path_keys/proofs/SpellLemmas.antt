@@ -77,8 +77,8 @@ next_is {rest} {run} ws h e k =
     let left = drop (length (run_code run)) rest in
     let whole : key_of k.vs ++ left ≡ key_of ws =
     ap (λ c. c ++ left) k.code_is ∙ sym k.is ∙ e in
-    let begins = key_of-begins k.vs ws (AllFit-coded false k.vs k.fit) (AllFit-coded false ws h) left
-    whole in
+    let begins = key_of-begins k.vs ws (AllFit-coded false k.vs k.fit) (AllFit-coded false ws h)
+    left whole in
     record {
       more = begins.0;
       is = sym begins.1;

@@ -97,7 +97,8 @@ none_begins-take m p s n i l e few = ⊎_elim inside at_end (cases_lt i n)
 
     at_end : n ≤ i → Same
     at_end past = no_name-first m p (get_or (take n s) (i + 1) m) (get_or (take n s) (i + 2) m)
-        (get_or s (i + 1) m) (get_or s (i + 2) m) (front_past m s n i l past) (mark_at i (omega arith))
+        (get_or s (i + 1) m) (get_or s (i + 2) m) (front_past m s n i l past)
+        (mark_at i (omega arith))
 
     inside : i < n → Same
     inside low = ⊎_elim

@@ -145,7 +145,8 @@ first_name (y ∷ s) p ps e is =
     }
 
 -- the pieces behind the first of a string without a stop are names
-pub later_names : (s : List ℕ) → Unstopped s → AllByRecursion IsName (later (slice_split is_slash s))
+pub later_names : (s : List ℕ) → Unstopped s
+    → AllByRecursion IsName (later (slice_split is_slash s))
 later_names [] h = tt
 later_names (x ∷ s) h = by_test (eqb x 47)
     (λ e.

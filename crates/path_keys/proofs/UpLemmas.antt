@@ -1,7 +1,8 @@
 -- Each `..` that stands first in a path, in a key.
 use Rattle.std.proofs.Common.{◌≡◌, ◌≤◌, ◌+◌, ◌*◌, ℕ, true, false, cond, eqb, List, []}
 use Rattle.std.proofs.Common.{◌∷◌, ◌++◌, length, take, drop, map, get_or, refl, sym, ap, ap₂, ◌∙◌}
-use Rattle.std.proofs.Common.{arith, append-nil, append_assoc, eqb-true, ◌&&◌, ⊎_elim, take_all}
+use Rattle.std.proofs.Common.{arith, append-nil, append_assoc, eqb-true, ◌&&◌, ⊎_elim, subst}
+use Rattle.std.proofs.Common.{take_all}
 use Rattle.std.proofs.Common.{length-append, length-take-le, length-drop}
 use Rattle.std.proofs.lemmas.Bool.{and_parts, cases_lt}
 use Rattle.std.proofs.lemmas.List.{drop-drop, take-append-drop}
@@ -148,7 +149,8 @@ five_first t =
     (up (codes "../" ++ t) ∙ ap (λ k. (0 ∷ 3 ∷ []) ++ k) (up t))))
   where
     up : (r : List ℕ)
-        → key_of (inner_values (codes "/../" ++ r)) ≡ (0 ∷ 3 ∷ []) ++ key_of (inner_values (slash ∷ r))
+        → key_of (inner_values (codes "/../" ++ r))
+        ≡ (0 ∷ 3 ∷ []) ++ key_of (inner_values (slash ∷ r))
     up r = slash_up_key (codes "/../" ++ r) (record {
       some = omega arith;
       slash_first = refl;
@@ -171,3 +173,14 @@ five_long s e = ⊎_elim
     (λ few. absurd (omega (arith, ap length (sym (take_all 16 s (omega arith)) ∙ e))))
     (λ enough. enough)
     (cases_lt (length s) 16)
+
+-- a slash and `..` before another slash
+pub up_slashed : (s : List ℕ) → take 4 s ≡ codes "/../" → IsUp s
+up_slashed s e = subst IsUp (sym whole) (record {
+  some = omega arith;
+  slash_first = refl;
+  up = refl;
+})
+  where
+    whole : s ≡ codes "/../" ++ drop 4 s
+    whole = sym (take-append-drop 4 s) ∙ ap (λ t. t ++ drop 4 s) e

@@ -160,7 +160,8 @@ pub ups_put_more : (at n k : ℕ) (old out new : List ℕ) → at ≤ length old
 ups_put_more at n k old out new l is placed =
     placed ∙ ap₂ (λ j o. overlay (at + j) (text_of (ups k)) o) (sym (ups_text_len n)) is
     ∙ overlay-overlay at (text_of (ups n)) (text_of (ups k)) old l
-    ∙ ap (λ t. overlay at t old) (sym (ap text_of (ups_append n k) ∙ text_of-append (ups n) (ups k)))
+    ∙ ap (λ t. overlay at t old)
+    (sym (ap text_of (ups_append n k) ∙ text_of-append (ups n) (ups k)))
 
 -- one more `../` is put
 pub ups_put_one : (at n : ℕ) (old out new : List ℕ) → at ≤ length old

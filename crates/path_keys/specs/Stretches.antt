@@ -19,8 +19,8 @@ is_break_of mark point s i =
 abbrev pub HasFewBits : ℕ → ℕ → Type 0
 HasFewBits mark point = (bit_and mark 208 ≡ 0) × (bit_and point 208 ≡ 0)
 
--- at i no name begins, of pieces that stand between these marks: the piece there is empty, the point
--- alone, or two of them
+-- at i no name begins, of pieces that stand between these marks: the piece there is empty, the
+-- point alone, or two of them
 abbrev pub none_begins : ℕ → ℕ → List ℕ → ℕ → Bool
 none_begins mark point s i =
     let first = slice_index_or s i mark in

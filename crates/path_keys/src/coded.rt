@@ -73,7 +73,8 @@ fn place_quarter(out: &mut [u8], to: usize, bytes: &[u8], from: usize)
         .copy_to_slice(&mut out[to..]);
 }
 
-// Overwrites the bytes of `out` from `at` on with those of the stretch, fewer than 8 bytes, in a key.
+// Overwrites the bytes of `out` from `at` on with those of the stretch, fewer than 8 bytes, in a
+// key.
 #[inline(always)]
 fn place_tiny(out: &mut [u8], at: usize, bytes: &[u8])
     requires room { at + length bytes.now ≤ length out.old }

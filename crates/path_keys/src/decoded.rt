@@ -77,8 +77,8 @@ fn place_quarter(out: &mut [u8], to: usize, names: &[u8], from: usize)
         .copy_to_slice(&mut out[to..]);
 }
 
-// Overwrites the bytes of `out` from `at` on with those of the names, fewer than 8 bytes, that stand
-// like this in a key.
+// Overwrites the bytes of `out` from `at` on with those of the names, fewer than 8 bytes, that
+// stand like this in a key.
 #[inline(always)]
 fn place_tiny(out: &mut [u8], at: usize, names: &[u8])
     requires room { at + length names.now ≤ length out.old }

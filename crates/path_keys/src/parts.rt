@@ -138,18 +138,30 @@ fn names_len(bytes: &[u8]) -> usize
     first_stop(bytes, b'/', b'.')
 }
 
-// Whether a slash stands first, and the piece behind it is `..`.
+// As `is_up`, byte by byte.
 #[inline(always)]
-fn is_up(bytes: &[u8]) -> bool
+fn is_short_up(bytes: &[u8]) -> bool
     ensures { IsTrue result → IsUp bytes.now }
 {
-    if bytes.len() < 2 {
+    if bytes.len() < 3 {
         return false;
     }
     if bytes[0] != b'/' {
         return false;
     }
     begins_with_parent(&bytes[1..])
+}
+
+// Whether a slash stands first, and the piece behind it is `..`.
+#[inline(always)]
+fn is_up(bytes: &[u8]) -> bool
+    ensures { IsTrue result → IsUp bytes.now }
+{
+    if bytes.len() < 4 {
+        return is_short_up(bytes);
+    }
+    let up = u8x4::from_array(*b"/../");
+    u8x4::from_slice(bytes).simd_eq(up).to_bitmask() == 15
 }
 
 // Whether five `..` stand first, with one slash before each, and another behind them.

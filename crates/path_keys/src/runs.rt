@@ -100,8 +100,8 @@ impl<'a> Run<'a> {
     }
 }
 
-// The names that stand first, up to a mark or the end; `None` if no name does, or no end mark stands
-// behind the last of them, and the bytes are no key.
+// The names that stand first, up to a mark or the end; `None` if no name does, or no end mark
+// stands behind the last of them, and the bytes are no key.
 #[inline(always)]
 fn names_in(bytes: &[u8]) -> Option<Run<'_>>
     requires { BeginsUps bytes.now 1 → ⊥ }
@@ -162,7 +162,7 @@ fn up_fours(bytes: &[u8]) -> usize
 
 // How many marks of a `..` stand first, one behind the other.
 #[inline(always)]
-fn up_count(bytes: &[u8]) -> usize
+pub(crate) fn up_count(bytes: &[u8]) -> usize
     ensures ups { BeginsUps bytes.now result }
     ensures other { result ≡ 0 → BeginsUps bytes.now 1 → ⊥ }
 {

@@ -8,7 +8,7 @@ ghost use Rattle.path_keys.specs.Codes.{slashed, text_of, HasPath, IsRead, Reads
 ghost use Rattle.path_keys.specs.Runs.{decoded, lead_text, run_text, ups};
 
 use crate::decoded::place_decoded;
-use crate::runs::{Lead, Run, next_run, past_lead, run_in};
+use crate::runs::{Lead, Run, next_run, past_lead, run_in, up_count};
 
 // Overwrites the bytes of `out` from `at` on with `bytes`, as many as there is room for.
 #[inline(always)]
@@ -160,7 +160,7 @@ fn text_len(key: &[u8]) -> Option<usize>
 }
 
 // How many bytes the path of a key has; `None` if it is the key of no path.
-#[inline]
+#[inline(always)]
 pub(crate) fn path_len(key: &[u8]) -> Option<usize>
     ensures some { IfSome result (λ len. HasPath key.now len) }
     ensures none { result ≡ None → IsKey key.now → ⊥ }
@@ -175,7 +175,7 @@ pub(crate) fn path_len(key: &[u8]) -> Option<usize>
     Some(len)
 }
 
-// As `write_text`, run by run.
+// As `write_text`, of any key, run by run.
 #[inline(never)]
 fn write_runs(key: &[u8], out: &mut [u8])
     requires { HasPath key.now (length out.old) }
@@ -192,6 +192,31 @@ fn write_runs(key: &[u8], out: &mut [u8])
     }
 }
 
+// As `write_text`. In most keys with a `..` each stands before all names, and these are put there
+// as those of other keys are.
+#[inline(never)]
+fn write_ups(key: &[u8], out: &mut [u8])
+    requires { HasPath key.now (length out.old) }
+    ensures { IsRead key.now out.new }
+{
+    let started = past_lead(key);
+    place_lead(out, started.lead);
+    let first = started.lead.len_in_path();
+    let ups = up_count(started.rest);
+    place_up_run(out, first, ups);
+    let rest = &started.rest[2 * ups..];
+    let at = first + 3 * ups;
+    let room = out.len() + 1 - at;
+    if rest.len() != room {
+        write_runs(key, out);
+        return;
+    }
+    if room == 0 {
+        return;
+    }
+    place_decoded(out, at, &rest[..room - 1]);
+}
+
 // Writes the path of a key over all of `out`.
 #[inline(always)]
 pub(crate) fn write_text(key: &[u8], out: &mut [u8])
@@ -200,11 +225,14 @@ pub(crate) fn write_text(key: &[u8], out: &mut [u8])
 {
     let started = past_lead(key);
     place_lead(out, started.lead);
+    if started.rest.is_empty() {
+        return;
+    }
     let at = started.lead.len_in_path();
     let room = out.len() + 1 - at;
     // Most keys are names alone behind a lead, as many bytes as their text.
-    if started.rest.len() != room || room == 0 {
-        write_runs(key, out);
+    if started.rest.len() != room {
+        write_ups(key, out);
         return;
     }
     place_decoded(out, at, &started.rest[..room - 1]);

@@ -34,8 +34,9 @@ fn is_stop(bytes: &[u8], at: usize, mark: u8, point: u8) -> bool
     bytes[at] == mark && none_begins(bytes, at + 1, mark, point)
 }
 
-// Whether one of the 16 bytes from `at` on is a mark with one of a few bytes behind it, among which
-// are the mark and the point, and to which names in paths seldom begin. Else none of them is a stop.
+// Whether one of the 16 bytes from `at` on is a mark with one of a few bytes behind it. The mark and
+// the point are among these, and names in paths seldom begin with one of them. Else none of the 16
+// is a stop.
 #[inline(always)]
 fn may_break(bytes: &[u8], at: usize, mark: u8, point: u8) -> bool
     requires room { at + 17 ≤ length bytes.now }
@@ -49,8 +50,8 @@ fn may_break(bytes: &[u8], at: usize, mark: u8, point: u8) -> bool
     (here | next).simd_eq(u8x16::splat(0)).to_bitmask() != 0
 }
 
-// How many of the 8 bytes from `at` on stand before the first that is a mark with another behind it,
-// or with the point; 8 if none is.
+// How many of the 8 bytes from `at` on stand before the first that is a mark with another behind
+// it, or with the point; 8 if none is.
 #[inline(always)]
 fn unbroken_in_half(bytes: &[u8], at: usize, mark: u8, point: u8) -> usize
     requires { at + 9 ≤ length bytes.now }
@@ -162,8 +163,8 @@ fn unstopped_len(bytes: &[u8], mark: u8, point: u8) -> usize
 }
 
 // The place of the first stop, or the length if there is none. The bytes are searched 16 at a time,
-// and one by one from the place where that search ends. In a path the mark is a slash, and the point
-// a dot; in a key they are the bytes that stand for these, 0 and a slash.
+// and one by one from the place where that search ends. In a path the mark is a slash, and the
+// point a dot; in a key they are the bytes that stand for these, 0 and a slash.
 #[inline(always)]
 pub(crate) fn first_stop(bytes: &[u8], mark: u8, point: u8) -> usize
     requires { HasFewBits mark point }

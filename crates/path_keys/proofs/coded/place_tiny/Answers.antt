@@ -18,5 +18,5 @@ returns c =
     let fewer = put_fewer coded bytes out at 4 last c.place_quarter.new.out front (omega arith)
     (omega arith) c.requires.room in
     put_all coded bytes out at (last + 4) _
-    (put_many 4 coded bytes out at last c.place_quarter.new.out _ fewer (omega arith) c.requires.room
-    c.place_quarter-2.ensures) (omega arith)
+    (put_many 4 coded bytes out at last c.place_quarter.new.out _ fewer (omega arith)
+    c.requires.room c.place_quarter-2.ensures) (omega arith)

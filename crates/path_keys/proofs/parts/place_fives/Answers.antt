@@ -19,5 +19,5 @@ loop-rest-preserved c =
     let s = c.loop-rest.rest.now in
     let five = c.loop-rest-test.ensures refl in
     ups_more 5 (0 ∷ 3 ∷ 0 ∷ 3 ∷ 0 ∷ 3 ∷ 0 ∷ 3 ∷ 0 ∷ 3 ∷ []) c.loop-rest.invariant
-    (five_key s five) refl (omega (arith, five_long s five)) (omega (arith, c.requires)) (take_rest s 15)
-    c.place_five_ups.ensures
+    (five_key s five) refl (omega (arith, five_long s five)) (omega (arith, c.requires))
+    (take_rest s 15) c.place_five_ups.ensures

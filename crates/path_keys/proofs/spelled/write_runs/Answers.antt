@@ -8,7 +8,8 @@ use Rattle.path_keys.proofs.RunReadLemmas.{code_small, run_small, run_within}
 use Rattle.path_keys.proofs.spelled.write_runs.Goals as goal
 
 pub loop-run-init : goal.loop-run-init
-loop-run-init c = cut_lead c.requires c.past_lead-started.ensures c.place_lead.ensures c.len_in_path-at.ensures
+loop-run-init c =
+    cut_lead c.requires c.past_lead-started.ensures c.place_lead.ensures c.len_in_path-at.ensures
 
 pub next_run-requires : goal.next_run-requires
 next_run-requires c =
@@ -17,11 +18,21 @@ next_run-requires c =
 
 pub place_run-requires : goal.place_run-requires
 place_run-requires c =
-    omega (arith, c.loop-run.auto.out, c.place_lead.auto.out, cut_room c.loop-run.invariant c.in-Some.ensures.some)
+    omega (
+      arith,
+      c.loop-run.auto.out,
+      c.place_lead.auto.out,
+      cut_room c.loop-run.invariant c.in-Some.ensures.some,
+    )
 
 pub text_len-at-requires : goal.text_len-at-requires
 text_len-at-requires c =
-    omega (arith, c.loop-run.auto.out, c.place_lead.auto.out, cut_room c.loop-run.invariant c.in-Some.ensures.some)
+    omega (
+      arith,
+      c.loop-run.auto.out,
+      c.place_lead.auto.out,
+      cut_room c.loop-run.invariant c.in-Some.ensures.some,
+    )
 
 pub len-requires : goal.len-requires
 len-requires c = omega (
