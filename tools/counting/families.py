@@ -150,6 +150,7 @@ PATHS = [
     ("plain", lambda n: (plain(n), b""), EDGES, "key"),
     ("rooted", lambda n: (b"/" + plain(n - 1), b""), EDGES, "key"),
     ("dotted_names", lambda n: (cut(n, b"a.b-c/"), b""), EDGES, "key"),
+    ("hidden_names", lambda n: (cut(n, b".config/"), b""), EDGES, "key"),
     ("gap_each", lambda n: (cut(n, b"a/./"), b""), EDGES, "key"),
     ("double_slashes", lambda n: (cut(n, b"abcdefghijklmnop//"), b""), EDGES, "key"),
     ("ups", lambda n: (cut(n, b"../"), b""), EDGES, "key"),
@@ -161,6 +162,7 @@ KEYS = [
     ("key_plain", lambda n: plain(n).replace(b"/", b"\0") + b"\0", EDGES),
     ("key_rooted", lambda n: b"\0\1" + plain(n).replace(b"/", b"\0") + b"\0", EDGES),
     ("key_dotted_names", lambda n: cut(n, b"a/b.c\0"), EDGES),
+    ("key_hidden_names", lambda n: cut(n, b"/config\0"), EDGES),
     ("key_ups", lambda n: cut(n, b"\0\3"), EDGES),
     ("no_key", plain, EDGES),
 ]
