@@ -7,7 +7,7 @@ mod ranges;
 mod sorted;
 
 use path_keys::PathKey;
-use path_tree::PathTree;
+use path_tree::{LookupError, PathTree};
 use std::alloc::{AllocError, Global};
 use std::test::Fail;
 use unix_path::Path;
@@ -102,6 +102,18 @@ fn long_paths_are_found(rt: HostRuntime) -> Result<(), Fail> {
     Ok(())
 }
 
+// Whether 8 stands at `a/b`, is written as 9 and then as 8 by paths, and `./a/b` is absent.
+fn writes_by_path(tree: &mut PathTree<u32>) -> bool {
+    for (path, old, new) in [("a//b", 8u32, 9u32), ("./a/b", 0, 0), ("a/b/.", 9, 8)] {
+        match tree.get_mut_path(Path::from_text(path)) {
+            Ok(value) if *value == old => *value = new,
+            Err(LookupError::Absent) if old == 0 => {}
+            _ => return false,
+        }
+    }
+    true
+}
+
 // Whether the tree, of `a.b` and `a//b`, has one entry for all spellings of a path.
 fn has_one_entry(alloc: Global, tree: &mut PathTree<u32>) -> Result<bool, AllocError> {
     let key = PathKey::of(alloc, Path::from_text("a/./b"))?;
@@ -109,7 +121,7 @@ fn has_one_entry(alloc: Global, tree: &mut PathTree<u32>) -> Result<bool, AllocE
     if let Some(value) = tree.get_mut(&key) {
         *value = 8;
     }
-    let is_written = has_at(alloc, tree, b"a/b", Some(8))?;
+    let is_written = has_at(alloc, tree, b"a/b", Some(8))? && writes_by_path(tree);
     let is_taken = tree.remove(&key) == Some(8) && tree.remove(&key) == None;
     Ok(before && is_written && is_taken && tree.len() == 1)
 }

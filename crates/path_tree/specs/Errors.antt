@@ -1,5 +1,8 @@
 -- What the errors of trees are printed as. Not in Rust's std.
 use Rattle.std.specs.Prelude.{ℕ, List, codes}
+use Rattle.path_tree.specs.declared.tree.lookup.LookupError.{LookupError}
+use Rattle.path_tree.specs.declared.tree.lookup.LookupError.TheVariants.{Absent}
+use Rattle.path_tree.specs.declared.tree.lookup.LookupError.TheVariants as lookup_errors
 use Rattle.path_tree.specs.declared.tree.sorted.SortedError.{SortedError}
 use Rattle.path_tree.specs.declared.tree.sorted.SortedError.TheVariants.{Memory, NotRising}
 
@@ -7,3 +10,8 @@ use Rattle.path_tree.specs.declared.tree.sorted.SortedError.TheVariants.{Memory,
 abbrev pub sorted_error_text : SortedError → List ℕ
 sorted_error_text NotRising = codes "the paths don't rise"
 sorted_error_text (Memory error) = codes "out of memory"
+
+-- what an error of a look-up is printed as
+abbrev pub lookup_error_text : LookupError → List ℕ
+lookup_error_text Absent = codes "no such path"
+lookup_error_text (lookup_errors.Memory error) = codes "out of memory"

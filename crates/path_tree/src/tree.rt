@@ -18,12 +18,14 @@ mod changed;
 mod children;
 mod difference;
 mod entries;
+mod lookup;
 mod many;
 mod nearest;
 mod ranges;
 mod sorted;
 
 use crate::made::{MadeKey, bytes_of, owned_key};
+pub use lookup::LookupError;
 use path_keys::PathKey;
 pub use sorted::SortedError;
 use std::alloc::{AllocError, Global};

@@ -3,7 +3,7 @@
 use super::super::path;
 use super::report;
 use path_keys::PathKey;
-use path_tree::{PathTree, SortedError};
+use path_tree::{LookupError, PathTree, SortedError};
 use std::alloc::{AllocError, Global};
 use std::test::Fail;
 use unix_path::Path;
@@ -68,6 +68,17 @@ fn tree_path_removed(rt: HostRuntime) -> Result<(), Fail> {
     match tree.remove_path(Path::from_bytes(&name)) {
         Ok(found) => report(true, found == Some(1) && tree.len() == 1),
         Err(AllocError) => report(false, is_as_before(&tree, &key)),
+    }
+}
+
+#[test]
+fn tree_path_lent(rt: HostRuntime) -> Result<(), Fail> {
+    let name = long_name(rt.alloc())?;
+    let mut tree = tree_with(rt.alloc(), &name)?;
+    match tree.get_mut_path(Path::from_bytes(&name)) {
+        Ok(value) => report(true, *value == 1),
+        Err(LookupError::Memory(AllocError)) => report(false, tree.len() == 2),
+        Err(LookupError::Absent) => report(true, false),
     }
 }
 
