@@ -1,7 +1,7 @@
 -- What edits leave of the first bytes of a path, and which edits change nothing.
-use Rattle.std.proofs.Common.{◌≡◌, ℕ, zero, suc, ◌+◌, ◌-◌, ◌≤◌, true, false, eqb, List, [], ◌∷◌}
-use Rattle.std.proofs.Common.{◌++◌, length, take, map, Option, Some, None}
-use Rattle.std.proofs.Common.{unwrap_or, refl, sym, ap, ◌∙◌, arith, length-append, eqb-true}
+use Rattle.std.proofs.Common.{◌≡◌, ℕ, zero, suc, ◌+◌, ◌-◌, ◌≤◌, false, eqb, List, [], ◌∷◌}
+use Rattle.std.proofs.Common.{◌++◌, ◌<◌, length, get_or, take, map, Option, Some, None}
+use Rattle.std.proofs.Common.{unwrap_or, refl, sym, ap, ◌∙◌, arith, length-append}
 use Rattle.std.proofs.Common.{length-take-le, append-nil}
 use Rattle.std.proofs.Math.Seq.{take-length}
 use Rattle.std.proofs.lemmas.Bool.{true≢false}
@@ -121,17 +121,17 @@ unfolding values
 values_root s e = ap (map (λ p. p.value)) e
 
 -- a path with a root and no part behind it has no parent
-pub parent_of-bare : (s : List ℕ) (end : ℕ) → is_rooted s ≡ true → parts (take end s) ≡ parts s
+pub parent_of-bare : (s : List ℕ) (end : ℕ) → 0 < length s → get_or s 0 0 ≡ 47 → parts (take end s) ≡ parts s
     → end ≤ 1 → None ≡ parent_of s
-parent_of-bare [] end r same few = absurd (true≢false (sym r))
-parent_of-bare (b ∷ s) zero r same few =
+parent_of-bare [] end some r same few = absurd (omega arith)
+parent_of-bare (b ∷ s) zero some r same few =
     parent_of-none (b ∷ s) (values_none (b ∷ s) (sym same ∙ parts-nil))
-parent_of-bare (b ∷ s) (suc zero) r same few =
+parent_of-bare (b ∷ s) (suc zero) some r same few =
     parent_of-root (b ∷ s) [] (values_root (b ∷ s)
-    (sym same ∙ parts-root (b ∷ []) (eqb-true b 47 r)
+    (sym same ∙ parts-root (b ∷ []) r
     ∙ ap (λ ps. record { start = 0; end = 1; value = RootDir } ∷ ps) (inner_parts-nil 1))
     ∙ ap (λ vs. vs ++ RootDir ∷ []) (sym (values_none [] parts-nil)))
-parent_of-bare (b ∷ s) (suc (suc n)) r same few = absurd (omega arith)
+parent_of-bare (b ∷ s) (suc (suc n)) some r same few = absurd (omega arith)
 
 -- a path without a name stays whole in front of a new name
 pub with_name_of-nameless : (s name : List ℕ) → None ≡ name_end_of s

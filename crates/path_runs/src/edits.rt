@@ -128,7 +128,7 @@ fn apply_one(
         Edit::AddExtension(extension) => extension_answer(add_extension(path, known, *extension)),
         Edit::Clear => {
             path.clear();
-            *known = Known::new();
+            known.clear();
             Ok(Answer::Plain)
         }
     }

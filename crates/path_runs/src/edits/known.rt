@@ -1,7 +1,9 @@
 //! What a list of edits knows of its path's first bytes, so that it doesn't read them again.
-ghost use Rattle.std.specs.Prelude.{◌≡◌, ℕ, ◌-◌, ◌<◌, ◌≤◌, List, length, take, Some, IfSome, false};
+ghost use Rattle.std.specs.Prelude.{◌≡◌, ℕ, ◌-◌, ◌<◌, ◌≤◌, List, length, take, Some, None, IfSome};
+ghost use Rattle.std.specs.Prelude.{false, IsTrue};
 ghost use Rattle.unix_path.specs.Edits.{stem_end_of};
 ghost use Rattle.unix_path.specs.Extensions.{name_end_of};
+ghost use Rattle.unix_path.specs.Parents.{parent_of};
 ghost use Rattle.unix_path.specs.Parts.{parts};
 ghost use Rattle.unix_path.specs.Scan.{is_trailing};
 ghost use Rattle.unix_path.specs.Steps.{EndsInPart};
@@ -26,6 +28,14 @@ fn trimmed_to(path: &[u8], least: usize) -> usize
     end
 }
 
+// Whether the last byte of the path is filler.
+#[inline]
+fn ends_in_filler(path: &[u8]) -> bool
+    ensures { IsTrue result → 0 < length path.now }
+{
+    !path.is_empty() && is_trailing(path, path.len() - 1)
+}
+
 // What is known of a path's first bytes, as long as these stay.
 #[derive(Drop)]
 pub(super) struct Known {
@@ -47,6 +57,17 @@ impl Known {
             len: 0,
             stems: Stems::new(),
         }
+    }
+
+    // Forgets all.
+    #[inline]
+    pub(super) fn clear(&mut self)
+        requires { IsStack self.old.stems }
+        ensures { (s : List ℕ) → IsKnown s self.new }
+    {
+        self.end = 0;
+        self.len = 0;
+        self.stems.clear();
     }
 
     // The place where the last part of the path ends. The bytes of which that is known aren't read.
@@ -81,6 +102,32 @@ impl Known {
             return None;
         }
         Some(end)
+    }
+
+    // True only if the path has filler at its end, and no file name.
+    #[inline]
+    pub(super) fn is_nameless(&mut self, path: &[u8]) -> bool
+        requires { IsKnown path.now self.old }
+        ensures known { IsKnown path.now self.new }
+        ensures value { IsTrue result → None ≡ name_end_of path.now }
+    {
+        if !ends_in_filler(path) {
+            return false;
+        }
+        self.name_end(path).is_none()
+    }
+
+    // True only if the path has filler at its end, and no part but a root.
+    #[inline]
+    pub(super) fn is_bare(&mut self, path: &[u8]) -> bool
+        requires { IsKnown path.now self.old }
+        ensures known { IsKnown path.now self.new }
+        ensures value { IsTrue result → None ≡ parent_of path.now }
+    {
+        if !ends_in_filler(path) || path[0] != b'/' {
+            return false;
+        }
+        self.part_end(path) <= 1
     }
 
     // The place where the stem of the file name ends, which ends at `end`. Of the bytes that are

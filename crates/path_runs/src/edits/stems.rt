@@ -22,6 +22,16 @@ impl Stems {
         }
     }
 
+    // Drops all places but 0.
+    #[inline]
+    pub(super) fn clear(&mut self)
+        requires { IsStack self.old }
+        ensures stack { IsStack self.new }
+        ensures known { (s : List ℕ) → KnowsStems s self.new }
+    {
+        self.last = 0;
+    }
+
     // The last place.
     #[inline]
     pub(super) fn last_place(&self) -> usize

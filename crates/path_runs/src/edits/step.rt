@@ -16,8 +16,8 @@ use std::mem;
 use unix_path::bytes::UnixStr;
 use unix_path::{ExtensionError, Path, PathBuf};
 
-// Joins the other path to the path.
-#[inline]
+// Joins the other path to the path. Always inlined, as `PathBuf::push` is.
+#[inline(always)]
 #[tactic(auto, using(crate::proofs::EditStepLemmas::IsKnown_join))]
 pub(super) fn push(path: &mut PathBuf, known: &mut Known, other: Path<'_>) -> Result<(), AllocError>
     requires { IsKnown (path_bytes path.old) known.old }
@@ -27,8 +27,7 @@ pub(super) fn push(path: &mut PathBuf, known: &mut Known, other: Path<'_>) -> Re
     ensures err { OnErr result (path_bytes path.new ≡ path_bytes path.old) }
 {
     if other.has_root() {
-        *known = Known::new();
-        return path.push(other);
+        known.clear();
     }
     path.push(other)
 }
@@ -41,9 +40,7 @@ pub(super) fn pop(path: &mut PathBuf, known: &mut Known) -> bool
     ensures value { result ≡ is_some (parent_of (path_bytes path.old)) }
     ensures bytes { path_bytes path.new ≡ popped_of (path_bytes path.old) }
 {
-    let view = path.as_path();
-    let end = known.part_end(view.as_unix_str().as_bytes());
-    if end <= 1 && view.has_root() {
+    if known.is_bare(path.as_path().as_unix_str().as_bytes()) {
         return false;
     }
     let is_popped = path.pop();
@@ -65,10 +62,9 @@ pub(super) fn set_file_name(
         (path_bytes path.new ≡ with_name_of (path_bytes path.old) name.entry.bytes.now) }
     ensures err { OnErr result (path_bytes path.new ≡ path_bytes path.old) }
 {
-    let bytes = path.as_path().as_unix_str().as_bytes();
-    let Some(_) = known.name_end(bytes) else {
+    if known.is_nameless(path.as_path().as_unix_str().as_bytes()) {
         return push(path, known, Path::new(name));
-    };
+    }
     path.set_file_name(name)?;
     // Behind what stays of the path stand a slash, perhaps, and the name.
     let len = path.as_path().as_unix_str().len();
