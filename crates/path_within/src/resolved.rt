@@ -50,7 +50,9 @@ pub(crate) fn keep(kept: &mut PathBuf, floor: usize, path: Path<'_>) -> Result<u
     Ok(floor)
 }
 
-// The path as `resolved` gives it, borrowed if it is resolved as it stands.
+// The path as `resolved` gives it, borrowed if it is resolved as it stands. Always inlined, so that
+// `resolved` copies what is borrowed at once.
+#[inline(always)]
 pub(crate) fn resolved_cow<'a>(alloc: Global, path: Path<'a>) -> Result<CowPath<'a>, AllocError>
     ensures bytes { IfOk result (λ p. cow_bytes p ≡ resolved_bytes_of path.entry.bytes.now) }
     ensures succeeds { path.entry.bytes.now ≡ [] → IsOk result }

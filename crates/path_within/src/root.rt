@@ -4,11 +4,10 @@ ghost use Rattle.std.specs.Prelude.{IfOk, IfSome, OnOk, OnErr, IsOk, IsErrOf, Is
 ghost use Rattle.std.specs.Fmt.{padded};
 ghost use Rattle.unix_path.specs.Buffers.{path_bytes, capacity};
 ghost use Rattle.unix_path.specs.Joins.{is_open};
-ghost use Rattle.unix_path.specs.Parts.{values};
+ghost use Rattle.unix_path.specs.Parts.{is_rooted, values};
 ghost use Rattle.unix_path.specs.Prefixes.{Begins, stripped_of};
-ghost use Rattle.unix_path.specs.Views.{value_of};
 ghost use Rattle.path_within.specs.Below.{below_of, has_nul, GoesDown, IsBelow};
-ghost use Rattle.path_within.specs.Climbs.{has_root_or_up, is_root_or_up};
+ghost use Rattle.path_within.specs.Climbs.{has_root_or_up};
 ghost use Rattle.path_within.specs.PlainPieces.{is_plain};
 ghost use Rattle.path_within.specs.Requests.{request_bytes, request_names};
 ghost use Rattle.path_within.specs.Resolved.{resolved_bytes_of};
@@ -16,15 +15,14 @@ ghost use Rattle.path_within.specs.Written.{opened};
 
 use crate::request::{Request, has_nul};
 use crate::resolved::resolved;
-use crate::runs::is_plain;
+use crate::runs::{Run, Runs, is_plain};
 use core::mem::replace_with;
-use path_runs::laws::walks_in_order;
 use std::alloc::{AllocError, Global};
 use std::error::Error;
 use std::fmt;
 use unix_bytes::bytes::UnixString;
 use unix_path::scan::is_open;
-use unix_path::{Component, Path, PathBuf};
+use unix_path::{Path, PathBuf};
 
 /// Why a path is not below a root.
 ///
@@ -58,12 +56,20 @@ impl fmt::Display for StripError {
 
 impl Error for StripError {}
 
-// Whether the part is the root or `..`.
-#[inline]
-fn is_root_or_up(part: Component<'_>) -> bool
-    ensures { result ≡ is_root_or_up (value_of part.entry) }
+// Whether a `..` is among the parts of a path without a root.
+fn has_up(path: Path<'_>) -> bool
+    requires { is_rooted path.bytes.now ≡ false }
+    ensures { result ≡ has_root_or_up (values path.entry.bytes.now) }
 {
-    matches!(part, Component::RootDir | Component::ParentDir)
+    let mut runs = Runs::new(path.bytes);
+    while let Some(run) = runs.next() {
+        match run {
+            Run::Up => return true,
+            Run::Name(_) => {}
+            Run::Names(_) => {}
+        }
+    }
+    false
 }
 
 // Whether a path is its names as it is spelled, or `None` if the root or a `..` is among its parts.
@@ -77,8 +83,7 @@ pub(crate) fn is_spelled_unless_up(path: Path<'_>) -> Option<bool>
     if is_plain(path) {
         return Some(true);
     }
-    walks_in_order();
-    if path.components().any(is_root_or_up) {
+    if has_up(path) {
         return None;
     }
     Some(false)
