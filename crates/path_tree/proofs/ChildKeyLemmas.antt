@@ -57,7 +57,7 @@ key_of-own key own = sym (own-is key own) ∙ ap key_of (own-values key own)
 pub IsKey-own : (key : List ℕ) → is_own key ≡ true → ∥ IsKey key ∥₁
 IsKey-own key own = ∣ (spelling_of (key_values key), own-is key own) ∣₁
 
-fit-own : (key : List ℕ) → is_own key ≡ true → AllFit true (key_values key)
+pub fit-own : (key : List ℕ) → is_own key ≡ true → AllFit true (key_values key)
 fit-own key own =
     subst (AllFit true) (own-values key own) (values-fit (spelling_of (key_values key)))
 

@@ -3,6 +3,9 @@ pub mod RowLemmas
 pub mod OwnLemmas
 pub mod SortedLemmas
 pub mod SortedWalkLemmas
+pub mod MovedKeyLemmas
+pub mod MovedLemmas
+pub mod PutLemmas
 pub mod NearestLemmas
 pub mod UnderLemmas
 pub mod ManyLemmas

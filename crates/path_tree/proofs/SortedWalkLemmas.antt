@@ -19,7 +19,7 @@ use Rattle.path_tree.specs.Read.{is_own, key_values}
 use Rattle.path_tree.specs.Rows.{Key, key_rows}
 use Rattle.path_tree.specs.Sorted.{rows_in, StopsRising}
 use Rattle.path_tree.proofs.ReadLemmas.{bytes_cmp-own}
-use Rattle.path_tree.proofs.RowLemmas.{AllOwn, Own, keys_cmp}
+use Rattle.path_tree.proofs.RowLemmas.{AllOwn, Own, all_own, keys_cmp}
 use Rattle.path_tree.proofs.SortedLemmas.{bare, last_of, last_row, own-bare, rows-bare}
 use Rattle.path_tree.proofs.SortedLemmas.{same_entries, sorted-more}
 use Rattle.path_tree.proofs.UnderLemmas.{sorted-rows_by}
@@ -50,7 +50,13 @@ own_more : {V : Type 0} (k : Key) (x : V) → is_own k.items ≡ true → (es : 
 own_more k x own [] all = (own, tt)
 own_more k x own (e ∷ es) all = (all.0, own_more k x own es all.1)
 
-rows_more : {V : Type 0} (k : Key) (x : V) (es : List (Key × V))
+-- one more key that is a path's
+pub own_put : {V : Type 0} (k : Key) (x : V) → is_own k.items ≡ true → (es : List (Key × V))
+    → Own items_of es → Own items_of (es ++ (k, x) ∷ [])
+own_put k x own es all =
+    own_all (es ++ (k, x) ∷ []) (own_more k x own es (all_own items_of es all))
+
+pub rows_more : {V : Type 0} (k : Key) (x : V) (es : List (Key × V))
     → key_rows (es ++ (k, x) ∷ []) ≡ key_rows es ++ (key_values k.items, x) ∷ []
 rows_more k x [] = refl
 rows_more k x (e ∷ es) = ap (λ l. (key_values e.0.items, e.1) ∷ l) (rows_more k x es)

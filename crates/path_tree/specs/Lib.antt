@@ -8,6 +8,7 @@ pub mod Many
 pub mod Difference
 pub mod Changed
 pub mod Children
+pub mod Moved
 pub mod Sorted
 pub mod Errors
 pub mod Laws

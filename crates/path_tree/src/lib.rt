@@ -5,4 +5,4 @@ pub mod laws;
 mod made;
 pub mod tree;
 
-pub use tree::{LookupError, PathTree, SortedError};
+pub use tree::{LookupError, MoveError, PathTree, SortedError};

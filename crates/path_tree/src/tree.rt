@@ -20,12 +20,14 @@ mod difference;
 mod entries;
 mod lookup;
 mod many;
+mod moved;
 mod nearest;
 mod ranges;
 mod sorted;
 
 use crate::made::{MadeKey, bytes_of, owned_key};
 pub use lookup::LookupError;
+pub use moved::MoveError;
 use path_keys::PathKey;
 pub use sorted::SortedError;
 use std::alloc::{AllocError, Global};

@@ -124,6 +124,36 @@ impl PlainList {
     }
 }
 
+// Moves what is under the path to another in both, and says whether they are alike then: moved, or
+// as they were.
+fn moves_alike(
+    alloc: Global,
+    random: &mut Random,
+    tree: &mut PathTree<u32>,
+    plain: &mut PlainList,
+    from: Path<'_>,
+) -> Result<bool, AllocError> {
+    let target = path_from(alloc, random)?;
+    let to = target.as_path();
+    let is_refused = to.starts_with(from) || plain.count_under(to) > 0;
+    match tree.move_under(&PathKey::of(alloc, from)?, &PathKey::of(alloc, to)?) {
+        Ok(count) => {
+            let is_alike = !is_refused && count == plain.count_under(from);
+            for file in plain.files.iter_mut() {
+                let moved = match file.0.as_path().strip_prefix(from) {
+                    Ok(rest) => Some(to.join(alloc, rest)?),
+                    Err(_) => None,
+                };
+                if let Some(path) = moved {
+                    file.0 = path;
+                }
+            }
+            Ok(is_alike && has_all(tree, plain)?)
+        }
+        Err(_) => Ok(is_refused && has_all(tree, plain)?),
+    }
+}
+
 fn are_alike(found: Option<(Path<'_>, &u32)>, want: Option<(Path<'_>, u32)>) -> bool {
     match (found, want) {
         (Some(near), Some(plain)) => near.0 == plain.0 && *near.1 == plain.1,
@@ -249,7 +279,7 @@ fn answers_alike(
     let owned = path_from(alloc, random)?;
     let path = owned.as_path();
     let key = PathKey::of(alloc, path)?;
-    Ok(match random.next() % 17 {
+    Ok(match random.next() % 19 {
         0..3 => tree.insert(path, value)? == plain.insert(path.to_path_buf(alloc)?, value)?,
         3 => tree.remove(&key) == plain.remove(path),
         4 => tree.remove_path(path)? == plain.remove(path),
@@ -260,6 +290,7 @@ fn answers_alike(
         9 => extends_alike(alloc, random, tree, plain, (path, value))?,
         11 => lacks_alike(alloc, random, tree, plain)?,
         12 | 13 => has_children(alloc, tree, plain, path)?,
+        14 | 15 => moves_alike(alloc, random, tree, plain, path)?,
         10 => tree.remove_under(&key) == plain.remove_under(path) && has_all(tree, plain)?,
         _ => are_alike(tree.nearest(path)?, plain.nearest(path)),
     })

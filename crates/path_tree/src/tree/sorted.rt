@@ -73,7 +73,7 @@ fn rises<V>(entries: &[(Vec<u8>, V)], key: &Vec<u8>) -> bool
 }
 
 // Puts an entry behind the others.
-fn put_last<V: Drop>(
+pub(super) fn put_last<V: Drop>(
     entries: &mut Vec<(Vec<u8>, V)>,
     key: Vec<u8>,
     value: V,

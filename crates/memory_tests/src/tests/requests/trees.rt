@@ -3,7 +3,7 @@
 use super::super::path;
 use super::report;
 use path_keys::PathKey;
-use path_tree::{LookupError, PathTree, SortedError};
+use path_tree::{LookupError, MoveError, PathTree, SortedError};
 use std::alloc::{AllocError, Global};
 use std::test::Fail;
 use unix_path::Path;
@@ -164,6 +164,26 @@ fn tree_paths_changed(rt: HostRuntime) -> Result<(), Fail> {
     match tree.changed(&other) {
         Ok(found) => report(true, found.len() == 2),
         Err(AllocError) => report(false, has_first(&tree, &files)),
+    }
+}
+
+// Sixteen files in a folder, whose copies need more than one node of the tree.
+#[test]
+fn tree_moved(rt: HostRuntime) -> Result<(), Fail> {
+    let alloc = rt.alloc();
+    let mut tree = PathTree::new(alloc);
+    for letter in b'a'..=b'p' {
+        tree.insert(Path::from_bytes([b'd', b'/', letter].as_slice()), u32::from(letter))?;
+    }
+    let from = PathKey::of(alloc, path("d"))?;
+    let to = PathKey::of(alloc, path("e"))?;
+    let key = PathKey::of(alloc, path("e/p"))?;
+    match tree.move_under(&from, &to) {
+        Ok(count) => report(true, count == 16 && tree.len() == 16 && tree.contains(&key)),
+        Err(MoveError::Memory(AllocError)) => {
+            report(false, tree.len() == 16 && tree.remove_under(&from) == 16)
+        }
+        Err(_) => report(true, false),
     }
 }
 
