@@ -18,7 +18,7 @@ other_number : (x y : ℕ) (r : Ordering) → eqb x y ≡ false
 other_number x y r other =
     elim (nat_cmp x y)
     as (λ o. MatchOrdering o (x < y) (x ≡ y) (y < x) → ordering_then o r ≡ o) [
-      Less ↦ λ before. refl
+      | Less ↦ λ before. refl
       | Equal ↦ λ same. absurd (false≢true (sym other ∙ eq-eqb x y same))
       | Greater ↦ λ behind. refl
     ] (ranks x y)
@@ -48,7 +48,7 @@ nat_cmp-suc m n = nat_cmp_is (suc m) (suc n) (nat_cmp m n)
     (elim (nat_cmp m n)
     as (λ o. MatchOrdering o (m < n) (m ≡ n) (n < m)
     → MatchOrdering o (suc m < suc n) (suc m ≡ suc n) (suc n < suc m)) [
-      Less ↦ λ before. omega arith
+      | Less ↦ λ before. omega arith
       | Equal ↦ λ same. ap (λ k. suc k) same
       | Greater ↦ λ behind. omega arith
     ] (ranks m n))

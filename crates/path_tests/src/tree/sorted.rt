@@ -20,10 +20,7 @@ static RISING: [(&'static [&'static str], bool); 10] = [
 ];
 
 // The paths and their places, from 1.
-fn placed(
-    alloc: Global,
-    paths: &[&'static str],
-) -> Result<Vec<(Path<'static>, u32)>, AllocError> {
+fn placed(alloc: Global, paths: &[&'static str]) -> Result<Vec<(Path<'static>, u32)>, AllocError> {
     let mut items = Vec::new(alloc);
     let mut place = 0u32;
     for path in paths {

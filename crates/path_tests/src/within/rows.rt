@@ -146,7 +146,11 @@ fn rows_that_climb(rt: HostRuntime) {
 #[test]
 fn rows_with_roots_and_ups(rt: HostRuntime) {
     for row in ROOTS_AND_UPS.iter() {
-        assert!(rt; has_root_or_up(Path::from_text(row.0)) == row.1, "{}", row.0);
+        assert!(rt;
+            has_root_or_up(Path::from_text(row.0)) == row.1,
+            "{}",
+            row.0
+        );
     }
 }
 

@@ -173,7 +173,10 @@ fn tree_moved(rt: HostRuntime) -> Result<(), Fail> {
     let alloc = rt.alloc();
     let mut tree = PathTree::new(alloc);
     for letter in b'a'..=b'p' {
-        tree.insert(Path::from_bytes([b'd', b'/', letter].as_slice()), u32::from(letter))?;
+        tree.insert(
+            Path::from_bytes([b'd', b'/', letter].as_slice()),
+            u32::from(letter),
+        )?;
     }
     let from = PathKey::of(alloc, path("d"))?;
     let to = PathKey::of(alloc, path("e"))?;

@@ -37,12 +37,24 @@ fn rising_bytes(rt: HostRuntime) {
 fn greater_at_each_place(rt: HostRuntime) {
     let a = [b'a'; 100];
     for len in 0..100 {
-        assert_eq!(rt; compare_bytes(&a[..len], &a[..len]), Ordering::Equal, "{len}");
+        assert_eq!(rt;
+            compare_bytes(&a[..len], &a[..len]),
+            Ordering::Equal,
+            "{len}"
+        );
         for place in 0..len {
             let mut b = a;
             b[place] = b'b';
-            assert_eq!(rt; compare_bytes(&a[..len], &b[..len]), Ordering::Less, "{len} {place}");
-            assert_eq!(rt; compare_bytes(&b[..len], &a), Ordering::Greater, "{len} {place}");
+            assert_eq!(rt;
+                compare_bytes(&a[..len], &b[..len]),
+                Ordering::Less,
+                "{len} {place}"
+            );
+            assert_eq!(rt;
+                compare_bytes(&b[..len], &a),
+                Ordering::Greater,
+                "{len} {place}"
+            );
         }
     }
 }
