@@ -193,14 +193,12 @@ with_extension_of-nil s x end e none =
     ap (with_extension_of s) nil ∙ with_extension_of-some s [] [] end (sym e) refl
     ∙ append-nil (take end s ++ []) ∙ append-nil (take end s)
 
--- if all of the name is stem, an extension that is set is one that is added
-pub with_extension_of-whole : (s x : List ℕ) (end : ℕ) → stem_end_of s ≡ Some end
-    → name_end_of s ≡ Some end → eqb (length x) 0 ≡ false
-    → added_extension_of s x ≡ with_extension_of s x
-with_extension_of-whole s [] end stem name some = absurd (true≢false some)
-with_extension_of-whole s (b ∷ x) end stem name some =
-    added_extension_of-some s (b ∷ x) end (sym name) some
-    ∙ sym (with_extension_of-some s (b ∷ x) (46 ∷ []) end (sym stem) (sym (dot_before-some b x)))
+-- an extension that has a byte is put behind the stem with a dot
+pub with_extension_of-dotted : (s x : List ℕ) (end : ℕ) → stem_end_of s ≡ Some end
+    → eqb (length x) 0 ≡ false → with_extension_of s x ≡ (take end s ++ 46 ∷ []) ++ x
+with_extension_of-dotted s [] end stem some = absurd (true≢false some)
+with_extension_of-dotted s (b ∷ x) end stem some =
+    with_extension_of-some s (b ∷ x) (46 ∷ []) end (sym stem) (sym (dot_before-some b x))
 
 -- an extension that is added keeps the bytes up to the name's end
 pub keeps-added : (s x : List ℕ) (end : ℕ) → name_end_of s ≡ Some end → end ≤ length s
@@ -212,7 +210,7 @@ keeps-added s x end e l some =
 pub ruleset name_cases = (with_name_of-nameless)
 
 pub ruleset extension_cases =
-    (with_extension_of-none, with_extension_of-nil, with_extension_of-whole, file_name_of-stem)
+    (with_extension_of-none, with_extension_of-nil, file_name_of-stem)
 
 pub ruleset added_cases = (
   added_extension_of-nil,

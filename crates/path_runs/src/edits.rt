@@ -125,7 +125,9 @@ fn apply_one(
         Edit::SetExtension(extension) => {
             extension_answer(set_extension(alloc, path, known, *extension))
         }
-        Edit::AddExtension(extension) => extension_answer(add_extension(path, known, *extension)),
+        Edit::AddExtension(extension) => {
+            extension_answer(add_extension(alloc, path, known, *extension))
+        }
         Edit::Clear => {
             path.clear();
             known.clear();

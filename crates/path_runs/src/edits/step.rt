@@ -1,5 +1,5 @@
 //! The edits of a list one by one, each from what is known of the path.
-ghost use Rattle.std.specs.Prelude.{◌≡◌, ◌↔◌, ◌≤◌, [], true, length, take, IfOk, OnOk, OnErr, IsOk};
+ghost use Rattle.std.specs.Prelude.{◌≡◌, ◌↔◌, ◌+◌, ◌∷◌, ◌++◌, ◌≤◌, [], true, length, take, IfOk, OnOk, OnErr, IsOk};
 ghost use Rattle.std.specs.Prelude.{IsErrOf, is_some};
 ghost use Rattle.unix_path.specs.Buffers.{path_bytes, capacity};
 ghost use Rattle.unix_path.specs.Edits.{popped_of, with_name_of, with_extension_of};
@@ -7,7 +7,7 @@ ghost use Rattle.unix_path.specs.Extensions.{added_extension_of, has_slash};
 ghost use Rattle.unix_path.specs.Joins.{join_of};
 ghost use Rattle.unix_path.specs.Names.{file_name_of};
 ghost use Rattle.unix_path.specs.Parents.{parent_of};
-ghost use Rattle.unix_path.specs.Parts.{values};
+ghost use Rattle.unix_path.specs.Parts.{dot, values};
 ghost use Rattle.path_runs.specs.Known.{IsKnown};
 
 use crate::edits::known::Known;
@@ -72,6 +72,19 @@ pub(super) fn set_file_name(
     Ok(())
 }
 
+// Makes room for a path of `len` bytes, as a push that makes it grow does.
+#[inline]
+fn make_room(path: &mut PathBuf, len: usize) -> Result<(), AllocError>
+    ensures bytes { path_bytes path.new ≡ path_bytes path.old }
+    ensures ok { OnOk result (len ≤ capacity path.new) }
+    ensures succeeds { len ≤ capacity path.old → IsOk result }
+{
+    if len <= path.capacity() {
+        return Ok(());
+    }
+    path.reserve(len - path.as_path().as_unix_str().len())
+}
+
 // Drops all bytes behind the first `len`, and keeps the memory.
 fn truncate(alloc: Global, path: &mut PathBuf, len: usize)
     ensures { path_bytes path.new ≡ take len (path_bytes path.old) }
@@ -81,15 +94,19 @@ fn truncate(alloc: Global, path: &mut PathBuf, len: usize)
     *path = PathBuf::from(text);
 }
 
-// Makes room for a path of `len` bytes, as a push that makes it grow does.
+// Keeps the first `keep` bytes, and puts a dot and the extension behind them. There has to be room
+// for all.
 #[inline]
-fn make_room(path: &mut PathBuf, len: usize) -> Result<(), AllocError>
-    ensures bytes { path_bytes path.new ≡ path_bytes path.old }
+fn replace_end(alloc: Global, path: &mut PathBuf, keep: usize, extension: UnixStr<'_>)
+    requires { keep + (1 + length extension.bytes.now) ≤ capacity path.old }
+    ensures { path_bytes path.new
+        ≡ (take keep (path_bytes path.old) ++ dot ∷ []) ++ extension.entry.bytes.now }
 {
-    if len <= path.capacity() {
-        return Ok(());
-    }
-    path.reserve(len - path.as_path().as_unix_str().len())
+    let mut text = mem::replace(path, PathBuf::new(alloc)).into_unix_string();
+    text.truncate(keep);
+    let _is_put = text.push(UnixStr::from_bytes(b".")).is_ok();
+    let _is_put = text.push(extension).is_ok();
+    *path = PathBuf::from(text);
 }
 
 // Whether a byte of an extension is a slash.
@@ -100,8 +117,9 @@ fn has_slash(extension: &[u8]) -> bool
     extension.contains(&b'/')
 }
 
-// Replaces the extension of the file name, or removes it if the new one is empty.
-#[inline]
+// Replaces the extension of the file name, or removes it if the new one is empty. It isn't inlined,
+// nor is `add_extension`, so that a list's loop stays small.
+#[inline(never)]
 #[tactic(auto, using(crate::proofs::EditStepLemmas::extension_cases))]
 pub(super) fn set_extension(
     alloc: Global,
@@ -135,16 +153,15 @@ pub(super) fn set_extension(
         return Ok(true);
     }
     make_room(path, stem + 1 + new.len())?;
-    if stem == end {
-        return path.add_extension(extension);
-    }
-    path.set_extension(extension)
+    replace_end(alloc, path, stem, extension);
+    Ok(true)
 }
 
 // Puts a dot and the extension behind the file name, unless the extension is empty.
-#[inline]
+#[inline(never)]
 #[tactic(auto, using(crate::proofs::EditStepLemmas::added_cases))]
 pub(super) fn add_extension(
+    alloc: Global,
     path: &mut PathBuf,
     known: &mut Known,
     extension: UnixStr<'_>,
@@ -173,5 +190,6 @@ pub(super) fn add_extension(
     }
     known.cut(end);
     make_room(path, end + 1 + more.len())?;
-    path.add_extension(extension)
+    replace_end(alloc, path, end, extension);
+    Ok(true)
 }

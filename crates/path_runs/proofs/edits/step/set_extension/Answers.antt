@@ -1,17 +1,17 @@
-use Rattle.std.proofs.Common.{◌≡◌, ◌≤◌, ℕ, List, [], Some, length, take, eqb, is_some, sym, ap, subst, ◌∙◌, arith, append-nil}
+use Rattle.std.proofs.Common.{◌≡◌, ◌∷◌, ◌++◌, [], length, take, eqb, is_some, sym, ap, ◌∙◌, arith, append-nil}
 use Rattle.std.proofs.Common.{eqb-true}
-use Rattle.std.proofs.lemmas.Result.{on_ok_weaker}
+use Rattle.std.proofs.lemmas.List.{append_assoc}
 use Rattle.unix_path.specs.Buffers.{path_bytes}
-use Rattle.unix_path.specs.Edits.{stem_end_of, with_extension_of}
-use Rattle.unix_path.specs.Extensions.{added_extension_of, name_end_of}
+use Rattle.unix_path.specs.Edits.{stem_end_of}
+use Rattle.unix_path.specs.Extensions.{name_end_of}
 use Rattle.unix_path.specs.Names.{file_name_of}
 use Rattle.unix_path.specs.Parts.{values}
 use Rattle.unix_path.proofs.EditLemmas.{with_extension_of-none}
 use Rattle.unix_path.proofs.NameEndLemmas.{file_name_of-name_end, file_name_of-no_name_end}
 use Rattle.unix_path.proofs.StemCutLemmas.{stem_end_of-nameless}
-use Rattle.path_runs.proofs.EditStepLemmas.{IsKnown-cut, Keeps, keeps-added, keeps-extension}
-use Rattle.path_runs.proofs.EditStepLemmas.{either_way, keeps-front, keeps-self, with_extension_of-nil}
-use Rattle.path_runs.proofs.EditStepLemmas.{with_extension_of-whole}
+use Rattle.path_runs.proofs.EditStepLemmas.{IsKnown-cut}
+use Rattle.path_runs.proofs.EditStepLemmas.{keeps-front, with_extension_of-nil}
+use Rattle.path_runs.proofs.EditStepLemmas.{with_extension_of-dotted}
 use Rattle.path_runs.proofs.edits.step.set_extension.Goals.{After-as_bytes-bytes, In-Some}
 use Rattle.path_runs.proofs.edits.step.set_extension.Goals as goal
 
@@ -56,57 +56,36 @@ returns-then-is_empty-clause-ok c =
     (sym (ap length c.as_bytes-new.ensures.bytes)
     ∙ eqb-true _ 0 (sym c.is_empty.ensures ∙ c.if-is_empty.true)))
 
-pub returns-then-stem-end-clause-known : goal.returns-then-stem-end-clause-known
-returns-then-stem-end-clause-known c =
-    let v = c.as_bytes-bytes.result.now in
-    let x = c.args.extension.bytes.now in
-    let is = view (goal.at.returns-then-stem-end-clause-known c).After-as_bytes-bytes in
-    let stem = c.stem_end-stem in
-    let t = path_bytes c.add_extension.new.self in
-    let few : stem.result ≤ length v = omega (arith, stem.ensures.in_range, c.in-Some.ensures.in_range) in
-    IsKnown-cut v t stem.result _ _ c.cut.ensures stem.ensures.known
-    (either_way c.add_extension.result
-    (λ ok.
-    let made : t ≡ added_extension_of v x = ok
-    ∙ ap (λ s. added_extension_of s x) (c.in_ok-make_room.ensures.bytes ∙ sym is) in
-    subst (λ (t : List ℕ). Keeps v t stem.result) (sym made)
-    (subst (λ (n : ℕ). Keeps v (added_extension_of v x) n) (sym c.if-stem-end.true)
-    (keeps-added v x c.in-Some.end (sym c.in-Some.ensures.value) c.in-Some.ensures.in_range
-    (ap (λ y. eqb (length y) 0) (sym c.as_bytes-new.ensures.bytes)
-    ∙ sym c.is_empty.ensures ∙ c.if-is_empty.false))))
-    (λ err. subst (λ (t : List ℕ). Keeps v t stem.result)
-    (sym (err ∙ c.in_ok-make_room.ensures.bytes ∙ sym is)) (keeps-self v stem.result few))
-    c.add_extension.ensures.ok c.add_extension.ensures.err)
-
-pub returns-then-stem-end-clause-ok : goal.returns-then-stem-end-clause-ok
-returns-then-stem-end-clause-ok c =
-    let s = path_bytes c.args.path.now in
-    let x = c.args.extension.bytes.now in
-    let is = view (goal.at.returns-then-stem-end-clause-ok c).After-as_bytes-bytes in
-    on_ok_weaker c.add_extension.result
-    (λ ok. ok ∙ ap (λ s. added_extension_of s x) c.in_ok-make_room.ensures.bytes
-    ∙ with_extension_of-whole s x c.in-Some.end
-    (ap stem_end_of (sym is) ∙ c.stem_end-stem.ensures.value ∙ ap Some c.if-stem-end.true)
-    (ap name_end_of (sym is) ∙ sym c.in-Some.ensures.value)
-    (ap (λ y. eqb (length y) 0) (sym c.as_bytes-new.ensures.bytes)
-    ∙ sym c.is_empty.ensures ∙ c.if-is_empty.false))
-    c.add_extension.ensures.ok
-
 pub returns-clause-known : goal.returns-clause-known
 returns-clause-known c =
     let v = c.as_bytes-bytes.result.now in
-    let x = c.args.extension.bytes.now in
-    let is = view (goal.at.returns-clause-known c).After-as_bytes-bytes in
     let stem = c.stem_end-stem in
-    let t = path_bytes c.set_extension.new.self in
-    let few : stem.result ≤ length v = omega (arith, stem.ensures.in_range, c.in-Some.ensures.in_range) in
+    let t = path_bytes c.replace_end.new.path in
+    let made : t ≡ (take stem.result v ++ 46 ∷ []) ++ c.args.extension.bytes.now =
+    c.replace_end.ensures
+    ∙ ap (λ s. (take stem.result s ++ 46 ∷ []) ++ c.args.extension.bytes.now)
+    (c.in_ok-make_room.ensures.bytes
+    ∙ sym (view (goal.at.returns-clause-known c).After-as_bytes-bytes)) in
     IsKnown-cut v t stem.result _ _ c.cut.ensures stem.ensures.known
-    (either_way c.set_extension.result
-    (λ ok.
-    let made : t ≡ with_extension_of v x = ok
-    ∙ ap (λ s. with_extension_of s x) (c.in_ok-make_room.ensures.bytes ∙ sym is) in
-    subst (λ (t : List ℕ). Keeps v t stem.result) (sym made)
-    (keeps-extension v x stem.result stem.ensures.value few))
-    (λ err. subst (λ (t : List ℕ). Keeps v t stem.result)
-    (sym (err ∙ c.in_ok-make_room.ensures.bytes ∙ sym is)) (keeps-self v stem.result few))
-    c.set_extension.ensures.ok c.set_extension.ensures.err)
+    (keeps-front v (46 ∷ [] ++ c.args.extension.bytes.now) t stem.result
+    (omega (arith, stem.ensures.in_range, c.in-Some.ensures.in_range))
+    (made ∙ append_assoc (take stem.result v) (46 ∷ []) c.args.extension.bytes.now))
+
+pub returns-clause-value : goal.returns-clause-value
+returns-clause-value c =
+    sym (file_name_of-name_end _ c.in-Some.end c.in-Some.ensures.value)
+    ∙ ap (λ s. is_some (file_name_of (values s)))
+    (view (goal.at.returns-clause-value c).After-as_bytes-bytes)
+
+pub returns-clause-ok : goal.returns-clause-ok
+returns-clause-ok c =
+    let s = path_bytes c.args.path.now in
+    let x = c.args.extension.bytes.now in
+    let stem = c.stem_end-stem in
+    let is = view (goal.at.returns-clause-ok c).After-as_bytes-bytes in
+    c.replace_end.ensures
+    ∙ ap (λ s. (take stem.result s ++ 46 ∷ []) ++ x) c.in_ok-make_room.ensures.bytes
+    ∙ sym (with_extension_of-dotted s x stem.result
+    (ap stem_end_of (sym is) ∙ stem.ensures.value)
+    (ap (λ y. eqb (length y) 0) (sym c.as_bytes-new.ensures.bytes)
+    ∙ sym c.is_empty.ensures ∙ c.if-is_empty.false))
