@@ -11,7 +11,7 @@ use unix_path::Path;
 // A path, its key, and the path that the key reads back as.
 type Row = (&'static [u8], &'static [u8], &'static [u8]);
 
-static KEYS: [Row; 18] = [
+static KEYS: [Row; 24] = [
     (b"", b"", b""),
     (b"/", b"\x00\x01", b"/"),
     (b"//.", b"\x00\x01", b"/"),
@@ -38,10 +38,40 @@ static KEYS: [Row; 18] = [
         b"a.rather.long.name/tar/gz\x00of\x00a.file\x00",
         b"a-rather-long-name.tar.gz/of/a-file",
     ),
+    (
+        b"../../../../../..",
+        b"\x00\x03\x00\x03\x00\x03\x00\x03\x00\x03\x00\x03",
+        b"../../../../../..",
+    ),
+    (
+        b"../../../../../../../a/",
+        b"\x00\x03\x00\x03\x00\x03\x00\x03\x00\x03\x00\x03\x00\x03\x61\x00",
+        b"../../../../../../../a",
+    ),
+    (
+        b"/home/user/.config/.app/..conf/.b",
+        b"\x00\x01home\x00user\x00/config\x00/app\x00//conf\x00/b\x00",
+        b"/home/user/.config/.app/..conf/.b",
+    ),
+    (
+        b"usr/share/.cache/x/./../.hid/y//z",
+        b"usr\x00share\x00/cache\x00x\x00\x00\x03/hid\x00y\x00z\x00",
+        b"usr/share/.cache/x/../.hid/y/z",
+    ),
+    (
+        b"(a)/-b/+c/#d/!e/,f/x/seven77/four",
+        b")a*\x00.b\x00,c\x00$d\x00\"e\x00-f\x00x\x00seven77\x00four\x00",
+        b"(a)/-b/+c/#d/!e/,f/x/seven77/four",
+    ),
+    (
+        b"a-b.c//four//...../x",
+        b"a.b/c\x00four\x00/////\x00x\x00",
+        b"a-b.c/four/...../x",
+    ),
 ];
 
 // Bytes that are the key of no path.
-static NO_KEYS: [&'static [u8]; 18] = [
+static NO_KEYS: [&'static [u8]; 22] = [
     b"\x61",
     b"\x00",
     b"\x00\x00",
@@ -60,6 +90,10 @@ static NO_KEYS: [&'static [u8]; 18] = [
     b"\x61\x00\x2F\x00",
     b"\x00\x01\x2F\x2F\x00",
     b"\x61\x00\x00\x03\x61",
+    b"a.rather.long.name\x00of\x00\x2F\x2F\x00",
+    b"usr\x00share\x00doc\x00packages\x00\x00\x02",
+    b"/cache\x00/hidden\x00/.\x00//\x00a.file\x00",
+    b"\x00\x03\x00\x03\x00\x03\x00\x03\x00\x02",
 ];
 
 // Whether the key of the path is this, also written to a buffer that has a byte more.
