@@ -16,7 +16,6 @@ use super::PathTree;
 use crate::made::vec_of;
 use path_keys::PathKey;
 use std::alloc::AllocError;
-use std::collections::btree_map::Range;
 use std::ops::Bound;
 use unix_bytes::search::first_place;
 

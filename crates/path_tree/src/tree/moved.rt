@@ -1,6 +1,6 @@
 //! Entries that are moved from one base to another.
 ghost use Rattle.std.specs.Prelude.{◌≡◌, ◌↔◌, ◌<◌, ◌++◌, List, [], drop, length, true};
-ghost use Rattle.std.specs.Prelude.{IfOk, IsErrOf, IsOk, OnErr, OnOk, Some};
+ghost use Rattle.std.specs.Prelude.{IfOk, IsErrOf, OnErr, OnOk, Some};
 ghost use Rattle.std.specs.Fmt.{padded};
 ghost use Rattle.std.specs.List.{AllPass};
 ghost use Rattle.std.specs.List.Sorted.{IsStrictlySortedBy};
