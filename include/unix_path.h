@@ -18,10 +18,13 @@
  *         puts("too long");
  *     } else {
  *         out[length] = '\0';
- *         puts(out);
+ *         puts(length == 0 ? "." : out);
  *     }
  *
- * It prints `/srv/b`.
+ * It prints `/srv/b`. A server of files gives the path of a URL to unix_path_join_below with true
+ * in the place of false, once that is decoded: no call here reads `%2e`.
+ *
+ * Link with -lunix_path_c, or with what `pkg-config --libs unix_path` prints.
  *
  * For every call:
  *  - It returns, whatever the bytes are, and reads nothing but the bytes and records given to it.
@@ -107,8 +110,10 @@ _Static_assert(sizeof(size_t) == 8, "the library is for lengths of 64 bits");
 #define UNIX_PATH_NO_END (SIZE_MAX - 5)
 /* What unix_path_way answers if no path without a root leads from the first path to the other. */
 #define UNIX_PATH_NO_WAY (SIZE_MAX - 7)
-/* What a call that has a refusal answers in place of a length above PTRDIFF_MAX, which is
- * SIZE_MAX / 2, and which no buffer has. */
+/* What the calls named above answer in place of a length above PTRDIFF_MAX, which is SIZE_MAX / 2,
+ * and which no buffer has. The other calls that may refuse have no such answer: unix_path_resolved
+ * and unix_path_key_end none that is longer than what they are given, and unix_path_join_within and
+ * unix_path_way allocate theirs, which fails then. */
 #define UNIX_PATH_TOO_LONG (SIZE_MAX / 2 + 1)
 
 /* What is left of a walk over a path: the bytes from front up to back. Nothing is left if front is
@@ -117,7 +122,7 @@ typedef struct {
     size_t front, back;
 } unix_path_walk;
 
-/* The kind of a part. */
+/* The kind of a part: no call gives another number. */
 enum {
     UNIX_PATH_ROOT_DIR = 0,
     UNIX_PATH_CUR_DIR = 1,
@@ -192,7 +197,7 @@ bool unix_path_file_name(const void *path, size_t path_length, unix_path_place *
 bool unix_path_file_stem(const void *path, size_t path_length, unix_path_place *place);
 
 /* The file name behind its last dot; false if that dot is its first byte, or there is no dot or no
- * file name. Of `a.tar.gz` it is `gz`. */
+ * file name. Of `a.tar.gz` it is `gz`, and of `a.` it has no bytes. */
 bool unix_path_extension(const void *path, size_t path_length, unix_path_place *place);
 
 /* The file name up to its first dot behind its first byte; all of it if there is none. False if
@@ -259,9 +264,9 @@ size_t unix_path_with_file_name(const void *path, size_t path_length, const void
                                 size_t name_length, void *out, size_t out_length);
 
 /* The path with its extension replaced, or taken away if the new one is empty; the path as it is
- * if it has no file name. UNIX_PATH_SEPARATOR if the extension has a slash. `a.rs` with
- * `txt` gives `a.txt`. It has at most as many bytes as both and one more, and holds a NUL if what
- * it is made of does. */
+ * if it has no file name. What stands behind the file name goes too. UNIX_PATH_SEPARATOR if the
+ * extension has a slash. `a.rs/.` with `txt` gives `a.txt`, and so does `a`. It has at most as many
+ * bytes as both and one more, and holds a NUL if what it is made of does. */
 size_t unix_path_with_extension(const void *path, size_t path_length, const void *extension,
                                 size_t extension_length, void *out, size_t out_length);
 
@@ -316,23 +321,25 @@ size_t unix_path_join_plain(const void *root, size_t root_length, const void *re
  *
  * as_url says how the request is read. If it is false, the answer is UNIX_PATH_ESCAPES exactly if
  * the request climbs; unix_path_check_request tells whether by a root. If it is true, as for the
- * decoded path of a URL, leading slashes are dropped, and a `..` at the top stays at the top. Else
- * the answer is UNIX_PATH_NUL_IN_REQUEST exactly if the request has a NUL, at which a system call
- * cuts it.
+ * decoded path of a URL, leading slashes are dropped, and so is each `..` at the top: none climbs.
+ * Read either way, a request that isn't refused as one that climbs is refused exactly if it has a
+ * NUL, at which a system call cuts it: the answer is UNIX_PATH_NUL_IN_REQUEST.
  *
- * It goes by names alone: if a part below the root may be a link, let the system refuse links. The
- * answer has at most as many bytes as both and one more. `/srv/` with `a/../b` gives `/srv/b`; with
- * `/../b` it gives `/srv/b` as a URL, and else UNIX_PATH_ESCAPES. */
+ * It goes by names alone: if a part below the root may be a link, let the system refuse links, as
+ * Linux does in openat2 with RESOLVE_BENEATH or RESOLVE_NO_SYMLINKS. The answer has at most as many
+ * bytes as both and one more. `/srv/` with `a/../b` gives `/srv/b`; with `/../b` it gives `/srv/b`
+ * as a URL, and else UNIX_PATH_ESCAPES. */
 size_t unix_path_join_below(const void *root, size_t root_length, const void *request,
                             size_t request_length, bool as_url, void *out, size_t out_length);
 
 /* The way from one path to another by names: of both resolved, without the parts that they then
  * both begin with, `..` for each name that is left of the first, and then what is left of the
  * other. UNIX_PATH_NO_WAY if one has a root and the other has none, or if a `..` is left of the
- * first: then no path without a root leads there. UNIX_PATH_NO_MEMORY only if an allocation failed,
- * which none does between the same bytes. It goes by names alone: if a part may be a link, only the
- * system knows where `..` leads. It holds a NUL if a part that stays does, and an answer of no
- * bytes stands for `.`. From `/a/b/c` to `/a/d` it is `../../d`. */
+ * first: then no path without a root leads there. UNIX_PATH_NO_MEMORY only if an allocation failed;
+ * between the same bytes nothing is allocated. It goes by names alone: if a part may be a link,
+ * only the system knows where `..` leads. It may have more bytes than both paths, since a `..` may
+ * stand for a shorter name. It holds a NUL if a part that stays does, and an answer of no bytes
+ * stands for `.`. From `/a/b/c` to `/a/d` it is `../../d`. */
 size_t unix_path_way(const void *from, size_t from_length, const void *to, size_t to_length,
                      void *out, size_t out_length);
 
@@ -377,6 +384,28 @@ UNIX_PATH_INLINE bool unix_path_is_length(size_t answer) {
     return answer < UNIX_PATH_TOO_LONG;
 }
 
+/* The name of a refusal, as "UNIX_PATH_ESCAPES"; NULL if the answer is a length. */
+UNIX_PATH_INLINE const char *unix_path_refusal(size_t answer) {
+    switch (answer) {
+    case UNIX_PATH_SEPARATOR:
+        return "UNIX_PATH_SEPARATOR";
+    case UNIX_PATH_ESCAPES:
+        return "UNIX_PATH_ESCAPES";
+    case UNIX_PATH_NO_MEMORY:
+        return "UNIX_PATH_NO_MEMORY";
+    case UNIX_PATH_NUL_IN_REQUEST:
+        return "UNIX_PATH_NUL_IN_REQUEST";
+    case UNIX_PATH_NOT_A_KEY:
+        return "UNIX_PATH_NOT_A_KEY";
+    case UNIX_PATH_NO_END:
+        return "UNIX_PATH_NO_END";
+    case UNIX_PATH_NO_WAY:
+        return "UNIX_PATH_NO_WAY";
+    default:
+        return unix_path_is_length(answer) ? NULL : "UNIX_PATH_TOO_LONG";
+    }
+}
+
 /* Whether no byte is NUL, so that the system reads all of the path once a NUL stands behind it. */
 UNIX_PATH_INLINE bool unix_path_is_c_string(const void *path, size_t path_length) {
     const char *bytes = (const char *)path;
@@ -390,8 +419,9 @@ UNIX_PATH_INLINE bool unix_path_is_c_string(const void *path, size_t path_length
 
 #ifndef UNIX_PATH_EXPORTS_ONLY
 /* From here on the name of each call stands for a function of this header, which makes the call
- * with a pointer that isn't null in the place of one that may be. Compilers that know how are told
- * what it reads and writes, and that its answer is to be looked at. */
+ * with a pointer that isn't null in the place of one that may be; it may be passed as a pointer to
+ * a function too. Compilers that know how are told what it reads and writes, and that its answer is
+ * to be looked at. */
 
 #if defined(__GNUC__) && !defined(UNIX_PATH_NO_ATTRIBUTES)
 #pragma GCC diagnostic push

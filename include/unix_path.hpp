@@ -11,6 +11,15 @@
 //
 // It prints `src//main.c`. The look-up copies nothing.
 //
+// A request of a server, joined below its root by names:
+//
+//     unix_path::view root = "/srv/www";
+//     auto file = root.join_below("/img/../a.png", unix_path::reading::as_url);
+//     std::puts(file ? file->c_str() : unix_path::name_of(*file.why()));
+//
+// It prints `/srv/www/a.png`. Both examples need <cstdio>, and the first <map>; unix_path.h says how
+// to link.
+//
 // The calls of the library are proved, and what each answers stands in unix_path.h. This file isn't
 // proved: tests alone show that it passes them what they are to get, and hands on what they answer.
 //
@@ -73,6 +82,31 @@ enum class refusal {
     short_buffer,
 };
 
+/// The refusal's name, as "escapes".
+constexpr const char *name_of(refusal why) noexcept {
+    switch (why) {
+    case refusal::separator:
+        return "separator";
+    case refusal::escapes:
+        return "escapes";
+    case refusal::no_memory:
+        return "no_memory";
+    case refusal::nul_in_request:
+        return "nul_in_request";
+    case refusal::not_a_key:
+        return "not_a_key";
+    case refusal::no_end:
+        return "no_end";
+    case refusal::no_way:
+        return "no_way";
+    case refusal::too_long:
+        return "too_long";
+    case refusal::short_buffer:
+        break;
+    }
+    return "short_buffer";
+}
+
 /// What a call gives, or why it gives nothing.
 template <typename T>
 class [[nodiscard]] result {
@@ -93,7 +127,7 @@ class [[nodiscard]] result {
     const T *operator->() const noexcept UNIX_PATH_LIFETIME { return &checked().value_; }
     T value_or(T other) const { return has_value_ ? value_ : std::move(other); }
 
-    /// Why it gives nothing; none if it gives something.
+    /// Why it gives nothing; none if it gives something. `name_of(*answer.why())` names it.
     std::optional<refusal> why() const noexcept {
         return has_value_ ? std::nullopt : std::optional<refusal>(why_);
     }
@@ -145,6 +179,21 @@ enum class component_kind : std::uint32_t {
     normal = UNIX_PATH_NORMAL,
 };
 
+/// The kind's name, as "root_dir".
+constexpr const char *name_of(component_kind kind) noexcept {
+    switch (kind) {
+    case component_kind::root_dir:
+        return "root_dir";
+    case component_kind::cur_dir:
+        return "cur_dir";
+    case component_kind::parent_dir:
+        return "parent_dir";
+    case component_kind::normal:
+        break;
+    }
+    return "normal";
+}
+
 /// A part of a path: its kind and its bytes, which stand in the path.
 struct component {
     component_kind kind;
@@ -168,7 +217,7 @@ struct chunk {
 };
 
 /// How a request is read: as a path that has to stay below where it starts, or as the decoded path
-/// of a URL, whose leading slashes are dropped and in which a `..` at the top stays at the top.
+/// of a URL, whose leading slashes are dropped, and so is each `..` at the top.
 enum class reading { as_path, as_url };
 
 /// What a path from outside is as a request that stays below a root by names.
@@ -232,7 +281,9 @@ class view {
     bool is_utf8() const noexcept { return unix_path_is_utf8(data(), size()); }
     /// Whether `canonical` gives the same bytes.
     bool is_canonical() const noexcept { return unix_path_is_canonical(data(), size()); }
+    /// Whether the path has a root or ever goes above where it starts.
     bool climbs() const noexcept { return unix_path_climbs(data(), size()); }
+    /// Of a path that has a root it is `has_root`, and `climbs` of one that has none.
     request_check check_request() const noexcept {
         return static_cast<request_check>(unix_path_check_request(data(), size()));
     }
@@ -277,17 +328,20 @@ class view {
 
     // New paths and text: as a std::string, which alone asks for memory, or in the room of a
     // buffer, which asks for none. What stands in a buffer has no NUL behind it. The system cuts a
-    // path at each NUL that it holds, which `has_nul` finds; to it a path of no bytes stands for
-    // `.`.
+    // path at its first NUL, which `has_nul` finds, and refuses a path of no bytes: give it `.`.
+    //
+    // A join goes by names. Where a part below the root may be a link, let the system refuse links,
+    // as Linux does in openat2. For requests from outside take `join_below`: its answer never goes
+    // above the root, and has a NUL only if the root has one.
 
     std::string join(view path) const;
     result<std::string_view> join(view path, buffer out) const noexcept;
     std::string with_file_name(view name) const;
     result<std::string_view> with_file_name(view name, buffer out) const noexcept;
-    /// refusal::separator if the extension has a slash.
+    /// refusal::separator if the extension has a slash; refusal::too_long.
     result<std::string> with_extension(std::string_view extension) const;
     result<std::string_view> with_extension(std::string_view extension, buffer out) const noexcept;
-    /// refusal::separator if the extension has a slash.
+    /// refusal::separator if the extension has a slash; refusal::too_long.
     result<std::string> with_added_extension(std::string_view extension) const;
     result<std::string_view> with_added_extension(std::string_view extension, buffer out) const
         noexcept;
@@ -298,16 +352,18 @@ class view {
     /// refusal::no_memory if the library got none, which it asks for beside the string.
     result<std::string> resolved() const;
     result<std::string_view> resolved(buffer out) const noexcept;
-    /// This path is the root. refusal::escapes exactly if the request climbs, and
-    /// refusal::no_memory if the library got none, which it asks for beside the string.
+    /// This path is the root, and is resolved too. refusal::escapes exactly if the request climbs,
+    /// and refusal::no_memory if the library got none, which it asks for beside the string.
     result<std::string> join_within(view request) const;
     result<std::string_view> join_within(view request, buffer out) const noexcept;
-    /// This path is the root, and both stay as they are spelled. refusal::escapes exactly if the
-    /// request has a root or a `..`.
+    /// This path is the root, and both stay as they are spelled, for roots in which links may
+    /// stand. refusal::escapes exactly if the request has a root or a `..`; refusal::too_long.
     result<std::string> join_plain(view request) const;
     result<std::string_view> join_plain(view request, buffer out) const noexcept;
-    /// This path is the root. refusal::escapes exactly if the request climbs and isn't read as a
-    /// URL; else refusal::nul_in_request exactly if it has a NUL byte.
+    /// This path is the root, and stays as it is spelled; behind it stand the names that the
+    /// request resolves to, with no slash at the end. refusal::escapes exactly if the request
+    /// climbs and isn't read as a URL; else refusal::nul_in_request exactly if it has a NUL byte;
+    /// refusal::too_long.
     result<std::string> join_below(view request, reading how) const;
     result<std::string_view> join_below(view request, reading how, buffer out) const noexcept;
     /// The way from this path to the other by names. refusal::no_way if no path without a root

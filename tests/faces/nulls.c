@@ -127,6 +127,17 @@ static void lengths(void) {
     CHECK(!unix_path_is_length(UNIX_PATH_NO_MEMORY), "refusals");
     CHECK(!unix_path_is_length(UNIX_PATH_NUL_IN_REQUEST), "refusals");
     CHECK(!unix_path_is_length(UNIX_PATH_NO_WAY), "refusals");
+    CHECK(unix_path_refusal(0) == NULL && unix_path_refusal((size_t)PTRDIFF_MAX) == NULL, "names");
+    CHECK(strcmp(unix_path_refusal(UNIX_PATH_TOO_LONG), "UNIX_PATH_TOO_LONG") == 0, "names");
+    CHECK(strcmp(unix_path_refusal(SIZE_MAX), "UNIX_PATH_TOO_LONG") == 0, "no buffer");
+    CHECK(strcmp(unix_path_refusal(UNIX_PATH_SEPARATOR), "UNIX_PATH_SEPARATOR") == 0, "names");
+    CHECK(strcmp(unix_path_refusal(UNIX_PATH_ESCAPES), "UNIX_PATH_ESCAPES") == 0, "names");
+    CHECK(strcmp(unix_path_refusal(UNIX_PATH_NO_MEMORY), "UNIX_PATH_NO_MEMORY") == 0, "names");
+    CHECK(strcmp(unix_path_refusal(UNIX_PATH_NUL_IN_REQUEST), "UNIX_PATH_NUL_IN_REQUEST") == 0,
+          "names");
+    CHECK(strcmp(unix_path_refusal(UNIX_PATH_NOT_A_KEY), "UNIX_PATH_NOT_A_KEY") == 0, "names");
+    CHECK(strcmp(unix_path_refusal(UNIX_PATH_NO_END), "UNIX_PATH_NO_END") == 0, "names");
+    CHECK(strcmp(unix_path_refusal(UNIX_PATH_NO_WAY), "UNIX_PATH_NO_WAY") == 0, "names");
     char version[16];
     snprintf(version, sizeof version, "%d.%d", UNIX_PATH_VERSION_MAJOR, UNIX_PATH_VERSION_MINOR);
     CHECK(strcmp(version, UNIX_PATH_VERSION) == 0, "version %s", version);

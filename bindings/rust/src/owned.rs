@@ -2,6 +2,16 @@
 //!
 //! Each fails with [`Error::NoMemory`] if an allocation failed, and never with
 //! [`Error::Short`].
+//!
+//! ```
+//! use unix_path_rattle::{owned, Request};
+//!
+//! let request = Request::below(b"/img/../a.png")?;
+//! assert_eq!(owned::join_below(b"/srv", request)?, b"/srv/a.png");
+//! assert_eq!(owned::way(b"a/b", b"a/c")?, b"../c");
+//! assert_eq!(owned::key(b"/a")?, b"\0\x01a\0");
+//! # Ok::<(), Box<dyn std::error::Error>>(())
+//! ```
 use crate::error::Error;
 use crate::ffi::{self, Make, MakeOfTwo};
 use crate::request::Request;

@@ -37,7 +37,8 @@ impl<'a> Request<'a> {
     }
 
     /// The request of a path as a root directory reads it, for the decoded paths of URLs and for
-    /// archives: leading slashes are dropped, and a `..` at the top stays at the top.
+    /// archives: leading slashes are dropped, and so is each `..` at the top. A server that would
+    /// rather refuse such a `..` asks [`new`](Request::new) with the path behind its slashes.
     ///
     /// Fails with `Nul` exactly if the path has a NUL byte. Does not allocate.
     #[inline]
