@@ -337,9 +337,10 @@ size_t unix_path_join_below(const void *root, size_t root_length, const void *re
  * other. UNIX_PATH_NO_WAY if one has a root and the other has none, or if a `..` is left of the
  * first: then no path without a root leads there. UNIX_PATH_NO_MEMORY only if an allocation failed;
  * between the same bytes nothing is allocated. It goes by names alone: if a part may be a link,
- * only the system knows where `..` leads. It may have more bytes than both paths, since a `..` may
- * stand for a shorter name. It holds a NUL if a part that stays does, and an answer of no bytes
- * stands for `.`. From `/a/b/c` to `/a/d` it is `../../d`. */
+ * only the system knows where `..` leads. It has at most three bytes for each two of the first path
+ * and one more, 3 * (from_length + 1) / 2, and as many as the other path has. It holds a NUL if a
+ * part that stays does, and an answer of no bytes stands for `.`. From `/a/b/c` to `/a/d` it is
+ * `../../d`. */
 size_t unix_path_way(const void *from, size_t from_length, const void *to, size_t to_length,
                      void *out, size_t out_length);
 

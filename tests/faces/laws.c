@@ -59,6 +59,10 @@ static void room_for_two(view a, view b) {
     }
     CHECK(unix_path_join_below(a.bytes, a.length, b.bytes, b.length, true, out, room) <= room,
           "join below");
+    size_t way_room = 3 * (a.length + 1) / 2 + b.length;
+    uint8_t steps[32];
+    size_t way = unix_path_way(a.bytes, a.length, b.bytes, b.length, steps, way_room);
+    CHECK(way <= way_room || !unix_path_is_length(way), "way");
 }
 
 // The ancestors are the path and each parent of one.

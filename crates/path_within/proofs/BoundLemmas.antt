@@ -106,10 +106,26 @@ spelling_of-fit (RootDir ∷ v ∷ vs) n l =
     omega (arith, slashed_len-cons RootDir (v ∷ vs), length-slashed_bytes (v ∷ vs))
 spelling_of-fit (v ∷ vs) n l = omega (arith, length-slashed_bytes (v ∷ vs))
 
+-- so they have no more bytes than with a slash for each
+pub length-spelling : (vs : List Value) → length (spelling_of vs) ≤ slashed_len vs - 1
+length-spelling vs = spelling_of-fit vs (slashed_len vs - 1) (omega arith)
+
 -- a leading dot is dropped
 kept_of-drop_dot : (vs : List Value) → kept_of [] (drop_dot vs) ≡ kept_of [] vs
 kept_of-drop_dot (CurDir ∷ vs) = refl
 kept_of-drop_dot vs = refl
+
+-- a path without a root and a slash have room for its resolved values and a slash for each
+pub slashed_len-rootless : (s : List ℕ) → is_rooted s ≡ false
+    → slashed_len (resolved_of (values s)) ≤ 1 + length s
+unfolding resolved_of
+slashed_len-rootless s r = omega (
+  arith,
+  sum_by-reverse (λ v. 1 + length (value_bytes v)) (kept_of [] (values s)),
+  ap slashed_len (ap (kept_of []) (sym (drop_dot-values s r)) ∙ kept_of-drop_dot (values s)),
+  sum_by-kept_of (λ v. 1 + length (value_bytes v)) [] (inner_values s),
+  slashed_len-inner s,
+)
 
 -- a resolved path has no more bytes than the path
 pub length-resolved : (s : List ℕ) → length (resolved_bytes_of s) ≤ length s
@@ -120,13 +136,7 @@ length-resolved s = by_test (is_rooted s)
     rootless
   where
     rootless : is_rooted s ≡ false → length (resolved_bytes_of s) ≤ length s
-    rootless r = spelling_of-fit (reverse (kept_of [] (values s))) (length s) (omega (
-      arith,
-      sum_by-reverse (λ v. 1 + length (value_bytes v)) (kept_of [] (values s)),
-      ap slashed_len (ap (kept_of []) (sym (drop_dot-values s r)) ∙ kept_of-drop_dot (values s)),
-      sum_by-kept_of (λ v. 1 + length (value_bytes v)) [] (inner_values s),
-      slashed_len-inner s,
-    ))
+    rootless r = spelling_of-fit (resolved_of (values s)) (length s) (slashed_len-rootless s r)
 
     rooted : (t : List ℕ) → length (resolved_bytes_of (slash ∷ t)) ≤ length (slash ∷ t)
     rooted t = omega (

@@ -28,3 +28,4 @@ pub mod BelowLemmas
 pub mod BelowLawLemmas
 pub mod WritesBackLemmas
 pub mod WrittenLemmas
+pub mod WayBoundLemmas

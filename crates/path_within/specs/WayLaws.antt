@@ -1,5 +1,5 @@
 -- Laws of the way from one path to another. Not in Rust's std.
-use Rattle.std.specs.Prelude.{◌≡◌, ◌≢◌, ℕ, List, false, Some, None}
+use Rattle.std.specs.Prelude.{◌≡◌, ◌≢◌, ◌≤◌, ◌+◌, ◌*◌, ℕ, List, length, false, Some, None}
 use Rattle.unix_path.specs.Joins.{join_of}
 use Rattle.unix_path.specs.Parts.{Value, is_rooted, values}
 use Rattle.path_runs.specs.Spelling.{spelling_of}
@@ -23,3 +23,10 @@ abbrev pub NoWay : Type 0
 NoWay =
     (from to b : List ℕ) → way_of (values from) (values to) ≡ None → is_rooted b ≡ false
     → resolved_bytes_of (join_of from b) ≢ resolved_bytes_of to
+
+-- a way has at most three bytes for each two of the first path and one more, and as many as the
+-- other path has
+abbrev pub WayIsShort : Type 0
+WayIsShort =
+    (from to : List ℕ) (steps : List Value) → way_of (values from) (values to) ≡ Some steps
+    → 2 * length (spelling_of steps) ≤ 3 * (length from + 1) + 2 * length to

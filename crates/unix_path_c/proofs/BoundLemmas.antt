@@ -1,6 +1,6 @@
 -- How many bytes an answer in a buffer has at most.
 use Rattle.std.proofs.Common.{◌≤◌, ◌+◌, ℕ, List, [], ◌∷◌, ◌++◌, cond, eqb, length, take}
-use Rattle.std.proofs.Common.{Option, Some, None, is_some, ap, ⊎_elim, arith, refl, length-append}
+use Rattle.std.proofs.Common.{Option, Some, None, is_some, unwrap_or, option_map, ◌≡◌, ◌*◌, ap, ⊎_elim, arith, refl, length-append}
 use Rattle.std.specs.Option.{option_map_or}
 use Rattle.std.proofs.lemmas.List.{length-take}
 pub use Rattle.unix_bytes.proofs.LossyBoundLemmas.{length-lossy_of}
@@ -9,7 +9,7 @@ use Rattle.unix_path.specs.Edits.{with_name_of}
 use Rattle.unix_path.specs.Extensions.{added_extension_of, name_end_of}
 use Rattle.unix_path.specs.Names.{file_name_of}
 use Rattle.unix_path.specs.Joins.{is_open}
-use Rattle.unix_path.specs.Parts.{slash, values}
+use Rattle.unix_path.specs.Parts.{Value, slash, values}
 use Rattle.unix_path.specs.Rest.{rest}
 use Rattle.unix_path.proofs.CaseLemmas.{by_test}
 use Rattle.unix_path.proofs.NameEndLemmas.{added_extension_at}
@@ -18,10 +18,12 @@ pub use Rattle.path_keys.proofs.LengthLemmas.{length-key_of}
 use Rattle.path_runs.proofs.LeanLemmas.{spelling_of-shortest}
 use Rattle.path_runs.specs.Spelling.{spelling_of}
 use Rattle.path_within.specs.Below.{below_of, names_below}
+use Rattle.path_within.specs.Way.{way_of}
 use Rattle.path_within.specs.Written.{opened}
 use Rattle.path_within.proofs.BelowLemmas.{length-below}
 pub use Rattle.path_within.proofs.BoundLemmas.{length-join_of, length-resolved}
 pub use Rattle.path_within.proofs.BoundLemmas.{length-resolved_join}
+use Rattle.path_within.proofs.WayBoundLemmas.{length-way}
 
 -- a canonical spelling has no more bytes than the path
 pub length-spelling_of : (s : List ℕ) → length (spelling_of (values s)) ≤ length s
@@ -118,3 +120,16 @@ pub ruleset bounds = (
   length-added_extension_of,
   length-with_extension_of,
 )
+
+-- a way has at most three bytes for each two of the first path and one more, and those of the other
+pub way_bound : (from to : List ℕ) (n : ℕ)
+    → Some n ≡ option_map (λ steps. length (spelling_of steps)) (way_of (values from) (values to))
+    → 2 * n ≤ 3 * (length from + 1) + 2 * length to
+way_bound from to n is = found (way_of (values from) (values to)) refl is
+  where
+    found : (way : Option (List Value)) → way_of (values from) (values to) ≡ way
+        → Some n ≡ option_map (λ steps. length (spelling_of steps)) way
+        → 2 * n ≤ 3 * (length from + 1) + 2 * length to
+    found None way is = absurd (let e = is in cc)
+    found (Some steps) way is =
+        omega (arith, length-way from to steps way, ap (λ o. unwrap_or o 0) is)

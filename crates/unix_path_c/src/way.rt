@@ -1,5 +1,6 @@
 //! The way from one path to another, in a buffer of the caller's.
-ghost use Rattle.std.specs.Prelude.{◌≡◌, ◌⊎◌, length, option_map, IfSome, Some, None};
+ghost use Rattle.std.specs.Prelude.{◌≡◌, ◌⊎◌, ◌≤◌, ◌+◌, ◌*◌, length, option_map, IfSome, Some};
+ghost use Rattle.std.specs.Prelude.{None};
 ghost use Rattle.unix_path.specs.Parts.{values};
 ghost use Rattle.path_runs.specs.Buffer.{buffer_after};
 ghost use Rattle.path_runs.specs.Spelling.{spelling_of};
@@ -31,6 +32,9 @@ const NO_WAY: usize = usize::MAX - 7;
 /// frees what it allocates. C passes nothing for `alloc`. Not in Rust's std; as Python's
 /// `PurePath.relative_to` with `walk_up`, which doesn't resolve.
 ///
+/// A way has at most three bytes for each two of the first path and one more, and as many as the
+/// other path has.
+///
 /// From `/a/b/c` to `/a/d` it is `../../d`; from `../x` to `y` there is none.
 #[unsafe(no_mangle)]
 pub extern "C" fn unix_path_way(alloc: Global, from: &[u8], to: &[u8], out: &mut [u8]) -> usize
@@ -38,6 +42,7 @@ pub extern "C" fn unix_path_way(alloc: Global, from: &[u8], to: &[u8], out: &mut
     ensures no_way { result ≡ no_way → way_of (values from.now) (values to.now) ≡ None }
     ensures length { IsLength result → Some result ≡ option_map
         (λ steps. length (spelling_of steps)) (way_of (values from.now) (values to.now)) }
+    ensures short { IsLength result → 2 * result ≤ 3 * (length from.now + 1) + 2 * length to.now }
     ensures out { IsLength result → IfSome (way_of (values from.now) (values to.now))
         (λ steps. out.new ≡ buffer_after (spelling_of steps) out.old) }
     ensures succeeds { from.now ≡ to.now → result ≡ no_memory → ⊥ }

@@ -1,5 +1,5 @@
 //! Laws of the way from one path to another.
-ghost use Rattle.path_within.specs.WayLaws.{WayReadsBack, WayLeads, NoWay};
+ghost use Rattle.path_within.specs.WayLaws.{WayReadsBack, WayLeads, NoWay, WayIsShort};
 
 /// A path joined with its way to another resolves to the other.
 ///
@@ -12,4 +12,15 @@ pub fn way_leads_there()
     ensures values { WayReadsBack }
     ensures leads { WayLeads }
     ensures none { NoWay }
+{}
+
+/// A way has at most three bytes for each two of the first path and one more, and as many as the
+/// other path has.
+///
+/// It has a `..` and a slash for each name that it goes up, and such a name has two bytes with its
+/// slash. Calling it does nothing. Not in Rust's std.
+///
+/// The way from `a/b` to `c` is `../../c`: 7 bytes, where 3 and 1 times three halves and 1 are 7.
+pub fn way_is_short()
+    ensures { WayIsShort }
 {}
