@@ -1,13 +1,13 @@
 -- A key that is read run by run.
 use Rattle.std.proofs.Common.{◌≡◌, ◌<◌, ◌≤◌, ◌+◌, ◌*◌, ℕ, true, false, List, [], ◌∷◌, ◌++◌}
 use Rattle.std.proofs.Common.{length, drop, refl, sym, ap, ◌∙◌, arith, subst, append_assoc}
-use Rattle.std.proofs.Common.{append-nil, length-append, length-drop}
+use Rattle.std.proofs.Common.{length-append, length-drop}
 use Rattle.std.proofs.Common.{map}
 use Rattle.std.proofs.lemmas.List.{append_cancel_left, length-map}
 use Rattle.unix_path.specs.Parts.{Value, values}
 use Rattle.unix_path.specs.Parts.{slash}
 use Rattle.path_keys.specs.Keys.{code, key_of, IsKey}
-use Rattle.path_keys.specs.Codes.{slashed, text_of, AllFit, ReadsAs}
+use Rattle.path_keys.specs.Codes.{slashed, text_of, AllFit}
 use Rattle.path_keys.specs.Runs.{decoded, lead_text, run_code, run_text}
 use Rattle.path_keys.specs.Runs.{BeginsLead, HoldsNone, TakesRun}
 use Rattle.path_keys.specs.declared.runs.Run.{Run}
@@ -157,20 +157,6 @@ reads_run {key} {rest} {more} {len} {n} {run} h k e count = record {
     run_small run,
   );
 }
-
--- if nothing is left, all of the key is read
-pub reads_all : {key rest : List ℕ} {len : ℕ} → ReadsRuns key rest len → length rest ≤ 0
-    → ReadsAs key len
-reads_all {key} {rest} {len} h none = record {
-  vs = h.us;
-  fit = h.fit;
-  key_is = sym (append-nil (key_of h.us)) ∙ ap (λ r. key_of h.us ++ r) (empty rest none) ∙ h.whole;
-  len_is = h.len_is;
-}
-  where
-    empty : (r : List ℕ) → length r ≤ 0 → [] ≡ r
-    empty [] l = refl
-    empty (x ∷ r) l = absurd (omega arith)
 
 -- if something is left that is the key of no values, no path has the key
 pub reads_no_run : {key rest : List ℕ} {len : ℕ} → ReadsRuns key rest len

@@ -1,11 +1,11 @@
 -- Stops: marks behind which no name begins.
-use Rattle.std.proofs.Common.{◌≡◌, ◌<◌, ◌≤◌, ◌+◌, ℕ, Bool, true, false, eqb, List}
-use Rattle.std.proofs.Common.{◌++◌, length, take, drop, get_or, refl, sym, ap, ap₂, ◌∙◌, arith}
+use Rattle.std.proofs.Common.{◌≡◌, ◌<◌, ◌≤◌, ◌+◌, ℕ, Bool, false, eqb, List}
+use Rattle.std.proofs.Common.{◌++◌, length, take, get_or, sym, ap, ap₂, ◌∙◌, arith}
 use Rattle.std.proofs.Common.{eq-eqb, eqb-true, ⊎_elim, ◌&&◌, ◌||◌}
 use Rattle.std.proofs.lemmas.Bool.{and_parts, cases_lt}
 use Rattle.std.proofs.lemmas.List.{get_or-take, get_or_past, get_or_default, length-take-le}
-use Rattle.std.proofs.lemmas.List.{get_or-drop, get_or-append-add}
-use Rattle.path_keys.specs.Stretches.{is_break_of, is_stop_of, none_begins, FirstStopOf}
+use Rattle.std.proofs.lemmas.List.{get_or-append-add}
+use Rattle.path_keys.specs.Stretches.{is_stop_of, none_begins, FirstStopOf}
 
 -- of three bytes that follow each other: whether no name begins at the first
 abbrev pub no_name : ℕ → ℕ → ℕ → ℕ → ℕ → Bool
@@ -32,18 +32,6 @@ no_name-second m p {a} {b} {x} {y} c z e f g =
     (ap (λ t. t || (eqb b p && eqb c m)) (eq-eqb b m f)
     ∙ sym (ap (λ t. t || (eqb y p && eqb z m)) (eq-eqb y m g)))
 
--- a stop is a mark with another behind it, or with the point
-pub no_break-no_stop : (m p : ℕ) (s : List ℕ) (i : ℕ) → is_break_of m p s i ≡ false
-    → is_stop_of m p s i ≡ false
-no_break-no_stop m p s i h = by (eqb (get_or s i 0) m) (eqb (get_or s (i + 1) m) m)
-    (eqb (get_or s (i + 1) m) p) _ h
-  where
-    by : (x a b r : Bool) → (x && (a || b)) ≡ false → (x && (a || (b && r))) ≡ false
-    by false a b r e = refl
-    by true true b r e = e
-    by true false true r e = absurd (cc)
-    by true false false r e = refl
-
 -- a stop behind other bytes
 pub is_stop-append : (m p : ℕ) (xs ys : List ℕ) (i : ℕ)
     → is_stop_of m p (xs ++ ys) (length xs + i) ≡ is_stop_of m p ys i
@@ -55,17 +43,6 @@ is_stop-append m p xs ys i =
   where
     at : (k n : ℕ) → k ≡ length xs + n → get_or (xs ++ ys) k m ≡ get_or ys n m
     at k n e = ap (λ n. get_or (xs ++ ys) n m) e ∙ get_or-append-add xs ys n m
-
--- a stop in what is left behind n bytes
-pub is_stop-drop : (m p : ℕ) (s : List ℕ) (n i : ℕ)
-    → is_stop_of m p (drop n s) i ≡ is_stop_of m p s (n + i)
-is_stop-drop m p s n i =
-    ap₂ (λ x r. eqb x m && r) (get_or-drop n s i 0)
-    (no_name-same m p (at (i + 1) (n + i + 1) (omega arith))
-    (at (i + 1 + 1) (n + i + 1 + 1) (omega arith)) (at (i + 1 + 2) (n + i + 1 + 2) (omega arith)))
-  where
-    at : (i k : ℕ) → n + i ≡ k → get_or (drop n s) i m ≡ get_or s k m
-    at i k e = get_or-drop n s i m ∙ ap (λ k. get_or s k m) e
 
 -- the byte at i in the front of a string that ends before a mark or with the string
 front_same : (m : ℕ) (s : List ℕ) (n i : ℕ) → n ≤ length s → get_or s n m ≡ m → i ≤ n

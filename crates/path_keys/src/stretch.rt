@@ -1,5 +1,5 @@
 //! Where a stretch of names ends, in a path or a key.
-ghost use Rattle.std.specs.Prelude.{◌≡◌, ℕ, ◌+◌, ◌<◌, ◌≤◌, ◌==◌, false, true, length};
+ghost use Rattle.std.specs.Prelude.{◌≡◌, ℕ, ◌+◌, ◌<◌, ◌≤◌, ◌==◌, false, length};
 ghost use Rattle.std.specs.Prelude.{slice_index_or};
 ghost use Rattle.path_keys.specs.Stretches.{is_break_of, is_stop_of, none_begins, FirstStopOf};
 ghost use Rattle.path_keys.specs.Stretches.{HasFewBits};
