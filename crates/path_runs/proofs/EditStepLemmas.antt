@@ -101,7 +101,8 @@ popped-front s None is =
     let e : popped_of s ≡ s = popped_of-none s is in
     e ∙ sym (ap (λ t. take (length t) s) e ∙ take-length s)
 popped-front s (Some p) is =
-    let e : popped_of s ≡ rest s 0 1 = ap (λ o. unwrap_or o s) (sym is) ∙ parent_of-some s p (sym is) in
+    let e : popped_of s ≡ rest s 0 1 =
+    ap (λ o. unwrap_or o s) (sym is) ∙ parent_of-some s p (sym is) in
     e ∙ sym (take-rest s 1) ∙ sym (ap (λ t. take (length t) s) e)
 
 -- a pop keeps what it leaves
@@ -121,8 +122,8 @@ unfolding values
 values_root s e = ap (map (λ p. p.value)) e
 
 -- a path with a root and no part behind it has no parent
-pub parent_of-bare : (s : List ℕ) (end : ℕ) → 0 < length s → get_or s 0 0 ≡ 47 → parts (take end s) ≡ parts s
-    → end ≤ 1 → None ≡ parent_of s
+pub parent_of-bare : (s : List ℕ) (end : ℕ) → 0 < length s → get_or s 0 0 ≡ 47
+    → parts (take end s) ≡ parts s → end ≤ 1 → None ≡ parent_of s
 parent_of-bare [] end some r same few = absurd (omega arith)
 parent_of-bare (b ∷ s) zero some r same few =
     parent_of-none (b ∷ s) (values_none (b ∷ s) (sym same ∙ parts-nil))

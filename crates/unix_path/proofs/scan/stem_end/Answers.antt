@@ -1,5 +1,5 @@
-use Rattle.std.proofs.Common.{◌≡◌, ℕ, ◌+◌, ◌-◌, ◌≤◌, ◌<◌, List, drop, take, length, ap, arith, eq-eqb}
-use Rattle.std.proofs.Common.{length-drop, ne_eqb}
+use Rattle.std.proofs.Common.{◌≡◌, ℕ, ◌+◌, ◌-◌, ◌≤◌, ◌<◌, List, drop, take, length, ap, arith}
+use Rattle.std.proofs.Common.{eq-eqb, length-drop, ne_eqb}
 use Rattle.std.proofs.lemmas.List.{take_rest}
 use Rattle.unix_path.proofs.NamedLemmas.{ends_in_name}
 use Rattle.unix_path.proofs.StemCutLemmas.{dot_at, plain_from, stem_end-cut, stem_end-known}
@@ -33,15 +33,16 @@ returns-then-place-eq0-clause-value c =
     let place = known + past.result - 1 in
     let some = c.if-past-eq0.false in
     let h = ends_in_name s c.requires.name in
+    let l = fits s known past.result c.requires.in_range past.ensures.in_range some in
     let plain = plain_from s _ known past.result (place + 1) c.requires.in_range
     (take_rest s known) past.ensures.none_behind (omega arith) in
     elim c.then-place-eq0.branch [
       | then-place-eq0-via-then-place-eq0 w ↦
-          stem_end-lead s place h (fits s known past.result c.requires.in_range past.ensures.in_range some) plain (λ some. absurd (omega (arith, w.if-place-eq0.true)))
+          stem_end-lead s place h l plain (λ some. absurd (omega (arith, w.if-place-eq0.true)))
       | then-place-eq0-via-else-place-eq0+then-bytes-place-eq47 w ↦
-          stem_end-slash s place h (fits s known past.result c.requires.in_range past.ensures.in_range some) plain w.if-bytes-place-eq47.true
+          stem_end-slash s place h l plain w.if-bytes-place-eq47.true
       | then-place-eq0-via-else-place-eq0+else-bytes-place-eq47+then-bytes-place-eq47-2 w ↦
-          stem_end-lead s place h (fits s known past.result c.requires.in_range past.ensures.in_range some) plain (λ _. eq-eqb _ 47 w.if-bytes-place-eq47-2.true)
+          stem_end-lead s place h l plain (λ _. eq-eqb _ 47 w.if-bytes-place-eq47-2.true)
     ]
 
 pub returns-clause-value : goal.returns-clause-value
@@ -52,9 +53,10 @@ returns-clause-value c =
     let place = known + past.result - 1 in
     let some = c.if-past-eq0.false in
     let h = ends_in_name s c.requires.name in
+    let l = fits s known past.result c.requires.in_range past.ensures.in_range some in
     let plain = plain_from s _ known past.result (place + 1) c.requires.in_range
     (take_rest s known) past.ensures.none_behind (omega arith) in
-    stem_end-cut s place h (fits s known past.result c.requires.in_range past.ensures.in_range some) plain
+    stem_end-cut s place h l plain
     (dot_at s _ known past.result place (take_rest s known) (omega arith) (omega arith)
     (past.ensures.after (omega arith)) c.if-bytes-place-eq47.false)
     (omega (arith, c.if-place-eq0.false)) (ne_eqb _ 47 c.if-bytes-place-eq47-2.false)

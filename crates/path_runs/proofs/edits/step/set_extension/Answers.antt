@@ -1,4 +1,5 @@
-use Rattle.std.proofs.Common.{◌≡◌, ◌∷◌, ◌++◌, [], length, take, eqb, is_some, sym, ap, ◌∙◌, arith, append-nil}
+use Rattle.std.proofs.Common.{◌≡◌, ◌∷◌, ◌++◌, [], length, take, eqb, is_some, sym}
+use Rattle.std.proofs.Common.{ap, ◌∙◌, arith, append-nil}
 use Rattle.std.proofs.Common.{eqb-true}
 use Rattle.std.proofs.lemmas.List.{append_assoc}
 use Rattle.unix_path.specs.Buffers.{path_bytes}
@@ -22,7 +23,8 @@ view c = c.as_bytes-bytes.ensures.bytes ∙ c.as_unix_str.ensures.bytes ∙ c.as
 pub returns-in_default-clause-value : goal.returns-in_default-clause-value
 returns-in_default-clause-value c =
     sym (file_name_of-no_name_end _ c.in_default.ensures.value)
-    ∙ ap (λ s. is_some (file_name_of (values s))) (view (goal.at.returns-in_default-clause-value c).After-as_bytes-bytes)
+    ∙ ap (λ s. is_some (file_name_of (values s)))
+    (view (goal.at.returns-in_default-clause-value c).After-as_bytes-bytes)
 
 pub returns-in_default-clause-ok : goal.returns-in_default-clause-ok
 returns-in_default-clause-ok c =
@@ -38,7 +40,8 @@ returns-then-is_empty-clause-known c =
     let stem = c.stem_end-stem in
     let t = path_bytes c.truncate.new.path in
     IsKnown-cut v t stem.result _ _ c.cut.ensures stem.ensures.known
-    (keeps-front v [] t stem.result (omega (arith, stem.ensures.in_range, c.in-Some.ensures.in_range))
+    (keeps-front v [] t stem.result
+    (omega (arith, stem.ensures.in_range, c.in-Some.ensures.in_range))
     (c.truncate.ensures ∙ ap (take stem.result) (sym is) ∙ sym (append-nil (take stem.result v))))
 
 pub returns-then-is_empty-clause-value : goal.returns-then-is_empty-clause-value
