@@ -8,6 +8,7 @@ mod canonical;
 mod chains;
 mod collected;
 mod congruent;
+mod edit_lists;
 mod edits;
 mod facts;
 mod families;

@@ -129,7 +129,7 @@ type ListRow = (
     &'static [Answer],
 );
 
-static LISTS_OF_EDITS: [ListRow; 5] = [
+static LISTS_OF_EDITS: [ListRow; 9] = [
     (
         "/tmp/foo.txt",
         &[
@@ -176,6 +176,108 @@ static LISTS_OF_EDITS: [ListRow; 5] = [
         &[Answer::Separator, Answer::Plain],
     ),
     ("a", &[], "a", &[]),
+    (
+        "..//",
+        &[
+            Edit::SetExtension(UnixStr { bytes: b"x" }),
+            Edit::SetFileName(UnixStr { bytes: b"" }),
+            Edit::SetFileName(UnixStr { bytes: b"." }),
+            Edit::AddExtension(UnixStr { bytes: b"" }),
+            Edit::Push(Path { bytes: b"a" }),
+            Edit::Pop,
+            Edit::SetFileName(UnixStr { bytes: b"b" }),
+        ],
+        "../b",
+        &[
+            Answer::Flag(false),
+            Answer::Plain,
+            Answer::Plain,
+            Answer::Flag(false),
+            Answer::Plain,
+            Answer::Flag(true),
+            Answer::Plain,
+        ],
+    ),
+    (
+        "/./",
+        &[
+            Edit::Pop,
+            Edit::Push(Path { bytes: b"" }),
+            Edit::Pop,
+            Edit::SetFileName(UnixStr { bytes: b"." }),
+            Edit::Pop,
+            Edit::Push(Path { bytes: b"a" }),
+            Edit::Pop,
+        ],
+        "/",
+        &[
+            Answer::Flag(false),
+            Answer::Plain,
+            Answer::Flag(false),
+            Answer::Plain,
+            Answer::Flag(false),
+            Answer::Plain,
+            Answer::Flag(true),
+        ],
+    ),
+    (
+        ".ab",
+        &[
+            Edit::SetExtension(UnixStr { bytes: b"" }),
+            Edit::AddExtension(UnixStr { bytes: b"c" }),
+            Edit::SetExtension(UnixStr { bytes: b"" }),
+            Edit::SetExtension(UnixStr { bytes: b"d" }),
+            Edit::Push(Path { bytes: b"" }),
+            Edit::SetExtension(UnixStr { bytes: b"" }),
+            Edit::Push(Path { bytes: b"." }),
+            Edit::AddExtension(UnixStr { bytes: b"" }),
+            Edit::SetExtension(UnixStr { bytes: b"" }),
+        ],
+        ".ab",
+        &[
+            Answer::Flag(true),
+            Answer::Flag(true),
+            Answer::Flag(true),
+            Answer::Flag(true),
+            Answer::Plain,
+            Answer::Flag(true),
+            Answer::Plain,
+            Answer::Flag(true),
+            Answer::Flag(true),
+        ],
+    ),
+    (
+        "ab",
+        &[
+            Edit::SetExtension(UnixStr { bytes: b"" }),
+            Edit::Push(Path { bytes: b"c" }),
+            Edit::SetExtension(UnixStr { bytes: b"" }),
+            Edit::Pop,
+            Edit::SetFileName(UnixStr { bytes: b"d.e" }),
+            Edit::SetExtension(UnixStr { bytes: b"" }),
+            Edit::Push(Path { bytes: b"/" }),
+            Edit::SetExtension(UnixStr { bytes: b"" }),
+            Edit::Clear,
+            Edit::SetExtension(UnixStr { bytes: b"x" }),
+            Edit::SetFileName(UnixStr { bytes: b"f." }),
+            Edit::SetExtension(UnixStr { bytes: b"" }),
+        ],
+        "f",
+        &[
+            Answer::Flag(true),
+            Answer::Plain,
+            Answer::Flag(true),
+            Answer::Flag(true),
+            Answer::Plain,
+            Answer::Flag(true),
+            Answer::Plain,
+            Answer::Flag(false),
+            Answer::Plain,
+            Answer::Flag(false),
+            Answer::Plain,
+            Answer::Flag(true),
+        ],
+    ),
 ];
 
 // A path, a base, and the path without the base, joined to the base; `None` if it doesn't start

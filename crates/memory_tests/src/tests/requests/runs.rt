@@ -83,3 +83,28 @@ fn edits_applied(rt: HostRuntime) -> Result<(), Fail> {
         ),
     }
 }
+
+// The path that the first of these extensions leave.
+fn extended_text(done: usize) -> &'static str {
+    match done {
+        0 => "ab",
+        1 => "ab.0123456789",
+        _ => "ab.0123456789.01234567890123456789",
+    }
+}
+
+#[test]
+fn extensions_applied(rt: HostRuntime) -> Result<(), Fail> {
+    let edits = [
+        Edit::SetExtension(UnixStr::new("0123456789")),
+        Edit::AddExtension(UnixStr::new("01234567890123456789")),
+    ];
+    let mut buffer = PathBuf::from_text(rt.alloc(), "ab")?;
+    match apply(rt.alloc(), &mut buffer, edits.as_slice()) {
+        Ok(answers) => report(true, answers.len() == 2 && holds(&buffer, extended_text(2))),
+        Err(error) => report(
+            false,
+            error.done < 2 && holds(&buffer, extended_text(error.done)),
+        ),
+    }
+}

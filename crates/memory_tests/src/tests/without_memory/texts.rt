@@ -5,7 +5,7 @@ use std::alloc::Global;
 use std::test::Fail;
 use unix_bytes::bytes::{LossyText, UnixStr, UnixString};
 use unix_bytes::lossy::{Utf8Lossy, utf8_char_width};
-use unix_bytes::search::{common_len, first_place, near_common_len, past_last};
+use unix_bytes::search::{common_len, first_place, near_common_len, past_last, past_last_of_two};
 
 fn is_view() -> bool {
     let foo = UnixStr::new("foo");
@@ -33,6 +33,7 @@ fn is_found() -> bool {
     utf8_char_width(b'a') == 1
         && first_place(b"a/b", b'/') == 1
         && past_last(b"a/b", b'/') == 2
+        && past_last_of_two(b"a/b", b'.', b'/') == 2
         && common_len(b"ab", b"ac") == 1
         && near_common_len(b"ab", b"ac") == 1
 }

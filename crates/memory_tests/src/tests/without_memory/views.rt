@@ -5,8 +5,8 @@ use std::cmp::Ordering;
 use std::test::Fail;
 use unix_path::bytes::UnixStr;
 use unix_path::scan::{
-    any_break, begins_with_parent, dot_before, ends_with_parent, first_break, idle_len, is_idle,
-    is_open, is_trailing,
+    any_break, begins_with_parent, dot_before, ends_in_name, ends_with_parent, first_break,
+    idle_len, is_idle, is_open, is_trailing,
 };
 use unix_path::{Component, Display, Path, StripPrefixError, is_separator};
 
@@ -91,6 +91,7 @@ fn is_scanned() -> bool {
         && any_break(b"a/") == 1
         && begins_with_parent(b"../a")
         && ends_with_parent(b"a/..")
+        && ends_in_name(b"a/b")
         && is_open(b"a/")
         && dot_before(b"rs") == Some(b'.')
 }
