@@ -12,6 +12,8 @@ pub mod ManyLemmas
 pub mod DifferenceLemmas
 pub mod ChangedLemmas
 pub mod WalkLemmas
+pub mod AheadLemmas
+pub mod BesideLemmas
 pub mod ChildKeyLemmas
 pub mod ChildLemmas
 pub mod ChildWalkLemmas

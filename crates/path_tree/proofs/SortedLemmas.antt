@@ -61,7 +61,8 @@ module _ {K V : Type 0} (cmp : K → K → Ordering) (total : IsTotalOrder cmp) 
   )
 
 module _ {K : Type 0} (bytes_of : K → List ℕ) where
-  less_all : (q k : K) → keys_cmp bytes_of q k ≡ Less → (ks : List K)
+  -- what is less than a key is less than all that are greater than it
+  pub less_all : (q k : K) → keys_cmp bytes_of q k ≡ Less → (ks : List K)
       → AllByRecursion (λ l. keys_cmp bytes_of k l ≡ Less) ks
       → AllByRecursion (λ l. keys_cmp bytes_of q l ≡ Less) ks
   less_all q k less [] all = tt
@@ -95,7 +96,8 @@ module _ {K V : Type 0} (bytes_of : K → List ℕ) where
   abbrev pub finds_at : K → List (K × V) → Option V
   finds_at q es = lookup (is_at (keys_cmp bytes_of q)) es
 
-  none_greater : (q : K) (es : List (K × V))
+  -- what is less than all keys isn't found
+  pub none_greater : (q : K) (es : List (K × V))
       → AllByRecursion (λ l. keys_cmp bytes_of q l ≡ Less) (keys_of es) → finds_at q es ≡ None
   none_greater q [] all = refl
   none_greater q (e ∷ es) all =

@@ -1,6 +1,7 @@
 pub mod Read
 pub mod Rows
 pub mod Made
+pub mod Ahead
 pub mod Tree
 pub mod Lent
 pub mod Nearest

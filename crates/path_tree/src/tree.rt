@@ -14,6 +14,7 @@ ghost use Rattle.path_keys.specs.Held.{key_bytes};
 ghost use Rattle.path_keys.specs.Keys.{key_of};
 ghost use Rattle.path_tree.specs.Read.{is_own, key_values};
 
+mod ahead;
 mod changed;
 mod children;
 mod difference;

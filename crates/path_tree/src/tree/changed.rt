@@ -11,9 +11,9 @@ impl<V> PathTree<V> {
     /// The keys of the paths that both trees have with different values, and the values, this
     /// tree's first, in path order.
     ///
-    /// Looks up each key in the other tree. Allocates as the list grows; fails if an allocation
-    /// fails, and then the list is dropped. If there are none, does not allocate, and succeeds. Not
-    /// in Rust's std.
+    /// Walks once over both trees, side by side. Allocates as the list grows; fails if an
+    /// allocation fails, and then the list is dropped. If there are none, does not allocate, and
+    /// succeeds. Not in Rust's std.
     ///
     /// With 1 at `a/b`, 2 at `c` and 3 at `d`, beside a tree with 5 at `a//b` and 2 at `c`, it is
     /// 61 00 62 00 with 1 and 5.
@@ -29,8 +29,9 @@ impl<V> PathTree<V> {
             ≡ [] → IsOk result }
     {
         let mut found = Vec::new(self.alloc);
+        let mut others = other.ahead();
         for (key, value) in self.entries.iter() {
-            if let Some(other_value) = other.find(key) {
+            if let Some(other_value) = others.find(key) {
                 if !value.eq(other_value) {
                     found.push((key.as_slice(), value, other_value))?;
                 }

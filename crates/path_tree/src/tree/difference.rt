@@ -10,9 +10,9 @@ impl<V> PathTree<V> {
 
     /// The keys of the paths that the other tree lacks, and their values, in path order.
     ///
-    /// Looks up each key in the other tree. Allocates as the list grows; fails if an allocation
-    /// fails, and then the list is dropped. If the other has all paths, does not allocate, and
-    /// succeeds. As Rust's `BTreeSet::difference`, with values.
+    /// Walks once over both trees, side by side. Allocates as the list grows; fails if an
+    /// allocation fails, and then the list is dropped. If the other has all paths, does not
+    /// allocate, and succeeds. As Rust's `BTreeSet::difference`, with values.
     ///
     /// With 1 at `a/b` and 2 at `c`, beside a tree with 3 at `a//b`, it is 63 00 with 2.
     pub fn difference<'a, W>(
@@ -25,8 +25,9 @@ impl<V> PathTree<V> {
             → IsOk result }
     {
         let mut found = Vec::new(self.alloc);
+        let mut others = other.ahead();
         for (key, value) in self.entries.iter() {
-            if !other.has(key) {
+            if others.find(key).is_none() {
                 found.push((key.as_slice(), value))?;
             }
         }

@@ -1,16 +1,42 @@
 use Rattle.std.proofs.Common.{◌≡◌, ◌∷◌, ◌++◌, ◌∙◌, false, true, List, None, Some, ap, map, rules}
 use Rattle.std.proofs.Common.{subst, sym}
-use Rattle.std.proofs.lemmas.List.Elements.{All-tail}
 use Rattle.unix_path.specs.Parts.{Value}
 use Rattle.path_table.specs.Table.{value_at}
+use Rattle.path_tree.specs.Ahead.{ahead_of}
 use Rattle.path_tree.specs.Changed.{lent_both, rows_changed}
-use Rattle.path_tree.specs.Read.{is_own, key_values}
-use Rattle.path_tree.specs.Rows.{Key, key_rows}
+use Rattle.path_tree.specs.Read.{key_values}
+use Rattle.path_tree.specs.Rows.{key_rows}
 use Rattle.path_tree.specs.Tree.{table_of}
+use Rattle.path_tree.proofs.BesideLemmas.{Beside, beside_first, beside_more}
 use Rattle.path_tree.proofs.ChangedLemmas.{absent_row, changed_row, equal_row}
 use Rattle.path_tree.proofs.DifferenceLemmas.{map_push-append, some_append}
-use Rattle.path_tree.proofs.RowLemmas.{Own}
 use Rattle.path_tree.proofs.tree.PathTree.changed.Goals as goal
+
+pub loop-key-init : goal.loop-key-init
+loop-key-init g c =
+    let tree = c.args.self.now in
+    let other = table_of c.args.other.now in
+    let ahead = ahead_of c.ahead-others.result.first c.ahead-others.result.behind in
+    let all : c.into_iter-key-iterator.result ≡ tree.entries.entries = search rules in (
+      tt,
+      tt,
+      subst (Beside other ahead) (sym all) (beside_first other ahead tree.entries.entries
+          (ap key_rows c.ahead-others.ensures) tree.own c.iter-key-items.ensures.ordered),
+      ap (λ items. map lent_both items ++ rows_changed g.V.PartialEq.eq other (key_rows c.into_iter-key-iterator.result))
+          c.new-found.ensures.items
+          ∙ ap (λ entries. rows_changed g.V.PartialEq.eq other (key_rows entries)) all,
+    )
+
+pub find-requires : goal.find-requires
+find-requires g c =
+    let other = table_of c.args.other.now in
+    let rest = c.next.new.self in
+    let key = c.in-Some.key.now in
+    let ahead = ahead_of c.loop-key.others.first c.loop-key.others.behind in
+    let steps : c.loop-key.key-iterator ≡ (key, c.in-Some.value.now) ∷ rest = search rules in
+    let h : Beside other ahead ((key, c.in-Some.value.now) ∷ rest) =
+    subst (Beside other ahead) steps c.loop-key.invariant.2 in
+    h.own.0
 
 pub loop-key-preserved-in-Continue-1 : goal.loop-key-preserved-in-Continue-1
 loop-key-preserved-in-Continue-1 g c =
@@ -20,18 +46,19 @@ loop-key-preserved-in-Continue-1 g c =
     let key = c.in-Some.key.now in
     let x = c.in-Some.value.now in
     let row : List Value × g.row.V.Denot = (key_values key.items, x) in
+    let ahead = ahead_of c.loop-key.others.first c.loop-key.others.behind in
     let found = map lent_both c.loop-key.found.items in
     let steps : c.loop-key.key-iterator ≡ (key, x) ∷ rest = search rules in
+    let h : Beside other ahead ((key, x) ∷ rest) =
+    subst (Beside other ahead) steps c.loop-key.invariant.2 in
     let y = c.in-Some-find.other_value.now in
     let is : value_at row.0 other ≡ Some y =
-    ap (λ k. value_at (key_values k) other) (sym c.deref.ensures.value)
-    ∙ sym c.in-Some-find.ensures in
+    sym h.alike.0 ∙ sym c.in-Some-find.ensures.value in
     let differ : eq x y ≡ false = search rules in
     let left = rows_changed eq other (key_rows rest) in (
       tt,
       tt,
-      All-tail (λ (k : Key). is_own k.items ≡ true) _ _
-          (subst (Own (λ (k : Key). k.items)) steps c.loop-key.invariant.2),
+      beside_more other ahead _ key c.in-Some-find.ensures.later x rest h,
       ap (λ items. map lent_both items ++ left) c.in_ok-push.ensures.items
           ∙ map_push-append lent_both c.loop-key.found.items
           (c.as_slice.result, c.in-Some.value, c.in-Some-find.other_value) left
@@ -49,12 +76,14 @@ returns-in_err-push-clause-succeeds g c = λ none.
     let key = c.in-Some.key.now in
     let x = c.in-Some.value.now in
     let row : List Value × g.row.V.Denot = (key_values key.items, x) in
+    let ahead = ahead_of c.loop-key.others.first c.loop-key.others.behind in
     let found = map lent_both c.loop-key.found.items in
     let steps : c.loop-key.key-iterator ≡ (key, x) ∷ rest = search rules in
+    let h : Beside other ahead ((key, x) ∷ rest) =
+    subst (Beside other ahead) steps c.loop-key.invariant.2 in
     let y = c.in-Some-find.other_value.now in
     let is : value_at row.0 other ≡ Some y =
-    ap (λ k. value_at (key_values k) other) (sym c.deref.ensures.value)
-    ∙ sym c.in-Some-find.ensures in
+    sym h.alike.0 ∙ sym c.in-Some-find.ensures.value in
     let differ : eq x y ≡ false = search rules in
     let left = rows_changed eq other (key_rows rest) in
     absurd (some_append found (row.0, x, y) left
@@ -70,17 +99,18 @@ loop-key-preserved-else-not-eq g c =
     let key = c.in-Some.key.now in
     let x = c.in-Some.value.now in
     let row : List Value × g.row.V.Denot = (key_values key.items, x) in
+    let ahead = ahead_of c.loop-key.others.first c.loop-key.others.behind in
     let found = map lent_both c.loop-key.found.items in
     let steps : c.loop-key.key-iterator ≡ (key, x) ∷ rest = search rules in
+    let h : Beside other ahead ((key, x) ∷ rest) =
+    subst (Beside other ahead) steps c.loop-key.invariant.2 in
     let y = c.in-Some-find.other_value.now in
     let is : value_at row.0 other ≡ Some y =
-    ap (λ k. value_at (key_values k) other) (sym c.deref.ensures.value)
-    ∙ sym c.in-Some-find.ensures in
+    sym h.alike.0 ∙ sym c.in-Some-find.ensures.value in
     let same : eq x y ≡ true = search rules in (
       tt,
       tt,
-      All-tail (λ (k : Key). is_own k.items ≡ true) _ _
-          (subst (Own (λ (k : Key). k.items)) steps c.loop-key.invariant.2),
+      beside_more other ahead _ key c.in-Some-find.ensures.later x rest h,
       ap (λ rows. found ++ rows) (sym (equal_row eq other row (key_rows rest) y is same))
           ∙ ap (λ entries. found ++ rows_changed eq other (key_rows entries)) (sym steps)
           ∙ c.loop-key.invariant.3,
@@ -94,15 +124,16 @@ loop-key-preserved g c =
     let key = c.in-Some.key.now in
     let x = c.in-Some.value.now in
     let row : List Value × g.row.V.Denot = (key_values key.items, x) in
+    let ahead = ahead_of c.loop-key.others.first c.loop-key.others.behind in
     let found = map lent_both c.loop-key.found.items in
     let steps : c.loop-key.key-iterator ≡ (key, x) ∷ rest = search rules in
+    let h : Beside other ahead ((key, x) ∷ rest) =
+    subst (Beside other ahead) steps c.loop-key.invariant.2 in
     let none : value_at row.0 other ≡ None =
-    ap (λ k. value_at (key_values k) other) (sym c.deref.ensures.value)
-    ∙ sym c.in_default.ensures in (
+    sym h.alike.0 ∙ sym c.in_default.ensures.value in (
       tt,
       tt,
-      All-tail (λ (k : Key). is_own k.items ≡ true) _ _
-          (subst (Own (λ (k : Key). k.items)) steps c.loop-key.invariant.2),
+      beside_more other ahead _ key c.in_default.ensures.later x rest h,
       ap (λ rows. found ++ rows) (sym (absent_row eq other row (key_rows rest) none))
           ∙ ap (λ entries. found ++ rows_changed eq other (key_rows entries)) (sym steps)
           ∙ c.loop-key.invariant.3,
