@@ -17,14 +17,16 @@ loop-key-init g c =
     let tree = c.args.self.now in
     let other = table_of c.args.other.now in
     let ahead = ahead_of c.ahead-others.result.first c.ahead-others.result.behind in
-    let all : c.into_iter-key-iterator.result ≡ tree.entries.entries = search rules in (
+    let eq = g.V.PartialEq.eq in
+    let all_left = c.into_iter-key-iterator.result in
+    let all : all_left ≡ tree.entries.entries = search rules in (
       tt,
       tt,
       subst (Beside other ahead) (sym all) (beside_first other ahead tree.entries.entries
           (ap key_rows c.ahead-others.ensures) tree.own c.iter-key-items.ensures.ordered),
-      ap (λ items. map lent_both items ++ rows_changed g.V.PartialEq.eq other (key_rows c.into_iter-key-iterator.result))
+      ap (λ items. map lent_both items ++ rows_changed eq other (key_rows all_left))
           c.new-found.ensures.items
-          ∙ ap (λ entries. rows_changed g.V.PartialEq.eq other (key_rows entries)) all,
+          ∙ ap (λ entries. rows_changed eq other (key_rows entries)) all,
     )
 
 pub find-requires : goal.find-requires

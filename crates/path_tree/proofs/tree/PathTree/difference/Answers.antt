@@ -16,12 +16,13 @@ loop-key-init g c =
     let tree = c.args.self.now in
     let other = table_of c.args.other.now in
     let ahead = ahead_of c.ahead-others.result.first c.ahead-others.result.behind in
-    let all : c.into_iter-key-iterator.result ≡ tree.entries.entries = search rules in (
+    let all_left = c.into_iter-key-iterator.result in
+    let all : all_left ≡ tree.entries.entries = search rules in (
       tt,
       tt,
       subst (Beside other ahead) (sym all) (beside_first other ahead tree.entries.entries
           (ap key_rows c.ahead-others.ensures) tree.own c.iter-key-items.ensures.ordered),
-      ap (λ items. map lent_row items ++ rows_lacking other (key_rows c.into_iter-key-iterator.result))
+      ap (λ items. map lent_row items ++ rows_lacking other (key_rows all_left))
           c.new-found.ensures.items
           ∙ ap (λ entries. rows_lacking other (key_rows entries)) all,
     )
@@ -55,7 +56,8 @@ loop-key-preserved-in-Continue-1 g c =
       tt,
       beside_more other ahead _ key c.find.ensures.later c.in-Some.value.now rest h,
       ap (λ items. map lent_row items ++ left) c.in_ok-push.ensures.items
-          ∙ map_push-append lent_row c.loop-key.found.items (c.as_slice.result, c.in-Some.value) left
+          ∙ map_push-append lent_row c.loop-key.found.items
+          (c.as_slice.result, c.in-Some.value) left
           ∙ ap (λ k. found ++ (key_values k, c.in-Some.value.now) ∷ left) c.as_slice.ensures.value
           ∙ ap (λ rows. found ++ rows) (sym (lacks_row other row (key_rows rest) lacks))
           ∙ ap (λ entries. found ++ rows_lacking other (key_rows entries)) (sym steps)
