@@ -41,7 +41,6 @@ fn push_answer_to(line: Line<'_>, answer: &mut Vec<u8>) -> Result<(), AllocError
         Others::None if is(command, b"canon") => push_canon(path, answer),
         Others::None if is(command, b"show") => push_show(path, answer),
         Others::None if is(command, b"json") => push_json(path, answer),
-        Others::None => push_bad_command(answer),
 
         Others::One(bytes) if is(command, b"join") => push_join(path, Path { bytes }, answer),
         Others::One(bytes) if is(command, b"strip") => push_stripped(path, Path { bytes }, answer),
@@ -49,9 +48,8 @@ fn push_answer_to(line: Line<'_>, answer: &mut Vec<u8>) -> Result<(), AllocError
         Others::One(bytes) if is(command, b"ends") => push_ends(path, Path { bytes }, answer),
         Others::One(bytes) if is(command, b"cmp") => push_order(path, Path { bytes }, answer),
         Others::One(letters) if is(command, b"walk") => push_walk(path, letters, answer),
-        Others::One(_) => push_bad_command(answer),
 
-        Others::Several(_) => push_bad_command(answer),
+        _ => push_bad_command(answer),
     }
 }
 
