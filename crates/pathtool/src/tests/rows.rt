@@ -3,9 +3,20 @@ use super::are_answered;
 use std::test::Fail;
 
 // Walks, and their answers.
-static WALKS: [(&[u8], &[u8]); 11] = [
+static WALKS: [(&[u8], &[u8]); 22] = [
     (b"walk\t/a/./b/../c\tfbfb", b"2\t2\t/\ta\tb\tc\t.."),
+    (b"walk\t//\t", b"0\t0\t/"),
+    (b"walk\t//\tb", b"0\t1\t\t/"),
     (b"walk\t//\tbf", b"0\t1\t\t/"),
+    (b"walk\t//\tfb", b"1\t0\t/\t"),
+    (b"walk\t//\tbbff", b"0\t1\t\t/"),
+    (b"walk\t/a/b/c/d\tfbfbf", b"3\t2\t/\ta\tb\t\td\tc"),
+    (b"walk\ta/b\tbffbf", b"1\t1\ta\t\tb"),
+    (b"walk\t./a\tbb", b"0\t2\t\ta\t."),
+    (b"walk\t./a\tfb", b"1\t1\t.\t\ta"),
+    (b"walk\ta/./b\tf", b"1\t0\ta\tb"),
+    (b"walk\ta//b/.\tb", b"0\t1\ta\tb"),
+    (b"walk\t/foo/\t", b"0\t0\t/foo"),
     (b"walk\t.a\tbffb", b"0\t1\t\t.a"),
     (b"walk\t./\tffbb", b"1\t0\t.\t"),
     (b"walk\ta..b/a..b\tfffbfbf", b"2\t0\ta..b\ta..b\t"),
@@ -53,6 +64,37 @@ fn edits_are_answered(rt: HostRuntime) -> Result<(), Fail> {
     are_answered(&rt, rt.alloc(), &EDITS)
 }
 
+// Single edits, and their answers.
+static SINGLE_EDITS: [(&[u8], &[u8]); 22] = [
+    (b"edit\tfoo\tpush:", b"foo/\tok"),
+    (b"edit\t\tpush:foo", b"foo\tok"),
+    (b"edit\t/foo/bar\tpush:./baz", b"/foo/bar/./baz\tok"),
+    (b"edit\tfoo\tpush:/", b"/\tok"),
+    (b"edit\ta\tpush:b:c", b"a/b:c\tok"),
+    (b"edit\tfoo\tpop", b"\ttrue"),
+    (b"edit\t/\tpop", b"/\tfalse"),
+    (b"edit\t\tpop", b"\tfalse"),
+    (b"edit\tfoo\tname:/etc", b"/etc\tok"),
+    (b"edit\tfoo/..\tname:bar", b"foo/../bar\tok"),
+    (b"edit\tfoo\tname:", b"\tok"),
+    (b"edit\t/a\tname:..", b"/..\tok"),
+    (b"edit\t/a\tname:b/c", b"/b/c\tok"),
+    (b"edit\tfoo/.\text:bar", b"foo.bar\ttrue"),
+    (b"edit\tfoo/..\text:bar", b"foo/..\tfalse"),
+    (b"edit\t...\text:", b"..\ttrue"),
+    (b"edit\t..foo\text:", b".\ttrue"),
+    (b"edit\ta/..foo\text:", b"a/.\ttrue"),
+    (b"edit\ta\text:x/y", b"a\tseparator"),
+    (b"edit\tfoo.tar\tadd:gz", b"foo.tar.gz\ttrue"),
+    (b"edit\t\tadd:x", b"\tfalse"),
+    (b"edit\ta\tclear", b"\tok"),
+];
+
+#[test]
+fn single_edits_are_answered(rt: HostRuntime) -> Result<(), Fail> {
+    are_answered(&rt, rt.alloc(), &SINGLE_EDITS)
+}
+
 // Questions for what stands under a base, and their answers.
 static UNDERS: [(&[u8], &[u8]); 14] = [
     (b"under\t\t./a\ta\t/a", b"/a\t./a\ta"),
@@ -77,7 +119,8 @@ fn unders_are_answered(rt: HostRuntime) -> Result<(), Fail> {
 }
 
 // Paths to be shown as text or as JSON, and their answers.
-static TEXTS: [(&[u8], &[u8]); 13] = [
+static TEXTS: [(&[u8], &[u8]); 24] = [
+    (b"show\t", b""),
     (b"show\ta\xff", b"a\xef\xbf\xbd"),
     (b"show\t\xc2\xc0", b"\xef\xbf\xbd\xef\xbf\xbd"),
     (b"show\t\xf0\x90\x80\x7f", b"\xef\xbf\xbd\x7f"),
@@ -91,6 +134,16 @@ static TEXTS: [(&[u8], &[u8]); 13] = [
         b"\"\\\\\\u001f\xf0\xbf\xbf\xbf\"",
     ),
     (b"json\t\x0e", b"\"\\u000e\""),
+    (b"json\t", b"\"\""),
+    (b"json\ta//b", b"\"a//b\""),
+    (b"json\ta\\b", b"\"a\\\\b\""),
+    (b"json\t\x01", b"\"\\u0001\""),
+    (b"json\t\x08", b"\"\\b\""),
+    (b"json\t\x0c", b"\"\\f\""),
+    (b"json\t\x0d", b"\"\\r\""),
+    (b"json\t\x7f", b"\"\x7f\""),
+    (b"json\t\xc3\xa9", b"\"\xc3\xa9\""),
+    (b"json\tf\xff", b"path contains invalid UTF-8 characters"),
     (b"json\t..a/ab/././a.b///.", b"\"..a/ab/././a.b///.\""),
     (b"json\t\xc0\xaf", b"path contains invalid UTF-8 characters"),
     (b"json\t\"hi\".\tf", b"bad command"),
@@ -102,7 +155,7 @@ fn texts_are_answered(rt: HostRuntime) -> Result<(), Fail> {
 }
 
 // Paths to be spelled, joined or stripped, and their answers.
-static SPELLED_PATHS: [(&[u8], &[u8]); 15] = [
+static SPELLED_PATHS: [(&[u8], &[u8]); 20] = [
     (b"join\ta\t", b"a/"),
     (b"join\ta\t/b", b"/b"),
     (b"join\ta\tb", b"a/b"),
@@ -111,7 +164,12 @@ static SPELLED_PATHS: [(&[u8], &[u8]); 15] = [
     (b"join\t\xf0\x9f\x98\t\xfe.x/./", b"\xf0\x9f\x98/\xfe.x/./"),
     (b"join\t\ta..b/././a././a..b", b"a..b/././a././a..b"),
     (b"join\ta", b"bad command"),
+    (b"canon\t", b""),
     (b"canon\t.//a/./b/", b"./a/b"),
+    (b"canon\t/.", b"/"),
+    (b"canon\t//..//./a", b"/../a"),
+    (b"canon\ta/./.", b"a"),
+    (b"canon\t././a", b"./a"),
     (b"canon\t//.", b"/"),
     (b"canon\t../a..b/./", b"../a..b"),
     (b"canon\t\x80///../\xed\xa0\x80", b"\x80/../\xed\xa0\x80"),
