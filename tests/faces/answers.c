@@ -17,7 +17,7 @@ static view part_at(view path, unix_path_part part) {
 }
 
 // Adds the parts of the path, in the order in which the call takes them.
-static bool answer_parts(request *line, call_of_step call) {
+static bool add_parts(request *line, call_of_step call) {
     view path = line->fields[0];
     unix_path_walk walk;
     unix_path_part part;
@@ -28,15 +28,15 @@ static bool answer_parts(request *line, call_of_step call) {
     return true;
 }
 
-bool parts(request *line) {
-    return answer_parts(line, unix_path_next);
+bool answer_parts(request *line) {
+    return add_parts(line, unix_path_next);
 }
 
-bool back(request *line) {
-    return answer_parts(line, unix_path_next_back);
+bool answer_back(request *line) {
+    return add_parts(line, unix_path_next_back);
 }
 
-bool ancestors(request *line) {
+bool answer_ancestors(request *line) {
     view path = line->fields[0];
     size_t next = path.length;
     unix_path_place ancestor;
@@ -72,7 +72,7 @@ static bool are_turns(view turns) {
     return true;
 }
 
-bool walk_turns(request *line) {
+bool answer_walk(request *line) {
     view path = line->fields[0], turns = line->fields[1];
     if (!are_turns(turns)) {
         return false;
@@ -99,7 +99,7 @@ bool walk_turns(request *line) {
     return true;
 }
 
-static bool answer_place(request *line, call_of_place call) {
+static bool add_place(request *line, call_of_place call) {
     view path = line->fields[0];
     unix_path_place place;
     if (call(path.bytes, path.length, &place)) {
@@ -111,23 +111,23 @@ static bool answer_place(request *line, call_of_place call) {
     return true;
 }
 
-bool parent(request *line) {
-    return answer_place(line, unix_path_parent);
+bool answer_parent(request *line) {
+    return add_place(line, unix_path_parent);
 }
 
-bool name(request *line) {
-    return answer_place(line, unix_path_file_name);
+bool answer_name(request *line) {
+    return add_place(line, unix_path_file_name);
 }
 
-bool stem(request *line) {
-    return answer_place(line, unix_path_file_stem);
+bool answer_stem(request *line) {
+    return add_place(line, unix_path_file_stem);
 }
 
-bool extension(request *line) {
-    return answer_place(line, unix_path_extension);
+bool answer_ext(request *line) {
+    return add_place(line, unix_path_extension);
 }
 
-bool strip(request *line) {
+bool answer_strip(request *line) {
     view path = line->fields[0], base = line->fields[1];
     unix_path_place place;
     if (unix_path_strip_prefix(path.bytes, path.length, base.bytes, base.length, &place)) {
@@ -139,36 +139,36 @@ bool strip(request *line) {
     return true;
 }
 
-static bool answer_relation(request *line, call_of_relation call) {
+static bool add_relation(request *line, call_of_relation call) {
     view a = line->fields[0], b = line->fields[1];
     bool is_true = call(a.bytes, a.length, b.bytes, b.length);
     add_string(line->answer, is_true ? "true" : "false");
     return true;
 }
 
-bool starts(request *line) {
-    return answer_relation(line, unix_path_starts_with);
+bool answer_starts(request *line) {
+    return add_relation(line, unix_path_starts_with);
 }
 
-bool ends(request *line) {
-    return answer_relation(line, unix_path_ends_with);
+bool answer_ends(request *line) {
+    return add_relation(line, unix_path_ends_with);
 }
 
-bool canon(request *line) {
+bool answer_canon(request *line) {
     add_one(line->answer, unix_path_canonical, line->fields[0]);
     return true;
 }
 
-bool show(request *line) {
+bool answer_show(request *line) {
     add_one(line->answer, unix_path_to_string_lossy, line->fields[0]);
     return true;
 }
 
-bool join(request *line) {
+bool answer_join(request *line) {
     return add_two(line->answer, unix_path_join, line->fields[0], line->fields[1]);
 }
 
-bool order(request *line) {
+bool answer_cmp(request *line) {
     static const char *names[] = {"less", "equal", "greater"};
     add_string(line->answer, names[1 + compare(line->fields[0], line->fields[1])]);
     return true;
@@ -183,7 +183,7 @@ static bool is_equal(view a, view b) {
     return unix_path_equal(a.bytes, a.length, b.bytes, b.length);
 }
 
-bool under(request *line) {
+bool answer_under(request *line) {
     view base = line->fields[0], *paths = line->fields + 1;
     size_t count = line->count - 1;
     qsort(paths, count, sizeof *paths, compare_views);
@@ -214,7 +214,7 @@ static void add_escaped(text *answer, uint8_t byte) {
     add_string(answer, escaped);
 }
 
-bool json(request *line) {
+bool answer_json(request *line) {
     view path = line->fields[0];
     if (!unix_path_is_utf8(path.bytes, path.length)) {
         add_string(line->answer, "path contains invalid UTF-8 characters");

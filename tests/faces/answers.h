@@ -1,4 +1,4 @@
-// What answers each command, by its name in C: false where the line uses it wrongly.
+// What answers each command: false where the line uses it wrongly.
 #ifndef ANSWERS_H
 #define ANSWERS_H
 
@@ -12,23 +12,9 @@ typedef struct {
     bool has_item;
 } request;
 
-bool parts(request *line);
-bool back(request *line);
-bool walk_turns(request *line);
-bool parent(request *line);
-bool ancestors(request *line);
-bool name(request *line);
-bool stem(request *line);
-bool extension(request *line);
-bool canon(request *line);
-bool join(request *line);
-bool strip(request *line);
-bool starts(request *line);
-bool ends(request *line);
-bool order(request *line);
-bool edit_path(request *line);
-bool under(request *line);
-bool show(request *line);
-bool json(request *line);
+// commands.h, which tools/test_faces makes of tools/commands.txt, has a line for each command.
+#define COMMAND(name, fewest, most) bool answer_##name(request *line);
+#include "commands.h"
+#undef COMMAND
 
 #endif

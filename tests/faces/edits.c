@@ -83,7 +83,7 @@ static const char *make_edit(text *path, view field) {
     return NULL;
 }
 
-bool edit_path(request *line) {
+bool answer_edit(request *line) {
     text path = copy_of(line->fields[0]), answers = new_text();
     const char *word = "";
     for (size_t at = 1; at < line->count && word != NULL; at++) {

@@ -10,24 +10,9 @@ typedef struct {
 } command;
 
 static const command commands[] = {
-    {"parts", 1, 1, parts},
-    {"back", 1, 1, back},
-    {"walk", 2, 2, walk_turns},
-    {"parent", 1, 1, parent},
-    {"ancestors", 1, 1, ancestors},
-    {"name", 1, 1, name},
-    {"stem", 1, 1, stem},
-    {"ext", 1, 1, extension},
-    {"canon", 1, 1, canon},
-    {"join", 2, 2, join},
-    {"strip", 2, 2, strip},
-    {"starts", 2, 2, starts},
-    {"ends", 2, 2, ends},
-    {"cmp", 2, 2, order},
-    {"edit", 1, SIZE_MAX, edit_path},
-    {"under", 1, SIZE_MAX, under},
-    {"show", 1, 1, show},
-    {"json", 1, 1, json},
+#define COMMAND(name, fewest, most) {#name, fewest, most, answer_##name},
+#include "commands.h"
+#undef COMMAND
 };
 
 // The command of that name, or NULL.

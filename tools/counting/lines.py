@@ -4,6 +4,7 @@ The generator of random numbers stands here, so that the lines are the same with
 """
 import re
 
+from command_rows import read_rows
 from repository import ROOT
 
 LINES = 300
@@ -83,14 +84,9 @@ class Lines:
                         for _ in range(self.below(40)))]
 
 
-# How the fields behind each command are made; `other` is no command.
-FIELDS = {
-    **dict.fromkeys(("parts", "back", "parent", "name", "stem", "ext", "ancestors", "canon",
-                     "show", "json"), Lines.one_path),
-    "join": Lines.joined, "strip": Lines.with_base, "starts": Lines.with_base,
-    "ends": Lines.with_end, "cmp": Lines.compared, "walk": Lines.walked, "edit": Lines.edited,
-    "under": Lines.under, "other": Lines.one_path,
-}
+# How the fields of a line are made, by what tools/commands.txt says to stand behind the first one.
+FIELDS = {"": Lines.one_path, "B": Lines.joined, "BASE": Lines.with_base, "END": Lines.with_end,
+          "Q": Lines.compared, "TURNS": Lines.walked, "EDIT..": Lines.edited, "P..": Lines.under}
 
 
 def read_commands():
@@ -100,7 +96,8 @@ def read_commands():
 
 
 def lines_of(command, seed):
-    """The lines of a command, as bytes."""
+    """The lines of a command, as bytes; of one that the table lacks, with a path each."""
+    behind = {row.name: row.behind for row in read_rows()}.get(command, "")
     lines = Lines(seed)
-    return b"".join(b"\t".join([command.encode(), *FIELDS[command](lines)]) + b"\n"
+    return b"".join(b"\t".join([command.encode(), *FIELDS[behind](lines)]) + b"\n"
                     for _ in range(LINES))

@@ -1,5 +1,6 @@
 //! Hostile paths of 10^4 to 10^7 bytes for each command of `pathtool`: its time a byte.
 use crate::clock;
+use crate::commands;
 use crate::lines::push_line;
 use crate::options::Options;
 use crate::programs::run;
@@ -7,28 +8,6 @@ use crate::sizes::{cells, memory, times, SHAPES, SIZES};
 use crate::timing::Timer;
 use std::fs::write;
 use std::process::Stdio;
-
-/// Each command of the program.
-const COMMANDS: [&str; 18] = [
-    "parts",
-    "back",
-    "walk",
-    "parent",
-    "ancestors",
-    "name",
-    "stem",
-    "ext",
-    "canon",
-    "join",
-    "strip",
-    "starts",
-    "ends",
-    "cmp",
-    "edit",
-    "under",
-    "show",
-    "json",
-];
 
 /// Prints a line for each command and shape, with the nanoseconds a byte at each size.
 pub fn print(options: &Options) {
@@ -47,9 +26,10 @@ pub fn print(options: &Options) {
     println!("pathtool's nanoseconds a byte, its start left out; reading and * as above");
     println!("ancestors of many parts are left out, since they are answered by their square\n");
     let mut grown = 0;
-    for command in COMMANDS.iter().filter(|command| options.has_row(command)) {
+    let names = commands::all().map(|command| command.name);
+    for command in names.filter(|name| options.has_row(name)) {
         for (shape, piece) in SHAPES {
-            if *command == "ancestors" && matches!(piece, b"a/" | b"../") {
+            if command == "ancestors" && matches!(piece, b"a/" | b"../") {
                 continue;
             }
             let times = times(&|at| time(command, piece, at), &memory);

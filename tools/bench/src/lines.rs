@@ -1,23 +1,24 @@
 //! Lines for the two programs, from a fixed seed.
+use crate::commands;
 use crate::corpora::corpora;
 use crate::random::Random;
 
-/// A group of commands, by a word for them.
-pub const GROUPS: [(&str, &str); 8] = [
-    ("walks", "parts back walk"),
-    ("names", "name stem ext"),
-    ("paths", "parent ancestors canon join strip"),
-    ("truths", "starts ends cmp"),
-    ("edits", "edit"),
-    ("tables", "under"),
-    ("texts", "show"),
-    ("all of them", ALL),
-];
+/// A word for some commands, and these.
+pub type Group = (&'static str, Vec<&'static str>);
 
-/// All commands that std::path answers alike.
-const ALL: &str =
-    "parts back walk name stem ext parent ancestors canon join strip starts ends cmp \
-    edit under show";
+/// The groups of the commands that std::path answers alike, and all of these together.
+pub fn groups() -> Vec<Group> {
+    let mut groups: Vec<Group> = vec![];
+    for command in commands::all().filter(|command| command.is_std) {
+        match groups.iter_mut().find(|group| group.0 == command.group) {
+            Some(group) => group.1.push(command.name),
+            None => groups.push((command.group, vec![command.name])),
+        }
+    }
+    let all = groups.iter().flat_map(|group| group.1.clone()).collect();
+    groups.push(("all of them", all));
+    groups
+}
 
 /// The paths that lines are made of: realistic ones, and of each eighth line broken ones.
 pub struct Paths {
@@ -34,8 +35,7 @@ impl Paths {
     }
 
     /// So many bytes of lines, each with one of the commands.
-    pub fn lines(&self, commands: &str, len: usize) -> Vec<u8> {
-        let commands: Vec<&str> = commands.split_whitespace().collect();
+    pub fn lines(&self, commands: &[&str], len: usize) -> Vec<u8> {
         let mut random = Random(8);
         let mut lines = vec![];
         while lines.len() < len {
@@ -46,7 +46,7 @@ impl Paths {
                 &self.realistic
             };
             let at = random.below(source.len());
-            let command = random.one_of(&commands);
+            let command = random.one_of(commands);
             let next = &source[(at + 1) % source.len()];
             push_line(command, &source[at], next, &mut lines);
         }
@@ -66,15 +66,16 @@ pub fn push_line(command: &str, path: &[u8], next: &[u8], lines: &mut Vec<u8>) {
 /// Adds the fields that the command has behind its path, each with a tab before it.
 fn push_fields(command: &str, path: &[u8], next: &[u8], line: &mut Vec<u8>) {
     let half = path.len() / 2;
-    match command {
-        "walk" => line.extend_from_slice(b"\tffbfb"),
-        "join" => line.extend_from_slice(b"\tdocs/notes.txt"),
-        "strip" | "starts" => push_field(&path[..half], line),
-        "ends" => push_field(&path[half..], line),
-        "cmp" => push_field(next, line),
-        "under" => push_paths(path, next, line),
-        "edit" => line.extend_from_slice(b"\tpop\tpush:docs/notes\text:md\tname:index.html"),
-        _ => {}
+    match commands::behind(command) {
+        "" => {}
+        "TURNS" => line.extend_from_slice(b"\tffbfb"),
+        "B" => line.extend_from_slice(b"\tdocs/notes.txt"),
+        "BASE" => push_field(&path[..half], line),
+        "END" => push_field(&path[half..], line),
+        "Q" => push_field(next, line),
+        "P.." => push_paths(path, next, line),
+        "EDIT.." => line.extend_from_slice(b"\tpop\tpush:docs/notes\text:md\tname:index.html"),
+        other => panic!("no fields are known for {other} of commands.txt"),
     }
 }
 

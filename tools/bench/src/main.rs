@@ -3,6 +3,7 @@
 mod calls;
 mod clock;
 mod command_sizes;
+mod commands;
 mod corpora;
 mod digest;
 mod lines;

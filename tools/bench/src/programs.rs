@@ -1,6 +1,6 @@
 //! The table of `pathtool` beside a program over `std::path` that answers the same lines.
 use crate::clock;
-use crate::lines::{Paths, GROUPS};
+use crate::lines::{groups, Paths};
 use crate::options::Options;
 use crate::timing::{Measure, Score, Timer};
 use std::fs::{read, write, File};
@@ -18,9 +18,9 @@ pub fn print(options: &Options, score: &mut Score) {
         clock: clock::of_children,
     };
     println!("{:22}{:14}", "program", "2 MiB of lines");
-    for (group, commands) in GROUPS {
+    for (group, commands) in groups() {
         let input = format!("{}/lines", options.folder);
-        write(&input, paths.lines(commands, LEN)).expect("the folder can be written to");
+        write(&input, paths.lines(&commands, LEN)).expect("the folder can be written to");
         let [ours, std] = &options.programs;
         let outputs = [ours, std].map(|program| output(program, &input, &options.folder));
         let is_same = outputs[0] == outputs[1];
