@@ -89,16 +89,13 @@ fn piece_rank(bytes: &[u8], at: usize) -> u16
     }
 }
 
-const DOT_RANK: u16 = 1 + b'.' as u16;
-
-// Whether the rank is that of a byte that is neither a slash nor a dot. A piece with such a byte is
-// a name.
-#[inline]
-fn is_in_name(rank: u16) -> bool
-    ensures no_end { IsTrue result → rank ≢ 0 }
-    ensures no_dot { IsTrue result → rank ≢ 1 + dot }
+// Whether the byte at `at` is neither a slash nor a dot. A piece with such a byte is a name.
+#[inline(always)]
+fn is_in_name(bytes: &[u8], at: usize) -> bool
+    ensures no_end { IsTrue result → piece_rank bytes.now at ≢ 0 }
+    ensures no_dot { IsTrue result → piece_rank bytes.now at ≢ 1 + dot }
 {
-    rank != 0 && rank != DOT_RANK
+    at < bytes.len() && bytes[at] != b'/' && bytes[at] != b'.'
 }
 
 // Whether a piece begins at `at`: at 0, or behind a slash.
@@ -151,11 +148,13 @@ impl<'a, 'b> Pair<'a, 'b> {
     pub(crate) fn first_difference(self) -> Difference<'a, 'b>
         ensures { Tells self.entry.first self.entry.second.now self.entry.common result }
     {
-        let (first, common) = (self.first, self.common);
-        let (x, y) = (piece_rank(first, common), piece_rank(self.second, common));
-        if is_in_name(x) && is_in_name(y) {
-            return Difference::InParts(x.cmp(&y));
+        let (first, second, common) = (self.first, self.second, self.common);
+        // Most differences stand in two names. The bytes tell that before there is a rank.
+        if is_in_name(first, common) && is_in_name(second, common) {
+            let order = piece_rank(first, common).cmp(&piece_rank(second, common));
+            return Difference::InParts(order);
         }
+        let (x, y) = (piece_rank(first, common), piece_rank(second, common));
         let place = if x == y || begins_piece(first, common) {
             common
         } else if first[common - 1] == b'.' && begins_piece(first, common - 1) {
@@ -166,7 +165,7 @@ impl<'a, 'b> Pair<'a, 'b> {
         if place == 0 {
             return Difference::InFirstParts;
         }
-        Difference::Behind(&first[place..], &self.second[place..])
+        Difference::Behind(&first[place..], &second[place..])
     }
 
     // What the first path has behind the second, which isn't empty, if it starts with that. Filler

@@ -21,16 +21,15 @@ returns-then-is_in_name-2 c =
     let pair = c.args.self in
     let a = pair.first.now in
     let b = pair.second.now in
-    let x = c.piece_rank-x.ensures in
-    let y = c.piece_rank-y.ensures in
     let first = c.is_in_name.ensures in
     let second = c.is_in_name-then-is_in_name.ensures in
     let is_x = c.if-is_in_name.true in
     let is_y = c.if-is_in_name-2.true in
-    subst (AreApart a b) (sym (c.cmp.ensures ∙ ap₂ nat_cmp x y))
-    (apart-here a b pair.common pair.alike
-    (λ e. first.no_end is_x (x ∙ e)) (λ e. first.no_dot is_x (x ∙ e))
-    (λ e. second.no_end is_y (y ∙ e)) (λ e. second.no_dot is_y (y ∙ e)))
+    subst (AreApart a b)
+    (sym (c.cmp-order.ensures
+    ∙ ap₂ nat_cmp c.piece_rank.ensures c.piece_rank-then-is_in_name-2.ensures))
+    (apart-here a b pair.common pair.alike (first.no_end is_x) (first.no_dot is_x)
+    (second.no_end is_y) (second.no_dot is_y))
 
 pub begins_piece-requires : goal.begins_piece-requires
 begins_piece-requires c =
@@ -71,7 +70,7 @@ returns-else-first-common-eq46 c =
       | else-first-common-eq46-via-else-first-common-eq46 w ↦
           absurd (w.if-first-common-eq46.false e)
     ] in
-    subst (AreApart a pair.second.now) (sym (c.cmp-else-first-common-eq46.ensures
+    subst (AreApart a pair.second.now) (sym (c.cmp.ensures
     ∙ ap₂ nat_cmp c.piece_rank-x.ensures c.piece_rank-y.ensures))
     (apart-inside a pair.second.now n pair.alike no.0 dots no.1)
 
