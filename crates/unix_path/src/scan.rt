@@ -5,7 +5,7 @@
 ghost use Rattle.std.specs.Prelude.{◌≡◌, ℕ, ◌+◌, ◌<◌, ◌≤◌, true, false, length, drop};
 ghost use Rattle.std.specs.Prelude.{None, Some, IfSome, IsTrue, ◌↔◌, take};
 ghost use Rattle.unix_path.specs.Edits.{dot_before, stem_end_of};
-ghost use Rattle.unix_path.specs.Extensions.{name_end_of};
+ghost use Rattle.unix_path.specs.Extensions.{has_slash, name_end_of};
 ghost use Rattle.unix_path.specs.Joins.{is_open};
 ghost use Rattle.unix_path.specs.Parts.{inner_parts};
 ghost use Rattle.unix_path.specs.Scan.{begins_with_parent, ends_with_parent, gap_bytes, is_idle};
@@ -326,4 +326,14 @@ pub fn dot_before(extension: &[u8]) -> Option<u8>
         return None;
     }
     Some(b'.')
+}
+
+/// Whether one of the bytes is a slash. Does not allocate. Not in Rust's std.
+///
+/// It is true for `x/y`, which is refused as an extension.
+#[inline]
+pub fn has_slash(extension: &[u8]) -> bool
+    ensures { result ≡ has_slash extension.now }
+{
+    extension.contains(&b'/')
 }

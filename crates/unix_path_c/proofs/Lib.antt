@@ -8,7 +8,6 @@ pub mod TakeFirstLemmas
 pub mod TakeLastLemmas
 pub mod SignLemmas
 pub mod LayoutLemmas
-pub mod EndLemmas
 pub mod WritingLemmas
 pub mod NameLemmas
 pub mod StepLemmas

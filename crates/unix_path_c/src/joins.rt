@@ -1,18 +1,16 @@
 //! Joins, and copies of paths with another file name or extension.
-ghost use Rattle.std.specs.Prelude.{◌≡◌, ◌↔◌, ◌⊎◌, ◌≤◌, ◌+◌, true, false, length, IfSome};
-ghost use Rattle.unix_path.specs.Edits.{before_name_of, dot_before, stem_end_of};
+ghost use Rattle.std.specs.Prelude.{◌≡◌, ◌↔◌, ◌⊎◌, ◌≤◌, ◌+◌, true, false, length};
 ghost use Rattle.unix_path.specs.Edits.{with_extension_of, with_name_of};
-ghost use Rattle.unix_path.specs.Extensions.{added_extension_of, has_slash, name_end_of};
-ghost use Rattle.unix_path.specs.Joins.{is_open, join_of};
+ghost use Rattle.unix_path.specs.Extensions.{added_extension_of, has_slash};
+ghost use Rattle.unix_path.specs.Joins.{join_of};
 ghost use Rattle.unix_path.specs.Scan.{gap_bytes};
 ghost use Rattle.unix_path_c.specs.Layout.{layout_bytes};
 ghost use Rattle.unix_path_c.specs.Refusals.{IsLength, separator, too_long};
 ghost use Rattle.path_runs.specs.Buffer.{buffer_after};
 
-use crate::places::last_end;
 use crate::writing::{gap_len, place, place_gap, told_len};
-use unix_path::scan::{dot_before, is_open};
-use unix_path::{Component, Path};
+use unix_path::Path;
+use unix_path::scan::{dot_before, has_slash, is_open};
 
 // The answer if an extension has a slash.
 const SEPARATOR: usize = usize::MAX - 6;
@@ -82,56 +80,6 @@ fn join_layout<'a>(base: Path<'a>, path: Path<'a>) -> Layout<'a>
     }
 }
 
-// Whether a byte of an extension is a slash.
-#[inline]
-fn has_slash(extension: &[u8]) -> bool
-    ensures { result ≡ has_slash extension.now }
-{
-    extension.contains(&b'/')
-}
-
-// What stands before the file name, or all of the path if there is none.
-#[inline]
-fn before_name(path: Path<'_>) -> Path<'_>
-    ensures { result.bytes.now ≡ before_name_of path.entry.bytes.now }
-{
-    let mut walk = path.components();
-    let Some(last) = walk.next_back() else {
-        return path;
-    };
-    match last {
-        Component::Normal(_) => walk.as_path(),
-        _ => path,
-    }
-}
-
-// Where the stem of the file name ends.
-#[inline]
-fn stem_end(path: Path<'_>) -> Option<usize>
-    ensures value { result ≡ stem_end_of path.entry.bytes.now }
-    ensures in_range { IfSome result (λ end. end ≤ length path.entry.bytes.now) }
-{
-    let Some(name) = path.file_name() else {
-        return None;
-    };
-    let Some(stem) = path.file_stem() else {
-        return None;
-    };
-    Some(last_end(path) - name.bytes.len() + stem.bytes.len())
-}
-
-// Where the file name ends.
-#[inline]
-fn name_end(path: Path<'_>) -> Option<usize>
-    ensures value { result ≡ name_end_of path.entry.bytes.now }
-    ensures in_range { IfSome result (λ end. end ≤ length path.entry.bytes.now) }
-{
-    let Some(_name) = path.file_name() else {
-        return None;
-    };
-    Some(last_end(path))
-}
-
 // What a path that stays as it is is made of.
 #[inline]
 fn whole_layout<'a>(path: Path<'a>) -> Layout<'a>
@@ -149,7 +97,7 @@ fn whole_layout<'a>(path: Path<'a>) -> Layout<'a>
 fn extension_layout<'a>(path: Path<'a>, extension: &'a [u8]) -> Layout<'a>
     ensures { layout_bytes result ≡ with_extension_of path.entry.bytes.now extension.now }
 {
-    let Some(end) = stem_end(path) else {
+    let Some(end) = path.stem_end() else {
         return whole_layout(path);
     };
     Layout {
@@ -168,7 +116,7 @@ fn added_layout<'a>(path: Path<'a>, extension: &'a [u8]) -> Layout<'a>
     if extension.is_empty() {
         return whole_layout(path);
     }
-    let Some(end) = name_end(path) else {
+    let Some(end) = path.name_end() else {
         return whole_layout(path);
     };
     Layout {
@@ -213,7 +161,8 @@ pub extern "C" fn unix_path_with_file_name(path: &[u8], name: &[u8], out: &mut [
     ensures length { result ≡ length (with_name_of path.now name.now) }
     ensures short { result ≤ length path.now + 1 + length name.now }
 {
-    join_layout(before_name(Path { bytes: path }), Path { bytes: name }).write(out)
+    let path = Path { bytes: path };
+    join_layout(path.before_name(), Path { bytes: name }).write(out)
 }
 
 /// Writes the path with another extension to `out`, and gives how many bytes it has then.

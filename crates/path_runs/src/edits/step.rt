@@ -15,6 +15,7 @@ use crate::edits::known::Known;
 use std::alloc::{AllocError, Global};
 use std::mem;
 use unix_path::bytes::UnixStr;
+use unix_path::scan::has_slash;
 use unix_path::{ExtensionError, Path, PathBuf};
 
 // Joins the other path to the path. Always inlined, as `PathBuf::push` is.
@@ -108,14 +109,6 @@ fn replace_end(alloc: Global, path: &mut PathBuf, keep: usize, extension: UnixSt
     let _is_put = text.push(UnixStr::from_bytes(b".")).is_ok();
     let _is_put = text.push(extension).is_ok();
     *path = PathBuf::from(text);
-}
-
-// Whether a byte of an extension is a slash.
-#[inline]
-fn has_slash(extension: &[u8]) -> bool
-    ensures { result ≡ has_slash extension.now }
-{
-    extension.contains(&b'/')
 }
 
 // Replaces the extension of the file name, or removes it if the new one is empty. It isn't inlined,

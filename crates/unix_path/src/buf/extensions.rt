@@ -12,7 +12,7 @@ ghost use Rattle.unix_path.specs.Scan.{gap_bytes};
 use crate::buf::PathBuf;
 use crate::buf::edits::{copy_of, total_len};
 use crate::path::Path;
-use crate::scan::dot_before;
+use crate::scan::{dot_before, has_slash};
 use std::alloc::{AllocError, Global};
 use std::error::Error;
 use std::fmt;
@@ -64,14 +64,6 @@ impl From<AllocError> for ExtensionError {
     fn from(error: AllocError) -> ExtensionError {
         ExtensionError::Memory(error)
     }
-}
-
-// Whether a byte of an extension is a slash.
-#[inline]
-fn has_slash(extension: &[u8]) -> bool
-    ensures { result ≡ has_slash extension.now }
-{
-    extension.contains(&b'/')
 }
 
 impl PathBuf {

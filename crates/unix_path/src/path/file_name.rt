@@ -87,10 +87,13 @@ impl<'a> Path<'a> {
         }
     }
 
-    // The path without its file name and the filler around it, or all of the path if there is no
-    // file name.
+    /// The path without its file name and the filler around it, or all of the path if there is no
+    /// file name: what `with_file_name` joins a name to. Does not allocate. Not in Rust's std.
+    ///
+    /// For `a//b/.` it is `a`, and for `a/..` it is `a/..`.
+    #[must_use]
     #[inline]
-    pub(crate) fn before_name(&self) -> Path<'a>
+    pub fn before_name(&self) -> Path<'a>
         ensures value { result.bytes.now ≡ before_name_of self.now.bytes.now }
         ensures begins { take (length result.bytes.now) self.now.bytes.now ≡ result.bytes.now }
     {
@@ -105,9 +108,13 @@ impl<'a> Path<'a> {
         }
     }
 
-    // The place just after the stem of the file name, or `None` if there is no file name.
+    /// The place just after the stem of the file name, or `None` if there is no file name: up to
+    /// there `with_extension` keeps the path. Does not allocate. Not in Rust's std.
+    ///
+    /// For `a/foo.rs/` it is 5.
+    #[must_use]
     #[inline]
-    pub(crate) fn stem_end(&self) -> Option<usize>
+    pub fn stem_end(&self) -> Option<usize>
         ensures value { result ≡ stem_end_of self.now.bytes.now }
         ensures in_range { IfSome result (λ end. end ≤ length self.now.bytes.now) }
     {
@@ -117,10 +124,14 @@ impl<'a> Path<'a> {
         Some(stem_end(&self.bytes[..end], 0))
     }
 
-    // The place just after the file name, or `None` if there is none. Only the last part's end is
-    // read, and what stands behind it.
+    /// The place just after the file name, or `None` if there is none: up to there
+    /// `with_added_extension` keeps the path. Only the last part's end is read, and what stands
+    /// behind it. Does not allocate. Not in Rust's std.
+    ///
+    /// For `a/foo.rs/` it is 8.
+    #[must_use]
     #[inline]
-    pub(crate) fn name_end(&self) -> Option<usize>
+    pub fn name_end(&self) -> Option<usize>
         ensures value { result ≡ name_end_of self.now.bytes.now }
         ensures in_range { IfSome result (λ end. end ≤ length self.now.bytes.now) }
     {

@@ -1,7 +1,7 @@
 //! Rows of what single bytes of a path are.
 use unix_path::scan::{
     any_break, begins_with_parent, dot_before, ends_in_name, ends_with_parent, first_break,
-    idle_len, is_idle, is_open, is_trailing, stem_end,
+    has_slash, idle_len, is_idle, is_open, is_trailing, stem_end,
 };
 
 // Bytes, `x` for each that is filler or a lead from in front, the same from behind, and how many
@@ -121,6 +121,8 @@ fn pieces_are_parents(rt: HostRuntime) {
     assert!(rt; is_open(b""));
     assert!(rt; dot_before(b"") == None);
     assert!(rt; dot_before(b"rs") == Some(b'.'));
+    assert!(rt; !has_slash(b"rs"));
+    assert!(rt; has_slash(b"x/y"));
 }
 
 // Bytes, and whether they end in a name.

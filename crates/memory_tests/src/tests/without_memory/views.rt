@@ -6,7 +6,7 @@ use std::test::Fail;
 use unix_path::bytes::UnixStr;
 use unix_path::scan::{
     any_break, begins_with_parent, dot_before, ends_in_name, ends_with_parent, first_break,
-    idle_len, is_idle, is_open, is_trailing,
+    has_slash, idle_len, is_idle, is_open, is_trailing,
 };
 use unix_path::{Component, Display, Path, StripPrefixError, is_separator};
 
@@ -32,6 +32,9 @@ fn has_names() -> bool {
         && path("a/b.c").file_stem() == Some(UnixStr::new("b"))
         && path("a/b.c").extension() == Some(UnixStr::new("c"))
         && path("a/b.c").file_prefix() == Some(UnixStr::new("b"))
+        && is_view(path("a/b.c").before_name(), "a")
+        && path("a/b.c").name_end() == Some(5)
+        && path("a/b.c").stem_end() == Some(3)
 }
 
 fn has_parents() -> bool {
@@ -94,6 +97,7 @@ fn is_scanned() -> bool {
         && ends_in_name(b"a/b")
         && is_open(b"a/")
         && dot_before(b"rs") == Some(b'.')
+        && has_slash(b"x/y")
 }
 
 #[test]
