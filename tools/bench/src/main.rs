@@ -6,6 +6,7 @@ mod command_sizes;
 mod commands;
 mod corpora;
 mod digest;
+mod keys;
 mod lines;
 mod options;
 mod ours;
@@ -42,6 +43,9 @@ fn main() -> ExitCode {
     }
     if options.has_part("tables") {
         tables::print(&options, &mut score);
+    }
+    if options.has_part("keys") {
+        keys::print(&options, &mut score);
     }
     if options.has_part("programs") {
         programs::print(&options, &mut score);

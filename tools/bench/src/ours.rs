@@ -71,6 +71,20 @@ extern "C" {
         count: usize,
         rounds: u64,
     ) -> u64;
+    pub fn ours_tree_found(
+        lines: Start,
+        len: usize,
+        asked: Start,
+        count: usize,
+        rounds: u64,
+    ) -> u64;
+    pub fn ours_tree_at_entries(
+        lines: Start,
+        len: usize,
+        asked: Start,
+        count: usize,
+        rounds: u64,
+    ) -> u64;
     pub fn ours_sort_keys(
         lines: Start,
         len: usize,
@@ -79,6 +93,27 @@ extern "C" {
         rounds: u64,
     ) -> u64;
     pub fn ours_sort_paths(
+        lines: Start,
+        len: usize,
+        asked: Start,
+        count: usize,
+        rounds: u64,
+    ) -> u64;
+    pub fn ours_forms(
+        lines: Start,
+        len: usize,
+        asked: Start,
+        count: usize,
+        rounds: u64,
+    ) -> u64;
+    pub fn ours_keys(
+        lines: Start,
+        len: usize,
+        asked: Start,
+        count: usize,
+        rounds: u64,
+    ) -> u64;
+    pub fn ours_paths_of(
         lines: Start,
         len: usize,
         asked: Start,

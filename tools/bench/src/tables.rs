@@ -5,8 +5,8 @@ use crate::calls::Start;
 use crate::corpora::realistic;
 use crate::options::Options;
 use crate::ours::{ours_sort_keys, ours_sort_paths, ours_table_get, ours_table_insert};
-use crate::ours::{ours_table_under, ours_tree_get, ours_tree_get_key, ours_tree_insert};
-use crate::ours::{ours_tree_nearest, ours_tree_under};
+use crate::ours::{ours_table_under, ours_tree_at_entries, ours_tree_found, ours_tree_get};
+use crate::ours::{ours_tree_get_key, ours_tree_insert, ours_tree_nearest, ours_tree_under};
 use crate::random::Random;
 use crate::resident;
 use crate::std_tables as std_side;
@@ -22,7 +22,7 @@ const RULES: usize = 10_000;
 const SORTED: usize = 1_000_000;
 
 type OfLines = unsafe extern "C" fn(Start, usize) -> u64;
-type OfAsked = unsafe extern "C" fn(Start, usize, Start, usize, u64) -> u64;
+pub type OfAsked = unsafe extern "C" fn(Start, usize, Start, usize, u64) -> u64;
 
 /// The order in which paths are put in, as lines; and lines that are looked up.
 struct Lines {
@@ -52,13 +52,13 @@ pub fn print(options: &Options, score: &mut Score) {
         return;
     }
     let all = lines();
-    print!("{:22}", "table");
+    print!("{:24}", "table");
     for lines in &all {
         print!("{:14}", lines.order);
     }
     println!();
     for name in NAMES.into_iter().filter(|name| options.has_row(name)) {
-        print!("{name:22}");
+        print!("{name:24}");
         for lines in &all {
             let measure = lines.measure(name, options);
             print!("{:14}", score.cell(&measure, name, lines.order));
@@ -68,7 +68,7 @@ pub fn print(options: &Options, score: &mut Score) {
     println!();
 }
 
-const NAMES: [&str; 13] = [
+const NAMES: [&str; 14] = [
     "table insert",
     "table get",
     "table under",
@@ -79,6 +79,7 @@ const NAMES: [&str; 13] = [
     "tree get beside hash",
     "tree under",
     "tree nearest",
+    "tree nearest beside get",
     "tree memory",
     "sort keys",
     "sort paths",
@@ -105,6 +106,10 @@ fn works(name: &str) -> [Work; 2] {
         "tree nearest" => [
             Work::Nearest(ours_tree_nearest, 5),
             Work::Nearest(std_trees::nearest, 5),
+        ],
+        "tree nearest beside get" => [
+            Work::Nearest(ours_tree_found, 5),
+            Work::Nearest(ours_tree_at_entries, 5),
         ],
         "sort keys" => [Work::Sort(ours_sort_keys), Work::Sort(std_trees::sort)],
         "sort paths" => [Work::Sort(ours_sort_paths), Work::Sort(std_trees::sort)],

@@ -29,8 +29,11 @@ const TARGETS: &[(&str, &str, f64)] = &[
     ("table under", "", 0.8),
     ("table memory", "", 1.1),
     ("tree get beside hash", "", 3.0),
+    ("tree nearest beside get", "", 2.0),
     ("tree under", "", 0.8),
     ("tree memory", "", 1.1),
+    ("key", "", 1.3),
+    ("key back", "", 1.3),
 ];
 
 /// The greatest ratio that is wanted of a row on a corpus: 1 if no line of the table says another.
