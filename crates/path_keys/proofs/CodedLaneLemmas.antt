@@ -5,7 +5,7 @@ use Rattle.std.specs.Simd.Lanes.{zip2, sel_l, top}
 use Rattle.std.proofs.lemmas.Bool.{ltb-true}
 use Rattle.std.proofs.lemmas.Simd.{zip2_splat, splat_is_map}
 use Rattle.std.proofs.Math.Dec.{ltb}
-use Rattle.unix_path.proofs.CaseLemmas.{by_test}
+use Rattle.unix_bytes.proofs.CaseLemmas.{by_test}
 use Rattle.path_keys.specs.Stretches.{coded}
 
 -- all bits of a lane where the test is true

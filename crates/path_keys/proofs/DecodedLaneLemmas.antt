@@ -6,7 +6,7 @@ use Rattle.std.proofs.lemmas.Bool.{ltb-true, ltb-false}
 use Rattle.std.proofs.lemmas.Bool.Decides.{nat_tests}
 use Rattle.std.proofs.lemmas.Simd.{zip2_splat, zip2_splat_left, splat_is_map}
 use Rattle.std.proofs.Math.Dec.{ltb}
-use Rattle.unix_path.proofs.CaseLemmas.{by_test}
+use Rattle.unix_bytes.proofs.CaseLemmas.{by_test}
 use Rattle.path_keys.specs.Codes.{lowered}
 use Rattle.path_keys.specs.Runs.{decoded}
 

@@ -4,7 +4,7 @@ use Rattle.std.proofs.Common.{arith}
 use Rattle.unix_path.specs.Joins.{join_of}
 use Rattle.unix_path.specs.Parts.{Part, leading_part, inner_parts, parts, is_rooted, values}
 use Rattle.unix_path.specs.CommonDir.{inner_values}
-use Rattle.unix_path.proofs.CaseLemmas.{by_test}
+use Rattle.unix_bytes.proofs.CaseLemmas.{by_test}
 use Rattle.unix_path.proofs.JoinLemmas.{join_of_open}
 use Rattle.unix_path.proofs.PartLemmas.{values-nil}
 use Rattle.path_runs.proofs.ValueLemmas.{values-join_of}

@@ -12,7 +12,7 @@ use Rattle.unix_path.specs.CommonDir.{inner_values}
 use Rattle.unix_path.specs.Parts.{ParentDir, Normal, Part, is_slash, slash}
 use Rattle.unix_path.specs.Parts.{counts, inner_parts, value_of_piece, values}
 use Rattle.unix_path.specs.Scan.{begins_with_parent, is_idle}
-use Rattle.unix_path.proofs.CaseLemmas.{by_test}
+use Rattle.unix_bytes.proofs.CaseLemmas.{by_test}
 use Rattle.unix_path.proofs.CommonPrefixLemmas.{inner_values-nil}
 use Rattle.unix_path.proofs.LeadLemmas.{busy_no_slash, first_value-name, length-parent_first}
 use Rattle.unix_path.proofs.LeadLemmas.{parts-parent_first}

@@ -10,7 +10,7 @@ use Rattle.std.specs.Str.{bytes_eq}
 use Rattle.std.specs.List.{AllByRecursion, slice_split, onto_first, flat_map}
 use Rattle.unix_path.specs.CommonDir.{inner_values}
 use Rattle.unix_path.specs.Parts.{Normal, is_slash}
-use Rattle.unix_path.proofs.CaseLemmas.{by_test}
+use Rattle.unix_bytes.proofs.CaseLemmas.{by_test}
 use Rattle.path_runs.proofs.PieceValueLemmas.{NoSlash, names_of, inner_values-pieces}
 use Rattle.path_runs.proofs.PieceValueLemmas.{slice_split-no_slash}
 use Rattle.path_keys.specs.Keys.{key_of, raised}

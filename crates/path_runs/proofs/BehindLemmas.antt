@@ -6,7 +6,7 @@ use Rattle.unix_path.specs.Parts.{Part, Value, inner_parts, parts, values}
 use Rattle.unix_path.specs.Rest.{rest}
 use Rattle.unix_path.specs.Steps.{parts_end}
 use Rattle.unix_path.specs.Joins.{is_open}
-use Rattle.unix_path.proofs.CaseLemmas.{by_test}
+use Rattle.unix_bytes.proofs.CaseLemmas.{by_test}
 use Rattle.unix_path.proofs.CommonPrefixLemmas.{parts-past_slash}
 use Rattle.unix_path.proofs.PartLemmas.{parts-nil}
 use Rattle.unix_path.proofs.SpanLemmas.{length-rest_whole, rest-whole, span-parts}

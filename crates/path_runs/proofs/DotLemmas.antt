@@ -8,7 +8,7 @@ use Rattle.std.proofs.lemmas.Bool.{both_ways}
 use Rattle.std.proofs.lemmas.List.{get_or-append_right, take_at, drop_at, take-append-drop}
 use Rattle.std.proofs.lemmas.List.Elements.{All-nil, All-cons}
 use Rattle.unix_path.specs.Names.{past_last, split_name}
-use Rattle.unix_path.proofs.CaseLemmas.{by_test}
+use Rattle.unix_bytes.proofs.CaseLemmas.{by_test}
 use Rattle.unix_path.proofs.NameLemmas.{is_dot, past_last-is, split_name-whole, split_name-cut}
 use Rattle.unix_path.proofs.NameLemmas.{split_name-stem}
 use Rattle.path_runs.specs.EditLaws.{HasNone}

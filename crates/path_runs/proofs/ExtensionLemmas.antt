@@ -15,7 +15,7 @@ use Rattle.path_runs.specs.declared.edits.Answer.TheVariants.{Flag, Separator}
 use Rattle.path_runs.specs.EditLists.{SetExtension, edit_of}
 use Rattle.path_runs.specs.JoinLaws.{drop_lead}
 use Rattle.path_runs.specs.EditLaws.{HasNone, IsPlainExtension, TakesExtension}
-use Rattle.unix_path.proofs.CaseLemmas.{by_test}
+use Rattle.unix_bytes.proofs.CaseLemmas.{by_test}
 use Rattle.path_runs.proofs.BehindLemmas.{rest-behind}
 use Rattle.path_runs.proofs.CongruenceLemmas.{unless_slash}
 use Rattle.path_runs.proofs.ExtensionCutLemmas.{with_extension_of-cut}

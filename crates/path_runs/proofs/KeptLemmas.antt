@@ -9,7 +9,7 @@ use Rattle.std.proofs.lemmas.Bool.{and_parts}
 use Rattle.std.proofs.lemmas.List.{drop_all}
 use Rattle.unix_path.specs.Parts.{Part, inner_parts, is_slash, slash, value_bytes}
 use Rattle.unix_path.specs.Scan.{is_idle}
-use Rattle.unix_path.proofs.CaseLemmas.{by_test, drop-suc_cons}
+use Rattle.unix_bytes.proofs.CaseLemmas.{by_test, drop-suc_cons}
 use Rattle.unix_path.proofs.IdleLemmas.{inner_parts_busy, inner_parts_idle_at, is_idle-drop}
 use Rattle.unix_path.proofs.PieceLemmas.{first_piece, first_piece-slash, first_piece-other}
 use Rattle.unix_path.proofs.PieceLemmas.{position_or_len-slash, position_or_len-other}

@@ -16,7 +16,7 @@ use Rattle.unix_path.specs.Steps.{IsLastStart, first_value, parts_end}
 use Rattle.unix_path.specs.Joins.{is_open}
 use Rattle.unix_path.specs.Names.{file_name_of}
 use Rattle.unix_path.specs.Edits.{last_start_of}
-use Rattle.unix_path.proofs.CaseLemmas.{by_test}
+use Rattle.unix_bytes.proofs.CaseLemmas.{by_test}
 use Rattle.unix_path.proofs.JoinLemmas.{is_open-at}
 use Rattle.unix_path.proofs.LastLemmas.{last_part, last_start, root_alone}
 use Rattle.unix_path.proofs.ParentLemmas.{file_name_of-last}

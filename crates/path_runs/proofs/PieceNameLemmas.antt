@@ -8,7 +8,7 @@ use Rattle.std.proofs.lemmas.List.{drop_all}
 use Rattle.std.proofs.lemmas.Slice.Eq.{bytes_eq-Decides}
 use Rattle.unix_path.specs.Parts.{is_slash, cur_dir, parent_dir, Part, Normal, inner_parts, values}
 use Rattle.unix_path.specs.Steps.{first_value}
-use Rattle.unix_path.proofs.CaseLemmas.{by_test}
+use Rattle.unix_bytes.proofs.CaseLemmas.{by_test}
 use Rattle.unix_path.proofs.LastLemmas.{no_slash_head}
 use Rattle.unix_path.proofs.PartLemmas.{parts-name}
 use Rattle.unix_path.proofs.PieceLemmas.{inner_parts-nil, position_or_len-other}

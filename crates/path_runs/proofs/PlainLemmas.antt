@@ -6,7 +6,7 @@ use Rattle.unix_path.specs.Parts.{parent_dir, Value, RootDir}
 use Rattle.unix_path.specs.Parts.{value_of_piece, value_bytes, is_rooted}
 use Rattle.unix_path.specs.Parts.{values}
 use Rattle.unix_path.specs.Joins.{is_open}
-use Rattle.unix_path.proofs.CaseLemmas.{by_test}
+use Rattle.unix_bytes.proofs.CaseLemmas.{by_test}
 use Rattle.path_runs.proofs.PieceValueLemmas.{HoldsOfPieces, NoSlash}
 use Rattle.path_runs.proofs.PieceValueLemmas.{values-hold_rooted, values-hold_rootless}
 

@@ -9,7 +9,7 @@ use Rattle.unix_path.specs.Parts.{Part, Value, RootDir, cur_dir, is_slash, slash
 use Rattle.unix_path.specs.Parts.{inner_parts, value_bytes, values}
 use Rattle.unix_path.specs.Rest.{rest}
 use Rattle.unix_path.specs.Steps.{EndsInPart, first_value, parts_end}
-use Rattle.unix_path.proofs.CaseLemmas.{by_test}
+use Rattle.unix_bytes.proofs.CaseLemmas.{by_test}
 use Rattle.unix_path.proofs.PartLemmas.{parts-name, parts-root, values-nil}
 use Rattle.unix_path.proofs.PieceLemmas.{first_piece}
 use Rattle.unix_path.proofs.PlaceLemmas.{values-inner_parts}

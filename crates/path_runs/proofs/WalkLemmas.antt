@@ -10,7 +10,7 @@ use Rattle.std.proofs.lemmas.List.Sums.{sum_by-cons}
 use Rattle.std.proofs.lemmas.List.{take-take}
 use Rattle.unix_path.specs.Parts.{Value, values}
 use Rattle.unix_path.specs.Rest.{rest}
-use Rattle.unix_path.proofs.CaseLemmas.{by_test}
+use Rattle.unix_bytes.proofs.CaseLemmas.{by_test}
 use Rattle.unix_path.proofs.MiddleLemmas.{middle}
 use Rattle.unix_path.proofs.RestLemmas.{values-rest}
 use Rattle.path_runs.proofs.TogetherLemmas.{take-middle-reverse}

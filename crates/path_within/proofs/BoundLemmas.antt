@@ -8,7 +8,7 @@ use Rattle.unix_path.specs.CommonDir.{inner_values}
 use Rattle.unix_path.specs.Joins.{is_open, join_of}
 use Rattle.unix_path.specs.Parts.{Value, RootDir, CurDir, ParentDir, Normal, slash}
 use Rattle.unix_path.specs.Parts.{is_rooted, value_bytes, values}
-use Rattle.unix_path.proofs.CaseLemmas.{by_test}
+use Rattle.unix_bytes.proofs.CaseLemmas.{by_test}
 use Rattle.unix_path.proofs.JoinLemmas.{join_of_rooted, length-join_of_open, length-join_of_closed}
 use Rattle.path_runs.specs.JoinLaws.{drop_dot}
 use Rattle.path_runs.specs.Spelling.{slashed_bytes, spelling_of}

@@ -10,7 +10,7 @@ use Rattle.std.proofs.lemmas.List.Sums.{sum_by-cons}
 use Rattle.std.proofs.lemmas.Slice.Eq.{bytes_eq-Decides}
 use Rattle.unix_path.specs.Parts.{Value, RootDir, is_slash, cur_dir, counts, slash, value_bytes}
 use Rattle.unix_path.specs.Parts.{values}
-use Rattle.unix_path.proofs.CaseLemmas.{by_test}
+use Rattle.unix_bytes.proofs.CaseLemmas.{by_test}
 use Rattle.unix_path.proofs.StemLemmas.{value_bytes-piece}
 use Rattle.path_runs.specs.JoinLaws.{drop_lead}
 use Rattle.path_runs.proofs.LeadLemmas.{drop_lead-values}

@@ -7,7 +7,7 @@ use Rattle.std.specs.List.{list_all, onto_first, slice_split}
 use Rattle.std.specs.Str.{bytes_eq}
 use Rattle.std.proofs.lemmas.List.Splits.{slice_split-cons_yes, slice_split-cons_no}
 use Rattle.unix_path.specs.Parts.{is_slash, parent_dir}
-use Rattle.unix_path.proofs.CaseLemmas.{by_test}
+use Rattle.unix_bytes.proofs.CaseLemmas.{by_test}
 use Rattle.unix_path.proofs.IdleLemmas.{first_piece_empty, first_piece_dot}
 use Rattle.unix_path.proofs.PieceLemmas.{first_piece, first_piece-slash, first_piece-other}
 use Rattle.unix_path.proofs.PieceLemmas.{slice_split-first}

@@ -8,7 +8,7 @@ use Rattle.std.proofs.lemmas.Bool.{and_parts, both_ways, ltb-true, ltb-false}
 use Rattle.std.proofs.lemmas.List.{get_or-take, get_or_past, get_or_default}
 use Rattle.unix_path.specs.Scan.{begins_with_parent, is_break, is_idle}
 use Rattle.unix_path.specs.Parts.{is_rooted}
-use Rattle.unix_path.proofs.CaseLemmas.{by_test}
+use Rattle.unix_bytes.proofs.CaseLemmas.{by_test}
 use Rattle.path_within.specs.PlainPieces.{has_plain_pieces, is_end, begins_plain, goes_on_plain}
 use Rattle.path_within.specs.PlainPieces.{is_plain}
 use Rattle.path_within.proofs.PlainStartLemmas.{plain_pieces}

@@ -14,7 +14,7 @@ use Rattle.unix_path.specs.CommonDir.{inner_values}
 use Rattle.unix_path.specs.Parts.{slash, is_slash, is_rooted, inner_parts, Part, ParentDir}
 use Rattle.unix_path.specs.Parts.{RootDir, values}
 use Rattle.unix_path.specs.Scan.{begins_with_parent, is_idle}
-use Rattle.unix_path.proofs.CaseLemmas.{by_test}
+use Rattle.unix_bytes.proofs.CaseLemmas.{by_test}
 use Rattle.unix_path.proofs.CommonPrefixLemmas.{inner_values-nil, values-slash}
 use Rattle.unix_path.proofs.IdleLemmas.{idle_slash, inner_parts_idle_at, is_idle-drop, parts-busy}
 use Rattle.unix_path.proofs.LeadLemmas.{busy_no_slash, parts-parent_first}

@@ -15,7 +15,7 @@ use Rattle.std.proofs.lemmas.Slice.Eq.{bytes_eq-Decides}
 use Rattle.unix_path.specs.Names.{past_last}
 use Rattle.unix_path.specs.Order.{same_value}
 use Rattle.unix_path.specs.Parts.{Value, RootDir, is_rooted, is_slash, slash, value_bytes, values}
-use Rattle.unix_path.proofs.CaseLemmas.{by_test, drop-suc_cons}
+use Rattle.unix_bytes.proofs.CaseLemmas.{by_test, drop-suc_cons}
 use Rattle.unix_path.proofs.TieLemmas.{same_value-Decides}
 use Rattle.unix_path.proofs.PartLemmas.{values-nil}
 use Rattle.unix_path.proofs.StemLemmas.{value_bytes-piece}

@@ -5,7 +5,7 @@ use Rattle.std.proofs.Common.{arith, take, take-append-drop}
 use Rattle.std.specs.List.{list_all, list_any}
 use Rattle.std.proofs.lemmas.List.Sums.{sum_by-append, sum_by-take-drop}
 use Rattle.unix_path.specs.Parts.{Value, RootDir, ParentDir, is_rooted, value_bytes, values}
-use Rattle.unix_path.proofs.CaseLemmas.{by_test}
+use Rattle.unix_bytes.proofs.CaseLemmas.{by_test}
 use Rattle.unix_path.proofs.PartLemmas.{values-nil}
 use Rattle.path_runs.specs.Spelling.{spelling_of}
 use Rattle.path_runs.proofs.AllLemmas.{AllByRecursion-end}

@@ -10,7 +10,7 @@ use Rattle.unix_path.specs.Joins.{is_open, join_of}
 use Rattle.unix_path.specs.Parts.{Value, RootDir, CurDir, ParentDir, Normal, dot, slash}
 use Rattle.unix_path.specs.Parts.{is_rooted, value_bytes, values}
 use Rattle.unix_path.specs.Scan.{begins_with_parent}
-use Rattle.unix_path.proofs.CaseLemmas.{by_test}
+use Rattle.unix_bytes.proofs.CaseLemmas.{by_test}
 use Rattle.unix_path.proofs.JoinLemmas.{join_of_closed}
 use Rattle.unix_path.proofs.PartLemmas.{values-nil}
 use Rattle.unix_path.proofs.TieLemmas.{same_value-Decides}

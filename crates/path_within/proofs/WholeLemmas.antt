@@ -4,7 +4,7 @@ use Rattle.std.proofs.Common.{refl, sym, ap, ◌∙◌}
 use Rattle.unix_path.specs.Joins.{join_of, join_all_of}
 use Rattle.unix_path.specs.Parts.{Value, RootDir, CurDir, ParentDir, Normal, value_bytes}
 use Rattle.unix_path.specs.Parts.{is_rooted, values}
-use Rattle.unix_path.proofs.CaseLemmas.{by_test}
+use Rattle.unix_bytes.proofs.CaseLemmas.{by_test}
 use Rattle.unix_path.proofs.JoinLemmas.{join_of_rooted}
 use Rattle.path_runs.specs.Spelling.{spelling_of}
 use Rattle.path_runs.proofs.AssociativeLemmas.{join_of-nil, join_of-join_of}

@@ -1,3 +1,4 @@
+pub mod CaseLemmas
 pub mod SequenceLemmas
 pub mod WidthLemmas
 pub mod BeginLemmas

@@ -11,7 +11,7 @@ use Rattle.unix_path.specs.Parts.{Part, cur_dir, is_slash, parts, value_bytes, v
 use Rattle.unix_path.specs.Prefixes.{Ends}
 use Rattle.unix_path.specs.Steps.{begins_piece, first_value, EndsInPiece, IsLastStart, SameEnd}
 use Rattle.unix_path.specs.Steps.{SharesEnd}
-use Rattle.unix_path.proofs.CaseLemmas.{by_test}
+use Rattle.unix_bytes.proofs.CaseLemmas.{by_test}
 use Rattle.unix_path.proofs.LastLemmas.{last_part, last_start}
 use Rattle.unix_path.proofs.StemLemmas.{value_bytes-piece}
 use Rattle.unix_path.proofs.SuffixLemmas.{ends_last}

@@ -10,7 +10,7 @@ use Rattle.unix_path.specs.Joins.{is_open, join_of, join_all_of}
 use Rattle.unix_path.specs.Parts.{is_rooted}
 use Rattle.unix_path.specs.Buffers.{bytes_of_each, ItemsFit, JoinsFit}
 use Rattle.unix_path.specs.declared.path.Path.{Path}
-use Rattle.unix_path.proofs.CaseLemmas.{by_test}
+use Rattle.unix_bytes.proofs.CaseLemmas.{by_test}
 use Rattle.unix_path.proofs.JoinLemmas.{join_of_rooted, join_of_open, join_of_closed}
 use Rattle.unix_path.proofs.JoinLemmas.{length-join_of_open, length-join_of_closed}
 

@@ -6,7 +6,7 @@ use Rattle.std.proofs.Common.{drop-drop}
 use Rattle.std.specs.List.{position_or_len}
 use Rattle.std.specs.Str.{bytes_eq}
 use Rattle.std.proofs.lemmas.Bool.{or_cases, or_parts, and_parts}
-use Rattle.unix_path.proofs.CaseLemmas.{by_test}
+use Rattle.unix_bytes.proofs.CaseLemmas.{by_test}
 use Rattle.unix_path.proofs.PartLemmas.{leading_part-name, nonempty_first_piece}
 use Rattle.unix_path.proofs.PieceLemmas.{inner_parts-dot, inner_parts-dot_slash, inner_parts-first}
 use Rattle.unix_path.proofs.PieceLemmas.{inner_parts-nil}

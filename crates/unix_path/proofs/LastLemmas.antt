@@ -8,7 +8,7 @@ use Rattle.std.specs.Str.{bytes_eq}
 use Rattle.std.proofs.lemmas.Slice.Eq.{bytes_eq-Decides}
 use Rattle.std.proofs.lemmas.Bool.{both_ways}
 use Rattle.std.proofs.lemmas.List.{drop_all, take_more, drop_more}
-use Rattle.unix_path.proofs.CaseLemmas.{by_test}
+use Rattle.unix_bytes.proofs.CaseLemmas.{by_test}
 use Rattle.unix_path.proofs.PartLemmas.{parts-name, parts-nil, parts-root}
 use Rattle.unix_path.proofs.PieceLemmas.{inner_parts-first, inner_parts-nil, parts_of_piece}
 use Rattle.unix_path.proofs.PieceLemmas.{first_piece}

@@ -8,7 +8,7 @@ use Rattle.std.proofs.lemmas.Bool.{or_cases, and_parts, both_ways}
 use Rattle.std.proofs.lemmas.List.{drop_all, drop_more}
 use Rattle.std.proofs.lemmas.Slice.Eq.{bytes_eq-Decides}
 use Rattle.unix_path.proofs.LastLemmas.{last_counts}
-use Rattle.unix_path.proofs.CaseLemmas.{by_test}
+use Rattle.unix_bytes.proofs.CaseLemmas.{by_test}
 use Rattle.unix_path.specs.Parts.{CurDir, ParentDir, Normal, cur_dir, parent_dir}
 use Rattle.unix_path.specs.Steps.{EndsInPart, IsLastStart}
 use Rattle.unix_path.specs.Scan.{ends_with_parent}

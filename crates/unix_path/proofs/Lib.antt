@@ -1,4 +1,3 @@
-pub mod CaseLemmas
 pub mod PieceLemmas
 pub mod PlaceLemmas
 pub mod PartLemmas

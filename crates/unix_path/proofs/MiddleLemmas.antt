@@ -4,7 +4,7 @@ use Rattle.std.proofs.Common.{ap, ap₂, ◌∙◌, arith, take_all, length-drop
 use Rattle.std.proofs.Common.{ltb-false, length-take-le}
 use Rattle.std.proofs.lemmas.List.{drop_all, drop-map, take-map, drop-take, length-map, length-take}
 use Rattle.std.proofs.lemmas.List.{take-take}
-use Rattle.unix_path.proofs.CaseLemmas.{by_test}
+use Rattle.unix_bytes.proofs.CaseLemmas.{by_test}
 use Rattle.unix_path.proofs.PlaceLemmas.{part_at}
 use Rattle.unix_path.proofs.SpanLemmas.{StandsAt, span_at, trims_end}
 use Rattle.unix_path.proofs.SplitLemmas.{drops_to, takes_to}

@@ -17,7 +17,7 @@ use Rattle.unix_path.specs.Edits.{last_start_of}
 use Rattle.unix_path.specs.Extensions.{name_end_of}
 use Rattle.unix_path.specs.Scan.{is_trailing, ends_with_parent}
 use Rattle.unix_path.specs.Steps.{EndsInPart, IsLastStart, first_value, parts_end}
-use Rattle.unix_path.proofs.CaseLemmas.{by_test}
+use Rattle.unix_bytes.proofs.CaseLemmas.{by_test}
 use Rattle.unix_path.proofs.LastLemmas.{last_part, last_start, root_alone}
 use Rattle.unix_path.proofs.LastPieceLemmas.{last_name, starts_dot, starts_parent}
 use Rattle.unix_path.proofs.NameEndLemmas.{name_end_of-none, name_end_of-some}

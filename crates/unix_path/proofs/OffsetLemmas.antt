@@ -14,7 +14,7 @@ use Rattle.unix_path.specs.Scan.{is_idle}
 use Rattle.unix_path.specs.Steps.{first_value, EndsInPart, parts_end}
 use Rattle.unix_path.specs.Rest.{rest}
 use Rattle.unix_path.specs.Steps.{HasLast, IsWalk, StepsFirst, TakesFirst, TakesLast}
-use Rattle.unix_path.proofs.CaseLemmas.{by_test}
+use Rattle.unix_bytes.proofs.CaseLemmas.{by_test}
 use Rattle.unix_path.proofs.IdleLemmas.{first_piece_dot}
 use Rattle.unix_path.proofs.ParentLemmas.{rest-whole_last, values-whole}
 use Rattle.unix_path.proofs.PartLemmas.{parts-nil, parts-root, parts-name}

@@ -11,7 +11,7 @@ use Rattle.std.proofs.lemmas.List.Sums.{common_prefix_len-le}
 use Rattle.unix_bytes.proofs.CommonLemmas.{common_prefix_len-same}
 use Rattle.unix_path.proofs.ApartLemmas.{ranks_end}
 use Rattle.unix_path.proofs.BehindLemmas.{more-apart}
-use Rattle.unix_path.proofs.CaseLemmas.{by_test}
+use Rattle.unix_bytes.proofs.CaseLemmas.{by_test}
 use Rattle.unix_path.proofs.CommonPrefixLemmas.{parts-past_slash, take-common, take-past_slash}
 use Rattle.unix_path.proofs.DifferLemmas.{rank_end}
 use Rattle.unix_path.proofs.KindLemmas.{first_parts-apart}

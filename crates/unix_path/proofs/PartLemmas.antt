@@ -6,7 +6,7 @@ use Rattle.std.specs.List.{position_or_len}
 use Rattle.std.specs.Str.{bytes_eq}
 use Rattle.std.proofs.lemmas.Slice.Eq.{bytes_eq-Decides}
 use Rattle.std.proofs.lemmas.List.{drop_all, nil_from_length}
-use Rattle.unix_path.proofs.CaseLemmas.{by_test}
+use Rattle.unix_bytes.proofs.CaseLemmas.{by_test}
 use Rattle.unix_path.proofs.PieceLemmas.{inner_parts-first, inner_parts-slash, parts_of_piece}
 use Rattle.unix_path.proofs.PieceLemmas.{first_piece, first_piece-other, length-first_piece}
 use Rattle.unix_path.specs.Parts.{Value, parent_dir, is_rooted, CurDir, Part}

@@ -3,7 +3,7 @@ use Rattle.std.proofs.Common.{◌≡◌, ℕ, ◌+◌, ◌-◌, ◌≤◌, ◌<�
 use Rattle.std.proofs.Common.{get_or, take, drop, map, refl, sym, ap, ap₂, ◌∙◌, arith, eqb-true}
 use Rattle.std.proofs.Common.{take_all, ltb-true, ltb-false, length-take-le}
 use Rattle.std.proofs.lemmas.List.{nil_from_length}
-use Rattle.unix_path.proofs.CaseLemmas.{by_test}
+use Rattle.unix_bytes.proofs.CaseLemmas.{by_test}
 use Rattle.unix_path.proofs.LastLemmas.{last_part, last_start, root_alone}
 use Rattle.unix_path.proofs.PartLemmas.{parts-name, parts-none, parts-root}
 use Rattle.unix_path.proofs.PlaceLemmas.{last_end-part_at, part_at}

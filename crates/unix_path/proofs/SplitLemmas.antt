@@ -6,7 +6,7 @@ use Rattle.std.proofs.Common.{length-append, length-take-le}
 use Rattle.std.specs.List.{position_or_len}
 use Rattle.std.proofs.lemmas.List.{take-append-le, drop-map, length-take}
 use Rattle.std.proofs.lemmas.List.{take-take}
-use Rattle.unix_path.proofs.CaseLemmas.{by_test}
+use Rattle.unix_bytes.proofs.CaseLemmas.{by_test}
 use Rattle.unix_path.proofs.IdleLemmas.{parts-busy, skips_idle}
 use Rattle.unix_path.proofs.LastLemmas.{last_part, last_start, root_alone}
 use Rattle.unix_path.proofs.PartLemmas.{parts-name, parts-nil, parts-none, parts-root}

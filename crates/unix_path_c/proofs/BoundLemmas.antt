@@ -11,7 +11,7 @@ use Rattle.unix_path.specs.Names.{file_name_of}
 use Rattle.unix_path.specs.Joins.{is_open}
 use Rattle.unix_path.specs.Parts.{Value, slash, values}
 use Rattle.unix_path.specs.Rest.{rest}
-use Rattle.unix_path.proofs.CaseLemmas.{by_test}
+use Rattle.unix_bytes.proofs.CaseLemmas.{by_test}
 use Rattle.unix_path.proofs.NameEndLemmas.{added_extension_at}
 use Rattle.unix_path.proofs.RestLemmas.{take-rest}
 pub use Rattle.path_keys.proofs.LengthLemmas.{length-key_of}

@@ -10,7 +10,7 @@ use Rattle.std.proofs.lemmas.List.{drop-take, nil_from_length}
 use Rattle.unix_path.specs.Parts.{RootDir, CurDir, ParentDir, Normal, Value, parts, value_bytes}
 use Rattle.unix_path.specs.Parts.{values}
 use Rattle.unix_path.specs.Rest.{rest}
-use Rattle.unix_path.proofs.CaseLemmas.{by_test}
+use Rattle.unix_bytes.proofs.CaseLemmas.{by_test}
 use Rattle.unix_path.proofs.MiddleLemmas.{middle_of, rest-middle}
 use Rattle.unix_path.proofs.OffsetLemmas.{length-range}
 use Rattle.unix_path.proofs.ParentLemmas.{values-whole}

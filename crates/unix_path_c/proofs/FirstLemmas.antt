@@ -6,7 +6,7 @@ use Rattle.std.proofs.lemmas.List.{nil_from_length}
 use Rattle.unix_path.specs.Parts.{Part, Value, parts, value_bytes, values}
 use Rattle.unix_path.specs.Rest.{last_end, rest}
 use Rattle.unix_path.specs.Steps.{parts_end}
-use Rattle.unix_path.proofs.CaseLemmas.{by_test}
+use Rattle.unix_bytes.proofs.CaseLemmas.{by_test}
 use Rattle.unix_path.proofs.MiddleLemmas.{Middle, middle, middle_of, rest-middle}
 use Rattle.unix_path.proofs.PartLemmas.{parts-none, values-nil}
 use Rattle.unix_path.proofs.PlaceLemmas.{last_end-part_at, part_at}

@@ -8,7 +8,7 @@ use Rattle.std.proofs.lemmas.Slice.Eq.{bytes_eq-Decides}
 use Rattle.unix_path.specs.Parts.{Part, Value, RootDir, counts, cur_dir, inner_parts, is_slash}
 use Rattle.unix_path.specs.Parts.{parts, parts_of_pieces, value_bytes}
 use Rattle.unix_path.specs.Steps.{first_value, parts_end}
-use Rattle.unix_path.proofs.CaseLemmas.{by_test}
+use Rattle.unix_bytes.proofs.CaseLemmas.{by_test}
 use Rattle.unix_path.proofs.PartLemmas.{parts-name, parts-none, parts-root}
 use Rattle.unix_path.proofs.PieceLemmas.{first_piece, length-first_piece}
 use Rattle.unix_path.proofs.StemLemmas.{value_bytes-piece}

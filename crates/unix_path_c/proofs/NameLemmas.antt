@@ -10,7 +10,7 @@ use Rattle.unix_path.specs.Rest.{rest}
 use Rattle.unix_path.specs.Steps.{EndsInPart, IsLastStart}
 use Rattle.unix_path.specs.Scan.{ends_with_parent, is_trailing}
 use Rattle.unix_path.specs.Steps.{TakesLast}
-use Rattle.unix_path.proofs.CaseLemmas.{by_test}
+use Rattle.unix_bytes.proofs.CaseLemmas.{by_test}
 use Rattle.unix_path.proofs.LastPieceLemmas.{last_name}
 use Rattle.unix_path.proofs.SpanLemmas.{rest-trimmed}
 use Rattle.unix_path.proofs.StepLemmas.{takes_last}

@@ -1,7 +1,7 @@
 use Rattle.std.proofs.Common.{◌-◌, length, get_or, eqb, not, sym, ap, ◌∙◌, arith, ne_eqb, eqb-true}
 use Rattle.std.proofs.lemmas.Bool.{true≢false, eqb-false}
 use Rattle.unix_path.specs.Scan.{ends_with_parent}
-use Rattle.unix_path.proofs.CaseLemmas.{by_test}
+use Rattle.unix_bytes.proofs.CaseLemmas.{by_test}
 use Rattle.unix_path.proofs.NamedLemmas.{named-dot, named-other, nameless-behind, nameless-nil}
 use Rattle.unix_path.proofs.NamedLemmas.{nameless-one, nameless-parent, nameless-slash}
 use Rattle.unix_path.proofs.scan.ends_in_name.Goals.{then-len-eq1-via-then-len-eq1}
