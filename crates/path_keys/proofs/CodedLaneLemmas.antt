@@ -5,16 +5,9 @@ use Rattle.std.specs.Simd.Lanes.{zip2, sel_l, top}
 use Rattle.std.proofs.lemmas.Bool.{ltb-true}
 use Rattle.std.proofs.lemmas.Simd.{zip2_splat, splat_is_map}
 use Rattle.std.proofs.Math.Dec.{ltb}
+use Rattle.unix_bytes.proofs.TestLaneLemmas.{lane, top_lane}
 use Rattle.unix_bytes.proofs.CaseLemmas.{by_test}
 use Rattle.path_keys.specs.Stretches.{coded}
-
--- all bits of a lane where the test is true
-abbrev lane : Bool → ℕ
-lane b = cond b 255 0
-
-top_lane : (a : Bool) → top 7 (lane a) ≡ a
-top_lane true = refl
-top_lane false = refl
 
 -- a byte as the lanes make it
 abbrev lane_coded : ℕ → ℕ

@@ -6,17 +6,10 @@ use Rattle.std.proofs.lemmas.Bool.{ltb-true, ltb-false}
 use Rattle.std.proofs.lemmas.Bool.Decides.{nat_tests}
 use Rattle.std.proofs.lemmas.Simd.{zip2_splat, zip2_splat_left, splat_is_map}
 use Rattle.std.proofs.Math.Dec.{ltb}
+use Rattle.unix_bytes.proofs.TestLaneLemmas.{lane, top_lane}
 use Rattle.unix_bytes.proofs.CaseLemmas.{by_test}
 use Rattle.path_keys.specs.Codes.{lowered}
 use Rattle.path_keys.specs.Runs.{decoded}
-
--- all bits of a lane where the test is true
-abbrev lane : Bool → ℕ
-lane b = cond b 255 0
-
-top_lane : (a : Bool) → top 7 (lane a) ≡ a
-top_lane true = refl
-top_lane false = refl
 
 -- a byte as the lanes make it
 abbrev lane_decoded : ℕ → ℕ

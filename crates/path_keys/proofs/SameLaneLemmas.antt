@@ -5,7 +5,7 @@ use Rattle.std.proofs.Common.{arith}
 use Rattle.std.specs.Simd.Lanes.{zip2, mask_l, top}
 use Rattle.std.proofs.lemmas.List.{length-map}
 use Rattle.std.proofs.lemmas.Simd.{length-zip2, mask_l-mod}
-use Rattle.path_keys.proofs.BreakLaneLemmas.{lane}
+use Rattle.unix_bytes.proofs.TestLaneLemmas.{lane}
 
 -- the mask of n lanes of which each is set
 abbrev ones : ℕ → ℕ

@@ -1,176 +1,46 @@
 -- Sixteen bytes at once, searched for a gap.
-use Rattle.std.proofs.Common.{◌≡◌, ℕ, ◌+◌, ◌-◌, ◌%◌, ◌^◌, ◌<◌, ◌≤◌, Bool, true, false, cond, not}
-use Rattle.std.proofs.Common.{eqb, ◌&&◌, ◌||◌, List, length, map, get_or, replicate, bit_and}
-use Rattle.std.proofs.Common.{bit_or, refl, sym, ap, ap₂, ◌∙◌, arith, eq-eqb, ne_eqb}
-use Rattle.std.specs.Int.Count.{count_trailing_zeros}
-use Rattle.std.specs.List.{prefix_len}
-use Rattle.std.specs.Simd.Lanes.{chunk, zip2, mask_l, top}
-use Rattle.std.proofs.lemmas.Bool.{not-true}
-use Rattle.std.proofs.lemmas.List.{get_or_default, get_or-replicate, length-map, length-replicate}
-use Rattle.std.proofs.lemmas.List.Sums.{prefix_len-le-length, prefix_len_passes}
-use Rattle.std.proofs.lemmas.Simd.{length-zip2, get_or-zip2, first_set_mask_l, mask_l-mod}
-use Rattle.std.proofs.lemmas.Simd.{length-chunk, get_or-chunk}
+use Rattle.std.proofs.Common.{◌≡◌, ℕ, ◌+◌, ◌<◌, ◌≤◌, Bool, eqb, ◌&&◌, ◌||◌, List, length, get_or}
+use Rattle.std.proofs.Common.{ap₂, subst, arith}
+use Rattle.std.specs.Simd.Lanes.{chunk}
+use Rattle.std.proofs.lemmas.Simd.{length-chunk}
+use Rattle.unix_bytes.proofs.TestLaneLemmas.{hits, both, either, Tells, Tells-hits, Tells-both}
+use Rattle.unix_bytes.proofs.TestLaneLemmas.{Tells-either, lane_at, TellFrom}
 use Rattle.path_runs.specs.Gaps.{is_gap}
-
--- all bits of a lane where the test is true
-abbrev lane : Bool → ℕ
-lane b = cond b 255 0
-
-and_lane : (a b : Bool) → bit_and (lane a) (lane b) ≡ lane (a && b)
-and_lane true true = refl
-and_lane true false = refl
-and_lane false true = refl
-and_lane false false = refl
-
-or_lane : (a b : Bool) → bit_or (lane a) (lane b) ≡ lane (a || b)
-or_lane true true = refl
-or_lane true false = refl
-or_lane false true = refl
-or_lane false false = refl
-
-top_lane : (a : Bool) → top 7 (lane a) ≡ a
-top_lane true = refl
-top_lane false = refl
 
 -- a gap begins at byte x, which y and z follow
 abbrev gap : ℕ → ℕ → ℕ → Bool
 gap x y z = eqb x 47 && (eqb y 47 || (eqb y 46 && eqb z 47))
 
--- the lanes of 16 bytes that tell where one is y
-abbrev hits : List ℕ → ℕ → List ℕ
-hits xs y = zip2 (λ a b. lane (eqb a b)) xs (replicate 16 y)
-
--- the lanes of both, and of either
-abbrev both : List ℕ → List ℕ → List ℕ
-both xs ys = zip2 (λ a b. bit_and a b) xs ys
-
-abbrev either : List ℕ → List ℕ → List ℕ
-either xs ys = zip2 (λ a b. bit_or a b) xs ys
-
 -- the lanes of 16 bytes that tell where a gap begins, by the bytes that follow them
-abbrev pub gap_lanes : List ℕ → List ℕ → List ℕ → List ℕ
-gap_lanes here next after = both (hits here 47) (either (hits next 47)
-    (both (hits next 46) (hits after 47)))
-
--- the i-th of 16 lanes tells b
-record Tells (xs : List ℕ) (i : ℕ) (b : Bool) : Type 0 where
-  size : length xs ≡ 16
-  is : get_or xs i 0 ≡ lane b
-
-Tells-hits : (xs : List ℕ) (y i : ℕ) → length xs ≡ 16 → i < 16
-    → Tells (hits xs y) i (eqb (get_or xs i 0) y)
-Tells-hits xs y i l few = record {
-  size = length-zip2 (λ a b. lane (eqb a b)) xs (replicate 16 y)
-      (l ∙ sym (length-replicate 16 y)) ∙ l;
-  is = get_or-zip2 (λ a b. lane (eqb a b)) xs (replicate 16 y) i 0 0 0 (omega arith)
-      (omega (arith, length-replicate 16 y))
-      ∙ ap (λ z. lane (eqb (get_or xs i 0) z)) (get_or-replicate 16 i y 0 few);
-}
-
-Tells-zip2 : (f : ℕ → ℕ → ℕ) (t : Bool → Bool → Bool)
-    → ((a b : Bool) → f (lane a) (lane b) ≡ lane (t a b)) → (xs ys : List ℕ) (i : ℕ) (a b : Bool)
-    → i < 16 → Tells xs i a → Tells ys i b → Tells (zip2 f xs ys) i (t a b)
-Tells-zip2 f t same xs ys i a b few h k = record {
-  size = length-zip2 f xs ys (h.size ∙ sym k.size) ∙ h.size;
-  is = get_or-zip2 f xs ys i 0 0 0 (omega (arith, h.size)) (omega (arith, k.size))
-      ∙ ap₂ f h.is k.is ∙ same a b;
-}
+abbrev gap_lanes : List ℕ → List ℕ → List ℕ → List ℕ
+gap_lanes here next after =
+    both (hits 16 here 47) (either (hits 16 next 47) (both (hits 16 next 46) (hits 16 after 47)))
 
 -- a lane tells whether a gap begins at its byte
 Tells-gap : (here next after : List ℕ) (i : ℕ) → length here ≡ 16 → length next ≡ 16
     → length after ≡ 16 → i < 16
-    → Tells (gap_lanes here next after) i
+    → Tells 16 (gap_lanes here next after) i
     (gap (get_or here i 0) (get_or next i 0) (get_or after i 0))
 Tells-gap here next after i l m n few =
-    let x = get_or here i 0 in
-    let y = get_or next i 0 in
-    let z = get_or after i 0 in
-    Tells-zip2 bit_and (λ a b. a && b) and_lane _ _ i (eqb x 47)
-    (eqb y 47 || (eqb y 46 && eqb z 47)) few (Tells-hits here 47 i l few)
-    (Tells-zip2 bit_or (λ a b. a || b) or_lane _ _ i (eqb y 47) (eqb y 46 && eqb z 47) few
-    (Tells-hits next 47 i m few)
-    (Tells-zip2 bit_and (λ a b. a && b) and_lane _ _ i (eqb y 46) (eqb z 47) few
-    (Tells-hits next 46 i m few) (Tells-hits after 47 i n few)))
-
--- no gap begins at the first `len` of the 16 bytes from `at` on
-pub record GaplessFrom (s : List ℕ) (at len : ℕ) : Type 0 where
-  pub in_range : len ≤ 16
-  pub none_before : (i : ℕ) → at ≤ i → i < at + len → is_gap s i ≡ false
+    Tells-both few (Tells-hits 16 here 47 i l few)
+    (Tells-either few (Tells-hits 16 next 47 i m few)
+    (Tells-both few (Tells-hits 16 next 46 i m few) (Tells-hits 16 after 47 i n few)))
 
 -- the lanes of the 16 bytes from `at` on
 abbrev lanes : List ℕ → ℕ → List ℕ
 lanes s at = gap_lanes (chunk at 16 s) (chunk (at + 1) 16 s) (chunk (at + 2) 16 s)
 
--- the mask that the code computes from these lanes
-abbrev gap_mask : List ℕ → ℕ → ℕ
-gap_mask s at = mask_l (map (top 7) (lanes s at)) % 2 ^ 64
-
--- a lane tells whether a gap begins at its place
-Tells-is_gap : (s : List ℕ) (at i : ℕ) → at + 18 ≤ length s → i < 16
-    → Tells (lanes s at) i (is_gap s (at + i))
-Tells-is_gap s at i l few =
-    let told = Tells-gap (chunk at 16 s) (chunk (at + 1) 16 s) (chunk (at + 2) 16 s) i
-    (length-chunk at 16 s (omega arith)) (length-chunk (at + 1) 16 s (omega arith))
-    (length-chunk (at + 2) 16 s (omega arith)) few in
-    let here : get_or (chunk at 16 s) i 0 ≡ get_or s (at + i) 0 = get_or-chunk at 16 s i 0 few in
-    let next : get_or (chunk (at + 1) 16 s) i 0 ≡ get_or s (at + i + 1) 47 =
-    get_or-chunk (at + 1) 16 s i 0 few
-    ∙ ap (λ k. get_or s k 0) {x = at + 1 + i} {y = at + i + 1} (omega arith)
-    ∙ get_or_default s (at + i + 1) 0 47 (omega arith) in
-    let after : get_or (chunk (at + 2) 16 s) i 0 ≡ get_or s (at + i + 2) 47 =
-    get_or-chunk (at + 2) 16 s i 0 few
-    ∙ ap (λ k. get_or s k 0) {x = at + 2 + i} {y = at + i + 2} (omega arith)
-    ∙ get_or_default s (at + i + 2) 0 47 (omega arith) in
-    record {
-      size = told.size;
-      is = told.is ∙ ap lane (ap₂ (λ x yz. eqb x 47 && yz) here
-          (ap₂ (λ y z. eqb y 47 || (eqb y 46 && eqb z 47)) next after));
-    }
-
--- no gap begins before the first lane that tells one
-before_first : (s : List ℕ) (at len : ℕ) → at + 18 ≤ length s
-    → len ≡ prefix_len (λ x. not (top 7 x)) (lanes s at) → GaplessFrom s at len
-before_first s at len l is =
-    let size = (Tells-is_gap s at 0 l (omega arith)).size in
-    let few : len ≤ 16 = omega (arith, prefix_len-le-length (λ x. not (top 7 x)) (lanes s at)) in
-    record {
-      in_range = few;
-      none_before = λ i from to.
-          let k = i - at in
-          let told = Tells-is_gap s at k l (omega arith) in
-          let passes = prefix_len_passes (λ x. not (top 7 x)) (lanes s at) k 0 (omega arith) in
-          ap (is_gap s) {x = i} {y = at + k} (omega arith)
-          ∙ sym (top_lane (is_gap s (at + k))) ∙ ap (top 7) (sym told.is)
-          ∙ not-true (top 7 (get_or (lanes s at) k 0)) passes;
-    }
-
--- the place of the lowest bit that is set, or 16 if none is, is the place of the first lane that
--- tells a gap
-first_set : (s : List ℕ) (at : ℕ) → at + 18 ≤ length s
-    → cond (eqb (gap_mask s at) 0) 16 (count_trailing_zeros 64 (gap_mask s at))
-    ≡ prefix_len (λ x. not (top 7 x)) (lanes s at)
-first_set s at l =
-    let size = (Tells-is_gap s at 0 l (omega arith)).size in
-    let few : length (map (top 7) (lanes s at)) ≤ 64 =
-    omega (arith, length-map (lanes s at) (top 7), size) in
-    ap (λ k. cond (eqb k 0) 16 (count_trailing_zeros 64 k))
-    (mask_l-mod (map (top 7) (lanes s at)) 64 few)
-    ∙ first_set_mask_l (top 7) (lanes s at) 16 size (omega arith)
-
--- if no bit is set, no gap begins at the 16 bytes
-pub none_set : (s : List ℕ) (at : ℕ) → at + 18 ≤ length s → gap_mask s at ≡ 0
-    → GaplessFrom s at 16
-none_set s at l none =
-    let mask = gap_mask s at in
-    before_first s at 16 l
-    (sym (ap (λ c. cond c 16 (count_trailing_zeros 64 mask)) (eq-eqb mask 0 none))
-    ∙ first_set s at l)
-
--- if a bit is set, no gap begins before the place of the lowest
-pub some_set : (s : List ℕ) (at : ℕ) → at + 18 ≤ length s → (gap_mask s at ≡ 0 → ⊥)
-    → GaplessFrom s at (count_trailing_zeros 64 (gap_mask s at))
-some_set s at l some =
-    let mask = gap_mask s at in
-    before_first s at (count_trailing_zeros 64 mask) l
-    (sym (ap (λ c. cond c 16 (count_trailing_zeros 64 mask)) (ne_eqb mask 0 some))
-    ∙ first_set s at l)
+-- they tell where gaps begin
+pub gaps_told : (s : List ℕ) (at : ℕ) → at + 18 ≤ length s → TellFrom 16 (lanes s at) (is_gap s) at
+gaps_told s at l = record {
+  some = omega arith;
+  few = omega arith;
+  each = λ i few. subst (Tells 16 (lanes s at) i)
+      (ap₂ (λ x yz. eqb x 47 && yz) (lane_at 16 0 s at i (at + i) (omega arith) few (omega arith))
+      (ap₂ (λ y z. eqb y 47 || (eqb y 46 && eqb z 47))
+      (lane_at 16 47 s (at + 1) i (at + i + 1) (omega arith) few (omega arith))
+      (lane_at 16 47 s (at + 2) i (at + i + 2) (omega arith) few (omega arith))))
+      (Tells-gap (chunk at 16 s) (chunk (at + 1) 16 s) (chunk (at + 2) 16 s) i
+      (length-chunk at 16 s (omega arith)) (length-chunk (at + 1) 16 s (omega arith))
+      (length-chunk (at + 2) 16 s (omega arith)) few);
+}

@@ -10,6 +10,7 @@ pub mod StepLemmas
 pub mod SelectLemmas
 pub mod MaskLemmas
 pub mod LaneLemmas
+pub mod TestLaneLemmas
 pub mod MarkLemmas
 pub mod FinishLemmas
 pub mod TextLemmas

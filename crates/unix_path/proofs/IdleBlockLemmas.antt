@@ -1,31 +1,38 @@
 -- Sixteen bytes at once that are slashes, or dots before slashes.
-use Rattle.std.proofs.Common.{◌≡◌, ℕ, zero, suc, ◌+◌, ◌-◌, ◌%◌, ◌^◌, ◌<◌, ◌≤◌, true, eqb, ◌&&◌}
-use Rattle.std.proofs.Common.{◌||◌, List, length, drop, map, get_or, sym, ap, ap₂, ◌∙◌, arith}
-use Rattle.std.specs.Simd.Lanes.{chunk, mask_l, top}
-use Rattle.std.proofs.lemmas.List.{get_or_default}
-use Rattle.std.proofs.lemmas.Simd.{length-chunk, get_or-chunk}
+use Rattle.std.proofs.Common.{◌≡◌, ℕ, zero, suc, ◌+◌, ◌<◌, ◌≤◌, true, List, length, drop, get_or}
+use Rattle.std.proofs.Common.{ap, ap₂, subst, ◌∙◌, arith}
+use Rattle.std.specs.Simd.Lanes.{chunk}
+use Rattle.std.proofs.lemmas.Simd.{length-chunk}
+use Rattle.unix_bytes.proofs.TestLaneLemmas.{Tells, TellFrom, lane_at, mask_of, none_set}
 use Rattle.unix_path.specs.Parts.{inner_parts}
 use Rattle.unix_path.specs.Scan.{is_idle}
 use Rattle.unix_path.proofs.IdleLemmas.{inner_parts_idle_at}
-use Rattle.unix_path.proofs.DotLaneLemmas.{stop_lanes, none_stops}
+use Rattle.unix_path.proofs.DotLaneLemmas.{stops, goes_on, stop_lanes, Tells-stop}
+
+-- the lanes of the 16 bytes from `at` on tell which stop
+stops_told : (s : List ℕ) (at : ℕ) → at + 16 < length s
+    → TellFrom 16 (stop_lanes (chunk at 16 s) (chunk (at + 1) 16 s))
+    (λ k. stops (get_or s k 0) (get_or s (k + 1) 47)) at
+stops_told s at l =
+    let here = chunk at 16 s in
+    let next = chunk (at + 1) 16 s in
+    record {
+      some = omega arith;
+      few = omega arith;
+      each = λ i few. subst (Tells 16 (stop_lanes here next) i) (ap₂ stops
+          (lane_at 16 0 s at i (at + i) (omega arith) few (omega arith))
+          (lane_at 16 47 s (at + 1) i (at + i + 1) (omega arith) few (omega arith)))
+          (Tells-stop here next i (length-chunk at 16 s (omega arith))
+          (length-chunk (at + 1) 16 s (omega arith)) few);
+    }
 
 -- if no bit is set, all 16 bytes from `at` on are slashes, or dots before slashes
 pub idle_block : (s : List ℕ) (at : ℕ) → at + 16 < length s
-    → mask_l (map (top 7) (stop_lanes (chunk at 16 s) (chunk (at + 1) 16 s))) % 2 ^ 64 ≡ 0
+    → mask_of (stop_lanes (chunk at 16 s) (chunk (at + 1) 16 s)) ≡ 0
     → (k : ℕ) → at ≤ k → k < at + 16 → is_idle s k ≡ true
 idle_block s at l none k from to =
-    let i = k - at in
-    let here : get_or (chunk at 16 s) i 0 ≡ get_or s k 0 =
-    get_or-chunk at 16 s i 0 (omega arith)
-    ∙ ap (λ j. get_or s j 0) {x = at + i} {y = k} (omega arith) in
-    let next : get_or (chunk (at + 1) 16 s) i 0 ≡ get_or s (k + 1) 47 =
-    get_or-chunk (at + 1) 16 s i 0 (omega arith)
-    ∙ ap (λ j. get_or s j 0) {x = at + 1 + i} {y = k + 1} (omega arith)
-    ∙ get_or_default s (k + 1) 0 47 (omega arith) in
-    let passes = none_stops (chunk at 16 s) (chunk (at + 1) 16 s)
-    (length-chunk at 16 s (omega arith)) (length-chunk (at + 1) 16 s (omega arith)) none i
-    (omega arith) in
-    ap₂ (λ x y. eqb x 47 || (eqb x 46 && eqb y 47)) (sym here) (sym next) ∙ passes
+    goes_on (get_or s k 0) (get_or s (k + 1) 47)
+    ((none_set (stops_told s at l) none).none_before k from to)
 
 -- n idle bytes from place i on may be skipped
 pub inner_parts_idle_block : (at : ℕ) (s : List ℕ) (i n : ℕ) → i + n ≤ length s

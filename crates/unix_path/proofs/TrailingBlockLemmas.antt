@@ -1,31 +1,40 @@
 -- Sixteen bytes at once that are slashes, or dots after slashes.
-use Rattle.std.proofs.Common.{◌≡◌, ℕ, zero, suc, ◌+◌, ◌-◌, ◌%◌, ◌^◌, ◌<◌, ◌≤◌, true, eqb, ◌&&◌}
-use Rattle.std.proofs.Common.{◌||◌, List, length, take, map, get_or, refl, sym, ap, ap₂, ◌∙◌, arith}
-use Rattle.std.proofs.Common.{lt-ltb}
-use Rattle.std.specs.Simd.Lanes.{chunk, mask_l, top}
-use Rattle.std.proofs.lemmas.Simd.{length-chunk, get_or-chunk}
+use Rattle.std.proofs.Common.{◌≡◌, ℕ, zero, suc, ◌+◌, ◌-◌, ◌<◌, ◌≤◌, true, eqb, ◌&&◌, ◌||◌, List}
+use Rattle.std.proofs.Common.{length, take, get_or, refl, sym, ap, ap₂, subst, ◌∙◌, arith, lt-ltb}
+use Rattle.std.specs.Simd.Lanes.{chunk}
+use Rattle.std.proofs.lemmas.Simd.{length-chunk}
+use Rattle.unix_bytes.proofs.TestLaneLemmas.{Tells, TellFrom, lane_at, mask_of, none_set}
 use Rattle.unix_path.specs.Parts.{parts}
 use Rattle.unix_path.specs.Scan.{is_trailing}
-use Rattle.unix_path.proofs.DotLaneLemmas.{stop_lanes, none_stops}
+use Rattle.unix_path.proofs.DotLaneLemmas.{stops, goes_on, stop_lanes, Tells-stop}
 use Rattle.unix_path.proofs.TrimLemmas.{parts_trailing}
+
+-- the lanes of the 16 bytes from `at` on tell which stop
+stops_told : (s : List ℕ) (at : ℕ) → 0 < at → at + 16 ≤ length s
+    → TellFrom 16 (stop_lanes (chunk at 16 s) (chunk (at - 1) 16 s))
+    (λ k. stops (get_or s k 0) (get_or s (k - 1) 0)) at
+stops_told s at some l =
+    let here = chunk at 16 s in
+    let before = chunk (at - 1) 16 s in
+    record {
+      some = omega arith;
+      few = omega arith;
+      each = λ i few. subst (Tells 16 (stop_lanes here before) i) (ap₂ stops
+          (lane_at 16 0 s at i (at + i) l few (omega arith))
+          (lane_at 16 0 s (at - 1) i (at + i - 1) (omega arith) few (omega arith)))
+          (Tells-stop here before i (length-chunk at 16 s l)
+          (length-chunk (at - 1) 16 s (omega arith)) few);
+    }
 
 -- if no bit is set, all 16 bytes from `at` on are slashes, or dots after slashes
 pub trailing_block : (s : List ℕ) (at : ℕ) → 0 < at → at + 16 ≤ length s
-    → mask_l (map (top 7) (stop_lanes (chunk at 16 s) (chunk (at - 1) 16 s))) % 2 ^ 64 ≡ 0
+    → mask_of (stop_lanes (chunk at 16 s) (chunk (at - 1) 16 s)) ≡ 0
     → (k : ℕ) → at ≤ k → k < at + 16 → is_trailing s k ≡ true
 trailing_block s at some l none k from to =
-    let i = k - at in
-    let here : get_or (chunk at 16 s) i 0 ≡ get_or s k 0 =
-    get_or-chunk at 16 s i 0 (omega arith)
-    ∙ ap (λ j. get_or s j 0) {x = at + i} {y = k} (omega arith) in
-    let before : get_or (chunk (at - 1) 16 s) i 0 ≡ get_or s (k - 1) 0 =
-    get_or-chunk (at - 1) 16 s i 0 (omega arith)
-    ∙ ap (λ j. get_or s j 0) {x = at - 1 + i} {y = k - 1} (omega arith) in
-    let passes = none_stops (chunk at 16 s) (chunk (at - 1) 16 s) (length-chunk at 16 s l)
-    (length-chunk (at - 1) 16 s (omega arith)) none i (omega arith) in
     let one : (eqb (get_or s k 0) 47 || (eqb (get_or s k 0) 46 && eqb (get_or s (k - 1) 0) 47))
     ≡ true =
-    ap₂ (λ x y. eqb x 47 || (eqb x 46 && eqb y 47)) (sym here) (sym before) ∙ passes in
+    goes_on (get_or s k 0) (get_or s (k - 1) 0)
+    ((none_set (stops_told s at some l) none).none_before k from to) in
     rw (lt-ltb 0 k (omega arith), one) refl
 
 -- without n bytes of filler at the end, the parts are the same

@@ -1,15 +1,18 @@
 use Rattle.std.proofs.Common.{arith}
-use Rattle.path_keys.proofs.BreakLaneLemmas.{none_set, some_set}
+use Rattle.unix_bytes.proofs.TestLaneLemmas.{none_set, some_set}
+use Rattle.path_keys.proofs.BreakLaneLemmas.{breaks_told}
 use Rattle.path_keys.proofs.stretch.unbroken_in_half.Goals as goal
 
 pub returns-then-breaks-eq0 : goal.returns-then-breaks-eq0
 returns-then-breaks-eq0 c =
-    let lanes = none_set 8 c.args.mark c.args.point c.args.bytes.now c.args.at
-    (omega arith) (omega arith) (omega (arith, c.requires)) c.if-breaks-eq0.true in
+    let told = breaks_told 8 c.args.mark c.args.point c.args.bytes.now c.args.at (omega arith)
+    (omega arith) (omega (arith, c.requires)) in
+    let lanes = none_set told c.if-breaks-eq0.true in
     record { in_range = lanes.in_range; none_before = lanes.none_before }
 
 pub returns-else-breaks-eq0 : goal.returns-else-breaks-eq0
 returns-else-breaks-eq0 c =
-    let lanes = some_set 8 c.args.mark c.args.point c.args.bytes.now c.args.at
-    (omega arith) (omega arith) (omega (arith, c.requires)) c.if-breaks-eq0.false in
+    let told = breaks_told 8 c.args.mark c.args.point c.args.bytes.now c.args.at (omega arith)
+    (omega arith) (omega (arith, c.requires)) in
+    let lanes = some_set told c.if-breaks-eq0.false in
     record { in_range = lanes.in_range; none_before = lanes.none_before }

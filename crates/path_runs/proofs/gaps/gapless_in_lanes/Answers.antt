@@ -1,12 +1,13 @@
-use Rattle.path_runs.proofs.GapLaneLemmas.{none_set, some_set}
+use Rattle.unix_bytes.proofs.TestLaneLemmas.{none_set, some_set}
+use Rattle.path_runs.proofs.GapLaneLemmas.{gaps_told}
 use Rattle.path_runs.proofs.gaps.gapless_in_lanes.Goals as goal
 
 pub returns-then-gaps-eq0 : goal.returns-then-gaps-eq0
 returns-then-gaps-eq0 c =
-    let lanes = none_set c.args.bytes.now c.args.at c.requires c.if-gaps-eq0.true in
+    let lanes = none_set (gaps_told c.args.bytes.now c.args.at c.requires) c.if-gaps-eq0.true in
     record { in_range = lanes.in_range; none_before = lanes.none_before }
 
 pub returns-else-gaps-eq0 : goal.returns-else-gaps-eq0
 returns-else-gaps-eq0 c =
-    let lanes = some_set c.args.bytes.now c.args.at c.requires c.if-gaps-eq0.false in
+    let lanes = some_set (gaps_told c.args.bytes.now c.args.at c.requires) c.if-gaps-eq0.false in
     record { in_range = lanes.in_range; none_before = lanes.none_before }

@@ -1,0 +1,194 @@
+-- Lanes that each tell whether a test holds, and the mask that is made of them.
+use Rattle.std.proofs.Common.{◌≡◌, ℕ, ◌+◌, ◌-◌, ◌%◌, ◌^◌, ◌<◌, ◌≤◌, Bool, true, false, cond, not}
+use Rattle.std.proofs.Common.{eqb, ◌&&◌, ◌||◌, List, [], ◌∷◌, length, map, get_or, replicate}
+use Rattle.std.proofs.Common.{bit_and, bit_or, refl, sym, ap, ap₂, ◌∙◌, arith, eq-eqb, ne_eqb}
+use Rattle.std.proofs.Common.{⊎_elim}
+use Rattle.std.specs.Int.Count.{count_trailing_zeros}
+use Rattle.std.specs.List.{prefix_len}
+use Rattle.std.specs.Simd.Lanes.{chunk, zip2, mask_l, top}
+use Rattle.std.proofs.lemmas.Bool.{cases_lt, not-true, not-false}
+use Rattle.std.proofs.lemmas.List.{get_or_default, get_or-replicate, length-map, length-replicate}
+use Rattle.std.proofs.lemmas.List.Sums.{prefix_len-le-length, prefix_len_passes, prefix_len_stops}
+use Rattle.std.proofs.lemmas.Simd.{length-zip2, get_or-zip2, get_or-chunk, first_set_mask_l}
+use Rattle.std.proofs.lemmas.Simd.{mask_l-mod}
+
+-- all bits of a lane where the test is true
+abbrev pub lane : Bool → ℕ
+lane b = cond b 255 0
+
+and_lane : (a b : Bool) → bit_and (lane a) (lane b) ≡ lane (a && b)
+and_lane true true = refl
+and_lane true false = refl
+and_lane false true = refl
+and_lane false false = refl
+
+or_lane : (a b : Bool) → bit_or (lane a) (lane b) ≡ lane (a || b)
+or_lane true true = refl
+or_lane true false = refl
+or_lane false true = refl
+or_lane false false = refl
+
+pub top_lane : (a : Bool) → top 7 (lane a) ≡ a
+top_lane true = refl
+top_lane false = refl
+
+-- each of n bytes by this operation and y
+abbrev pub with : (ℕ → ℕ → ℕ) → ℕ → List ℕ → ℕ → List ℕ
+with f n xs y = zip2 f xs (replicate n y)
+
+pub length-with : (f : ℕ → ℕ → ℕ) (n : ℕ) (xs : List ℕ) (y : ℕ) → length xs ≡ n
+    → length (with f n xs y) ≡ n
+length-with f n xs y l =
+    length-zip2 f xs (replicate n y) (l ∙ sym (length-replicate n y)) ∙ l
+
+pub get_or-with : (f : ℕ → ℕ → ℕ) (n : ℕ) (xs : List ℕ) (y i : ℕ) → length xs ≡ n → i < n
+    → get_or (with f n xs y) i 0 ≡ f (get_or xs i 0) y
+get_or-with f n xs y i l few =
+    get_or-zip2 f xs (replicate n y) i 0 0 0 (omega arith) (omega (arith, length-replicate n y))
+    ∙ ap (f (get_or xs i 0)) (get_or-replicate n i y 0 few)
+
+-- the lanes of n bytes that tell whether the test is true of one and y
+abbrev pub tested : (ℕ → ℕ → Bool) → ℕ → List ℕ → ℕ → List ℕ
+tested t n xs y = with (λ a b. lane (t a b)) n xs y
+
+-- the lanes of n bytes that tell where one is y
+abbrev pub hits : ℕ → List ℕ → ℕ → List ℕ
+hits n xs y = tested eqb n xs y
+
+-- the lanes of both, and of either
+abbrev pub both : List ℕ → List ℕ → List ℕ
+both xs ys = zip2 (λ a b. bit_and a b) xs ys
+
+abbrev pub either : List ℕ → List ℕ → List ℕ
+either xs ys = zip2 (λ a b. bit_or a b) xs ys
+
+-- the i-th of n lanes tells b
+pub record Tells (n : ℕ) (xs : List ℕ) (i : ℕ) (b : Bool) : Type 0 where
+  pub size : length xs ≡ n
+  pub is : get_or xs i 0 ≡ lane b
+
+pub Tells-tested : (t : ℕ → ℕ → Bool) (n : ℕ) (xs : List ℕ) (y i : ℕ) → length xs ≡ n → i < n
+    → Tells n (tested t n xs y) i (t (get_or xs i 0) y)
+Tells-tested t n xs y i l few = record {
+  size = length-with (λ a b. lane (t a b)) n xs y l;
+  is = get_or-with (λ a b. lane (t a b)) n xs y i l few;
+}
+
+pub Tells-hits : (n : ℕ) (xs : List ℕ) (y i : ℕ) → length xs ≡ n → i < n
+    → Tells n (hits n xs y) i (eqb (get_or xs i 0) y)
+Tells-hits = Tells-tested eqb
+
+Tells-zip2 : (f : ℕ → ℕ → ℕ) (t : Bool → Bool → Bool)
+    → ((a b : Bool) → f (lane a) (lane b) ≡ lane (t a b)) → (n : ℕ) (xs ys : List ℕ) (i : ℕ)
+    (a b : Bool) → i < n → Tells n xs i a → Tells n ys i b → Tells n (zip2 f xs ys) i (t a b)
+Tells-zip2 f t same n xs ys i a b few h k = record {
+  size = length-zip2 f xs ys (h.size ∙ sym k.size) ∙ h.size;
+  is = get_or-zip2 f xs ys i 0 0 0 (omega (arith, h.size)) (omega (arith, k.size))
+      ∙ ap₂ f h.is k.is ∙ same a b;
+}
+
+pub Tells-both : {n : ℕ} {xs ys : List ℕ} {i : ℕ} {a b : Bool} → i < n → Tells n xs i a
+    → Tells n ys i b → Tells n (both xs ys) i (a && b)
+Tells-both {n} {xs} {ys} {i} {a} {b} =
+    Tells-zip2 bit_and (λ a b. a && b) and_lane n xs ys i a b
+
+pub Tells-either : {n : ℕ} {xs ys : List ℕ} {i : ℕ} {a b : Bool} → i < n → Tells n xs i a
+    → Tells n ys i b → Tells n (either xs ys) i (a || b)
+Tells-either {n} {xs} {ys} {i} {a} {b} =
+    Tells-zip2 bit_or (λ a b. a || b) or_lane n xs ys i a b
+
+-- the i-th of the n bytes from `at` on stands at k; past the end any byte would count as d
+pub lane_at : (n d : ℕ) (s : List ℕ) (at i k : ℕ) → at + n ≤ length s → i < n → at + i ≡ k
+    → get_or (chunk at n s) i 0 ≡ get_or s k d
+lane_at n d s at i k l few e =
+    get_or-chunk at n s i 0 few ∙ ap (λ k. get_or s k 0) e
+    ∙ get_or_default s k 0 d (omega arith)
+
+-- the mask that code makes of lanes
+abbrev pub mask_of : List ℕ → ℕ
+mask_of xs = mask_l (map (top 7) xs) % 2 ^ 64
+
+-- each of n lanes tells whether the test is true of its place, of which the first is `at`
+pub record TellFrom (n : ℕ) (xs : List ℕ) (test : ℕ → Bool) (at : ℕ) : Type 0 where
+  pub some : 0 < n
+  pub few : n ≤ 64
+  pub each : (i : ℕ) → i < n → Tells n xs i (test (at + i))
+
+-- the test is false of the first `len` of n places from `at` on
+pub record FailsFrom (n : ℕ) (test : ℕ → Bool) (at len : ℕ) : Type 0 where
+  pub in_range : len ≤ n
+  pub none_before : (i : ℕ) → at ≤ i → i < at + len → test i ≡ false
+
+-- it is false before the first lane that tells that it is true
+before_first : {n : ℕ} {xs : List ℕ} {test : ℕ → Bool} {at : ℕ} (len : ℕ) → TellFrom n xs test at
+    → len ≡ prefix_len (λ x. not (top 7 x)) xs → FailsFrom n test at len
+before_first {n} {xs} {test} {at} len h is =
+    let size = (h.each 0 h.some).size in
+    let few : len ≤ n = omega (arith, prefix_len-le-length (λ x. not (top 7 x)) xs) in
+    record {
+      in_range = few;
+      none_before = λ i from to.
+          let k = i - at in
+          let told = h.each k (omega arith) in
+          let passes = prefix_len_passes (λ x. not (top 7 x)) xs k 0 (omega arith) in
+          ap test {x = i} {y = at + k} (omega arith) ∙ sym (top_lane (test (at + k)))
+          ∙ ap (top 7) (sym told.is) ∙ not-true (top 7 (get_or xs k 0)) passes;
+    }
+
+-- the place of the lowest bit that is set, or n if none is, is the place of the first lane that
+-- tells that the test is true
+first_set : {n : ℕ} {xs : List ℕ} {test : ℕ → Bool} {at : ℕ} → TellFrom n xs test at
+    → cond (eqb (mask_of xs) 0) n (count_trailing_zeros 64 (mask_of xs))
+    ≡ prefix_len (λ x. not (top 7 x)) xs
+first_set {n} {xs} h =
+    let size = (h.each 0 h.some).size in
+    let few : length (map (top 7) xs) ≤ 64 = omega (arith, length-map xs (top 7), size, h.few) in
+    ap (λ k. cond (eqb k 0) n (count_trailing_zeros 64 k)) (mask_l-mod (map (top 7) xs) 64 few)
+    ∙ first_set_mask_l (top 7) xs n size h.few
+
+-- if no bit is set, the test is false of all places
+pub none_set : {n : ℕ} {xs : List ℕ} {test : ℕ → Bool} {at : ℕ} → TellFrom n xs test at
+    → mask_of xs ≡ 0 → FailsFrom n test at n
+none_set {n} {xs} h none =
+    before_first n h
+    (sym (ap (λ c. cond c n (count_trailing_zeros 64 (mask_of xs))) (eq-eqb (mask_of xs) 0 none))
+    ∙ first_set h)
+
+-- if a bit is set, the lowest is at the place of the first lane that tells that the test is true
+lowest : {n : ℕ} {xs : List ℕ} {test : ℕ → Bool} {at : ℕ} → TellFrom n xs test at
+    → (mask_of xs ≡ 0 → ⊥)
+    → count_trailing_zeros 64 (mask_of xs) ≡ prefix_len (λ x. not (top 7 x)) xs
+lowest {n} {xs} h some =
+    sym (ap (λ c. cond c n (count_trailing_zeros 64 (mask_of xs))) (ne_eqb (mask_of xs) 0 some))
+    ∙ first_set h
+
+-- the test is false before that place
+pub some_set : {n : ℕ} {xs : List ℕ} {test : ℕ → Bool} {at : ℕ} → TellFrom n xs test at
+    → (mask_of xs ≡ 0 → ⊥) → FailsFrom n test at (count_trailing_zeros 64 (mask_of xs))
+some_set {n} {xs} h some = before_first (count_trailing_zeros 64 (mask_of xs)) h (lowest h some)
+
+-- if no lane passes a test, no bit is set
+no_bit : (p : ℕ → Bool) (xs : List ℕ) → prefix_len (λ x. not (p x)) xs ≡ length xs
+    → mask_l (map p xs) ≡ 0
+no_bit p [] e = refl
+no_bit p (x ∷ xs) e = grind (arith, no_bit p xs)
+
+-- and true at it
+pub found_set : {n : ℕ} {xs : List ℕ} {test : ℕ → Bool} {at : ℕ} → TellFrom n xs test at
+    → (mask_of xs ≡ 0 → ⊥) → (count_trailing_zeros 64 (mask_of xs) < n)
+    × (test (at + count_trailing_zeros 64 (mask_of xs)) ≡ true)
+found_set {n} {xs} {test} {at} h some =
+    let k = count_trailing_zeros 64 (mask_of xs) in
+    let p = λ (x : ℕ). not (top 7 x) in
+    let size = (h.each 0 h.some).size in
+    let is : k ≡ prefix_len p xs = lowest h some in
+    let few : length (map (top 7) xs) ≤ 64 = omega (arith, length-map xs (top 7), size, h.few) in
+    let inside : k < n = ⊎_elim (λ (less : k < n). less)
+    (λ (all : n ≤ k). absurd (some (mask_l-mod (map (top 7) xs) 64 few
+    ∙ no_bit (top 7) xs (omega (arith, is, size, all, prefix_len-le-length p xs)))))
+    (cases_lt k n) in (
+      inside,
+      sym (top_lane (test (at + k))) ∙ ap (top 7) (sym (h.each k inside).is)
+          ∙ not-false (top 7 (get_or xs k 0)) (ap (λ k. not (top 7 (get_or xs k 0))) is
+          ∙ prefix_len_stops p xs 0 (omega (arith, is, size, inside))),
+    )
