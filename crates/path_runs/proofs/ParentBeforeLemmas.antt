@@ -10,11 +10,11 @@ use Rattle.unix_path.specs.Names.{file_name_of}
 use Rattle.unix_path.specs.Order.{values_cmp, IsBefore}
 use Rattle.unix_path.specs.OrderLaws.{value_cmp-total}
 use Rattle.unix_path.proofs.DepthLemmas.{depth_of-none}
-use Rattle.unix_path.proofs.EndLemmas.{Snoc, Empty, Push, snoc}
 use Rattle.unix_path.proofs.ParentLemmas.{parent_of-alone, parent_of-some}
 use Rattle.path_runs.proofs.NameCutLemmas.{name_cut}
 use Rattle.path_runs.proofs.PieceNameLemmas.{values-name}
 use Rattle.path_runs.proofs.SiblingLemmas.{values-rest_push, values-join_of_one}
+use Rattle.unix_bytes.proofs.CaseLemmas.{Snoc, Empty, Push, snoc}
 
 -- values stand before themselves with one more behind
 before_push : (vs : List Value) (v : Value) → IsBefore vs (vs ++ v ∷ [])

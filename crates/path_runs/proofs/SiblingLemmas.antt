@@ -8,8 +8,7 @@ use Rattle.unix_path.specs.Parents.{parent_of}
 use Rattle.unix_path.specs.Names.{file_name_of}
 use Rattle.unix_path.specs.Edits.{popped_of, with_name_of}
 use Rattle.unix_path.proofs.DepthLemmas.{depth_of-push}
-use Rattle.unix_path.proofs.EndLemmas.{middle-push}
-use Rattle.unix_path.proofs.MiddleLemmas.{middle}
+use Rattle.unix_path.proofs.MiddleLemmas.{middle, middle-push}
 use Rattle.unix_path.proofs.ParentLemmas.{before_name_of-some, parent_of-deep, file_name_of-last}
 use Rattle.unix_path.proofs.PartLemmas.{root_first, root_first-values}
 use Rattle.unix_path.proofs.RestLemmas.{rest-rest, values-rest}

@@ -1,6 +1,10 @@
--- A test's two cases, and the first element of a list.
-use Rattle.std.proofs.Common.{◌≡◌, ℕ, suc, ◌+◌, Bool, true, false, List, ◌∷◌, take, drop, refl, ap}
-use Rattle.std.proofs.Common.{arith}
+-- A test's two cases, and the first and the last elements of a list.
+use Rattle.std.proofs.Common.{◌≡◌, ℕ, zero, suc, ◌+◌, ◌-◌, ◌≤◌, Bool, true, false, List, [], ◌∷◌}
+use Rattle.std.proofs.Common.{◌++◌, length, take, drop, Option, Some, refl, sym, ap, ◌∙◌, arith}
+use Rattle.std.proofs.Common.{length-drop}
+use Rattle.std.specs.List.{last_or}
+use Rattle.std.specs.Prelude.{slice_range}
+use Rattle.std.proofs.lemmas.List.{length-take, take-take}
 
 -- what holds if b is true, and holds if b is false, holds
 pub by_test : {G : Type 0} (b : Bool) → (b ≡ true → G) → (b ≡ false → G) → G
@@ -13,3 +17,39 @@ take-suc_cons n x xs = ap (λ k. take k (x ∷ xs)) {x = 1 + n} {y = suc n} (ome
 
 pub drop-suc_cons : {A : Type 0} (n : ℕ) (x : A) (xs : List A) → drop (1 + n) (x ∷ xs) ≡ drop n xs
 drop-suc_cons n x xs = ap (λ k. drop k (x ∷ xs)) {x = 1 + n} {y = suc n} (omega arith)
+
+-- the first n bytes of a beginning of s are the first n of s
+pub take-beginning : (s u : List ℕ) (n : ℕ) → take (length u) s ≡ u → n ≤ length u
+    → take n u ≡ take n s
+take-beginning s u n e l = ap (take n) (sym e) ∙ take-take n (length u) s l
+
+-- a beginning of s is the first bytes of s, as many as it has
+pub take-take_front : (n : ℕ) (s : List ℕ) → take (length (take n s)) s ≡ take n s
+take-take_front zero s = refl
+take-take_front (suc n) [] = refl
+take-take_front (suc n) (b ∷ s) = ap (λ t. b ∷ t) (take-take_front n s)
+
+-- what stands from a to b has b - a bytes
+pub length-range : (s : List ℕ) (a b : ℕ) → b ≤ length s → length (slice_range s a b) ≡ b - a
+length-range s a b l = omega (arith, length-take (b - a) (drop a s), length-drop a s)
+
+-- a list is empty, or some elements and one behind them
+pub data Snoc {X : Type 0} (xs : List X) : Type 0 where
+  Empty : xs ≡ [] → Snoc xs
+  Push : (ys : List X) (y : X) → xs ≡ ys ++ y ∷ [] → Snoc xs
+
+-- with one more element in front, a list is still some elements and the same last one
+snoc-cons : {X : Type 0} (x : X) (xs : List X) → Snoc xs → Snoc (x ∷ xs)
+snoc-cons x xs (Empty e) = Push [] x (ap (λ ys. x ∷ ys) e)
+snoc-cons x xs (Push ys y e) = Push (x ∷ ys) y (ap (λ ys. x ∷ ys) e)
+
+-- a list is empty or has a last element
+pub snoc : {X : Type 0} (xs : List X) → Snoc xs
+snoc [] = Empty refl
+snoc (x ∷ xs) = snoc-cons x xs (snoc xs)
+
+-- the last element of a list with one more behind it is that one
+pub last_or-push : {X : Type 0} (o : Option X) (xs : List X) (y : X)
+    → last_or o (xs ++ y ∷ []) ≡ Some y
+last_or-push o [] y = refl
+last_or-push o (x ∷ xs) y = last_or-push (Some x) xs y

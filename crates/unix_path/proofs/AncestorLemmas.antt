@@ -9,12 +9,12 @@ use Rattle.unix_path.specs.Rest.{rest}
 use Rattle.unix_path.specs.Parents.{parent_of, depth_of, ancestors_of}
 use Rattle.unix_path.specs.declared.path.Path.{Path}
 use Rattle.unix_path.proofs.RestLemmas.{length-values, values-rest, rest-rest}
-use Rattle.unix_path.proofs.MiddleLemmas.{middle}
-use Rattle.unix_path.proofs.EndLemmas.{Snoc, Empty, Push, snoc, middle-push}
+use Rattle.unix_path.proofs.MiddleLemmas.{middle, middle-push}
 use Rattle.unix_path.proofs.RootLemmas.{root_count}
 use Rattle.unix_path.proofs.DepthLemmas.{depth_of-values, depth_of-none, depth_of-root}
 use Rattle.unix_path.proofs.DepthLemmas.{depth_of-push}
 use Rattle.unix_path.proofs.ParentLemmas.{parent_of-alone, parent_of-deep}
+use Rattle.unix_bytes.proofs.CaseLemmas.{Snoc, Empty, Push, snoc}
 
 -- the ancestors of a parent, if there is one
 abbrev pub ancestors_by : Option (List ℕ) → List (List ℕ)

@@ -10,14 +10,9 @@ use Rattle.unix_path.specs.Joins.{is_open, join_of, join_all_of}
 use Rattle.unix_path.specs.Parts.{is_rooted}
 use Rattle.unix_path.specs.Buffers.{bytes_of_each, ItemsFit, JoinsFit}
 use Rattle.unix_path.specs.declared.path.Path.{Path}
-use Rattle.unix_bytes.proofs.CaseLemmas.{by_test}
+use Rattle.unix_bytes.proofs.CaseLemmas.{by_test, take-beginning}
 use Rattle.unix_path.proofs.JoinLemmas.{join_of_rooted, join_of_open, join_of_closed}
 use Rattle.unix_path.proofs.JoinLemmas.{length-join_of_open, length-join_of_closed}
-
--- the first n bytes of a beginning of s are the first n of s
-pub take-beginning : (s u : List ℕ) (n : ℕ) → take (length u) s ≡ u → n ≤ length u
-    → take n u ≡ take n s
-take-beginning s u n e l = ap (take n) (sym e) ∙ take-take n (length u) s l
 
 pub ruleset join_cases = (join_of_rooted, join_of_open, join_of_closed, take-length)
 

@@ -20,7 +20,6 @@ pub mod SourceLemmas
 pub mod CursorLemmas
 pub mod EightLemmas
 pub mod JoinLemmas
-pub mod EndLemmas
 pub mod RootLemmas
 pub mod DepthLemmas
 pub mod ParentLemmas

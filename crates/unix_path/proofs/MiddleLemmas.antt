@@ -1,9 +1,9 @@
 -- What is left between the first parts and the last.
 use Rattle.std.proofs.Common.{◌≡◌, ℕ, ◌+◌, ◌-◌, ◌≤◌, ltb, List, [], length, take, drop, map, sym}
-use Rattle.std.proofs.Common.{ap, ap₂, ◌∙◌, arith, take_all, length-drop, drop-drop, ltb-true}
-use Rattle.std.proofs.Common.{ltb-false, length-take-le}
+use Rattle.std.proofs.Common.{ap, ap₂, ◌∙◌, arith, take_all, length-drop, drop-drop, ltb-true, ◌∷◌}
+use Rattle.std.proofs.Common.{ltb-false, length-take-le, ◌++◌, length-append}
 use Rattle.std.proofs.lemmas.List.{drop_all, drop-map, take-map, drop-take, length-map, length-take}
-use Rattle.std.proofs.lemmas.List.{take-take}
+use Rattle.std.proofs.lemmas.List.{take-take, take-append-le}
 use Rattle.unix_bytes.proofs.CaseLemmas.{by_test}
 use Rattle.unix_path.proofs.PlaceLemmas.{part_at}
 use Rattle.unix_path.proofs.SpanLemmas.{StandsAt, span_at, trims_end}
@@ -116,3 +116,12 @@ middle-middle k m i j xs =
     ap (take (length (take (n - (k + m)) ys) - (i + j))) none
     ∙ take_all (length (take (n - (k + m)) ys) - (i + j)) [] (omega arith)
     ∙ sym (ap (λ x. take x (drop (k + i) xs)) zero_left))
+
+-- a list with one more element behind it, without its last, is the list
+pub middle-push : {X : Type 0} (xs : List X) (y : X) → middle 0 1 (xs ++ y ∷ []) ≡ xs
+middle-push xs y =
+    let n : length (xs ++ y ∷ []) - (0 + 1) ≡ length xs =
+    omega (arith, length-append xs (y ∷ [])) in
+    ap (λ k. take k (xs ++ y ∷ [])) n
+    ∙ take-append-le (length xs) xs (y ∷ []) (omega arith)
+    ∙ take_all (length xs) xs (omega arith)

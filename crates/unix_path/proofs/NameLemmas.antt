@@ -8,7 +8,7 @@ use Rattle.std.proofs.Math.Seq.{take-length}
 use Rattle.std.proofs.lemmas.List.Sums.{fails_before_first, suffix_len_is}
 use Rattle.unix_path.specs.Parts.{dot}
 use Rattle.unix_path.specs.Names.{past_last, split_name}
-use Rattle.unix_bytes.proofs.CaseLemmas.{by_test}
+use Rattle.unix_bytes.proofs.CaseLemmas.{by_test, take-take_front}
 
 abbrev pub is_dot : ℕ → Bool
 is_dot b = b == dot
@@ -50,12 +50,6 @@ unfolding split_name
 split_name-cut name n e l =
     rw (lt-ltb 1 (past_last is_dot name) (omega arith))
     (ap (λ k. (take (k - 1) name, Some (drop k name))) (sym e))
-
--- a beginning of s is the first bytes of s, as many as it has
-pub take-take_front : (n : ℕ) (s : List ℕ) → take (length (take n s)) s ≡ take n s
-take-take_front zero s = refl
-take-take_front (suc n) [] = refl
-take-take_front (suc n) (b ∷ s) = ap (λ t. b ∷ t) (take-take_front n s)
 
 -- a stem begins its name
 pub split_name-stem : (name : List ℕ)

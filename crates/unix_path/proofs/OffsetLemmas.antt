@@ -14,16 +14,12 @@ use Rattle.unix_path.specs.Scan.{is_idle}
 use Rattle.unix_path.specs.Steps.{first_value, EndsInPart, parts_end}
 use Rattle.unix_path.specs.Rest.{rest}
 use Rattle.unix_path.specs.Steps.{HasLast, IsWalk, StepsFirst, TakesFirst, TakesLast}
-use Rattle.unix_bytes.proofs.CaseLemmas.{by_test}
+use Rattle.unix_bytes.proofs.CaseLemmas.{by_test, length-range}
 use Rattle.unix_path.proofs.IdleLemmas.{first_piece_dot}
 use Rattle.unix_path.proofs.ParentLemmas.{rest-whole_last, values-whole}
 use Rattle.unix_path.proofs.PartLemmas.{parts-nil, parts-root, parts-name}
 use Rattle.unix_path.proofs.PieceLemmas.{first_piece}
 use Rattle.unix_path.proofs.SpanLemmas.{parts_end-whole}
-
--- what stands from a to b has b - a bytes
-pub length-range : (s : List ℕ) (a b : ℕ) → b ≤ length s → length (slice_range s a b) ≡ b - a
-length-range s a b l = omega (arith, length-take (b - a) (drop a s), length-drop a s)
 
 -- what stands from a to b, without its first n bytes, stands from a + n to b
 range-drop : (s : List ℕ) (a b n : ℕ) → n ≤ b - a

@@ -16,8 +16,7 @@ use Rattle.unix_path.specs.Rest.{rest}
 use Rattle.unix_path.specs.Steps.{parts_end}
 use Rattle.unix_path.specs.Names.{name_of, file_name_of, split_name}
 use Rattle.unix_path.specs.Edits.{last_start_of, stem_end_of}
-use Rattle.unix_bytes.proofs.CaseLemmas.{by_test}
-use Rattle.unix_path.proofs.EndLemmas.{Snoc, Empty, Push, snoc, last_or-push}
+use Rattle.unix_bytes.proofs.CaseLemmas.{by_test, Snoc, Empty, Push, snoc, last_or-push}
 use Rattle.unix_path.proofs.ParentLemmas.{file_name_of-last}
 use Rattle.unix_path.proofs.RestLemmas.{take-rest}
 use Rattle.unix_path.proofs.SpanLemmas.{length-rest_whole, parts_end-append}

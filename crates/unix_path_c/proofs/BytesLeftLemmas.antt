@@ -10,9 +10,8 @@ use Rattle.std.proofs.lemmas.List.{drop-take, nil_from_length}
 use Rattle.unix_path.specs.Parts.{RootDir, CurDir, ParentDir, Normal, Value, parts, value_bytes}
 use Rattle.unix_path.specs.Parts.{values}
 use Rattle.unix_path.specs.Rest.{rest}
-use Rattle.unix_bytes.proofs.CaseLemmas.{by_test}
+use Rattle.unix_bytes.proofs.CaseLemmas.{by_test, length-range}
 use Rattle.unix_path.proofs.MiddleLemmas.{middle_of, rest-middle}
-use Rattle.unix_path.proofs.OffsetLemmas.{length-range}
 use Rattle.unix_path.proofs.ParentLemmas.{values-whole}
 use Rattle.unix_path.proofs.PartLemmas.{rest-nil}
 use Rattle.unix_path.proofs.PlaceLemmas.{part_at, part_at-zero}

@@ -9,9 +9,8 @@ use Rattle.std.proofs.lemmas.Option.{same_Some}
 use Rattle.unix_path.specs.Parts.{Part, Value, parts, value_bytes, values}
 use Rattle.unix_path.specs.Rest.{rest}
 use Rattle.unix_path.specs.Steps.{EndsInPart, parts_end}
-use Rattle.unix_bytes.proofs.CaseLemmas.{by_test}
-use Rattle.unix_path.proofs.EndLemmas.{Snoc, Empty, Push, snoc, last_or-push, middle-push}
-use Rattle.unix_path.proofs.MiddleLemmas.{middle, middle_of, rest-middle, stands_in}
+use Rattle.unix_bytes.proofs.CaseLemmas.{by_test, Snoc, Empty, Push, snoc, last_or-push}
+use Rattle.unix_path.proofs.MiddleLemmas.{middle, middle_of, rest-middle, stands_in, middle-push}
 use Rattle.unix_path.proofs.PartLemmas.{parts-none}
 use Rattle.unix_path.proofs.PlaceLemmas.{part_at, part_at-zero}
 use Rattle.unix_path.proofs.RestLemmas.{middle_of-at, take-rest}

@@ -4,10 +4,8 @@ use Rattle.std.proofs.Common.{length, take, drop, refl, sym, ap, ap₂}
 use Rattle.std.proofs.Common.{subst, ◌∙◌, arith, length-drop, ltb-true, ltb-false}
 use Rattle.std.proofs.Math.Seq.{take-length}
 use Rattle.std.proofs.lemmas.List.{length-take}
-use Rattle.unix_bytes.proofs.CaseLemmas.{by_test}
-use Rattle.unix_path.proofs.GapLemmas.{take-beginning}
+use Rattle.unix_bytes.proofs.CaseLemmas.{by_test, take-beginning, take-take_front}
 use Rattle.unix_path.proofs.MiddleLemmas.{stands_in}
-use Rattle.unix_path.proofs.NameLemmas.{take-take_front}
 use Rattle.unix_path.proofs.SpanLemmas.{StandsAt}
 use Rattle.unix_path_c.specs.Places.{place_end, place_bytes}
 use Rattle.unix_path_c.specs.declared.places.Place.{Place}

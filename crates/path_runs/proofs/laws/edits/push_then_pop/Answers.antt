@@ -3,7 +3,7 @@ use Rattle.unix_path.specs.Parts.{Normal, values}
 use Rattle.std.specs.List.{last_or}
 use Rattle.unix_path.specs.Edits.{with_name_of}
 use Rattle.unix_path.specs.Rest.{rest}
-use Rattle.unix_path.proofs.EndLemmas.{last_or-push}
+use Rattle.unix_bytes.proofs.CaseLemmas.{last_or-push}
 use Rattle.path_runs.specs.declared.edits.Answer.TheVariants.{Plain, Flag}
 use Rattle.path_runs.proofs.NameCutLemmas.{name_cut}
 use Rattle.path_runs.proofs.SiblingLemmas.{pop-answer, values-popped_of, parent_of-name}

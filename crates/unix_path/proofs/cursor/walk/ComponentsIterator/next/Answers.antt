@@ -3,9 +3,10 @@ use Rattle.std.proofs.lemmas.List.{nil_from_length}
 use Rattle.unix_path.specs.Steps.{IsWalk}
 use Rattle.unix_path.specs.Cursor.{cursor_rest, cursor_source}
 use Rattle.unix_path.proofs.CursorLemmas.{GivesFirst-none}
-use Rattle.unix_path.proofs.OffsetLemmas.{length-range, walks_forward}
+use Rattle.unix_path.proofs.OffsetLemmas.{walks_forward}
 use Rattle.unix_path.proofs.SourceLemmas.{LiesIn-itself}
 use Rattle.unix_path.proofs.cursor.walk.ComponentsIterator.next.Goals as goal
+use Rattle.unix_bytes.proofs.CaseLemmas.{length-range}
 
 pub returns-then-is_empty-clause-steps : goal.returns-then-is_empty-clause-steps
 returns-then-is_empty-clause-steps c =
