@@ -1,5 +1,5 @@
 -- Bytes of a key, many at once, as they stand in a path.
-use Rattle.std.proofs.Common.{◌≡◌, ℕ, ◌+◌, ◌-◌, ◌%◌, Bool, true, false, cond, eqb, List, [], ◌∷◌}
+use Rattle.std.proofs.Common.{◌≡◌, ℕ, ◌+◌, ◌-◌, ◌%◌, false, cond, eqb, List, [], ◌∷◌}
 use Rattle.std.proofs.Common.{length, map, replicate, refl, ap₂, ◌∙◌, arith}
 use Rattle.std.specs.Simd.Lanes.{zip2, sel_l, top}
 use Rattle.std.proofs.lemmas.Bool.{ltb-true, ltb-false}

@@ -8,9 +8,8 @@ use Rattle.std.specs.Borrow.{Bor}
 use Rattle.unix_path.specs.Names.{file_name_of, name_of}
 use Rattle.unix_path.specs.Parents.{parent_of}
 use Rattle.unix_path.specs.Parts.{Value, RootDir, values}
-use Rattle.unix_path.proofs.DepthLemmas.{depth_of-none, depth_of-root, depth_of-push}
-use Rattle.unix_path.proofs.ParentLemmas.{parent_of-alone, parent_of-deep, file_name_of-last}
-use Rattle.unix_path.proofs.ParentLemmas.{file_name_of-none}
+use Rattle.unix_path.proofs.ParentLemmas.{parent_of-none, parent_of-root, parent_of-push}
+use Rattle.unix_path.proofs.ParentLemmas.{file_name_of-last, file_name_of-none}
 use Rattle.path_runs.proofs.SiblingLemmas.{values-rest_push}
 use Rattle.path_keys.specs.Keys.{code, key_of, raised}
 use Rattle.path_keys.specs.Codes.{code_value, slashed, lowered, HasNoCode, IsRaised, TakesCode}
@@ -105,14 +104,13 @@ walks_empty (Some last) h none is s e = absurd (cc)
 pub no_parent : (s : List ℕ) → values s ≡ []
     → None ≡ option_map (λ parent. key_of (values parent)) (parent_of s)
 no_parent s e =
-    sym (ap (option_map (λ parent. key_of (values parent))) (parent_of-alone s (depth_of-none s e)))
+    ap (option_map (λ parent. key_of (values parent))) (parent_of-none s e)
 
 -- nor has the key of a root
 pub root_parent : (key s : List ℕ) (start : ℕ) → EndsIn key (values s) start RootDir
     → None ≡ option_map (λ parent. key_of (values parent)) (parent_of s)
 root_parent key s start h =
-    sym (ap (option_map (λ parent. key_of (values parent)))
-    (parent_of-alone s (depth_of-root s h.front h.is)))
+    ap (option_map (λ parent. key_of (values parent))) (parent_of-root s h.front h.is)
 
 -- the key before the last code is that of the parent, unless the last value is a root
 pub front_parent : (key s : List ℕ) (start : ℕ) (v : Value) → (v ≡ RootDir → ⊥)
@@ -120,8 +118,8 @@ pub front_parent : (key s : List ℕ) (start : ℕ) (v : Value) → (v ≡ RootD
     → Some (take start key) ≡ option_map (λ parent. key_of (values parent)) (parent_of s)
 front_parent key s start v no_root h =
     ap Some (h.front_is ∙ ap key_of (sym (values-rest_push s h.front v h.is)))
-    ∙ sym (ap (option_map (λ parent. key_of (values parent)))
-    (parent_of-deep s _ (depth_of-push s h.front v h.is no_root)))
+    ∙ ap (option_map (λ parent. key_of (values parent)))
+    (parent_of-push s h.front v h.is refl no_root)
 
 pub no_name : (s : List ℕ) → values s ≡ []
     → None ≡ option_map (λ name. map raised name) (file_name_of (values s))

@@ -1,23 +1,18 @@
 -- The root or the `.` with which a path begins, in a key.
-use Rattle.std.proofs.Common.{◌≡◌, ◌<◌, ℕ, true, false, eqb, List, [], ◌∷◌, ◌++◌, length, map}
+use Rattle.std.proofs.Common.{◌≡◌, ◌<◌, ℕ, true, false, eqb, List, [], ◌∷◌, ◌++◌, length}
 use Rattle.std.proofs.Common.{get_or, sym, ap, ap₂, ◌∙◌, arith, eq-eqb, ne_eqb, ◌&&◌}
 use Rattle.std.proofs.lemmas.List.{nil_from_length}
 use Rattle.std.specs.List.{slice_split}
 use Rattle.unix_path.specs.CommonDir.{inner_values}
-use Rattle.unix_path.specs.Parts.{RootDir, CurDir, Part, is_slash, is_rooted, values}
+use Rattle.unix_path.specs.Parts.{RootDir, CurDir, is_slash, is_rooted, values}
 use Rattle.unix_path.specs.Scan.{is_idle}
 use Rattle.unix_path.proofs.CommonPrefixLemmas.{inner_values-nil}
-use Rattle.unix_path.proofs.IdleLemmas.{first_piece_dot, parts-busy}
+use Rattle.unix_path.proofs.IdleLemmas.{first_piece_dot, values-busy}
 use Rattle.unix_path.proofs.PartLemmas.{values-nil}
 use Rattle.unix_path.proofs.PieceLemmas.{slice_split-first}
 use Rattle.path_runs.proofs.LeadLemmas.{dot_first, lead_by, values-lead}
 use Rattle.path_keys.specs.Keys.{key_of}
 use Rattle.path_keys.proofs.KeyLemmas.{key_of-nil, key_of-cons}
-
--- a string that begins with no filler has its inner values
-pub values-busy : (s : List ℕ) → is_idle s 0 ≡ false → values s ≡ inner_values s
-unfolding values
-values-busy s busy = ap (map (λ (p : Part). p.value)) (parts-busy s (λ l. busy))
 
 -- the key of the empty path
 pub lead-none : (s : List ℕ) → length s ≡ 0 → key_of (values s) ≡ key_of (inner_values s)

@@ -18,7 +18,7 @@ NoZero p = AllByRecursion (λ b. eqb b 0 ≡ false) p
 raised-lowered : (b : ℕ) → eqb b 0 ≡ false → raised (lowered b) ≡ b
 raised-lowered b h = grind (arith, nat_tests)
 
-lowered-raised : (b : ℕ) → is_slash b ≡ false → lowered (raised b) ≡ b
+pub lowered-raised : (b : ℕ) → is_slash b ≡ false → lowered (raised b) ≡ b
 lowered-raised b h = grind (arith, nat_tests)
 
 lowered-no_slash : (b : ℕ) → eqb b 0 ≡ false → is_slash (lowered b) ≡ false

@@ -15,10 +15,9 @@ use Rattle.unix_path.specs.Scan.{begins_with_parent, is_idle}
 use Rattle.unix_bytes.proofs.CaseLemmas.{by_test}
 use Rattle.unix_path.proofs.CommonPrefixLemmas.{inner_values-nil}
 use Rattle.unix_path.proofs.LeadLemmas.{busy_no_slash, first_value-name, length-parent_first}
-use Rattle.unix_path.proofs.LeadLemmas.{parts-parent_first}
+use Rattle.unix_path.proofs.LeadLemmas.{values-parent_first}
 use Rattle.unix_path.proofs.PartLemmas.{parts-name}
 use Rattle.unix_path.proofs.PieceLemmas.{first_piece, slice_split-first}
-use Rattle.unix_path.proofs.PlaceLemmas.{values-inner_parts}
 use Rattle.path_runs.proofs.PieceValueLemmas.{inner_values-pieces, names_of}
 use Rattle.path_keys.specs.Keys.{key_of}
 use Rattle.path_keys.specs.Codes.{AllFit, IsName}
@@ -26,15 +25,8 @@ use Rattle.path_keys.specs.Stretches.{coded, AreNamesTo, FirstStop, IsRun}
 use Rattle.path_keys.proofs.StopLemmas.{stop_mark, unstopped_to}
 use Rattle.path_keys.proofs.FitLemmas.{values-fit}
 use Rattle.path_keys.proofs.KeyLemmas.{key_of-cons, key_of-append}
-use Rattle.path_keys.proofs.LeadLemmas.{values-busy}
+use Rattle.unix_path.proofs.IdleLemmas.{values-busy}
 use Rattle.path_keys.proofs.StretchLemmas.{later, later_names, some_piece, stretch_key}
-
--- a string that begins with `..` has that, and then the values of what follows
-values-up : (s : List ℕ) → begins_with_parent s ≡ true
-    → values s ≡ ParentDir ∷ inner_values (drop 2 s)
-unfolding values
-values-up s e = ap (map (λ (p : Part). p.value)) (parts-parent_first s e)
-    ∙ ap (λ vs. ParentDir ∷ vs) (values-inner_parts 2 (drop 2 s))
 
 -- the first value of a string that begins with neither filler nor `..` is its first piece
 values-first : (s : List ℕ) → 0 < length s → is_idle s 0 ≡ false → begins_with_parent s ≡ false
@@ -57,7 +49,7 @@ pub run-up : (s : List ℕ) → is_idle s 0 ≡ false → begins_with_parent s �
 run-up s busy e = record {
   some = omega arith;
   in_range = length-parent_first s e;
-  split = ap key_of (sym (values-busy s busy) ∙ values-up s e)
+  split = ap key_of (sym (values-busy s busy) ∙ values-parent_first s e)
       ∙ key_of-cons ParentDir (inner_values (drop 2 s))
       ∙ ap (λ c. c ++ key_of (inner_values (drop 2 s)))
       (sym (ap (λ b. cond b (0 ∷ 3 ∷ []) (map coded (take 2 s) ++ 0 ∷ [])) e));

@@ -1,22 +1,12 @@
 -- The ancestors of a path, step by step; each is a prefix of its bytes.
-use Rattle.std.proofs.Common.{◌≡◌, ℕ, zero, suc, ◌+◌, List, [], ◌∷◌, ◌++◌, length, drop, map, Some}
-use Rattle.std.proofs.Common.{None, sym, ap, ◌∙◌, append-nil, take-append-drop}
+use Rattle.std.proofs.Common.{ℕ, zero, suc, ◌+◌, List, [], ◌++◌, length, drop, map}
+use Rattle.std.proofs.Common.{sym, ap, ◌∙◌, append-nil, take-append-drop}
 use Rattle.std.specs.List.{All, AllByRecursion, range_with_len}
 use Rattle.std.proofs.lemmas.List.Elements.{All-from_recursion}
 use Rattle.unix_path.specs.Rest.{rest}
-use Rattle.unix_path.specs.Parents.{parent_of, depth_of, ancestors_of}
+use Rattle.unix_path.specs.Parents.{depth_of, ancestors_of}
 use Rattle.unix_path.specs.Prefixes.{Begins}
-use Rattle.unix_path.proofs.AncestorLemmas.{ancestors_by, ancestors_of-parent}
 use Rattle.unix_path.proofs.RestLemmas.{take-rest}
-
--- a path without a parent is its only ancestor
-pub ancestors_of-alone : (s : List ℕ) → parent_of s ≡ None → ancestors_of s ≡ s ∷ []
-ancestors_of-alone s e = ancestors_of-parent s ∙ ap (λ o. s ∷ ancestors_by o) e
-
--- a path's ancestors are the path and those of its parent
-pub ancestors_of-above : (s parent : List ℕ) → parent_of s ≡ Some parent
-    → ancestors_of s ≡ s ∷ ancestors_of parent
-ancestors_of-above s parent e = ancestors_of-parent s ∙ ap (λ o. s ∷ ancestors_by o) e
 
 -- a path begins with `prefix`
 abbrev IsPrefixOf : List ℕ → List ℕ → Type 0

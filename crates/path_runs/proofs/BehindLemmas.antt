@@ -4,14 +4,13 @@ use Rattle.std.proofs.Common.{refl, sym, ap, subst, ◌∙◌, arith, append-nil
 use Rattle.std.proofs.lemmas.List.{map-append, take-append-le, append_cancel_left}
 use Rattle.unix_path.specs.Parts.{Part, Value, inner_parts, parts, values}
 use Rattle.unix_path.specs.Rest.{rest}
-use Rattle.unix_path.specs.Steps.{parts_end}
+use Rattle.unix_path.proofs.PlaceLemmas.{parts_end}
 use Rattle.unix_path.specs.Joins.{is_open}
 use Rattle.unix_bytes.proofs.CaseLemmas.{by_test}
 use Rattle.unix_path.proofs.CommonPrefixLemmas.{parts-past_slash}
 use Rattle.unix_path.proofs.PartLemmas.{parts-nil}
-use Rattle.unix_path.proofs.SpanLemmas.{length-rest_whole, rest-whole, span-parts}
+use Rattle.unix_path.proofs.SpanLemmas.{length-rest_whole, rest-whole, span-parts, rest-last}
 use Rattle.unix_path.proofs.StemLemmas.{length-rest_whole-le}
-use Rattle.unix_path.proofs.StepLemmas.{rest-last}
 use Rattle.unix_path.proofs.TrimLemmas.{parts-slash}
 use Rattle.path_runs.proofs.AssociativeLemmas.{separator}
 use Rattle.path_runs.proofs.ValueLemmas.{ends_open, not_open}

@@ -25,7 +25,7 @@ use Rattle.path_runs.specs.EditLaws.{SameEdit}
 use Rattle.path_runs.proofs.ExtensionCutLemmas.{with_extension_of-none, values-with_extension_of}
 use Rattle.path_runs.proofs.ExtensionCutLemmas.{values-added_extension_of}
 use Rattle.path_runs.proofs.LeadLemmas.{joins_same, roots_same}
-use Rattle.path_runs.proofs.NameCutLemmas.{NameCut, name_cut}
+use Rattle.unix_path.proofs.NameCutLemmas.{NameCut, name_cut}
 use Rattle.path_runs.proofs.ValueLemmas.{append_values}
 
 -- equal paths have the same depth

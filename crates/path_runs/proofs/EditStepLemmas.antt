@@ -130,8 +130,7 @@ parent_of-bare (b ∷ s) zero some r same few =
 parent_of-bare (b ∷ s) (suc zero) some r same few =
     parent_of-root (b ∷ s) [] (values_root (b ∷ s)
     (sym same ∙ parts-root (b ∷ []) r
-    ∙ ap (λ ps. record { start = 0; end = 1; value = RootDir } ∷ ps) (inner_parts-nil 1))
-    ∙ ap (λ vs. vs ++ RootDir ∷ []) (sym (values_none [] parts-nil)))
+    ∙ ap (λ ps. record { start = 0; end = 1; value = RootDir } ∷ ps) (inner_parts-nil 1)))
 parent_of-bare (b ∷ s) (suc (suc n)) some r same few = absurd (omega arith)
 
 -- a path without a name stays whole in front of a new name

@@ -13,7 +13,7 @@ use Rattle.unix_path.proofs.EditLemmas.{with_extension_at}
 use Rattle.unix_path.proofs.NameEndLemmas.{name_end_by, added_extension_at}
 use Rattle.unix_path.proofs.StemLemmas.{stem_end_by}
 use Rattle.path_runs.proofs.DotLemmas.{stem_prefix}
-use Rattle.path_runs.proofs.NameCutLemmas.{NameCut}
+use Rattle.unix_path.proofs.NameCutLemmas.{NameCut}
 use Rattle.path_runs.proofs.ValueLemmas.{append_values, values-append_open}
 
 -- what stands up to the stem's end is the prefix and the stem

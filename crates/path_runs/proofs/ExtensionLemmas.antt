@@ -22,9 +22,9 @@ use Rattle.path_runs.proofs.ExtensionCutLemmas.{with_extension_of-cut}
 use Rattle.path_runs.proofs.DotLemmas.{SplitCase, Whole, Cut, split_case, split_name-dot}
 use Rattle.path_runs.proofs.DotLemmas.{stem_prefix}
 use Rattle.path_runs.proofs.LeadLemmas.{drop_lead-values}
-use Rattle.path_runs.proofs.NameCutLemmas.{IsName, NameCut, name_cut}
+use Rattle.unix_path.proofs.NameCutLemmas.{IsName, NameCut, name_cut, values-name}
 use Rattle.path_runs.proofs.PieceNameLemmas.{IsPiece, piece-prefix, piece-append, piece-none}
-use Rattle.path_runs.proofs.PieceNameLemmas.{long-name, values-name}
+use Rattle.path_runs.proofs.PieceNameLemmas.{long-name}
 use Rattle.path_runs.proofs.SiblingLemmas.{parent_of-name, file_name_of-name}
 use Rattle.path_runs.proofs.ValueLemmas.{append_values, values-append_open}
 

@@ -14,7 +14,7 @@ use Rattle.unix_path.proofs.IdleLemmas.{inner_parts_busy, inner_parts_idle_at, i
 use Rattle.unix_path.proofs.PieceLemmas.{first_piece, first_piece-slash, first_piece-other}
 use Rattle.unix_path.proofs.PieceLemmas.{position_or_len-slash, position_or_len-other}
 use Rattle.unix_path.proofs.PlaceLemmas.{values-inner_parts}
-use Rattle.unix_path.proofs.StemLemmas.{value_bytes-piece}
+use Rattle.unix_path.proofs.ValueLemmas.{value_bytes-piece}
 use Rattle.path_runs.specs.Gaps.{is_gap, slashed_parts, FirstGap, IsPart}
 
 -- a byte of filler may be left out

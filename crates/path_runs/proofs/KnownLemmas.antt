@@ -4,7 +4,7 @@ use Rattle.std.proofs.Common.{sym, ap, ◌∙◌, arith, subst, take_all}
 use Rattle.std.proofs.lemmas.List.{take-take}
 use Rattle.unix_path.specs.Parts.{parts}
 use Rattle.unix_path.specs.Edits.{stem_end_of}
-use Rattle.unix_path.specs.Steps.{EndsInPart}
+use Rattle.unix_path.specs.Scan.{EndsInPart}
 use Rattle.path_runs.specs.Known.{KnowsEnd, KnowsStem}
 
 -- fewer bytes than two strings share are the same in both

@@ -18,7 +18,6 @@ pub mod JoinAllLemmas
 pub mod ExtendLemmas
 pub mod EditListLemmas
 pub mod DotLemmas
-pub mod NameCutLemmas
 pub mod ExtensionCutLemmas
 pub mod CongruenceLemmas
 pub mod StemNameLemmas

@@ -1,19 +1,15 @@
 -- What calls at both ends of a walk, mixed in any order, give and leave.
 use Rattle.std.proofs.Common.{◌≡◌, ℕ, ◌+◌, List, [], ◌∷◌, ◌++◌, length, map, reverse, Option}
-use Rattle.std.proofs.Common.{None, Some, sym, ap, ap₂, subst, ◌∙◌, arith, append-nil, take_all}
+use Rattle.std.proofs.Common.{None, Some, sym, ap, ap₂, ◌∙◌, arith, append-nil}
 use Rattle.std.proofs.Common.{append_assoc, length-append}
 use Rattle.std.proofs.lemmas.List.{map-append, reverse-append}
 use Rattle.std.specs.Iterator.{YieldsFirstBy, YieldsLastBy}
 use Rattle.std.specs.Option.{option_to_list}
 use Rattle.unix_path.specs.Cursor.{cursor_rest, cursor_values}
-use Rattle.unix_path.specs.Parts.{parts}
 use Rattle.unix_path.specs.Rest.{rest}
-use Rattle.unix_path.specs.Steps.{EndsInPart, IsWalk}
 use Rattle.unix_path.specs.declared.cursor.walk.Components.{Components}
-use Rattle.unix_path.proofs.PartLemmas.{rest-nil}
+use Rattle.unix_path.proofs.PartLemmas.{rest-nil, values-none}
 use Rattle.unix_path.proofs.RestLemmas.{rest-rest}
-use Rattle.unix_path.proofs.SpanLemmas.{rest-trimmed}
-use Rattle.path_runs.proofs.ValueLemmas.{values-none}
 use Rattle.path_runs.specs.CallsMixed.{GivesMixed}
 
 module _ {S A V : Type 0} (shows : A → V) (left : S → List V) where
@@ -103,18 +99,6 @@ module _ {S A V : Type 0} (shows : A → V) (left : S → List V) (bytes : S →
         after_first (bytes old) (length ys) xs s t item (rest_between old s xs ys calls) call
     rest_between old new front behind (GivesMixed.behind {xs} {ys} {s} {t} item calls call) =
         after_last (bytes old) (length xs) ys s t item (rest_between old s xs ys calls) call
-
--- a string that ends in a part is what is left of it
-rest-itself : (u : List ℕ) → EndsInPart u → u ≡ rest u 0 0
-rest-itself u ends =
-    let all = take_all (length u) u (omega arith) in
-    sym (rest-trimmed u (length u) (omega arith) (ap parts all) (subst EndsInPart (sym all) ends)
-    ∙ all)
-
--- the bytes that a walk stands for are what is left of them
-pub whole-cursor_rest : (c : Components) → cursor_rest c ≡ rest (cursor_rest c) 0 0
-unfolding cursor_rest IsWalk
-whole-cursor_rest c = rest-itself (cursor_rest c) c.fields.ends
 
 -- without values a walk stands for no byte
 pub none-cursor_rest : (c : Components) → cursor_values c ≡ [] → cursor_rest c ≡ []

@@ -9,10 +9,8 @@ use Rattle.unix_path.specs.Parents.{parent_of}
 use Rattle.unix_path.specs.Names.{file_name_of}
 use Rattle.unix_path.specs.Order.{values_cmp, IsBefore}
 use Rattle.unix_path.specs.OrderLaws.{value_cmp-total}
-use Rattle.unix_path.proofs.DepthLemmas.{depth_of-none}
-use Rattle.unix_path.proofs.ParentLemmas.{parent_of-alone, parent_of-some}
-use Rattle.path_runs.proofs.NameCutLemmas.{name_cut}
-use Rattle.path_runs.proofs.PieceNameLemmas.{values-name}
+use Rattle.unix_path.proofs.ParentLemmas.{parent_of-none, parent_of-some}
+use Rattle.unix_path.proofs.NameCutLemmas.{name_cut, values-name}
 use Rattle.path_runs.proofs.SiblingLemmas.{values-rest_push, values-join_of_one}
 use Rattle.unix_bytes.proofs.CaseLemmas.{Snoc, Empty, Push, snoc}
 
@@ -25,7 +23,7 @@ before_push (w ∷ vs) v =
 
 -- a path without values has no parent
 no_parent : (s parent : List ℕ) → values s ≡ [] → parent_of s ≡ Some parent → ⊥
-no_parent s parent is e = none-some parent (sym (parent_of-alone s (depth_of-none s is)) ∙ e)
+no_parent s parent is e = none-some parent (parent_of-none s is ∙ e)
 
 -- a path's parent stands before it in the order
 pub parent-before : (s parent : List ℕ) → parent_of s ≡ Some parent

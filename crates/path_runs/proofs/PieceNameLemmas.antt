@@ -1,20 +1,16 @@
 -- A string without a slash that is the name of its one part.
 use Rattle.std.proofs.Common.{◌≡◌, ℕ, suc, ◌<◌, false, eqb, List, [], ◌∷◌, ◌++◌, length}
-use Rattle.std.proofs.Common.{take, drop, map, refl, ap, ap₂, ◌∙◌, arith, take_all}
+use Rattle.std.proofs.Common.{refl, ap, arith}
 use Rattle.std.proofs.Common.{eqb-true}
 use Rattle.std.specs.List.{position_or_len}
 use Rattle.std.specs.Str.{bytes_eq}
-use Rattle.std.proofs.lemmas.List.{drop_all}
 use Rattle.std.proofs.lemmas.Slice.Eq.{bytes_eq-Decides}
-use Rattle.unix_path.specs.Parts.{is_slash, cur_dir, parent_dir, Part, Normal, inner_parts, values}
-use Rattle.unix_path.specs.Steps.{first_value}
+use Rattle.unix_path.specs.Parts.{is_slash, cur_dir, parent_dir}
 use Rattle.unix_bytes.proofs.CaseLemmas.{by_test}
-use Rattle.unix_path.proofs.LastLemmas.{no_slash_head}
-use Rattle.unix_path.proofs.PartLemmas.{parts-name}
-use Rattle.unix_path.proofs.PieceLemmas.{inner_parts-nil, position_or_len-other}
+use Rattle.unix_path.proofs.PieceLemmas.{position_or_len-other}
 use Rattle.unix_path.proofs.PieceLemmas.{position_or_len-slash}
 use Rattle.path_runs.specs.EditLaws.{HasNone}
-use Rattle.path_runs.proofs.NameCutLemmas.{IsName}
+use Rattle.unix_path.proofs.NameCutLemmas.{IsName}
 
 -- no byte is a slash
 abbrev pub IsPiece : List ℕ → Type 0
@@ -62,16 +58,3 @@ long-name s l h = record {
     differs : (t : List ℕ) → length t < length s → bytes_eq s t ≡ false
     differs t m = by_test (bytes_eq s t)
         (λ e. absurd (omega (arith, ap length ((bytes_eq-Decides s t).0 e)))) (λ e. e)
-
--- a name is a path of that name alone
-pub values-name : (s : List ℕ) → IsName s → values s ≡ Normal s ∷ []
-unfolding values
-values-name s h =
-    let n = position_or_len is_slash s in
-    let whole : take n s ≡ s = take_all n s (omega (arith, h.no_slash)) in
-    let none : drop n s ≡ [] = drop_all n s (omega (arith, h.no_slash)) in
-    let named : first_value s ≡ Normal s = rw (h.no_dot, h.no_dots) refl in
-    ap (map (λ (p : Part). p.value)) (parts-name s h.some (no_slash_head s h.no_slash h.some)
-    ∙ ap₂ (λ p r. record { start = 0; end = n; value = first_value p } ∷ inner_parts n r) whole none
-    ∙ ap (λ ps. record { start = 0; end = n; value = first_value s } ∷ ps) (inner_parts-nil n))
-    ∙ ap (λ v. v ∷ []) named

@@ -1,15 +1,14 @@
 -- One name behind a path: pushed and popped, or set in place of the file name.
 use Rattle.std.proofs.Common.{◌≡◌, ℕ, true, false, List, [], ◌∷◌, ◌++◌, Some, is_some, unwrap_or}
-use Rattle.std.proofs.Common.{sym, ap, ◌∙◌}
+use Rattle.std.proofs.Common.{sym, ap, ◌∙◌, refl}
 use Rattle.unix_path.specs.Parts.{Value, Normal, is_rooted, values, SameValues}
 use Rattle.unix_path.specs.Rest.{rest}
 use Rattle.unix_path.specs.Joins.{join_of}
 use Rattle.unix_path.specs.Parents.{parent_of}
 use Rattle.unix_path.specs.Names.{file_name_of}
 use Rattle.unix_path.specs.Edits.{popped_of, with_name_of}
-use Rattle.unix_path.proofs.DepthLemmas.{depth_of-push}
 use Rattle.unix_path.proofs.MiddleLemmas.{middle, middle-push}
-use Rattle.unix_path.proofs.ParentLemmas.{before_name_of-some, parent_of-deep, file_name_of-last}
+use Rattle.unix_path.proofs.ParentLemmas.{before_name_of-some, parent_of-push, file_name_of-last}
 use Rattle.unix_path.proofs.PartLemmas.{root_first, root_first-values}
 use Rattle.unix_path.proofs.RestLemmas.{rest-rest, values-rest}
 use Rattle.path_runs.specs.JoinLaws.{drop_lead}
@@ -24,7 +23,7 @@ use Rattle.path_runs.proofs.ValueLemmas.{append_values, values-join_of_rootless}
 pub parent_of-name : (s name : List ℕ) (vs : List Value) → values s ≡ vs ++ Normal name ∷ []
     → parent_of s ≡ Some (rest s 0 1)
 parent_of-name s name vs e =
-    parent_of-deep s _ (depth_of-push s vs (Normal name) e (λ h. cc))
+    sym (parent_of-push s vs (Normal name) e refl (λ h. cc))
 
 -- a path whose last value is a name has that file name
 pub file_name_of-name : (s name : List ℕ) (vs : List Value) → values s ≡ vs ++ Normal name ∷ []

@@ -7,8 +7,7 @@ use Rattle.std.proofs.lemmas.Slice.Eq.{bytes_eq-Decides}
 use Rattle.unix_path.specs.Parts.{is_slash, slash, cur_dir, Value, RootDir, CurDir}
 use Rattle.unix_path.specs.Parts.{value_of_piece, value_bytes, is_rooted}
 use Rattle.unix_path.specs.Parts.{counts, values}
-use Rattle.unix_path.proofs.RootLemmas.{no_root_piece}
-use Rattle.unix_path.proofs.StemLemmas.{value_bytes-piece}
+use Rattle.unix_path.proofs.ValueLemmas.{value_bytes-piece, no_root_piece}
 use Rattle.path_runs.specs.Spelling.{slashed_bytes, spelling_of}
 use Rattle.path_runs.proofs.PieceValueLemmas.{names_of, values-rooted, values-rootless}
 

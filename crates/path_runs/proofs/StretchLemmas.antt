@@ -3,19 +3,17 @@ use Rattle.std.proofs.Common.{◌≡◌, ℕ, ◌<◌, ◌≤◌, true, false, e
 use Rattle.std.proofs.Common.{drop, map, get_or, refl, sym, ap, ap₂, subst, ◌∙◌, append-nil}
 use Rattle.std.proofs.Common.{eqb-true, arith, take_all, ◌⊎◌, inl, inr}
 use Rattle.std.specs.List.{flat_map, position_or_len}
-use Rattle.std.specs.Str.{bytes_eq}
-use Rattle.std.proofs.lemmas.Slice.Eq.{bytes_eq-Decides}
-use Rattle.unix_path.specs.Parts.{Part, Value, RootDir, cur_dir, is_slash, slash}
+use Rattle.unix_path.specs.Parts.{Part, Value, RootDir, is_slash, slash}
 use Rattle.unix_path.specs.Parts.{inner_parts, value_bytes, values}
 use Rattle.unix_path.specs.Rest.{rest}
-use Rattle.unix_path.specs.Steps.{EndsInPart, first_value, parts_end}
+use Rattle.unix_path.specs.Scan.{EndsInPart}
 use Rattle.unix_bytes.proofs.CaseLemmas.{by_test}
 use Rattle.unix_path.proofs.PartLemmas.{parts-name, parts-root, values-nil}
 use Rattle.unix_path.proofs.PieceLemmas.{first_piece}
-use Rattle.unix_path.proofs.PlaceLemmas.{values-inner_parts}
-use Rattle.unix_path.proofs.RootLemmas.{no_root_piece}
+use Rattle.unix_path.proofs.PlaceLemmas.{values-inner_parts, parts_end}
 use Rattle.unix_path.proofs.SpanLemmas.{parts_end-whole, rest-trimmed, trims_end}
-use Rattle.unix_path.proofs.StemLemmas.{value_bytes-piece}
+use Rattle.unix_path.proofs.ValueLemmas.{first_value}
+use Rattle.unix_path.proofs.ValueLemmas.{value_bytes-first, no_root_first}
 use Rattle.path_runs.specs.Gaps.{slashed_parts, FirstGap}
 use Rattle.path_runs.specs.Spelling.{slashed_bytes, spelling_of}
 use Rattle.path_runs.proofs.KeptLemmas.{first_slash, kept_stretch, nothing_left}
@@ -33,15 +31,6 @@ pub slashed_bytes-cons : (v : Value) (vs : List Value)
 slashed_bytes-cons v [] = sym (append-nil (value_bytes v))
 slashed_bytes-cons v (w ∷ vs) = ap (λ u. value_bytes v ++ slash ∷ u) (slashed_bytes-cons w vs)
 
-first_value-bytes : (p : List ℕ) → value_bytes (first_value p) ≡ p
-first_value-bytes p = by_test (bytes_eq p cur_dir)
-    (λ e. rw e (sym ((bytes_eq-Decides p cur_dir).0 e)))
-    (λ e. rw e (value_bytes-piece p))
-
-first_value-no_root : (p : List ℕ) → first_value p ≡ RootDir → ⊥
-first_value-no_root p = by_test (bytes_eq p cur_dir)
-    (λ e. rw e (λ d. cc)) (λ e. rw e (no_root_piece p))
-
 -- a rootless path is spelled as its first piece, and then its parts, each behind a slash
 spelling_of-name : (s : List ℕ) → 0 < length s → eqb (get_or s 0 0) 47 ≡ false
     → spelling_of (values s)
@@ -52,9 +41,9 @@ spelling_of-name s l e =
     let p = first_piece s in
     let vs : List Value = map (λ (q : Part). q.value) (inner_parts n (drop n s)) in
     ap (λ ps. spelling_of (map (λ (q : Part). q.value) ps)) (parts-name s l e)
-    ∙ spelling_of-cons (first_value p) vs (first_value-no_root p)
+    ∙ spelling_of-cons (first_value p) vs (no_root_first p)
     ∙ slashed_bytes-cons (first_value p) vs
-    ∙ ap₂ (λ b ws. b ++ slash_each ws) (first_value-bytes p) (values-inner_parts n (drop n s))
+    ∙ ap₂ (λ b ws. b ++ slash_each ws) (value_bytes-first p) (values-inner_parts n (drop n s))
 
 -- a rooted path of two bytes or more that ends in a part is spelled as its parts, each behind a
 -- slash

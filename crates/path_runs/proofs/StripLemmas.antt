@@ -6,7 +6,7 @@ use Rattle.unix_path.specs.Parts.{Value, is_rooted, values}
 use Rattle.unix_path.specs.Joins.{join_of}
 use Rattle.unix_path.specs.Prefixes.{stripped_of, Begins}
 use Rattle.unix_path.proofs.MiddleLemmas.{middle}
-use Rattle.unix_path.proofs.PartLemmas.{root_first, root_first-values, values-nil}
+use Rattle.unix_path.proofs.PartLemmas.{root_first, root_first-values, values-nil, some_values}
 use Rattle.unix_path.proofs.RestLemmas.{values-rest}
 use Rattle.path_runs.specs.JoinLaws.{drop_lead}
 use Rattle.path_runs.proofs.AllLemmas.{AllByRecursion-end}
@@ -14,7 +14,7 @@ use Rattle.path_runs.proofs.AssociativeLemmas.{join_of-nil}
 use Rattle.path_runs.proofs.LeadLemmas.{IsInner, inner-no_lead, inner-behind}
 use Rattle.path_runs.proofs.LeadLemmas.{drop_lead-values}
 use Rattle.unix_path.specs.CommonDir.{inner_values}
-use Rattle.path_runs.proofs.ValueLemmas.{some_values, append_values, values-join_of_rootless}
+use Rattle.path_runs.proofs.ValueLemmas.{append_values, values-join_of_rootless}
 
 -- of vs and then ws, ws is left behind vs
 middle-append : (vs ws : List Value) → middle (length vs) 0 (vs ++ ws) ≡ ws

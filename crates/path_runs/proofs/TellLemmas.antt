@@ -12,7 +12,7 @@ use Rattle.unix_path.specs.Parts.{value_of_piece, value_bytes, values}
 use Rattle.unix_path.specs.Prefixes.{Begins}
 use Rattle.path_runs.proofs.FeedLemmas.{with_zeros, with_zeros-cancel, concat-hash_input_of}
 use Rattle.path_runs.proofs.PieceValueLemmas.{HoldsOfPieces, NoSlash, values-hold}
-use Rattle.unix_path.proofs.StemLemmas.{value_bytes-piece}
+use Rattle.unix_path.proofs.ValueLemmas.{value_bytes-piece}
 
 -- the value of what stands before the first slash that is fed
 told_value : List ℕ → Value

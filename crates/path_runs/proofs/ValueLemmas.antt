@@ -1,15 +1,15 @@
 -- The values of what stands behind an open string, and of a join.
-use Rattle.std.proofs.Common.{◌≡◌, ℕ, ◌<◌, true, false, eqb, List, [], ◌∷◌, ◌++◌, length}
-use Rattle.std.proofs.Common.{get_or, map, refl, sym, ap, ◌∙◌, arith, append_assoc}
+use Rattle.std.proofs.Common.{◌≡◌, ℕ, ◌<◌, true, false, List, [], ◌∷◌, ◌++◌, length}
+use Rattle.std.proofs.Common.{refl, sym, ap, ◌∙◌, arith, append_assoc}
 use Rattle.std.proofs.Common.{eqb-true}
-use Rattle.unix_path.specs.Parts.{slash, is_rooted, Part, Value}
+use Rattle.unix_path.specs.Parts.{slash, is_rooted, Value}
 use Rattle.unix_path.specs.Parts.{values}
 use Rattle.unix_path.specs.Joins.{is_open, join_of}
 use Rattle.unix_bytes.proofs.CaseLemmas.{by_test}
 use Rattle.unix_path.proofs.CommonPrefixLemmas.{values-past_slash, values-slash}
 use Rattle.unix_path.specs.CommonDir.{inner_values}
 use Rattle.unix_path.proofs.JoinLemmas.{join_of_open, join_of_closed}
-use Rattle.unix_path.proofs.PartLemmas.{parts-root, parts-name, values-nil}
+use Rattle.unix_path.proofs.PartLemmas.{values-nil, some_values}
 
 -- an open path of a byte or more ends in a slash
 pub ends_open : (u : List ℕ) → is_open u ≡ true → 0 < length u
@@ -40,19 +40,6 @@ values-join_of a b l r = by_test (is_open a)
     (λ o. ap values (join_of_open a b r o) ∙ values-open a b o l)
     (λ o. ap values (join_of_closed a b r o ∙ append_assoc a (slash ∷ []) b)
     ∙ values-slash a b l)
-
--- a path of a byte or more has a value
-pub some_values : (s : List ℕ) → 0 < length s
-    → (v : Value) × (vs : List Value) × (values s ≡ v ∷ vs)
-unfolding values
-some_values s l = by_test (eqb (get_or s 0 0) 47)
-    (λ e. (_, _, ap (map (λ (p : Part). p.value)) (parts-root s (eqb-true _ 47 e))))
-    (λ e. (_, _, ap (map (λ (p : Part). p.value)) (parts-name s l e)))
-
--- a path without a value has no byte
-pub values-none : (s : List ℕ) → values s ≡ [] → s ≡ []
-values-none [] none = refl
-values-none (b ∷ s) none = let some = some_values (b ∷ s) (omega arith) in cc (some.2)
 
 -- the values of a join with b: behind a value b adds its inner values, and behind none all of its
 -- values

@@ -2,7 +2,7 @@
 use Rattle.std.specs.Prelude.{◌≡◌, ◌<◌, ◌≤◌, ℕ, List, length, slice_index, take, Some}
 use Rattle.unix_path.specs.Parts.{parts}
 use Rattle.unix_path.specs.Edits.{stem_end_of}
-use Rattle.unix_path.specs.Steps.{EndsInPart}
+use Rattle.unix_path.specs.Scan.{EndsInPart}
 use Rattle.path_runs.specs.declared.edits.known.Known.{Known}
 use Rattle.path_runs.specs.declared.edits.stems.Stems.{Stems}
 

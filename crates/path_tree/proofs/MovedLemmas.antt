@@ -148,7 +148,8 @@ module _ {V : Type 0} (rows : List (List Value × V))
       (rows_with rows others) (sorted-with others)
       ∙ ap (λ l. insert_entry values_cmp l row.0 row.1) (outside-with base others all.1)
 
-none_under : {V : Type 0} (base : List Value) (rows : List (List Value × V))
+-- what is not there, by a test
+pub none_under : {V : Type 0} (base : List Value) (rows : List (List Value × V))
     → rows_under base rows ≡ [] → AllByRecursion (λ row. is_under base row.0 ≡ false) rows
 none_under base [] none = tt
 none_under base (row ∷ rows) none = by_test (is_under base row.0)
@@ -237,11 +238,6 @@ module _ {V : Type 0} (from to : List Value) (apart : Begins from to → ⊥) wh
         moved_outside rows free.1,
       ))
       (λ other. rw other (moved_outside rows free.1))
-
--- what is not there, by a test
-pub free_rows : {V : Type 0} (base : List Value) (rows : List (List Value × V))
-    → rows_under base rows ≡ [] → AllByRecursion (λ row. is_under base row.0 ≡ false) rows
-free_rows = none_under
 
 -- one row more: moved, or not under the source
 pub moves_row : {V : Type 0} (from to : List Value) (row : List Value × V)

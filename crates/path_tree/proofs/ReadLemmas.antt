@@ -16,12 +16,9 @@ use Rattle.path_keys.specs.Ranges.{bytes_cmp}
 use Rattle.path_keys.proofs.CodeLemmas.{values-coded}
 use Rattle.path_keys.proofs.FitLemmas.{values-fit}
 use Rattle.path_keys.proofs.KeyLemmas.{key_of-nil, key_of-cons}
-use Rattle.path_keys.proofs.LoweredLemmas.{raised-no_zero}
+use Rattle.path_keys.proofs.LoweredLemmas.{raised-no_zero, lowered-raised}
 use Rattle.path_keys.proofs.OrderLemmas.{bytes_cmp-keys}
 use Rattle.path_tree.specs.Read.{is_own, key_values, values_from}
-
-lowered-raised : (b : ℕ) → is_slash b ≡ false → lowered (raised b) ≡ b
-lowered-raised b h = grind (arith, nat_tests)
 
 -- behind the first bytes of a name the rest of the name is read, up to its end mark
 values_from-name : (n : List ℕ) (a : ℕ) (name key : List ℕ) → NoSlash n

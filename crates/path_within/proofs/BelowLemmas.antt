@@ -26,6 +26,7 @@ use Rattle.path_within.proofs.NulLemmas.{has_nul-values, no_nul-below, nul_in}
 use Rattle.path_within.proofs.PathOfLemmas.{AllOne-values}
 use Rattle.path_within.proofs.PlainLemmas.{plain_has_names}
 use Rattle.path_within.proofs.ResolveLemmas.{values-resolved}
+use Rattle.path_within.proofs.WholeLemmas.{names_down}
 
 -- with a slash in front, a path is resolved to bytes that have the root and the names
 abbrev rooted : List ℕ → List ℕ
@@ -93,12 +94,6 @@ pub values-stripped_below : (root b : List ℕ)
     → values (stripped_of (below_of root (names_below (values b))) root) ≡ names_below (values b)
 values-stripped_below root b = values-stripped_of (below_of root (names_below (values b))) root
     (names_below (values b)) (sym (values-below root b))
-
--- names are neither the root nor `..`
-names_down : (vs : List Value) → AreNames vs → has_root_or_up vs ≡ false
-names_down [] h = refl
-names_down (Normal name ∷ vs) h = names_down vs h
-names_down (v ∷ vs) h = absurd h
 
 -- a join with the names of a path without a NUL is below its root
 pub is_below : {s : List ℕ} (root b : List ℕ) → has_nul b ≡ false

@@ -9,7 +9,7 @@ use Rattle.unix_path.specs.Order.{same_value}
 use Rattle.unix_path.specs.Parts.{Value, ParentDir}
 use Rattle.unix_bytes.proofs.CaseLemmas.{take-suc_cons}
 use Rattle.unix_path.proofs.RootLemmas.{NoRoot}
-use Rattle.unix_path.proofs.TieLemmas.{same_value-Decides}
+use Rattle.unix_path.proofs.CallerLemmas.{same_value-Decides}
 use Rattle.path_within.specs.Climbs.{is_name}
 use Rattle.path_within.specs.Way.{is_root, steps_between}
 

@@ -77,7 +77,7 @@ keeps_floor top floor (ParentDir ∷ vs) h k r =
     (keeps_floor up.top floor vs h up.no_root r)
 
 -- no name is the root
-names_rootless : (vs : List Value) → list_all is_name vs ≡ true → list_any is_root vs ≡ false
+pub names_rootless : (vs : List Value) → list_all is_name vs ≡ true → list_any is_root vs ≡ false
 names_rootless [] h = refl
 names_rootless (v ∷ vs) h = grind (arith, names_rootless vs)
 

@@ -11,7 +11,7 @@ use Rattle.std.proofs.lemmas.Slice.Eq.{bytes_eq-Decides}
 use Rattle.unix_path.specs.Parts.{Value, RootDir, is_slash, cur_dir, counts, slash, value_bytes}
 use Rattle.unix_path.specs.Parts.{values}
 use Rattle.unix_bytes.proofs.CaseLemmas.{by_test}
-use Rattle.unix_path.proofs.StemLemmas.{value_bytes-piece}
+use Rattle.unix_path.proofs.ValueLemmas.{value_bytes-piece}
 use Rattle.path_runs.specs.JoinLaws.{drop_lead}
 use Rattle.path_runs.proofs.LeadLemmas.{drop_lead-values}
 use Rattle.path_runs.proofs.LeanLemmas.{join_with_byte-pieces}

@@ -12,7 +12,7 @@ use Rattle.unix_path.specs.Parts.{is_slash, dot, is_rooted, value_of_piece}
 use Rattle.unix_path.specs.Parts.{Value, RootDir, CurDir, ParentDir, Normal, value_bytes, values}
 use Rattle.unix_path.proofs.JoinLemmas.{join_of_rooted}
 use Rattle.unix_path.proofs.PartLemmas.{root_first, root_first-values, values-nil}
-use Rattle.unix_path.proofs.StemLemmas.{value_bytes-piece}
+use Rattle.unix_path.proofs.ValueLemmas.{value_bytes-piece}
 use Rattle.path_runs.specs.JoinLaws.{drop_lead}
 use Rattle.path_runs.specs.Spelling.{spelling_of}
 use Rattle.path_runs.proofs.ExtendLemmas.{join_all_of-append}

@@ -11,13 +11,14 @@ use Rattle.std.proofs.lemmas.List.Splits.{slice_split_none}
 use Rattle.std.proofs.lemmas.List.Sums.{fails_before_first}
 use Rattle.std.proofs.lemmas.List.{append-nil, drop_all, get_or_default, get_or_past}
 use Rattle.unix_path.specs.CommonDir.{inner_values}
-use Rattle.unix_path.specs.Parts.{slash, is_slash, is_rooted, inner_parts, Part, ParentDir}
+use Rattle.unix_path.specs.Parts.{slash, is_slash, is_rooted, inner_parts, Part}
 use Rattle.unix_path.specs.Parts.{RootDir, values}
 use Rattle.unix_path.specs.Scan.{begins_with_parent, is_idle}
 use Rattle.unix_bytes.proofs.CaseLemmas.{by_test}
 use Rattle.unix_path.proofs.CommonPrefixLemmas.{inner_values-nil, values-slash}
-use Rattle.unix_path.proofs.IdleLemmas.{idle_slash, inner_parts_idle_at, is_idle-drop, parts-busy}
-use Rattle.unix_path.proofs.LeadLemmas.{busy_no_slash, parts-parent_first}
+use Rattle.unix_path.proofs.IdleLemmas.{idle_slash, inner_parts_idle_at, is_idle-drop}
+use Rattle.unix_path.proofs.IdleLemmas.{values-busy}
+use Rattle.unix_path.proofs.LeadLemmas.{busy_no_slash}
 use Rattle.unix_path.proofs.PieceLemmas.{position_or_len-other, position_or_len-slash}
 use Rattle.unix_path.proofs.PieceLemmas.{slice_split-first}
 use Rattle.unix_path.proofs.PlaceLemmas.{values-inner_parts}
@@ -27,11 +28,6 @@ use Rattle.path_within.specs.PlainPieces.{begins_plain, goes_on_plain, has_plain
 use Rattle.path_within.specs.Runs.{AreSpelledNames}
 use Rattle.path_within.proofs.PlainLemmas.{plain_has_names}
 use Rattle.path_within.proofs.PlainStretchLemmas.{begins_plain-scan, names_stretch, Stretch}
-
--- a string that begins with no filler has its inner values
-pub values-busy : (s : List ℕ) → is_idle s 0 ≡ false → values s ≡ inner_values s
-unfolding values
-values-busy s busy = ap (map (λ (p : Part). p.value)) (parts-busy s (λ l. busy))
 
 -- an idle byte adds no value
 pub inner_values-idle : (s : List ℕ) (n : ℕ) → n < length s → is_idle s n ≡ true
@@ -48,13 +44,6 @@ inner_values-end s n e = by_test (ltb n (length s))
     inner_values-idle s n l (idle_slash s n (get_or_default s n 0 47 l ∙ eqb-true _ 47 e)))
     (λ t. let l = ltb-false n (length s) t in
     ap inner_values (drop_all n s l ∙ sym (drop_all (n + 1) s (omega arith))))
-
--- a string that begins with `..` has the values of what follows it behind that
-pub values-up : (s : List ℕ) → begins_with_parent s ≡ true
-    → values s ≡ ParentDir ∷ inner_values (drop 2 s)
-unfolding values
-values-up s e = ap (map (λ (p : Part). p.value)) (parts-parent_first s e)
-    ∙ ap (λ vs. ParentDir ∷ vs) (values-inner_parts 2 (drop 2 s))
 
 -- a string whose length is 0 is empty
 pub no_byte : (s : List ℕ) → eqb (length s) 0 ≡ true → s ≡ []

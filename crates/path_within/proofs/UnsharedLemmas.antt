@@ -16,9 +16,9 @@ use Rattle.unix_path.specs.Names.{past_last}
 use Rattle.unix_path.specs.Order.{same_value}
 use Rattle.unix_path.specs.Parts.{Value, RootDir, is_rooted, is_slash, slash, value_bytes, values}
 use Rattle.unix_bytes.proofs.CaseLemmas.{by_test, drop-suc_cons}
-use Rattle.unix_path.proofs.TieLemmas.{same_value-Decides}
+use Rattle.unix_path.proofs.CallerLemmas.{same_value-Decides}
 use Rattle.unix_path.proofs.PartLemmas.{values-nil}
-use Rattle.unix_path.proofs.StemLemmas.{value_bytes-piece}
+use Rattle.unix_path.proofs.ValueLemmas.{value_bytes-piece}
 use Rattle.path_runs.specs.Spelling.{slashed_bytes, spelling_of}
 use Rattle.path_runs.proofs.PieceValueLemmas.{HoldsOfPieces, NoSlash}
 use Rattle.path_runs.proofs.PieceValueLemmas.{values-hold_rooted, values-hold_rootless}

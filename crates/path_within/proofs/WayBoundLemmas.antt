@@ -22,6 +22,7 @@ use Rattle.path_within.proofs.BoundLemmas.{slashed_len-rootless}
 use Rattle.path_within.proofs.NamesBelowLemmas.{resolved_of-slash}
 use Rattle.path_within.proofs.PathOfLemmas.{AllOne-values}
 use Rattle.path_within.proofs.ResolveLemmas.{values-resolved}
+use Rattle.path_within.proofs.FloorLemmas.{names_rootless}
 
 -- the bytes of a value that are a path of it alone are some
 one_has_bytes : (v : Value) → IsOne v → 0 < length (value_bytes v)
@@ -69,11 +70,6 @@ rest_fits s n none = by_test (is_rooted s)
     behind_root zero ns none = absurd (let e = none in cc)
     behind_root (suc n) ns none =
         omega (arith, sum_by-take-drop (λ v. 1 + length (value_bytes v)) ns n)
-
--- names are no root
-names_rootless : (vs : List Value) → list_all is_name vs ≡ true → list_any is_root vs ≡ false
-names_rootless [] e = refl
-names_rootless (v ∷ vs) e = grind (arith, names_rootless vs)
 
 -- a way has at most three bytes for each two of the first path and one more, and those of the other
 pub length-way : (from to : List ℕ) (steps : List Value)

@@ -13,7 +13,7 @@ use Rattle.unix_path.specs.Scan.{begins_with_parent}
 use Rattle.unix_bytes.proofs.CaseLemmas.{by_test}
 use Rattle.unix_path.proofs.JoinLemmas.{join_of_closed}
 use Rattle.unix_path.proofs.PartLemmas.{values-nil}
-use Rattle.unix_path.proofs.TieLemmas.{same_value-Decides}
+use Rattle.unix_path.proofs.CallerLemmas.{same_value-Decides}
 use Rattle.path_runs.specs.Spelling.{slashed_bytes, spelling_of}
 use Rattle.path_runs.proofs.AllLemmas.{AllByRecursion-end}
 use Rattle.path_runs.proofs.AssociativeLemmas.{join_of-nil}
@@ -28,7 +28,7 @@ use Rattle.path_within.proofs.KeepLemmas.{resolved_of-resolved_of}
 use Rattle.path_within.proofs.LeadsLemmas.{values-spelling_of_straight}
 use Rattle.path_within.proofs.PathOfLemmas.{AllOne-values}
 use Rattle.path_within.proofs.ResolveLemmas.{values-resolved}
-use Rattle.path_within.proofs.RunLemmas.{values-up}
+use Rattle.unix_path.proofs.LeadLemmas.{values-parent_first}
 use Rattle.path_within.proofs.UnsharedLemmas.{HasSteps, are_left, has_steps, left_of, onward_of}
 use Rattle.path_within.proofs.WayLemmas.{list_all-names, spelling_of-straight, straight_rootless}
 use Rattle.path_within.proofs.WayLemmas.{ups_straight}
@@ -99,7 +99,7 @@ up_told (Normal name ∷ vs) h k =
     let s = slashed_bytes (Normal name ∷ vs) in
     by_test (begins_with_parent s)
     (λ e. absurd (let no : ParentDir ∷ _ ≡ Normal name ∷ vs =
-    sym (values-up s e) ∙ read_back (Normal name ∷ vs) h k in cc))
+    sym (values-parent_first s e) ∙ read_back (Normal name ∷ vs) h k in cc))
     (λ e. e ∙ sym (ap not (list_all-names vs h)))
 
 slashed_rootless : (vs : List Value) → AreUpsThenNames vs → AllOne vs

@@ -9,6 +9,7 @@ use Rattle.unix_path.proofs.JoinLemmas.{join_of_rooted}
 use Rattle.path_runs.specs.Spelling.{spelling_of}
 use Rattle.path_runs.proofs.AssociativeLemmas.{join_of-nil, join_of-join_of}
 use Rattle.path_runs.proofs.JoinAllLemmas.{join_all_of-values}
+use Rattle.path_runs.proofs.SpellLemmas.{spelling_of-nil}
 use Rattle.path_within.specs.Resolved.{AreNames, kept_of, resolved_of, resolved_bytes_of}
 use Rattle.path_within.specs.Climbs.{Climbs, has_root_or_up}
 use Rattle.path_within.specs.PlainPieces.{is_plain}
@@ -53,11 +54,6 @@ spells_kept {s} {t} {ks} b h e = record {
   is = e;
 }
 
--- no value is spelled as the empty path
-spelling_of-nothing : spelling_of [] ≡ []
-unfolding spelling_of
-spelling_of-nothing = refl
-
 -- a plain path without a root, joined whole, gives the bytes that its parts, joined one by one,
 -- give
 whole_rootless : (ks : List Value) (b : List ℕ) → HasNames b
@@ -66,7 +62,7 @@ whole_rootless ks b h = by (values b) refl h.names
   where
     by : (vs : List Value) → values b ≡ vs → AreNames vs
         → join_of (path_of ks) b ≡ path_of (kept_of ks (values b))
-    by [] e names = absurd (h.some (sym h.own ∙ ap spelling_of e ∙ spelling_of-nothing))
+    by [] e names = absurd (h.some (sym h.own ∙ ap spelling_of e ∙ spelling_of-nil))
     by (v ∷ vs) e names =
         ap (join_of (path_of ks)) (sym (join_all_of-values b ∙ h.own)
         ∙ ap (λ vs. join_all_of [] (map value_bytes vs)) e)
@@ -97,7 +93,7 @@ resolved-plain_join a b h k = spells_join a b refl refl
     (spells_whole b (spells_whole a (spells_nothing refl) h (sym (join_of-nil a))) k refl)
 
 -- names are neither the root nor `..`
-names_down : (vs : List Value) → AreNames vs → has_root_or_up vs ≡ false
+pub names_down : (vs : List Value) → AreNames vs → has_root_or_up vs ≡ false
 names_down [] h = refl
 names_down (Normal name ∷ vs) h = names_down vs h
 names_down (RootDir ∷ vs) h = absurd h

@@ -7,7 +7,7 @@ use Rattle.unix_bytes.proofs.CaseLemmas.{by_test}
 use Rattle.unix_path.specs.Parts.{Value, values}
 use Rattle.unix_path.specs.Prefixes.{Begins, Ends, stripped_of}
 use Rattle.unix_path.specs.Order.{same_value}
-use Rattle.unix_path.proofs.TieLemmas.{same_value-Decides}
+use Rattle.unix_path.proofs.CallerLemmas.{same_value-Decides}
 use Rattle.pathtool.specs.Answers.{optional, strip_answer}
 
 -- the test of two lists of values says whether the second begins the first

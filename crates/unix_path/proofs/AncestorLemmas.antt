@@ -30,9 +30,10 @@ shift s a (suc n) =
     ap₂ (λ x xs. x ∷ xs) here (shift s (a + 1) n)
 
 -- a path of no depth is its only ancestor, and has no parent
-ancestors_of-alone : (s : List ℕ) → depth_of s ≡ 0 → ancestors_of s ≡ s ∷ ancestors_by (parent_of s)
+ancestors_of-no_depth : (s : List ℕ) → depth_of s ≡ 0
+    → ancestors_of s ≡ s ∷ ancestors_by (parent_of s)
 unfolding ancestors_of
-ancestors_of-alone s e = ap (λ n. s ∷ map (λ m. rest s 0 m) (range_with_len 1 n)) e
+ancestors_of-no_depth s e = ap (λ n. s ∷ map (λ m. rest s 0 m) (range_with_len 1 n)) e
     ∙ sym (ap (λ o. s ∷ ancestors_by o) (parent_of-alone s e))
 
 -- the ancestors of a path whose last value is no root are the path and its parent's ancestors
@@ -53,18 +54,27 @@ ancestors_of-deep s vs v e differs =
 -- the ancestors of a path whose values end in v are the path and its parent's ancestors
 by_last : (s : List ℕ) (vs : List Value) (v : Value) → values s ≡ vs ++ v ∷ []
     → ancestors_of s ≡ s ∷ ancestors_by (parent_of s)
-by_last s vs RootDir e = ancestors_of-alone s (depth_of-root s vs e)
+by_last s vs RootDir e = ancestors_of-no_depth s (depth_of-root s vs e)
 by_last s vs CurDir e = ancestors_of-deep s vs CurDir e (λ h. cc)
 by_last s vs ParentDir e = ancestors_of-deep s vs ParentDir e (λ h. cc)
 by_last s vs (Normal name) e = ancestors_of-deep s vs (Normal name) e (λ h. cc)
 
 by_snoc : (s : List ℕ) → Snoc (values s) → ancestors_of s ≡ s ∷ ancestors_by (parent_of s)
-by_snoc s (Empty e) = ancestors_of-alone s (depth_of-none s e)
+by_snoc s (Empty e) = ancestors_of-no_depth s (depth_of-none s e)
 by_snoc s (Push vs v e) = by_last s vs v e
 
 -- the ancestors of a path are the path and its parent's ancestors
 pub ancestors_of-parent : (s : List ℕ) → ancestors_of s ≡ s ∷ ancestors_by (parent_of s)
 ancestors_of-parent s = by_snoc s (snoc (values s))
+
+-- a path without a parent is its only ancestor
+pub ancestors_of-alone : (s : List ℕ) → parent_of s ≡ None → ancestors_of s ≡ s ∷ []
+ancestors_of-alone s e = ancestors_of-parent s ∙ ap (λ o. s ∷ ancestors_by o) e
+
+-- a path's ancestors are the path and those of its parent
+pub ancestors_of-above : (s parent : List ℕ) → parent_of s ≡ Some parent
+    → ancestors_of s ≡ s ∷ ancestors_of parent
+ancestors_of-above s parent e = ancestors_of-parent s ∙ ap (λ o. s ∷ ancestors_by o) e
 
 -- a path has at most one ancestor more than bytes
 pub length-ancestors_of : (s : List ℕ) → length (ancestors_of s) ≤ length s + 1

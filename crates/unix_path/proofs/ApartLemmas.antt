@@ -16,7 +16,7 @@ use Rattle.unix_path.specs.OrderLaws.{value_cmp-total}
 use Rattle.unix_path.specs.Parts.{Part, Value, cur_dir, inner_parts, is_slash, value_of_piece}
 use Rattle.unix_path.specs.Parts.{values}
 use Rattle.unix_path.specs.Scan.{is_idle}
-use Rattle.unix_path.specs.Steps.{begins_piece, piece_rank, AreApart, IsLastStart}
+use Rattle.unix_path.specs.Steps.{begins_piece, piece_rank, AreApart}
 use Rattle.unix_path.proofs.BehindLemmas.{begins_past}
 use Rattle.unix_path.proofs.CommonPrefixLemmas.{take-common}
 use Rattle.unix_path.proofs.CommonPrefixLemmas.{take-past_slash, values_cmp-common}
@@ -25,7 +25,7 @@ use Rattle.unix_path.proofs.DifferLemmas.{Counts, counts_from, head_rank-drop}
 use Rattle.unix_path.proofs.DifferLemmas.{value_cmp-pieces}
 use Rattle.unix_path.proofs.IdleLemmas.{first_piece_dot, first_piece_empty, inner_parts_busy}
 use Rattle.unix_path.proofs.IdleLemmas.{parts-busy}
-use Rattle.unix_path.proofs.LastLemmas.{last_start}
+use Rattle.unix_path.proofs.LastLemmas.{last_start, IsLastStart}
 use Rattle.unix_path.proofs.PartLemmas.{values-nil}
 use Rattle.unix_path.proofs.PieceLemmas.{first_piece, first_piece-other}
 use Rattle.unix_path.proofs.PrefixLemmas.{begins_tail}

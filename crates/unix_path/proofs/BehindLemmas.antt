@@ -5,7 +5,7 @@ use Rattle.std.proofs.Common.{append-nil, append_assoc, drop-drop, drop_at, leng
 use Rattle.std.proofs.lemmas.List.{length-map, map-append}
 use Rattle.unix_path.proofs.CommonPrefixLemmas.{inner_values-nil, values_cmp-common}
 use Rattle.unix_path.proofs.ComparisonLemmas.{some_value}
-use Rattle.unix_path.proofs.IdleLemmas.{parts-busy}
+use Rattle.unix_path.proofs.IdleLemmas.{parts-busy, values-busy}
 use Rattle.unix_path.proofs.MiddleLemmas.{rest-middle}
 use Rattle.unix_path.proofs.PieceLemmas.{inner_parts-nil}
 use Rattle.unix_path.proofs.PlaceLemmas.{inner_parts-add, part_at, values-inner_parts, values-part_at}
@@ -15,17 +15,12 @@ use Rattle.unix_path.specs.Order.{values_cmp}
 use Rattle.unix_path.specs.Parts.{Part, Value, inner_parts, parts, values}
 use Rattle.unix_path.specs.Prefixes.{Begins}
 use Rattle.unix_path.specs.Rest.{rest}
-use Rattle.unix_path.specs.Scan.{is_idle}
-use Rattle.unix_path.specs.Steps.{AreApart, EndsInPart, HasMore, PastFiller, SharesFront}
+use Rattle.unix_path.specs.Scan.{is_idle, EndsInPart}
+use Rattle.unix_path.specs.Steps.{AreApart, HasMore, PastFiller, SharesFront}
 
 -- the values of parts
 abbrev values_of : List Part → List Value
 values_of = map (λ p. p.value)
-
--- in a string that begins with a part, no `.` in front counts otherwise than behind a slash
-pub values-busy : (s : List ℕ) → is_idle s 0 ≡ false → values s ≡ inner_values s
-unfolding values
-values-busy s busy = ap values_of (parts-busy s (λ _. busy))
 
 -- filler has no values
 pub values-past : (s t : List ℕ) → PastFiller s t → inner_values s ≡ values t

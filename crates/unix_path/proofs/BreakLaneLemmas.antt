@@ -1,5 +1,5 @@
 -- Sixteen bytes at once, searched for a slash that a slash or a dot follows.
-use Rattle.std.proofs.Common.{◌≡◌, ℕ, ◌+◌, ◌<◌, eqb, ◌&&◌, ◌||◌, List, length, ap₂, subst, arith}
+use Rattle.std.proofs.Common.{ℕ, ◌+◌, ◌<◌, eqb, ◌&&◌, ◌||◌, List, length, ap₂, subst, arith}
 use Rattle.std.specs.Simd.Lanes.{chunk}
 use Rattle.std.proofs.lemmas.Simd.{length-chunk}
 use Rattle.unix_bytes.proofs.TestLaneLemmas.{hits, both, either, Tells, Tells-hits, Tells-both}

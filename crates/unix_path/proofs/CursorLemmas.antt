@@ -1,13 +1,14 @@
 -- What calls and chains over a cursor give: its values in order, or backwards behind `rev`.
-use Rattle.std.proofs.Common.{ap, ◌∙◌, ◌∷◌, [], length, None, reverse, subst}
-use Rattle.std.proofs.Common.{◌≡◌, refl, sym}
+use Rattle.std.proofs.Common.{ap, ◌∙◌, ◌∷◌, [], length, None, reverse, subst, ◌≤◌, ◌-◌, drop}
+use Rattle.std.proofs.Common.{◌≡◌, refl, sym, arith, length-drop}
 use Rattle.std.specs.Iterator.Adapters.{rev_source, rev_steps}
 use Rattle.std.specs.declared.iter.Rev.{Rev}
-use Rattle.std.proofs.lemmas.List.{reverse-append}
+use Rattle.std.proofs.lemmas.List.{reverse-append, length-take}
 use Rattle.std.proofs.lemmas.Iterator.{YieldsList}
 use Rattle.std.proofs.lemmas.Iterator.Consumers.{YieldsList-from_shown}
 use Rattle.unix_path.proofs.PartLemmas.{rest-nil, values-nil}
 use Rattle.unix_path.proofs.SourceLemmas.{LiesIn-itself}
+use Rattle.unix_path.proofs.SpanLemmas.{rest-ended}
 use Rattle.unix_path.specs.Parts.{values}
 use Rattle.unix_path.specs.Rest.{rest}
 use Rattle.unix_path.specs.Views.{value_of}
@@ -15,6 +16,21 @@ use Rattle.unix_path.specs.Cursor.{cursor_rest, cursor_source, cursor_values, it
 use Rattle.unix_path.specs.Cursor.{GivesFirstPart, GivesLastPart, GivesLastName, name_bytes}
 use Rattle.unix_path.specs.declared.cursor.walk.Components.{Components}
 use Rattle.unix_path.specs.declared.cursor.iter.Iter.{Iter}
+use Rattle.unix_path.specs.Steps.{IsWalk}
+
+-- what is left of a walk is no longer than its source
+pub length-cursor_rest : (c : Components) → length (cursor_rest c) ≤ length (cursor_source c).now
+unfolding cursor_rest
+length-cursor_rest c = omega (
+  arith,
+  length-take (c.end - c.start) (drop c.start c.source.now),
+  length-drop c.start c.source.now,
+)
+
+-- the bytes that a walk stands for are what is left of them
+pub cursor_rest-whole : (c : Components) → cursor_rest c ≡ rest (cursor_rest c) 0 0
+unfolding cursor_rest IsWalk
+cursor_rest-whole c = sym (rest-ended (cursor_rest c) c.fields.ends)
 
 -- if nothing is left, `next` gives nothing, and leaves the cursor as it is
 pub GivesFirst-none : (c : Components) → cursor_rest c ≡ [] → GivesFirstPart c None c

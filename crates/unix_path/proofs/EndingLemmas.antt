@@ -3,18 +3,15 @@ use Rattle.std.proofs.Common.{◌≡◌, ℕ, ◌-◌, ◌<◌, ◌≤◌, true,
 use Rattle.std.proofs.Common.{length, get_or, take, drop, map, sym, ap, ◌∙◌, subst, arith}
 use Rattle.std.proofs.Common.{get_or-drop, length-drop}
 use Rattle.std.specs.List.{position_or_len}
-use Rattle.std.specs.Str.{bytes_eq}
 use Rattle.std.proofs.lemmas.List.{map-append}
 use Rattle.std.proofs.lemmas.List.Sums.{fails_before_first}
-use Rattle.std.proofs.lemmas.Slice.Eq.{bytes_eq-Decides}
-use Rattle.unix_path.specs.Parts.{Part, cur_dir, is_slash, parts, value_bytes, values}
+use Rattle.unix_path.specs.Parts.{Part, is_slash, parts, value_bytes, values}
 use Rattle.unix_path.specs.Prefixes.{Ends}
-use Rattle.unix_path.specs.Steps.{begins_piece, first_value, EndsInPiece, IsLastStart, SameEnd}
+use Rattle.unix_path.specs.Steps.{begins_piece, EndsInPiece, SameEnd}
 use Rattle.unix_path.specs.Steps.{SharesEnd}
-use Rattle.unix_bytes.proofs.CaseLemmas.{by_test}
-use Rattle.unix_path.proofs.LastLemmas.{last_part, last_start}
-use Rattle.unix_path.proofs.StemLemmas.{value_bytes-piece}
+use Rattle.unix_path.proofs.LastLemmas.{last_part, last_start, IsLastStart}
 use Rattle.unix_path.proofs.SuffixLemmas.{ends_last}
+use Rattle.unix_path.proofs.ValueLemmas.{first_value, value_bytes-first}
 
 -- the byte before the last n is one of the last k
 from_end : (s : List ℕ) (n k : ℕ) → n < k → k ≤ length s
@@ -66,12 +63,6 @@ last_is s start h ends =
     let all = (last_part s start h (starts_inside s start h ends) ends.part).1 in
     ap (map (λ (p : Part). p.value)) all
     ∙ map-append (λ (p : Part). p.value) (parts (take start s)) _
-
--- the value of a first piece has the piece's bytes
-value_bytes-first : (p : List ℕ) → value_bytes (first_value p) ≡ p
-value_bytes-first p = by_test (bytes_eq p cur_dir)
-    (λ e. rw e (sym ((bytes_eq-Decides p cur_dir).0 e)))
-    (λ e. rw e (value_bytes-piece p))
 
 -- if a piece begins in both before the same end, the last parts are the same
 pub shares_last : (a b : List ℕ) (k : ℕ) → EndsInPiece a → EndsInPiece b → SameEnd a b k

@@ -1,11 +1,10 @@
 -- What a join keeps of its base, and what it adds.
-use Rattle.std.proofs.Common.{◌≡◌, ℕ, ◌+◌, ◌≤◌, List, [], ◌∷◌, ◌++◌, length, take, refl, sym, ap}
-use Rattle.std.proofs.Common.{◌∙◌, arith, false, Option, Some}
+use Rattle.std.proofs.Common.{◌≡◌, ℕ, ◌+◌, ◌≤◌, List, [], ◌∷◌, ◌++◌, length, refl, ap}
+use Rattle.std.proofs.Common.{arith, false, Option, Some}
 use Rattle.std.proofs.iter.runs.Made.{run, seen, to_item}
 use Rattle.std.specs.Iterator.{Yields}
 use Rattle.std.specs.Prelude.{fold}
 use Rattle.std.proofs.Math.Seq.{take-length}
-use Rattle.std.proofs.lemmas.List.{take-take}
 use Rattle.unix_path.specs.Joins.{is_open, join_of, join_all_of}
 use Rattle.unix_path.specs.Parts.{is_rooted}
 use Rattle.unix_path.specs.Buffers.{bytes_of_each, ItemsFit, JoinsFit}

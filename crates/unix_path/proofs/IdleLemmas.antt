@@ -1,6 +1,6 @@
 -- The filler between two parts.
 use Rattle.std.proofs.Common.{◌≡◌, ℕ, suc, ◌+◌, ◌≤◌, ◌<◌, true, false, cond, ◌&&◌, ◌||◌, eqb, List}
-use Rattle.std.proofs.Common.{[], ◌∷◌, ◌++◌, length, get_or, drop, refl, sym, ap, ap₂, ◌∙◌}
+use Rattle.std.proofs.Common.{[], ◌∷◌, ◌++◌, length, get_or, drop, refl, sym, ap, ap₂, ◌∙◌, map}
 use Rattle.std.proofs.Common.{◌⊎◌, inl, inr, ⊎_elim, arith, eqb-true, get_or-drop, length-drop}
 use Rattle.std.proofs.Common.{drop-drop}
 use Rattle.std.specs.List.{position_or_len}
@@ -12,9 +12,10 @@ use Rattle.unix_path.proofs.PieceLemmas.{inner_parts-dot, inner_parts-dot_slash,
 use Rattle.unix_path.proofs.PieceLemmas.{inner_parts-nil}
 use Rattle.unix_path.proofs.PieceLemmas.{inner_parts-slash, first_piece, first_piece-other}
 use Rattle.unix_path.proofs.PieceLemmas.{first_piece-slash}
-use Rattle.unix_path.specs.Parts.{CurDir, inner_parts, cur_dir, is_slash, leading_part, parts}
-use Rattle.unix_path.specs.Parts.{value_of_piece}
+use Rattle.unix_path.specs.Parts.{CurDir, inner_parts, cur_dir, is_slash, leading_part, parts, Part}
+use Rattle.unix_path.specs.Parts.{value_of_piece, values}
 use Rattle.unix_path.specs.Scan.{is_idle}
+use Rattle.unix_path.specs.CommonDir.{inner_values}
 
 -- an idle byte is a slash, or a `.` that a slash or the end follows
 pub idle_from : (b : ℕ) (s : List ℕ) → is_idle (b ∷ s) 0 ≡ true
@@ -108,6 +109,11 @@ parts-busy (b ∷ s) h =
     let none : leading_part (b ∷ s) ≡ [] = leading_part-name (b ∷ s) is.0
     ∙ ap (λ t. cond t (record { start = 0; end = 1; value = CurDir } ∷ []) []) is.1 in
     ap (λ ps. ps ++ inner_parts 0 (b ∷ s)) none
+
+-- nor does it have other values than behind a slash
+pub values-busy : (s : List ℕ) → is_idle s 0 ≡ false → values s ≡ inner_values s
+unfolding values
+values-busy s busy = ap (map (λ (p : Part). p.value)) (parts-busy s (λ _. busy))
 
 -- the first `len` bytes are filler, and behind them stands nothing or a part
 pub record SkipsIdle (s : List ℕ) : Type 0 where

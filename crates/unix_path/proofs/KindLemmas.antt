@@ -6,14 +6,13 @@ use Rattle.std.specs.List.{common_prefix_len}
 use Rattle.std.specs.Ordering.{is_ne, nat_cmp}
 use Rattle.std.proofs.lemmas.Bool.{false≢true}
 use Rattle.std.proofs.lemmas.Cmp.{tied_itself, nat_cmp_total}
-use Rattle.std.proofs.lemmas.Slice.Eq.{bytes_eq-Decides}
 use Rattle.unix_path.specs.Order.{rank, value_cmp, values_cmp}
 use Rattle.unix_path.specs.Pairs.{first_rank}
-use Rattle.unix_path.specs.Parts.{Part, Value, cur_dir}
-use Rattle.unix_path.specs.Parts.{parent_dir, value_bytes, values}
+use Rattle.unix_path.specs.Parts.{Part, Value}
+use Rattle.unix_path.specs.Parts.{value_bytes, values}
 use Rattle.unix_path.specs.Prefixes.{Begins}
 use Rattle.unix_path.specs.Scan.{begins_with_parent, is_idle}
-use Rattle.unix_path.specs.Steps.{first_value, piece_rank, AreApart, DiffersAtStart}
+use Rattle.unix_path.specs.Steps.{piece_rank, AreApart, DiffersAtStart}
 use Rattle.unix_path.proofs.ApartLemmas.{apart-values, ranks_end}
 use Rattle.unix_path.proofs.DifferLemmas.{head_rank-drop, slice_cmp-heads}
 use Rattle.unix_path.proofs.LeadLemmas.{first_value-name, parts-dot_first, parts-parent_first}
@@ -21,6 +20,7 @@ use Rattle.unix_path.proofs.PartLemmas.{parts-name, parts-root}
 use Rattle.unix_path.proofs.PartLemmas.{values-nil}
 use Rattle.unix_path.proofs.PieceLemmas.{first_piece, first_piece-other}
 use Rattle.unix_path.proofs.PrefixLemmas.{begins_tail}
+use Rattle.unix_path.proofs.ValueLemmas.{first_value, value_bytes-first}
 
 -- the kind of the first value, told by three bytes
 pub first_rank_of : (s : List ℕ) → first_rank (values s) ≡ cond (eqb (length s) 0) 0
@@ -49,10 +49,6 @@ values_cmp-ranks (v ∷ vs) (w ∷ ws) differs = grind arith
 same_kind : (v w : Value) → rank v ≡ rank w
     → value_cmp v w ≡ slice_cmp nat_cmp (value_bytes v) (value_bytes w)
 same_kind v w same = rw (same, tied_itself nat_cmp_total (rank w)) refl
-
--- the bytes of the value of a piece are the piece
-value_bytes-piece : (p : List ℕ) → value_bytes (first_value p) ≡ p
-value_bytes-piece p = grind (arith, bytes_eq-Decides p cur_dir, bytes_eq-Decides p parent_dir)
 
 -- a string that begins with no slash has the value of its first piece first
 values-name : (s : List ℕ) → 0 < length s → eqb (get_or s 0 0) 47 ≡ false
@@ -106,7 +102,7 @@ first_parts-same (x ∷ a) (y ∷ b) n is start same some =
     apart-values [] (first_value p) (first_value q) first.0 second.0 _ _ first.1 second.1
     (same_kind (first_value p) (first_value q)
     (omega (arith, same, ap first_rank first.1, ap first_rank second.1))
-    ∙ ap₂ (slice_cmp nat_cmp) (value_bytes-piece p) (value_bytes-piece q)
+    ∙ ap₂ (slice_cmp nat_cmp) (value_bytes-first p) (value_bytes-first q)
     ∙ first_piece-cmp x y a b n start.near equal other.0 other.1 differs) differs
 
 -- so two paths are in that order, also if both are empty

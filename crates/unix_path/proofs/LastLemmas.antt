@@ -1,6 +1,6 @@
 -- The last piece of a string, and its last part.
 use Rattle.std.proofs.Common.{◌≡◌, ℕ, zero, suc, ◌+◌, ◌-◌, ◌<◌, true, false, eqb, List, [], ◌∷◌}
-use Rattle.std.proofs.Common.{◌++◌, length, get_or, take, drop, refl, sym, ap, ap₂, ◌∙◌, arith}
+use Rattle.std.proofs.Common.{◌++◌, length, get_or, take, drop, refl, sym, ap, ap₂, ◌∙◌, arith, ◌≤◌}
 use Rattle.std.proofs.Common.{eqb-true, take_all, append-nil, get_or-drop}
 use Rattle.std.proofs.Common.{length-drop, lt-ltb, length-take-le, take-append-drop}
 use Rattle.std.specs.List.{position_or_len}
@@ -11,13 +11,19 @@ use Rattle.std.proofs.lemmas.List.{drop_all, take_more, drop_more}
 use Rattle.unix_bytes.proofs.CaseLemmas.{by_test}
 use Rattle.unix_path.proofs.PartLemmas.{parts-name, parts-nil, parts-root}
 use Rattle.unix_path.proofs.PieceLemmas.{inner_parts-first, inner_parts-nil, parts_of_piece}
-use Rattle.unix_path.proofs.PieceLemmas.{first_piece}
-use Rattle.unix_path.proofs.PieceLemmas.{position_or_len-other, position_or_len-slash}
+use Rattle.unix_path.proofs.PieceLemmas.{first_piece, no_slash_head}
+use Rattle.unix_path.proofs.PieceLemmas.{position_or_len-other}
 use Rattle.unix_path.proofs.TrimLemmas.{parts-append}
+use Rattle.unix_path.proofs.ValueLemmas.{first_value}
 use Rattle.unix_path.specs.Parts.{RootDir, inner_parts, cur_dir, is_slash, parts}
 use Rattle.unix_path.specs.Parts.{value_of_piece}
-use Rattle.unix_path.specs.Scan.{is_trailing}
-use Rattle.unix_path.specs.Steps.{EndsInPart, IsLastStart, first_value}
+use Rattle.unix_path.specs.Scan.{is_trailing, EndsInPart}
+
+-- the last piece begins at `start`
+pub record IsLastStart (s : List ℕ) (start : ℕ) : Type 0 where
+  pub in_range : start ≤ length s
+  pub after_slash : 0 < start → get_or s (start - 1) 0 ≡ 47
+  pub no_slash : position_or_len is_slash (drop start s) ≡ length (drop start s)
 
 -- a string whose last piece stands behind a slash is what is before the slash, the slash and the
 -- piece
@@ -97,14 +103,6 @@ last_counts s start h some l ends =
           absurd (both_ways _ (ap (is_trailing s) (sym at) ∙ ends (omega arith)) hit))
           (λ e. e),
     )
-
--- a string without a slash doesn't begin with one
-pub no_slash_head : (s : List ℕ) → position_or_len is_slash s ≡ length s → 0 < length s
-    → eqb (get_or s 0 0) 47 ≡ false
-no_slash_head [] e l = absurd (omega arith)
-no_slash_head (b ∷ s) e l =
-    by_test (eqb b 47) (λ slash. absurd (omega (arith, sym (position_or_len-slash b s slash) ∙ e)))
-    (λ no. no)
 
 -- the last piece of a string that ends in a part is its last part, behind those before it
 pub last_part : (s : List ℕ) (start : ℕ) → IsLastStart s start → start < length s → EndsInPart s

@@ -1,5 +1,5 @@
 -- The last part of a string, by what it ends with.
-use Rattle.std.proofs.Common.{◌≡◌, ℕ, zero, suc, ◌+◌, ◌-◌, ◌<◌, true, false, ◌||◌}
+use Rattle.std.proofs.Common.{◌≡◌, ℕ, zero, suc, ◌+◌, ◌-◌, ◌<◌, true, false, ◌||◌, ◌≤◌, take, subst}
 use Rattle.std.proofs.Common.{eqb, ltb, List, [], ◌∷◌, length, get_or, drop, refl, sym, ap}
 use Rattle.std.proofs.Common.{ap₂, ◌∙◌, ⊎_elim, arith, eqb-true, lt-ltb, ltb-true}
 use Rattle.std.proofs.Common.{length-drop, get_or-drop}
@@ -8,11 +8,13 @@ use Rattle.std.proofs.lemmas.Bool.{or_cases, and_parts, both_ways}
 use Rattle.std.proofs.lemmas.List.{drop_all, drop_more}
 use Rattle.std.proofs.lemmas.Slice.Eq.{bytes_eq-Decides}
 use Rattle.unix_path.proofs.LastLemmas.{last_counts}
+pub use Rattle.unix_path.proofs.LastLemmas.{IsLastStart}
 use Rattle.unix_bytes.proofs.CaseLemmas.{by_test}
-use Rattle.unix_path.specs.Parts.{CurDir, ParentDir, Normal, cur_dir, parent_dir}
-use Rattle.unix_path.specs.Steps.{EndsInPart, IsLastStart}
-use Rattle.unix_path.specs.Scan.{ends_with_parent}
-use Rattle.unix_path.specs.Steps.{first_value}
+use Rattle.unix_path.specs.Parts.{CurDir, ParentDir, Normal, cur_dir, parent_dir, parts}
+use Rattle.unix_path.specs.Scan.{ends_with_parent, EndsInPart, is_trailing}
+use Rattle.unix_path.specs.Steps.{TakesLast}
+use Rattle.unix_path.proofs.ValueLemmas.{first_value}
+use Rattle.unix_path.proofs.StepLemmas.{takes_last}
 
 -- the last piece of a string that ends in a part and isn't `.` is no `.`
 no_dot_piece : (s : List ℕ) (start : ℕ) → IsLastStart s start → start < length s → EndsInPart s
@@ -55,6 +57,15 @@ pub last_name : (s : List ℕ) (start : ℕ) → IsLastStart s start → start <
     → first_value (drop start s) ≡ Normal (drop start s)
 last_name s start h l ends no_dot no_parent =
     rw (no_dot_piece s start h l ends no_dot, no_parent_piece s start h l no_parent) refl
+
+-- it is taken, and then the filler before it
+pub takes_last_name : (s : List ℕ) (start n : ℕ) → IsLastStart s start → start < length s
+    → EndsInPart s → bytes_eq s cur_dir ≡ false → ends_with_parent s ≡ false → n ≤ start
+    → parts (take n s) ≡ parts (take start s) → (0 < n → is_trailing s (n - 1) ≡ false)
+    → TakesLast s (take n s) (Normal (drop start s))
+takes_last_name s start n h l ends no_dot no_parent before same trimmed =
+    subst (TakesLast s (take n s)) (last_name s start h l ends no_dot no_parent)
+    (takes_last s start n h l ends before same trimmed)
 
 -- a string that ends with `..` has two bytes at least
 pub length-with_parent : (s : List ℕ) → ends_with_parent s ≡ true → 1 < length s

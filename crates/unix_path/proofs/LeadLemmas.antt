@@ -1,7 +1,7 @@
 -- The first part of a string, by what it begins with.
 use Rattle.std.proofs.Common.{◌≡◌, ℕ, ◌+◌, ◌≤◌, ◌<◌, true, false, ◌&&◌}
 use Rattle.std.proofs.Common.{eqb, List, [], ◌∷◌, length, get_or, take, drop, refl, sym, ap}
-use Rattle.std.proofs.Common.{ap₂, subst, ◌∙◌, ⊎_elim, arith, eqb-true, drop-drop}
+use Rattle.std.proofs.Common.{ap₂, ◌∙◌, ⊎_elim, arith, eqb-true, drop-drop}
 use Rattle.std.proofs.Common.{length-drop, map}
 use Rattle.std.specs.List.{position_or_len}
 use Rattle.std.specs.Str.{bytes_eq}
@@ -13,12 +13,13 @@ use Rattle.unix_path.proofs.PartLemmas.{parts-name}
 use Rattle.unix_path.proofs.PieceLemmas.{first_piece, first_piece-other, position_or_len-other}
 use Rattle.unix_path.proofs.PieceLemmas.{position_or_len-slash}
 use Rattle.unix_path.proofs.StepLemmas.{takes_first}
-use Rattle.unix_path.specs.Parts.{Value, CurDir, ParentDir, Normal, parent_dir}
+use Rattle.unix_path.specs.Parts.{Value, CurDir, ParentDir, Normal, parent_dir, Part}
 use Rattle.unix_path.specs.Parts.{inner_parts, is_slash, parts, values}
 use Rattle.unix_path.proofs.PlaceLemmas.{values-inner_parts}
-use Rattle.unix_path.specs.Steps.{StepsFirst, TakesFirst}
 use Rattle.unix_path.specs.Scan.{begins_with_parent, is_idle}
-use Rattle.unix_path.specs.Steps.{first_value}
+use Rattle.unix_path.specs.CommonDir.{inner_values}
+use Rattle.unix_path.specs.Steps.{StepsFirst}
+use Rattle.unix_path.proofs.ValueLemmas.{first_value}
 
 -- the first piece of an empty string, or of one that begins with a slash, has no byte
 position_or_len-cut : (s : List ℕ) → get_or s 0 47 ≡ 47 → position_or_len is_slash s ≡ 0
@@ -75,6 +76,13 @@ parts-parent_first (b ∷ c ∷ s) e =
     ap₂ (λ b c. parts (b ∷ c ∷ s)) (eqb-true b 46 first.0) (eqb-true c 46 second.0)
     ∙ parts-two_dots s (eqb-true _ 47 second.1)
 
+-- and its values are that and those of what follows it
+pub values-parent_first : (s : List ℕ) → begins_with_parent s ≡ true
+    → values s ≡ ParentDir ∷ inner_values (drop 2 s)
+unfolding values
+values-parent_first s e = ap (map (λ (p : Part). p.value)) (parts-parent_first s e)
+    ∙ ap (λ vs. ParentDir ∷ vs) (values-inner_parts 2 (drop 2 s))
+
 -- a string that begins with `..` has two bytes at least
 pub length-parent_first : (s : List ℕ) → begins_with_parent s ≡ true → 2 ≤ length s
 length-parent_first [] e = cc
@@ -102,25 +110,41 @@ first_value-name s l busy e =
     first_piece_parent s is.0 ∙ e in
     rw (is.1, no_parent) refl
 
--- a first part that ends at e, and d bytes of filler behind it, are one step
-pub steps_first : (t : List ℕ) (e d : ℕ) (v : Value) → e ≤ length t
+-- the first part ends at e and has the value v, and the filler behind it ends at n
+pub record IsFirst (t : List ℕ) (e n : ℕ) (v : Value) : Type 0 where
+  pub in_range : n ≤ length t
+  pub parts_are : parts t ≡ record { start = 0; end = e; value = v } ∷ inner_parts n (drop n t)
+  pub busy : n < length t → is_idle t n ≡ false
+
+-- so it is if filler of d bytes stands behind it
+pub is_first : (t : List ℕ) (e d : ℕ) (v : Value) → e ≤ length t
     → parts t ≡ record { start = 0; end = e; value = v } ∷ inner_parts e (drop e t)
     → d ≤ length (drop e t)
     → inner_parts e (drop e t) ≡ inner_parts (e + d) (drop d (drop e t))
-    → (d < length (drop e t) → is_idle (drop e t) d ≡ false)
-    → StepsFirst t (e + d) v
-unfolding values
-steps_first t e d v l first m idle busy =
+    → (d < length (drop e t) → is_idle (drop e t) d ≡ false) → IsFirst t e (e + d) v
+is_first t e d v l first m idle busy =
     let is = drop-drop d e t in
-    let u = drop d (drop e t) in
-    let next : 0 < length u → is_idle u 0 ≡ false =
-    λ some. is_idle-drop (drop e t) d ∙ busy (omega (arith, length-drop d (drop e t))) in
+    let size = length-drop e t in
     record {
-      in_range = omega (arith, length-drop e t);
-      value = ap (map (λ p. p.value)) first
-          ∙ ap (λ vs. v ∷ vs) (ap (map (λ p. p.value)) idle ∙ values-inner_parts (e + d) u
-          ∙ ap (map (λ p. p.value)) (sym (parts-busy u next)) ∙ ap values is);
-      takes = λ ends. subst (λ u. TakesFirst t u v) is
-          (takes_first t e d v ends l m first idle next);
-      busy = subst (λ u. 0 < length u → is_idle u 0 ≡ false) is next;
+      in_range = omega arith;
+      parts_are = first ∙ ap (λ ps. record { start = 0; end = e; value = v } ∷ ps)
+          (idle ∙ ap (inner_parts (e + d)) is);
+      busy = λ more. sym (is_idle-drop t (e + d)) ∙ ap (λ u. is_idle u 0) (sym is)
+          ∙ is_idle-drop (drop e t) d ∙ busy (omega arith);
+    }
+
+-- a step over it takes that part
+pub steps_first : (t : List ℕ) (e n : ℕ) (v : Value) → IsFirst t e n v → StepsFirst t n v
+unfolding values
+steps_first t e n v h =
+    let u = drop n t in
+    let next : 0 < length u → is_idle u 0 ≡ false =
+    λ some. is_idle-drop t n ∙ h.busy (omega (arith, length-drop n t)) in
+    record {
+      in_range = h.in_range;
+      value = ap (map (λ p. p.value)) h.parts_are
+          ∙ ap (λ vs. v ∷ vs) (values-inner_parts n u
+          ∙ ap (map (λ p. p.value)) (sym (parts-busy u next)));
+      takes = λ ends. takes_first t e n v ends h.in_range h.parts_are next;
+      busy = next;
     }

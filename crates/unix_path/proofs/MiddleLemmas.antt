@@ -11,7 +11,7 @@ use Rattle.unix_path.proofs.SplitLemmas.{drops_to, takes_to}
 use Rattle.unix_path.proofs.TrimLemmas.{EndsInPart-drop}
 use Rattle.unix_path.specs.Parts.{parts}
 use Rattle.unix_path.specs.Rest.{rest, span_of}
-use Rattle.unix_path.specs.Steps.{EndsInPart}
+use Rattle.unix_path.specs.Scan.{EndsInPart}
 
 -- if w stands at i in s, and v at j in w, then v stands at i + j in s
 pub stands_in : (s w v : List ℕ) (i j : ℕ) → take (length w) (drop i s) ≡ w

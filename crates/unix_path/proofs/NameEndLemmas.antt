@@ -1,5 +1,5 @@
 -- Where a file name ends, and an extension added there.
-use Rattle.std.proofs.Common.{◌≡◌, ℕ, ◌+◌, ◌≤◌, List, [], ◌∷◌, ◌++◌, length, take, refl, eqb, cond}
+use Rattle.std.proofs.Common.{◌≡◌, ℕ, ◌+◌, List, [], ◌∷◌, ◌++◌, length, take, refl, eqb, cond}
 use Rattle.std.proofs.Common.{Option, Some, None, is_some, option_map, true, false, sym, ap, ◌∙◌}
 use Rattle.std.proofs.Common.{arith, eq-eqb}
 use Rattle.std.specs.Option.{option_map_or}
@@ -11,7 +11,7 @@ use Rattle.unix_path.specs.Edits.{last_start_of}
 use Rattle.unix_path.specs.Extensions.{name_end_of, added_extension_of}
 use Rattle.unix_bytes.proofs.CaseLemmas.{by_test}
 use Rattle.unix_path.proofs.EditLemmas.{is_some-option_map}
-use Rattle.unix_path.proofs.StemLemmas.{last_start_of-name, length-rest_whole-le}
+use Rattle.unix_path.proofs.StemLemmas.{last_start_of-name}
 
 -- where `name` ends in s, if it is the file name
 abbrev pub name_end_by : List ℕ → Option (List ℕ) → Option ℕ
@@ -30,10 +30,6 @@ name_end_of-some s name end e at =
     let to : end ≡ last_start_of (parts s) + length name =
     omega (arith, at, last_start_of-name s name e) in
     ap Some to ∙ ap (name_end_by s) e
-
--- a name ends in its path
-pub name_end-le : (s : List ℕ) (end : ℕ) → end ≡ length (rest s 0 0) → end ≤ length s
-name_end-le s end at = omega (arith, at, length-rest_whole-le s)
 
 -- the path s with the extension x added at the place `end`, or s if there is no such place
 abbrev pub added_extension_at : List ℕ → List ℕ → Option ℕ → List ℕ

@@ -1,6 +1,6 @@
 -- The last dot of a file name, and the stem before it.
 use Rattle.std.proofs.Common.{◌≡◌, ◌==◌, ℕ, ◌-◌, ◌≤◌, ◌<◌, Bool, true, false, not, List, length}
-use Rattle.std.proofs.Common.{[], ◌∷◌, zero, suc, ltb}
+use Rattle.std.proofs.Common.{ltb}
 use Rattle.std.proofs.Common.{take, drop, get_or, Some, None, refl, sym, ap, arith, le-ltb, lt-ltb}
 use Rattle.std.proofs.Common.{◌+◌, ◌∙◌, eq-eqb, get_or-drop, length-drop}
 use Rattle.std.specs.List.{position_or_len}

@@ -15,17 +15,19 @@ use Rattle.unix_path.specs.Rest.{rest}
 use Rattle.unix_path.specs.Names.{name_of, file_name_of}
 use Rattle.unix_path.specs.Edits.{last_start_of}
 use Rattle.unix_path.specs.Extensions.{name_end_of}
-use Rattle.unix_path.specs.Scan.{is_trailing, ends_with_parent}
-use Rattle.unix_path.specs.Steps.{EndsInPart, IsLastStart, first_value, parts_end}
+use Rattle.unix_path.specs.Scan.{is_trailing, ends_with_parent, EndsInPart}
 use Rattle.unix_bytes.proofs.CaseLemmas.{by_test}
-use Rattle.unix_path.proofs.LastLemmas.{last_part, last_start, root_alone}
+use Rattle.unix_path.proofs.LastLemmas.{last_part, last_start, root_alone, IsLastStart}
 use Rattle.unix_path.proofs.LastPieceLemmas.{last_name, starts_dot, starts_parent}
 use Rattle.unix_path.proofs.NameEndLemmas.{name_end_of-none, name_end_of-some}
 use Rattle.unix_path.proofs.ParentLemmas.{file_name_of-none, file_name_of-push}
 use Rattle.unix_path.proofs.PartLemmas.{parts-none}
 use Rattle.unix_path.proofs.SpanLemmas.{length-rest_whole, parts_end-whole, rest-trimmed, trims_end}
-use Rattle.unix_path.proofs.StemLemmas.{length-rest_whole-le, name_of-some, value_bytes-piece}
+use Rattle.unix_path.proofs.StemLemmas.{length-rest_whole-le}
 use Rattle.unix_path.proofs.TrimLemmas.{parts_shorter}
+use Rattle.unix_path.proofs.ValueLemmas.{first_value, name_of-some}
+use Rattle.unix_path.proofs.ValueLemmas.{value_bytes-first}
+use Rattle.unix_path.proofs.PlaceLemmas.{parts_end}
 
 -- the last piece of s is its file name
 pub record EndsInName (s : List ℕ) : Type 0 where
@@ -54,11 +56,6 @@ has_name_end s end (Some bytes) is e = record {
 -- a file name ends where the last part does
 pub name_end : (s : List ℕ) (end : ℕ) → name_end_of s ≡ Some end → HasNameEnd s end
 name_end s end e = has_name_end s end (file_name_of (values s)) refl e
-
--- the value of a first piece has the piece's bytes
-first_value-bytes : (p : List ℕ) → value_bytes (first_value p) ≡ p
-first_value-bytes p = by_test (bytes_eq p cur_dir)
-    (λ e. rw e (sym ((bytes_eq-Decides p cur_dir).0 e))) (λ e. rw e (value_bytes-piece p))
 
 -- the last part of s is its last piece
 last_value : (s : List ℕ) (start : ℕ) → IsLastStart s start → start < length s → EndsInPart s
@@ -102,7 +99,7 @@ named_end s name ends is =
     let v : first_value y ≡ Normal name =
     name_of-some (first_value y) name
     (file_name_of-push s (take at.0 s) _ (last_value s at.0 at.1 few ends) ∙ sym is) in
-    let same : y ≡ name = sym (first_value-bytes y) ∙ ap value_bytes v in
+    let same : y ≡ name = sym (value_bytes-first y) ∙ ap value_bytes v in
     name_of_piece s at.0 at.1 few ends (v ∙ ap Normal (sym same)))
     (λ t. by_test (ltb 0 (length s))
     (λ some.

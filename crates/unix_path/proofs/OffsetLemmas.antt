@@ -1,25 +1,26 @@
 -- What stands between two places of a string, as its parts are taken.
 use Rattle.std.proofs.Common.{◌≡◌, ℕ, ◌+◌, ◌-◌, ◌≤◌, ◌<◌, Bool, true, false, ◌&&◌, ◌||◌, eqb}
 use Rattle.std.proofs.Common.{ltb, List, [], ◌∷◌, ◌++◌, length, get_or, take, drop, map, refl, sym}
-use Rattle.std.proofs.Common.{ap, subst, ◌∙◌, arith, length-drop, drop-drop, take-take, eqb-true}
+use Rattle.std.proofs.Common.{ap, subst, ◌∙◌, arith, drop-drop, take-take, eqb-true}
 use Rattle.std.proofs.Common.{ltb-true, ltb-false}
 use Rattle.std.specs.Prelude.{slice_range}
 use Rattle.std.specs.Str.{bytes_eq}
-use Rattle.std.proofs.lemmas.List.{length-take, length-map, nil_from_length, drop-take}
-use Rattle.unix_path.specs.Cursor.{cursor_rest, cursor_source}
+use Rattle.std.proofs.lemmas.List.{length-map, nil_from_length, drop-take}
+use Rattle.unix_path.specs.Cursor.{cursor_rest}
 use Rattle.unix_path.specs.declared.cursor.walk.Components.{Components}
 use Rattle.unix_path.specs.Parts.{Value, RootDir, CurDir, ParentDir, Normal, parts, values}
 use Rattle.unix_path.specs.Parts.{cur_dir, parent_dir}
-use Rattle.unix_path.specs.Scan.{is_idle}
-use Rattle.unix_path.specs.Steps.{first_value, EndsInPart, parts_end}
+use Rattle.unix_path.specs.Scan.{is_idle, EndsInPart}
 use Rattle.unix_path.specs.Rest.{rest}
-use Rattle.unix_path.specs.Steps.{HasLast, IsWalk, StepsFirst, TakesFirst, TakesLast}
+use Rattle.unix_path.specs.Steps.{HasLast, IsWalk, TakesFirst, StepsFirst, TakesLast}
 use Rattle.unix_bytes.proofs.CaseLemmas.{by_test, length-range}
 use Rattle.unix_path.proofs.IdleLemmas.{first_piece_dot}
 use Rattle.unix_path.proofs.ParentLemmas.{rest-whole_last, values-whole}
 use Rattle.unix_path.proofs.PartLemmas.{parts-nil, parts-root, parts-name}
 use Rattle.unix_path.proofs.PieceLemmas.{first_piece}
 use Rattle.unix_path.proofs.SpanLemmas.{parts_end-whole}
+use Rattle.unix_path.proofs.ValueLemmas.{first_value}
+use Rattle.unix_path.proofs.PlaceLemmas.{parts_end}
 
 -- what stands from a to b, without its first n bytes, stands from a + n to b
 range-drop : (s : List ℕ) (a b n : ℕ) → n ≤ b - a
@@ -34,15 +35,6 @@ range-take : (s : List ℕ) (a b n : ℕ) → n ≤ b - a
 range-take s a b n l =
     take-take n (b - a) (drop a s) l
     ∙ ap (λ k. take k (drop a s)) {x = n} {y = a + n - a} (omega arith)
-
--- what is left of a walk is no longer than its source
-pub length-cursor_rest : (c : Components) → length (cursor_rest c) ≤ length (cursor_source c).now
-unfolding cursor_rest
-length-cursor_rest c = omega (
-  arith,
-  length-take (c.end - c.start) (drop c.start c.source.now),
-  length-drop c.start c.source.now,
-)
 
 -- what stands from 0 to n are the first n bytes
 pub range-zero : (s : List ℕ) (n : ℕ) → slice_range s 0 n ≡ take n s

@@ -43,14 +43,15 @@ parent_of-some s parent e = by (eqb (depth_of s) 0) e
 pub parent_of-none : (s : List ℕ) → values s ≡ [] → None ≡ parent_of s
 parent_of-none s is = sym (parent_of-alone s (depth_of-none s is))
 
-pub parent_of-root : (s w : List ℕ) → values s ≡ values w ++ RootDir ∷ [] → None ≡ parent_of s
-parent_of-root s w is = sym (parent_of-alone s (depth_of-root s (values w) is))
+pub parent_of-root : (s : List ℕ) (vs : List Value) → values s ≡ vs ++ RootDir ∷ []
+    → None ≡ parent_of s
+parent_of-root s vs is = sym (parent_of-alone s (depth_of-root s vs is))
 
 -- a path that doesn't end in the root has what is left before its last part as its parent
-pub parent_of-push : {w : List ℕ} (s : List ℕ) (v : Value) → values s ≡ values w ++ v ∷ []
-    → w ≡ rest s 0 1 → (v ≡ RootDir → ⊥) → Some w ≡ parent_of s
-parent_of-push {w} s v is left differs =
-    ap Some left ∙ sym (parent_of-deep s _ (depth_of-push s (values w) v is differs))
+pub parent_of-push : {w : List ℕ} (s : List ℕ) (vs : List Value) (v : Value)
+    → values s ≡ vs ++ v ∷ [] → w ≡ rest s 0 1 → (v ≡ RootDir → ⊥) → Some w ≡ parent_of s
+parent_of-push s vs v is left differs =
+    ap Some left ∙ sym (parent_of-deep s _ (depth_of-push s vs v is differs))
 
 pub file_name_of-none : (s : List ℕ) → values s ≡ [] → None ≡ file_name_of (values s)
 unfolding file_name_of

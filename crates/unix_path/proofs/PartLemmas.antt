@@ -13,7 +13,7 @@ use Rattle.unix_path.specs.Parts.{Value, parent_dir, is_rooted, CurDir, Part}
 use Rattle.unix_path.specs.Parts.{RootDir, inner_parts, cur_dir, is_slash}
 use Rattle.unix_path.specs.Parts.{leading_part, parts, value_of_piece, values}
 use Rattle.unix_path.specs.Rest.{rest, span_of}
-use Rattle.unix_path.specs.Steps.{first_value}
+use Rattle.unix_path.proofs.ValueLemmas.{first_value}
 
 abbrev root : Part
 root = record { start = 0; end = 1; value = RootDir }
@@ -87,6 +87,19 @@ parts-nil = refl
 -- a string without bytes has no parts
 pub parts-none : (s : List ℕ) → length s ≡ 0 → parts s ≡ []
 parts-none s e = ap parts (nil_from_length s e) ∙ parts-nil
+
+-- a path of a byte or more has a value
+pub some_values : (s : List ℕ) → 0 < length s
+    → (v : Value) × (vs : List Value) × (values s ≡ v ∷ vs)
+unfolding values
+some_values s l = by_test (eqb (get_or s 0 0) 47)
+    (λ e. (_, _, ap (map (λ (p : Part). p.value)) (parts-root s (eqb-true _ 47 e))))
+    (λ e. (_, _, ap (map (λ (p : Part). p.value)) (parts-name s l e)))
+
+-- a path without a value has no byte
+pub values-none : (s : List ℕ) → values s ≡ [] → s ≡ []
+values-none [] none = refl
+values-none (b ∷ s) none = let some = some_values (b ∷ s) (omega arith) in cc (some.2)
 
 -- whether the first value is the root
 abbrev pub root_first : List Value → Bool

@@ -1,6 +1,6 @@
 -- The first piece of a string, and what stands after it.
-use Rattle.std.proofs.Common.{◌≡◌, ℕ, ◌+◌, true, false, cond, eqb, List, [], ◌∷◌, ◌++◌, length}
-use Rattle.std.proofs.Common.{take, drop, refl, sym, ap, ap₂, subst, ◌∙◌, arith}
+use Rattle.std.proofs.Common.{◌≡◌, ℕ, ◌+◌, true, false, cond, eqb, List, [], ◌∷◌, ◌++◌, length, ◌<◌}
+use Rattle.std.proofs.Common.{take, drop, refl, sym, ap, ap₂, subst, ◌∙◌, arith, get_or}
 use Rattle.std.proofs.Common.{eqb-true}
 use Rattle.std.specs.List.{before_first, slice_split, onto_first, position_or_len}
 use Rattle.std.proofs.lemmas.List.Splits.{slice_split-cons_yes, slice_split-cons_no}
@@ -86,6 +86,14 @@ IsCut-drop (x ∷ xs) = by_test (eqb x 47)
     (eqb-true x 47 e))
     (λ e. subst (λ n. IsCut (drop n (x ∷ xs))) (sym (position_or_len-other x xs e))
     (subst IsCut (sym (drop-suc_cons (position_or_len is_slash xs) x xs)) (IsCut-drop xs)))
+
+-- a string without a slash doesn't begin with one
+pub no_slash_head : (s : List ℕ) → position_or_len is_slash s ≡ length s → 0 < length s
+    → eqb (get_or s 0 0) 47 ≡ false
+no_slash_head [] e l = absurd (omega arith)
+no_slash_head (b ∷ s) e l =
+    by_test (eqb b 47) (λ slash. absurd (omega (arith, sym (position_or_len-slash b s slash) ∙ e)))
+    (λ no. no)
 
 -- the first piece ends where the first slash stands
 pub length-first_piece : (s : List ℕ) → length (first_piece s) ≡ position_or_len is_slash s

@@ -43,6 +43,11 @@ values-inner_parts at s =
     ap (λ n. map (λ p. p.value) (inner_parts n s)) {x = at} {y = 0 + at} (omega arith)
     ∙ ap (map (λ p. p.value)) (inner_parts-add 0 at s) ∙ values-part_at at (inner_parts 0 s)
 
+-- the end of the last of these parts, or 0 if there is none
+abbrev pub parts_end : List Part → ℕ
+parts_end [] = 0
+parts_end (p ∷ ps) = last_end p ps
+
 -- if parts are moved by d, so is the end of the last
 pub last_end-part_at : (d : ℕ) (p : Part) (ps : List Part)
     → last_end (part_at d p) (map (part_at d) ps) ≡ last_end p ps + d

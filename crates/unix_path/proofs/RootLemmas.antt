@@ -9,7 +9,7 @@ use Rattle.unix_path.specs.Parts.{Value, RootDir, CurDir, ParentDir, Normal, is_
 use Rattle.unix_path.specs.Parts.{parent_dir, counts, parts_of_pieces, value_of_piece}
 use Rattle.unix_path.specs.Parts.{inner_parts, values, is_rooted}
 use Rattle.unix_path.specs.Prefixes.{Begins}
-use Rattle.unix_path.specs.Steps.{first_value}
+use Rattle.unix_path.proofs.ValueLemmas.{first_value}
 use Rattle.unix_bytes.proofs.CaseLemmas.{by_test}
 use Rattle.unix_path.proofs.PieceLemmas.{first_piece}
 use Rattle.unix_path.proofs.PartLemmas.{values-nil, parts-root, parts-name, root_first}
@@ -22,11 +22,6 @@ NoRoot (RootDir ∷ vs) = ⊥
 NoRoot (CurDir ∷ vs) = NoRoot vs
 NoRoot (ParentDir ∷ vs) = NoRoot vs
 NoRoot (Normal name ∷ vs) = NoRoot vs
-
--- no piece is the root
-pub no_root_piece : (p : List ℕ) → value_of_piece p ≡ RootDir → ⊥
-no_root_piece p =
-    by_test (bytes_eq p parent_dir) (λ e. rw e (λ h. cc)) (λ e. rw e (λ h. cc))
 
 -- with a piece in front, values without a root are still without one
 no_root_cons : (p : List ℕ) (vs : List Value) → NoRoot vs → NoRoot (value_of_piece p ∷ vs)

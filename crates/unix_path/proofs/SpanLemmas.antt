@@ -1,16 +1,16 @@
 -- Where the parts of a string begin and end.
 use Rattle.std.proofs.Common.{◌≡◌, ℕ, ◌+◌, ◌-◌, ◌≤◌, ◌<◌, eqb, ltb, List, [], ◌∷◌, ◌++◌, length}
 use Rattle.std.proofs.Common.{get_or, take, drop, map, refl, sym, ap, ap₂, ◌∙◌, arith, eqb-true}
-use Rattle.std.proofs.Common.{take_all, ltb-true, ltb-false, length-take-le}
-use Rattle.std.proofs.lemmas.List.{nil_from_length}
+use Rattle.std.proofs.Common.{take_all, ltb-true, ltb-false, length-take-le, subst, length-append}
+use Rattle.std.proofs.lemmas.List.{nil_from_length, take-append-le}
 use Rattle.unix_bytes.proofs.CaseLemmas.{by_test}
 use Rattle.unix_path.proofs.LastLemmas.{last_part, last_start, root_alone}
 use Rattle.unix_path.proofs.PartLemmas.{parts-name, parts-none, parts-root}
-use Rattle.unix_path.proofs.PlaceLemmas.{last_end-part_at, part_at}
+use Rattle.unix_path.proofs.PlaceLemmas.{last_end-part_at, part_at, parts_end}
 use Rattle.unix_path.proofs.TrimLemmas.{EndsInPart-take, trims_to}
 use Rattle.unix_path.specs.Parts.{Part, Value, parts}
 use Rattle.unix_path.specs.Rest.{last_end, rest, span_of}
-use Rattle.unix_path.specs.Steps.{EndsInPart, parts_end}
+use Rattle.unix_path.specs.Scan.{EndsInPart}
 
 -- some parts with one more behind them end where that one does
 last_end-append : (p : Part) (ps : List Part) (q : Part) → last_end p (ps ++ q ∷ []) ≡ q.end
@@ -71,6 +71,24 @@ pub rest-trimmed : (s : List ℕ) (n : ℕ) → n ≤ length s → parts (take n
 rest-trimmed s n l same ends = rest-whole s
     ∙ ap (λ k. take k s) (ap parts_end (sym same) ∙ parts_end-whole (take n s) ends
     ∙ length-take-le n s l)
+
+-- before the last part the others are left
+pub rest-last : (s : List ℕ) (ps : List Part) (p : Part) → parts s ≡ ps ++ p ∷ []
+    → rest s 0 1 ≡ span_of s ps
+unfolding rest
+rest-last s ps p e =
+    let n : length (ps ++ p ∷ []) - (0 + 1) ≡ length ps =
+    omega (arith, length-append ps (p ∷ [])) in
+    ap (λ all. span_of s (take (length all - (0 + 1)) all)) e
+    ∙ ap (λ k. span_of s (take k (ps ++ p ∷ []))) n
+    ∙ ap (span_of s) (take-append-le (length ps) ps (p ∷ []) (omega arith)
+    ∙ take_all (length ps) ps (omega arith))
+
+-- a string that ends in a part is what is left of it
+pub rest-ended : (s : List ℕ) → EndsInPart s → rest s 0 0 ≡ s
+rest-ended s ends =
+    let all = take_all (length s) s (omega arith) in
+    rest-trimmed s (length s) (omega arith) (ap parts all) (subst EndsInPart (sym all) ends) ∙ all
 
 -- w stands in s from `at` on
 abbrev pub StandsAt : List ℕ → ℕ → List ℕ → Type 0

@@ -13,8 +13,9 @@ use Rattle.unix_path.proofs.PartLemmas.{parts-name, parts-nil, parts-none, parts
 use Rattle.unix_path.proofs.PieceLemmas.{length-first_piece, position_or_len-other}
 use Rattle.unix_path.proofs.PlaceLemmas.{inner_parts-add, part_at, part_at-part_at, part_at-zero}
 use Rattle.unix_path.proofs.TrimLemmas.{EndsInPart-take, trims_to}
+use Rattle.unix_path.proofs.ValueLemmas.{first_value}
 use Rattle.unix_path.specs.Parts.{Part, RootDir, Value, inner_parts, is_slash, parts}
-use Rattle.unix_path.specs.Steps.{EndsInPart, first_value}
+use Rattle.unix_path.specs.Scan.{EndsInPart}
 
 -- the first part is `first`, and the others stand `len` places further on
 pub record SplitsFirst (t : List ℕ) : Type 0 where

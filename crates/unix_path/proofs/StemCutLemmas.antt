@@ -13,7 +13,7 @@ use Rattle.unix_path.specs.Rest.{rest}
 use Rattle.unix_path.specs.Names.{file_name_of, past_last, split_name, stem_of}
 use Rattle.unix_path.specs.Edits.{last_start_of, stem_end_of}
 use Rattle.unix_path.specs.Extensions.{name_end_of}
-use Rattle.unix_path.specs.Steps.{IsLastStart}
+use Rattle.unix_path.proofs.LastLemmas.{IsLastStart}
 use Rattle.unix_bytes.proofs.CaseLemmas.{by_test}
 use Rattle.unix_path.proofs.NameEndLemmas.{name_end_of-some}
 use Rattle.unix_path.proofs.NameLemmas.{is_dot, past_last-is, split_name-cut, split_name-stem}

@@ -6,29 +6,24 @@ use Rattle.std.specs.Option.{option_map_or}
 use Rattle.std.specs.List.{AllByRecursion, before_first, slice_split}
 use Rattle.std.specs.Str.{bytes_eq}
 use Rattle.std.proofs.lemmas.List.{map-append, length-take}
-use Rattle.std.proofs.lemmas.Option.{same_Some, none-some}
-use Rattle.std.proofs.lemmas.Slice.Eq.{bytes_eq-Decides}
-use Rattle.unix_path.specs.Parts.{Part, Value, RootDir, CurDir, ParentDir, Normal, value_bytes}
-use Rattle.unix_path.specs.Parts.{is_slash, cur_dir, parent_dir, counts, parts_of_pieces}
-use Rattle.unix_path.specs.Parts.{value_of_piece, inner_parts, leading_part, parts}
+use Rattle.std.proofs.lemmas.Option.{none-some}
+use Rattle.unix_path.specs.Parts.{Part, Normal, value_bytes}
+use Rattle.unix_path.specs.Parts.{is_slash, cur_dir, counts, parts_of_pieces}
+use Rattle.unix_path.specs.Parts.{inner_parts, leading_part, parts}
 use Rattle.unix_path.specs.Parts.{values, is_rooted}
 use Rattle.unix_path.specs.Rest.{rest}
-use Rattle.unix_path.specs.Steps.{parts_end}
+use Rattle.unix_path.proofs.PlaceLemmas.{parts_end}
 use Rattle.unix_path.specs.Names.{name_of, file_name_of, split_name}
 use Rattle.unix_path.specs.Edits.{last_start_of, stem_end_of}
 use Rattle.unix_bytes.proofs.CaseLemmas.{by_test, Snoc, Empty, Push, snoc, last_or-push}
 use Rattle.unix_path.proofs.ParentLemmas.{file_name_of-last}
 use Rattle.unix_path.proofs.RestLemmas.{take-rest}
 use Rattle.unix_path.proofs.SpanLemmas.{length-rest_whole, parts_end-append}
+use Rattle.unix_path.proofs.ValueLemmas.{value_bytes-piece, name_of-some}
 
 -- a part is as long as the bytes of its value
 abbrev SpansValue : Part → Type 0
 SpansValue p = p.end ≡ p.start + length (value_bytes p.value)
-
--- the value of a piece has the piece's bytes
-pub value_bytes-piece : (p : List ℕ) → value_bytes (value_of_piece p) ≡ p
-value_bytes-piece p = by_test (bytes_eq p parent_dir)
-    (λ e. rw e (sym ((bytes_eq-Decides p parent_dir).0 e))) (λ e. rw e refl)
 
 -- the parts of pieces are as long as the bytes of their values
 SpansValue-parts_of_pieces : (at : ℕ) (ps : List (List ℕ))
@@ -66,13 +61,6 @@ SpansValue-last (q ∷ ps) p h = SpansValue-last ps p h.1
 -- the last of some parts and one behind them starts where that one does
 last_start_of-push : (ps : List Part) (p : Part) → last_start_of (ps ++ p ∷ []) ≡ p.start
 last_start_of-push ps p = ap (λ o. option_map_or (λ p. p.start) o 0) (last_or-push None ps p)
-
--- a value that has a name is that name
-pub name_of-some : (v : Value) (name : List ℕ) → name_of v ≡ Some name → v ≡ Normal name
-name_of-some RootDir name e = absurd (none-some name e)
-name_of-some CurDir name e = absurd (none-some name e)
-name_of-some ParentDir name e = absurd (none-some name e)
-name_of-some (Normal bytes) name e = ap Normal (same_Some bytes name e)
 
 -- the file name ends where a fresh cursor's rest ends
 pub last_start_of-name : (s name : List ℕ) → Some name ≡ file_name_of (values s)
@@ -131,10 +119,3 @@ stem_end_of-some {stem} s name end e at is =
 pub length-rest_whole-le : (s : List ℕ) → length (rest s 0 0) ≤ length s
 length-rest_whole-le s =
     omega (arith, ap length (take-rest s 0), length-take (length (rest s 0 0)) s)
-
--- a stem ends in its path
-pub stem_end-le : (s name stem : List ℕ) (end : ℕ) → Some name ≡ file_name_of (values s)
-    → end ≡ length (rest s 0 0) → length stem ≤ length name
-    → end - length name + length stem ≤ length s
-stem_end-le s name stem end e at l =
-    omega (arith, length-name s name end e at, at, length-rest_whole-le s)

@@ -1,20 +1,20 @@
 -- One part is taken, in front or behind.
-use Rattle.std.proofs.Common.{◌≡◌, ℕ, ◌+◌, ◌-◌, ◌≤◌, ◌<◌, false, List, [], ◌∷◌, ◌++◌, length}
-use Rattle.std.proofs.Common.{get_or, take, drop, map, refl, sym, ap, subst, ◌∙◌, arith, take_all}
-use Rattle.std.proofs.Common.{length-drop, drop-drop, length-append, length-take-le}
-use Rattle.std.proofs.lemmas.List.{map-append, take-append-le}
+use Rattle.std.proofs.Common.{◌≡◌, ℕ, ◌-◌, ◌≤◌, ◌<◌, false, List, [], ◌∷◌, ◌++◌, length}
+use Rattle.std.proofs.Common.{get_or, take, drop, map, refl, sym, ap, ◌∙◌, arith, take_all}
+use Rattle.std.proofs.Common.{length-drop, length-take-le}
+use Rattle.std.proofs.lemmas.List.{map-append}
 use Rattle.unix_path.proofs.IdleLemmas.{inner_parts_busy, parts-busy}
-use Rattle.unix_path.proofs.LastLemmas.{last_part, root_alone}
+use Rattle.unix_path.proofs.LastLemmas.{last_part, root_alone, IsLastStart}
 use Rattle.unix_path.proofs.PartLemmas.{parts-nil}
 use Rattle.unix_path.proofs.PieceLemmas.{inner_parts-nil}
-use Rattle.unix_path.proofs.PlaceLemmas.{values-inner_parts}
-use Rattle.unix_path.proofs.SpanLemmas.{parts_end-whole, span-parts}
+use Rattle.unix_path.proofs.PlaceLemmas.{values-inner_parts, parts_end}
+use Rattle.unix_path.proofs.SpanLemmas.{parts_end-whole, span-parts, rest-last}
 use Rattle.unix_path.proofs.TrimLemmas.{EndsInPart-drop, EndsInPart-take}
+use Rattle.unix_path.proofs.ValueLemmas.{first_value}
 use Rattle.unix_path.specs.Parts.{Part, RootDir, Value, inner_parts, parts, values}
 use Rattle.unix_path.specs.Rest.{rest, span_of}
-use Rattle.unix_path.specs.Steps.{EndsInPart, IsLastStart, TakesFirst, TakesLast, first_value}
-use Rattle.unix_path.specs.Scan.{is_idle, is_trailing}
-use Rattle.unix_path.specs.Steps.{parts_end}
+use Rattle.unix_path.specs.Scan.{is_idle, is_trailing, EndsInPart}
+use Rattle.unix_path.specs.Steps.{TakesFirst, TakesLast}
 
 -- after the first part the others are left
 rest-first : (s : List ℕ) (p : Part) (ps : List Part) → parts s ≡ p ∷ ps
@@ -34,47 +34,28 @@ span_busy t (b ∷ u) i is l busy end =
     ap (span_of t) first ∙ ap (λ n. take (n - i) (drop i t)) (sym (ap parts_end first) ∙ reaches)
     ∙ take_all (length t - i) (drop i t) (omega arith) ∙ is
 
--- the first part is taken, which ends at e, and then d bytes of filler
-pub takes_first : (t : List ℕ) (e d : ℕ) (v : Value) → EndsInPart t → e ≤ length t
-    → d ≤ length (drop e t)
-    → parts t ≡ record { start = 0; end = e; value = v } ∷ inner_parts e (drop e t)
-    → inner_parts e (drop e t) ≡ inner_parts (e + d) (drop d (drop e t))
-    → (0 < length (drop d (drop e t)) → is_idle (drop d (drop e t)) 0 ≡ false)
-    → TakesFirst t (drop d (drop e t)) v
+-- the first part is taken, which ends at e, and the filler behind it, which ends at n
+pub takes_first : (t : List ℕ) (e n : ℕ) (v : Value) → EndsInPart t → n ≤ length t
+    → parts t ≡ record { start = 0; end = e; value = v } ∷ inner_parts n (drop n t)
+    → (0 < length (drop n t) → is_idle (drop n t) 0 ≡ false) → TakesFirst t (drop n t) v
 unfolding values
-takes_first t e d v ends l m first idle busy =
-    let u = drop d (drop e t) in
-    let all = first ∙ ap (λ ps. record { start = 0; end = e; value = v } ∷ ps) idle in
-    let is : drop (e + d) t ≡ u = sym (drop-drop d e t) in
-    let n = length-drop e t in
-    let in_range : e + d ≤ length t = omega arith in
+takes_first t e n v ends l all busy =
+    let u = drop n t in
     let end : 0 < length u
-    → parts_end (inner_parts (e + d) u) ≡ length t = λ some. end_of (e + d) u some (busy some) e v
+    → parts_end (inner_parts n u) ≡ length t = λ some. end_of n u some (busy some) e v
     ∙ sym (ap parts_end all) ∙ parts_end-whole t ends in
     record {
       value = ap (map (λ p. p.value)) all
-          ∙ ap (λ vs. v ∷ vs) (values-inner_parts (e + d) u
+          ∙ ap (λ vs. v ∷ vs) (values-inner_parts n u
           ∙ ap (map (λ p. p.value)) (sym (parts-busy u busy)));
-      rest = rest-first t _ _ all ∙ span_busy t u (e + d) is in_range busy end;
-      ends = subst EndsInPart is (EndsInPart-drop t (e + d) in_range ends);
+      rest = rest-first t _ _ all ∙ span_busy t u n refl l busy end;
+      ends = EndsInPart-drop t n l ends;
     }
   where
     end_of : (i : ℕ) (u : List ℕ) → 0 < length u → is_idle u 0 ≡ false → (e : ℕ) (v : Value)
         → parts_end (inner_parts i u) ≡ parts_end
         (record { start = 0; end = e; value = v } ∷ inner_parts i u)
     end_of i u some busy e v = let first = inner_parts_busy i u some busy in rw first refl
-
--- before the last part the others are left
-pub rest-last : (s : List ℕ) (ps : List Part) (p : Part) → parts s ≡ ps ++ p ∷ []
-    → rest s 0 1 ≡ span_of s ps
-unfolding rest
-rest-last s ps p e =
-    let n : length (ps ++ p ∷ []) - (0 + 1) ≡ length ps =
-    omega (arith, length-append ps (p ∷ [])) in
-    ap (λ all. span_of s (take (length all - (0 + 1)) all)) e
-    ∙ ap (λ k. span_of s (take k (ps ++ p ∷ []))) n
-    ∙ ap (span_of s) (take-append-le (length ps) ps (p ∷ []) (omega arith)
-    ∙ take_all (length ps) ps (omega arith))
 
 -- the last part is taken, and what is left ends in a part
 takes_last_to : (t : List ℕ) (n at to : ℕ) (v : Value) → n ≤ length t

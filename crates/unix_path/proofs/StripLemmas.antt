@@ -7,8 +7,8 @@ use Rattle.unix_path.specs.Parts.{Part, parts, values}
 use Rattle.unix_path.specs.Places.{EndsAt, IsTail}
 use Rattle.unix_path.specs.Prefixes.{Begins, stripped_of}
 use Rattle.unix_path.specs.Rest.{rest}
-use Rattle.unix_path.specs.Scan.{is_idle, is_trailing}
-use Rattle.unix_path.specs.Steps.{EndsInPart, SharesFront}
+use Rattle.unix_path.specs.Scan.{is_idle, is_trailing, EndsInPart}
+use Rattle.unix_path.specs.Steps.{SharesFront}
 use Rattle.unix_path.proofs.BehindLemmas.{rest-left}
 use Rattle.unix_path.proofs.PartLemmas.{values-nil}
 use Rattle.unix_path.proofs.RestLemmas.{rest-rest}

@@ -10,8 +10,7 @@ use Rattle.unix_bytes.proofs.CaseLemmas.{by_test}
 use Rattle.unix_path.proofs.CutLemmas.{inner_parts-append, leading_part-append}
 use Rattle.unix_path.proofs.PieceLemmas.{inner_parts-dot, inner_parts-nil}
 use Rattle.unix_path.specs.Parts.{inner_parts, leading_part, parts}
-use Rattle.unix_path.specs.Scan.{is_trailing}
-use Rattle.unix_path.specs.Steps.{EndsInPart}
+use Rattle.unix_path.specs.Scan.{is_trailing, EndsInPart}
 
 -- a slash at the end, behind other bytes, is filler
 pub parts-slash : (x : List ℕ) → 0 < length x → parts (x ++ 47 ∷ []) ≡ parts x

@@ -1,5 +1,6 @@
 -- Which bytes of a path are filler, and where a piece `..` stands.
-use Rattle.std.specs.Prelude.{ℕ, ◌+◌, ◌-◌, nat_lt, ◌==◌, Bool, ◌||◌, ◌&&◌, List, [], ◌∷◌, length}
+use Rattle.std.specs.Prelude.{◌≡◌, ◌<◌, ℕ, ◌+◌, ◌-◌, nat_lt, ◌==◌, Bool, false, ◌||◌, ◌&&◌}
+use Rattle.std.specs.Prelude.{List, [], ◌∷◌, length}
 use Rattle.std.specs.Prelude.{slice_index, slice_index_or, Option, Some, None}
 use Rattle.unix_path.specs.Parts.{slash, dot}
 
@@ -26,6 +27,10 @@ abbrev pub is_trailing : List ℕ → ℕ → Bool
 is_trailing s i =
     nat_lt 0 i
     && (slice_index s i == slash || (slice_index s i == dot && slice_index s (i - 1) == slash))
+
+-- the string is empty or ends where its last part ends
+abbrev pub EndsInPart : List ℕ → Type 0
+EndsInPart s = 0 < length s → is_trailing s (length s - 1) ≡ false
 
 -- the byte at i is a slash, and a slash, a dot or the end follows
 abbrev pub is_break : List ℕ → ℕ → Bool

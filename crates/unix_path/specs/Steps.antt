@@ -5,39 +5,18 @@ use Rattle.std.specs.Prelude.{slice_index_or, slice_range, if◌then◌else◌, 
 use Rattle.std.specs.declared.cmp.Ordering.{Ordering}
 use Rattle.std.proofs.Props.{props}
 use Rattle.std.specs.List.{common_prefix_len, position_or_len}
-use Rattle.std.specs.Str.{bytes_eq}
 use Rattle.unix_path.specs.CommonDir.{inner_values}
 use Rattle.unix_path.specs.Order.{values_cmp}
-use Rattle.unix_path.specs.Parts.{slash, is_slash, dot, cur_dir, Part, Value, CurDir}
-use Rattle.unix_path.specs.Parts.{inner_parts, parts, value_of_piece, values}
+use Rattle.unix_path.specs.Parts.{slash, is_slash, dot, Part, Value, inner_parts, parts, values}
 use Rattle.unix_path.specs.Prefixes.{Begins}
-use Rattle.unix_path.specs.Rest.{last_end, rest}
-use Rattle.unix_path.specs.Scan.{is_idle, is_trailing}
-
--- the string is empty or ends where its last part ends
-abbrev pub EndsInPart : List ℕ → Type 0
-EndsInPart s = 0 < length s → is_trailing s (length s - 1) ≡ false
+use Rattle.unix_path.specs.Rest.{rest}
+use Rattle.unix_path.specs.Scan.{is_idle, EndsInPart}
 
 -- the last piece of s is its last part
 pub record EndsInPiece (s : List ℕ) : Type 0 where
   pub some : 0 < length s
   pub no_slash : (slice_index s (length s - 1) == slash) ≡ false
   pub part : EndsInPart s
-
--- the last piece begins at `start`
-pub record IsLastStart (s : List ℕ) (start : ℕ) : Type 0 where
-  pub in_range : start ≤ length s
-  pub after_slash : 0 < start → slice_index s (start - 1) ≡ slash
-  pub no_slash : position_or_len is_slash (drop start s) ≡ length (drop start s)
-
--- the value of a piece at the beginning of a string, where a `.` counts
-abbrev pub first_value : List ℕ → Value
-first_value bytes = if bytes_eq bytes cur_dir then CurDir else value_of_piece bytes
-
--- the end of the last of these parts, or 0 if there is none
-abbrev pub parts_end : List Part → ℕ
-parts_end [] = 0
-parts_end (p ∷ ps) = last_end p ps
 
 -- v is the first value of s, and t is what is left after it
 pub record TakesFirst (s t : List ℕ) (v : Value) : Type 0 where

@@ -1,18 +1,19 @@
-//! How single bytes of a path are read: which are filler, and where a piece `..` stands.
+//! How single bytes of a path are read: which are filler, and where a piece `..` stands or a part
+//! ends.
 //!
 //! For code that goes through the bytes of a path itself. `Path` and `Components` have what other
 //! callers need.
 ghost use Rattle.std.specs.Prelude.{◌≡◌, ℕ, ◌+◌, ◌<◌, ◌≤◌, true, false, length, drop};
-ghost use Rattle.std.specs.Prelude.{None, Some, IfSome, IsTrue, ◌↔◌, take};
+ghost use Rattle.std.specs.Prelude.{None, Some, IfSome, IsTrue, ◌↔◌, ◌∷◌, take};
 ghost use Rattle.unix_path.specs.Edits.{dot_before, stem_end_of};
 ghost use Rattle.unix_path.specs.Extensions.{has_slash, name_end_of};
 ghost use Rattle.unix_path.specs.Joins.{is_open};
-ghost use Rattle.unix_path.specs.Parts.{inner_parts};
+ghost use Rattle.unix_path.specs.Parts.{inner_parts, parts, Normal, ParentDir};
 ghost use Rattle.unix_path.specs.Scan.{begins_with_parent, ends_with_parent, gap_bytes, is_idle};
 ghost use Rattle.unix_path.specs.Scan.{is_break, is_trailing};
 
 use std::simd::prelude::*;
-use unix_bytes::search::past_last_of_two;
+use unix_bytes::search::{first_place, past_last_of_two};
 
 /// Whether the byte at `at` is a slash, or a `.` that a slash or the end follows.
 ///
@@ -252,6 +253,42 @@ pub fn ends_with_parent(bytes: &[u8]) -> bool
         && len > 1
         && bytes[len - 2] == b'.'
         && (len == 2 || bytes[len - 3] == b'/')
+}
+
+/// How many bytes the first part takes, which is a `..`, with the filler behind it. Does not
+/// allocate. Not in Rust's std.
+///
+/// In `.././a` it is 5.
+#[inline(always)]
+pub fn parent_step(bytes: &[u8]) -> usize
+    requires { begins_with_parent bytes.now ≡ true }
+    ensures in_range { result ≤ length bytes.now }
+    ensures parts { parts bytes.now ≡ record { start = 0; end = 2; value = ParentDir }
+        ∷ inner_parts result (drop result bytes.now) }
+    ensures busy { result < length bytes.now → is_idle bytes.now result ≡ false }
+{
+    2 + idle_len(&bytes[2..])
+}
+
+/// How many bytes the first part has, which is a name, and how many it takes with the filler behind
+/// it. Does not allocate. Not in Rust's std.
+///
+/// In `a/./b` they are 1 and 4.
+#[inline(always)]
+pub fn name_step(bytes: &[u8]) -> (usize, usize)
+    requires some { 0 < length bytes.now }
+    requires busy { is_idle bytes.now 0 ≡ false }
+    requires no_parent { begins_with_parent bytes.now ≡ false }
+    ensures in_order { result.0 ≤ result.1 }
+    ensures in_range { result.1 ≤ length bytes.now }
+    ensures parts { parts bytes.now
+        ≡ record { start = 0; end = result.0; value = Normal (take result.0 bytes.now) }
+        ∷ inner_parts result.1 (drop result.1 bytes.now) }
+    ensures busy { result.1 < length bytes.now → is_idle bytes.now result.1 ≡ false }
+{
+    let end = first_place(bytes, b'/');
+    let step = end + idle_len(&bytes[end..]);
+    (end, step)
 }
 
 /// Whether the bytes end in a name: the last piece is not empty, and neither `.` nor `..`.

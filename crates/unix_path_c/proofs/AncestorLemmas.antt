@@ -4,7 +4,7 @@ use Rattle.std.proofs.Common.{Some, None, sym, ap, ◌∙◌, arith, length-take
 use Rattle.std.proofs.lemmas.Bool.{le-leb, leb-true}
 use Rattle.std.proofs.lemmas.List.{take-take}
 use Rattle.unix_path.specs.Parents.{ancestors_of, parent_of}
-use Rattle.unix_path.proofs.AncestorLemmas.{ancestors_by, ancestors_of-parent}
+use Rattle.unix_path.proofs.CallerLemmas.{ancestors_of-alone, ancestors_of-above}
 use Rattle.unix_bytes.proofs.CaseLemmas.{by_test}
 use Rattle.unix_path_c.specs.Ancestors.{ancestors_left}
 use Rattle.unix_path_c.proofs.PlaceLemmas.{parent_stands}
@@ -27,8 +27,7 @@ pub ancestors_left-last : (path : List ℕ) (n m : ℕ) → n ≤ length path
     → ancestors_left path n ≡ take n path ∷ ancestors_left path m
 ancestors_left-last path n m l none past =
     let s = take n path in
-    ancestors_left-in_range path n l ∙ ancestors_of-parent s
-    ∙ ap (λ o. s ∷ ancestors_by o) (sym none)
+    ancestors_left-in_range path n l ∙ ancestors_of-alone s (sym none)
     ∙ ap (λ xs. s ∷ xs) (sym (ancestors_left-past path m past))
 
 -- and else they go on with the parent
@@ -41,7 +40,6 @@ ancestors_left-parent path parent n l some =
     let shorter : length parent ≤ n = omega (arith, stands.inside, length-take-le n path l) in
     let begins : take (length parent) path ≡ parent =
     sym (take-take (length parent) n path shorter) ∙ stands.bytes in
-    ancestors_left-in_range path n l ∙ ancestors_of-parent s
-    ∙ ap (λ o. s ∷ ancestors_by o) (sym some)
+    ancestors_left-in_range path n l ∙ ancestors_of-above s parent (sym some)
     ∙ ap (λ xs. s ∷ xs) (ap ancestors_of (sym begins)
     ∙ sym (ancestors_left-in_range path (length parent) (omega (arith, shorter, l))))

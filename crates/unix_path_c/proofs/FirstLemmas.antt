@@ -5,11 +5,10 @@ use Rattle.std.proofs.Common.{take_all, ltb-true, ltb-false}
 use Rattle.std.proofs.lemmas.List.{nil_from_length}
 use Rattle.unix_path.specs.Parts.{Part, Value, parts, value_bytes, values}
 use Rattle.unix_path.specs.Rest.{last_end, rest}
-use Rattle.unix_path.specs.Steps.{parts_end}
 use Rattle.unix_bytes.proofs.CaseLemmas.{by_test}
 use Rattle.unix_path.proofs.MiddleLemmas.{Middle, middle, middle_of, rest-middle}
 use Rattle.unix_path.proofs.PartLemmas.{parts-none, values-nil}
-use Rattle.unix_path.proofs.PlaceLemmas.{last_end-part_at, part_at}
+use Rattle.unix_path.proofs.PlaceLemmas.{last_end-part_at, part_at, parts_end}
 use Rattle.unix_path.proofs.SpanLemmas.{length-rest_whole, parts_end-whole}
 use Rattle.unix_path.proofs.StemLemmas.{length-rest_whole-le}
 use Rattle.unix_path_c.proofs.FollowLemmas.{BeginsWith, Follow, begins_with}
@@ -30,15 +29,6 @@ pub some_bytes : (s : List ℕ) → (values s ≡ [] → ⊥) → 0 < length s
 some_bytes s some = by_test (ltb 0 (length s)) (λ e. ltb-true _ _ e)
     (λ e. absurd (some
     (ap values (nil_from_length s (omega (arith, ltb-false _ _ e))) ∙ values-nil)))
-
--- a string without values has no bytes
-pub no_bytes : (s : List ℕ) → values s ≡ [] → s ≡ []
-unfolding values
-no_bytes s none = by_test (ltb 0 (length s))
-    (λ e.
-    let b = begins_with s (ltb-true _ _ e) in
-    let no = sym none ∙ ap (map (λ p. p.value)) b.is in cc)
-    (λ e. nil_from_length s (omega (arith, ltb-false _ _ e)))
 
 middle-first : (p : Part) (ps : List Part) → middle 1 0 (p ∷ ps) ≡ ps
 middle-first p ps = take_all (length (p ∷ ps) - (1 + 0)) ps (omega arith)

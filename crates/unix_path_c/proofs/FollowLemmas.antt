@@ -7,11 +7,11 @@ use Rattle.std.specs.Str.{bytes_eq}
 use Rattle.std.proofs.lemmas.Slice.Eq.{bytes_eq-Decides}
 use Rattle.unix_path.specs.Parts.{Part, Value, RootDir, counts, cur_dir, inner_parts, is_slash}
 use Rattle.unix_path.specs.Parts.{parts, parts_of_pieces, value_bytes}
-use Rattle.unix_path.specs.Steps.{first_value, parts_end}
+use Rattle.unix_path.proofs.PlaceLemmas.{parts_end}
 use Rattle.unix_bytes.proofs.CaseLemmas.{by_test}
 use Rattle.unix_path.proofs.PartLemmas.{parts-name, parts-none, parts-root}
 use Rattle.unix_path.proofs.PieceLemmas.{first_piece, length-first_piece}
-use Rattle.unix_path.proofs.StemLemmas.{value_bytes-piece}
+use Rattle.unix_path.proofs.ValueLemmas.{first_value, value_bytes-piece, value_bytes-first}
 
 -- these parts stand at `at` or later, one after another, and each is as long as its bytes
 abbrev pub Follow : ℕ → List Part → Type 0
@@ -39,10 +39,6 @@ Follow-pieces at (p ∷ ps) =
 Follow-inner : (at : ℕ) (s : List ℕ) → Follow at (inner_parts at s)
 unfolding inner_parts
 Follow-inner at s = Follow-pieces at (slice_split is_slash s)
-
-value_bytes-first : (p : List ℕ) → value_bytes (first_value p) ≡ p
-value_bytes-first p = by_test (bytes_eq p cur_dir)
-    (λ e. rw e (sym ((bytes_eq-Decides p cur_dir).0 e))) (λ e. rw e (value_bytes-piece p))
 
 -- a first piece ends where the bytes of its value do
 position_or_len-first_piece : (s : List ℕ)

@@ -6,7 +6,7 @@ use Rattle.unix_path.specs.Parts.{Value, RootDir, CurDir, ParentDir, Normal, sla
 use Rattle.unix_path.specs.Parts.{values}
 use Rattle.path_runs.specs.Spelling.{slashed_bytes, spelling_of}
 use Rattle.path_keys.specs.Keys.{code, key_of, raised, IsKey}
-use Rattle.path_keys.proofs.KeyLemmas.{key_of-cons}
+use Rattle.path_keys.proofs.LengthLemmas.{length-key_of-cons}
 
 -- a value and a slash have at most half as many bytes more than the value has in a key
 length-value : (v : Value) → 2 * (length (value_bytes v) + 1) ≤ 3 * length (code v)
@@ -15,10 +15,6 @@ length-value CurDir = omega arith
 length-value ParentDir = omega arith
 length-value (Normal name) =
     omega (arith, length-append (map raised name) (0 ∷ []), length-map name raised)
-
-length-key_of-cons : (v : Value) (vs : List Value)
-    → length (key_of (v ∷ vs)) ≡ length (code v) + length (key_of vs)
-length-key_of-cons v vs = ap length (key_of-cons v vs) ∙ length-append (code v) (key_of vs)
 
 length-slashed_bytes : (vs : List Value) → 2 * length (slashed_bytes vs) ≤ 3 * length (key_of vs)
 length-slashed_bytes [] = omega arith

@@ -8,11 +8,11 @@ use Rattle.std.proofs.lemmas.List.{map-append}
 use Rattle.std.proofs.lemmas.Option.{same_Some}
 use Rattle.unix_path.specs.Parts.{Part, Value, parts, value_bytes, values}
 use Rattle.unix_path.specs.Rest.{rest}
-use Rattle.unix_path.specs.Steps.{EndsInPart, parts_end}
+use Rattle.unix_path.specs.Scan.{EndsInPart}
 use Rattle.unix_bytes.proofs.CaseLemmas.{by_test, Snoc, Empty, Push, snoc, last_or-push}
 use Rattle.unix_path.proofs.MiddleLemmas.{middle, middle_of, rest-middle, stands_in, middle-push}
 use Rattle.unix_path.proofs.PartLemmas.{parts-none}
-use Rattle.unix_path.proofs.PlaceLemmas.{part_at, part_at-zero}
+use Rattle.unix_path.proofs.PlaceLemmas.{part_at, part_at-zero, parts_end}
 use Rattle.unix_path.proofs.RestLemmas.{middle_of-at, take-rest}
 use Rattle.unix_path.proofs.SpanLemmas.{length-rest_whole, parts_end-append, parts_end-whole}
 use Rattle.unix_path.proofs.StemLemmas.{length-rest_whole-le}

@@ -6,15 +6,10 @@ use Rattle.std.specs.Str.{bytes_eq}
 use Rattle.std.proofs.lemmas.Bool.{both_ways}
 use Rattle.std.proofs.lemmas.Slice.Eq.{bytes_eq-Decides}
 use Rattle.unix_path.specs.Parts.{Value, cur_dir, parts}
-use Rattle.unix_path.specs.Rest.{rest}
-use Rattle.unix_path.specs.Steps.{EndsInPart, IsLastStart}
-use Rattle.unix_path.specs.Scan.{ends_with_parent, is_trailing}
-use Rattle.unix_path.specs.Steps.{TakesLast}
+use Rattle.unix_path.specs.Scan.{ends_with_parent, is_trailing, EndsInPart}
 use Rattle.unix_bytes.proofs.CaseLemmas.{by_test}
-use Rattle.unix_path.proofs.LastPieceLemmas.{last_name}
-use Rattle.unix_path.proofs.SpanLemmas.{rest-trimmed}
-use Rattle.unix_path.proofs.StepLemmas.{takes_last}
 use Rattle.unix_path.proofs.TrimLemmas.{parts_shorter}
+use Rattle.unix_path.proofs.LastPieceLemmas.{takes_last_name, IsLastStart}
 use Rattle.unix_path_c.specs.Steps.{EndsInName}
 
 -- the byte at i is neither a slash nor a dot
@@ -57,13 +52,14 @@ module _ (s : List ℕ) (start : ℕ) (some : 0 < length s) (last : IsPlain s (l
       → (0 < before → is_trailing s (before - 1) ≡ false) → EndsInName s before start
   name_behind before l same trimmed =
       let ends = ends_plain s last in
+      let taken = takes_last_name s start before is begins_in ends no_cur_dir no_parent_dir l same
+      trimmed in
       record {
         ends = ends;
         in_range = is.in_range;
         in_order = l;
-        takes = subst (λ (v : Value). TakesLast s (take before s) v)
-            (last_name s start is begins_in ends no_cur_dir no_parent_dir)
-            (takes_last s start before is begins_in ends l same trimmed);
+        values_are = taken.value;
+        rest_is = taken.rest;
       }
 
   -- a name before which nothing stands, or a root
@@ -81,9 +77,3 @@ module _ (s : List ℕ) (start : ℕ) (some : 0 < length s) (last : IsPlain s (l
       (parts_shorter s start (omega arith) is.in_range (rw (some, slash) refl))
       (λ _. ap (is_trailing s) {x = start - 1 - 1} {y = start - 2} (omega arith)
       ∙ is_trailing-plain s (start - 2) plain)
-
--- a string that ends in a part is what is left of it before any step
-pub rest-ends : (s : List ℕ) → EndsInPart s → rest s 0 0 ≡ s
-rest-ends s ends =
-    let all = take_all (length s) s (omega arith) in
-    rest-trimmed s (length s) (omega arith) (ap parts all) (rw all ends) ∙ all

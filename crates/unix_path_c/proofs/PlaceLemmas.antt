@@ -13,13 +13,13 @@ use Rattle.unix_path.specs.Parents.{parent_of}
 use Rattle.unix_path.specs.Names.{past_last, file_name_of, split_name, stem_of, extension_of}
 use Rattle.unix_path.specs.Prefixes.{stripped_of}
 use Rattle.unix_path.specs.Edits.{last_start_of}
-use Rattle.unix_path.specs.Steps.{parts_end}
+use Rattle.unix_path.proofs.PlaceLemmas.{parts_end}
 use Rattle.unix_path.proofs.NameLemmas.{is_dot, split_name-stem}
 use Rattle.unix_path.proofs.ParentLemmas.{parent_of-some}
 use Rattle.unix_path.proofs.RestLemmas.{take-rest}
 use Rattle.unix_path.proofs.SpanLemmas.{length-rest_whole}
 use Rattle.unix_path.proofs.StemLemmas.{last_start_of-name, length-name, length-rest_whole-le}
-use Rattle.path_runs.proofs.NameCutLemmas.{name_cut}
+use Rattle.unix_path.proofs.NameCutLemmas.{name_cut}
 use Rattle.unix_path_c.specs.Places.{name_start_of}
 use Rattle.unix_path_c.proofs.StretchLemmas.{Stands, stands, range_stands}
 use Rattle.unix_path_c.proofs.StretchLemmas.{stands-beginning, stands-end, EndsAt, nothing_ends}
@@ -72,7 +72,7 @@ name_start_of-some s name end e at =
     ap Some start ∙ ap (option_map (λ name. last_start_of (parts s))) e
 
 -- a stem is what its name has before the last dot, or the whole name
-pub stem_of-name : (s name stem : List ℕ) → Some name ≡ file_name_of (values s)
+stem_of-name : (s name stem : List ℕ) → Some name ≡ file_name_of (values s)
     → Some stem ≡ stem_of (values s) → stem ≡ (split_name name).0
 stem_of-name s name stem named e =
     same_Some stem (split_name name).0

@@ -10,7 +10,8 @@ use Rattle.unix_path_c.specs.declared.walks.Walk.{Walk}
 use Rattle.unix_path_c.proofs.TakeLastLemmas.{taken_behind}
 use Rattle.unix_path_c.proofs.TakeFirstLemmas.{taken_in_front}
 use Rattle.unix_path_c.proofs.BytesLeftLemmas.{stands_between}
-use Rattle.unix_path_c.proofs.NameLemmas.{rest-ends}
+use Rattle.unix_path.proofs.SpanLemmas.{rest-ended}
+use Rattle.unix_path.proofs.LeadLemmas.{steps_first, IsFirst}
 
 -- a byte is left if bytes equal to those left aren't empty
 pub some_left : {s left : List ℕ} → left ≡ s → eqb (length left) 0 ≡ false → 0 < length s
@@ -22,7 +23,7 @@ module _ (path : List ℕ) (walk : Walk) (some : 0 < length (bytes_left path wal
       → walk.front + step ≤ length path
   first_fits h =
       let b = stands_between path walk some in
-      omega (arith, b.size, b.in_order, b.in_range, h.steps.in_range)
+      omega (arith, b.size, b.in_order, b.in_range, h.in_range)
 
   -- a step over the first part takes that part
   pub takes_first_part : {size step kind : ℕ} → BeginsInPart (bytes_left path walk) size step kind
@@ -31,13 +32,15 @@ module _ (path : List ℕ) (walk : Walk) (some : 0 < length (bytes_left path wal
   takes_first_part {size} {step} {kind} h =
       let s = bytes_left path walk in
       let v = h.value in
-      let t = h.steps.takes h.ends in
+      let first : IsFirst s size step v =
+      record { in_range = h.in_range; parts_are = h.parts_are; busy = h.busy } in
+      let t = (steps_first s size step v first).takes h.ends in
       let b = stands_between path walk some in
-      let whole = ap length (rest-ends s h.ends) in
+      let whole = ap length (rest-ended s h.ends) in
       let behind = ap length t.rest in
       taken_in_front path walk _ _ v (t.value ∙ ap (λ u. v ∷ values u) (sym t.rest)) refl
       h.size_is h.kind_is (omega (arith, whole, b.size, b.in_order))
-      (omega (arith, behind, length-drop step s, h.steps.in_range, b.size, b.in_order))
+      (omega (arith, behind, length-drop step s, h.in_range, b.size, b.in_order))
 
   -- a name at the end of what is left starts in the path
   pub last_fits : {before start : ℕ} → EndsInName (bytes_left path walk) before start
@@ -54,10 +57,9 @@ module _ (path : List ℕ) (walk : Walk) (some : 0 < length (bytes_left path wal
   takes_last_name {before} {start} {n} h all =
       let s = bytes_left path walk in
       let v = Normal (drop start s) in
-      let t = h.takes in
       let b = stands_between path walk some in
-      let whole = ap length (rest-ends s h.ends) in
-      let in_front = ap length t.rest in
-      taken_behind path walk _ _ v (t.value ∙ ap (λ u. values u ++ v ∷ []) (sym t.rest))
+      let whole = ap length (rest-ended s h.ends) in
+      let in_front = ap length h.rest_is in
+      taken_behind path walk _ _ v (h.values_are ∙ ap (λ u. values u ++ v ∷ []) (sym h.rest_is))
       (omega (arith, whole, all, h.in_range)) (omega (arith, length-drop start s, all)) refl refl
       (omega (arith, in_front, length-take-le before s (omega (arith, h.in_order, h.in_range))))

@@ -13,6 +13,7 @@ use Rattle.unix_path.specs.Cursor.{GivesFirstPart}
 use Rattle.unix_path.proofs.ParentLemmas.{values-whole}
 use Rattle.unix_path.proofs.PlaceLemmas.{part_at, part_at-part_at}
 use Rattle.unix_path.proofs.RestLemmas.{rest-rest}
+use Rattle.unix_path.proofs.PartLemmas.{values-none}
 use Rattle.unix_path_c.specs.Walks.{kind_of, bytes_left, part_bytes}
 use Rattle.unix_path_c.specs.Steps.{TakenInFront}
 use Rattle.unix_path_c.specs.declared.walks.Part.{Part}
@@ -20,7 +21,7 @@ use Rattle.unix_path_c.specs.declared.walks.Walk.{Walk}
 use Rattle.unix_path_c.proofs.BytesLeftLemmas.{stands_between, kind_of-lt, part_value-is}
 use Rattle.unix_path_c.proofs.BytesLeftLemmas.{bytes_left-in_range}
 use Rattle.unix_path_c.proofs.BytesLeftLemmas.{range-bytes_left, take-bytes_left}
-use Rattle.unix_path_c.proofs.FirstLemmas.{no_bytes, some_bytes, takes_in_front}
+use Rattle.unix_path_c.proofs.FirstLemmas.{some_bytes, takes_in_front}
 
 -- two parts are equal if their places and their values are
 pub same_part : {a b c d : ℕ} {v w : Value} → a ≡ c → b ≡ d → v ≡ w
@@ -98,7 +99,7 @@ values-first s old new x whole h = sym (values-whole s (cursor_rest old) whole) 
 pub nothing_first : (s : List ℕ) (old new : Components) → cursor_rest old ≡ rest s 0 0
     → GivesFirstPart old None new → s ≡ []
 nothing_first s old new whole h =
-    no_bytes s (sym (values-whole s (cursor_rest old) whole) ∙ h.item_is.0)
+    values-none s (sym (values-whole s (cursor_rest old) whole) ∙ h.item_is.0)
 
 -- the places that a step in front computes lie in the path, in order
 pub record StepInFrontFits (path : List ℕ) (walk : Walk) (whole behind : List ℕ) : Type 0 where

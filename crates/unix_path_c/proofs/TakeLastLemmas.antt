@@ -13,6 +13,7 @@ use Rattle.unix_path.specs.declared.cursor.walk.Components.{Components}
 use Rattle.unix_path.specs.Cursor.{GivesLastPart}
 use Rattle.unix_path.proofs.ParentLemmas.{rest-whole_last, values-whole}
 use Rattle.unix_path.proofs.PlaceLemmas.{part_at}
+use Rattle.unix_path.proofs.PartLemmas.{values-none}
 use Rattle.unix_path_c.specs.Walks.{kind_of, bytes_left, part_bytes}
 use Rattle.unix_path_c.specs.Steps.{TakenBehind}
 use Rattle.unix_path_c.specs.declared.walks.Part.{Part}
@@ -21,7 +22,7 @@ use Rattle.unix_path_c.proofs.TakeFirstLemmas.{same_part}
 use Rattle.unix_path_c.proofs.BytesLeftLemmas.{stands_between, kind_of-lt, part_value-is}
 use Rattle.unix_path_c.proofs.BytesLeftLemmas.{bytes_left-in_range}
 use Rattle.unix_path_c.proofs.BytesLeftLemmas.{range-bytes_left, take-bytes_left}
-use Rattle.unix_path_c.proofs.FirstLemmas.{no_bytes, some_bytes}
+use Rattle.unix_path_c.proofs.FirstLemmas.{some_bytes}
 use Rattle.unix_path_c.proofs.LastLemmas.{takes_behind}
 
 -- a list with a last value isn't empty
@@ -92,7 +93,7 @@ values-last s old new x whole h = sym (values-whole s (cursor_rest old) whole) �
 pub nothing_last : (s : List ℕ) (old new : Components) → cursor_rest old ≡ rest s 0 0
     → GivesLastPart old None new → s ≡ []
 nothing_last s old new whole h =
-    no_bytes s (sym (values-whole s (cursor_rest old) whole) ∙ h.item_is.0)
+    values-none s (sym (values-whole s (cursor_rest old) whole) ∙ h.item_is.0)
 
 -- the places that a step behind computes lie in the path, in order
 pub record StepBehindFits (path : List ℕ) (walk : Walk) (whole text : List ℕ) (left : ℕ)

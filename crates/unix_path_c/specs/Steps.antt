@@ -1,8 +1,8 @@
 -- Steps over a part, and what steps leave. No public clause cites these words.
-use Rattle.std.specs.Prelude.{◌≡◌, ◌≤◌, ◌<◌, ℕ, List, [], ◌∷◌, ◌++◌, length, take, drop}
-use Rattle.unix_path.specs.Parts.{Normal, Value, value_bytes, values}
+use Rattle.std.specs.Prelude.{◌≡◌, ◌≤◌, ◌<◌, ℕ, false, List, [], ◌∷◌, ◌++◌, length, take, drop}
+use Rattle.unix_path.specs.Parts.{Normal, Value, inner_parts, parts, value_bytes, values}
 use Rattle.unix_path.specs.Rest.{rest}
-use Rattle.unix_path.specs.Steps.{EndsInPart, StepsFirst, TakesLast}
+use Rattle.unix_path.specs.Scan.{is_idle, EndsInPart}
 use Rattle.unix_path_c.specs.Walks.{InOrder, kind_of, bytes_left, part_bytes, part_end, part_in}
 use Rattle.unix_path_c.specs.Walks.{part_value, parts_left}
 use Rattle.unix_path_c.specs.declared.walks.Part.{Part}
@@ -15,7 +15,10 @@ pub record BeginsInPart (s : List ℕ) (size step kind : ℕ) : Type 0 where
   pub value : Value
   pub size_is : size ≡ length (value_bytes value)
   pub kind_is : kind ≡ kind_of value
-  pub steps : StepsFirst s step value
+  pub in_range : step ≤ length s
+  pub parts_are : parts s ≡ record { start = 0; end = size; value = value }
+      ∷ inner_parts step (drop step s)
+  pub busy : step < length s → is_idle s step ≡ false
 
 -- s ends where its last part ends, which is the name from `start` on; before that name the first
 -- `before` bytes are left
@@ -23,7 +26,8 @@ pub record EndsInName (s : List ℕ) (before start : ℕ) : Type 0 where
   pub ends : EndsInPart s
   pub in_range : start ≤ length s
   pub in_order : before ≤ start
-  pub takes : TakesLast s (take before s) (Normal (drop start s))
+  pub values_are : values s ≡ values (take before s) ++ Normal (drop start s) ∷ []
+  pub rest_is : rest s 0 1 ≡ take before s
 
 -- the part was the first that was left of `old`, and the others are left of `new`
 pub record TakenInFront (path : List ℕ) (old new : Walk) (part : Part) : Type 0 where

@@ -1,44 +1,15 @@
 //! A quick step over the first part that is left of a walk. It works if what is left ends in a
 //! part, and begins with neither the root nor a `.`; after a walk's first step that is so.
-ghost use Rattle.std.specs.Prelude.{◌≡◌, ℕ, ◌+◌, ◌<◌, ◌≤◌, true, false, IfSome};
-ghost use Rattle.std.specs.Prelude.{length, drop, take};
-ghost use Rattle.unix_path.specs.Parts.{inner_parts, Normal, ParentDir};
-ghost use Rattle.unix_path.specs.Scan.{begins_with_parent, is_idle, is_trailing};
-ghost use Rattle.unix_path.specs.Steps.{StepsFirst};
+ghost use Rattle.std.specs.Prelude.{◌<◌, length, IfSome};
 ghost use Rattle.unix_path_c.specs.Steps.{BeginsInPart};
 
-use unix_bytes::search::first_place;
-use unix_path::scan::{begins_with_parent, idle_len, is_idle, is_trailing};
+use unix_path::scan::{begins_with_parent, is_idle, is_trailing, name_step, parent_step};
 
 // The kind of a `..`.
 pub(crate) const PARENT_DIR: u32 = 2;
 
 // The kind of a name.
 pub(crate) const NORMAL: u32 = 3;
-
-// How many bytes a step over the first part takes, which is `..`: the part and the filler behind
-// it.
-#[inline]
-fn parent_step(bytes: &[u8]) -> usize
-    requires { begins_with_parent bytes.now ≡ true }
-    ensures { StepsFirst bytes.now result ParentDir }
-{
-    2 + idle_len(&bytes[2..])
-}
-
-// How many bytes the first part has, which is a name, and how many a step over it takes.
-#[inline]
-fn name_step(bytes: &[u8]) -> (usize, usize)
-    requires some { 0 < length bytes.now }
-    requires busy { is_idle bytes.now 0 ≡ false }
-    requires no_parent { begins_with_parent bytes.now ≡ false }
-    ensures in_range { result.0 ≤ length bytes.now }
-    ensures steps { StepsFirst bytes.now result.1 (Normal (take result.0 bytes.now)) }
-{
-    let end = first_place(bytes, b'/');
-    let step = end + idle_len(&bytes[end..]);
-    (end, step)
-}
 
 // How many bytes the first part has, how many a step over it takes, and its kind. `None` if the
 // bytes begin with the root or a `.`, or don't end in a part.

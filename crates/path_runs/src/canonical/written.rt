@@ -1,7 +1,7 @@
 //! The canonical spelling, written to the caller's buffer.
 ghost use Rattle.std.specs.Prelude.{◌≡◌, ◌+◌, ◌<◌, ◌≤◌, ◌++◌, true, length, take, drop};
 ghost use Rattle.unix_path.specs.Parts.{values};
-ghost use Rattle.unix_path.specs.Steps.{EndsInPart};
+ghost use Rattle.unix_path.specs.Scan.{EndsInPart};
 ghost use Rattle.path_runs.specs.Buffer.{buffer_after};
 ghost use Rattle.path_runs.specs.Gaps.{is_gap, slashed_parts, IsCopied, IsPart};
 ghost use Rattle.path_runs.specs.Overlay.{overlay};

@@ -5,8 +5,7 @@ ghost use Rattle.unix_path.specs.Edits.{stem_end_of};
 ghost use Rattle.unix_path.specs.Extensions.{name_end_of};
 ghost use Rattle.unix_path.specs.Parents.{parent_of};
 ghost use Rattle.unix_path.specs.Parts.{parts};
-ghost use Rattle.unix_path.specs.Scan.{is_trailing};
-ghost use Rattle.unix_path.specs.Steps.{EndsInPart};
+ghost use Rattle.unix_path.specs.Scan.{is_trailing, EndsInPart};
 ghost use Rattle.path_runs.specs.Known.{IsKnown, IsStack, KnowsStem, KnowsStems};
 
 use crate::edits::stems::Stems;

@@ -3,17 +3,18 @@ ghost use Rattle.std.specs.Prelude.{◌≡◌, ℕ, ◌+◌, ◌-◌, ◌<◌, �
 ghost use Rattle.std.specs.Prelude.{◌∷◌, take, drop};
 ghost use Rattle.std.specs.Str.{bytes_eq};
 ghost use Rattle.unix_path.specs.Parts.{cur_dir, parts, inner_parts};
-ghost use Rattle.unix_path.specs.Scan.{begins_with_parent, ends_with_parent, is_idle};
+ghost use Rattle.unix_path.specs.Scan.{begins_with_parent, ends_with_parent, is_idle, EndsInPart};
 ghost use Rattle.unix_path.specs.Scan.{is_trailing};
-ghost use Rattle.unix_path.specs.Steps.{EndsInPart};
-ghost use Rattle.unix_path.specs.Steps.{StepsFirst, TakesLast};
 ghost use Rattle.unix_path.specs.Views.{value_of};
+ghost use Rattle.unix_path.specs.Steps.{StepsFirst, TakesLast};
 
 use crate::cursor::Component;
-use crate::scan::{begins_with_parent, ends_with_parent, idle_len, is_idle, is_trailing};
+use crate::scan::{
+    begins_with_parent, ends_with_parent, idle_len, is_idle, is_trailing, name_step, parent_step,
+};
 use std::simd::prelude::*;
 use unix_bytes::bytes::UnixStr;
-use unix_bytes::search::{first_place, past_last};
+use unix_bytes::search::past_last;
 
 // True only if each of the 16 bytes from `at` on is a slash, or a `.` before a slash.
 #[inline]
@@ -142,30 +143,6 @@ fn lead_step(path: &[u8]) -> (usize, Component<'_>)
     (1 + idle_len(&path[1..]), lead(path))
 }
 
-// The `..` that a path begins with, and how many bytes it and the filler behind it take.
-#[inline(always)]
-fn parent_step(path: &[u8]) -> (usize, Component<'_>)
-    requires parent { begins_with_parent path.now ≡ true }
-    ensures { StepsFirst path.now result.0 (value_of result.1) }
-{
-    (2 + idle_len(&path[2..]), Component::ParentDir)
-}
-
-// The name that a path begins with, and how many bytes it and the filler behind it take.
-#[inline(always)]
-fn name_step(path: &[u8]) -> (usize, Component<'_>)
-    requires some { 0 < length path.now }
-    requires busy { is_idle path.now 0 ≡ false }
-    requires no_parent { begins_with_parent path.now ≡ false }
-    ensures { StepsFirst path.now result.0 (value_of result.1) }
-{
-    let end = first_place(path, b'/');
-    let name = UnixStr {
-        bytes: &path[..end],
-    };
-    (end + idle_len(&path[end..]), Component::Normal(name))
-}
-
 // The first part, and how many bytes it and the filler behind it take.
 #[inline(always)]
 pub(crate) fn first_step(path: &[u8], has_lead: bool) -> (usize, Component<'_>)
@@ -176,9 +153,13 @@ pub(crate) fn first_step(path: &[u8], has_lead: bool) -> (usize, Component<'_>)
     if has_lead {
         lead_step(path)
     } else if begins_with_parent(path) {
-        parent_step(path)
+        (parent_step(path), Component::ParentDir)
     } else {
-        name_step(path)
+        let (end, step) = name_step(path);
+        let name = UnixStr {
+            bytes: &path[..end],
+        };
+        (step, Component::Normal(name))
     }
 }
 

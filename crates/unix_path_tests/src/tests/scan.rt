@@ -1,7 +1,7 @@
 //! Rows of what single bytes of a path are.
 use unix_path::scan::{
     any_break, begins_with_parent, dot_before, ends_in_name, ends_with_parent, first_break,
-    has_slash, idle_len, is_idle, is_open, is_trailing, stem_end,
+    has_slash, idle_len, is_idle, is_open, is_trailing, name_step, parent_step, stem_end,
 };
 
 // Bytes, `x` for each that is filler or a lead from in front, the same from behind, and how many
@@ -94,6 +94,38 @@ fn bytes_are_filler(rt: HostRuntime) {
         assert!(rt; marks_idle(bytes, in_front));
         assert!(rt; marks_trailing(bytes, behind));
         assert!(rt; idle_len(bytes) == len);
+    }
+}
+
+// Bytes that begin with a part, how many of them it has, and how many it takes with the filler
+// behind it.
+static FIRST_PARTS: [(&[u8], usize, usize); 10] = [
+    (b"..", 2, 2),
+    (b"../", 2, 3),
+    (b".././a", 2, 5),
+    (b"..//../", 2, 4),
+    (b"a", 1, 1),
+    (b"a/", 1, 2),
+    (b"a/./b", 1, 4),
+    (b"..a/..", 3, 4),
+    (b"...", 3, 3),
+    (b".a//.", 2, 5),
+];
+
+fn steps_over(bytes: &[u8], size: usize, step: usize) -> bool {
+    if bytes.is_empty() || is_idle(bytes, 0) {
+        return false;
+    }
+    if begins_with_parent(bytes) {
+        return size == 2 && parent_step(bytes) == step;
+    }
+    name_step(bytes) == (size, step)
+}
+
+#[test]
+fn first_parts_are_stepped_over(rt: HostRuntime) {
+    for &(bytes, size, step) in &FIRST_PARTS {
+        assert!(rt; steps_over(bytes, size, step));
     }
 }
 

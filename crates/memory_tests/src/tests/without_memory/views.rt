@@ -6,7 +6,7 @@ use std::test::Fail;
 use unix_path::bytes::UnixStr;
 use unix_path::scan::{
     any_break, begins_with_parent, dot_before, ends_in_name, ends_with_parent, first_break,
-    has_slash, idle_len, is_idle, is_open, is_trailing,
+    has_slash, idle_len, is_idle, is_open, is_trailing, name_step, parent_step,
 };
 use unix_path::{Component, Display, Path, StripPrefixError, is_separator};
 
@@ -90,6 +90,8 @@ fn is_scanned() -> bool {
     is_idle(b"/a", 0)
         && is_trailing(b"a/", 1)
         && idle_len(b"/./a") == 3
+        && parent_step(b".././a") == 5
+        && name_step(b"a/./b") == (1, 4)
         && first_break(b"a/b/.", 0) == 3
         && any_break(b"a/") == 1
         && begins_with_parent(b"../a")

@@ -9,7 +9,7 @@ use Rattle.unix_path.specs.Names.{file_name_of}
 use Rattle.unix_path.specs.Parts.{values}
 use Rattle.unix_path.proofs.EditLemmas.{with_extension_of-none}
 use Rattle.unix_path.proofs.NameEndLemmas.{file_name_of-name_end, file_name_of-no_name_end}
-use Rattle.unix_path.proofs.StemCutLemmas.{stem_end_of-nameless}
+use Rattle.unix_path.proofs.CallerLemmas.{stem_end_of-nameless}
 use Rattle.path_runs.proofs.EditStepLemmas.{IsKnown-cut}
 use Rattle.path_runs.proofs.EditStepLemmas.{keeps-front, with_extension_of-nil}
 use Rattle.path_runs.proofs.EditStepLemmas.{with_extension_of-dotted}

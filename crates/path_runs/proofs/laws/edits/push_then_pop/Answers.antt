@@ -5,7 +5,7 @@ use Rattle.unix_path.specs.Edits.{with_name_of}
 use Rattle.unix_path.specs.Rest.{rest}
 use Rattle.unix_bytes.proofs.CaseLemmas.{last_or-push}
 use Rattle.path_runs.specs.declared.edits.Answer.TheVariants.{Plain, Flag}
-use Rattle.path_runs.proofs.NameCutLemmas.{name_cut}
+use Rattle.unix_path.proofs.NameCutLemmas.{name_cut}
 use Rattle.path_runs.proofs.SiblingLemmas.{pop-answer, values-popped_of, parent_of-name}
 use Rattle.path_runs.proofs.SiblingLemmas.{values-with_name_of, rest-with_name_of}
 use Rattle.std.proofs.Common.{Some, None}

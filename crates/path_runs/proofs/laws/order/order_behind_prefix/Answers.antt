@@ -1,4 +1,4 @@
-use Rattle.unix_path.proofs.CommonDirLemmas.{values_cmp-common_dir}
+use Rattle.unix_path.proofs.CallerLemmas.{values_cmp-common_dir}
 use Rattle.unix_path.proofs.CommonPrefixLemmas.{values_cmp-slash}
 use Rattle.path_runs.proofs.laws.order.order_behind_prefix.Goals as goal
 

@@ -6,7 +6,7 @@ use Rattle.unix_path.specs.Cursor.{GivesFirstName, GivesLastName}
 use Rattle.unix_path.specs.Views.{value_of}
 use Rattle.unix_path.specs.Parts.{value_bytes}
 use Rattle.path_runs.proofs.MixedLemmas.{ends_meet, none-cursor_rest, rest_between}
-use Rattle.path_runs.proofs.MixedLemmas.{whole-cursor_rest}
+use Rattle.unix_path.proofs.CursorLemmas.{cursor_rest-whole}
 use Rattle.path_runs.proofs.laws.runs.ends_meet.Goals as goal
 
 pub returns-clause-parts : goal.returns-clause-parts
@@ -22,14 +22,14 @@ returns-clause-rest c =
     rest_between value_of cursor_values cursor_rest GivesFirstPart GivesLastPart
     (λ s t item h. h.item_is) (λ s t item h. h.item_is)
     (λ s t item h. h.rest_is) (λ s t item h. h.rest_is)
-    whole-cursor_rest none-cursor_rest
+    cursor_rest-whole none-cursor_rest
 
 pub returns-clause-items_rest : goal.returns-clause-items_rest
 returns-clause-items_rest c =
     rest_between name_bytes iter_bytes iter_rest GivesFirstName GivesLastName
     (λ s t item h. h.item_is) (λ s t item h. h.item_is)
     (λ s t item h. h.rest_is) (λ s t item h. h.rest_is)
-    (λ it. whole-cursor_rest it.components)
+    (λ it. cursor_rest-whole it.components)
     (λ it none. none-cursor_rest it.components
     (nil_from_length _ (sym (length-map (cursor_values it.components) value_bytes)
     ∙ ap length none)))

@@ -1,6 +1,6 @@
 use Rattle.std.proofs.Common.{arith, inl}
 use Rattle.unix_path.specs.Cursor.{cursor_rest}
-use Rattle.unix_path.proofs.OffsetLemmas.{length-cursor_rest}
+use Rattle.unix_path.proofs.CursorLemmas.{length-cursor_rest}
 use Rattle.unix_path.proofs.RestLemmas.{length-values}
 use Rattle.path_tests.proofs.runs.callers.count.Goals as goal
 

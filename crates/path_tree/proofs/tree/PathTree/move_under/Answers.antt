@@ -8,7 +8,7 @@ use Rattle.path_tree.specs.Read.{is_own, key_values}
 use Rattle.path_tree.specs.Rows.{key_rows, rows_outside, rows_under}
 use Rattle.path_tree.specs.Tree.{table_of}
 use Rattle.path_tree.proofs.ManyLemmas.{length-key_rows}
-use Rattle.path_tree.proofs.MovedLemmas.{all_last, free_rows, length-moved, moved_outside}
+use Rattle.path_tree.proofs.MovedLemmas.{all_last, none_under, length-moved, moved_outside}
 use Rattle.path_tree.proofs.MovedLemmas.{moved_under, outside-with, taken_back}
 use Rattle.path_tree.proofs.UnderLemmas.{key_begins}
 use Rattle.path_tree.proofs.tree.PathTree.move_under.Goals as goal
@@ -52,7 +52,7 @@ returns-clause-rows g c =
     c.remove_under-2.ensures.rows
     ∙ ap (rows_outside from) (c.in_default.ensures.ok ∙ ap (rows_with rows) moved)
     ∙ outside-with rows c.in_order.ensures from (moved_rows from to rows)
-    (moved_outside from to apart rows (free_rows to rows free))
+    (moved_outside from to apart rows (none_under to rows free))
 
 pub returns-clause-count : goal.returns-clause-count
 returns-clause-count g c =

@@ -4,11 +4,11 @@ use Rattle.std.proofs.lemmas.List.{take_rest}
 use Rattle.unix_path.specs.CommonDir.{inner_values}
 use Rattle.unix_path.specs.Parts.{ParentDir, values}
 use Rattle.unix_path.specs.Scan.{is_idle}
-use Rattle.unix_path.proofs.LeadLemmas.{length-parent_first}
+use Rattle.unix_path.proofs.LeadLemmas.{length-parent_first, values-parent_first}
 use Rattle.path_within.specs.PlainPieces.{begins_plain}
 use Rattle.path_within.proofs.PlainStretchLemmas.{names_stretch}
 use Rattle.path_within.proofs.RunLemmas.{goes_on_from, one_name, plain_behind}
-use Rattle.path_within.proofs.RunLemmas.{plain_here, some_byte, takes_names, values-up, values_left}
+use Rattle.path_within.proofs.RunLemmas.{plain_here, some_byte, takes_names, values_left}
 use Rattle.path_within.proofs.UnsharedLemmas.{behind_place}
 use Rattle.path_within.proofs.runs.Runs.next.Goals as goal
 use Rattle.path_within.proofs.runs.Runs.next.Goals.{Else-begins_with_parent}
@@ -18,7 +18,7 @@ returns-then-begins_with_parent-clause-some c =
     let s = c.args.self.now.left.now in
     let up = sym c.begins_with_parent.ensures ∙ c.if-begins_with_parent.true in
     record {
-      split = values-up s up ∙ ap (λ vs. ParentDir ∷ vs)
+      split = values-parent_first s up ∙ ap (λ vs. ParentDir ∷ vs)
           (sym (c.new.ensures.values ∙ ap inner_values (take_rest s 2)));
       spelled = tt;
       shorter = omega (

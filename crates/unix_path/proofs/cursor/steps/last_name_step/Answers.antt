@@ -1,10 +1,9 @@
-use Rattle.std.proofs.Common.{◌-◌, get_or, take, sym, ap, ◌∙◌, subst, arith}
+use Rattle.std.proofs.Common.{◌-◌, get_or, sym, ap, ◌∙◌, arith}
 use Rattle.std.proofs.lemmas.List.{take_rest}
-use Rattle.unix_path.specs.Parts.{Value}
-use Rattle.unix_path.specs.Steps.{IsLastStart, TakesLast}
-use Rattle.unix_path.proofs.LastPieceLemmas.{last_name}
-use Rattle.unix_path.proofs.StepLemmas.{takes_last, takes_root}
+use Rattle.unix_path.proofs.StepLemmas.{takes_root}
 use Rattle.unix_path.proofs.cursor.steps.last_name_step.Goals as goal
+use Rattle.unix_path.proofs.LastLemmas.{IsLastStart}
+use Rattle.unix_path.proofs.LastPieceLemmas.{takes_last_name}
 
 pub returns-then-start-path-clause-takes : goal.returns-then-start-path-clause-takes
 returns-then-start-path-clause-takes c =
@@ -24,8 +23,6 @@ returns-clause-takes c =
       after_slash = start.ensures.after;
       no_slash = start.ensures.none_behind;
     } in
-    simp take_rest (subst (λ (v : Value). TakesLast path (take end.result path) v)
-    (last_name path start.result last (omega arith) c.requires.ends c.requires.no_dot
-    c.requires.no_parent)
-    (takes_last path start.result end.result last (omega arith) c.requires.ends
-    end.ensures.in_range end.ensures.same end.ensures.ends))
+    simp take_rest (takes_last_name path start.result end.result last (omega arith)
+    c.requires.ends c.requires.no_dot c.requires.no_parent end.ensures.in_range end.ensures.same
+    end.ensures.ends)

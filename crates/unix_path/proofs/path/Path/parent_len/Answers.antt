@@ -12,12 +12,13 @@ returns-in_default-clause-value c =
 pub returns-in-RootDir-clause-value : goal.returns-in-RootDir-clause-value
 returns-in-RootDir-clause-value c =
     let before = take c.in-Some.last.before c.args.self.now.bytes.now in
-    parent_of-root c.args.self.now.bytes.now before
+    parent_of-root c.args.self.now.bytes.now (values before)
     (c.in-Some.ensures.some.value
     ∙ ap (λ part. values before ++ value_of part ∷ []) c.in-RootDir.is)
 
 pub returns-in_default-part-clause-value : goal.returns-in_default-part-clause-value
 returns-in_default-part-clause-value c =
     let last = c.in-Some.ensures.some in
-    parent_of-push c.args.self.now.bytes.now (value_of c.in-Some.last.part) last.value
-    last.before_is (value_of-other c.in-Some.last.part c.in_default-part.not-RootDir)
+    let before = take c.in-Some.last.before c.args.self.now.bytes.now in
+    parent_of-push c.args.self.now.bytes.now (values before) (value_of c.in-Some.last.part)
+    last.value last.before_is (value_of-other c.in-Some.last.part c.in_default-part.not-RootDir)

@@ -2,7 +2,7 @@ use Rattle.std.proofs.Common.{length, sym, ap, ◌∙◌, arith, take_all, subst
 use Rattle.unix_path.specs.Steps.{IsWalk}
 use Rattle.unix_path.specs.Cursor.{cursor_rest}
 use Rattle.unix_path.specs.Parts.{parts}
-use Rattle.unix_path.specs.Steps.{EndsInPart}
+use Rattle.unix_path.specs.Scan.{EndsInPart}
 use Rattle.unix_path.proofs.OffsetLemmas.{is_idle-same, range-zero}
 use Rattle.unix_path.proofs.SpanLemmas.{rest-trimmed}
 use Rattle.unix_path.proofs.TrimLemmas.{EndsInPart-take}

@@ -1,28 +1,30 @@
 -- A path cut at its file name.
 use Rattle.std.proofs.Common.{◌≡◌, ℕ, zero, suc, ◌+◌, ◌-◌, ◌≤◌, ◌<◌, Bool, true, false, cond, eqb}
-use Rattle.std.proofs.Common.{ltb}
+use Rattle.std.proofs.Common.{ltb, ap₂, take_all}
 use Rattle.std.proofs.Common.{List, [], ◌∷◌, ◌++◌, length, take, drop, get_or, map, Some, refl, sym}
 use Rattle.std.proofs.Common.{ap}
 use Rattle.std.proofs.Common.{subst, ◌∙◌, arith, length-append, length-take-le, take-append-drop}
 use Rattle.std.proofs.Common.{get_or-take, eq-eqb, ltb-true, ltb-false, length-drop}
 use Rattle.std.specs.List.{position_or_len}
 use Rattle.std.specs.Str.{bytes_eq}
-use Rattle.std.proofs.lemmas.List.{map-append, get_or_default, nil_from_length}
+use Rattle.std.proofs.lemmas.List.{map-append, get_or_default, nil_from_length, drop_all}
 use Rattle.std.proofs.lemmas.Option.{none-some}
 use Rattle.unix_path.specs.Parts.{is_slash, cur_dir, parent_dir, Part, Value, RootDir, CurDir}
-use Rattle.unix_path.specs.Parts.{ParentDir, Normal, parts, values}
+use Rattle.unix_path.specs.Parts.{ParentDir, Normal, parts, values, inner_parts}
 use Rattle.unix_path.specs.Rest.{rest}
-use Rattle.unix_path.specs.Steps.{IsLastStart, first_value, parts_end}
 use Rattle.unix_path.specs.Joins.{is_open}
 use Rattle.unix_path.specs.Names.{file_name_of}
 use Rattle.unix_path.specs.Edits.{last_start_of}
 use Rattle.unix_bytes.proofs.CaseLemmas.{by_test}
 use Rattle.unix_path.proofs.JoinLemmas.{is_open-at}
-use Rattle.unix_path.proofs.LastLemmas.{last_part, last_start, root_alone}
+use Rattle.unix_path.proofs.LastLemmas.{last_part, last_start, root_alone, IsLastStart}
 use Rattle.unix_path.proofs.ParentLemmas.{file_name_of-last}
-use Rattle.unix_path.proofs.PartLemmas.{values-nil}
+use Rattle.unix_path.proofs.PartLemmas.{values-nil, parts-name}
 use Rattle.unix_path.proofs.SpanLemmas.{TrimsEnd, trims_end, length-rest_whole, parts_end-whole}
-use Rattle.unix_path.proofs.StemLemmas.{name_of-some, last_start_of-name}
+use Rattle.unix_path.proofs.StemLemmas.{last_start_of-name}
+use Rattle.unix_path.proofs.ValueLemmas.{first_value, name_of-some}
+use Rattle.unix_path.proofs.PlaceLemmas.{parts_end}
+use Rattle.unix_path.proofs.PieceLemmas.{inner_parts-nil, no_slash_head}
 
 -- a piece that is a name wherever it stands
 pub record IsName (name : List ℕ) : Type 0 where
@@ -143,3 +145,16 @@ name_cut s name e =
     by_test (ltb at.0 (length (take trim.len s)))
     (λ l. cut_at s name trim at.0 e at.1 (ltb-true _ _ l))
     (λ l. absurd (no_name_at_end s name trim at.0 e at.1 (ltb-false _ _ l)))
+
+-- a name is a path of that name alone
+pub values-name : (s : List ℕ) → IsName s → values s ≡ Normal s ∷ []
+unfolding values
+values-name s h =
+    let n = position_or_len is_slash s in
+    let whole : take n s ≡ s = take_all n s (omega (arith, h.no_slash)) in
+    let none : drop n s ≡ [] = drop_all n s (omega (arith, h.no_slash)) in
+    let named : first_value s ≡ Normal s = rw (h.no_dot, h.no_dots) refl in
+    ap (map (λ (p : Part). p.value)) (parts-name s h.some (no_slash_head s h.no_slash h.some)
+    ∙ ap₂ (λ p r. record { start = 0; end = n; value = first_value p } ∷ inner_parts n r) whole none
+    ∙ ap (λ ps. record { start = 0; end = n; value = first_value s } ∷ ps) (inner_parts-nil n))
+    ∙ ap (λ v. v ∷ []) named
