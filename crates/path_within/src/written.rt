@@ -15,6 +15,7 @@ ghost use Rattle.path_within.specs.Written.{StandsFor};
 
 use crate::request::{Request, take_name};
 use crate::runs::is_plain;
+use unix_bytes::buffers::place;
 use unix_path::scan::is_open;
 use unix_path::{Component, Path};
 
@@ -66,15 +67,6 @@ fn spelled_names<'a>(path: Path<'a>, is_spelled: bool) -> Option<&'a [u8]>
         return Some(left.bytes);
     }
     None
-}
-
-// Overwrites the bytes of `out` from `at` on with `bytes`.
-#[inline]
-fn place(out: &mut [u8], at: usize, bytes: &[u8])
-    requires { at + length bytes.now ≤ length out.old }
-    ensures { out.new ≡ overlay at bytes.now out.old }
-{
-    out[at..at + bytes.len()].copy_from_slice(bytes);
 }
 
 // Overwrites the bytes before `end` with a slash and the name, and returns where these begin. Both

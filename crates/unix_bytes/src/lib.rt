@@ -1,6 +1,7 @@
 //! Byte strings as Unix has them in paths and names: views, owned ones, and their lossy text.
 #![tactic(auto)]
 
+pub mod buffers;
 pub mod bytes;
 pub mod laws;
 pub mod lossy;

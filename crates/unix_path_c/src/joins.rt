@@ -8,7 +8,8 @@ ghost use Rattle.unix_path_c.specs.Layout.{layout_bytes};
 ghost use Rattle.unix_path_c.specs.Refusals.{IsLength, separator, too_long};
 ghost use Rattle.path_runs.specs.Buffer.{buffer_after};
 
-use crate::writing::{gap_len, place, place_gap, told_len};
+use crate::writing::{gap_len, place_gap, told_len};
+use unix_bytes::buffers::place;
 use unix_path::Path;
 use unix_path::scan::{dot_before, has_slash, is_open};
 

@@ -8,8 +8,9 @@ ghost use Rattle.path_keys.specs.Keys.{key_of, IsKey};
 ghost use Rattle.path_keys.specs.Ranges.{end_of};
 ghost use Rattle.unix_path_c.specs.Refusals.{IsLength, no_end, not_a_key, too_long};
 
-use crate::writing::{place, told_len};
+use crate::writing::told_len;
 use path_keys::{is_key, write_key, write_path_of};
+use unix_bytes::buffers::place;
 use unix_path::Path;
 
 // The answer if bytes are the key of no path.

@@ -5,6 +5,8 @@ ghost use Rattle.path_runs.specs.Buffer.{buffer_after};
 ghost use Rattle.path_runs.specs.Overlay.{overlay};
 ghost use Rattle.unix_path_c.specs.SaturatedSize.{buffer_size};
 
+use unix_bytes::buffers::place;
+
 // The answer in place of a length that no buffer has. It is one byte more than the longest buffer
 // has.
 const TOO_LONG: usize = 1 << 63;
@@ -15,15 +17,6 @@ pub(crate) fn told_len(len: usize) -> usize
     ensures { result ≡ buffer_size len }
 {
     if len < TOO_LONG { len } else { TOO_LONG }
-}
-
-// Writes the bytes from `at` on, over as many bytes.
-#[inline]
-pub(crate) fn place(out: &mut [u8], at: usize, bytes: &[u8])
-    requires { at + length bytes.now ≤ length out.old }
-    ensures { out.new ≡ overlay at bytes.now out.old }
-{
-    out[at..at + bytes.len()].copy_from_slice(bytes);
 }
 
 // Puts the bytes at the beginning of the buffer if it has room for all of them, and gives how many

@@ -8,6 +8,7 @@ ghost use Rattle.path_runs.specs.Overlay.{overlay};
 ghost use Rattle.path_runs.specs.Spelling.{spelling_of};
 
 use crate::gaps::{first_gap, past_gap};
+use unix_bytes::buffers::place;
 use unix_path::Path;
 
 // How many bytes of the path are kept at the beginning of its spelling: those before the first gap,
@@ -54,15 +55,6 @@ fn parts_len(bytes: &[u8], gap: usize) -> usize
         start = past_gap(bytes, start - 1 + stretch.len());
     }
     len
-}
-
-// Overwrites the bytes of `out` from `at` on with `bytes`.
-#[inline]
-fn place(out: &mut [u8], at: usize, bytes: &[u8])
-    requires { at + length bytes.now ≤ length out.old }
-    ensures { out.new ≡ overlay at bytes.now out.old }
-{
-    out[at..at + bytes.len()].copy_from_slice(bytes);
 }
 
 // Writes to the beginning of `out` the bytes before the gap at `gap`, and then the parts behind it,

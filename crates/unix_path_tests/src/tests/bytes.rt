@@ -1,4 +1,6 @@
-//! Tests of unix_bytes: views, owned bytes, chunks, lossy texts, searches and failing writers.
+//! Tests of unix_bytes: views, owned bytes, buffers, chunks, lossy texts, searches and failing
+//! writers.
+mod buffers;
 mod bytes;
 mod callers;
 mod chunks;

@@ -3,6 +3,7 @@ use super::super::drought;
 use super::{debug_has, display_has, hash_same};
 use std::alloc::Global;
 use std::test::Fail;
+use unix_bytes::buffers::place;
 use unix_bytes::bytes::{LossyText, UnixStr, UnixString};
 use unix_bytes::lossy::{Utf8Lossy, utf8_char_width};
 use unix_bytes::search::{common_len, first_place, near_common_len, past_last, past_last_of_two};
@@ -27,6 +28,12 @@ fn has_chunks() -> bool {
     let mut chunks = Utf8Lossy::from_bytes(b"a\xffb").chunks();
     let is_first = chunks.next().is_some_and(|chunk| chunk.valid == "a");
     is_first && chunks.next().is_some() && chunks.next().is_none()
+}
+
+fn is_placed() -> bool {
+    let mut out = [b'.'; 4];
+    place(&mut out, 1, b"ab");
+    out == *b".ab."
 }
 
 fn is_found() -> bool {
@@ -74,6 +81,7 @@ fn texts_need_no_memory(rt: HostRuntime) -> Result<(), Fail> {
     assert!(rt; is_printed());
     assert!(rt; has_chunks());
     assert!(rt; is_found());
+    assert!(rt; is_placed());
     assert!(rt; is_owned(alloc, lossy));
     assert!(rt; copies_nothing(alloc));
     assert!(rt; stays_full(full));
