@@ -19,6 +19,7 @@ mod changed;
 mod children;
 mod difference;
 mod entries;
+mod few;
 mod lookup;
 mod many;
 mod moved;

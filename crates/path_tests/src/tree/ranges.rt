@@ -1,6 +1,7 @@
 //! What is under bases in trees, by hand, and their first and last entries.
 use super::tree_of;
 use path_keys::PathKey;
+use path_tree::PathTree;
 use std::alloc::{AllocError, Global};
 use std::test::Fail;
 use unix_path::Path;
@@ -141,5 +142,30 @@ fn what_another_tree_has_changed(rt: HostRuntime) -> Result<(), Fail> {
     ];
     assert!(rt; found.as_slice() == want.as_slice());
     assert!(rt; tree.changed(&tree)?.is_empty());
+    Ok(())
+}
+
+// A tree of 64 paths of two letters, each with a 2.
+fn tree_of_many(alloc: Global) -> Result<PathTree<u32>, AllocError> {
+    let mut tree = PathTree::new(alloc);
+    for number in 0..64u8 {
+        let path = [b'a' + number / 8, b'/', b'a' + number % 8];
+        tree.insert(Path::from_bytes(path.as_slice()), 2)?;
+    }
+    Ok(tree)
+}
+
+// Few keys are looked up in a tree of many; many are walked beside few.
+#[test]
+fn few_beside_many(rt: HostRuntime) -> Result<(), Fail> {
+    let alloc = rt.alloc();
+    let many = tree_of_many(alloc)?;
+    let few = tree_of(alloc, &["a/b", "b//h/", "c"])?;
+    let lacking: [(&[u8], &u32); 1] = [(b"c\x00", &3)];
+    assert!(rt; few.difference(&many)?.as_slice() == lacking.as_slice());
+    let changed: [(&[u8], &u32, &u32); 1] = [(b"a\x00b\x00", &1, &2)];
+    assert!(rt; few.changed(&many)?.as_slice() == changed.as_slice());
+    assert!(rt; many.difference(&few)?.len() == 62);
+    assert!(rt; many.changed(&few)?.len() == 1);
     Ok(())
 }

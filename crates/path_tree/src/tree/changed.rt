@@ -11,7 +11,8 @@ impl<V> PathTree<V> {
     /// The keys of the paths that both trees have with different values, and the values, this
     /// tree's first, in path order.
     ///
-    /// Walks once over both trees, side by side. Allocates as the list grows; fails if an
+    /// Walks once over both trees, side by side; if this one has fewer than a sixteenth of the
+    /// other's entries, looks up each key there. Allocates as the list grows; fails if an
     /// allocation fails, and then the list is dropped. If there are none, does not allocate, and
     /// succeeds. Not in Rust's std.
     ///
@@ -28,6 +29,9 @@ impl<V> PathTree<V> {
         ensures succeeds { rows_changed V.eq (table_of other.entry.now) (table_of self.entry.now)
             ≡ [] → IsOk result }
     {
+        if self.is_few(other) {
+            return self.few_changed(other);
+        }
         let mut found = Vec::new(self.alloc);
         let mut others = other.ahead();
         for (key, value) in self.entries.iter() {

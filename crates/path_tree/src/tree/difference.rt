@@ -10,7 +10,8 @@ impl<V> PathTree<V> {
 
     /// The keys of the paths that the other tree lacks, and their values, in path order.
     ///
-    /// Walks once over both trees, side by side. Allocates as the list grows; fails if an
+    /// Walks once over both trees, side by side; if this one has fewer than a sixteenth of the
+    /// other's entries, looks up each key there. Allocates as the list grows; fails if an
     /// allocation fails, and then the list is dropped. If the other has all paths, does not
     /// allocate, and succeeds. As Rust's `BTreeSet::difference`, with values.
     ///
@@ -24,6 +25,9 @@ impl<V> PathTree<V> {
         ensures succeeds { rows_lacking (table_of other.now) (table_of self.entry.now) ≡ []
             → IsOk result }
     {
+        if self.is_few(other) {
+            return self.few_lacking(other);
+        }
         let mut found = Vec::new(self.alloc);
         let mut others = other.ahead();
         for (key, value) in self.entries.iter() {

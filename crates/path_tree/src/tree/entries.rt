@@ -1,5 +1,5 @@
 //! The entries of a tree by the bytes of their keys.
-ghost use Rattle.std.specs.Prelude.{◌≡◌, true, IfOk, OnOk, OnErr, None, Some};
+ghost use Rattle.std.specs.Prelude.{◌≡◌, true, IfOk, OnOk, OnErr, None, Some, is_some};
 ghost use Rattle.std.specs.Borrow.{sem};
 ghost use Rattle.std.specs.BTreeMap.{insert_entry, is_at};
 ghost use Rattle.std.specs.Map.{remove_entry};
@@ -22,6 +22,15 @@ impl<V> PathTree<V> {
         ensures { option_copied result ≡ value_at (key_values key.now) (table_of self.now) }
     {
         self.entries.get(key)
+    }
+
+    // Whether the path of this key is in the tree.
+    #[inline]
+    pub(super) fn has(&self, key: &[u8]) -> bool
+        requires { is_own key.now ≡ true }
+        ensures { result ≡ is_some (value_at (key_values key.now) (table_of self.now)) }
+    {
+        self.find(key).is_some()
     }
 
     // A mutable reference to the value at the path of this key.
