@@ -16,24 +16,31 @@ fn edits_before_failure(alloc: Global, buffer: &mut PathBuf, edits: &[Edit<'_>])
     }
 }
 
+// Whether so many of these edits of `ab` are made before one needs more memory than for the
+// answers, and leave `ab/c`.
+fn leave_done(alloc: Global, edits: &[Edit<'_>], done: usize) -> Result<bool, Fail> {
+    let mut buffer = PathBuf::from_text(alloc, "ab")?;
+    let mut dry = drought(alloc)?;
+    dry.ease();
+    let made = edits_before_failure(alloc, &mut buffer, edits);
+    Ok(made == Some(done) && holds(&buffer, "ab/c"))
+}
+
 #[test]
 fn a_failed_edit_leaves_those_before_it(rt: HostRuntime) -> Result<(), Fail> {
-    let alloc = rt.alloc();
     let mut rooted = [b'x'; 4096];
     rooted[0] = b'/';
     let rooted = Path::new(UnixStr::from_bytes(rooted.as_slice()));
     let separator = UnixStr::new("x/y");
-    let edits = [
+    let two = [Edit::Push(path("c")), Edit::Push(rooted)];
+    let four = [
         Edit::Push(path("c")),
         Edit::SetExtension(separator),
         Edit::AddExtension(separator),
         Edit::Push(rooted),
     ];
-    let mut buffer = PathBuf::from_text(alloc, "ab")?;
-    let mut dry = drought(alloc)?;
-    dry.ease();
-    let made = edits_before_failure(alloc, &mut buffer, edits.as_slice());
-    assert!(rt; made == Some(3) && holds(&buffer, "ab/c"));
+    assert!(rt; leave_done(rt.alloc(), two.as_slice(), 1)?);
+    assert!(rt; leave_done(rt.alloc(), four.as_slice(), 3)?);
     Ok(())
 }
 
