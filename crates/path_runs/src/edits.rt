@@ -187,7 +187,7 @@ pub fn apply(
 /// succeeds. Not in Rust's std: there it is a `Path::strip_prefix` and a `Path::join`.
 ///
 /// For `/a//b/.` and `/a/` it is `/a/b`, and for `a` and `a` it is `a/`.
-#[tactic(auto, using(crate::proofs::StripLemmas::strip_then_join))]
+#[tactic(auto, using(crate::proofs::lemmas::joins::StripLemmas::strip_then_join))]
 pub fn rejoin(alloc: Global, path: Path<'_>, base: Path<'_>) -> Result<Option<PathBuf>, AllocError>
     ensures ok { IfOk result (λ found. IsSome found
         ↔ Begins (values base.entry.bytes.now) (values path.entry.bytes.now)) }

@@ -1,14 +1,4 @@
-pub mod SplitLemmas
+-- Attributes name their lemmas by whole paths.
 pub mod LineLemmas
-pub mod AddLemmas
-pub mod ListLemmas
-pub mod CallLemmas
-pub mod WriteLemmas
-pub mod BeginLemmas
-pub mod QuoteLemmas
 pub mod SayLemmas
-pub mod LoopLemmas
-pub mod FieldLemmas
-pub mod WordLemmas
-pub mod TakeLemmas
-pub mod TableLemmas
+mod lemmas

@@ -2,7 +2,7 @@
 use Rattle.std.proofs.Common.{◌≡◌, ℕ, ◌<◌, List, [], ◌∷◌, ◌++◌, length, refl, sym, ap, ◌∙◌, arith}
 use Rattle.std.proofs.Common.{append-nil}
 use Rattle.std.specs.List.{slice_split, flat_map}
-use Rattle.pathtool.proofs.SplitLemmas.{is_newline, slice_split-cons, slice_split-one}
+use Rattle.pathtool.proofs.lemmas.lines.SplitLemmas.{is_newline, slice_split-cons, slice_split-one}
 use Rattle.pathtool.specs.Answers.{answer_of, lines_of, output_of, without_empty_last}
 use Rattle.pathtool.specs.Steps.{newline}
 

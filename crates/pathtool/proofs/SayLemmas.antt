@@ -12,10 +12,10 @@ use Rattle.unix_bytes.specs.Utf8.{IsText}
 use Rattle.pathtool.specs.Answers.{optional, strip_answer}
 use Rattle.pathtool.specs.Fields.{truth}
 use Rattle.pathtool.specs.Quoted.{json_of}
-use Rattle.pathtool.proofs.BeginLemmas.{starts_with-Decides, ends_with-Decides}
-use Rattle.pathtool.proofs.BeginLemmas.{strip_answer-ok, strip_answer-refused}
-use Rattle.pathtool.proofs.AddLemmas.{adds}
-use Rattle.pathtool.proofs.QuoteLemmas.{json_of-text}
+use Rattle.pathtool.proofs.lemmas.answers.BeginLemmas.{starts_with-Decides, ends_with-Decides}
+use Rattle.pathtool.proofs.lemmas.answers.BeginLemmas.{strip_answer-ok, strip_answer-refused}
+use Rattle.pathtool.proofs.lemmas.answers.AddLemmas.{adds}
+use Rattle.pathtool.proofs.lemmas.answers.QuoteLemmas.{json_of-text}
 
 -- the answer of an optional name was added
 pub adds_found : {T E : Type 0} (r : Result T E) (new old : List ℕ) (found : Option UnixStr)

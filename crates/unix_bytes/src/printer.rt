@@ -47,7 +47,7 @@ fn show_replacement(out: &mut [u8], at: usize) -> usize
 // Writes the lossy text of the first front, whose first byte is not ASCII. Gives how many bytes
 // were read, and where in `out` the written bytes end.
 #[inline(always)]
-#[tactic(auto, using(crate::proofs::PrinterLemmas::front_bounds))]
+#[tactic(auto, using(crate::proofs::lemmas::stretches::PrinterLemmas::front_bounds))]
 fn show_front(source: &[u8], out: &mut [u8], at: usize) -> (usize, usize)
     requires some { 4 ≤ length source.now }
     requires wide { 0x80 ≤ slice_index source.now 0 }
@@ -103,7 +103,7 @@ fn show_many(source: &[u8], out: &mut [u8], at: usize) -> (usize, usize)
 // Writes the lossy text of the first front, whose first byte is not ASCII; the source may have
 // fewer than four bytes. Gives how many bytes were read, and where in `out` the written bytes end.
 #[inline(never)]
-#[tactic(auto, using(crate::proofs::PrinterLemmas::front_bounds))]
+#[tactic(auto, using(crate::proofs::lemmas::stretches::PrinterLemmas::front_bounds))]
 fn show_last_front(source: &[u8], out: &mut [u8], at: usize) -> (usize, usize)
     requires some { 0 < length source.now }
     requires wide { 0x80 ≤ slice_index source.now 0 }

@@ -12,7 +12,7 @@ pub(crate) mod fronts;
 mod scans;
 
 // The bytes as text, or `None` if they are not text.
-#[tactic(auto, using(crate::proofs::StretchLemmas::text_ends))]
+#[tactic(auto, using(crate::proofs::lemmas::stretches::StretchLemmas::text_ends))]
 pub(crate) fn to_text(bytes: &[u8]) -> Option<&str>
     ensures value { IsSome result ↔ IsText bytes.now }
     ensures bytes { IfSome result (λ text. text.now ≡ bytes.now) }
@@ -27,7 +27,7 @@ pub(crate) fn to_text(bytes: &[u8]) -> Option<&str>
 
 // The longest prefix that is text, the broken front behind it, and the bytes after both.
 #[inline(always)]
-#[tactic(auto, using(crate::proofs::StretchLemmas::prefix_bounds))]
+#[tactic(auto, using(crate::proofs::lemmas::stretches::StretchLemmas::prefix_bounds))]
 pub(crate) fn split_text(source: &[u8]) -> (&str, &[u8], &[u8])
     ensures { Splits source.now result.0.now result.1.now result.2.now }
 {

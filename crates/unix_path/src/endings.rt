@@ -21,7 +21,7 @@ fn ends_in_part(bytes: &[u8]) -> bool
 
 // The length of the longest common end of both that has no slash.
 #[inline]
-#[tactic(auto, using(crate::proofs::EndingLemmas::longer_ends))]
+#[tactic(auto, using(crate::proofs::lemmas::order::EndingLemmas::longer_ends))]
 fn common_end_len(a: &[u8], b: &[u8]) -> usize
     ensures end { SameEnd a.now b.now result }
     ensures longest { (len : ℕ) → SameEnd a.now b.now len → len ≤ result }
@@ -40,7 +40,7 @@ fn common_end_len(a: &[u8], b: &[u8]) -> usize
 // How many bytes the last part has, if both paths end in the same: no more than these are looked
 // at. 0 if one of the paths doesn't end in a part, or `None` if the last parts differ.
 #[inline]
-#[tactic(auto, using(crate::proofs::EndingLemmas::last_parts))]
+#[tactic(auto, using(crate::proofs::lemmas::order::EndingLemmas::last_parts))]
 pub(crate) fn shared_last_len(a: &[u8], b: &[u8]) -> Option<usize>
     ensures apart { result ≡ None → Ends (values b.now) (values a.now) → ⊥ }
     ensures in_first { IfSome result (λ len. len ≤ length a.now) }

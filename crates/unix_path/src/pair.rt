@@ -112,7 +112,7 @@ impl Kind {
 
     // What a path begins with: three bytes tell it.
     #[inline]
-    #[tactic(auto, using(crate::proofs::KindLemmas::first_rank_of))]
+    #[tactic(auto, using(crate::proofs::lemmas::order::KindLemmas::first_rank_of))]
     fn of_first(path: &[u8]) -> Kind
         ensures { kind_rank result ≡ first_rank (values path.now) }
     {

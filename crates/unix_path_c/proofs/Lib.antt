@@ -1,18 +1,1 @@
-pub mod StretchLemmas
-pub mod PlaceLemmas
-pub mod FollowLemmas
-pub mod FirstLemmas
-pub mod LastLemmas
-pub mod BytesLeftLemmas
-pub mod TakeFirstLemmas
-pub mod TakeLastLemmas
-pub mod SignLemmas
-pub mod LayoutLemmas
-pub mod WritingLemmas
-pub mod NameLemmas
-pub mod StepLemmas
-pub mod RangeLemmas
-pub mod KeyPathLemmas
-pub mod AncestorLemmas
-pub mod ChunkLemmas
-pub mod BoundLemmas
+mod lemmas

@@ -17,7 +17,7 @@ use unix_path::Path;
 /// collected into a `PathBuf`.
 ///
 /// For `.//a/./b/` it is `./a/b`, of 5 bytes.
-#[tactic(auto, using(crate::proofs::BoundLemmas::bounds))]
+#[tactic(auto, using(crate::proofs::lemmas::buffers::BoundLemmas::bounds))]
 #[unsafe(no_mangle)]
 pub extern "C" fn unix_path_canonical(path: &[u8], out: &mut [u8]) -> usize
     ensures out { out.new ≡ buffer_after (spelling_of (values path.now)) out.old }

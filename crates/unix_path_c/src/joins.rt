@@ -110,7 +110,7 @@ fn extension_layout<'a>(path: Path<'a>, extension: &'a [u8]) -> Layout<'a>
 
 // What a path with an extension added is made of.
 #[inline]
-#[tactic(auto, using(unix_path::proofs::NameEndLemmas::added_cases))]
+#[tactic(auto, using(unix_path::proofs::lemmas::names::NameEndLemmas::added_cases))]
 fn added_layout<'a>(path: Path<'a>, extension: &'a [u8]) -> Layout<'a>
     ensures { layout_bytes result ≡ added_extension_of path.entry.bytes.now extension.now }
 {
@@ -135,7 +135,7 @@ fn added_layout<'a>(path: Path<'a>, extension: &'a [u8]) -> Layout<'a>
 /// path, and no pointer is null. Does not allocate. As Rust's `Path::join`.
 ///
 /// `/etc` joined with `passwd` is `/etc/passwd`, of 11 bytes, and `a` with the empty path is `a/`.
-#[tactic(auto, using(crate::proofs::BoundLemmas::bounds))]
+#[tactic(auto, using(crate::proofs::lemmas::buffers::BoundLemmas::bounds))]
 #[unsafe(no_mangle)]
 pub extern "C" fn unix_path_join(base: &[u8], path: &[u8], out: &mut [u8]) -> usize
     ensures out { out.new ≡ buffer_after (join_of base.now path.now) out.old }
@@ -155,7 +155,7 @@ pub extern "C" fn unix_path_join(base: &[u8], path: &[u8], out: &mut [u8]) -> us
 ///
 /// `/tmp/foo.txt` with the file name `bar.txt` is `/tmp/bar.txt`, of 12 bytes, and `foo/..` with
 /// `bar` is `foo/../bar`.
-#[tactic(auto, using(crate::proofs::BoundLemmas::bounds))]
+#[tactic(auto, using(crate::proofs::lemmas::buffers::BoundLemmas::bounds))]
 #[unsafe(no_mangle)]
 pub extern "C" fn unix_path_with_file_name(path: &[u8], name: &[u8], out: &mut [u8]) -> usize
     ensures out { out.new ≡ buffer_after (with_name_of path.now name.now) out.old }
@@ -178,7 +178,7 @@ pub extern "C" fn unix_path_with_file_name(path: &[u8], name: &[u8], out: &mut [
 /// whatever the extension is.
 ///
 /// `foo.rs/.` with the extension `txt` is `foo.txt`, of 7 bytes, and `..` stays `..`.
-#[tactic(auto, using(crate::proofs::BoundLemmas::bounds))]
+#[tactic(auto, using(crate::proofs::lemmas::buffers::BoundLemmas::bounds))]
 #[unsafe(no_mangle)]
 pub extern "C" fn unix_path_with_extension(path: &[u8], extension: &[u8], out: &mut [u8]) -> usize
     ensures answers { IsLength result ⊎ ((result ≡ separator) ⊎ (result ≡ too_long)) }
@@ -208,7 +208,7 @@ pub extern "C" fn unix_path_with_extension(path: &[u8], extension: &[u8], out: &
 /// As Rust's `Path::with_added_extension`, which panics for a separator.
 ///
 /// `foo.tar/.` with the extension `gz` added is `foo.tar.gz`, of 10 bytes, and `..` stays `..`.
-#[tactic(auto, using(crate::proofs::BoundLemmas::bounds))]
+#[tactic(auto, using(crate::proofs::lemmas::buffers::BoundLemmas::bounds))]
 #[unsafe(no_mangle)]
 pub extern "C" fn unix_path_with_added_extension(
     path: &[u8],

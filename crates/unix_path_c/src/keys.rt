@@ -29,7 +29,7 @@ const NO_END: usize = usize::MAX - 5;
 /// pointer is null. Does not allocate. Not in Rust's std.
 ///
 /// For `/a` it is 00 01 61 00, of 4 bytes, and for the empty path it has no bytes.
-#[tactic(auto, using(crate::proofs::BoundLemmas::bounds))]
+#[tactic(auto, using(crate::proofs::lemmas::buffers::BoundLemmas::bounds))]
 #[unsafe(no_mangle)]
 pub extern "C" fn unix_path_key(path: &[u8], out: &mut [u8]) -> usize
     ensures out { out.new ≡ buffer_after (key_of (values path.now)) out.old }

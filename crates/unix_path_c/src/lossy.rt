@@ -59,7 +59,7 @@ fn write_lossy(path: &[u8], out: &mut [u8])
 /// allocate. As Rust's `Path::to_string_lossy`.
 ///
 /// For the bytes 61 FF it is `a` and U+FFFD, of 4 bytes.
-#[tactic(auto, using(crate::proofs::BoundLemmas::bounds))]
+#[tactic(auto, using(crate::proofs::lemmas::buffers::BoundLemmas::bounds))]
 #[unsafe(no_mangle)]
 pub extern "C" fn unix_path_to_string_lossy(path: &[u8], out: &mut [u8]) -> usize
     ensures answers { IsLength result ⊎ (result ≡ too_long) }

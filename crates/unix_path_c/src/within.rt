@@ -44,7 +44,7 @@ const NUL_IN_REQUEST: usize = usize::MAX - 3;
 /// 0.
 ///
 /// For `a/../..//b/.` it is `../b`, for `/../a` it is `/a`, and for `a/..` the empty path.
-#[tactic(auto, using(crate::proofs::BoundLemmas::bounds))]
+#[tactic(auto, using(crate::proofs::lemmas::buffers::BoundLemmas::bounds))]
 #[unsafe(no_mangle)]
 pub extern "C" fn unix_path_resolved(alloc: Global, path: &[u8], out: &mut [u8]) -> usize
     ensures answers { IsLength result ⊎ (result ≡ no_memory) }
@@ -73,7 +73,7 @@ pub extern "C" fn unix_path_resolved(alloc: Global, path: &[u8], out: &mut [u8])
 /// it allocates. C passes nothing for `alloc`. Not in Rust's std.
 ///
 /// `/srv/www` with `a/../b` is `/srv/www/b`, and with `a/../../x` it is refused.
-#[tactic(auto, using(crate::proofs::BoundLemmas::bounds))]
+#[tactic(auto, using(crate::proofs::lemmas::buffers::BoundLemmas::bounds))]
 #[unsafe(no_mangle)]
 pub extern "C" fn unix_path_join_within(
     alloc: Global,
@@ -114,7 +114,7 @@ pub extern "C" fn unix_path_join_within(
 /// with a slash behind it. Does not allocate. Not in Rust's std; as `path_within`'s `join_plain`.
 ///
 /// `/srv/../www` with `./a` is `/srv/../www/./a`, and with `a/../b` it is refused.
-#[tactic(auto, using(crate::proofs::BoundLemmas::bounds))]
+#[tactic(auto, using(crate::proofs::lemmas::buffers::BoundLemmas::bounds))]
 #[unsafe(no_mangle)]
 pub extern "C" fn unix_path_join_plain(root: &[u8], request: &[u8], out: &mut [u8]) -> usize
     ensures answers { IsLength result ⊎ ((result ≡ escapes) ⊎ (result ≡ too_long)) }
@@ -176,7 +176,7 @@ fn read_request(path: Path<'_>, as_url: bool) -> Result<Request<'_>, RequestErro
 ///
 /// `/srv/www` with `a/../b` is `/srv/www/b`; with `/../a` it is `/srv/www/a` as a URL, and else
 /// refused.
-#[tactic(auto, using(crate::proofs::BoundLemmas::bounds))]
+#[tactic(auto, using(crate::proofs::lemmas::buffers::BoundLemmas::bounds))]
 #[unsafe(no_mangle)]
 pub extern "C" fn unix_path_join_below(
     root: &[u8],

@@ -20,7 +20,7 @@ use unix_path::{ExtensionError, Path, PathBuf};
 
 // Joins the other path to the path. Always inlined, as `PathBuf::push` is.
 #[inline(always)]
-#[tactic(auto, using(crate::proofs::EditStepLemmas::IsKnown_join))]
+#[tactic(auto, using(crate::proofs::lemmas::edits::EditStepLemmas::IsKnown_join))]
 pub(super) fn push(path: &mut PathBuf, known: &mut Known, other: Path<'_>) -> Result<(), AllocError>
     requires { IsKnown (path_bytes path.old) known.old }
     ensures known { OnOk result (IsKnown (path_bytes path.new) known.new) }
@@ -52,7 +52,7 @@ pub(super) fn pop(path: &mut PathBuf, known: &mut Known) -> bool
 
 // Replaces the file name, or joins the name to a path that has none.
 #[inline]
-#[tactic(auto, using(crate::proofs::EditStepLemmas::name_cases))]
+#[tactic(auto, using(crate::proofs::lemmas::edits::EditStepLemmas::name_cases))]
 pub(super) fn set_file_name(
     path: &mut PathBuf,
     known: &mut Known,
@@ -114,7 +114,7 @@ fn replace_end(alloc: Global, path: &mut PathBuf, keep: usize, extension: UnixSt
 // Replaces the extension of the file name, or removes it if the new one is empty. It isn't inlined,
 // nor is `add_extension`, so that a list's loop stays small.
 #[inline(never)]
-#[tactic(auto, using(crate::proofs::EditStepLemmas::extension_cases))]
+#[tactic(auto, using(crate::proofs::lemmas::edits::EditStepLemmas::extension_cases))]
 pub(super) fn set_extension(
     alloc: Global,
     path: &mut PathBuf,
@@ -153,7 +153,7 @@ pub(super) fn set_extension(
 
 // Puts a dot and the extension behind the file name, unless the extension is empty.
 #[inline(never)]
-#[tactic(auto, using(crate::proofs::EditStepLemmas::added_cases))]
+#[tactic(auto, using(crate::proofs::lemmas::edits::EditStepLemmas::added_cases))]
 pub(super) fn add_extension(
     alloc: Global,
     path: &mut PathBuf,

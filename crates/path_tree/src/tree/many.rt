@@ -48,7 +48,7 @@ impl<V> PathTree<V> {
     /// `Extend` of Rust's `BTreeMap`.
     ///
     /// With 1 at `a/b`, extended by 2 at `c` and 3 at `a//b`, it has 3 at `a/b`, and 2 at `c`.
-    #[tactic(auto, using(crate::proofs::ManyLemmas::inserted_all_snoc))]
+    #[tactic(auto, using(crate::proofs::lemmas::rows::ManyLemmas::inserted_all_snoc))]
     pub fn extend<'a, I: Iterator<Item = (Path<'a>, V)>>(
         &mut self,
         items: I,

@@ -62,7 +62,7 @@ fn ascii_len(source: &[u8]) -> usize
 }
 
 // How many of the first bytes are ASCII, read one at a time.
-#[tactic(auto, using(crate::proofs::LaneLemmas::one_more_ascii))]
+#[tactic(auto, using(crate::proofs::lemmas::vectors::LaneLemmas::one_more_ascii))]
 fn short_ascii_len(source: &[u8]) -> usize
     ensures bound { result ≤ length source.now }
     ensures ascii { IsAscii (take result source.now) }

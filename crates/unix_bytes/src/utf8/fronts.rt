@@ -8,7 +8,7 @@ use crate::utf8::classes::{is_lead, is_tail, leads_four, leads_three, leads_two,
 
 // Whether the bytes may begin with a sequence of two bytes or more, by the ranges of the first two.
 #[inline(always)]
-#[tactic(auto, using(crate::proofs::HasBegunLemmas::pair_bounds))]
+#[tactic(auto, using(crate::proofs::lemmas::sequences::HasBegunLemmas::pair_bounds))]
 pub(crate) fn may_begin(source: &[u8]) -> bool
     requires { 0 < length source.now }
     ensures { HasBegun source.now 2 → IsTrue result }
@@ -18,7 +18,7 @@ pub(crate) fn may_begin(source: &[u8]) -> bool
 
 // Whether the first two bytes begin some sequence; false if there is only one.
 #[inline(always)]
-#[tactic(auto, using(crate::proofs::HasBegunLemmas::beginnings))]
+#[tactic(auto, using(crate::proofs::lemmas::sequences::HasBegunLemmas::beginnings))]
 fn begins_two(source: &[u8]) -> bool
     requires { 0 < length source.now }
     ensures { IsTrue result ↔ HasBegun source.now 2 }
@@ -29,7 +29,7 @@ fn begins_two(source: &[u8]) -> bool
 // Whether the first three bytes begin some sequence; false if there are fewer. The first byte is E0
 // or more.
 #[inline(always)]
-#[tactic(auto, using(crate::proofs::HasBegunLemmas::all_beginnings))]
+#[tactic(auto, using(crate::proofs::lemmas::sequences::HasBegunLemmas::all_beginnings))]
 fn begins_three(source: &[u8]) -> bool
     requires some { 0 < length source.now }
     requires least { 0xE0 ≤ slice_index source.now 0 }
@@ -41,7 +41,7 @@ fn begins_three(source: &[u8]) -> bool
 // Whether the first four bytes begin some sequence; false if there are fewer. The first byte is F0
 // or more.
 #[inline(always)]
-#[tactic(auto, using(crate::proofs::HasBegunLemmas::all_beginnings))]
+#[tactic(auto, using(crate::proofs::lemmas::sequences::HasBegunLemmas::all_beginnings))]
 pub(crate) fn begins_four(source: &[u8]) -> bool
     requires some { 0 < length source.now }
     requires least { 0xF0 ≤ slice_index source.now 0 }
@@ -53,7 +53,7 @@ pub(crate) fn begins_four(source: &[u8]) -> bool
 // The length of the sequence that the bytes begin with, or else that of the broken front; the first
 // byte is not ASCII.
 #[inline(always)]
-#[tactic(auto, using(crate::proofs::BrokenLemmas::two_byte_fronts))]
+#[tactic(auto, using(crate::proofs::lemmas::lossy::BrokenLemmas::two_byte_fronts))]
 pub(crate) fn wide_front(source: &[u8]) -> Result<usize, usize>
     requires some { 0 < length source.now }
     requires wide { 0x80 ≤ slice_index source.now 0 }
@@ -77,7 +77,7 @@ pub(crate) fn wide_front(source: &[u8]) -> Result<usize, usize>
 // The length of the sequence that the bytes begin with, or else that of the broken front; the first
 // byte leads sequences of three.
 #[inline(always)]
-#[tactic(auto, using(crate::proofs::BrokenLemmas::three_byte_fronts))]
+#[tactic(auto, using(crate::proofs::lemmas::lossy::BrokenLemmas::three_byte_fronts))]
 fn three_front(source: &[u8]) -> Result<usize, usize>
     requires some { 0 < length source.now }
     requires least { 0xE0 ≤ slice_index source.now 0 }
@@ -95,7 +95,7 @@ fn three_front(source: &[u8]) -> Result<usize, usize>
 // The length of the sequence that the bytes begin with, or else that of the broken front; the first
 // byte leads sequences of four.
 #[inline(always)]
-#[tactic(auto, using(crate::proofs::BrokenLemmas::four_byte_fronts))]
+#[tactic(auto, using(crate::proofs::lemmas::lossy::BrokenLemmas::four_byte_fronts))]
 fn four_front(source: &[u8]) -> Result<usize, usize>
     requires some { 0 < length source.now }
     requires least { 0xF0 ≤ slice_index source.now 0 }

@@ -12,7 +12,7 @@ use crate::windows::window_len;
 // The lengths of the longest prefix that is text, and of the broken front behind it. A byte that is
 // broken alone is found at once if fewer than 16 bytes of ASCII stand before it.
 #[inline(always)]
-#[tactic(auto, using(crate::proofs::StretchLemmas::none_is_text))]
+#[tactic(auto, using(crate::proofs::lemmas::stretches::StretchLemmas::none_is_text))]
 pub(crate) fn scan_text(source: &[u8]) -> (usize, usize)
     ensures text { result.0 ≡ longest_len is_text source.now }
     ensures broken { result.1 ≡ broken_len (drop result.0 source.now) }

@@ -18,7 +18,7 @@ use unix_bytes::bytes::{UnixStr, UnixString};
 
 // The byte that a join puts between its base and a path without a root, if any.
 #[inline]
-#[tactic(auto, using(crate::proofs::JoinLemmas::rootless_joins))]
+#[tactic(auto, using(crate::proofs::lemmas::edits::JoinLemmas::rootless_joins))]
 fn join_gap(base: &[u8], path: Path<'_>) -> Option<u8>
     requires { is_rooted path.bytes.now ≡ false }
     ensures { join_of base.now path.entry.bytes.now
@@ -33,7 +33,7 @@ fn join_gap(base: &[u8], path: Path<'_>) -> Option<u8>
 // How many bytes of its base a join keeps, and the byte that it puts between them and the path,
 // if any.
 #[inline]
-#[tactic(auto, using(crate::proofs::GapLemmas::join_cases))]
+#[tactic(auto, using(crate::proofs::lemmas::edits::GapLemmas::join_cases))]
 fn join_cut(base: &[u8], path: Path<'_>) -> (usize, Option<u8>)
     ensures in_range { result.0 ≤ length base.now }
     ensures value { join_of base.now path.entry.bytes.now
@@ -98,7 +98,7 @@ impl PathBuf {
     /// `/foo/bar` after a push of `./baz` is `/foo/bar/./baz`, and `foo` after a push of the empty
     /// path is `foo/`.
     #[inline(always)]
-    #[tactic(auto, using(crate::proofs::JoinLemmas::push_cases))]
+    #[tactic(auto, using(crate::proofs::lemmas::edits::JoinLemmas::push_cases))]
     pub fn push(&mut self, path: Path<'_>) -> Result<(), AllocError>
         ensures ok { OnOk result
             (path_bytes self.new ≡ join_of (path_bytes self.old) path.entry.bytes.now) }
@@ -136,7 +136,7 @@ impl PathBuf {
     /// What stands behind the last part goes with it. Does not allocate. As Rust's `PathBuf::pop`.
     ///
     /// `foo//bar/.` after `pop` is `foo`.
-    #[tactic(auto, using(crate::proofs::EditLemmas::pop_cases))]
+    #[tactic(auto, using(crate::proofs::lemmas::edits::EditLemmas::pop_cases))]
     pub fn pop(&mut self) -> bool
         ensures value { result ≡ is_some (parent_of (path_bytes self.old)) }
         ensures bytes { path_bytes self.new ≡ popped_of (path_bytes self.old) }
@@ -156,7 +156,7 @@ impl PathBuf {
     /// fails, the bytes stay as they were. As Rust's `PathBuf::set_file_name`.
     ///
     /// `foo/.` with the file name `bar` is `bar`, and `foo/..` is `foo/../bar`.
-    #[tactic(auto, using(crate::proofs::GapLemmas::beginnings))]
+    #[tactic(auto, using(crate::proofs::lemmas::edits::GapLemmas::beginnings))]
     pub fn set_file_name(&mut self, name: UnixStr<'_>) -> Result<(), AllocError>
         ensures ok { OnOk result
             (path_bytes self.new ≡ with_name_of (path_bytes self.old) name.entry.bytes.now) }

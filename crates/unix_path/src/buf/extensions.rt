@@ -77,7 +77,7 @@ impl PathBuf {
     /// capacity, and then once. As Rust's `PathBuf::set_extension`, which panics for a separator.
     ///
     /// `foo.rs/.` with the extension `txt` is `foo.txt`.
-    #[tactic(auto, using(crate::proofs::EditLemmas::extension_cases))]
+    #[tactic(auto, using(crate::proofs::lemmas::edits::EditLemmas::extension_cases))]
     pub fn set_extension(&mut self, extension: UnixStr<'_>) -> Result<bool, ExtensionError>
         ensures separator { IsErrOf result ExtensionError.Separator
             ↔ (has_slash extension.entry.bytes.now ≡ true) }
@@ -116,7 +116,7 @@ impl PathBuf {
     /// capacity, and then once. As Rust's `PathBuf::add_extension`, which panics for a separator.
     ///
     /// `foo.tar/.` with the extension `gz` added is `foo.tar.gz`.
-    #[tactic(auto, using(crate::proofs::NameEndLemmas::added_cases))]
+    #[tactic(auto, using(crate::proofs::lemmas::names::NameEndLemmas::added_cases))]
     pub fn add_extension(&mut self, extension: UnixStr<'_>) -> Result<bool, ExtensionError>
         ensures separator { IsErrOf result ExtensionError.Separator
             ↔ (has_slash extension.entry.bytes.now ≡ true) }
@@ -180,7 +180,7 @@ impl<'a> Path<'a> {
     /// separator, and gives `..` for `..a` whatever the extension.
     ///
     /// `foo.rs` with the extension `txt` is `foo.txt`, and `..` stays `..`.
-    #[tactic(auto, using(crate::proofs::EditLemmas::extension_cases))]
+    #[tactic(auto, using(crate::proofs::lemmas::edits::EditLemmas::extension_cases))]
     pub fn with_extension(
         &self,
         alloc: Global,
@@ -210,7 +210,7 @@ impl<'a> Path<'a> {
     /// separator.
     ///
     /// `foo.tar` with the extension `gz` added is `foo.tar.gz`, and `..` stays `..`.
-    #[tactic(auto, using(crate::proofs::NameEndLemmas::added_cases))]
+    #[tactic(auto, using(crate::proofs::lemmas::names::NameEndLemmas::added_cases))]
     pub fn with_added_extension(
         &self,
         alloc: Global,

@@ -87,7 +87,7 @@ impl<'a> Path<'a> {
     /// `a/b` ends with `b`, and with neither `./b` nor `/b`.
     #[must_use]
     #[inline]
-    #[tactic(auto, using(crate::proofs::SuffixLemmas::shared_ends))]
+    #[tactic(auto, using(crate::proofs::lemmas::lists::SuffixLemmas::shared_ends))]
     pub fn ends_with(&self, child: Path<'_>) -> bool
         ensures { IsTrue result
             ↔ Ends (values child.entry.bytes.now) (values self.now.bytes.now) }

@@ -1,6 +1,6 @@
 use Rattle.std.proofs.Common.{refl, arith}
 use Rattle.path_keys.specs.Stretches.{coded}
-use Rattle.path_keys.proofs.PlaceLemmas.{put_none, put_one, put_all}
+use Rattle.path_keys.proofs.lemmas.lanes.PlaceLemmas.{put_none, put_one, put_all}
 use Rattle.path_keys.proofs.coded.place_few.Goals as goal
 
 pub loop-i-init : goal.loop-i-init

@@ -1,5 +1,5 @@
 use Rattle.path_keys.specs.Stretches.{coded}
-use Rattle.path_keys.proofs.PlaceLemmas.{PutTo}
+use Rattle.path_keys.proofs.lemmas.lanes.PlaceLemmas.{PutTo}
 use Rattle.path_keys.proofs.coded.place_few.Given as goal
 
 abbrev pub invariant-loop-i : goal.invariant-loop-i

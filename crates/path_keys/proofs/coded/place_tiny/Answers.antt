@@ -1,7 +1,7 @@
 use Rattle.std.proofs.Common.{◌≡◌, map, take, ◌+◌, ◌-◌, length, arith, ap, ◌∙◌}
 use Rattle.std.specs.Simd.Lanes.{put_chunk}
 use Rattle.path_keys.specs.Stretches.{coded}
-use Rattle.path_keys.proofs.PlaceLemmas.{put_none, put_fewer, put_many, put_all}
+use Rattle.path_keys.proofs.lemmas.lanes.PlaceLemmas.{put_none, put_fewer, put_many, put_all}
 use Rattle.path_keys.proofs.coded.place_tiny.Goals as goal
 
 pub returns : goal.returns

@@ -1,6 +1,6 @@
 use Rattle.std.proofs.Common.{sym, ◌∙◌}
 use Rattle.std.proofs.lemmas.Bool.{true≢false}
-use Rattle.path_keys.proofs.MarkLemmas.{no_mark}
+use Rattle.path_keys.proofs.lemmas.values.MarkLemmas.{no_mark}
 use Rattle.path_keys.proofs.codes.mark_code.Goals as goal
 
 pub returns-then-not-first-clause-none : goal.returns-then-not-first-clause-none

@@ -1,6 +1,6 @@
 use Rattle.std.proofs.Common.{◌+◌, ◌-◌, length, arith}
 use Rattle.path_keys.specs.Runs.{decoded}
-use Rattle.path_keys.proofs.PlaceLemmas.{put_none, put_fewer, put_many, put_all}
+use Rattle.path_keys.proofs.lemmas.lanes.PlaceLemmas.{put_none, put_fewer, put_many, put_all}
 use Rattle.path_keys.proofs.decoded.place_decoded.Goals as goal
 
 pub loop-from-init : goal.loop-from-init

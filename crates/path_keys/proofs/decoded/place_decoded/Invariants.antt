@@ -1,6 +1,6 @@
 use Rattle.std.proofs.Common.{◌+◌, ◌-◌, ◌<◌}
 use Rattle.path_keys.specs.Runs.{decoded}
-use Rattle.path_keys.proofs.PlaceLemmas.{PutTo}
+use Rattle.path_keys.proofs.lemmas.lanes.PlaceLemmas.{PutTo}
 use Rattle.path_keys.proofs.decoded.place_decoded.Given as goal
 
 -- the bytes before `from` are put there

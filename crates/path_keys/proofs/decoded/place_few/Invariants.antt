@@ -1,5 +1,5 @@
 use Rattle.path_keys.specs.Runs.{decoded}
-use Rattle.path_keys.proofs.PlaceLemmas.{PutTo}
+use Rattle.path_keys.proofs.lemmas.lanes.PlaceLemmas.{PutTo}
 use Rattle.path_keys.proofs.decoded.place_few.Given as goal
 
 abbrev pub invariant-loop-i : goal.invariant-loop-i

@@ -1,7 +1,7 @@
 use Rattle.std.proofs.Common.{take, drop, ap}
 use Rattle.std.proofs.lemmas.Simd.{length-chunk}
 use Rattle.std.specs.Simd.Lanes.{put_chunk}
-use Rattle.path_keys.proofs.DecodedLaneLemmas.{decoded_lanes}
+use Rattle.path_keys.proofs.lemmas.lanes.DecodedLaneLemmas.{decoded_lanes}
 use Rattle.path_keys.proofs.decoded.place_half.Goals as goal
 
 pub returns : goal.returns

@@ -1,5 +1,5 @@
 use Rattle.std.proofs.Common.{ap, length, arith}
-use Rattle.path_keys.proofs.LengthLemmas.{length-key_of}
+use Rattle.path_keys.proofs.lemmas.values.LengthLemmas.{length-key_of}
 use Rattle.path_keys.proofs.fill.room_for_key.Goals as goal
 
 pub returns-then-most-capacity-clause-enough : goal.returns-then-most-capacity-clause-enough

@@ -1,6 +1,6 @@
 use Rattle.std.proofs.Common.{refl}
 use Rattle.path_keys.specs.Codes.{code_value}
-use Rattle.path_keys.proofs.LastCodeLemmas.{no_name, last_name}
+use Rattle.path_keys.proofs.lemmas.reading.LastCodeLemmas.{no_name, last_name}
 use Rattle.path_keys.proofs.last.key_name.Goals as goal
 
 pub returns-in_default : goal.returns-in_default

@@ -3,7 +3,7 @@ use Rattle.std.proofs.lemmas.Bool.{true≢false}
 use Rattle.unix_path.specs.Parts.{values}
 use Rattle.path_keys.specs.Codes.{code_value}
 use Rattle.path_keys.specs.Lasts.{EndsIn}
-use Rattle.path_keys.proofs.LastCodeLemmas.{no_parent, root_parent, front_parent}
+use Rattle.path_keys.proofs.lemmas.reading.LastCodeLemmas.{no_parent, root_parent, front_parent}
 use Rattle.path_keys.proofs.last.key_parent.Goals as goal
 
 pub returns-in_default : goal.returns-in_default

@@ -1,7 +1,7 @@
 use Rattle.std.proofs.Common.{◌++◌, ap, sym, ◌∙◌}
-use Rattle.path_keys.proofs.BeginLemmas.{begins_told}
-use Rattle.path_keys.proofs.CodeLemmas.{values-coded}
-use Rattle.path_keys.proofs.OrderLemmas.{key_of-begins, begins-key_of}
+use Rattle.path_keys.proofs.lemmas.values.BeginLemmas.{begins_told}
+use Rattle.path_keys.proofs.lemmas.values.CodeLemmas.{values-coded}
+use Rattle.path_keys.proofs.lemmas.values.OrderLemmas.{key_of-begins, begins-key_of}
 use Rattle.path_keys.proofs.last.key_starts_with.Goals as goal
 
 pub returns-clause-bytes : goal.returns-clause-bytes

@@ -1,7 +1,8 @@
 use Rattle.std.proofs.Common.{drop, refl, ap, ◌∙◌}
 use Rattle.std.proofs.lemmas.List.{take_rest}
-use Rattle.path_keys.proofs.LastCodeLemmas.{walks_none, walks_one, walks_some, walks_empty}
-use Rattle.path_keys.proofs.LastCodeLemmas.{walks_range, walks_raised}
+use Rattle.path_keys.proofs.lemmas.reading.LastCodeLemmas.{walks_none, walks_one, walks_some}
+use Rattle.path_keys.proofs.lemmas.reading.LastCodeLemmas.{walks_empty}
+use Rattle.path_keys.proofs.lemmas.reading.LastCodeLemmas.{walks_range, walks_raised}
 use Rattle.path_keys.proofs.last.last_code.Goals as goal
 
 pub loop-code-init : goal.loop-code-init

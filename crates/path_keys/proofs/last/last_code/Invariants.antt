@@ -1,5 +1,5 @@
 use Rattle.std.proofs.Common.{length}
-use Rattle.path_keys.proofs.LastCodeLemmas.{WalksTo}
+use Rattle.path_keys.proofs.lemmas.reading.LastCodeLemmas.{WalksTo}
 use Rattle.path_keys.proofs.last.last_code.Given as goal
 
 abbrev pub invariant-loop-code : goal.invariant-loop-code

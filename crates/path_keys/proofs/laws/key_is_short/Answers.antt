@@ -1,4 +1,4 @@
-use Rattle.path_keys.proofs.LengthLemmas.{length-key_of}
+use Rattle.path_keys.proofs.lemmas.values.LengthLemmas.{length-key_of}
 use Rattle.path_keys.proofs.laws.key_is_short.Goals as goal
 
 pub returns : goal.returns

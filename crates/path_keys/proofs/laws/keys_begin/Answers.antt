@@ -1,5 +1,5 @@
-use Rattle.path_keys.proofs.CodeLemmas.{values-coded}
-use Rattle.path_keys.proofs.OrderLemmas.{key_of-begins, begins-key_of}
+use Rattle.path_keys.proofs.lemmas.values.CodeLemmas.{values-coded}
+use Rattle.path_keys.proofs.lemmas.values.OrderLemmas.{key_of-begins, begins-key_of}
 use Rattle.path_keys.proofs.laws.keys_begin.Goals as goal
 
 pub returns : goal.returns

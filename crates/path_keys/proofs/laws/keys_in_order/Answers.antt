@@ -1,7 +1,7 @@
 use Rattle.std.proofs.Common.{ap}
 use Rattle.path_keys.specs.Keys.{key_of}
-use Rattle.path_keys.proofs.CodeLemmas.{values-coded}
-use Rattle.path_keys.proofs.OrderLemmas.{bytes_cmp-keys, key_of-same}
+use Rattle.path_keys.proofs.lemmas.values.CodeLemmas.{values-coded}
+use Rattle.path_keys.proofs.lemmas.values.OrderLemmas.{bytes_cmp-keys, key_of-same}
 use Rattle.path_keys.proofs.laws.keys_in_order.Goals as goal
 
 pub returns-clause-order : goal.returns-clause-order

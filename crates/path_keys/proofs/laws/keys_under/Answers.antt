@@ -1,6 +1,6 @@
-use Rattle.path_keys.proofs.CodeLemmas.{values-coded}
-use Rattle.path_keys.proofs.OrderLemmas.{key_of-begins, begins-key_of}
-use Rattle.path_keys.proofs.RangeLemmas.{begins-lies_under}
+use Rattle.path_keys.proofs.lemmas.values.CodeLemmas.{values-coded}
+use Rattle.path_keys.proofs.lemmas.values.OrderLemmas.{key_of-begins, begins-key_of}
+use Rattle.path_keys.proofs.lemmas.values.RangeLemmas.{begins-lies_under}
 use Rattle.path_keys.proofs.laws.keys_under.Goals as goal
 
 pub returns : goal.returns

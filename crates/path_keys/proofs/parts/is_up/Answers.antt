@@ -2,8 +2,8 @@ use Rattle.std.proofs.Common.{arith, eqb-true, refl}
 use Rattle.std.specs.Prelude.{codes}
 use Rattle.std.specs.Simd.Lanes.{chunk}
 use Rattle.std.proofs.lemmas.Simd.{length-chunk}
-use Rattle.path_keys.proofs.SameLaneLemmas.{all_same}
-use Rattle.path_keys.proofs.UpLemmas.{up_slashed}
+use Rattle.path_keys.proofs.lemmas.lanes.SameLaneLemmas.{all_same}
+use Rattle.path_keys.proofs.lemmas.writing.UpLemmas.{up_slashed}
 use Rattle.path_keys.proofs.parts.is_up.Goals as goal
 
 pub returns : goal.returns

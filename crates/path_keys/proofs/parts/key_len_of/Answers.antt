@@ -1,6 +1,6 @@
 use Rattle.std.proofs.Common.{◌≡◌, length, ap, arith}
 use Rattle.std.proofs.lemmas.Bool.Decides.{nat_tests}
-use Rattle.path_keys.proofs.LeadLemmas.{none_left}
+use Rattle.path_keys.proofs.lemmas.writing.LeadLemmas.{none_left}
 use Rattle.path_keys.proofs.parts.key_len_of.Goals as goal
 
 pub returns : goal.returns

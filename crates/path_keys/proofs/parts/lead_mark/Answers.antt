@@ -1,6 +1,6 @@
 use Rattle.std.proofs.Common.{length, sym, ◌∙◌, ◌≡◌, ◌<◌, arith}
 use Rattle.std.proofs.lemmas.Bool.Decides.{nat_tests}
-use Rattle.path_keys.proofs.LeadLemmas.{lead-none, lead-busy, lead-root, lead-dot}
+use Rattle.path_keys.proofs.lemmas.writing.LeadLemmas.{lead-none, lead-busy, lead-root, lead-dot}
 use Rattle.path_keys.proofs.parts.lead_mark.Goals as goal
 
 pub returns-then-is_empty : goal.returns-then-is_empty

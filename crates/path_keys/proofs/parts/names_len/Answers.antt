@@ -1,4 +1,4 @@
-use Rattle.path_keys.proofs.RunLemmas.{names_to}
+use Rattle.path_keys.proofs.lemmas.writing.RunLemmas.{names_to}
 use Rattle.path_keys.proofs.parts.names_len.Goals as goal
 
 pub returns : goal.returns

@@ -2,7 +2,7 @@ use Rattle.std.proofs.Common.{◌+◌, drop, map, sym, ap, ◌∙◌}
 use Rattle.std.proofs.lemmas.List.{take_rest}
 use Rattle.unix_path.specs.CommonDir.{inner_values}
 use Rattle.unix_path.specs.Parts.{Part}
-use Rattle.unix_path.proofs.PlaceLemmas.{values-inner_parts}
+use Rattle.unix_path.proofs.lemmas.parts.PlaceLemmas.{values-inner_parts}
 use Rattle.path_keys.proofs.parts.past_filler.Goals as goal
 
 pub returns-clause-same : goal.returns-clause-same

@@ -1,6 +1,7 @@
 use Rattle.std.proofs.Common.{◌∷◌, [], arith, refl}
 use Rattle.std.proofs.lemmas.List.{take_rest}
-use Rattle.path_keys.proofs.UpLemmas.{ups_none, ups_more, ups_room, five_key, five_long}
+use Rattle.path_keys.proofs.lemmas.writing.UpLemmas.{ups_none, ups_more, ups_room, five_key}
+use Rattle.path_keys.proofs.lemmas.writing.UpLemmas.{five_long}
 use Rattle.path_keys.proofs.parts.place_fives.Goals as goal
 
 pub loop-rest-init : goal.loop-rest-init

@@ -1,6 +1,7 @@
 use Rattle.std.proofs.Common.{◌*◌, ◌∷◌, [], arith, refl}
 use Rattle.std.proofs.lemmas.List.{take_rest}
-use Rattle.path_keys.proofs.UpLemmas.{ups_more, ups_room, slash_up_key, slash_up_long}
+use Rattle.path_keys.proofs.lemmas.writing.UpLemmas.{ups_more, ups_room, slash_up_key}
+use Rattle.path_keys.proofs.lemmas.writing.UpLemmas.{slash_up_long}
 use Rattle.path_keys.proofs.parts.place_ups.Goals as goal
 
 pub loop-rest-init : goal.loop-rest-init

@@ -1,5 +1,5 @@
 use Rattle.std.proofs.Common.{length}
-use Rattle.path_keys.proofs.UpLemmas.{UpsPut}
+use Rattle.path_keys.proofs.lemmas.writing.UpLemmas.{UpsPut}
 use Rattle.path_keys.proofs.parts.place_ups.Given as goal
 
 abbrev pub invariant-loop-rest : goal.invariant-loop-rest

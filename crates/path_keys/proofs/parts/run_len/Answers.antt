@@ -1,5 +1,5 @@
 use Rattle.std.proofs.Common.{sym, ◌∙◌}
-use Rattle.path_keys.proofs.RunLemmas.{run-up, run-names}
+use Rattle.path_keys.proofs.lemmas.writing.RunLemmas.{run-up, run-names}
 use Rattle.path_keys.proofs.parts.run_len.Goals as goal
 
 pub returns-then-begins_with_parent : goal.returns-then-begins_with_parent

@@ -3,12 +3,12 @@ use Rattle.std.proofs.Common.{length-take-le}
 use Rattle.std.proofs.lemmas.Bool.Decides.{nat_tests}
 use Rattle.std.proofs.lemmas.List.{drop-drop, take_rest}
 use Rattle.unix_path.specs.CommonDir.{inner_values}
-use Rattle.path_runs.proofs.WritingLemmas.{writes_last, writes_end}
+use Rattle.path_runs.proofs.lemmas.lists.WritingLemmas.{writes_last, writes_end}
 use Rattle.path_keys.specs.Keys.{key_of}
 use Rattle.path_keys.specs.Stretches.{PutsFirst}
-use Rattle.path_keys.proofs.LeadLemmas.{none_left}
-use Rattle.path_keys.proofs.WrittenLemmas.{room_up, room_left, room_names}
-use Rattle.path_keys.proofs.WrittenLemmas.{written_up, written_first, written_names}
+use Rattle.path_keys.proofs.lemmas.writing.LeadLemmas.{none_left}
+use Rattle.path_keys.proofs.lemmas.writing.WrittenLemmas.{room_up, room_left, room_names}
+use Rattle.path_keys.proofs.lemmas.writing.WrittenLemmas.{written_up, written_first, written_names}
 use Rattle.path_keys.proofs.parts.write_path.Goals as goal
 
 pub place_up-requires : goal.place_up-requires

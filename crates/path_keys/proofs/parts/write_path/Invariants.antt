@@ -2,7 +2,7 @@ use Rattle.std.proofs.Common.{◌≡◌, false, length}
 use Rattle.unix_path.specs.CommonDir.{inner_values}
 use Rattle.unix_path.specs.Parts.{values}
 use Rattle.unix_path.specs.Scan.{is_idle}
-use Rattle.path_runs.proofs.WritingLemmas.{WritesOn}
+use Rattle.path_runs.proofs.lemmas.lists.WritingLemmas.{WritesOn}
 use Rattle.path_keys.specs.Keys.{key_of}
 use Rattle.path_keys.proofs.parts.write_path.Given as goal
 

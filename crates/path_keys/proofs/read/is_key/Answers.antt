@@ -1,6 +1,6 @@
 use Rattle.std.proofs.Common.{sym, subst, IsTrue}
 use Rattle.path_keys.specs.Keys.{IsKey}
-use Rattle.path_keys.proofs.KeyReadLemmas.{known_key}
+use Rattle.path_keys.proofs.lemmas.reading.KeyReadLemmas.{known_key}
 use Rattle.path_keys.proofs.read.is_key.Goals as goal
 
 pub returns : goal.returns

@@ -1,7 +1,8 @@
 use Rattle.std.proofs.Common.{refl, ap, ◌∙◌}
 use Rattle.unix_path.specs.Parts.{values}
 use Rattle.path_keys.specs.Keys.{key_of}
-use Rattle.path_keys.proofs.KeyReadLemmas.{empty_key, empty_long, path_key, read_back}
+use Rattle.path_keys.proofs.lemmas.reading.KeyReadLemmas.{empty_key, empty_long, path_key}
+use Rattle.path_keys.proofs.lemmas.reading.KeyReadLemmas.{read_back}
 use Rattle.path_keys.proofs.read.path_of.Goals as goal
 
 pub returns-in_err-text-clause-not_a_key : goal.returns-in_err-text-clause-not_a_key

@@ -1,5 +1,5 @@
 use Rattle.std.proofs.Common.{arith}
-use Rattle.path_keys.proofs.KeyReadLemmas.{kept_back, path_long, written_back}
+use Rattle.path_keys.proofs.lemmas.reading.KeyReadLemmas.{kept_back, path_long, written_back}
 use Rattle.path_keys.proofs.read.write_path_of.Goals as goal
 
 pub returns-then-len-out-clause-out : goal.returns-then-len-out-clause-out

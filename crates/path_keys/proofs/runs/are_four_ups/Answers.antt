@@ -1,8 +1,8 @@
 use Rattle.std.proofs.Common.{◌∷◌, [], arith, eqb-true, refl}
 use Rattle.std.specs.Simd.Lanes.{chunk}
 use Rattle.std.proofs.lemmas.Simd.{length-chunk}
-use Rattle.path_keys.proofs.SameLaneLemmas.{all_same}
-use Rattle.path_keys.proofs.UpRunLemmas.{four_ups}
+use Rattle.path_keys.proofs.lemmas.lanes.SameLaneLemmas.{all_same}
+use Rattle.path_keys.proofs.lemmas.spelling.UpRunLemmas.{four_ups}
 use Rattle.path_keys.proofs.runs.are_four_ups.Goals as goal
 
 pub returns : goal.returns

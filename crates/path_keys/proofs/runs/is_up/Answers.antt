@@ -1,6 +1,6 @@
 use Rattle.std.proofs.Common.{eqb-true, eq-eqb, sym, ◌∙◌}
 use Rattle.std.proofs.lemmas.Bool.{false≢true}
-use Rattle.path_keys.proofs.UpRunLemmas.{one_up, up_bytes}
+use Rattle.path_keys.proofs.lemmas.spelling.UpRunLemmas.{one_up, up_bytes}
 use Rattle.path_keys.proofs.runs.is_up.Goals as goal
 
 pub returns-then-bytes-ne0-clause-other : goal.returns-then-bytes-ne0-clause-other

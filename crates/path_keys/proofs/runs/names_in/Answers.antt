@@ -1,7 +1,7 @@
 use Rattle.std.proofs.Common.{sym, refl, subst, ◌∙◌, arith}
 use Rattle.path_keys.specs.Stretches.{FirstStopOf}
-use Rattle.path_keys.proofs.KeyRunLemmas.{names_run}
-use Rattle.path_keys.proofs.KeyStopLemmas.{no_name_none, no_stop_none}
+use Rattle.path_keys.proofs.lemmas.spelling.KeyRunLemmas.{names_run}
+use Rattle.path_keys.proofs.lemmas.spelling.KeyStopLemmas.{no_name_none, no_stop_none}
 use Rattle.path_keys.proofs.runs.names_in.Goals as goal
 
 pub returns-then-none_begins-clause-none : goal.returns-then-none_begins-clause-none

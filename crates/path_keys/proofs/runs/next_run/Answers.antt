@@ -1,5 +1,5 @@
 use Rattle.std.proofs.Common.{◌-◌, take, ap, sym, arith}
-use Rattle.path_keys.proofs.PlainLemmas.{plain_left}
+use Rattle.path_keys.proofs.lemmas.spelling.PlainLemmas.{plain_left}
 use Rattle.path_keys.proofs.runs.next_run.Goals as goal
 
 pub returns-then-room-gt0-clause-some : goal.returns-then-room-gt0-clause-some

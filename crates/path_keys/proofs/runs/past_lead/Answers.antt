@@ -2,7 +2,7 @@ use Rattle.std.proofs.Common.{get_or, length, sym, subst, ap, arith}
 use Rattle.std.proofs.lemmas.List.{take_rest}
 use Rattle.path_keys.specs.Runs.{BeginsLead}
 use Rattle.path_keys.specs.declared.runs.Lead.TheVariants.{Root, Dot}
-use Rattle.path_keys.proofs.StartLemmas.{root_lead, dot_lead, no_lead}
+use Rattle.path_keys.proofs.lemmas.spelling.StartLemmas.{root_lead, dot_lead, no_lead}
 use Rattle.path_keys.proofs.runs.past_lead.Goals as goal
 
 pub returns-then-key-lt2 : goal.returns-then-key-lt2

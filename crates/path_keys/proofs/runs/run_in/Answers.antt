@@ -1,6 +1,6 @@
 use Rattle.std.proofs.Common.{◌≡◌, ◌-◌, ◌+◌, subst, arith}
 use Rattle.path_keys.specs.Runs.{BeginsUps}
-use Rattle.path_keys.proofs.UpRunLemmas.{ups_run}
+use Rattle.path_keys.proofs.lemmas.spelling.UpRunLemmas.{ups_run}
 use Rattle.path_keys.proofs.runs.run_in.Goals as goal
 
 pub returns-then-ups-gt0-clause-some : goal.returns-then-ups-gt0-clause-some

@@ -1,6 +1,6 @@
 use Rattle.std.proofs.Common.{◌*◌, refl}
 use Rattle.std.proofs.lemmas.List.{take_rest}
-use Rattle.path_keys.proofs.UpRunLemmas.{counted_none, counted_more}
+use Rattle.path_keys.proofs.lemmas.spelling.UpRunLemmas.{counted_none, counted_more}
 use Rattle.path_keys.proofs.runs.up_count.Goals as goal
 
 pub returns-then-not-is_up : goal.returns-then-not-is_up

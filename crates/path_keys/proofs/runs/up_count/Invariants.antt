@@ -1,5 +1,5 @@
 use Rattle.std.proofs.Common.{length}
-use Rattle.path_keys.proofs.UpRunLemmas.{UpsCounted}
+use Rattle.path_keys.proofs.lemmas.spelling.UpRunLemmas.{UpsCounted}
 use Rattle.path_keys.proofs.runs.up_count.Given as goal
 
 abbrev pub invariant-loop-rest : goal.invariant-loop-rest

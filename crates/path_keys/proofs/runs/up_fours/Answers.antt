@@ -1,6 +1,6 @@
 use Rattle.std.proofs.Common.{refl}
 use Rattle.std.proofs.lemmas.List.{take_rest}
-use Rattle.path_keys.proofs.UpRunLemmas.{counted_none, counted_more}
+use Rattle.path_keys.proofs.lemmas.spelling.UpRunLemmas.{counted_none, counted_more}
 use Rattle.path_keys.proofs.runs.up_fours.Goals as goal
 
 pub loop-rest-init : goal.loop-rest-init

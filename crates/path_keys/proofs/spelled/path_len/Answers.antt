@@ -1,5 +1,5 @@
 use Rattle.std.proofs.Common.{arith}
-use Rattle.path_keys.proofs.KeyReadLemmas.{path_longer, path_lone}
+use Rattle.path_keys.proofs.lemmas.reading.KeyReadLemmas.{path_longer, path_lone}
 use Rattle.path_keys.proofs.spelled.path_len.Goals as goal
 
 pub returns-then-len-gt1-clause-some : goal.returns-then-len-gt1-clause-some

@@ -1,5 +1,5 @@
 use Rattle.std.proofs.Common.{◌+◌, ◌*◌, ◌∙◌, arith}
-use Rattle.path_keys.proofs.UpRunLemmas.{ups_put_none, ups_put_more, four_text}
+use Rattle.path_keys.proofs.lemmas.spelling.UpRunLemmas.{ups_put_none, ups_put_more, four_text}
 use Rattle.path_keys.proofs.spelled.place_fours.Goals as goal
 
 pub loop-done-init : goal.loop-done-init

@@ -1,5 +1,5 @@
 use Rattle.std.proofs.Common.{arith}
-use Rattle.path_keys.proofs.RunReadLemmas.{up_text_len}
+use Rattle.path_keys.proofs.lemmas.spelling.RunReadLemmas.{up_text_len}
 use Rattle.path_keys.proofs.spelled.place_run.Goals as goal
 
 pub place_up_run-requires : goal.place_up_run-requires

@@ -3,7 +3,7 @@ use Rattle.path_runs.specs.Overlay.{overlay}
 use Rattle.unix_path.specs.Parts.{ParentDir}
 use Rattle.path_keys.specs.Codes.{slashed, text_of}
 use Rattle.path_keys.specs.Runs.{ups}
-use Rattle.path_keys.proofs.UpRunLemmas.{ups_put_last, ups_put_cut}
+use Rattle.path_keys.proofs.lemmas.spelling.UpRunLemmas.{ups_put_last, ups_put_cut}
 use Rattle.path_keys.proofs.spelled.place_up_run.Goals as goal
 
 pub returns-then-count-eq0 : goal.returns-then-count-eq0

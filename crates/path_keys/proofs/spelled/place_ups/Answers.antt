@@ -1,5 +1,5 @@
 use Rattle.std.proofs.Common.{arith}
-use Rattle.path_keys.proofs.UpRunLemmas.{ups_put_one}
+use Rattle.path_keys.proofs.lemmas.spelling.UpRunLemmas.{ups_put_one}
 use Rattle.path_keys.proofs.spelled.place_ups.Goals as goal
 
 pub loop-done-init : goal.loop-done-init

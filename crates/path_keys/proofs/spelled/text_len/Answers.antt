@@ -1,8 +1,9 @@
 use Rattle.std.proofs.Common.{◌+◌, length, drop, length-drop, refl, ap, ◌∙◌, arith}
 use Rattle.std.proofs.lemmas.Bool.Decides.{nat_tests}
 use Rattle.std.proofs.lemmas.List.{take_rest}
-use Rattle.path_keys.proofs.RunReadLemmas.{reads_lead, reads_run, reads_no_run, run_small}
-use Rattle.path_keys.proofs.RunReadLemmas.{run_within}
+use Rattle.path_keys.proofs.lemmas.spelling.RunReadLemmas.{reads_lead, reads_run, reads_no_run}
+use Rattle.path_keys.proofs.lemmas.spelling.RunReadLemmas.{run_small}
+use Rattle.path_keys.proofs.lemmas.spelling.RunReadLemmas.{run_within}
 use Rattle.path_keys.proofs.spelled.text_len.Goals as goal
 
 pub loop-rest-init : goal.loop-rest-init

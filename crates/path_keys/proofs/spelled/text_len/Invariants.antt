@@ -1,5 +1,5 @@
 use Rattle.std.proofs.Common.{length}
-use Rattle.path_keys.proofs.RunReadLemmas.{ReadsRuns}
+use Rattle.path_keys.proofs.lemmas.spelling.RunReadLemmas.{ReadsRuns}
 use Rattle.path_keys.proofs.spelled.text_len.Given as goal
 
 abbrev pub invariant-loop-rest : goal.invariant-loop-rest

@@ -3,8 +3,9 @@ use Rattle.std.proofs.Common.{drop, length-drop, refl, ap, ◌∙◌, arith}
 use Rattle.std.proofs.lemmas.List.{take_rest}
 use Rattle.path_runs.specs.Overlay.{overlay}
 use Rattle.path_keys.specs.Runs.{run_text, LeavesText}
-use Rattle.path_keys.proofs.CutLemmas.{cut_leaves, cut_lead, cut_room, cut_one, cut_all}
-use Rattle.path_keys.proofs.RunReadLemmas.{code_small, run_small, run_within}
+use Rattle.path_keys.proofs.lemmas.spelling.CutLemmas.{cut_leaves, cut_lead, cut_room, cut_one}
+use Rattle.path_keys.proofs.lemmas.spelling.CutLemmas.{cut_all}
+use Rattle.path_keys.proofs.lemmas.spelling.RunReadLemmas.{code_small, run_small, run_within}
 use Rattle.path_keys.proofs.spelled.write_runs.Goals as goal
 
 pub loop-run-init : goal.loop-run-init

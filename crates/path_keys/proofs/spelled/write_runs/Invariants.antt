@@ -1,5 +1,5 @@
 use Rattle.std.proofs.Common.{length}
-use Rattle.path_keys.proofs.CutLemmas.{SpellsCut}
+use Rattle.path_keys.proofs.lemmas.spelling.CutLemmas.{SpellsCut}
 use Rattle.path_keys.proofs.spelled.write_runs.Given as goal
 
 abbrev pub invariant-loop-run : goal.invariant-loop-run

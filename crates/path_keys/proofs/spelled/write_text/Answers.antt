@@ -3,7 +3,8 @@ use Rattle.std.proofs.Common.{arith}
 use Rattle.std.proofs.lemmas.Bool.Decides.{nat_tests}
 use Rattle.path_runs.specs.Overlay.{overlay}
 use Rattle.path_keys.specs.Runs.{decoded}
-use Rattle.path_keys.proofs.CutLemmas.{cut_all, cut_lead, cut_leaves, cut_plain, nothing_none}
+use Rattle.path_keys.proofs.lemmas.spelling.CutLemmas.{cut_all, cut_lead, cut_leaves, cut_plain}
+use Rattle.path_keys.proofs.lemmas.spelling.CutLemmas.{nothing_none}
 use Rattle.path_keys.proofs.spelled.write_text.Goals as goal
 
 pub overflow_sub-room : goal.overflow_sub-room

@@ -1,8 +1,9 @@
 use Rattle.std.proofs.Common.{◌≡◌, ◌≤◌, ◌-◌, ◌+◌, ◌*◌, length, take, drop, map, ap, ◌∙◌, arith}
 use Rattle.path_runs.specs.Overlay.{overlay}
 use Rattle.path_keys.specs.Runs.{decoded}
-use Rattle.path_keys.proofs.CutLemmas.{cut_lead, cut_leaves, cut_ups_room, cut_started, cut_all}
-use Rattle.path_keys.proofs.CutLemmas.{cut_plain, nothing_none}
+use Rattle.path_keys.proofs.lemmas.spelling.CutLemmas.{cut_lead, cut_leaves, cut_ups_room}
+use Rattle.path_keys.proofs.lemmas.spelling.CutLemmas.{cut_started, cut_all}
+use Rattle.path_keys.proofs.lemmas.spelling.CutLemmas.{cut_plain, nothing_none}
 use Rattle.path_keys.proofs.spelled.write_ups.Goals as goal
 
 pub place_up_run-requires : goal.place_up_run-requires

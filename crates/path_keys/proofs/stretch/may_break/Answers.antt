@@ -1,5 +1,5 @@
 use Rattle.std.proofs.Common.{arith}
-use Rattle.path_keys.proofs.MayBreakLemmas.{none_told}
+use Rattle.path_keys.proofs.lemmas.lanes.MayBreakLemmas.{none_told}
 use Rattle.path_keys.proofs.stretch.may_break.Goals as goal
 
 pub returns : goal.returns

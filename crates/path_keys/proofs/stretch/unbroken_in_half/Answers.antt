@@ -1,6 +1,6 @@
 use Rattle.std.proofs.Common.{arith}
-use Rattle.unix_bytes.proofs.TestLaneLemmas.{none_set, some_set}
-use Rattle.path_keys.proofs.BreakLaneLemmas.{breaks_told}
+use Rattle.unix_bytes.proofs.lemmas.vectors.TestLaneLemmas.{none_set, some_set}
+use Rattle.path_keys.proofs.lemmas.lanes.BreakLaneLemmas.{breaks_told}
 use Rattle.path_keys.proofs.stretch.unbroken_in_half.Goals as goal
 
 pub returns-then-breaks-eq0 : goal.returns-then-breaks-eq0

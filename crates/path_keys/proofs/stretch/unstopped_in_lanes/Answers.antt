@@ -1,6 +1,6 @@
 use Rattle.std.proofs.Common.{arith}
-use Rattle.unix_bytes.proofs.TestLaneLemmas.{none_set, some_set}
-use Rattle.path_keys.proofs.StopLaneLemmas.{stops_told}
+use Rattle.unix_bytes.proofs.lemmas.vectors.TestLaneLemmas.{none_set, some_set}
+use Rattle.path_keys.proofs.lemmas.lanes.StopLaneLemmas.{stops_told}
 use Rattle.path_keys.proofs.stretch.unstopped_in_lanes.Goals as goal
 
 pub returns-then-stops-eq0 : goal.returns-then-stops-eq0

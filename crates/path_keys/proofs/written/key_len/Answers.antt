@@ -1,7 +1,7 @@
 use Rattle.std.proofs.Common.{ap, length, arith, ◌∙◌}
 use Rattle.unix_path.specs.Parts.{values}
 use Rattle.path_keys.specs.Keys.{key_of}
-use Rattle.path_keys.proofs.LengthLemmas.{length-key_of}
+use Rattle.path_keys.proofs.lemmas.values.LengthLemmas.{length-key_of}
 use Rattle.path_keys.proofs.written.key_len.Goals as goal
 
 pub key_len_of-requires : goal.key_len_of-requires

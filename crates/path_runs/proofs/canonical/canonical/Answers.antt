@@ -4,7 +4,8 @@ use Rattle.unix_path.specs.Buffers.{path_bytes}
 use Rattle.unix_path.specs.Parts.{values}
 use Rattle.unix_path.specs.Rest.{rest}
 use Rattle.path_runs.specs.Spelling.{spelling_of}
-use Rattle.path_runs.proofs.StretchLemmas.{rest-ends, spelling_of-stretch, spelling_of-whole}
+use Rattle.path_runs.proofs.lemmas.gaps.StretchLemmas.{rest-ends, spelling_of-stretch}
+use Rattle.path_runs.proofs.lemmas.gaps.StretchLemmas.{spelling_of-whole}
 use Rattle.path_runs.proofs.canonical.canonical.Goals as goal
 
 pub returns-then-bytes-lt2-clause-bytes : goal.returns-then-bytes-lt2-clause-bytes

@@ -8,9 +8,9 @@ use Rattle.unix_path.specs.Cursor.{cursor_rest, cursor_values}
 use Rattle.unix_path.specs.Joins.{join_all_of}
 use Rattle.unix_path.specs.Parts.{value_bytes}
 use Rattle.unix_path.specs.declared.path.Path.{Path}
-use Rattle.unix_path.proofs.CursorLemmas.{Components-yields}
-use Rattle.path_runs.proofs.ExtendLemmas.{JoinsFit-none}
-use Rattle.path_runs.proofs.JoinAllLemmas.{join_all_of-values}
+use Rattle.unix_path.proofs.lemmas.walks.CursorLemmas.{Components-yields}
+use Rattle.path_runs.proofs.lemmas.joins.ExtendLemmas.{JoinsFit-none}
+use Rattle.path_runs.proofs.lemmas.spelling.JoinAllLemmas.{join_all_of-values}
 use Rattle.path_runs.proofs.canonical.collected.Goals as goal
 
 map-Drains : {S A B : Type 0} {steps : S → Option A → S → Type 0} (v : A → B) (xs : List A)

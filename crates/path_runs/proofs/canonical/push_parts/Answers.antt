@@ -1,6 +1,6 @@
 use Rattle.std.proofs.Common.{drop, sym, subst, ◌∙◌, arith}
 use Rattle.path_runs.specs.Gaps.{FirstGap}
-use Rattle.path_runs.proofs.KeptLemmas.{append_stretch, nothing_left, slice_range-from}
+use Rattle.path_runs.proofs.lemmas.gaps.KeptLemmas.{append_stretch, nothing_left, slice_range-from}
 use Rattle.path_runs.proofs.canonical.push_parts.Goals as goal
 
 pub loop-start-preserved : goal.loop-start-preserved

@@ -1,6 +1,6 @@
 use Rattle.std.proofs.Common.{arith}
 use Rattle.unix_path.specs.Buffers.{path_bytes}
-use Rattle.path_runs.proofs.EditListLemmas.{HasApplied-more}
+use Rattle.path_runs.proofs.lemmas.edits.EditListLemmas.{HasApplied-more}
 use Rattle.path_runs.proofs.edits.apply.Goals as goal
 
 pub loop-done-preserved : goal.loop-done-preserved

@@ -1,7 +1,7 @@
 use Rattle.std.proofs.Common.{◌≡◌, ◌≤◌, length, vec_len, vec_capacity}
 use Rattle.unix_path.specs.Buffers.{path_bytes}
 use Rattle.path_runs.specs.Known.{IsKnown}
-use Rattle.path_runs.proofs.EditListLemmas.{HasApplied}
+use Rattle.path_runs.proofs.lemmas.edits.EditListLemmas.{HasApplied}
 use Rattle.path_runs.proofs.edits.apply.Given as goal
 
 abbrev pub invariant-loop-done : goal.invariant-loop-done

@@ -1,5 +1,5 @@
-use Rattle.unix_bytes.proofs.TestLaneLemmas.{none_set, some_set}
-use Rattle.path_runs.proofs.GapLaneLemmas.{gaps_told}
+use Rattle.unix_bytes.proofs.lemmas.vectors.TestLaneLemmas.{none_set, some_set}
+use Rattle.path_runs.proofs.lemmas.gaps.GapLaneLemmas.{gaps_told}
 use Rattle.path_runs.proofs.gaps.gapless_in_lanes.Goals as goal
 
 pub returns-then-gaps-eq0 : goal.returns-then-gaps-eq0

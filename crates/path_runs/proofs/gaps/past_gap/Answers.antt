@@ -1,6 +1,6 @@
 use Rattle.std.proofs.Common.{◌≡◌, ◌+◌, ◌-◌, true, sym, ap, ◌∙◌, arith}
 use Rattle.unix_path.specs.Scan.{is_idle}
-use Rattle.path_runs.proofs.KeptLemmas.{slashed_parts-idle}
+use Rattle.path_runs.proofs.lemmas.gaps.KeptLemmas.{slashed_parts-idle}
 use Rattle.path_runs.proofs.gaps.past_gap.Goals as goal
 
 pub loop-at-preserved : goal.loop-at-preserved

@@ -2,8 +2,8 @@ use Rattle.std.proofs.lemmas.Bool.{false≢true}
 use Rattle.std.proofs.lemmas.List.{map-append}
 use Rattle.unix_path.specs.Views.{value_of}
 use Rattle.unix_path.specs.Cursor.{cursor_values}
-use Rattle.path_runs.proofs.WalkStepLemmas.{HasWalked-front, HasWalked-back}
-use Rattle.path_runs.proofs.WalkStepLemmas.{none_behind, none_in_front, none_of_empty}
+use Rattle.path_runs.proofs.lemmas.walks.WalkStepLemmas.{HasWalked-front, HasWalked-back}
+use Rattle.path_runs.proofs.lemmas.walks.WalkStepLemmas.{none_behind, none_in_front, none_of_empty}
 use Rattle.path_runs.proofs.walk.walk.Goals.{in-Front+in_ok-push_some-in-Front}
 use Rattle.path_runs.proofs.walk.walk.Goals.{in-Back+in_ok-push_some-in-Back}
 use Rattle.path_runs.proofs.walk.walk.Goals as goal

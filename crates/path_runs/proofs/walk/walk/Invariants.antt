@@ -1,7 +1,7 @@
 use Rattle.std.proofs.Common.{map}
 use Rattle.unix_path.specs.Cursor.{cursor_rest}
 use Rattle.unix_path.specs.Views.{value_of}
-use Rattle.path_runs.proofs.WalkLemmas.{HasWalked}
+use Rattle.path_runs.proofs.lemmas.walks.WalkLemmas.{HasWalked}
 use Rattle.path_runs.proofs.walk.walk.Given as goal
 
 abbrev pub invariant-loop-turn : goal.invariant-loop-turn

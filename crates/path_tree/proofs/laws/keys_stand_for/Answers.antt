@@ -1,4 +1,4 @@
-use Rattle.path_tree.proofs.ReadLemmas.{key_values-values}
+use Rattle.path_tree.proofs.lemmas.keys.ReadLemmas.{key_values-values}
 use Rattle.path_tree.proofs.laws.keys_stand_for.Goals as goal
 
 pub returns : goal.returns

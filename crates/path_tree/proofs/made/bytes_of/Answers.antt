@@ -1,4 +1,4 @@
-use Rattle.path_tree.proofs.ReadLemmas.{own-IsKey}
+use Rattle.path_tree.proofs.lemmas.keys.ReadLemmas.{own-IsKey}
 use Rattle.path_tree.proofs.made.bytes_of.Goals as goal
 
 pub returns-clause-own : goal.returns-clause-own

@@ -2,9 +2,9 @@ use Rattle.std.proofs.Common.{rules, tests, not, ap, ◌∙◌}
 use Rattle.std.specs.List.{list_all}
 use Rattle.unix_path.specs.Parts.{values}
 use Rattle.std.proofs.lemmas.Iterator.Search.{all_from_yields_List}
-use Rattle.unix_path.proofs.CursorLemmas.{Components-yields}
+use Rattle.unix_path.proofs.lemmas.walks.CursorLemmas.{Components-yields}
 use Rattle.path_within.specs.Climbs.{is_name}
-use Rattle.path_within.proofs.NormalLemmas.{all_names}
+use Rattle.path_within.proofs.lemmas.plain.NormalLemmas.{all_names}
 use Rattle.path_within.proofs.normal.are_names.Goals as goal
 
 pub returns-then-is_plain : goal.returns-then-is_plain

@@ -5,7 +5,7 @@ use Rattle.unix_path.specs.Cursor.{cursor_values}
 use Rattle.unix_path.specs.Views.{value_of}
 use Rattle.path_within.specs.Climbs.{is_name}
 use Rattle.path_within.specs.Resolved.{AreUpsThenNames}
-use Rattle.path_within.proofs.NormalLemmas.{straight_told}
+use Rattle.path_within.proofs.lemmas.plain.NormalLemmas.{straight_told}
 use Rattle.path_within.proofs.normal.are_ups_then_names.Goals as goal
 
 pub returns-then-is_name : goal.returns-then-is_name

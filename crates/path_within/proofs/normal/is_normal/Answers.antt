@@ -3,7 +3,7 @@ use Rattle.unix_path.specs.Cursor.{cursor_values}
 use Rattle.unix_path.specs.Parts.{RootDir}
 use Rattle.unix_path.specs.Views.{value_of}
 use Rattle.path_within.specs.Resolved.{IsNormal}
-use Rattle.path_within.proofs.NormalLemmas.{names_told}
+use Rattle.path_within.proofs.lemmas.plain.NormalLemmas.{names_told}
 use Rattle.path_within.proofs.normal.is_normal.Goals as goal
 
 pub returns-in-Some-RootDir : goal.returns-in-Some-RootDir

@@ -1,6 +1,7 @@
 use Rattle.std.proofs.Common.{◌≡◌, true, false, sym, subst, ◌∙◌}
 use Rattle.path_within.specs.Resolved.{IsNormal}
-use Rattle.path_within.proofs.NormalLemmas.{resolved_if_normal, normal_if_resolved, own_if_resolved}
+use Rattle.path_within.proofs.lemmas.plain.NormalLemmas.{resolved_if_normal, normal_if_resolved}
+use Rattle.path_within.proofs.lemmas.plain.NormalLemmas.{own_if_resolved}
 use Rattle.path_within.proofs.normal.is_resolved.Goals as goal
 
 pub returns-then-is_canonical : goal.returns-then-is_canonical

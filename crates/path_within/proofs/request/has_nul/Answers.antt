@@ -1,5 +1,5 @@
 use Rattle.std.proofs.Common.{◌==◌, length, ltb, ap, ◌∙◌}
-use Rattle.path_within.proofs.NamesBelowLemmas.{list_any-place}
+use Rattle.path_within.proofs.lemmas.below.NamesBelowLemmas.{list_any-place}
 use Rattle.path_within.proofs.request.has_nul.Goals as goal
 
 pub returns : goal.returns

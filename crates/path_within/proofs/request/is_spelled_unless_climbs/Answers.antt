@@ -1,5 +1,5 @@
 use Rattle.std.proofs.Common.{sym, ◌∙◌}
-use Rattle.path_within.proofs.WholeLemmas.{plain_stays}
+use Rattle.path_within.proofs.lemmas.plain.WholeLemmas.{plain_stays}
 use Rattle.path_within.proofs.request.is_spelled_unless_climbs.Goals as goal
 
 pub returns-then-is_plain : goal.returns-then-is_plain

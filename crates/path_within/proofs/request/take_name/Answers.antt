@@ -1,7 +1,7 @@
 use Rattle.std.proofs.Common.{suc, ◌-◌, refl, ap, arith, add-one}
 use Rattle.unix_path.specs.Cursor.{cursor_values}
 use Rattle.unix_path.specs.Views.{value_of}
-use Rattle.path_within.proofs.TakeNameLemmas.{none_left, taken}
+use Rattle.path_within.proofs.lemmas.below.TakeNameLemmas.{none_left, taken}
 use Rattle.path_within.proofs.request.take_name.Goals as goal
 
 pub returns-then-ups-eq0-clause-some : goal.returns-then-ups-eq0-clause-some

@@ -1,6 +1,6 @@
 use Rattle.std.proofs.Common.{length}
 use Rattle.unix_path.specs.Cursor.{cursor_values}
-use Rattle.path_within.proofs.TakeNameLemmas.{Leaves}
+use Rattle.path_within.proofs.lemmas.below.TakeNameLemmas.{Leaves}
 use Rattle.path_within.proofs.request.take_name.Given as goal
 
 abbrev pub invariant-loop-part : goal.invariant-loop-part

@@ -2,18 +2,19 @@ use Rattle.std.proofs.Common.{◌≡◌, [], ◌∷◌, subst, refl, sym, ap, �
 use Rattle.unix_path.specs.Buffers.{path_bytes}
 use Rattle.unix_path.specs.Joins.{join_of}
 use Rattle.unix_path.specs.Parts.{RootDir, values}
-use Rattle.unix_path.proofs.PartLemmas.{values-nil}
-use Rattle.path_runs.proofs.LeadLemmas.{drop_dot-values}
+use Rattle.unix_path.proofs.lemmas.parts.PartLemmas.{values-nil}
+use Rattle.path_runs.proofs.lemmas.joins.LeadLemmas.{drop_dot-values}
 use Rattle.path_within.specs.declared.runs.Run.TheVariants.{Name, Names}
 use Rattle.path_within.specs.Resolved.{kept_of}
-use Rattle.path_within.proofs.KeepRunLemmas.{keeps_all, keeps_names, keeps_root_alone, keeps_run}
-use Rattle.path_within.proofs.ResolveLemmas.{kept_of-drop_dot}
+use Rattle.path_within.proofs.lemmas.plain.KeepRunLemmas.{keeps_all, keeps_names, keeps_root_alone}
+use Rattle.path_within.proofs.lemmas.plain.KeepRunLemmas.{keeps_run}
+use Rattle.path_within.proofs.lemmas.kept.ResolveLemmas.{kept_of-drop_dot}
 use Rattle.path_within.proofs.resolved.keep.Goals as goal
 use Rattle.path_within.proofs.resolved.keep.Goals.{then-has_root+in_ok-push, else-has_root}
 use Rattle.unix_path.specs.CommonDir.{inner_values}
 use Rattle.path_within.specs.Steps.{Keeps}
-use Rattle.path_within.proofs.KeepRunLemmas.{inner_same}
-use Rattle.path_within.proofs.RunLemmas.{values-root}
+use Rattle.path_within.proofs.lemmas.plain.KeepRunLemmas.{inner_same}
+use Rattle.path_within.proofs.lemmas.plain.RunLemmas.{values-root}
 
 pub loop-run-init : goal.loop-run-init
 loop-run-init c = λ ks h.

@@ -5,7 +5,7 @@ use Rattle.unix_path.specs.Joins.{join_of}
 use Rattle.unix_path.specs.Parts.{is_rooted}
 use Rattle.path_within.specs.Resolved.{up_from}
 use Rattle.path_within.specs.Steps.{Keeps}
-use Rattle.path_within.proofs.PopLemmas.{keeps_pop, keeps_root, keeps_up, over_floor}
+use Rattle.path_within.proofs.lemmas.kept.PopLemmas.{keeps_pop, keeps_root, keeps_up, over_floor}
 use Rattle.path_within.proofs.resolved.keep_up.Goals as goal
 use Rattle.path_within.proofs.resolved.keep_up.Goals.{After-len}
 

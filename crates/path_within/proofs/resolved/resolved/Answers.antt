@@ -1,6 +1,6 @@
 use Rattle.std.proofs.Common.{sym, ◌∙◌}
 use Rattle.std.proofs.lemmas.Bool.{true≢false}
-use Rattle.path_within.proofs.PlainLemmas.{resolved_empty}
+use Rattle.path_within.proofs.lemmas.plain.PlainLemmas.{resolved_empty}
 use Rattle.path_within.proofs.resolved.resolved.Goals as goal
 
 pub returns-in_err-resolved_cow-clause-succeeds : goal.returns-in_err-resolved_cow-clause-succeeds

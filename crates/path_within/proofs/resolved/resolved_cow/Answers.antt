@@ -1,6 +1,6 @@
 use Rattle.std.proofs.Common.{[], refl, sym}
-use Rattle.path_within.proofs.PlainLemmas.{resolved-plain}
-use Rattle.path_within.proofs.StepLemmas.{keeps_nothing, spells_resolved}
+use Rattle.path_within.proofs.lemmas.plain.PlainLemmas.{resolved-plain}
+use Rattle.path_within.proofs.lemmas.kept.StepLemmas.{keeps_nothing, spells_resolved}
 use Rattle.path_within.proofs.resolved.resolved_cow.Goals as goal
 use Rattle.path_within.proofs.resolved.resolved_cow.Goals.{then-is_plain-via-then-is_plain}
 use Rattle.path_within.proofs.resolved.resolved_cow.Goals.{

@@ -1,13 +1,13 @@
 use Rattle.std.proofs.Common.{◌≡◌, ◌||◌, ◌++◌, ℕ, List, ◌∷◌, refl, sym, ap, subst, ◌∙◌}
 use Rattle.std.proofs.lemmas.List.Folds.{list_any-append}
 use Rattle.unix_path.specs.Parts.{Value, CurDir, values}
-use Rattle.unix_path.proofs.PartLemmas.{values-nil}
+use Rattle.unix_path.proofs.lemmas.parts.PartLemmas.{values-nil}
 use Rattle.path_runs.specs.JoinLaws.{drop_dot}
-use Rattle.path_runs.proofs.LeadLemmas.{drop_dot-values}
+use Rattle.path_runs.proofs.lemmas.joins.LeadLemmas.{drop_dot-values}
 use Rattle.path_within.specs.declared.runs.Run.TheVariants.{Name, Names}
 use Rattle.path_within.specs.Climbs.{has_root_or_up, is_root_or_up}
 use Rattle.path_within.specs.Runs.{run_values, AreSpelledNames, IsSpelled}
-use Rattle.path_within.proofs.WholeLemmas.{plain_down}
+use Rattle.path_within.proofs.lemmas.plain.WholeLemmas.{plain_down}
 use Rattle.path_within.proofs.root.has_up.Goals as goal
 
 -- a leading dot is neither a root nor a `..`

@@ -1,5 +1,5 @@
 use Rattle.std.proofs.Common.{◌≡◌, ◌↔◌, Bool, true, false, Some, None, sym, ◌∙◌}
-use Rattle.path_within.proofs.WholeLemmas.{plain_down}
+use Rattle.path_within.proofs.lemmas.plain.WholeLemmas.{plain_down}
 use Rattle.path_within.proofs.root.is_spelled_unless_up.Goals as goal
 
 -- an answer is given, so the test has to be false

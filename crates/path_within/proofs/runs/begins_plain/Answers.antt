@@ -2,7 +2,7 @@ use Rattle.std.proofs.Common.{not, ◌&&◌, eqb, drop, sym, ap, ap₂, ◌∙�
 use Rattle.std.proofs.lemmas.Bool.{le-ltb, not-true, not-false, true≢false}
 use Rattle.std.proofs.lemmas.List.{get_or_past, take_rest}
 use Rattle.unix_path.specs.Scan.{begins_with_parent}
-use Rattle.path_within.proofs.PlainStretchLemmas.{begins_plain-end, begins_plain-scan}
+use Rattle.path_within.proofs.lemmas.plain.PlainStretchLemmas.{begins_plain-end, begins_plain-scan}
 use Rattle.path_within.proofs.runs.begins_plain.Goals as goal
 use Rattle.path_within.proofs.runs.begins_plain.Goals.{then-at-bytes, else-at-bytes}
 

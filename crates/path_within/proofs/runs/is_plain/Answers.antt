@@ -2,8 +2,8 @@ use Rattle.std.proofs.Common.{◌≡◌, ◌-◌, true, length, take, drop, sym,
 use Rattle.std.specs.Int.{from_bool}
 use Rattle.std.proofs.lemmas.List.{take_rest}
 use Rattle.path_within.specs.PlainPieces.{has_plain_pieces, is_plain}
-use Rattle.path_within.proofs.PlainStartLemmas.{plain_pieces}
-use Rattle.path_within.proofs.PlainStretchLemmas.{plain_without_root, unbroken_plain}
+use Rattle.path_within.proofs.lemmas.plain.PlainStartLemmas.{plain_pieces}
+use Rattle.path_within.proofs.lemmas.plain.PlainStretchLemmas.{plain_without_root, unbroken_plain}
 use Rattle.path_within.proofs.runs.is_plain.Goals as goal
 use Rattle.path_within.proofs.runs.is_plain.Goals.{After-from}
 

@@ -3,7 +3,7 @@ use Rattle.std.proofs.Common.{sym, ◌∙◌, subst, ⊎_elim, arith}
 use Rattle.unix_path.specs.Parts.{is_slash}
 use Rattle.std.proofs.lemmas.Bool.{cases_lt}
 use Rattle.path_within.specs.PlainPieces.{goes_on_plain}
-use Rattle.path_within.proofs.PlainStretchLemmas.{break_or_end, unbroken_plain}
+use Rattle.path_within.proofs.lemmas.plain.PlainStretchLemmas.{break_or_end, unbroken_plain}
 use Rattle.path_within.proofs.runs.names_end.Goals as goal
 
 or_right : (b c : Bool) → c ≡ true → (b || c) ≡ true

@@ -1,9 +1,10 @@
 use Rattle.std.proofs.Common.{◌≡◌, ℕ, ◌+◌, ◌&&◌, Bool, cond, take, drop, sym, ap, ap₂, ◌∙◌}
 use Rattle.unix_path.specs.Names.{past_last}
 use Rattle.unix_path.specs.Parts.{is_slash, slash}
-use Rattle.unix_path.proofs.NameLemmas.{past_last-byte}
-use Rattle.path_within.proofs.UnsharedLemmas.{AreLeft, are_left, behind_place, has_steps}
-use Rattle.path_within.proofs.UnsharedLemmas.{shared_len, shared_len-is}
+use Rattle.unix_path.proofs.lemmas.names.NameLemmas.{past_last-byte}
+use Rattle.path_within.proofs.lemmas.ways.UnsharedLemmas.{AreLeft, are_left, behind_place}
+use Rattle.path_within.proofs.lemmas.ways.UnsharedLemmas.{has_steps}
+use Rattle.path_within.proofs.lemmas.ways.UnsharedLemmas.{shared_len, shared_len-is}
 use Rattle.path_within.proofs.way.unshared.Goals as goal
 use Rattle.path_within.proofs.way.unshared.Goals.{then-is_end, else-is_end}
 

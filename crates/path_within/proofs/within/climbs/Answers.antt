@@ -2,14 +2,14 @@ use Rattle.std.proofs.Common.{◌≡◌, ◌++◌, ◌+◌, ℕ, length, refl, s
 use Rattle.std.proofs.Common.{ap, ap₂, subst, ◌∙◌, arith, length-append, List}
 use Rattle.std.proofs.lemmas.Bool.{true≢false}
 use Rattle.unix_path.specs.Parts.{values}
-use Rattle.unix_path.proofs.PartLemmas.{values-nil}
-use Rattle.unix_path.proofs.RestLemmas.{length-values}
+use Rattle.unix_path.proofs.lemmas.parts.PartLemmas.{values-nil}
+use Rattle.unix_path.proofs.lemmas.rests.RestLemmas.{length-values}
 use Rattle.path_within.specs.declared.runs.Run.TheVariants.{Name, Names}
 use Rattle.path_within.specs.Runs.{run_values, AreSpelledNames, IsSpelled}
-use Rattle.path_within.proofs.ClimbLemmas.{climbs_by_depth, climbs_from}
-use Rattle.path_within.proofs.KeepRunLemmas.{climbs_from-dot, climbs_from-plain_names}
-use Rattle.path_runs.proofs.LeadLemmas.{drop_dot-values}
-use Rattle.path_within.proofs.RunLemmas.{no_byte}
+use Rattle.path_within.proofs.lemmas.kept.ClimbLemmas.{climbs_by_depth, climbs_from}
+use Rattle.path_within.proofs.lemmas.plain.KeepRunLemmas.{climbs_from-dot, climbs_from-plain_names}
+use Rattle.path_runs.proofs.lemmas.joins.LeadLemmas.{drop_dot-values}
+use Rattle.path_within.proofs.lemmas.plain.RunLemmas.{no_byte}
 use Rattle.path_within.proofs.within.climbs.Goals as goal
 
 pub loop-run-init : goal.loop-run-init

@@ -1,6 +1,6 @@
 use Rattle.std.proofs.Common.{◌≡◌, ◌+◌, ◌^◌, ◌<◌, length}
 use Rattle.unix_path.specs.Parts.{values}
-use Rattle.path_within.proofs.ClimbLemmas.{climbs_from}
+use Rattle.path_within.proofs.lemmas.kept.ClimbLemmas.{climbs_from}
 use Rattle.path_within.proofs.within.climbs.Given as goal
 
 abbrev pub invariant-loop-run : goal.invariant-loop-run

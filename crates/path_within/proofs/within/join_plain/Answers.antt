@@ -2,8 +2,8 @@ use Rattle.std.proofs.Common.{[], sym, ap, ap₂, ◌∙◌}
 use Rattle.std.proofs.lemmas.Bool.{true≢false}
 use Rattle.unix_path.specs.Joins.{join_of}
 use Rattle.unix_path.specs.Parts.{values}
-use Rattle.path_runs.proofs.AssociativeLemmas.{join_of-nil}
-use Rattle.unix_path.proofs.PartLemmas.{values-nil}
+use Rattle.path_runs.proofs.lemmas.joins.AssociativeLemmas.{join_of-nil}
+use Rattle.unix_path.proofs.lemmas.parts.PartLemmas.{values-nil}
 use Rattle.path_within.specs.Climbs.{has_root_or_up}
 use Rattle.path_within.proofs.within.join_plain.Goals as goal
 

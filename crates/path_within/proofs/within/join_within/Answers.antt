@@ -1,9 +1,9 @@
 use Rattle.std.proofs.Common.{◌≡◌, [], refl, ◌∙◌, Some, None}
 use Rattle.unix_path.specs.Parts.{values}
 use Rattle.path_within.specs.Resolved.{kept_of}
-use Rattle.path_within.proofs.StepLemmas.{keeps_nothing, spells_join}
-use Rattle.path_within.proofs.WholeLemmas.{resolved-plain_join}
-use Rattle.path_within.proofs.WithinLemmas.{begins-within}
+use Rattle.path_within.proofs.lemmas.kept.StepLemmas.{keeps_nothing, spells_join}
+use Rattle.path_within.proofs.lemmas.plain.WholeLemmas.{resolved-plain_join}
+use Rattle.path_within.proofs.lemmas.below.WithinLemmas.{begins-within}
 use Rattle.path_within.proofs.within.join_within.Goals as goal
 
 pub returns-then-is_plain-clause-bytes : goal.returns-then-is_plain-clause-bytes

@@ -2,7 +2,8 @@ use Rattle.std.proofs.Common.{refl, ap, arith}
 use Rattle.unix_path.specs.Cursor.{cursor_values}
 use Rattle.path_within.specs.Below.{names_below}
 use Rattle.path_within.specs.Written.{slashed_len}
-use Rattle.path_within.proofs.WritesBackLemmas.{back_first, back_name, back_last, slashed_len-push}
+use Rattle.path_within.proofs.lemmas.below.WritesBackLemmas.{back_first, back_name, back_last}
+use Rattle.path_within.proofs.lemmas.below.WritesBackLemmas.{slashed_len-push}
 use Rattle.path_within.proofs.written.fill_resolved.Goals as goal
 
 pub loop-name-init : goal.loop-name-init

@@ -2,7 +2,7 @@ use Rattle.std.proofs.Common.{◌+◌, ◌≤◌, ◌<◌, ◌^◌, length}
 use Rattle.unix_path.specs.Cursor.{cursor_values}
 use Rattle.unix_path.specs.Parts.{values}
 use Rattle.path_within.specs.Below.{names_below}
-use Rattle.path_within.proofs.WritesBackLemmas.{WritesBack}
+use Rattle.path_within.proofs.lemmas.below.WritesBackLemmas.{WritesBack}
 use Rattle.path_within.proofs.written.fill_resolved.Given as goal
 
 abbrev pub invariant-loop-name : goal.invariant-loop-name

@@ -1,6 +1,6 @@
 use Rattle.std.proofs.Common.{subst}
 use Rattle.path_within.specs.Written.{AreSpelled}
-use Rattle.path_within.proofs.BelowLemmas.{plain_spelled}
+use Rattle.path_within.proofs.lemmas.below.BelowLemmas.{plain_spelled}
 use Rattle.path_within.proofs.written.spelled_names.Goals as goal
 
 pub returns-then-is_spelled : goal.returns-then-is_spelled

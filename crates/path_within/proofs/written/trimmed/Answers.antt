@@ -2,7 +2,7 @@ use Rattle.std.proofs.Common.{◌∷◌, sym, ap, ◌∙◌}
 use Rattle.unix_path.specs.Cursor.{cursor_values}
 use Rattle.unix_path.specs.Parts.{CurDir, values}
 use Rattle.unix_path.specs.Views.{value_of}
-use Rattle.path_within.proofs.NamesBelowLemmas.{dotted-stands, same_values-stands}
+use Rattle.path_within.proofs.lemmas.below.NamesBelowLemmas.{dotted-stands, same_values-stands}
 use Rattle.path_within.proofs.written.trimmed.Goals as goal
 
 pub returns-in-Some-CurDir : goal.returns-in-Some-CurDir

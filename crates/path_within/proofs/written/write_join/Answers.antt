@@ -1,6 +1,6 @@
 use Rattle.std.proofs.Common.{subst}
 use Rattle.path_within.specs.Written.{IsWritten}
-use Rattle.path_within.proofs.BelowLemmas.{below_of-spelled}
+use Rattle.path_within.proofs.lemmas.below.BelowLemmas.{below_of-spelled}
 use Rattle.path_within.proofs.written.write_join.Goals as goal
 
 pub returns-in-Some : goal.returns-in-Some

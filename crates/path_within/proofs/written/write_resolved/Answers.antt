@@ -4,8 +4,9 @@ use Rattle.path_runs.specs.Overlay.{overlay}
 use Rattle.path_runs.specs.Spelling.{slashed_bytes}
 use Rattle.path_within.specs.Below.{names_below}
 use Rattle.path_within.specs.Written.{IsWritten}
-use Rattle.path_within.proofs.BelowLemmas.{below_of-nil, below_of-spelled}
-use Rattle.path_within.proofs.WrittenLemmas.{no_names, not_written, some_names, written_behind}
+use Rattle.path_within.proofs.lemmas.below.BelowLemmas.{below_of-nil, below_of-spelled}
+use Rattle.path_within.proofs.lemmas.below.WrittenLemmas.{no_names, not_written, some_names}
+use Rattle.path_within.proofs.lemmas.below.WrittenLemmas.{written_behind}
 use Rattle.path_within.proofs.written.write_resolved.Goals as goal
 
 pub returns-then-names_len-eq0 : goal.returns-then-names_len-eq0

@@ -1,6 +1,6 @@
 use Rattle.std.proofs.Common.{refl, arith, ap, ◌∙◌}
 use Rattle.path_runs.specs.Overlay.{overlay}
-use Rattle.path_within.proofs.WrittenLemmas.{not_written, written_behind}
+use Rattle.path_within.proofs.lemmas.below.WrittenLemmas.{not_written, written_behind}
 use Rattle.path_within.proofs.written.write_spelled.Goals as goal
 
 pub returns-then-len-out : goal.returns-then-len-out

@@ -1,5 +1,5 @@
 use Rattle.std.proofs.Common.{ap, sym}
-use Rattle.pathtool.proofs.AddLemmas.{adds}
+use Rattle.pathtool.proofs.lemmas.answers.AddLemmas.{adds}
 use Rattle.pathtool.specs.Answers.{answer_of, answer_to}
 use Rattle.pathtool.proofs.commands.push_answer.Goals as goal
 

@@ -2,9 +2,10 @@ use Rattle.std.proofs.Common.{rules, tests}
 use Rattle.std.proofs.lemmas.Iterator.Splits.{YieldsList-from_slice_split}
 use Rattle.std.proofs.lemmas.Iterator.Consumers.{YieldsList-at}
 use Rattle.pathtool.specs.Fields.{fields_of}
-use Rattle.pathtool.proofs.FieldLemmas.{edits_then-more, edits_then-bad, edits_then-all}
-use Rattle.pathtool.proofs.SplitLemmas.{is_tab}
-use Rattle.pathtool.proofs.LoopLemmas.{IsStep, step_of}
+use Rattle.pathtool.proofs.lemmas.answers.FieldLemmas.{edits_then-more, edits_then-bad}
+use Rattle.pathtool.proofs.lemmas.answers.FieldLemmas.{edits_then-all}
+use Rattle.pathtool.proofs.lemmas.lines.SplitLemmas.{is_tab}
+use Rattle.pathtool.proofs.lemmas.lines.LoopLemmas.{IsStep, step_of}
 use Rattle.pathtool.proofs.edits.edits_from.Goals as goal
 use Rattle.pathtool.proofs.edits.edits_from.Goals.{After-next}
 

@@ -1,7 +1,7 @@
 use Rattle.std.proofs.Common.{◌==◌, ◌∙◌, arith, sym}
 use Rattle.std.proofs.lemmas.List.{take_rest}
 use Rattle.std.proofs.lemmas.List.Splits.{slice_split_first}
-use Rattle.pathtool.proofs.SplitLemmas.{slice_split-whole}
+use Rattle.pathtool.proofs.lemmas.lines.SplitLemmas.{slice_split-whole}
 use Rattle.pathtool.proofs.fields.cut.Goals as goal
 
 pub returns-then-place-bytes-clause-value : goal.returns-then-place-bytes-clause-value

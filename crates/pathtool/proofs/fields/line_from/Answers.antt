@@ -1,5 +1,5 @@
 use Rattle.std.proofs.Common.{[], ◌∷◌, ap, sym, ◌∙◌}
-use Rattle.pathtool.proofs.SplitLemmas.{slice_split-one}
+use Rattle.pathtool.proofs.lemmas.lines.SplitLemmas.{slice_split-one}
 use Rattle.pathtool.specs.Steps.{tab}
 use Rattle.pathtool.proofs.fields.line_from.Goals as goal
 

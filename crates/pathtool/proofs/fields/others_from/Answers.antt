@@ -1,6 +1,6 @@
 use Rattle.std.proofs.Common.{arith, ap, length}
 use Rattle.std.proofs.lemmas.List.Splits.{length-slice_split}
-use Rattle.pathtool.proofs.SplitLemmas.{is_tab}
+use Rattle.pathtool.proofs.lemmas.lines.SplitLemmas.{is_tab}
 use Rattle.pathtool.proofs.fields.others_from.Goals as goal
 
 pub returns-in-Some-clause-count : goal.returns-in-Some-clause-count

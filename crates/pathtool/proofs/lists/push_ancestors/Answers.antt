@@ -4,8 +4,8 @@ use Rattle.std.proofs.lemmas.Iterator.Consumers.{YieldsList-at, YieldsList-from_
 use Rattle.unix_path.specs.Cursor.{name_bytes}
 use Rattle.unix_path.specs.Ancestors.{ancestors_left}
 use Rattle.unix_path.specs.Parents.{ancestors_of}
-use Rattle.pathtool.proofs.AddLemmas.{adds}
-use Rattle.pathtool.proofs.ListLemmas.{adds_list}
+use Rattle.pathtool.proofs.lemmas.answers.AddLemmas.{adds}
+use Rattle.pathtool.proofs.lemmas.answers.ListLemmas.{adds_list}
 use Rattle.pathtool.specs.Fields.{tabs}
 use Rattle.pathtool.proofs.lists.push_ancestors.Goals as goal
 

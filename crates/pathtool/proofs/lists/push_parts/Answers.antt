@@ -1,12 +1,12 @@
 use Rattle.std.proofs.Common.{ap, map, rules, tests}
 use Rattle.std.proofs.lemmas.Iterator.{YieldsList-from_map_by}
 use Rattle.std.proofs.lemmas.Iterator.Consumers.{YieldsList-at}
-use Rattle.unix_path.proofs.CursorLemmas.{Components-yields}
+use Rattle.unix_path.proofs.lemmas.walks.CursorLemmas.{Components-yields}
 use Rattle.unix_path.specs.Cursor.{name_bytes}
 use Rattle.unix_path.specs.Parts.{value_bytes}
-use Rattle.pathtool.proofs.AddLemmas.{adds}
-use Rattle.pathtool.proofs.ListLemmas.{adds_list}
-use Rattle.unix_path.proofs.ParentLemmas.{values-whole}
+use Rattle.pathtool.proofs.lemmas.answers.AddLemmas.{adds}
+use Rattle.pathtool.proofs.lemmas.answers.ListLemmas.{adds_list}
+use Rattle.unix_path.proofs.lemmas.names.ParentLemmas.{values-whole}
 use Rattle.pathtool.specs.Fields.{tabs}
 use Rattle.pathtool.proofs.lists.push_parts.Goals as goal
 

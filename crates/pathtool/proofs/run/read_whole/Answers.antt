@@ -1,6 +1,6 @@
 use Rattle.std.proofs.Common.{rules, arith, inl, refl}
 use Rattle.std.proofs.lemmas.Grind.{common_steps}
-use Rattle.pathtool.proofs.CallLemmas.{Many-none, Many-more}
+use Rattle.pathtool.proofs.lemmas.lines.CallLemmas.{Many-none, Many-more}
 use Rattle.pathtool.proofs.run.read_whole.Goals as goal
 
 pub loop-count-init : goal.loop-count-init

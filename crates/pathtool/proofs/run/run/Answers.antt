@@ -1,8 +1,8 @@
 use Rattle.std.proofs.Common.{◌∙◌, [], ap, append-nil, inl, refl}
 use Rattle.std.proofs.KnownBytes.{Appends-kept, Consumes-whole}
 use Rattle.pathtool.specs.Answers.{output_of}
-use Rattle.pathtool.proofs.CallLemmas.{Many-none}
-use Rattle.pathtool.proofs.WriteLemmas.{AppendsBeginning-of, OnErr-of}
+use Rattle.pathtool.proofs.lemmas.lines.CallLemmas.{Many-none}
+use Rattle.pathtool.proofs.lemmas.lines.WriteLemmas.{AppendsBeginning-of, OnErr-of}
 use Rattle.pathtool.proofs.run.run.Goals as goal
 
 pub returns-then-is_err-clause-err : goal.returns-then-is_err-clause-err

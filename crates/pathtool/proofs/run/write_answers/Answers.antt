@@ -7,8 +7,9 @@ use Rattle.pathtool.specs.Answers.{answer_of, output_of}
 use Rattle.pathtool.specs.Steps.{newline}
 use Rattle.pathtool.specs.Watched.{AppendsBeginning}
 use Rattle.pathtool.proofs.LineLemmas.{output_of-done, output_of-next, writes_answer}
-use Rattle.pathtool.proofs.CallLemmas.{Many-none, Many-then, WritesOn-then}
-use Rattle.pathtool.proofs.WriteLemmas.{AppendsBeginning-of, AppendsBeginning-then, OnErr-of}
+use Rattle.pathtool.proofs.lemmas.lines.CallLemmas.{Many-none, Many-then, WritesOn-then}
+use Rattle.pathtool.proofs.lemmas.lines.WriteLemmas.{AppendsBeginning-of, AppendsBeginning-then}
+use Rattle.pathtool.proofs.lemmas.lines.WriteLemmas.{OnErr-of}
 use Rattle.pathtool.proofs.run.write_answers.Goals as goal
 
 pub returns-in_err-push_answer_line-clause-err : goal.returns-in_err-push_answer_line-clause-err

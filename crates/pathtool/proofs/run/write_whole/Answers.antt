@@ -4,7 +4,7 @@ use Rattle.std.proofs.lemmas.List.{take_rest}
 use Rattle.std.specs.Io.KnownBytes.{Appends}
 use Rattle.std.proofs.KnownBytes.{Appends-trans}
 use Rattle.std.proofs.lemmas.Grind.{common_steps}
-use Rattle.pathtool.proofs.CallLemmas.{Many-none, Many-more}
+use Rattle.pathtool.proofs.lemmas.lines.CallLemmas.{Many-none, Many-more}
 use Rattle.pathtool.proofs.run.write_whole.Goals as goal
 
 pub loop-at-init : goal.loop-at-init

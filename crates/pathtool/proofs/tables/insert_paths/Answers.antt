@@ -2,9 +2,9 @@ use Rattle.std.proofs.Common.{rules, tests}
 use Rattle.std.proofs.lemmas.Iterator.Splits.{YieldsList-from_slice_split}
 use Rattle.std.proofs.lemmas.Iterator.Consumers.{YieldsList-at}
 use Rattle.pathtool.specs.Fields.{fields_of}
-use Rattle.pathtool.proofs.LoopLemmas.{IsStep, step_of}
-use Rattle.pathtool.proofs.SplitLemmas.{is_tab}
-use Rattle.pathtool.proofs.TableLemmas.{entries_with-more, entries_with-all}
+use Rattle.pathtool.proofs.lemmas.lines.LoopLemmas.{IsStep, step_of}
+use Rattle.pathtool.proofs.lemmas.lines.SplitLemmas.{is_tab}
+use Rattle.pathtool.proofs.lemmas.answers.TableLemmas.{entries_with-more, entries_with-all}
 use Rattle.pathtool.proofs.tables.insert_paths.Goals as goal
 use Rattle.pathtool.proofs.tables.insert_paths.Goals.{After-next}
 

@@ -1,6 +1,6 @@
 use Rattle.std.proofs.Common.{rules, sym}
-use Rattle.pathtool.proofs.AddLemmas.{adds}
-use Rattle.pathtool.proofs.QuoteLemmas.{json_of-other}
+use Rattle.pathtool.proofs.lemmas.answers.AddLemmas.{adds}
+use Rattle.pathtool.proofs.lemmas.answers.QuoteLemmas.{json_of-other}
 use Rattle.pathtool.proofs.texts.push_json.Goals as goal
 
 pub returns-in-Err-NotUtf8 : goal.returns-in-Err-NotUtf8

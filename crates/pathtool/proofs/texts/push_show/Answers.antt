@@ -1,7 +1,7 @@
 use Rattle.std.proofs.Common.{◌++◌, ap, ◌∙◌}
 use Rattle.std.specs.List.{flat_map}
 use Rattle.unix_bytes.specs.Chunks.{shown_chunk, chunks_of, chunks_left}
-use Rattle.unix_bytes.proofs.ChunkLemmas.{flat_map-shown_chunk}
+use Rattle.unix_bytes.proofs.lemmas.chunks.ChunkLemmas.{flat_map-shown_chunk}
 use Rattle.pathtool.proofs.texts.push_show.Goals as goal
 
 pub loop-chunk-init : goal.loop-chunk-init

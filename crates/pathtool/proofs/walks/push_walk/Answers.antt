@@ -1,8 +1,9 @@
 use Rattle.std.proofs.Common.{sym, ◌∙◌, ap}
 use Rattle.pathtool.specs.Fields.{tabs}
 use Rattle.pathtool.specs.Walks.{walk_items}
-use Rattle.pathtool.proofs.AddLemmas.{adds}
-use Rattle.pathtool.proofs.TakeLemmas.{walked_items-walk_items, walk_answer-bad, walk_answer-turns}
+use Rattle.pathtool.proofs.lemmas.answers.AddLemmas.{adds}
+use Rattle.pathtool.proofs.lemmas.answers.TakeLemmas.{walked_items-walk_items, walk_answer-bad}
+use Rattle.pathtool.proofs.lemmas.answers.TakeLemmas.{walk_answer-turns}
 use Rattle.pathtool.proofs.walks.push_walk.Goals as goal
 
 pub returns-then-not-are_turns : goal.returns-then-not-are_turns

@@ -4,9 +4,9 @@ use Rattle.std.proofs.lemmas.Iterator.Consumers.{YieldsList-at, YieldsList-from_
 use Rattle.unix_path.specs.Parts.{value_bytes}
 use Rattle.unix_path.specs.Views.{value_of}
 use Rattle.unix_path.specs.Cursor.{name_bytes}
-use Rattle.pathtool.proofs.AddLemmas.{adds_behind}
-use Rattle.pathtool.proofs.ListLemmas.{adds_list, once_yields}
-use Rattle.pathtool.proofs.TakeLemmas.{tabs-counted}
+use Rattle.pathtool.proofs.lemmas.answers.AddLemmas.{adds_behind}
+use Rattle.pathtool.proofs.lemmas.answers.ListLemmas.{adds_list, once_yields}
+use Rattle.pathtool.proofs.lemmas.answers.TakeLemmas.{tabs-counted}
 use Rattle.pathtool.proofs.walks.push_walked.Goals as goal
 
 pub returns : goal.returns

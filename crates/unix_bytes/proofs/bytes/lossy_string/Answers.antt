@@ -3,8 +3,8 @@ use Rattle.std.specs.Str.{IsUtf8}
 use Rattle.std.proofs.lemmas.List.{take_rest}
 use Rattle.unix_bytes.specs.Lossy.{lossy_of}
 use Rattle.unix_bytes.specs.Chunks.{replacement_for}
-use Rattle.unix_bytes.proofs.PushLemmas.{lossy_is_utf8}
-use Rattle.unix_bytes.proofs.PrinterLemmas.{pushes_buffer}
+use Rattle.unix_bytes.proofs.lemmas.stretches.PushLemmas.{lossy_is_utf8}
+use Rattle.unix_bytes.proofs.lemmas.stretches.PrinterLemmas.{pushes_buffer}
 use Rattle.unix_bytes.proofs.bytes.lossy_string.Goals as goal
 use Rattle.unix_bytes.proofs.bytes.lossy_string.Goals.{In_ok-push_lossy}
 

@@ -1,8 +1,8 @@
 use Rattle.std.proofs.Common.{length, sym, ap, ◌∙◌, arith, length-drop}
 use Rattle.std.proofs.lemmas.Bool.{eqb-true}
 use Rattle.std.proofs.lemmas.List.{take_rest}
-use Rattle.unix_bytes.proofs.PrinterLemmas.{pushes_buffer, writes_whole}
-use Rattle.unix_bytes.proofs.PushLemmas.{pushes_split, rest_is_shorter}
+use Rattle.unix_bytes.proofs.lemmas.stretches.PrinterLemmas.{pushes_buffer, writes_whole}
+use Rattle.unix_bytes.proofs.lemmas.stretches.PushLemmas.{pushes_split, rest_is_shorter}
 use Rattle.unix_bytes.proofs.bytes.push_lossy.Goals as goal
 
 pub loop-left-smaller : goal.loop-left-smaller

@@ -1,4 +1,5 @@
-use Rattle.unix_bytes.proofs.LawLemmas.{fronts_begin, front_is_longest, broken_is_short}
+use Rattle.unix_bytes.proofs.lemmas.lossy.LawLemmas.{fronts_begin, front_is_longest}
+use Rattle.unix_bytes.proofs.lemmas.lossy.LawLemmas.{broken_is_short}
 use Rattle.unix_bytes.proofs.laws.broken_front.Goals as goal
 
 pub returns-clause-begins : goal.returns-clause-begins

@@ -1,5 +1,5 @@
-use Rattle.unix_bytes.proofs.PartitionLemmas.{chunks_partition, chunks_are_short}
-use Rattle.unix_bytes.proofs.PartitionLemmas.{whole_chunk_is_last}
+use Rattle.unix_bytes.proofs.lemmas.chunks.PartitionLemmas.{chunks_partition, chunks_are_short}
+use Rattle.unix_bytes.proofs.lemmas.chunks.PartitionLemmas.{whole_chunk_is_last}
 use Rattle.unix_bytes.proofs.laws.chunks_partition.Goals as goal
 
 pub returns-clause-partition : goal.returns-clause-partition

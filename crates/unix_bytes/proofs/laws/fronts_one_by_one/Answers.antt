@@ -1,5 +1,5 @@
-use Rattle.unix_bytes.proofs.LossyLemmas.{concat-fronts_of}
-use Rattle.unix_bytes.proofs.LawLemmas.{fronts_one_by_one}
+use Rattle.unix_bytes.proofs.lemmas.lossy.LossyLemmas.{concat-fronts_of}
+use Rattle.unix_bytes.proofs.lemmas.lossy.LawLemmas.{fronts_one_by_one}
 use Rattle.unix_bytes.proofs.laws.fronts_one_by_one.Goals as goal
 
 pub returns-clause-partition : goal.returns-clause-partition

@@ -1,4 +1,4 @@
-use Rattle.unix_bytes.proofs.LossyBoundLemmas.{length-lossy_of}
+use Rattle.unix_bytes.proofs.lemmas.lossy.LossyBoundLemmas.{length-lossy_of}
 use Rattle.unix_bytes.proofs.laws.lossy_is_short.Goals as goal
 
 pub returns : goal.returns

@@ -1,6 +1,6 @@
-use Rattle.unix_bytes.proofs.LossyLemmas.{lossy_of-append}
-use Rattle.unix_bytes.proofs.LawLemmas.{lossy_of_broken}
-use Rattle.unix_bytes.proofs.TextLemmas.{IsText-sequence}
+use Rattle.unix_bytes.proofs.lemmas.lossy.LossyLemmas.{lossy_of-append}
+use Rattle.unix_bytes.proofs.lemmas.lossy.LawLemmas.{lossy_of_broken}
+use Rattle.unix_bytes.proofs.lemmas.text.TextLemmas.{IsText-sequence}
 use Rattle.unix_bytes.proofs.laws.lossy_one_by_one.Goals as goal
 
 pub returns-clause-sequence : goal.returns-clause-sequence

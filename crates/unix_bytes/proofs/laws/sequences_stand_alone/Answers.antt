@@ -1,4 +1,4 @@
-use Rattle.unix_bytes.proofs.WidthLemmas.{prefix_free}
+use Rattle.unix_bytes.proofs.lemmas.sequences.WidthLemmas.{prefix_free}
 use Rattle.unix_bytes.proofs.laws.sequences_stand_alone.Goals as goal
 
 pub returns : goal.returns

@@ -1,4 +1,4 @@
-use Rattle.unix_bytes.proofs.SplitLemmas.{splits_first_chunk}
+use Rattle.unix_bytes.proofs.lemmas.chunks.SplitLemmas.{splits_first_chunk}
 use Rattle.unix_bytes.proofs.lossy.split_chunk.Goals as goal
 
 pub returns : goal.returns

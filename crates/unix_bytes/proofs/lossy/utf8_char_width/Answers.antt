@@ -1,6 +1,8 @@
 use Rattle.std.proofs.Common.{inl, inr, arith}
-use Rattle.unix_bytes.proofs.WidthLemmas.{has_width, begins_one, begins_two, begins_three}
-use Rattle.unix_bytes.proofs.WidthLemmas.{begins_four, some_width, leads_none, no_width}
+use Rattle.unix_bytes.proofs.lemmas.sequences.WidthLemmas.{has_width, begins_one, begins_two}
+use Rattle.unix_bytes.proofs.lemmas.sequences.WidthLemmas.{begins_three}
+use Rattle.unix_bytes.proofs.lemmas.sequences.WidthLemmas.{begins_four, some_width, leads_none}
+use Rattle.unix_bytes.proofs.lemmas.sequences.WidthLemmas.{no_width}
 use Rattle.unix_bytes.proofs.lossy.utf8_char_width.Goals as goal
 
 pub returns-in-0-to-127 : goal.returns-in-0-to-127

@@ -4,9 +4,9 @@ use Rattle.std.proofs.lemmas.Bool.{eqb-true}
 use Rattle.std.proofs.lemmas.List.{take_rest}
 use Rattle.unix_bytes.specs.Lossy.{lossy_of}
 use Rattle.unix_bytes.specs.Chunks.{replacement_for}
-use Rattle.unix_bytes.proofs.PushLemmas.{rest_is_shorter, lossy_of-split}
-use Rattle.unix_bytes.proofs.PrinterLemmas.{pushes_buffer, buffer_is_utf8}
-use Rattle.unix_bytes.proofs.PrinterLemmas.{writes_last, writes_whole}
+use Rattle.unix_bytes.proofs.lemmas.stretches.PushLemmas.{rest_is_shorter, lossy_of-split}
+use Rattle.unix_bytes.proofs.lemmas.stretches.PrinterLemmas.{pushes_buffer, buffer_is_utf8}
+use Rattle.unix_bytes.proofs.lemmas.stretches.PrinterLemmas.{writes_last, writes_whole}
 use Rattle.std.proofs.Output.{has_written_append, has_written_of_eq}
 use Rattle.std.proofs.Output.{has_written_styled_append, has_written_styled_of_eq}
 use Rattle.unix_bytes.proofs.lossy.write_lossy.Goals as goal

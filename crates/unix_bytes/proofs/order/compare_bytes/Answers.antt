@@ -1,5 +1,5 @@
 use Rattle.std.proofs.Common.{◌∙◌, ◌<◌, length, sym, ⊎_elim, arith}
-use Rattle.unix_bytes.proofs.CompareLemmas.{differing_bytes, beginning_is_less}
+use Rattle.unix_bytes.proofs.lemmas.vectors.CompareLemmas.{differing_bytes, beginning_is_less}
 use Rattle.unix_bytes.proofs.order.compare_bytes.Goals as goal
 
 -- src/order.rt:14:1

@@ -1,5 +1,5 @@
 use Rattle.std.proofs.Common.{arith}
-use Rattle.unix_bytes.proofs.PrinterLemmas.{shows_text, takes_one, first_is_text}
+use Rattle.unix_bytes.proofs.lemmas.stretches.PrinterLemmas.{shows_text, takes_one, first_is_text}
 use Rattle.unix_bytes.proofs.printer.show_few.Goals as goal
 
 pub returns-then-source-lt128-clause-lossy : goal.returns-then-source-lt128-clause-lossy

@@ -4,9 +4,9 @@ use Rattle.std.proofs.Common.{sym, ◌∙◌, arith}
 use Rattle.std.proofs.lemmas.Bool.{true≢false}
 use Rattle.unix_bytes.specs.Steps.{HasBegun}
 use Rattle.unix_bytes.specs.Printer.{Shows}
-use Rattle.unix_bytes.proofs.StretchLemmas.{ascii_is_text}
-use Rattle.unix_bytes.proofs.BrokenLemmas.{one_byte_broken}
-use Rattle.unix_bytes.proofs.PrinterLemmas.{shows_text, shows_broken, shows_more}
+use Rattle.unix_bytes.proofs.lemmas.stretches.StretchLemmas.{ascii_is_text}
+use Rattle.unix_bytes.proofs.lemmas.lossy.BrokenLemmas.{one_byte_broken}
+use Rattle.unix_bytes.proofs.lemmas.stretches.PrinterLemmas.{shows_text, shows_broken, shows_more}
 use Rattle.unix_bytes.proofs.printer.show_many.Goals as goal
 
 pub returns-then-ascii-eq16-2-clause-lossy : goal.returns-then-ascii-eq16-2-clause-lossy

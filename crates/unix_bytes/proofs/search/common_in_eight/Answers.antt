@@ -1,5 +1,5 @@
 use Rattle.std.proofs.Common.{arith}
-use Rattle.unix_bytes.proofs.CommonLemmas.{none_other, some_other}
+use Rattle.unix_bytes.proofs.lemmas.vectors.CommonLemmas.{none_other, some_other}
 use Rattle.unix_bytes.proofs.search.common_in_eight.Goals as goal
 
 pub returns-then-other-eq0 : goal.returns-then-other-eq0

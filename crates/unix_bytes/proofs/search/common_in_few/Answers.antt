@@ -1,5 +1,5 @@
 use Rattle.std.proofs.Common.{arith, ne_eqb}
-use Rattle.unix_bytes.proofs.CommonLemmas.{common_prefix_len-is}
+use Rattle.unix_bytes.proofs.lemmas.vectors.CommonLemmas.{common_prefix_len-is}
 use Rattle.unix_bytes.proofs.search.common_in_few.Goals as goal
 
 pub returns-else-a-len-clause-value : goal.returns-else-a-len-clause-value

@@ -1,6 +1,6 @@
 use Rattle.std.proofs.Common.{◌+◌, ◌-◌, ◌<◌, ◌≤◌, ⊎_elim, arith}
 use Rattle.std.proofs.lemmas.Bool.{cases_lt}
-use Rattle.unix_bytes.proofs.CommonLemmas.{common_prefix_len-is}
+use Rattle.unix_bytes.proofs.lemmas.vectors.CommonLemmas.{common_prefix_len-is}
 use Rattle.unix_bytes.proofs.search.common_len.Goals as goal
 
 pub returns-then-common-lt16-clause-value : goal.returns-then-common-lt16-clause-value

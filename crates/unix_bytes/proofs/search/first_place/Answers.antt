@@ -1,5 +1,5 @@
 use Rattle.std.proofs.Common.{◌-◌, length, arith}
-use Rattle.unix_bytes.proofs.HitLemmas.{first_after, none_before}
+use Rattle.unix_bytes.proofs.lemmas.vectors.HitLemmas.{first_after, none_before}
 use Rattle.unix_bytes.proofs.search.first_place.Goals as goal
 
 pub returns-then-place-lt16-clause-value : goal.returns-then-place-lt16-clause-value

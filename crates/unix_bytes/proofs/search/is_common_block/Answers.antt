@@ -1,5 +1,5 @@
 use Rattle.std.proofs.Common.{arith, eqb-true}
-use Rattle.unix_bytes.proofs.CommonLemmas.{none_other}
+use Rattle.unix_bytes.proofs.lemmas.vectors.CommonLemmas.{none_other}
 use Rattle.unix_bytes.proofs.search.is_common_block.Goals as goal
 
 pub returns : goal.returns

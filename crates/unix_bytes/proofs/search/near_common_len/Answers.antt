@@ -1,5 +1,5 @@
 use Rattle.std.proofs.Common.{◌+◌, arith}
-use Rattle.unix_bytes.proofs.CommonLemmas.{common_prefix_len-is}
+use Rattle.unix_bytes.proofs.lemmas.vectors.CommonLemmas.{common_prefix_len-is}
 use Rattle.unix_bytes.proofs.search.near_common_len.Goals as goal
 
 pub returns-then-first-lt16-clause-value : goal.returns-then-first-lt16-clause-value

@@ -1,6 +1,6 @@
 use Rattle.std.proofs.Common.{◌+◌, ◌-◌, ◌<◌, ◌≤◌, ⊎_elim, arith}
 use Rattle.std.proofs.lemmas.Bool.{cases_lt}
-use Rattle.unix_bytes.proofs.HitLemmas.{none_from}
+use Rattle.unix_bytes.proofs.lemmas.vectors.HitLemmas.{none_from}
 use Rattle.unix_bytes.proofs.search.past_last.Goals as goal
 
 pub returns-then-past-gt0-clause-none_behind : goal.returns-then-past-gt0-clause-none_behind

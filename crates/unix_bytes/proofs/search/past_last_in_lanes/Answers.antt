@@ -2,7 +2,7 @@ use Rattle.std.proofs.Common.{◌+◌, ◌-◌, ◌==◌, take, drop, get_or, sy
 use Rattle.std.proofs.Common.{subst}
 use Rattle.std.specs.Int.Count.{count_leading_zeros}
 use Rattle.std.proofs.lemmas.Simd.{length-chunk}
-use Rattle.unix_bytes.proofs.HitLemmas.{LastHit, in_window, last_hit}
+use Rattle.unix_bytes.proofs.lemmas.vectors.HitLemmas.{LastHit, in_window, last_hit}
 use Rattle.unix_bytes.proofs.search.past_last_in_lanes.Goals as goal
 
 pub returns : goal.returns

@@ -1,5 +1,5 @@
 use Rattle.std.proofs.lemmas.Bool.{eqb-true}
-use Rattle.unix_bytes.proofs.MaskLemmas.{none_below}
+use Rattle.unix_bytes.proofs.lemmas.vectors.MaskLemmas.{none_below}
 use Rattle.unix_bytes.proofs.windows.are_above.Goals as goal
 
 pub returns : goal.returns

@@ -1,5 +1,5 @@
 use Rattle.std.proofs.Common.{◌<◌, sym, subst, arith}
-use Rattle.unix_bytes.proofs.MaskLemmas.{least_mask, mask_bound}
+use Rattle.unix_bytes.proofs.lemmas.vectors.MaskLemmas.{least_mask, mask_bound}
 use Rattle.unix_bytes.proofs.windows.at_least.Goals as goal
 
 pub returns-clause-bits : goal.returns-clause-bits

@@ -1,4 +1,4 @@
-use Rattle.unix_bytes.proofs.SelectLemmas.{sel_l-equal}
+use Rattle.unix_bytes.proofs.lemmas.vectors.SelectLemmas.{sel_l-equal}
 use Rattle.unix_bytes.proofs.windows.bound_lanes.Goals as goal
 
 pub returns : goal.returns

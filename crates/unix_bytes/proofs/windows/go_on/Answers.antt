@@ -2,7 +2,7 @@ use Rattle.std.proofs.Common.{◌≡◌, ◌+◌, ℕ, cond, map, nat_le, sym, a
 use Rattle.std.specs.Prelude.{replicate}
 use Rattle.std.specs.Simd.Lanes.{mask_l, zip2}
 use Rattle.std.proofs.lemmas.Bool.{eqb-true}
-use Rattle.unix_bytes.proofs.MarkLemmas.{go_on, unfinished_lanes}
+use Rattle.unix_bytes.proofs.lemmas.vectors.MarkLemmas.{go_on, unfinished_lanes}
 use Rattle.unix_bytes.proofs.windows.go_on.Goals as goal
 
 pub returns-then-at_least-begin : goal.returns-then-at_least-begin

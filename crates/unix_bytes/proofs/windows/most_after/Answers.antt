@@ -1,6 +1,6 @@
 use Rattle.std.proofs.Common.{cond, eqb, ap, ◌∙◌}
 use Rattle.std.specs.Simd.Lanes.{zip2}
-use Rattle.unix_bytes.proofs.SelectLemmas.{zip2-zip2}
+use Rattle.unix_bytes.proofs.lemmas.vectors.SelectLemmas.{zip2-zip2}
 use Rattle.unix_bytes.proofs.windows.most_after.Goals as goal
 
 pub returns : goal.returns

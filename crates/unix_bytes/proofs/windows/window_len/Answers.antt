@@ -1,5 +1,5 @@
-use Rattle.unix_bytes.proofs.TextLemmas.{IsText-nil}
-use Rattle.unix_bytes.proofs.WindowLemmas.{window_text}
+use Rattle.unix_bytes.proofs.lemmas.text.TextLemmas.{IsText-nil}
+use Rattle.unix_bytes.proofs.lemmas.text.WindowLemmas.{window_text}
 use Rattle.unix_bytes.proofs.windows.window_len.Goals as goal
 
 pub returns-then-fits-clause-text : goal.returns-then-fits-clause-text

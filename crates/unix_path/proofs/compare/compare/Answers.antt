@@ -2,9 +2,10 @@ use Rattle.std.proofs.Common.{sym, ap, ◌∙◌, eqb-true}
 use Rattle.std.proofs.lemmas.List.{nil_from_length}
 use Rattle.unix_path.specs.CommonDir.{inner_values}
 use Rattle.unix_path.specs.Order.{values_cmp}
-use Rattle.unix_path.proofs.BehindLemmas.{values_cmp-shared}
-use Rattle.unix_path.proofs.CommonPrefixLemmas.{common_prefix_len-whole, inner_values-nil}
-use Rattle.unix_path.proofs.CommonPrefixLemmas.{values_cmp-equal_strings}
+use Rattle.unix_path.proofs.lemmas.order.BehindLemmas.{values_cmp-shared}
+use Rattle.unix_path.proofs.lemmas.order.CommonPrefixLemmas.{common_prefix_len-whole}
+use Rattle.unix_path.proofs.lemmas.order.CommonPrefixLemmas.{inner_values-nil}
+use Rattle.unix_path.proofs.lemmas.order.CommonPrefixLemmas.{values_cmp-equal_strings}
 use Rattle.unix_path.proofs.compare.compare.Goals as goal
 
 pub returns-then-pair-b : goal.returns-then-pair-b

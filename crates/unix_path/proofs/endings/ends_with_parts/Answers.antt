@@ -1,6 +1,6 @@
 use Rattle.std.proofs.lemmas.Bool.{false≢true}
 use Rattle.unix_path.specs.Cursor.{cursor_values}
-use Rattle.unix_path.proofs.SuffixLemmas.{ends_last, ends_without_shared}
+use Rattle.unix_path.proofs.lemmas.lists.SuffixLemmas.{ends_last, ends_without_shared}
 use Rattle.unix_path.proofs.endings.ends_with_parts.Goals as goal
 
 pub returns-then-not-has_same_value : goal.returns-then-not-has_same_value

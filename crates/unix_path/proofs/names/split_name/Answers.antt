@@ -1,7 +1,8 @@
 use Rattle.std.proofs.Common.{Some, sym, ap, ◌∙◌}
 use Rattle.std.proofs.lemmas.List.{take_rest}
 use Rattle.unix_path.specs.Parts.{dot}
-use Rattle.unix_path.proofs.NameLemmas.{past_last-byte, split_name-cut, split_name-whole}
+use Rattle.unix_path.proofs.lemmas.names.NameLemmas.{past_last-byte, split_name-cut}
+use Rattle.unix_path.proofs.lemmas.names.NameLemmas.{split_name-whole}
 use Rattle.unix_path.proofs.names.split_name.Goals as goal
 
 pub returns-then-after-le1-clause-stem : goal.returns-then-after-le1-clause-stem

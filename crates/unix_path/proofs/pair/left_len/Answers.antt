@@ -1,8 +1,8 @@
 use Rattle.std.proofs.Common.{[], refl, sym, ap₂, arith, ◌∙◌}
 use Rattle.unix_path.specs.Order.{values_cmp}
-use Rattle.unix_path.proofs.BehindLemmas.{values-past}
-use Rattle.unix_path.proofs.ComparisonLemmas.{values_cmp-end}
-use Rattle.unix_path.proofs.PartLemmas.{values-nil}
+use Rattle.unix_path.proofs.lemmas.order.BehindLemmas.{values-past}
+use Rattle.unix_path.proofs.lemmas.order.ComparisonLemmas.{values_cmp-end}
+use Rattle.unix_path.proofs.lemmas.parts.PartLemmas.{values-nil}
 use Rattle.unix_path.proofs.pair.left_len.Goals as goal
 
 pub returns-clause-behind : goal.returns-clause-behind

@@ -1,6 +1,6 @@
 use Rattle.std.proofs.Common.{arith}
-use Rattle.unix_bytes.proofs.TestLaneLemmas.{none_set, some_set, found_set}
-use Rattle.unix_path.proofs.BreakLaneLemmas.{breaks_told}
+use Rattle.unix_bytes.proofs.lemmas.vectors.TestLaneLemmas.{none_set, some_set, found_set}
+use Rattle.unix_path.proofs.lemmas.filler.BreakLaneLemmas.{breaks_told}
 use Rattle.unix_path.proofs.scan.break_in_lanes.Goals as goal
 
 pub returns-then-breaks-eq0-clause-none : goal.returns-then-breaks-eq0-clause-none

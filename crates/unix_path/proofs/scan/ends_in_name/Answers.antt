@@ -1,9 +1,10 @@
 use Rattle.std.proofs.Common.{◌-◌, length, get_or, eqb, not, sym, ap, ◌∙◌, arith, ne_eqb, eqb-true}
 use Rattle.std.proofs.lemmas.Bool.{true≢false, eqb-false}
 use Rattle.unix_path.specs.Scan.{ends_with_parent}
-use Rattle.unix_bytes.proofs.CaseLemmas.{by_test}
-use Rattle.unix_path.proofs.NamedLemmas.{named-dot, named-other, nameless-behind, nameless-nil}
-use Rattle.unix_path.proofs.NamedLemmas.{nameless-one, nameless-parent, nameless-slash}
+use Rattle.unix_bytes.proofs.lemmas.lists.CaseLemmas.{by_test}
+use Rattle.unix_path.proofs.lemmas.names.NamedLemmas.{named-dot, named-other, nameless-behind}
+use Rattle.unix_path.proofs.lemmas.names.NamedLemmas.{nameless-nil}
+use Rattle.unix_path.proofs.lemmas.names.NamedLemmas.{nameless-one, nameless-parent, nameless-slash}
 use Rattle.unix_path.proofs.scan.ends_in_name.Goals.{then-len-eq1-via-then-len-eq1}
 use Rattle.unix_path.proofs.scan.ends_in_name.Goals.{then-len-eq1-via-else-len-eq1+then-bytes-len-eq47}
 use Rattle.unix_path.proofs.scan.ends_in_name.Goals as goal

@@ -1,7 +1,7 @@
 use Rattle.std.proofs.Common.{sym, ap, ◌∙◌, ◌-◌, length, eqb, arith}
 use Rattle.std.proofs.lemmas.Bool.{eqb-false}
 use Rattle.std.proofs.lemmas.List.{get_or_default}
-use Rattle.unix_path.proofs.JoinLemmas.{is_open-at}
+use Rattle.unix_path.proofs.lemmas.edits.JoinLemmas.{is_open-at}
 use Rattle.unix_path.proofs.scan.is_open.Goals as goal
 
 pub returns-else-is_empty : goal.returns-else-is_empty

@@ -2,8 +2,9 @@ use Rattle.std.proofs.Common.{◌+◌, ◌∷◌, take, drop, ap, ◌∙◌, sym
 use Rattle.std.specs.List.{position_or_len}
 use Rattle.std.proofs.lemmas.List.{take_rest}
 use Rattle.unix_path.specs.Parts.{inner_parts, is_slash, Normal}
-use Rattle.unix_path.proofs.LeadLemmas.{busy_no_slash, first_value-name, is_first, IsFirst}
-use Rattle.unix_path.proofs.PartLemmas.{parts-name}
+use Rattle.unix_path.proofs.lemmas.steps.LeadLemmas.{busy_no_slash, first_value-name, is_first}
+use Rattle.unix_path.proofs.lemmas.steps.LeadLemmas.{IsFirst}
+use Rattle.unix_path.proofs.lemmas.parts.PartLemmas.{parts-name}
 use Rattle.unix_path.proofs.scan.name_step.Goals.{After-idle_len}
 use Rattle.unix_path.proofs.scan.name_step.Goals as goal
 

@@ -1,7 +1,8 @@
 use Rattle.std.proofs.Common.{◌+◌}
 use Rattle.std.proofs.lemmas.List.{take_rest}
 use Rattle.unix_path.specs.Parts.{ParentDir}
-use Rattle.unix_path.proofs.LeadLemmas.{is_first, length-parent_first, parts-parent_first, IsFirst}
+use Rattle.unix_path.proofs.lemmas.steps.LeadLemmas.{is_first, length-parent_first}
+use Rattle.unix_path.proofs.lemmas.steps.LeadLemmas.{parts-parent_first, IsFirst}
 use Rattle.unix_path.proofs.scan.parent_step.Goals.{After-idle_len}
 use Rattle.unix_path.proofs.scan.parent_step.Goals as goal
 

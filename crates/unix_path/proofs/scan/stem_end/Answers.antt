@@ -1,9 +1,10 @@
 use Rattle.std.proofs.Common.{◌≡◌, ℕ, ◌+◌, ◌-◌, ◌≤◌, ◌<◌, List, drop, take, length, ap, arith}
 use Rattle.std.proofs.Common.{eq-eqb, length-drop, ne_eqb}
 use Rattle.std.proofs.lemmas.List.{take_rest}
-use Rattle.unix_path.proofs.NamedLemmas.{ends_in_name}
-use Rattle.unix_path.proofs.StemCutLemmas.{dot_at, plain_from, stem_end-cut, stem_end-known}
-use Rattle.unix_path.proofs.StemCutLemmas.{stem_end-lead, stem_end-slash}
+use Rattle.unix_path.proofs.lemmas.names.NamedLemmas.{ends_in_name}
+use Rattle.unix_path.proofs.lemmas.names.StemCutLemmas.{dot_at, plain_from, stem_end-cut}
+use Rattle.unix_path.proofs.lemmas.names.StemCutLemmas.{stem_end-known}
+use Rattle.unix_path.proofs.lemmas.names.StemCutLemmas.{stem_end-lead, stem_end-slash}
 use Rattle.unix_path.proofs.scan.stem_end.Goals.{then-place-eq0-via-then-place-eq0}
 use Rattle.unix_path.proofs.scan.stem_end.Goals.{then-place-eq0-via-else-place-eq0+then-bytes-place-eq47}
 use Rattle.unix_path.proofs.scan.stem_end.Goals.{then-place-eq0-via-else-place-eq0+else-bytes-place-eq47+then-bytes-place-eq47-2}

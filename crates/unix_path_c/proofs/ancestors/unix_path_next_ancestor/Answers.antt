@@ -1,6 +1,7 @@
 use Rattle.std.proofs.Common.{◌≡◌, ◌∷◌, length, take, arith, true≢false}
 use Rattle.unix_path_c.specs.Ancestors.{ancestors_left}
-use Rattle.unix_path_c.proofs.AncestorLemmas.{ancestors_left-last, ancestors_left-parent}
+use Rattle.unix_path_c.proofs.lemmas.walks.AncestorLemmas.{ancestors_left-last}
+use Rattle.unix_path_c.proofs.lemmas.walks.AncestorLemmas.{ancestors_left-parent}
 use Rattle.unix_path_c.proofs.ancestors.unix_path_next_ancestor.Goals as goal
 use Rattle.unix_path_c.proofs.ancestors.unix_path_next_ancestor.Goals.{In-Some, In-None}
 

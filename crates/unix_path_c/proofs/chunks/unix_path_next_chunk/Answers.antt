@@ -1,8 +1,9 @@
 use Rattle.std.proofs.Common.{◌≡◌, ◌∷◌, ◌+◌, ◌≤◌, drop, length, refl, sym, ap, ◌∙◌, arith}
 use Rattle.std.proofs.Common.{length-drop}
-use Rattle.path_runs.proofs.KeptLemmas.{slice_range-from}
+use Rattle.path_runs.proofs.lemmas.gaps.KeptLemmas.{slice_range-from}
 use Rattle.unix_bytes.specs.Chunks.{chunk_of, chunks_left, chunks_of}
-use Rattle.unix_path_c.proofs.ChunkLemmas.{chunks_left-past, first_chunk_at, first_chunk_fits}
+use Rattle.unix_path_c.proofs.lemmas.walks.ChunkLemmas.{chunks_left-past, first_chunk_at}
+use Rattle.unix_path_c.proofs.lemmas.walks.ChunkLemmas.{first_chunk_fits}
 use Rattle.unix_path_c.proofs.chunks.unix_path_next_chunk.Goals as goal
 use Rattle.unix_path_c.proofs.chunks.unix_path_next_chunk.Goals.{In-Some}
 

@@ -1,6 +1,6 @@
 use Rattle.std.proofs.Common.{sym, ◌∙◌}
 use Rattle.unix_path.specs.Scan.{gap_bytes}
-use Rattle.unix_path.proofs.EditLemmas.{with_extension_of-none, with_extension_of-some}
+use Rattle.unix_path.proofs.lemmas.edits.EditLemmas.{with_extension_of-none, with_extension_of-some}
 use Rattle.unix_path_c.proofs.joins.extension_layout.Goals as goal
 
 pub returns-in_default : goal.returns-in_default

@@ -1,5 +1,5 @@
 use Rattle.std.proofs.Common.{◌++◌, sym, ap, ◌∙◌, append-nil}
-use Rattle.unix_path.proofs.JoinLemmas.{join_of_rooted, join_of_open, join_of_closed}
+use Rattle.unix_path.proofs.lemmas.edits.JoinLemmas.{join_of_rooted, join_of_open, join_of_closed}
 use Rattle.unix_path_c.proofs.joins.join_layout.Goals as goal
 
 pub returns-then-has_root : goal.returns-then-has_root

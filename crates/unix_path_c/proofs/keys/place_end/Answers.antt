@@ -1,6 +1,6 @@
 use Rattle.std.proofs.Common.{arith}
-use Rattle.path_keys.proofs.LastLemmas.{last_low}
-use Rattle.unix_path_c.proofs.RangeLemmas.{length-end, end_written, end_without_room}
+use Rattle.path_keys.proofs.lemmas.values.LastLemmas.{last_low}
+use Rattle.unix_path_c.proofs.lemmas.buffers.RangeLemmas.{length-end, end_written, end_without_room}
 use Rattle.unix_path_c.proofs.keys.place_end.Goals as goal
 
 pub overflow_add-out : goal.overflow_add-out

@@ -1,6 +1,6 @@
 use Rattle.std.proofs.Common.{◌≤◌, ◌*◌, length, refl, arith}
 use Rattle.path_keys.specs.Keys.{IsKey}
-use Rattle.unix_path_c.proofs.KeyPathLemmas.{read_short}
+use Rattle.unix_path_c.proofs.lemmas.buffers.KeyPathLemmas.{read_short}
 use Rattle.unix_path_c.proofs.keys.unix_path_from_key.Goals.{After-told_len}
 use Rattle.unix_path_c.proofs.keys.unix_path_from_key.Goals as goal
 

@@ -1,6 +1,6 @@
 use Rattle.std.proofs.Common.{arith}
 use Rattle.std.proofs.lemmas.Bool.Decides.{nat_tests}
-use Rattle.unix_path_c.proofs.RangeLemmas.{nil_is_key}
+use Rattle.unix_path_c.proofs.lemmas.buffers.RangeLemmas.{nil_is_key}
 use Rattle.unix_path_c.proofs.keys.unix_path_key_end.Goals as goal
 
 pub returns-then-is_empty-clause-not_a_key : goal.returns-then-is_empty-clause-not_a_key

@@ -2,7 +2,7 @@ use Rattle.std.proofs.Common.{◌≡◌, ◌+◌, length, ap, ◌∙◌, lit<, a
 use Rattle.std.specs.List.{flat_map}
 use Rattle.unix_bytes.specs.Chunks.{chunks_left, chunks_of, shown_chunk}
 use Rattle.unix_bytes.specs.Lossy.{lossy_of}
-use Rattle.unix_bytes.proofs.ChunkLemmas.{flat_map-shown_chunk}
+use Rattle.unix_bytes.proofs.lemmas.chunks.ChunkLemmas.{flat_map-shown_chunk}
 use Rattle.unix_path_c.specs.SaturatedSize.{saturated_size}
 use Rattle.unix_path_c.proofs.lossy.lossy_len.Goals as goal
 

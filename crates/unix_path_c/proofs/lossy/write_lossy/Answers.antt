@@ -2,9 +2,9 @@ use Rattle.std.proofs.Common.{◌++◌, sym, ap, ap₂, ◌∙◌}
 use Rattle.std.specs.List.{flat_map}
 use Rattle.unix_bytes.specs.Chunks.{chunks_left, chunks_of, shown_chunk}
 use Rattle.unix_bytes.specs.Lossy.{lossy_of}
-use Rattle.unix_bytes.proofs.ChunkLemmas.{flat_map-shown_chunk}
-use Rattle.path_runs.proofs.WritingLemmas.{writes_first, writes_last}
-use Rattle.unix_path_c.proofs.WritingLemmas.{writes_next}
+use Rattle.unix_bytes.proofs.lemmas.chunks.ChunkLemmas.{flat_map-shown_chunk}
+use Rattle.path_runs.proofs.lemmas.lists.WritingLemmas.{writes_first, writes_last}
+use Rattle.unix_path_c.proofs.lemmas.buffers.WritingLemmas.{writes_next}
 use Rattle.unix_path_c.proofs.lossy.write_lossy.Goals as goal
 
 pub loop-chunk-init : goal.loop-chunk-init

@@ -1,7 +1,7 @@
 use Rattle.std.specs.List.{flat_map}
 use Rattle.unix_bytes.specs.Chunks.{chunks_left, shown_chunk}
 use Rattle.unix_bytes.specs.Lossy.{lossy_of}
-use Rattle.path_runs.proofs.WritingLemmas.{WritesOn}
+use Rattle.path_runs.proofs.lemmas.lists.WritingLemmas.{WritesOn}
 use Rattle.unix_path_c.proofs.lossy.write_lossy.Given as goal
 
 -- a beginning of the lossy text is written, and the chunks left show what follows it

@@ -1,6 +1,6 @@
 use Rattle.std.proofs.Common.{◌-◌, length, refl}
-use Rattle.unix_path.proofs.LastPieceLemmas.{IsLastStart}
-use Rattle.unix_path_c.proofs.NameLemmas.{IsPlain, name_after, name_first}
+use Rattle.unix_path.proofs.lemmas.steps.LastPieceLemmas.{IsLastStart}
+use Rattle.unix_path_c.proofs.lemmas.walks.NameLemmas.{IsPlain, name_after, name_first}
 use Rattle.unix_path_c.proofs.names.last_name.Goals as goal
 use Rattle.unix_path_c.proofs.names.last_name.Goals.{After-past_last-start}
 

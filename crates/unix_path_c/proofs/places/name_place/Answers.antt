@@ -1,7 +1,8 @@
 use Rattle.std.proofs.Common.{Some, ap, ◌∙◌}
-use Rattle.unix_path.proofs.NameEndLemmas.{name_end_of-none, name_end_of-some}
-use Rattle.unix_path_c.proofs.PlaceLemmas.{name_ends, name_start_of-none, name_start_of-some}
-use Rattle.unix_path_c.proofs.StretchLemmas.{IsPlaceOf, place_of}
+use Rattle.unix_path.proofs.lemmas.names.NameEndLemmas.{name_end_of-none, name_end_of-some}
+use Rattle.unix_path_c.proofs.lemmas.places.PlaceLemmas.{name_ends, name_start_of-none}
+use Rattle.unix_path_c.proofs.lemmas.places.PlaceLemmas.{name_start_of-some}
+use Rattle.unix_path_c.proofs.lemmas.places.StretchLemmas.{IsPlaceOf, place_of}
 use Rattle.unix_path_c.specs.declared.places.Place.{Place}
 use Rattle.unix_path_c.proofs.places.name_place.Goals as goal
 use Rattle.unix_path_c.proofs.places.name_place.Goals.{After-place_at_end}

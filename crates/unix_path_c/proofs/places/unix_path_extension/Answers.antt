@@ -1,6 +1,6 @@
 use Rattle.std.proofs.Common.{◌+◌, Some, ap, ◌∙◌}
-use Rattle.unix_path_c.proofs.PlaceLemmas.{extension_ends}
-use Rattle.unix_path_c.proofs.StretchLemmas.{IsPlaceOf, place_of}
+use Rattle.unix_path_c.proofs.lemmas.places.PlaceLemmas.{extension_ends}
+use Rattle.unix_path_c.proofs.lemmas.places.StretchLemmas.{IsPlaceOf, place_of}
 use Rattle.unix_path_c.proofs.places.unix_path_extension.Goals as goal
 use Rattle.unix_path_c.proofs.places.unix_path_extension.Goals.{After-place_at_end}
 

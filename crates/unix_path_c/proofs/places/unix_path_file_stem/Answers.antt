@@ -1,5 +1,5 @@
 use Rattle.std.proofs.Common.{Some, ap, ◌∙◌}
-use Rattle.unix_path_c.proofs.PlaceLemmas.{stem_stands}
+use Rattle.unix_path_c.proofs.lemmas.places.PlaceLemmas.{stem_stands}
 use Rattle.unix_path_c.proofs.places.unix_path_file_stem.Goals as goal
 
 pub returns-clause-bytes : goal.returns-clause-bytes

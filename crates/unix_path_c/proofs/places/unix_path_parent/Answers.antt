@@ -1,5 +1,5 @@
 use Rattle.std.proofs.Common.{Some, ap, ◌∙◌}
-use Rattle.unix_path_c.proofs.PlaceLemmas.{parent_stands}
+use Rattle.unix_path_c.proofs.lemmas.places.PlaceLemmas.{parent_stands}
 use Rattle.unix_path_c.proofs.places.unix_path_parent.Goals as goal
 
 pub returns-clause-bytes : goal.returns-clause-bytes

@@ -1,6 +1,6 @@
 use Rattle.std.proofs.Common.{◌∙◌}
-use Rattle.unix_path_c.proofs.PlaceLemmas.{stripped_ends}
-use Rattle.unix_path_c.proofs.StretchLemmas.{IsPlaceOf, place_of}
+use Rattle.unix_path_c.proofs.lemmas.places.PlaceLemmas.{stripped_ends}
+use Rattle.unix_path_c.proofs.lemmas.places.StretchLemmas.{IsPlaceOf, place_of}
 use Rattle.unix_path_c.proofs.places.unix_path_strip_prefix.Goals as goal
 use Rattle.unix_path_c.proofs.places.unix_path_strip_prefix.Goals.{After-place_at_end}
 

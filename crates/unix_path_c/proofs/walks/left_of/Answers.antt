@@ -1,5 +1,5 @@
 use Rattle.std.proofs.Common.{sym, ◌∙◌}
-use Rattle.unix_path_c.proofs.BytesLeftLemmas.{bytes_left-in_range, bytes_left-outside}
+use Rattle.unix_path_c.proofs.lemmas.walks.BytesLeftLemmas.{bytes_left-in_range, bytes_left-outside}
 use Rattle.unix_path_c.proofs.walks.left_of.Goals as goal
 
 pub returns-in-Some : goal.returns-in-Some

@@ -1,6 +1,6 @@
 use Rattle.std.proofs.Common.{ap, length, ◌∙◌}
 use Rattle.unix_path.specs.Rest.{rest}
-use Rattle.unix_path_c.proofs.BytesLeftLemmas.{holds_left}
+use Rattle.unix_path_c.proofs.lemmas.walks.BytesLeftLemmas.{holds_left}
 use Rattle.unix_path_c.proofs.walks.unix_path_as_path.Goals as goal
 
 pub returns : goal.returns

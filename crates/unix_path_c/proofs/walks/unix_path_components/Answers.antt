@@ -1,6 +1,6 @@
 use Rattle.std.proofs.Common.{refl, ap, length, ◌∙◌}
 use Rattle.unix_path.specs.Rest.{rest}
-use Rattle.unix_path_c.proofs.BytesLeftLemmas.{is_fresh}
+use Rattle.unix_path_c.proofs.lemmas.walks.BytesLeftLemmas.{is_fresh}
 use Rattle.unix_path_c.proofs.walks.unix_path_components.Goals as goal
 
 pub returns : goal.returns

@@ -1,7 +1,7 @@
 use Rattle.std.proofs.Common.{◌<◌, true≢false, length, sym, ◌∙◌, arith, subst}
 use Rattle.unix_path_c.specs.Steps.{BeginsInPart}
 use Rattle.unix_path_c.specs.Walks.{bytes_left}
-use Rattle.unix_path_c.proofs.StepLemmas.{takes_first_part, first_fits, some_left}
+use Rattle.unix_path_c.proofs.lemmas.walks.StepLemmas.{takes_first_part, first_fits, some_left}
 use Rattle.unix_path_c.proofs.walks.unix_path_next.Goals as goal
 use Rattle.unix_path_c.proofs.walks.unix_path_next.Goals.{In-Some}
 

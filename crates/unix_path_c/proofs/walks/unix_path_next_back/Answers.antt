@@ -1,7 +1,7 @@
 use Rattle.std.proofs.Common.{◌<◌, true≢false, length, sym, ap, ◌∙◌, arith, subst}
 use Rattle.unix_path_c.specs.Steps.{EndsInName}
 use Rattle.unix_path_c.specs.Walks.{bytes_left}
-use Rattle.unix_path_c.proofs.StepLemmas.{takes_last_name, last_fits, some_left}
+use Rattle.unix_path_c.proofs.lemmas.walks.StepLemmas.{takes_last_name, last_fits, some_left}
 use Rattle.unix_path_c.proofs.walks.unix_path_next_back.Goals as goal
 use Rattle.unix_path_c.proofs.walks.unix_path_next_back.Goals.{In-Some}
 

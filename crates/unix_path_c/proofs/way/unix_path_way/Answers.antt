@@ -3,7 +3,7 @@ use Rattle.unix_path.specs.Parts.{values}
 use Rattle.path_runs.specs.Spelling.{spelling_of}
 use Rattle.path_within.specs.Way.{way_of}
 use Rattle.unix_path_c.specs.Refusals.{IsLength}
-use Rattle.unix_path_c.proofs.BoundLemmas.{way_bound}
+use Rattle.unix_path_c.proofs.lemmas.buffers.BoundLemmas.{way_bound}
 use Rattle.unix_path_c.proofs.way.unix_path_way.Goals as goal
 
 pub returns-in-Ok-Some-clause-short : goal.returns-in-Ok-Some-clause-short

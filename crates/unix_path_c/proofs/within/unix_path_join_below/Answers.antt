@@ -1,6 +1,6 @@
 use Rattle.std.proofs.Common.{◌≡◌, true, false, refl, sym, ap, ◌∙◌, inl, Err}
 use Rattle.unix_path.specs.Parts.{is_rooted}
-use Rattle.unix_path.proofs.RootLemmas.{rooted-Begins}
+use Rattle.unix_path.proofs.lemmas.rests.RootLemmas.{rooted-Begins}
 use Rattle.unix_path_c.proofs.within.unix_path_join_below.Goals as goal
 
 pub returns-in-Err-Rooted-clause-escapes : goal.returns-in-Err-Rooted-clause-escapes

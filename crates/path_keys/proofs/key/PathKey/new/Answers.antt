@@ -1,7 +1,7 @@
 use Rattle.std.proofs.Common.{[], ap, sym, ◌∙◌}
-use Rattle.unix_path.proofs.PartLemmas.{values-nil}
+use Rattle.unix_path.proofs.lemmas.parts.PartLemmas.{values-nil}
 use Rattle.path_keys.specs.Keys.{key_of}
-use Rattle.path_keys.proofs.KeyLemmas.{key_of-nil}
+use Rattle.path_keys.proofs.lemmas.values.KeyLemmas.{key_of-nil}
 use Rattle.path_keys.proofs.key.PathKey.new.Goals as goal
 
 pub invariant_of-result : goal.invariant_of-result

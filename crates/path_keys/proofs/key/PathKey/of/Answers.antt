@@ -1,9 +1,9 @@
 use Rattle.std.proofs.Common.{◌≡◌, length, sym, ap, ◌∙◌, subst, arith}
 use Rattle.std.proofs.lemmas.List.{nil_from_length}
 use Rattle.unix_path.specs.Parts.{values}
-use Rattle.unix_path.proofs.PartLemmas.{values-nil}
+use Rattle.unix_path.proofs.lemmas.parts.PartLemmas.{values-nil}
 use Rattle.path_keys.specs.Keys.{key_of, IsKey}
-use Rattle.path_keys.proofs.KeyLemmas.{key_of-nil}
+use Rattle.path_keys.proofs.lemmas.values.KeyLemmas.{key_of-nil}
 use Rattle.path_keys.proofs.key.PathKey.of.Goals as goal
 
 pub returns-then-len-eq0-clause-key : goal.returns-then-len-eq0-clause-key

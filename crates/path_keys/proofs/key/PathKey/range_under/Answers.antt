@@ -4,8 +4,8 @@ use Rattle.std.proofs.lemmas.Bool.Decides.{nat_tests}
 use Rattle.std.proofs.lemmas.List.{nil_from_length, get_or_read}
 use Rattle.path_keys.specs.Held.{key_bytes}
 use Rattle.path_keys.specs.Ranges.{end_of}
-use Rattle.path_keys.proofs.LastLemmas.{last_low}
-use Rattle.path_keys.proofs.RangeLemmas.{end_of-nil, end_of-some}
+use Rattle.path_keys.proofs.lemmas.values.LastLemmas.{last_low}
+use Rattle.path_keys.proofs.lemmas.values.RangeLemmas.{end_of-nil, end_of-some}
 use Rattle.path_keys.proofs.key.PathKey.range_under.Goals as goal
 
 pub returns-then-is_empty-clause-end : goal.returns-then-is_empty-clause-end

@@ -1,5 +1,5 @@
 use Rattle.std.proofs.Common.{arith}
-use Rattle.path_keys.proofs.RunReadLemmas.{up_code_len}
+use Rattle.path_keys.proofs.lemmas.spelling.RunReadLemmas.{up_code_len}
 use Rattle.path_keys.proofs.runs.Run.len.Goals as goal
 
 pub overflow_mul-result : goal.overflow_mul-result

@@ -1,5 +1,5 @@
 use Rattle.std.proofs.Common.{arith}
-use Rattle.path_keys.proofs.RunReadLemmas.{up_text_len}
+use Rattle.path_keys.proofs.lemmas.spelling.RunReadLemmas.{up_text_len}
 use Rattle.path_keys.proofs.runs.Run.text_len.Goals as goal
 
 pub overflow_mul-result : goal.overflow_mul-result

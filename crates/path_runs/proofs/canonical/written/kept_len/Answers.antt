@@ -1,6 +1,6 @@
 use Rattle.std.proofs.Common.{refl}
-use Rattle.path_runs.proofs.CopyLemmas.{spelling_of-single}
-use Rattle.path_runs.proofs.StretchLemmas.{spelling_of-stretch}
+use Rattle.path_runs.proofs.lemmas.gaps.CopyLemmas.{spelling_of-single}
+use Rattle.path_runs.proofs.lemmas.gaps.StretchLemmas.{spelling_of-stretch}
 use Rattle.path_runs.proofs.canonical.written.kept_len.Goals as goal
 
 pub returns-then-bytes-lt2-clause-spelled : goal.returns-then-bytes-lt2-clause-spelled

@@ -1,7 +1,7 @@
 use Rattle.std.proofs.Common.{[], ◌+◌, ◌-◌, ap, length, drop, arith, length-append}
 use Rattle.path_runs.specs.Gaps.{slashed_parts}
-use Rattle.path_runs.proofs.GaplessLemmas.{kept-length}
-use Rattle.path_runs.proofs.KeptLemmas.{nothing_left}
+use Rattle.path_runs.proofs.lemmas.gaps.GaplessLemmas.{kept-length}
+use Rattle.path_runs.proofs.lemmas.gaps.KeptLemmas.{nothing_left}
 use Rattle.path_runs.proofs.canonical.written.parts_len.Goals as goal
 
 pub overflow_add-len : goal.overflow_add-len

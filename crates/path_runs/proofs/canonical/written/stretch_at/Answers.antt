@@ -1,7 +1,7 @@
 use Rattle.std.proofs.Common.{drop, subst}
 use Rattle.path_runs.specs.Gaps.{FirstGap}
-use Rattle.path_runs.proofs.CopyLemmas.{copied_at}
-use Rattle.path_runs.proofs.KeptLemmas.{slice_range-from}
+use Rattle.path_runs.proofs.lemmas.gaps.CopyLemmas.{copied_at}
+use Rattle.path_runs.proofs.lemmas.gaps.KeptLemmas.{slice_range-from}
 use Rattle.path_runs.proofs.canonical.written.stretch_at.Goals as goal
 
 pub returns : goal.returns

@@ -1,7 +1,7 @@
 use Rattle.std.proofs.Common.{take, drop, ◌∙◌, arith, length-append, length-take-le}
 use Rattle.path_runs.specs.Gaps.{slashed_parts}
-use Rattle.path_runs.proofs.GaplessLemmas.{kept-length}
-use Rattle.path_runs.proofs.StretchLemmas.{rest-ends}
+use Rattle.path_runs.proofs.lemmas.gaps.GaplessLemmas.{kept-length}
+use Rattle.path_runs.proofs.lemmas.gaps.StretchLemmas.{rest-ends}
 use Rattle.path_runs.proofs.canonical.written.write_canonical.Goals as goal
 use Rattle.path_runs.proofs.canonical.written.write_canonical.Goals.{else-bytes-out}
 use Rattle.path_runs.proofs.canonical.written.write_canonical.Goals.{then-bytes-out+else-len-out}

@@ -1,9 +1,9 @@
 use Rattle.std.proofs.Common.{[], ◌++◌, ◌-◌, ◌+◌, take, drop, length, refl, ap, ◌∙◌, arith}
 use Rattle.std.proofs.Common.{length-append, length-take-le}
 use Rattle.path_runs.specs.Gaps.{slashed_parts}
-use Rattle.path_runs.proofs.KeptLemmas.{nothing_left}
-use Rattle.path_runs.proofs.WritingLemmas.{writes_first, writes_stretch, writes_room}
-use Rattle.path_runs.proofs.WritingLemmas.{writes_last, writes_end}
+use Rattle.path_runs.proofs.lemmas.gaps.KeptLemmas.{nothing_left}
+use Rattle.path_runs.proofs.lemmas.lists.WritingLemmas.{writes_first, writes_stretch, writes_room}
+use Rattle.path_runs.proofs.lemmas.lists.WritingLemmas.{writes_last, writes_end}
 use Rattle.path_runs.proofs.canonical.written.write_stretches.Goals as goal
 
 pub place-requires : goal.place-requires

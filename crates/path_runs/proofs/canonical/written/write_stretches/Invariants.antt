@@ -1,6 +1,6 @@
 use Rattle.std.proofs.Common.{◌-◌, ◌<◌, ◌≤◌, ◌++◌, length, take, drop}
 use Rattle.path_runs.specs.Gaps.{slashed_parts, IsPart}
-use Rattle.path_runs.proofs.WritingLemmas.{WritesOn}
+use Rattle.path_runs.proofs.lemmas.lists.WritingLemmas.{WritesOn}
 use Rattle.path_runs.proofs.canonical.written.write_stretches.Given as goal
 
 -- a beginning is written, and what is left follows it

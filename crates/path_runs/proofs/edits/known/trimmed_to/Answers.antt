@@ -1,5 +1,5 @@
 use Rattle.std.proofs.Common.{sym, ◌∙◌, arith}
-use Rattle.unix_path.proofs.TrimLemmas.{parts_shorter}
+use Rattle.unix_path.proofs.lemmas.filler.TrimLemmas.{parts_shorter}
 use Rattle.path_runs.proofs.edits.known.trimmed_to.Goals as goal
 
 pub loop-end-preserved : goal.loop-end-preserved

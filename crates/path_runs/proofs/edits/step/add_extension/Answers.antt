@@ -4,8 +4,9 @@ use Rattle.unix_path.specs.Buffers.{path_bytes}
 use Rattle.unix_path.specs.Extensions.{name_end_of}
 use Rattle.unix_path.specs.Names.{file_name_of}
 use Rattle.unix_path.specs.Parts.{values}
-use Rattle.unix_path.proofs.NameEndLemmas.{added_extension_of-some, file_name_of-name_end}
-use Rattle.path_runs.proofs.EditStepLemmas.{IsKnown-cut, keeps-front}
+use Rattle.unix_path.proofs.lemmas.names.NameEndLemmas.{added_extension_of-some}
+use Rattle.unix_path.proofs.lemmas.names.NameEndLemmas.{file_name_of-name_end}
+use Rattle.path_runs.proofs.lemmas.edits.EditStepLemmas.{IsKnown-cut, keeps-front}
 use Rattle.path_runs.proofs.edits.step.add_extension.Goals.{After-as_bytes-bytes}
 use Rattle.path_runs.proofs.edits.step.add_extension.Goals as goal
 

@@ -2,8 +2,8 @@ use Rattle.std.proofs.Common.{◌≡◌, ℕ, List, length, sym, ap, subst, ◌�
 use Rattle.unix_path.specs.Buffers.{path_bytes}
 use Rattle.unix_path.specs.Edits.{popped_of}
 use Rattle.unix_path.specs.Parents.{parent_of}
-use Rattle.unix_path.proofs.EditLemmas.{popped_of-none}
-use Rattle.path_runs.proofs.EditStepLemmas.{IsKnown-cut, Keeps, keeps-pop}
+use Rattle.unix_path.proofs.lemmas.edits.EditLemmas.{popped_of-none}
+use Rattle.path_runs.proofs.lemmas.edits.EditStepLemmas.{IsKnown-cut, Keeps, keeps-pop}
 use Rattle.path_runs.proofs.edits.step.pop.Goals as goal
 
 pub returns-then-is_bare-clause-bytes : goal.returns-then-is_bare-clause-bytes

@@ -4,7 +4,7 @@ use Rattle.unix_path.specs.Buffers.{path_bytes}
 use Rattle.unix_path.specs.Joins.{join_of}
 use Rattle.path_runs.specs.declared.edits.known.Known.{Known}
 use Rattle.path_runs.specs.Known.{IsKnown}
-use Rattle.path_runs.proofs.EditStepLemmas.{IsKnown_join}
+use Rattle.path_runs.proofs.lemmas.edits.EditStepLemmas.{IsKnown_join}
 use Rattle.path_runs.proofs.edits.step.push.Goals.{then-has_root, else-has_root}
 use Rattle.path_runs.proofs.edits.step.push.Goals as goal
 

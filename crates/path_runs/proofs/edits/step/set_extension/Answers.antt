@@ -7,12 +7,13 @@ use Rattle.unix_path.specs.Edits.{stem_end_of}
 use Rattle.unix_path.specs.Extensions.{name_end_of}
 use Rattle.unix_path.specs.Names.{file_name_of}
 use Rattle.unix_path.specs.Parts.{values}
-use Rattle.unix_path.proofs.EditLemmas.{with_extension_of-none}
-use Rattle.unix_path.proofs.NameEndLemmas.{file_name_of-name_end, file_name_of-no_name_end}
-use Rattle.unix_path.proofs.CallerLemmas.{stem_end_of-nameless}
-use Rattle.path_runs.proofs.EditStepLemmas.{IsKnown-cut}
-use Rattle.path_runs.proofs.EditStepLemmas.{keeps-front, with_extension_of-nil}
-use Rattle.path_runs.proofs.EditStepLemmas.{with_extension_of-dotted}
+use Rattle.unix_path.proofs.lemmas.edits.EditLemmas.{with_extension_of-none}
+use Rattle.unix_path.proofs.lemmas.names.NameEndLemmas.{file_name_of-name_end}
+use Rattle.unix_path.proofs.lemmas.names.NameEndLemmas.{file_name_of-no_name_end}
+use Rattle.unix_path.proofs.lemmas.callers.CallerLemmas.{stem_end_of-nameless}
+use Rattle.path_runs.proofs.lemmas.edits.EditStepLemmas.{IsKnown-cut}
+use Rattle.path_runs.proofs.lemmas.edits.EditStepLemmas.{keeps-front, with_extension_of-nil}
+use Rattle.path_runs.proofs.lemmas.edits.EditStepLemmas.{with_extension_of-dotted}
 use Rattle.path_runs.proofs.edits.step.set_extension.Goals.{After-as_bytes-bytes, In-Some}
 use Rattle.path_runs.proofs.edits.step.set_extension.Goals as goal
 

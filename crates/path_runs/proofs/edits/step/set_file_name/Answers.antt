@@ -1,7 +1,7 @@
 use Rattle.std.proofs.Common.{◌≡◌, ◌+◌, ◌-◌, ℕ, List, length, sym, ap, subst, ◌∙◌, arith}
 use Rattle.unix_path.specs.Buffers.{path_bytes}
 use Rattle.unix_path.specs.Edits.{with_name_of}
-use Rattle.path_runs.proofs.EditStepLemmas.{IsKnown-cut, Keeps, keeps-name}
+use Rattle.path_runs.proofs.lemmas.edits.EditStepLemmas.{IsKnown-cut, Keeps, keeps-name}
 use Rattle.path_runs.proofs.edits.step.set_file_name.Goals as goal
 
 pub returns-clause-known : goal.returns-clause-known

@@ -1,4 +1,4 @@
-use Rattle.path_runs.proofs.CongruenceLemmas.{edits_same}
+use Rattle.path_runs.proofs.lemmas.edits.CongruenceLemmas.{edits_same}
 use Rattle.path_runs.proofs.laws.edits.edits_congruent.Goals as goal
 
 pub returns-clause-answers : goal.returns-clause-answers

@@ -1,5 +1,6 @@
-use Rattle.path_runs.proofs.ExtensionLemmas.{stem_of-new_extension, extension_of-new_extension}
-use Rattle.path_runs.proofs.ExtensionLemmas.{parent_of-new_extension}
+use Rattle.path_runs.proofs.lemmas.edits.ExtensionLemmas.{stem_of-new_extension}
+use Rattle.path_runs.proofs.lemmas.edits.ExtensionLemmas.{extension_of-new_extension}
+use Rattle.path_runs.proofs.lemmas.edits.ExtensionLemmas.{parent_of-new_extension}
 use Rattle.path_runs.proofs.laws.edits.extension_set.Goals as goal
 
 pub returns-clause-stem : goal.returns-clause-stem

@@ -3,11 +3,12 @@ use Rattle.unix_path.specs.Parts.{Normal, values}
 use Rattle.std.specs.List.{last_or}
 use Rattle.unix_path.specs.Edits.{with_name_of}
 use Rattle.unix_path.specs.Rest.{rest}
-use Rattle.unix_bytes.proofs.CaseLemmas.{last_or-push}
+use Rattle.unix_bytes.proofs.lemmas.lists.CaseLemmas.{last_or-push}
 use Rattle.path_runs.specs.declared.edits.Answer.TheVariants.{Plain, Flag}
-use Rattle.unix_path.proofs.NameCutLemmas.{name_cut}
-use Rattle.path_runs.proofs.SiblingLemmas.{pop-answer, values-popped_of, parent_of-name}
-use Rattle.path_runs.proofs.SiblingLemmas.{values-with_name_of, rest-with_name_of}
+use Rattle.unix_path.proofs.lemmas.names.NameCutLemmas.{name_cut}
+use Rattle.path_runs.proofs.lemmas.joins.SiblingLemmas.{pop-answer, values-popped_of}
+use Rattle.path_runs.proofs.lemmas.joins.SiblingLemmas.{parent_of-name}
+use Rattle.path_runs.proofs.lemmas.joins.SiblingLemmas.{values-with_name_of, rest-with_name_of}
 use Rattle.std.proofs.Common.{Some, None}
 use Rattle.path_runs.proofs.laws.edits.push_then_pop.Goals as goal
 

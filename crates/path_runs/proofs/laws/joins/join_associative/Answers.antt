@@ -1,5 +1,5 @@
-use Rattle.path_runs.proofs.AssociativeLemmas.{join_of-join_of, join_of-nil}
-use Rattle.path_runs.proofs.LeadLemmas.{values-join_of_nil}
+use Rattle.path_runs.proofs.lemmas.joins.AssociativeLemmas.{join_of-join_of, join_of-nil}
+use Rattle.path_runs.proofs.lemmas.joins.LeadLemmas.{values-join_of_nil}
 use Rattle.path_runs.proofs.laws.joins.join_associative.Goals as goal
 
 pub returns-clause-bytes : goal.returns-clause-bytes

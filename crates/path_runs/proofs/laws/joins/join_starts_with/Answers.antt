@@ -1,6 +1,6 @@
 use Rattle.std.proofs.Common.{sym}
 use Rattle.path_runs.specs.JoinLaws.{values_added}
-use Rattle.path_runs.proofs.LeadLemmas.{values-join_of_values_added}
+use Rattle.path_runs.proofs.lemmas.joins.LeadLemmas.{values-join_of_values_added}
 use Rattle.path_runs.proofs.laws.joins.join_starts_with.Goals as goal
 
 pub returns-clause-begins : goal.returns-clause-begins

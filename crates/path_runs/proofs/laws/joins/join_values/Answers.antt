@@ -1,9 +1,9 @@
 use Rattle.std.proofs.Common.{◌≢◌, List, ℕ, [], ◌∷◌, length, ◌<◌, ◌++◌, sym, ap, refl, ◌∙◌}
 use Rattle.std.proofs.Common.{arith, append_assoc}
 use Rattle.unix_path.specs.Parts.{slash, values}
-use Rattle.unix_path.proofs.CommonPrefixLemmas.{values-past_slash}
-use Rattle.path_runs.proofs.ValueLemmas.{values-join_of}
-use Rattle.path_runs.proofs.LeadLemmas.{drop_dot-values, drop_lead-values}
+use Rattle.unix_path.proofs.lemmas.order.CommonPrefixLemmas.{values-past_slash}
+use Rattle.path_runs.proofs.lemmas.joins.ValueLemmas.{values-join_of}
+use Rattle.path_runs.proofs.lemmas.joins.LeadLemmas.{drop_dot-values, drop_lead-values}
 use Rattle.path_runs.proofs.laws.joins.join_values.Goals as goal
 
 some_byte : (s : List ℕ) → s ≢ [] → 0 < length s

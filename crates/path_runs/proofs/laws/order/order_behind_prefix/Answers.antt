@@ -1,5 +1,5 @@
-use Rattle.unix_path.proofs.CallerLemmas.{values_cmp-common_dir}
-use Rattle.unix_path.proofs.CommonPrefixLemmas.{values_cmp-slash}
+use Rattle.unix_path.proofs.lemmas.callers.CallerLemmas.{values_cmp-common_dir}
+use Rattle.unix_path.proofs.lemmas.order.CommonPrefixLemmas.{values_cmp-slash}
 use Rattle.path_runs.proofs.laws.order.order_behind_prefix.Goals as goal
 
 pub returns-clause-slash : goal.returns-clause-slash

@@ -1,5 +1,5 @@
 use Rattle.unix_path.specs.OrderLaws.{values_cmp-total}
-use Rattle.path_runs.proofs.OrderLemmas.{one_order, values_cmp-ties}
+use Rattle.path_runs.proofs.lemmas.order.OrderLemmas.{one_order, values_cmp-ties}
 use Rattle.path_runs.proofs.laws.order.order_total.Goals as goal
 
 pub returns-clause-total : goal.returns-clause-total

@@ -1,4 +1,4 @@
-use Rattle.path_runs.proofs.OrderLemmas.{begins_both_ways}
+use Rattle.path_runs.proofs.lemmas.order.OrderLemmas.{begins_both_ways}
 use Rattle.path_runs.proofs.laws.order.prefix_both_ways.Goals as goal
 
 pub returns : goal.returns

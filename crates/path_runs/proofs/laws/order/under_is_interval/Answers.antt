@@ -1,4 +1,4 @@
-use Rattle.path_runs.proofs.IntervalLemmas.{begins_between}
+use Rattle.path_runs.proofs.lemmas.order.IntervalLemmas.{begins_between}
 use Rattle.path_runs.proofs.laws.order.under_is_interval.Goals as goal
 
 pub returns : goal.returns

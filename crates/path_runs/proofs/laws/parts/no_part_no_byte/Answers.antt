@@ -1,6 +1,6 @@
 use Rattle.std.proofs.Common.{ap, ◌∙◌}
 use Rattle.unix_path.specs.Parts.{values}
-use Rattle.unix_path.proofs.PartLemmas.{values-nil, values-none}
+use Rattle.unix_path.proofs.lemmas.parts.PartLemmas.{values-nil, values-none}
 use Rattle.path_runs.proofs.laws.parts.no_part_no_byte.Goals as goal
 
 pub returns-clause-exactly : goal.returns-clause-exactly

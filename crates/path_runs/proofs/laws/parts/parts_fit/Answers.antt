@@ -1,5 +1,5 @@
-use Rattle.unix_path.proofs.RestLemmas.{length-values}
-use Rattle.path_runs.proofs.FitLemmas.{byte_count-values, sum_by-items}
+use Rattle.unix_path.proofs.lemmas.rests.RestLemmas.{length-values}
+use Rattle.path_runs.proofs.lemmas.spelling.FitLemmas.{byte_count-values, sum_by-items}
 use Rattle.path_runs.proofs.laws.parts.parts_fit.Goals as goal
 
 pub returns-clause-count : goal.returns-clause-count

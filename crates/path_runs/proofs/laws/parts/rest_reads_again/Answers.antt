@@ -1,4 +1,4 @@
-use Rattle.unix_path.proofs.RestLemmas.{values-rest, rest-rest}
+use Rattle.unix_path.proofs.lemmas.rests.RestLemmas.{values-rest, rest-rest}
 use Rattle.path_runs.proofs.laws.parts.rest_reads_again.Goals as goal
 
 pub returns-clause-values : goal.returns-clause-values

@@ -1,6 +1,6 @@
-use Rattle.path_runs.proofs.AncestorPrefixLemmas.{ancestors_of-prefixes}
+use Rattle.path_runs.proofs.lemmas.order.AncestorPrefixLemmas.{ancestors_of-prefixes}
 use Rattle.path_runs.proofs.laws.queries.ancestors_step.Goals as goal
-use Rattle.unix_path.proofs.CallerLemmas.{ancestors_of-alone, ancestors_of-above}
+use Rattle.unix_path.proofs.lemmas.callers.CallerLemmas.{ancestors_of-alone, ancestors_of-above}
 
 pub returns-clause-end : goal.returns-clause-end
 returns-clause-end c = ancestors_of-alone

@@ -1,4 +1,5 @@
-use Rattle.path_runs.proofs.StemNameLemmas.{name_from_stem-split_name, file_name-from_stem}
+use Rattle.path_runs.proofs.lemmas.names.StemNameLemmas.{name_from_stem-split_name}
+use Rattle.path_runs.proofs.lemmas.names.StemNameLemmas.{file_name-from_stem}
 use Rattle.unix_path.specs.Parts.{values}
 use Rattle.unix_path.specs.Names.{file_name_of}
 use Rattle.path_runs.proofs.laws.queries.name_rejoined.Goals as goal

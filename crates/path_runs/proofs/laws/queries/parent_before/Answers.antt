@@ -1,4 +1,4 @@
-use Rattle.path_runs.proofs.ParentBeforeLemmas.{parent-before, parent-join_name}
+use Rattle.path_runs.proofs.lemmas.order.ParentBeforeLemmas.{parent-before, parent-join_name}
 use Rattle.path_runs.proofs.laws.queries.parent_before.Goals as goal
 
 pub returns-clause-order : goal.returns-clause-order

@@ -3,11 +3,13 @@ use Rattle.unix_path.specs.Hashed.{hash_input_of}
 use Rattle.unix_path.specs.Names.{file_name_of, stem_of, extension_of, file_prefix_of}
 use Rattle.unix_path.specs.Order.{values_cmp}
 use Rattle.unix_path.specs.Parts.{value_bytes}
-use Rattle.path_runs.proofs.AlikeLemmas.{prefixes_same, suffixes_same, equality_same}
-use Rattle.path_runs.proofs.AlikeLemmas.{parents_same, ancestors_same, stripped_of-same}
-use Rattle.path_runs.proofs.CongruenceLemmas.{rests_same, with_name_same, with_extension_same}
-use Rattle.path_runs.proofs.CongruenceLemmas.{added_extension_same}
-use Rattle.path_runs.proofs.LeadLemmas.{joins_same, roots_same}
+use Rattle.path_runs.proofs.lemmas.edits.AlikeLemmas.{prefixes_same, suffixes_same, equality_same}
+use Rattle.path_runs.proofs.lemmas.edits.AlikeLemmas.{parents_same, ancestors_same}
+use Rattle.path_runs.proofs.lemmas.edits.AlikeLemmas.{stripped_of-same}
+use Rattle.path_runs.proofs.lemmas.edits.CongruenceLemmas.{rests_same, with_name_same}
+use Rattle.path_runs.proofs.lemmas.edits.CongruenceLemmas.{with_extension_same}
+use Rattle.path_runs.proofs.lemmas.edits.CongruenceLemmas.{added_extension_same}
+use Rattle.path_runs.proofs.lemmas.joins.LeadLemmas.{joins_same, roots_same}
 use Rattle.path_runs.proofs.laws.queries.queries_congruent.Goals as goal
 
 pub returns : goal.returns

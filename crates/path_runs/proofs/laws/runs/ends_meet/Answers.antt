@@ -5,8 +5,8 @@ use Rattle.unix_path.specs.Cursor.{iter_bytes, iter_rest, name_bytes}
 use Rattle.unix_path.specs.Cursor.{GivesFirstName, GivesLastName}
 use Rattle.unix_path.specs.Views.{value_of}
 use Rattle.unix_path.specs.Parts.{value_bytes}
-use Rattle.path_runs.proofs.MixedLemmas.{ends_meet, none-cursor_rest, rest_between}
-use Rattle.unix_path.proofs.CursorLemmas.{cursor_rest-whole}
+use Rattle.path_runs.proofs.lemmas.walks.MixedLemmas.{ends_meet, none-cursor_rest, rest_between}
+use Rattle.unix_path.proofs.lemmas.walks.CursorLemmas.{cursor_rest-whole}
 use Rattle.path_runs.proofs.laws.runs.ends_meet.Goals as goal
 
 pub returns-clause-parts : goal.returns-clause-parts

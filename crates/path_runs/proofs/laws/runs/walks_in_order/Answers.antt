@@ -1,5 +1,6 @@
-use Rattle.path_runs.proofs.InOrderLemmas.{parts_in_order, parts_in_reverse, names_in_order}
-use Rattle.path_runs.proofs.InOrderLemmas.{names_in_reverse, ancestors_in_order}
+use Rattle.path_runs.proofs.lemmas.walks.InOrderLemmas.{parts_in_order, parts_in_reverse}
+use Rattle.path_runs.proofs.lemmas.walks.InOrderLemmas.{names_in_order}
+use Rattle.path_runs.proofs.lemmas.walks.InOrderLemmas.{names_in_reverse, ancestors_in_order}
 use Rattle.path_runs.proofs.laws.runs.walks_in_order.Goals as goal
 
 pub returns-clause-parts : goal.returns-clause-parts

@@ -1,7 +1,7 @@
 use Rattle.std.proofs.Common.{ap}
 use Rattle.path_runs.specs.Spelling.{spelling_of}
-use Rattle.path_runs.proofs.LeanLemmas.{spelling_of-shortest}
-use Rattle.path_runs.proofs.ReadBackLemmas.{values-spelling_of, spelling_of-same}
+use Rattle.path_runs.proofs.lemmas.spelling.LeanLemmas.{spelling_of-shortest}
+use Rattle.path_runs.proofs.lemmas.spelling.ReadBackLemmas.{values-spelling_of, spelling_of-same}
 use Rattle.path_runs.proofs.laws.spelling.canonical_form.Goals as goal
 
 pub returns-clause-reads_back : goal.returns-clause-reads_back

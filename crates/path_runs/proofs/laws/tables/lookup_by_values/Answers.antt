@@ -1,6 +1,6 @@
 use Rattle.unix_path.specs.Buffers.{path_bytes}
 use Rattle.path_runs.specs.TableLaws.{view_bytes}
-use Rattle.path_runs.proofs.TableLemmas.{lookup-rows_of}
+use Rattle.path_runs.proofs.lemmas.order.TableLemmas.{lookup-rows_of}
 use Rattle.path_runs.proofs.laws.tables.lookup_by_values.Goals as goal
 
 pub returns-clause-owned : goal.returns-clause-owned

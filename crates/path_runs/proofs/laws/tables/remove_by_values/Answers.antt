@@ -1,6 +1,6 @@
 use Rattle.unix_path.specs.Buffers.{path_bytes}
 use Rattle.path_runs.specs.TableLaws.{view_bytes}
-use Rattle.path_runs.proofs.TableLemmas.{remove-rows_of}
+use Rattle.path_runs.proofs.lemmas.order.TableLemmas.{remove-rows_of}
 use Rattle.path_runs.proofs.laws.tables.remove_by_values.Goals as goal
 
 pub returns-clause-owned : goal.returns-clause-owned

@@ -1,7 +1,7 @@
 use Rattle.std.proofs.Common.{arith, inl}
 use Rattle.unix_path.specs.Cursor.{cursor_rest}
-use Rattle.unix_path.proofs.CursorLemmas.{length-cursor_rest}
-use Rattle.unix_path.proofs.RestLemmas.{length-values}
+use Rattle.unix_path.proofs.lemmas.walks.CursorLemmas.{length-cursor_rest}
+use Rattle.unix_path.proofs.lemmas.rests.RestLemmas.{length-values}
 use Rattle.path_tests.proofs.runs.callers.count.Goals as goal
 
 pub count-requires-clause-fits : goal.count-requires-clause-fits

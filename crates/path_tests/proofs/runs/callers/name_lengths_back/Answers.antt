@@ -1,7 +1,7 @@
 use Rattle.std.proofs.Common.{length, rules}
 use Rattle.std.proofs.lemmas.Iterator.{items_from_collect, YieldsList-from_map}
 use Rattle.std.proofs.lemmas.Iterator.Consumers.{YieldsList-at}
-use Rattle.unix_path.proofs.CursorLemmas.{Iter-yields_back}
+use Rattle.unix_path.proofs.lemmas.walks.CursorLemmas.{Iter-yields_back}
 use Rattle.path_tests.proofs.runs.callers.name_lengths_back.Goals as goal
 
 pub returns : goal.returns

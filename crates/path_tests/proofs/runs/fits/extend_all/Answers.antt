@@ -2,7 +2,7 @@ use Rattle.std.proofs.Common.{arith}
 use Rattle.std.proofs.lemmas.Iterator.{YieldsList-from_slice}
 use Rattle.std.proofs.lemmas.Iterator.Consumers.{YieldsList-from_copied, YieldsList-at}
 use Rattle.unix_path.specs.Buffers.{path_bytes}
-use Rattle.path_runs.proofs.ExtendLemmas.{JoinsBeginning-exceeds}
+use Rattle.path_runs.proofs.lemmas.joins.ExtendLemmas.{JoinsBeginning-exceeds}
 use Rattle.path_tests.proofs.runs.fits.extend_all.Goals as goal
 
 pub returns-in_err-extend : goal.returns-in_err-extend

@@ -1,6 +1,6 @@
 use Rattle.std.proofs.Common.{arith}
 use Rattle.std.proofs.lemmas.Grind.{common_steps}
-use Rattle.path_tree.proofs.ReadLemmas.{own-of, values-of}
+use Rattle.path_tree.proofs.lemmas.keys.ReadLemmas.{own-of, values-of}
 use Rattle.path_tree.proofs.made.MadeKey.of.Goals as goal
 
 pub returns-then-len-le-ROOM-clause-own : goal.returns-then-len-le-ROOM-clause-own

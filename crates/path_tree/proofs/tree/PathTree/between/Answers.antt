@@ -3,7 +3,7 @@ use Rattle.path_keys.specs.Ranges.{bytes_cmp}
 use Rattle.path_table.specs.Table.{is_under}
 use Rattle.path_tree.specs.Read.{key_values}
 use Rattle.path_tree.specs.Rows.{Key, key_rows}
-use Rattle.path_tree.proofs.UnderLemmas.{between-under, filter-rows_by, forward}
+use Rattle.path_tree.proofs.lemmas.keys.UnderLemmas.{between-under, filter-rows_by, forward}
 use Rattle.path_tree.proofs.tree.PathTree.between.Goals as goal
 
 pub range-requires : goal.range-requires

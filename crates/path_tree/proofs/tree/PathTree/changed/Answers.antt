@@ -7,9 +7,9 @@ use Rattle.path_tree.specs.Changed.{lent_both, rows_changed}
 use Rattle.path_tree.specs.Read.{key_values}
 use Rattle.path_tree.specs.Rows.{key_rows}
 use Rattle.path_tree.specs.Tree.{table_of}
-use Rattle.path_tree.proofs.BesideLemmas.{Beside, beside_first, beside_more}
-use Rattle.path_tree.proofs.ChangedLemmas.{absent_row, changed_row, equal_row}
-use Rattle.path_tree.proofs.DifferenceLemmas.{map_push-append, some_append}
+use Rattle.path_tree.proofs.lemmas.rows.BesideLemmas.{Beside, beside_first, beside_more}
+use Rattle.path_tree.proofs.lemmas.rows.ChangedLemmas.{absent_row, changed_row, equal_row}
+use Rattle.path_tree.proofs.lemmas.rows.DifferenceLemmas.{map_push-append, some_append}
 use Rattle.path_tree.proofs.tree.PathTree.changed.Goals as goal
 
 pub loop-key-init : goal.loop-key-init

@@ -6,12 +6,15 @@ use Rattle.path_tree.specs.Children.{child_row, children_of, lent_child}
 use Rattle.path_tree.specs.Read.{is_own, key_values}
 use Rattle.path_tree.specs.Rows.{Key}
 use Rattle.path_tree.specs.Tree.{table_of}
-use Rattle.path_tree.proofs.ChildLemmas.{ChildKey}
-use Rattle.path_tree.proofs.ChildWalkLemmas.{FindsChildren, begins_by, below, finds, first_own}
-use Rattle.path_tree.proofs.ChildWalkLemmas.{found_all, found_at_end, longer, not_none}
-use Rattle.path_tree.proofs.ChildWalkLemmas.{not_none_found, other, passed_fewer, passes, starts}
-use Rattle.path_tree.proofs.DifferenceLemmas.{map_push-append}
-use Rattle.path_tree.proofs.ManyLemmas.{starts_with-under}
+use Rattle.path_tree.proofs.lemmas.children.ChildLemmas.{ChildKey}
+use Rattle.path_tree.proofs.lemmas.children.ChildWalkLemmas.{FindsChildren, begins_by, below, finds}
+use Rattle.path_tree.proofs.lemmas.children.ChildWalkLemmas.{first_own}
+use Rattle.path_tree.proofs.lemmas.children.ChildWalkLemmas.{found_all, found_at_end, longer}
+use Rattle.path_tree.proofs.lemmas.children.ChildWalkLemmas.{not_none}
+use Rattle.path_tree.proofs.lemmas.children.ChildWalkLemmas.{not_none_found, other, passed_fewer}
+use Rattle.path_tree.proofs.lemmas.children.ChildWalkLemmas.{passes, starts}
+use Rattle.path_tree.proofs.lemmas.rows.DifferenceLemmas.{map_push-append}
+use Rattle.path_tree.proofs.lemmas.rows.ManyLemmas.{starts_with-under}
 use Rattle.path_tree.proofs.tree.PathTree.children.Goals as goal
 use Rattle.path_tree.proofs.tree.PathTree.children.Goals.{in_default}
 use Rattle.path_tree.proofs.tree.PathTree.children.Goals.{in-Some+in_default-begun_by+then-not-starts_with}

@@ -1,6 +1,6 @@
 use Rattle.std.proofs.Common.{length, map, option_map}
 use Rattle.path_tree.specs.Children.{lent_child}
-use Rattle.path_tree.proofs.ChildWalkLemmas.{FindsChildren}
+use Rattle.path_tree.proofs.lemmas.children.ChildWalkLemmas.{FindsChildren}
 use Rattle.path_tree.proofs.tree.PathTree.children.Given as goal
 
 abbrev pub invariant-loop-key : goal.invariant-loop-key

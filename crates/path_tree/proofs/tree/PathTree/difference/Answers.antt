@@ -7,8 +7,9 @@ use Rattle.path_tree.specs.Difference.{lent_row, rows_lacking}
 use Rattle.path_tree.specs.Read.{key_values}
 use Rattle.path_tree.specs.Rows.{key_rows}
 use Rattle.path_tree.specs.Tree.{table_of}
-use Rattle.path_tree.proofs.BesideLemmas.{Beside, beside_first, beside_more}
-use Rattle.path_tree.proofs.DifferenceLemmas.{has_row, lacks_row, map_push-append, some_append}
+use Rattle.path_tree.proofs.lemmas.rows.BesideLemmas.{Beside, beside_first, beside_more}
+use Rattle.path_tree.proofs.lemmas.rows.DifferenceLemmas.{has_row, lacks_row, map_push-append}
+use Rattle.path_tree.proofs.lemmas.rows.DifferenceLemmas.{some_append}
 use Rattle.path_tree.proofs.tree.PathTree.difference.Goals as goal
 
 pub loop-key-init : goal.loop-key-init

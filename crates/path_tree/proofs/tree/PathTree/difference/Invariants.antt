@@ -3,7 +3,7 @@ use Rattle.path_tree.specs.Ahead.{ahead_of}
 use Rattle.path_tree.specs.Difference.{lent_row, rows_lacking}
 use Rattle.path_tree.specs.Rows.{key_rows}
 use Rattle.path_tree.specs.Tree.{table_of}
-use Rattle.path_tree.proofs.BesideLemmas.{Beside}
+use Rattle.path_tree.proofs.lemmas.rows.BesideLemmas.{Beside}
 use Rattle.path_tree.proofs.tree.PathTree.difference.Given as goal
 
 abbrev pub invariant-loop-key : goal.invariant-loop-key

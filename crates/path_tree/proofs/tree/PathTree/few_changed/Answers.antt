@@ -7,9 +7,9 @@ use Rattle.path_tree.specs.Changed.{lent_both, rows_changed}
 use Rattle.path_tree.specs.Read.{is_own, key_values}
 use Rattle.path_tree.specs.Rows.{Key, key_rows}
 use Rattle.path_tree.specs.Tree.{table_of}
-use Rattle.path_tree.proofs.ChangedLemmas.{absent_row, changed_row, equal_row}
-use Rattle.path_tree.proofs.DifferenceLemmas.{map_push-append, some_append}
-use Rattle.path_tree.proofs.RowLemmas.{Own}
+use Rattle.path_tree.proofs.lemmas.rows.ChangedLemmas.{absent_row, changed_row, equal_row}
+use Rattle.path_tree.proofs.lemmas.rows.DifferenceLemmas.{map_push-append, some_append}
+use Rattle.path_tree.proofs.lemmas.keys.RowLemmas.{Own}
 use Rattle.path_tree.proofs.tree.PathTree.few_changed.Goals as goal
 
 pub loop-key-preserved-in-Continue-1 : goal.loop-key-preserved-in-Continue-1

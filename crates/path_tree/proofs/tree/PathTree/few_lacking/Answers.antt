@@ -7,8 +7,9 @@ use Rattle.path_tree.specs.Difference.{lent_row, rows_lacking}
 use Rattle.path_tree.specs.Read.{is_own, key_values}
 use Rattle.path_tree.specs.Rows.{Key, key_rows}
 use Rattle.path_tree.specs.Tree.{table_of}
-use Rattle.path_tree.proofs.DifferenceLemmas.{has_row, lacks_row, map_push-append, some_append}
-use Rattle.path_tree.proofs.RowLemmas.{Own}
+use Rattle.path_tree.proofs.lemmas.rows.DifferenceLemmas.{has_row, lacks_row, map_push-append}
+use Rattle.path_tree.proofs.lemmas.rows.DifferenceLemmas.{some_append}
+use Rattle.path_tree.proofs.lemmas.keys.RowLemmas.{Own}
 use Rattle.path_tree.proofs.tree.PathTree.few_lacking.Goals as goal
 
 pub loop-key-preserved-in-Continue-1 : goal.loop-key-preserved-in-Continue-1

@@ -2,7 +2,7 @@ use Rattle.std.proofs.Common.{◌≡◌, ◌++◌, map}
 use Rattle.path_tree.specs.Difference.{lent_row, rows_lacking}
 use Rattle.path_tree.specs.Rows.{Key, key_rows}
 use Rattle.path_tree.specs.Tree.{table_of}
-use Rattle.path_tree.proofs.RowLemmas.{Own}
+use Rattle.path_tree.proofs.lemmas.keys.RowLemmas.{Own}
 use Rattle.path_tree.proofs.tree.PathTree.few_lacking.Given as goal
 
 abbrev pub invariant-loop-key : goal.invariant-loop-key

@@ -1,6 +1,6 @@
 use Rattle.std.proofs.Common.{◌∙◌}
-use Rattle.path_tree.proofs.ReadLemmas.{own-stands}
-use Rattle.path_tree.proofs.RowLemmas.{lookup-rows_by}
+use Rattle.path_tree.proofs.lemmas.keys.ReadLemmas.{own-stands}
+use Rattle.path_tree.proofs.lemmas.keys.RowLemmas.{lookup-rows_by}
 use Rattle.path_tree.proofs.tree.PathTree.find.Goals as goal
 
 pub returns : goal.returns

@@ -1,6 +1,6 @@
 use Rattle.std.proofs.Common.{ap, refl, ◌∙◌}
-use Rattle.path_tree.proofs.ReadLemmas.{own-stands}
-use Rattle.path_tree.proofs.RowLemmas.{lookup-rows_by, rows_by, set_value-rows_by}
+use Rattle.path_tree.proofs.lemmas.keys.ReadLemmas.{own-stands}
+use Rattle.path_tree.proofs.lemmas.keys.RowLemmas.{lookup-rows_by, rows_by, set_value-rows_by}
 use Rattle.path_tree.proofs.tree.PathTree.find_mut.Goals as goal
 
 pub returns : goal.returns

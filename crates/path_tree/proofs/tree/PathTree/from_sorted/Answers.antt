@@ -1,6 +1,7 @@
 use Rattle.std.proofs.Common.{◌≡◌, ◌∷◌, ◌++◌, ◌∙◌, [], rules, subst, sym, true}
-use Rattle.path_tree.proofs.SortedWalkLemmas.{Listed, listed_more, listed_none, made_own, made_rows}
-use Rattle.path_tree.proofs.SortedWalkLemmas.{rise, stops}
+use Rattle.path_tree.proofs.lemmas.rows.SortedWalkLemmas.{Listed, listed_more, listed_none}
+use Rattle.path_tree.proofs.lemmas.rows.SortedWalkLemmas.{made_own, made_rows}
+use Rattle.path_tree.proofs.lemmas.rows.SortedWalkLemmas.{rise, stops}
 use Rattle.path_tree.proofs.tree.PathTree.from_sorted.Goals as goal
 
 pub loop-path-init : goal.loop-path-init

@@ -1,4 +1,4 @@
-use Rattle.path_tree.proofs.UnderLemmas.{sorted-rows_by}
+use Rattle.path_tree.proofs.lemmas.keys.UnderLemmas.{sorted-rows_by}
 use Rattle.path_tree.proofs.tree.PathTree.in_order.Goals as goal
 
 pub returns : goal.returns

@@ -1,4 +1,4 @@
-use Rattle.path_tree.proofs.UnderLemmas.{sorted-rows_by}
+use Rattle.path_tree.proofs.lemmas.keys.UnderLemmas.{sorted-rows_by}
 use Rattle.path_tree.proofs.tree.PathTree.iter.Goals as goal
 
 pub returns-clause-ordered : goal.returns-clause-ordered

@@ -7,10 +7,11 @@ use Rattle.path_tree.specs.Moved.{moved_rows, rows_with}
 use Rattle.path_tree.specs.Read.{is_own, key_values}
 use Rattle.path_tree.specs.Rows.{key_rows, rows_outside, rows_under}
 use Rattle.path_tree.specs.Tree.{table_of}
-use Rattle.path_tree.proofs.ManyLemmas.{length-key_rows}
-use Rattle.path_tree.proofs.MovedLemmas.{all_last, none_under, length-moved, moved_outside}
-use Rattle.path_tree.proofs.MovedLemmas.{moved_under, outside-with, taken_back}
-use Rattle.path_tree.proofs.UnderLemmas.{key_begins}
+use Rattle.path_tree.proofs.lemmas.rows.ManyLemmas.{length-key_rows}
+use Rattle.path_tree.proofs.lemmas.rows.MovedLemmas.{all_last, none_under, length-moved}
+use Rattle.path_tree.proofs.lemmas.rows.MovedLemmas.{moved_outside}
+use Rattle.path_tree.proofs.lemmas.rows.MovedLemmas.{moved_under, outside-with, taken_back}
+use Rattle.path_tree.proofs.lemmas.keys.UnderLemmas.{key_begins}
 use Rattle.path_tree.proofs.tree.PathTree.move_under.Goals as goal
 
 pub returns-in-Err-clause-err : goal.returns-in-Err-clause-err

@@ -7,11 +7,11 @@ use Rattle.path_table.specs.Table.{is_under}
 use Rattle.path_tree.specs.Moved.{moved_row, moved_rows}
 use Rattle.path_tree.specs.Read.{is_own, key_values}
 use Rattle.path_tree.specs.Rows.{Key, key_rows}
-use Rattle.path_tree.proofs.ChildWalkLemmas.{begins_by}
-use Rattle.path_tree.proofs.ManyLemmas.{starts_with-under}
-use Rattle.path_tree.proofs.MovedLemmas.{leaves_row, moves_row}
-use Rattle.path_tree.proofs.RowLemmas.{Own}
-use Rattle.path_tree.proofs.SortedWalkLemmas.{own_put, rows_more}
+use Rattle.path_tree.proofs.lemmas.children.ChildWalkLemmas.{begins_by}
+use Rattle.path_tree.proofs.lemmas.rows.ManyLemmas.{starts_with-under}
+use Rattle.path_tree.proofs.lemmas.rows.MovedLemmas.{leaves_row, moves_row}
+use Rattle.path_tree.proofs.lemmas.keys.RowLemmas.{Own}
+use Rattle.path_tree.proofs.lemmas.rows.SortedWalkLemmas.{own_put, rows_more}
 use Rattle.path_tree.proofs.tree.PathTree.moved.Goals as goal
 
 pub moved_key-requires-clause-own : goal.moved_key-requires-clause-own

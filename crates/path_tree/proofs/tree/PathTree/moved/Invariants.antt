@@ -3,7 +3,7 @@ use Rattle.path_tree.specs.Moved.{moved_rows}
 use Rattle.path_tree.specs.Read.{key_values}
 use Rattle.path_tree.specs.Rows.{Key, key_rows}
 use Rattle.path_tree.specs.Tree.{table_of}
-use Rattle.path_tree.proofs.RowLemmas.{Own}
+use Rattle.path_tree.proofs.lemmas.keys.RowLemmas.{Own}
 use Rattle.path_tree.proofs.tree.PathTree.moved.Given as goal
 
 abbrev pub invariant-loop-key : goal.invariant-loop-key

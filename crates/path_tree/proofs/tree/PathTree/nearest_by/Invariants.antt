@@ -1,7 +1,7 @@
 use Rattle.std.proofs.Common.{length}
 use Rattle.unix_path.specs.Cursor.{cursor_rest, cursor_values}
 use Rattle.path_tree.specs.Tree.{table_of}
-use Rattle.path_tree.proofs.NearestLemmas.{GoesUp}
+use Rattle.path_tree.proofs.lemmas.keys.NearestLemmas.{GoesUp}
 use Rattle.path_tree.proofs.tree.PathTree.nearest_by.Given as goal
 
 abbrev pub invariant-loop-value : goal.invariant-loop-value

@@ -1,8 +1,8 @@
 use Rattle.std.proofs.Common.{ap, sym, ◌∙◌}
 use Rattle.path_table.proofs.UpdateLemmas.{elsewhere-insert_entry}
-use Rattle.path_tree.proofs.OwnLemmas.{Own-insert}
-use Rattle.path_tree.proofs.ReadLemmas.{own-stands}
-use Rattle.path_tree.proofs.RowLemmas.{insert-rows_by, lookup-rows_by, rows_by}
+use Rattle.path_tree.proofs.lemmas.keys.OwnLemmas.{Own-insert}
+use Rattle.path_tree.proofs.lemmas.keys.ReadLemmas.{own-stands}
+use Rattle.path_tree.proofs.lemmas.keys.RowLemmas.{insert-rows_by, lookup-rows_by, rows_by}
 use Rattle.path_tree.proofs.tree.PathTree.put.Goals as goal
 
 pub invariant_of-self : goal.invariant_of-self

@@ -1,6 +1,6 @@
 use Rattle.std.proofs.Common.{◌≡◌, ◌∷◌, ◌++◌, ◌∙◌, [], rules}
 use Rattle.path_tree.specs.Tree.{table_of}
-use Rattle.path_tree.proofs.PutLemmas.{PutsLast, one_own, puts_end}
+use Rattle.path_tree.proofs.lemmas.rows.PutLemmas.{PutsLast, one_own, puts_end}
 use Rattle.path_tree.proofs.tree.PathTree.put_all.Goals as goal
 
 pub put-requires : goal.put-requires

@@ -1,6 +1,6 @@
 use Rattle.std.proofs.Common.{length}
 use Rattle.path_tree.specs.Tree.{table_of}
-use Rattle.path_tree.proofs.PutLemmas.{PutsLast}
+use Rattle.path_tree.proofs.lemmas.rows.PutLemmas.{PutsLast}
 use Rattle.path_tree.proofs.tree.PathTree.put_all.Given as goal
 
 abbrev pub invariant-loop-key : goal.invariant-loop-key

@@ -7,9 +7,9 @@ use Rattle.path_table.specs.Table.{is_under}
 use Rattle.path_tree.specs.Read.{key_values}
 use Rattle.path_tree.specs.Rows.{Key, key_rows, rows_outside}
 use Rattle.path_tree.specs.Tree.{table_of}
-use Rattle.path_tree.proofs.ManyLemmas.{length-key_rows, starts_with-under}
-use Rattle.path_tree.proofs.OwnLemmas.{Own-filter}
-use Rattle.path_tree.proofs.UnderLemmas.{filter-rows_by}
+use Rattle.path_tree.proofs.lemmas.rows.ManyLemmas.{length-key_rows, starts_with-under}
+use Rattle.path_tree.proofs.lemmas.keys.OwnLemmas.{Own-filter}
+use Rattle.path_tree.proofs.lemmas.keys.UnderLemmas.{filter-rows_by}
 use Rattle.path_tree.proofs.tree.PathTree.remove_under.Goals as goal
 
 pub invariant_of-self : goal.invariant_of-self

@@ -1,8 +1,8 @@
 use Rattle.std.proofs.Common.{ap, sym, ◌∙◌}
 use Rattle.path_table.proofs.UpdateLemmas.{elsewhere-remove_entry}
-use Rattle.path_tree.proofs.OwnLemmas.{Own-remove}
-use Rattle.path_tree.proofs.ReadLemmas.{own-stands}
-use Rattle.path_tree.proofs.RowLemmas.{lookup-rows_by, remove-rows_by, rows_by}
+use Rattle.path_tree.proofs.lemmas.keys.OwnLemmas.{Own-remove}
+use Rattle.path_tree.proofs.lemmas.keys.ReadLemmas.{own-stands}
+use Rattle.path_tree.proofs.lemmas.keys.RowLemmas.{lookup-rows_by, remove-rows_by, rows_by}
 use Rattle.path_tree.proofs.tree.PathTree.take.Goals as goal
 
 pub invariant_of-self : goal.invariant_of-self

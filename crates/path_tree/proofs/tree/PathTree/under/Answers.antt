@@ -4,7 +4,7 @@ use Rattle.path_keys.specs.Ranges.{end_of}
 use Rattle.path_table.specs.Table.{is_under}
 use Rattle.path_tree.specs.Read.{key_values}
 use Rattle.path_tree.specs.Rows.{Key, key_rows}
-use Rattle.path_tree.proofs.UnderLemmas.{all-under, endless, filter-rows_by}
+use Rattle.path_tree.proofs.lemmas.keys.UnderLemmas.{all-under, endless, filter-rows_by}
 use Rattle.path_tree.proofs.tree.PathTree.under.Goals as goal
 
 pub returns-in_default-clause-rows : goal.returns-in_default-clause-rows

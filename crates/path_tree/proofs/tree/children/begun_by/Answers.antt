@@ -1,5 +1,5 @@
 use Rattle.std.proofs.Common.{rules}
-use Rattle.path_keys.proofs.BeginLemmas.{begins_told}
+use Rattle.path_keys.proofs.lemmas.values.BeginLemmas.{begins_told}
 use Rattle.path_tree.proofs.tree.children.begun_by.Goals as goal
 
 pub returns-in-Some-clause-some : goal.returns-in-Some-clause-some

@@ -3,9 +3,10 @@ use Rattle.std.proofs.Common.{length-drop, length-take-le, sym, take, take_all}
 use Rattle.unix_path.specs.Parts.{Value}
 use Rattle.path_keys.specs.Codes.{Fits}
 use Rattle.path_keys.specs.Keys.{code, key_of}
-use Rattle.path_keys.proofs.CodeLemmas.{code-length}
-use Rattle.path_tree.proofs.ChildKeyLemmas.{child_in_range, child_long, child_own, child_values}
-use Rattle.path_tree.proofs.ChildKeyLemmas.{GoesOn, child_whole, goes_on}
+use Rattle.path_keys.proofs.lemmas.values.CodeLemmas.{code-length}
+use Rattle.path_tree.proofs.lemmas.keys.ChildKeyLemmas.{child_in_range, child_long, child_own}
+use Rattle.path_tree.proofs.lemmas.keys.ChildKeyLemmas.{child_values}
+use Rattle.path_tree.proofs.lemmas.keys.ChildKeyLemmas.{GoesOn, child_whole, goes_on}
 use Rattle.path_tree.proofs.tree.children.child_key.Goals as goal
 
 -- the code that was measured is that of the value behind the base's

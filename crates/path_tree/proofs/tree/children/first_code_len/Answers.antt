@@ -1,7 +1,7 @@
 use Rattle.std.proofs.Common.{◌∙◌, ap}
 use Rattle.std.specs.List.{position_or_len}
-use Rattle.path_keys.proofs.LoweredLemmas.{is_zero}
-use Rattle.path_tree.proofs.ChildKeyLemmas.{mark_long, name_long}
+use Rattle.path_keys.proofs.lemmas.values.LoweredLemmas.{is_zero}
+use Rattle.path_tree.proofs.lemmas.keys.ChildKeyLemmas.{mark_long, name_long}
 use Rattle.path_tree.proofs.tree.children.first_code_len.Goals as goal
 
 pub returns-then-len-eq0 : goal.returns-then-len-eq0

@@ -1,9 +1,9 @@
 use Rattle.std.proofs.Common.{◌≡◌, ◌-◌, ◌+◌, ◌++◌, get_or, length, ap, ap₂, sym, ◌∙◌, arith}
 use Rattle.std.proofs.Common.{Some, set}
 use Rattle.std.proofs.lemmas.List.{get_or_read}
-use Rattle.path_keys.proofs.LastLemmas.{last_low}
-use Rattle.path_keys.proofs.RangeLemmas.{end_of-some}
-use Rattle.path_tree.proofs.ChildKeyLemmas.{IsKey-own}
+use Rattle.path_keys.proofs.lemmas.values.LastLemmas.{last_low}
+use Rattle.path_keys.proofs.lemmas.values.RangeLemmas.{end_of-some}
+use Rattle.path_tree.proofs.lemmas.keys.ChildKeyLemmas.{IsKey-own}
 use Rattle.path_tree.proofs.tree.children.set_end.Goals as goal
 
 pub overflow_add-index_mut : goal.overflow_add-index_mut

@@ -1,7 +1,7 @@
 use Rattle.std.proofs.Common.{◌≡◌, ◌++◌, ◌∙◌, ◌-◌, ℕ, List, ap, arith, drop, length, length-drop}
 use Rattle.std.proofs.Common.{take, take_all}
 use Rattle.path_tree.specs.Read.{is_own, key_values}
-use Rattle.path_tree.proofs.MovedKeyLemmas.{moved_own, moved_values}
+use Rattle.path_tree.proofs.lemmas.keys.MovedKeyLemmas.{moved_own, moved_values}
 use Rattle.path_tree.proofs.tree.moved.moved_key.Goals as goal
 
 -- what follows some first bytes is all of what is left

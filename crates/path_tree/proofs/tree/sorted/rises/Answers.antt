@@ -2,7 +2,7 @@ use Rattle.std.proofs.Common.{◌≡◌, ◌∙◌, ◌-◌, Some, ap, length}
 use Rattle.std.specs.List.{slice_get}
 use Rattle.std.specs.Ordering.{is_lt}
 use Rattle.path_keys.specs.Ranges.{bytes_cmp}
-use Rattle.path_tree.proofs.SortedLemmas.{slice_get-last}
+use Rattle.path_tree.proofs.lemmas.rows.SortedLemmas.{slice_get-last}
 use Rattle.path_tree.proofs.tree.sorted.rises.Goals as goal
 
 pub returns-in-Some-clause-others : goal.returns-in-Some-clause-others

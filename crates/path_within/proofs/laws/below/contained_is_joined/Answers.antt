@@ -1,4 +1,4 @@
-use Rattle.path_within.proofs.BelowLawLemmas.{down_joined, down_joined_here}
+use Rattle.path_within.proofs.lemmas.below.BelowLawLemmas.{down_joined, down_joined_here}
 use Rattle.path_within.proofs.laws.below.contained_is_joined.Goals as goal
 
 pub returns-clause-joined : goal.returns-clause-joined

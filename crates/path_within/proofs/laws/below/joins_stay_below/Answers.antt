@@ -1,6 +1,6 @@
 use Rattle.std.proofs.Common.{refl}
-use Rattle.path_within.proofs.BelowLawLemmas.{below_of-within}
-use Rattle.path_within.proofs.BelowLemmas.{begins, values-below, values-stripped_below}
+use Rattle.path_within.proofs.lemmas.below.BelowLawLemmas.{below_of-within}
+use Rattle.path_within.proofs.lemmas.below.BelowLemmas.{begins, values-below, values-stripped_below}
 use Rattle.path_within.proofs.laws.below.joins_stay_below.Goals as goal
 
 pub returns-clause-begins : goal.returns-clause-begins

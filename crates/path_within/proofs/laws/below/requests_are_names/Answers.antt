@@ -1,7 +1,8 @@
 use Rattle.unix_path.specs.Parts.{values}
 use Rattle.path_within.specs.Below.{names_below}
-use Rattle.path_within.proofs.NamesBelowLemmas.{AreNames-names_below, names_below-resolved}
-use Rattle.path_within.proofs.NamesBelowLemmas.{names_below-names, names_below-slash}
+use Rattle.path_within.proofs.lemmas.below.NamesBelowLemmas.{AreNames-names_below}
+use Rattle.path_within.proofs.lemmas.below.NamesBelowLemmas.{names_below-resolved}
+use Rattle.path_within.proofs.lemmas.below.NamesBelowLemmas.{names_below-names, names_below-slash}
 use Rattle.path_within.proofs.laws.below.requests_are_names.Goals as goal
 
 pub returns-clause-names : goal.returns-clause-names

@@ -2,8 +2,8 @@ use Rattle.std.proofs.Common.{ap, ◌∙◌}
 use Rattle.unix_path.specs.Parts.{values}
 use Rattle.path_runs.specs.Spelling.{spelling_of}
 use Rattle.path_within.specs.Resolved.{resolved_of}
-use Rattle.path_within.proofs.KeepLemmas.{resolved_normal, resolved_of-resolved_of}
-use Rattle.path_within.proofs.ResolveLemmas.{values-resolved}
+use Rattle.path_within.proofs.lemmas.kept.KeepLemmas.{resolved_normal, resolved_of-resolved_of}
+use Rattle.path_within.proofs.lemmas.kept.ResolveLemmas.{values-resolved}
 use Rattle.path_within.proofs.laws.resolved.resolved_is_normal.Goals as goal
 
 pub returns-clause-normal : goal.returns-clause-normal

@@ -1,4 +1,4 @@
-use Rattle.path_within.proofs.BoundLemmas.{length-resolved, length-resolved_join}
+use Rattle.path_within.proofs.lemmas.below.BoundLemmas.{length-resolved, length-resolved_join}
 use Rattle.path_within.proofs.laws.resolved.resolved_is_short.Goals as goal
 
 pub returns-clause-path : goal.returns-clause-path

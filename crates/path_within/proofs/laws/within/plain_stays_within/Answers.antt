@@ -1,9 +1,10 @@
 use Rattle.std.proofs.Common.{sym}
 use Rattle.unix_path.specs.Joins.{join_of}
 use Rattle.path_runs.specs.JoinLaws.{values_added}
-use Rattle.path_runs.proofs.LeadLemmas.{values-join_of_values_added}
-use Rattle.path_runs.proofs.StripLemmas.{values-stripped_of}
-use Rattle.path_within.proofs.RequestLemmas.{request_names, request_rootless, request_stays}
+use Rattle.path_runs.proofs.lemmas.joins.LeadLemmas.{values-join_of_values_added}
+use Rattle.path_runs.proofs.lemmas.joins.StripLemmas.{values-stripped_of}
+use Rattle.path_within.proofs.lemmas.plain.RequestLemmas.{request_names, request_rootless}
+use Rattle.path_within.proofs.lemmas.plain.RequestLemmas.{request_stays}
 use Rattle.path_within.proofs.laws.within.plain_stays_within.Goals as goal
 
 pub returns-clause-climbs : goal.returns-clause-climbs

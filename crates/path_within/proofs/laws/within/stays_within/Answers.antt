@@ -2,8 +2,9 @@ use Rattle.std.proofs.Common.{sym}
 use Rattle.unix_path.specs.Parts.{values}
 use Rattle.path_within.specs.Resolved.{resolved_bytes_of}
 use Rattle.unix_path.specs.Joins.{join_of}
-use Rattle.path_runs.proofs.StripLemmas.{values-stripped_of}
-use Rattle.path_within.proofs.WithinLemmas.{resolved_of-within, names-within, values-within}
+use Rattle.path_runs.proofs.lemmas.joins.StripLemmas.{values-stripped_of}
+use Rattle.path_within.proofs.lemmas.below.WithinLemmas.{resolved_of-within, names-within}
+use Rattle.path_within.proofs.lemmas.below.WithinLemmas.{values-within}
 use Rattle.path_within.proofs.laws.within.stays_within.Goals as goal
 
 pub returns-clause-values : goal.returns-clause-values

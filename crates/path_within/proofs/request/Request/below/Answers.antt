@@ -2,7 +2,7 @@ use Rattle.std.proofs.Common.{◌≡◌, ◌-◌, ℕ, List, length, take, drop,
 use Rattle.std.proofs.Common.{arith, length-drop, take_all}
 use Rattle.unix_path.specs.Parts.{is_rooted, values}
 use Rattle.path_within.specs.Below.{behind_slashes, has_nul, names_below}
-use Rattle.path_within.proofs.NamesBelowLemmas.{behind_slashes-stands}
+use Rattle.path_within.proofs.lemmas.below.NamesBelowLemmas.{behind_slashes-stands}
 use Rattle.path_within.proofs.request.Request.below.Goals as goal
 
 -- the bytes from n on are all that is left

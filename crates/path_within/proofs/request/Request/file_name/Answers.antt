@@ -3,7 +3,7 @@ use Rattle.std.proofs.Common.{option_map, refl, sym, ap, ◌∙◌}
 use Rattle.unix_path.specs.Cursor.{cursor_values}
 use Rattle.unix_path.specs.Names.{file_name_of}
 use Rattle.unix_path.specs.Parts.{Value, Normal}
-use Rattle.unix_path.proofs.ParentLemmas.{file_name_of-last}
+use Rattle.unix_path.proofs.lemmas.names.ParentLemmas.{file_name_of-last}
 use Rattle.path_within.specs.Below.{names_below}
 use Rattle.path_within.proofs.request.Request.file_name.Goals as goal
 

@@ -1,5 +1,5 @@
 use Rattle.std.proofs.Common.{◌≡◌, Some, None}
-use Rattle.path_within.proofs.NamesBelowLemmas.{names_below-resolved}
+use Rattle.path_within.proofs.lemmas.below.NamesBelowLemmas.{names_below-resolved}
 use Rattle.path_within.proofs.request.Request.new.Goals as goal
 
 pub returns-clause-names : goal.returns-clause-names

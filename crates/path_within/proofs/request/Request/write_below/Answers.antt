@@ -1,6 +1,6 @@
 use Rattle.std.proofs.Common.{refl}
 use Rattle.path_within.specs.Requests.{request_bytes}
-use Rattle.path_within.proofs.BelowLemmas.{begins, is_below}
+use Rattle.path_within.proofs.lemmas.below.BelowLemmas.{begins, is_below}
 use Rattle.path_within.proofs.request.Request.write_below.Goals as goal
 
 pub returns-clause-begins : goal.returns-clause-begins

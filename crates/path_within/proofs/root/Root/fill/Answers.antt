@@ -1,7 +1,7 @@
 use Rattle.std.proofs.Common.{◌++◌, ap₂, ◌∙◌}
 use Rattle.path_within.specs.Requests.{request_bytes, root_bytes}
 use Rattle.path_within.specs.Written.{opened}
-use Rattle.path_within.proofs.BelowLemmas.{below_of-spelled, plain_spelled}
+use Rattle.path_within.proofs.lemmas.below.BelowLemmas.{below_of-spelled, plain_spelled}
 use Rattle.path_within.proofs.root.Root.fill.Goals as goal
 
 pub returns-then-is_spelled : goal.returns-then-is_spelled

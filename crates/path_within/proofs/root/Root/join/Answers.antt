@@ -1,5 +1,5 @@
 use Rattle.path_within.specs.Requests.{request_bytes, root_bytes}
-use Rattle.path_within.proofs.BelowLemmas.{begins, is_below}
+use Rattle.path_within.proofs.lemmas.below.BelowLemmas.{begins, is_below}
 use Rattle.path_within.proofs.root.Root.join.Goals as goal
 
 pub returns-clause-begins : goal.returns-clause-begins

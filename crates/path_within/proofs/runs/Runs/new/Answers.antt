@@ -1,7 +1,7 @@
 use Rattle.std.proofs.Common.{ap, ◌∙◌}
 use Rattle.std.proofs.lemmas.List.{take_rest}
 use Rattle.unix_path.specs.Parts.{values}
-use Rattle.path_within.proofs.RunLemmas.{values_left}
+use Rattle.path_within.proofs.lemmas.plain.RunLemmas.{values_left}
 use Rattle.path_within.proofs.runs.Runs.new.Goals as goal
 
 pub returns-clause-values : goal.returns-clause-values

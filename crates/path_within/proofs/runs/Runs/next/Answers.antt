@@ -4,12 +4,13 @@ use Rattle.std.proofs.lemmas.List.{take_rest}
 use Rattle.unix_path.specs.CommonDir.{inner_values}
 use Rattle.unix_path.specs.Parts.{ParentDir, values}
 use Rattle.unix_path.specs.Scan.{is_idle}
-use Rattle.unix_path.proofs.LeadLemmas.{length-parent_first, values-parent_first}
+use Rattle.unix_path.proofs.lemmas.steps.LeadLemmas.{length-parent_first, values-parent_first}
 use Rattle.path_within.specs.PlainPieces.{begins_plain}
-use Rattle.path_within.proofs.PlainStretchLemmas.{names_stretch}
-use Rattle.path_within.proofs.RunLemmas.{goes_on_from, one_name, plain_behind}
-use Rattle.path_within.proofs.RunLemmas.{plain_here, some_byte, takes_names, values_left}
-use Rattle.path_within.proofs.UnsharedLemmas.{behind_place}
+use Rattle.path_within.proofs.lemmas.plain.PlainStretchLemmas.{names_stretch}
+use Rattle.path_within.proofs.lemmas.plain.RunLemmas.{goes_on_from, one_name, plain_behind}
+use Rattle.path_within.proofs.lemmas.plain.RunLemmas.{plain_here, some_byte, takes_names}
+use Rattle.path_within.proofs.lemmas.plain.RunLemmas.{values_left}
+use Rattle.path_within.proofs.lemmas.ways.UnsharedLemmas.{behind_place}
 use Rattle.path_within.proofs.runs.Runs.next.Goals as goal
 use Rattle.path_within.proofs.runs.Runs.next.Goals.{Else-begins_with_parent}
 

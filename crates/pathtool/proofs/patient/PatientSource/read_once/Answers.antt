@@ -1,7 +1,7 @@
 use Rattle.std.proofs.Common.{rules, arith, inl, inr, Err}
 use Rattle.std.proofs.KnownBytes.{Keeps-trans}
 use Rattle.pathtool.specs.Calls.Calls.{none}
-use Rattle.pathtool.proofs.CallLemmas.{Calls-more}
+use Rattle.pathtool.proofs.lemmas.lines.CallLemmas.{Calls-more}
 use Rattle.pathtool.proofs.patient.PatientSource.read_once.Goals as goal
 
 pub loop-tries-init : goal.loop-tries-init

@@ -2,7 +2,7 @@ use Rattle.std.proofs.Common.{ap, arith, length}
 use Rattle.std.proofs.iter.runs.Sources.{from_front}
 use Rattle.std.specs.Iterator.{YieldsFirstBy}
 use Rattle.unix_bytes.specs.Chunks.{chunk_of, chunks_left}
-use Rattle.unix_bytes.proofs.PartitionLemmas.{length-chunks_of}
+use Rattle.unix_bytes.proofs.lemmas.chunks.PartitionLemmas.{length-chunks_of}
 use Rattle.unix_bytes.proofs.lossy.Utf8Lossy.chunks.Goals as goal
 
 pub returns-clause-len : goal.returns-clause-len

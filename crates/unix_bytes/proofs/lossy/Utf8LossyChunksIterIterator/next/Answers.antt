@@ -1,7 +1,7 @@
 use Rattle.std.proofs.Common.{◌≡◌, [], length, sym, ◌∙◌}
 use Rattle.std.proofs.lemmas.Bool.{eqb-true}
 use Rattle.unix_bytes.specs.Chunks.{chunks_left}
-use Rattle.unix_bytes.proofs.ChunkLemmas.{chunks_of-empty}
+use Rattle.unix_bytes.proofs.lemmas.chunks.ChunkLemmas.{chunks_of-empty}
 use Rattle.unix_bytes.proofs.lossy.Utf8LossyChunksIterIterator.next.Goals as goal
 
 pub returns-then-is_empty-clause-steps : goal.returns-then-is_empty-clause-steps

@@ -1,5 +1,5 @@
 use Rattle.std.proofs.Common.{arith}
-use Rattle.unix_bytes.proofs.LaneLemmas.{more_ascii}
+use Rattle.unix_bytes.proofs.lemmas.vectors.LaneLemmas.{more_ascii}
 use Rattle.unix_bytes.proofs.utf8.ascii.ascii_blocks_len.Goals as goal
 
 pub loop-at-preserved : goal.loop-at-preserved

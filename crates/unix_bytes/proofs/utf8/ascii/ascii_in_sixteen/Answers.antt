@@ -2,7 +2,7 @@ use Rattle.std.proofs.Common.{◌≡◌, ◌+◌, take, subst, arith}
 use Rattle.std.specs.Int.Count.{count_trailing_zeros}
 use Rattle.std.specs.Str.{IsAscii}
 use Rattle.std.proofs.lemmas.Str.Ascii.{IsAscii-nil}
-use Rattle.unix_bytes.proofs.LaneLemmas.{ascii_window, ascii_prefix, first_wide}
+use Rattle.unix_bytes.proofs.lemmas.vectors.LaneLemmas.{ascii_window, ascii_prefix, first_wide}
 use Rattle.unix_bytes.proofs.utf8.ascii.ascii_in_sixteen.Goals as goal
 
 pub returns-then-wide-eq0-clause-ascii : goal.returns-then-wide-eq0-clause-ascii

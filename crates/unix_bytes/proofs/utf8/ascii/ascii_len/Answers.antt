@@ -1,6 +1,6 @@
 use Rattle.std.proofs.Common.{◌≡◌, ◌+◌, ◌-◌, length, take, subst, arith}
 use Rattle.std.specs.Str.{IsAscii}
-use Rattle.unix_bytes.proofs.LaneLemmas.{fewer_ascii, ascii_window, ascii_prefix}
+use Rattle.unix_bytes.proofs.lemmas.vectors.LaneLemmas.{fewer_ascii, ascii_window, ascii_prefix}
 use Rattle.unix_bytes.proofs.utf8.ascii.ascii_len.Goals as goal
 
 pub returns-then-wide-ne0 : goal.returns-then-wide-ne0

@@ -1,6 +1,6 @@
 use Rattle.std.proofs.Common.{arith}
 use Rattle.std.proofs.lemmas.Bool.{eqb-true}
-use Rattle.unix_bytes.proofs.LaneLemmas.{ascii_block}
+use Rattle.unix_bytes.proofs.lemmas.vectors.LaneLemmas.{ascii_block}
 use Rattle.unix_bytes.proofs.utf8.ascii.is_ascii_block.Goals as goal
 
 pub returns : goal.returns

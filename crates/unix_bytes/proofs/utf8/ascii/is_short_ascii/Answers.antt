@@ -1,5 +1,5 @@
 use Rattle.std.proofs.Common.{refl}
-use Rattle.unix_bytes.proofs.LaneLemmas.{eight_and_eight}
+use Rattle.unix_bytes.proofs.lemmas.vectors.LaneLemmas.{eight_and_eight}
 use Rattle.unix_bytes.proofs.utf8.ascii.is_short_ascii.Goals as goal
 
 pub returns-then-is_ascii_eight : goal.returns-then-is_ascii_eight

@@ -1,5 +1,5 @@
 use Rattle.std.proofs.Common.{arith}
-use Rattle.unix_bytes.proofs.StretchLemmas.{pair_at}
+use Rattle.unix_bytes.proofs.lemmas.stretches.StretchLemmas.{pair_at}
 use Rattle.unix_bytes.proofs.utf8.scans.pairs_len.Goals as goal
 
 pub loop-at-preserved : goal.loop-at-preserved

@@ -1,6 +1,6 @@
 use Rattle.std.proofs.Common.{sym, arith}
-use Rattle.unix_bytes.proofs.StepLemmas.{four_byte_sequence}
-use Rattle.unix_bytes.proofs.StretchLemmas.{sequence_is_text, text_before}
+use Rattle.unix_bytes.proofs.lemmas.sequences.StepLemmas.{four_byte_sequence}
+use Rattle.unix_bytes.proofs.lemmas.stretches.StretchLemmas.{sequence_is_text, text_before}
 use Rattle.unix_bytes.proofs.utf8.scans.quads_len.Goals as goal
 
 pub loop-rest-preserved : goal.loop-rest-preserved

@@ -1,5 +1,5 @@
 use Rattle.std.proofs.Common.{length}
-use Rattle.unix_bytes.proofs.StretchLemmas.{TextBefore}
+use Rattle.unix_bytes.proofs.lemmas.stretches.StretchLemmas.{TextBefore}
 use Rattle.unix_bytes.proofs.utf8.scans.quads_len.Given as goal
 
 -- what stands before the rest is text

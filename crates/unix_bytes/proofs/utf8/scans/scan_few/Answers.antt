@@ -1,6 +1,8 @@
 use Rattle.std.proofs.Common.{length, sym, ◌∙◌, refl, le_refl}
-use Rattle.unix_bytes.proofs.StretchLemmas.{ascii_is_text, text_before, sequence_before, no_rest}
-use Rattle.unix_bytes.proofs.StretchLemmas.{sequences_before, broken_rest, none_at_end}
+use Rattle.unix_bytes.proofs.lemmas.stretches.StretchLemmas.{ascii_is_text, text_before}
+use Rattle.unix_bytes.proofs.lemmas.stretches.StretchLemmas.{sequence_before, no_rest}
+use Rattle.unix_bytes.proofs.lemmas.stretches.StretchLemmas.{sequences_before, broken_rest}
+use Rattle.unix_bytes.proofs.lemmas.stretches.StretchLemmas.{none_at_end}
 use Rattle.unix_bytes.proofs.utf8.scans.scan_few.Goals as goal
 
 pub loop-rest-preserved-then-rest-lt128 : goal.loop-rest-preserved-then-rest-lt128

@@ -1,6 +1,7 @@
 use Rattle.std.proofs.lemmas.List.{take_rest}
-use Rattle.unix_bytes.proofs.StretchLemmas.{after_ascii, after_sequence, text_before_broken}
-use Rattle.unix_bytes.proofs.StretchLemmas.{none_at_end, text_to_end}
+use Rattle.unix_bytes.proofs.lemmas.stretches.StretchLemmas.{after_ascii, after_sequence}
+use Rattle.unix_bytes.proofs.lemmas.stretches.StretchLemmas.{text_before_broken}
+use Rattle.unix_bytes.proofs.lemmas.stretches.StretchLemmas.{none_at_end, text_to_end}
 use Rattle.unix_bytes.proofs.utf8.scans.scan_many.Goals as goal
 
 pub loop-at-preserved-then-source-at-lt128 : goal.loop-at-preserved-then-source-at-lt128

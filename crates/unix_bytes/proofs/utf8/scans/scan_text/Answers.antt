@@ -1,4 +1,4 @@
-use Rattle.unix_bytes.proofs.StretchLemmas.{ascii_is_text}
+use Rattle.unix_bytes.proofs.lemmas.stretches.StretchLemmas.{ascii_is_text}
 use Rattle.unix_bytes.proofs.utf8.scans.scan_text.Goals as goal
 
 pub scan_wide-requires-clause-so_far : goal.scan_wide-requires-clause-so_far

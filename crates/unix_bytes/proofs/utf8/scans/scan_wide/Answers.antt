@@ -2,8 +2,8 @@ use Rattle.std.proofs.Common.{sym, ap, ◌∙◌, arith}
 use Rattle.std.proofs.lemmas.Bool.{true≢false}
 use Rattle.std.proofs.lemmas.List.{take_rest}
 use Rattle.unix_bytes.specs.Steps.{broken_len}
-use Rattle.unix_bytes.proofs.StretchLemmas.{text_before_broken}
-use Rattle.unix_bytes.proofs.BrokenLemmas.{one_broken_at}
+use Rattle.unix_bytes.proofs.lemmas.stretches.StretchLemmas.{text_before_broken}
+use Rattle.unix_bytes.proofs.lemmas.lossy.BrokenLemmas.{one_broken_at}
 use Rattle.unix_bytes.proofs.utf8.scans.scan_wide.Goals as goal
 
 pub returns-clause-text : goal.returns-clause-text

@@ -3,8 +3,8 @@ use Rattle.std.proofs.lemmas.List.{take_rest, drop-drop}
 use Rattle.unix_bytes.specs.Utf8.{IsText}
 use Rattle.unix_bytes.specs.Windows.{IsFinished}
 use Rattle.std.specs.Prelude.{slice_index}
-use Rattle.unix_bytes.proofs.StretchLemmas.{more_text}
-use Rattle.unix_bytes.proofs.FinishLemmas.{IsFinished-before}
+use Rattle.unix_bytes.proofs.lemmas.stretches.StretchLemmas.{more_text}
+use Rattle.unix_bytes.proofs.lemmas.text.FinishLemmas.{IsFinished-before}
 use Rattle.unix_bytes.proofs.utf8.scans.text_end.Goals as goal
 
 pub window_len-size-requires-clause-finished : goal.window_len-size-requires-clause-finished

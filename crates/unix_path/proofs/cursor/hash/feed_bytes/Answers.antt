@@ -1,6 +1,6 @@
 use Rattle.std.proofs.Common.{arith}
 use Rattle.std.proofs.lemmas.List.{take_rest}
-use Rattle.unix_path.proofs.EightLemmas.{in_eights-more, in_eights-last}
+use Rattle.unix_path.proofs.lemmas.order.EightLemmas.{in_eights-more, in_eights-last}
 use Rattle.unix_path.proofs.cursor.hash.feed_bytes.Goals as goal
 
 pub loop-rest-preserved : goal.loop-rest-preserved

@@ -1,5 +1,5 @@
 use Rattle.std.proofs.Common.{arith}
-use Rattle.unix_path.proofs.EightLemmas.{le_bytes-last}
+use Rattle.unix_path.proofs.lemmas.order.EightLemmas.{le_bytes-last}
 use Rattle.unix_path.proofs.cursor.hash.last_eight.Goals as goal
 
 pub returns-in-empty : goal.returns-in-empty

@@ -1,6 +1,6 @@
 use Rattle.std.proofs.Common.{take}
 use Rattle.unix_path.specs.Parts.{Normal, ParentDir}
-use Rattle.unix_path.proofs.LeadLemmas.{steps_first}
+use Rattle.unix_path.proofs.lemmas.steps.LeadLemmas.{steps_first}
 use Rattle.unix_path.proofs.cursor.steps.first_step.Goals as goal
 
 pub returns-then-begins_with_parent : goal.returns-then-begins_with_parent

@@ -1,5 +1,5 @@
 use Rattle.std.proofs.Common.{◌∙◌, arith}
-use Rattle.unix_path.proofs.IdleBlockLemmas.{inner_parts_idle_block}
+use Rattle.unix_path.proofs.lemmas.filler.IdleBlockLemmas.{inner_parts_idle_block}
 use Rattle.unix_path.proofs.cursor.steps.idle_blocks_len.Goals as goal
 
 pub loop-len-preserved : goal.loop-len-preserved

@@ -1,5 +1,5 @@
 use Rattle.std.proofs.Common.{sym, ◌∙◌, arith}
-use Rattle.unix_path.proofs.IdleLemmas.{inner_parts_idle_at}
+use Rattle.unix_path.proofs.lemmas.filler.IdleLemmas.{inner_parts_idle_at}
 use Rattle.unix_path.proofs.cursor.steps.idle_len_from.Goals as goal
 
 pub loop-len-preserved : goal.loop-len-preserved

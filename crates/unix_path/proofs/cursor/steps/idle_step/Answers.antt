@@ -1,7 +1,7 @@
 use Rattle.std.proofs.Common.{◌+◌, ◌<◌, length, drop, ap, arith, ◌∙◌}
 use Rattle.std.proofs.lemmas.List.{get_or_default, get_or_past}
 use Rattle.unix_path.specs.Parts.{inner_parts}
-use Rattle.unix_path.proofs.IdleLemmas.{idle_dot, idle_slash, inner_parts_idle_at}
+use Rattle.unix_path.proofs.lemmas.filler.IdleLemmas.{idle_dot, idle_slash, inner_parts_idle_at}
 use Rattle.unix_path.proofs.cursor.steps.idle_step.Goals as goal
 
 pub returns-then-path-i-eq47-clause-idle : goal.returns-then-path-i-eq47-clause-idle

@@ -1,5 +1,5 @@
 use Rattle.std.proofs.Common.{eqb-true}
-use Rattle.unix_path.proofs.IdleBlockLemmas.{idle_block}
+use Rattle.unix_path.proofs.lemmas.filler.IdleBlockLemmas.{idle_block}
 use Rattle.unix_path.proofs.cursor.steps.is_idle_block.Goals as goal
 
 pub returns : goal.returns

@@ -1,5 +1,5 @@
 use Rattle.std.proofs.Common.{eqb-true}
-use Rattle.unix_path.proofs.TrailingBlockLemmas.{trailing_block}
+use Rattle.unix_path.proofs.lemmas.filler.TrailingBlockLemmas.{trailing_block}
 use Rattle.unix_path.proofs.cursor.steps.is_trailing_block.Goals as goal
 
 pub returns : goal.returns

@@ -1,9 +1,9 @@
 use Rattle.std.proofs.Common.{◌-◌, get_or, sym, ap, ◌∙◌, arith}
 use Rattle.std.proofs.lemmas.List.{take_rest}
-use Rattle.unix_path.proofs.StepLemmas.{takes_root}
+use Rattle.unix_path.proofs.lemmas.steps.StepLemmas.{takes_root}
 use Rattle.unix_path.proofs.cursor.steps.last_name_step.Goals as goal
-use Rattle.unix_path.proofs.LastLemmas.{IsLastStart}
-use Rattle.unix_path.proofs.LastPieceLemmas.{takes_last_name}
+use Rattle.unix_path.proofs.lemmas.steps.LastLemmas.{IsLastStart}
+use Rattle.unix_path.proofs.lemmas.steps.LastPieceLemmas.{takes_last_name}
 
 pub returns-then-start-path-clause-takes : goal.returns-then-start-path-clause-takes
 returns-then-start-path-clause-takes c =

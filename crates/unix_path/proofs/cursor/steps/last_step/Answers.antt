@@ -2,8 +2,9 @@ use Rattle.std.specs.Str.{bytes_eq}
 use Rattle.std.proofs.Common.{◌-◌, refl, length, take, sym, ap, ◌∙◌, subst, arith}
 use Rattle.unix_path.specs.Parts.{Value}
 use Rattle.unix_path.specs.Steps.{TakesLast}
-use Rattle.unix_path.proofs.LastPieceLemmas.{length-with_parent, starts_dot, starts_parent}
-use Rattle.unix_path.proofs.StepLemmas.{takes_last}
+use Rattle.unix_path.proofs.lemmas.steps.LastPieceLemmas.{length-with_parent, starts_dot}
+use Rattle.unix_path.proofs.lemmas.steps.LastPieceLemmas.{starts_parent}
+use Rattle.unix_path.proofs.lemmas.steps.StepLemmas.{takes_last}
 use Rattle.unix_path.proofs.cursor.steps.last_step.Goals as goal
 
 pub returns-then-eq-clause-takes : goal.returns-then-eq-clause-takes

@@ -1,6 +1,6 @@
 use Rattle.std.proofs.Common.{ne_eqb}
-use Rattle.unix_path.proofs.LeadLemmas.{parts-dot_first}
-use Rattle.unix_path.proofs.PartLemmas.{parts-root}
+use Rattle.unix_path.proofs.lemmas.steps.LeadLemmas.{parts-dot_first}
+use Rattle.unix_path.proofs.lemmas.parts.PartLemmas.{parts-root}
 use Rattle.unix_path.proofs.cursor.steps.lead.Goals as goal
 
 pub returns-then-path-eq47 : goal.returns-then-path-eq47

@@ -1,6 +1,6 @@
 use Rattle.std.proofs.Common.{◌+◌, arith}
 use Rattle.std.proofs.lemmas.List.{take_rest}
-use Rattle.unix_path.proofs.LeadLemmas.{is_first, steps_first}
+use Rattle.unix_path.proofs.lemmas.steps.LeadLemmas.{is_first, steps_first}
 use Rattle.unix_path.proofs.cursor.steps.lead_step.Goals as goal
 
 pub returns : goal.returns

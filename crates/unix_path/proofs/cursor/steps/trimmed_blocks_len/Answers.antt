@@ -1,6 +1,6 @@
 use Rattle.std.proofs.Common.{◌+◌, ◌-◌, take, ap, ◌∙◌, arith}
 use Rattle.unix_path.specs.Parts.{parts}
-use Rattle.unix_path.proofs.TrailingBlockLemmas.{parts_trailing_block}
+use Rattle.unix_path.proofs.lemmas.filler.TrailingBlockLemmas.{parts_trailing_block}
 use Rattle.unix_path.proofs.cursor.steps.trimmed_blocks_len.Goals as goal
 
 pub loop-end-preserved : goal.loop-end-preserved

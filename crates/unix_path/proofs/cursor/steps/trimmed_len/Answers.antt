@@ -1,6 +1,6 @@
 use Rattle.std.proofs.Common.{◌≡◌, ◌-◌, take, sym, ◌∙◌, arith}
 use Rattle.unix_path.specs.Parts.{parts}
-use Rattle.unix_path.proofs.TrimLemmas.{parts_shorter}
+use Rattle.unix_path.proofs.lemmas.filler.TrimLemmas.{parts_shorter}
 use Rattle.unix_path.proofs.cursor.steps.trimmed_len.Goals as goal
 use Rattle.unix_path.proofs.cursor.steps.trimmed_len.Goals.{Then-is_trailing}
 

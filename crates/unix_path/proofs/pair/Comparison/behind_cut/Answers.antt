@@ -2,9 +2,10 @@ use Rattle.std.proofs.Common.{◌≡◌, List, ℕ, [], sym, subst, ◌∙◌, a
 use Rattle.std.proofs.lemmas.Bool.{eqb-false}
 use Rattle.std.proofs.lemmas.List.{nil_from_length}
 use Rattle.unix_path.specs.Steps.{SharesFront}
-use Rattle.unix_path.proofs.KindLemmas.{first_parts-apart}
-use Rattle.unix_path.proofs.BehindLemmas.{apart-shared, more-left, shares-onward, shares-past}
-use Rattle.unix_path.proofs.SourceLemmas.{IsTail-itself, IsTail-trans}
+use Rattle.unix_path.proofs.lemmas.order.KindLemmas.{first_parts-apart}
+use Rattle.unix_path.proofs.lemmas.order.BehindLemmas.{apart-shared, more-left, shares-onward}
+use Rattle.unix_path.proofs.lemmas.order.BehindLemmas.{shares-past}
+use Rattle.unix_path.proofs.lemmas.rests.SourceLemmas.{IsTail-itself, IsTail-trans}
 use Rattle.unix_path.proofs.pair.Comparison.behind_cut.Goals.{After-past_filler-second}
 use Rattle.unix_path.proofs.pair.Comparison.behind_cut.Goals as goal
 

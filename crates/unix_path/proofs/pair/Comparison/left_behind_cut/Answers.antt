@@ -1,7 +1,7 @@
 use Rattle.std.proofs.Common.{refl}
 use Rattle.std.proofs.lemmas.Bool.{false≢true}
-use Rattle.unix_path.proofs.BehindLemmas.{begins-left}
-use Rattle.unix_path.proofs.PairLemmas.{no_prefix-unless}
+use Rattle.unix_path.proofs.lemmas.order.BehindLemmas.{begins-left}
+use Rattle.unix_path.proofs.lemmas.order.PairLemmas.{no_prefix-unless}
 use Rattle.unix_path.proofs.pair.Comparison.left_behind_cut.Goals as goal
 
 pub returns-in-StartsWith-clause-begins : goal.returns-in-StartsWith-clause-begins

@@ -1,11 +1,11 @@
 use Rattle.std.proofs.Common.{[], refl, sym, ap₂, ◌∙◌}
 use Rattle.unix_path.specs.Order.{values_cmp}
-use Rattle.unix_path.proofs.BehindLemmas.{more-apart, values_cmp-shared}
-use Rattle.unix_path.proofs.ComparisonLemmas.{values_cmp-end}
-use Rattle.unix_path.proofs.CommonPrefixLemmas.{inner_values-nil}
-use Rattle.unix_path.proofs.PartLemmas.{values-nil}
+use Rattle.unix_path.proofs.lemmas.order.BehindLemmas.{more-apart, values_cmp-shared}
+use Rattle.unix_path.proofs.lemmas.order.ComparisonLemmas.{values_cmp-end}
+use Rattle.unix_path.proofs.lemmas.order.CommonPrefixLemmas.{inner_values-nil}
+use Rattle.unix_path.proofs.lemmas.parts.PartLemmas.{values-nil}
 use Rattle.unix_path.proofs.pair.Comparison.order_behind_cut.Goals as goal
-use Rattle.unix_path.proofs.IdleLemmas.{values-busy}
+use Rattle.unix_path.proofs.lemmas.filler.IdleLemmas.{values-busy}
 
 pub returns-in-StartsWith : goal.returns-in-StartsWith
 returns-in-StartsWith c = λ s t h.

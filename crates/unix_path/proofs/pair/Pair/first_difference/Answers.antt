@@ -5,9 +5,9 @@ use Rattle.std.proofs.lemmas.Bool.{false≢true}
 use Rattle.std.proofs.lemmas.List.{take_rest}
 use Rattle.std.proofs.lemmas.List.Sums.{common_prefix_len-le}
 use Rattle.unix_path.specs.Steps.{begins_piece, piece_rank, AreApart, SharesFront}
-use Rattle.unix_path.proofs.ApartLemmas.{apart-here, apart-inside}
-use Rattle.unix_path.proofs.PairLemmas.{CutsAt, cuts-begins, cuts-ends, inside_piece}
-use Rattle.unix_path.proofs.SourceLemmas.{IsTail-from}
+use Rattle.unix_path.proofs.lemmas.order.ApartLemmas.{apart-here, apart-inside}
+use Rattle.unix_path.proofs.lemmas.order.PairLemmas.{CutsAt, cuts-begins, cuts-ends, inside_piece}
+use Rattle.unix_path.proofs.lemmas.rests.SourceLemmas.{IsTail-from}
 use Rattle.unix_path.proofs.pair.Pair.first_difference.Goals.{Joined-begins_piece, Joined-x-y}
 use Rattle.unix_path.proofs.pair.Pair.first_difference.Goals.{then-x-y, else-x-y}
 use Rattle.unix_path.proofs.pair.Pair.first_difference.Goals.{then-begins_piece}

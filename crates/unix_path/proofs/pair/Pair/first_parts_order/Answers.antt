@@ -2,8 +2,8 @@ use Rattle.std.proofs.Common.{◌≡◌, sym, ap, ap₂, ◌∙◌}
 use Rattle.std.specs.Ordering.{is_ne, nat_cmp}
 use Rattle.unix_path.specs.Pairs.{first_rank}
 use Rattle.unix_path.specs.Parts.{values}
-use Rattle.unix_path.proofs.KindLemmas.{first_parts-cmp, values_cmp-ranks}
-use Rattle.unix_path.proofs.PairLemmas.{kinds-cmp}
+use Rattle.unix_path.proofs.lemmas.order.KindLemmas.{first_parts-cmp, values_cmp-ranks}
+use Rattle.unix_path.proofs.lemmas.order.PairLemmas.{kinds-cmp}
 use Rattle.unix_path.proofs.pair.Pair.first_parts_order.Goals.{After-cmp-by_kind}
 use Rattle.unix_path.proofs.pair.Pair.first_parts_order.Goals as goal
 

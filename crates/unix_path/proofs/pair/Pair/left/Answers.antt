@@ -2,8 +2,8 @@ use Rattle.std.proofs.Common.{[], length, refl, sym, subst, ◌∙◌, inl, inr}
 use Rattle.std.proofs.lemmas.Bool.{false≢true}
 use Rattle.std.proofs.lemmas.List.{take_rest}
 use Rattle.unix_path.specs.Steps.{SharesFront}
-use Rattle.unix_path.proofs.BehindLemmas.{begins-left}
-use Rattle.unix_path.proofs.PairLemmas.{CanCut, apart-unless, shares-written}
+use Rattle.unix_path.proofs.lemmas.order.BehindLemmas.{begins-left}
+use Rattle.unix_path.proofs.lemmas.order.PairLemmas.{CanCut, apart-unless, shares-written}
 use Rattle.unix_path.proofs.pair.Pair.left.Goals.{then-piece_rank-eq0, else-piece_rank-eq0}
 use Rattle.unix_path.proofs.pair.Pair.left.Goals as goal
 

@@ -1,5 +1,5 @@
 use Rattle.std.proofs.Common.{length, ap, arith}
-use Rattle.unix_path.proofs.AncestorLemmas.{length-ancestors_of}
+use Rattle.unix_path.proofs.lemmas.names.AncestorLemmas.{length-ancestors_of}
 use Rattle.unix_path.proofs.path.Path.ancestors.Goals as goal
 
 pub returns-clause-len : goal.returns-clause-len

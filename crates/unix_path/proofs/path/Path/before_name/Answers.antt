@@ -1,7 +1,7 @@
 use Rattle.std.proofs.Common.{take, refl, ◌∙◌}
-use Rattle.unix_path.proofs.ParentLemmas.{file_name_of-none, before_name_of-none}
-use Rattle.unix_path.proofs.ParentLemmas.{before_name_of-some}
-use Rattle.unix_path.proofs.ComponentLemmas.{file_name_of-normal, file_name_of-other}
+use Rattle.unix_path.proofs.lemmas.names.ParentLemmas.{file_name_of-none, before_name_of-none}
+use Rattle.unix_path.proofs.lemmas.names.ParentLemmas.{before_name_of-some}
+use Rattle.unix_path.proofs.lemmas.walks.ComponentLemmas.{file_name_of-normal, file_name_of-other}
 use Rattle.unix_path.proofs.path.Path.before_name.Goals as goal
 
 pub returns-in_default-clause-value : goal.returns-in_default-clause-value

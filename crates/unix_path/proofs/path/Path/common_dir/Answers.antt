@@ -1,4 +1,4 @@
-use Rattle.unix_path.proofs.CommonDirLemmas.{common_dir_of-is}
+use Rattle.unix_path.proofs.lemmas.order.CommonDirLemmas.{common_dir_of-is}
 use Rattle.unix_path.proofs.path.Path.common_dir.Goals as goal
 
 pub returns-clause-value : goal.returns-clause-value

@@ -1,6 +1,6 @@
 use Rattle.std.proofs.Common.{take, refl}
-use Rattle.unix_path.proofs.ComponentLemmas.{file_name_of-normal, file_name_of-other}
-use Rattle.unix_path.proofs.ParentLemmas.{file_name_of-none}
+use Rattle.unix_path.proofs.lemmas.walks.ComponentLemmas.{file_name_of-normal, file_name_of-other}
+use Rattle.unix_path.proofs.lemmas.names.ParentLemmas.{file_name_of-none}
 use Rattle.unix_path.proofs.path.Path.file_name.Goals as goal
 
 pub returns-in_default : goal.returns-in_default

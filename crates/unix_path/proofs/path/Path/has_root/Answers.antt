@@ -1,8 +1,8 @@
 use Rattle.std.proofs.Common.{ap, ◌∙◌, sym, eqb-true, not}
 use Rattle.std.proofs.lemmas.List.{nil_from_length}
 use Rattle.unix_path.specs.Parts.{is_rooted}
-use Rattle.unix_path.proofs.PartLemmas.{is_rooted-at}
-use Rattle.unix_path.proofs.RootLemmas.{rooted-Begins}
+use Rattle.unix_path.proofs.lemmas.parts.PartLemmas.{is_rooted-at}
+use Rattle.unix_path.proofs.lemmas.rests.RootLemmas.{rooted-Begins}
 use Rattle.unix_path.proofs.path.Path.has_root.Goals as goal
 
 pub returns-then-not-is_empty-clause-root : goal.returns-then-not-is_empty-clause-root

@@ -1,8 +1,8 @@
 use Rattle.std.proofs.Common.{length, sym, ap, ◌∙◌, arith, take_all}
 use Rattle.std.proofs.lemmas.Bool.{true≢false}
 use Rattle.unix_path.specs.Parts.{parts}
-use Rattle.unix_path.proofs.NamedLemmas.{name_end_of-ended, name_end_of-unnamed}
-use Rattle.unix_path.proofs.TrimLemmas.{EndsInPart-take}
+use Rattle.unix_path.proofs.lemmas.names.NamedLemmas.{name_end_of-ended, name_end_of-unnamed}
+use Rattle.unix_path.proofs.lemmas.filler.TrimLemmas.{EndsInPart-take}
 use Rattle.unix_path.proofs.path.Path.name_end.Goals as goal
 
 pub returns-then-not-ends_in_name-clause-value : goal.returns-then-not-ends_in_name-clause-value

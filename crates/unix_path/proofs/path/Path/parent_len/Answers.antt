@@ -1,8 +1,9 @@
 use Rattle.std.proofs.Common.{[], ◌∷◌, ◌++◌, take, ap, ◌∙◌, refl}
 use Rattle.unix_path.specs.Parts.{values}
 use Rattle.unix_path.specs.Views.{value_of}
-use Rattle.unix_path.proofs.ParentLemmas.{parent_of-none, parent_of-root, parent_of-push}
-use Rattle.unix_path.proofs.ComponentLemmas.{value_of-other}
+use Rattle.unix_path.proofs.lemmas.names.ParentLemmas.{parent_of-none, parent_of-root}
+use Rattle.unix_path.proofs.lemmas.names.ParentLemmas.{parent_of-push}
+use Rattle.unix_path.proofs.lemmas.walks.ComponentLemmas.{value_of-other}
 use Rattle.unix_path.proofs.path.Path.parent_len.Goals as goal
 
 pub returns-in_default-clause-value : goal.returns-in_default-clause-value

@@ -1,5 +1,5 @@
 use Rattle.std.proofs.Common.{sym, eqb-true}
-use Rattle.unix_path.proofs.StripLemmas.{begins-empty}
+use Rattle.unix_path.proofs.lemmas.order.StripLemmas.{begins-empty}
 use Rattle.unix_path.proofs.path.Path.starts_with.Goals as goal
 
 pub returns-then-is_empty : goal.returns-then-is_empty

@@ -1,6 +1,6 @@
 use Rattle.std.proofs.Common.{sym, ◌∙◌}
-use Rattle.unix_path.proofs.NamedLemmas.{name_end_of-take}
-use Rattle.unix_path.proofs.StemCutLemmas.{stem_end_of-nameless, stem_end_of-take}
+use Rattle.unix_path.proofs.lemmas.names.NamedLemmas.{name_end_of-take}
+use Rattle.unix_path.proofs.lemmas.names.StemCutLemmas.{stem_end_of-nameless, stem_end_of-take}
 use Rattle.unix_path.proofs.path.Path.stem_end.Goals as goal
 
 pub returns-in_default-clause-value : goal.returns-in_default-clause-value

@@ -1,6 +1,6 @@
 use Rattle.std.proofs.Common.{◌-◌, length, arith}
 use Rattle.unix_path.specs.Scan.{gap_bytes}
-use Rattle.unix_path_c.proofs.LayoutLemmas.{buffer_after-three}
+use Rattle.unix_path_c.proofs.lemmas.buffers.LayoutLemmas.{buffer_after-three}
 use Rattle.unix_path_c.proofs.joins.Layout.write.Goals as goal
 
 pub returns-clause-out : goal.returns-clause-out

@@ -1,5 +1,5 @@
 use Rattle.std.proofs.Common.{arith}
-use Rattle.path_runs.proofs.KnownLemmas.{KnowsEnd-kept}
+use Rattle.path_runs.proofs.lemmas.edits.KnownLemmas.{KnowsEnd-kept}
 use Rattle.path_runs.proofs.edits.known.Known.cut.Goals as goal
 
 pub returns-else-kept-self : goal.returns-else-kept-self

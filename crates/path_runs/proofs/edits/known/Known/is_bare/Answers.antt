@@ -1,5 +1,5 @@
 use Rattle.std.proofs.lemmas.Bool.{leb-true}
-use Rattle.path_runs.proofs.EditStepLemmas.{parent_of-bare}
+use Rattle.path_runs.proofs.lemmas.edits.EditStepLemmas.{parent_of-bare}
 use Rattle.path_runs.proofs.edits.known.Known.is_bare.Goals as goal
 
 pub returns-clause-value : goal.returns-clause-value

@@ -1,6 +1,6 @@
 use Rattle.std.proofs.Common.{sym, ◌∙◌}
 use Rattle.std.proofs.lemmas.Bool.{true≢false}
-use Rattle.unix_path.proofs.CallerLemmas.{name_end_of-ended, name_end_of-unnamed}
+use Rattle.unix_path.proofs.lemmas.callers.CallerLemmas.{name_end_of-ended, name_end_of-unnamed}
 use Rattle.path_runs.proofs.edits.known.Known.name_end.Goals as goal
 
 pub returns-then-not-ends_in_name-clause-value : goal.returns-then-not-ends_in_name-clause-value

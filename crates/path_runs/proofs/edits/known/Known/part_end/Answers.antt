@@ -1,7 +1,7 @@
 use Rattle.std.proofs.Common.{◌∙◌, ap, sym, take, arith}
 use Rattle.unix_path.specs.Parts.{parts}
-use Rattle.unix_path.proofs.TrimLemmas.{EndsInPart-take}
-use Rattle.path_runs.proofs.KnownLemmas.{KnowsEnd-all}
+use Rattle.unix_path.proofs.lemmas.filler.TrimLemmas.{EndsInPart-take}
+use Rattle.path_runs.proofs.lemmas.edits.KnownLemmas.{KnowsEnd-all}
 use Rattle.path_runs.proofs.edits.known.Known.part_end.Goals as goal
 
 pub returns-then-end-self-clause-known : goal.returns-then-end-self-clause-known

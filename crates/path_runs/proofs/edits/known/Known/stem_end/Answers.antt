@@ -1,7 +1,7 @@
 use Rattle.std.proofs.Common.{Some, sym, ap, ◌∙◌}
 use Rattle.std.proofs.lemmas.List.{take-take}
 use Rattle.unix_path.specs.Edits.{stem_end_of}
-use Rattle.unix_path.proofs.CallerLemmas.{name_end_of-take, stem_end_of-take}
+use Rattle.unix_path.proofs.lemmas.callers.CallerLemmas.{name_end_of-take, stem_end_of-take}
 use Rattle.path_runs.proofs.edits.known.Known.stem_end.Goals as goal
 
 pub stem_end-stem-requires-clause-name : goal.stem_end-stem-requires-clause-name

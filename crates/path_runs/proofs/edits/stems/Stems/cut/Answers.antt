@@ -1,6 +1,6 @@
 use Rattle.std.proofs.Common.{◌≤◌, List, ℕ, get_or, sym, ap, subst, arith}
 use Rattle.path_runs.specs.Known.{KnowsStem}
-use Rattle.path_runs.proofs.KnownLemmas.{KnowsStem-kept}
+use Rattle.path_runs.proofs.lemmas.edits.KnownLemmas.{KnowsStem-kept}
 use Rattle.path_runs.proofs.edits.stems.Stems.cut.Goals as goal
 
 pub returns-clause-known : goal.returns-clause-known

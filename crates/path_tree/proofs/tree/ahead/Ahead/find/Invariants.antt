@@ -1,6 +1,6 @@
 use Rattle.std.proofs.Common.{length}
 use Rattle.path_tree.specs.Ahead.{ahead_of}
-use Rattle.path_tree.proofs.AheadLemmas.{FindsAlike}
+use Rattle.path_tree.proofs.lemmas.rows.AheadLemmas.{FindsAlike}
 use Rattle.path_tree.proofs.tree.ahead.Ahead.find.Given as goal
 
 abbrev pub invariant-loop-self : goal.invariant-loop-self

@@ -1,5 +1,5 @@
 use Rattle.std.proofs.Common.{length, ap, arith}
-use Rattle.unix_path.proofs.AncestorLemmas.{ancestors_left-step}
+use Rattle.unix_path.proofs.lemmas.names.AncestorLemmas.{ancestors_left-step}
 use Rattle.unix_path.proofs.cursor.parents.AncestorsIterator.next.Goals as goal
 
 pub returns-clause-steps : goal.returns-clause-steps

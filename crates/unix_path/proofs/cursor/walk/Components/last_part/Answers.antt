@@ -3,10 +3,10 @@ use Rattle.std.specs.Prelude.{slice_range}
 use Rattle.unix_path.specs.Steps.{IsWalk}
 use Rattle.unix_path.specs.Cursor.{cursor_rest}
 use Rattle.unix_path.specs.Views.{value_of}
-use Rattle.unix_path.proofs.OffsetLemmas.{has_last, range-zero}
-use Rattle.unix_path.proofs.ParentLemmas.{values-whole}
+use Rattle.unix_path.proofs.lemmas.walks.OffsetLemmas.{has_last, range-zero}
+use Rattle.unix_path.proofs.lemmas.names.ParentLemmas.{values-whole}
 use Rattle.unix_path.proofs.cursor.walk.Components.last_part.Goals as goal
-use Rattle.unix_bytes.proofs.CaseLemmas.{length-range}
+use Rattle.unix_bytes.proofs.lemmas.lists.CaseLemmas.{length-range}
 
 pub returns-in_default-clause-none : goal.returns-in_default-clause-none
 returns-in_default-clause-none c none =

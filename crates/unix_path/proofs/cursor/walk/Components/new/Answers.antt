@@ -1,6 +1,6 @@
 use Rattle.std.proofs.Common.{length, ap, arith}
-use Rattle.unix_path.proofs.RestLemmas.{length-values}
-use Rattle.unix_path.proofs.ParentLemmas.{values-whole}
+use Rattle.unix_path.proofs.lemmas.rests.RestLemmas.{length-values}
+use Rattle.unix_path.proofs.lemmas.names.ParentLemmas.{values-whole}
 use Rattle.unix_path.proofs.cursor.walk.Components.new.Goals as goal
 
 pub returns-clause-values : goal.returns-clause-values

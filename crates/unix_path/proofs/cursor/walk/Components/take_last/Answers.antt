@@ -4,9 +4,9 @@ use Rattle.std.proofs.lemmas.List.{nil_from_length}
 use Rattle.unix_path.specs.Steps.{IsWalk}
 use Rattle.unix_path.specs.Cursor.{cursor_rest, cursor_source}
 use Rattle.unix_path.specs.Scan.{is_idle}
-use Rattle.unix_path.proofs.CursorLemmas.{GivesLast-none}
-use Rattle.unix_path.proofs.OffsetLemmas.{walks_back}
-use Rattle.unix_path.proofs.SourceLemmas.{LiesIn-itself}
+use Rattle.unix_path.proofs.lemmas.walks.CursorLemmas.{GivesLast-none}
+use Rattle.unix_path.proofs.lemmas.walks.OffsetLemmas.{walks_back}
+use Rattle.unix_path.proofs.lemmas.rests.SourceLemmas.{LiesIn-itself}
 use Rattle.unix_path.proofs.cursor.walk.Components.take_last.Goals.{then-self, else-self}
 use Rattle.unix_path.proofs.cursor.walk.Components.take_last.Goals as goal
 

@@ -3,9 +3,9 @@ use Rattle.unix_path.specs.Steps.{IsWalk}
 use Rattle.unix_path.specs.Cursor.{cursor_rest}
 use Rattle.unix_path.specs.Parts.{parts}
 use Rattle.unix_path.specs.Scan.{EndsInPart}
-use Rattle.unix_path.proofs.OffsetLemmas.{is_idle-same, range-zero}
-use Rattle.unix_path.proofs.SpanLemmas.{rest-trimmed}
-use Rattle.unix_path.proofs.TrimLemmas.{EndsInPart-take}
+use Rattle.unix_path.proofs.lemmas.walks.OffsetLemmas.{is_idle-same, range-zero}
+use Rattle.unix_path.proofs.lemmas.steps.SpanLemmas.{rest-trimmed}
+use Rattle.unix_path.proofs.lemmas.filler.TrimLemmas.{EndsInPart-take}
 use Rattle.unix_path.proofs.cursor.walk.Components.whole.Goals as goal
 
 pub invariant_of-result : goal.invariant_of-result

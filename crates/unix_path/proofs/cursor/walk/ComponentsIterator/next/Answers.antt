@@ -2,11 +2,11 @@ use Rattle.std.proofs.Common.{◌+◌, ap, ◌∙◌, sym, eqb-true, length, ari
 use Rattle.std.proofs.lemmas.List.{nil_from_length}
 use Rattle.unix_path.specs.Steps.{IsWalk}
 use Rattle.unix_path.specs.Cursor.{cursor_rest, cursor_source}
-use Rattle.unix_path.proofs.CursorLemmas.{GivesFirst-none}
-use Rattle.unix_path.proofs.OffsetLemmas.{walks_forward}
-use Rattle.unix_path.proofs.SourceLemmas.{LiesIn-itself}
+use Rattle.unix_path.proofs.lemmas.walks.CursorLemmas.{GivesFirst-none}
+use Rattle.unix_path.proofs.lemmas.walks.OffsetLemmas.{walks_forward}
+use Rattle.unix_path.proofs.lemmas.rests.SourceLemmas.{LiesIn-itself}
 use Rattle.unix_path.proofs.cursor.walk.ComponentsIterator.next.Goals as goal
-use Rattle.unix_bytes.proofs.CaseLemmas.{length-range}
+use Rattle.unix_bytes.proofs.lemmas.lists.CaseLemmas.{length-range}
 
 pub returns-then-is_empty-clause-steps : goal.returns-then-is_empty-clause-steps
 returns-then-is_empty-clause-steps c =

@@ -1,0 +1,7 @@
+-- The lemmas, by subject.
+pub mod values
+pub mod stops
+pub mod lanes
+pub mod reading
+pub mod writing
+pub mod spelling

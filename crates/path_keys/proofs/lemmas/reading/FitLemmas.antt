@@ -1,0 +1,132 @@
+-- Values that may be all values of a path are those of one: of their spelling.
+use Rattle.std.proofs.Common.{◌≡◌, ℕ, Bool, true, false, cond, List, [], ◌∷◌, ◌++◌, map, refl}
+use Rattle.std.proofs.Common.{sym, ap, ap₂, ◌∙◌, subst}
+use Rattle.std.specs.List.{AllByRecursion, slice_split}
+use Rattle.std.specs.Str.{bytes_eq}
+use Rattle.unix_path.specs.Parts.{Value, RootDir, CurDir, ParentDir, Normal, is_slash, slash}
+use Rattle.unix_path.specs.Parts.{parent_dir, counts, value_of_piece, value_bytes}
+use Rattle.unix_path.specs.Parts.{is_rooted, values}
+use Rattle.unix_bytes.proofs.lemmas.lists.CaseLemmas.{by_test}
+use Rattle.unix_path.proofs.lemmas.parts.PartLemmas.{values-nil}
+use Rattle.path_runs.specs.Spelling.{slashed_bytes, spelling_of}
+use Rattle.path_runs.proofs.lemmas.joins.LeadLemmas.{dot_first}
+use Rattle.path_runs.proofs.lemmas.spelling.PieceValueLemmas.{AllCount, HoldsOfPieces, NoSlash}
+use Rattle.path_runs.proofs.lemmas.spelling.PieceValueLemmas.{names_of}
+use Rattle.path_runs.proofs.lemmas.spelling.PieceValueLemmas.{values-hold_rooted, values-rooted}
+use Rattle.path_runs.proofs.lemmas.spelling.PieceValueLemmas.{values-rootless}
+use Rattle.path_runs.proofs.lemmas.spelling.ReadBackLemmas.{names_of-join_with_byte}
+use Rattle.path_runs.proofs.lemmas.spelling.ReadBackLemmas.{values-join_with_byte}
+use Rattle.path_runs.proofs.lemmas.spelling.ReadBackLemmas.{values-join_with_byte_dot}
+use Rattle.path_runs.proofs.lemmas.spelling.SpellLemmas.{spelling_of-nil, spelling_of-root}
+use Rattle.path_runs.proofs.lemmas.spelling.SpellLemmas.{spelling_of-dot}
+use Rattle.path_runs.proofs.lemmas.spelling.SpellLemmas.{spelling_of-cons}
+use Rattle.path_keys.specs.Codes.{Fits, AllFit}
+use Rattle.path_keys.proofs.lemmas.values.CodeLemmas.{IsCoded}
+
+-- what may be a path's value has a code of its own
+pub Fits-coded : (first : Bool) (v : Value) → Fits first v → IsCoded v
+Fits-coded first RootDir h = tt
+Fits-coded first CurDir h = tt
+Fits-coded first ParentDir h = tt
+Fits-coded first (Normal name) h = (h.no_slash, h.some)
+
+pub AllFit-coded : (first : Bool) (vs : List Value) → AllFit first vs → AllByRecursion IsCoded vs
+AllFit-coded first [] h = tt
+AllFit-coded first (v ∷ vs) h = (Fits-coded first v h.0, AllFit-coded false vs h.1)
+
+piece_fits : HoldsOfPieces (Fits false)
+piece_fits p h d e = by_test (bytes_eq p parent_dir) (λ up. rw up tt)
+    (λ up. rw up (record { some = d; no_slash = h; no_dot = e; no_up = up }))
+
+-- what holds of all values behind the first as such holds of all
+all_fit : (vs : List Value) → AllByRecursion (Fits false) vs → AllFit false vs
+all_fit [] h = tt
+all_fit (v ∷ vs) h = (h.0, all_fit vs h.1)
+
+Fits-first : (v : Value) → Fits false v → Fits true v
+Fits-first RootDir h = refl
+Fits-first CurDir h = refl
+Fits-first ParentDir h = tt
+Fits-first (Normal name) h = h
+
+pub AllFit-first : (vs : List Value) → AllFit false vs → AllFit true vs
+AllFit-first [] h = tt
+AllFit-first (v ∷ vs) h = (Fits-first v h.0, h.1)
+
+-- the names between the slashes of any string may stand behind a first value
+names-fit : (s : List ℕ) → AllFit false (names_of (slice_split is_slash s))
+names-fit s =
+    let behind = values-hold_rooted (Fits false) piece_fits (slash ∷ s) refl in
+    let same : names_of (slice_split is_slash s) ≡ behind.0 =
+    (let e = sym (values-rooted s) ∙ behind.1 in cc) in
+    subst (AllFit false) (sym same) (all_fit behind.0 behind.2)
+
+lead-fit : (dot : Bool) (vs : List Value) → AllFit false vs
+    → AllFit true (cond dot (CurDir ∷ []) [] ++ vs)
+lead-fit true vs h = (refl, h)
+lead-fit false vs h = AllFit-first vs h
+
+-- the values of a path may be all values of a path
+pub values-fit : (s : List ℕ) → AllFit true (values s)
+values-fit s = by_test (is_rooted s)
+    (λ r.
+    let behind = values-hold_rooted (Fits false) piece_fits s r in
+    subst (AllFit true) (sym behind.1) (refl, all_fit behind.0 behind.2))
+    (λ r.
+    let ps = slice_split is_slash s in
+    subst (AllFit true) (sym (values-rootless s ps r refl))
+    (lead-fit (dot_first ps) (names_of ps) (names-fit s)))
+
+-- the bytes of a value behind the first are a piece that counts
+fits-no_slash : (v : Value) → Fits false v → NoSlash (value_bytes v)
+fits-no_slash RootDir h = absurd (cc)
+fits-no_slash CurDir h = (refl, tt)
+fits-no_slash ParentDir h = (refl, (refl, tt))
+fits-no_slash (Normal name) h = h.no_slash
+
+fits-counts : (v : Value) → Fits false v → counts (value_bytes v) ≡ true
+fits-counts RootDir h = absurd (cc)
+fits-counts CurDir h = absurd (cc)
+fits-counts ParentDir h = refl
+fits-counts (Normal name) h = rw (h.some, h.no_dot) refl
+
+fits-value : (v : Value) → Fits false v → value_of_piece (value_bytes v) ≡ v
+fits-value RootDir h = absurd (cc)
+fits-value CurDir h = absurd (cc)
+fits-value ParentDir h = refl
+fits-value (Normal name) h = rw h.no_up refl
+
+pieces-no_slash : (vs : List Value) → AllFit false vs → AllByRecursion NoSlash (map value_bytes vs)
+pieces-no_slash [] h = tt
+pieces-no_slash (v ∷ vs) h = (fits-no_slash v h.0, pieces-no_slash vs h.1)
+
+pieces-count : (vs : List Value) → AllFit false vs → AllCount (map value_bytes vs)
+pieces-count [] h = tt
+pieces-count (v ∷ vs) h = (fits-counts v h.0, pieces-count vs h.1)
+
+pieces-values : (vs : List Value) → AllFit false vs → map value_of_piece (map value_bytes vs) ≡ vs
+pieces-values [] h = refl
+pieces-values (v ∷ vs) h = ap₂ (λ u us. u ∷ us) (fits-value v h.0) (pieces-values vs h.1)
+
+-- values that may stand behind a first, spelled with slashes between
+inner-spelled : (vs : List Value) → AllFit false vs → values (slashed_bytes vs) ≡ vs
+inner-spelled vs h =
+    values-join_with_byte (map value_bytes vs) (pieces-no_slash vs h) (pieces-count vs h)
+    ∙ pieces-values vs h
+
+-- values that may be all values of a path are those of their spelling
+pub values-spelled : (vs : List Value) → AllFit true vs → values (spelling_of vs) ≡ vs
+values-spelled [] h = ap values spelling_of-nil ∙ values-nil
+values-spelled (RootDir ∷ vs) h =
+    ap values (spelling_of-root vs) ∙ values-rooted (slashed_bytes vs)
+    ∙ ap (λ us. RootDir ∷ us)
+    (names_of-join_with_byte (map value_bytes vs) (pieces-no_slash vs h.1) (pieces-count vs h.1)
+    ∙ pieces-values vs h.1)
+values-spelled (CurDir ∷ vs) h =
+    ap values (spelling_of-dot vs)
+    ∙ values-join_with_byte_dot (map value_bytes vs) (pieces-no_slash vs h.1) (pieces-count vs h.1)
+    ∙ ap (λ us. CurDir ∷ us) (pieces-values vs h.1)
+values-spelled (ParentDir ∷ vs) h =
+    ap values (spelling_of-cons ParentDir vs (λ e. cc)) ∙ inner-spelled (ParentDir ∷ vs) (tt, h.1)
+values-spelled (Normal name ∷ vs) h =
+    ap values (spelling_of-cons (Normal name) vs (λ e. cc)) ∙ inner-spelled (Normal name ∷ vs) h

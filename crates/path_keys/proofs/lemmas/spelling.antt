@@ -1,0 +1,9 @@
+-- Paths that are written run by run, of a key.
+pub mod UpRunLemmas
+pub mod StartLemmas
+pub mod RunReadLemmas
+mod SpellLemmas
+pub mod KeyStopLemmas
+pub mod KeyRunLemmas
+pub mod PlainLemmas
+pub mod CutLemmas

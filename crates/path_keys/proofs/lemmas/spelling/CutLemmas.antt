@@ -1,0 +1,295 @@
+-- A path written run by run, where there is no room for a last slash.
+use Rattle.std.proofs.Common.{◌≡◌, ◌≤◌, ◌+◌, ◌-◌, ℕ, List, [], ◌∷◌, ◌++◌}
+use Rattle.std.proofs.Common.{length, take, drop, refl, sym, ap, ap₂, ◌∙◌, arith, subst, ◌<◌}
+use Rattle.std.proofs.Common.{length-append, length-take-le, take_all, append_assoc, append-nil}
+use Rattle.std.proofs.Common.{◌*◌, zero, suc}
+use Rattle.std.proofs.Common.{⊎_elim, map, length-drop}
+use Rattle.std.proofs.lemmas.Bool.{cases_lt}
+use Rattle.std.proofs.lemmas.List.{length-map, take_at, take_rest, take-take, take-append-le}
+use Rattle.std.proofs.lemmas.List.{drop-take, drop_all}
+use Rattle.std.proofs.Math.Seq.{take-append-add}
+use Rattle.unix_path.specs.Parts.{Value, slash, values}
+use Rattle.path_runs.specs.Overlay.{overlay}
+use Rattle.path_runs.specs.Spelling.{spelling_of}
+use Rattle.std.specs.Borrow.{Bor}
+use Rattle.path_keys.specs.Keys.{code, key_of}
+use Rattle.path_keys.specs.Codes.{text_of, HasPath, IsRead, ReadsAs}
+use Rattle.path_keys.specs.Runs.{decoded, lead_text, run_code, run_text, BeginsLead}
+use Rattle.path_keys.specs.Runs.{ups, BeginsUps, HoldsNone, LeavesText, TakesRun}
+use Rattle.path_keys.specs.declared.runs.Lead.{Lead}
+use Rattle.path_keys.specs.declared.runs.Run.{Run}
+use Rattle.path_keys.specs.declared.runs.Run.TheVariants.{Up, Names}
+use Rattle.path_keys.proofs.lemmas.reading.FitLemmas.{values-fit}
+use Rattle.path_keys.proofs.lemmas.values.CodeLemmas.{code-length}
+use Rattle.path_keys.proofs.lemmas.values.KeyLemmas.{key_of-cons}
+use Rattle.path_keys.proofs.lemmas.spelling.PlainLemmas.{plain_left}
+use Rattle.path_keys.proofs.lemmas.reading.KeyReadLemmas.{spelled_read}
+use Rattle.path_keys.proofs.lemmas.spelling.SpellLemmas.{SpellsOn, spells_lead, spells_room}
+use Rattle.path_keys.proofs.lemmas.spelling.SpellLemmas.{spells_one, spells_all}
+use Rattle.path_keys.proofs.lemmas.spelling.SpellLemmas.{spells_long}
+use Rattle.path_keys.proofs.lemmas.reading.TextLemmas.{IsText, lone, longer, text_is, text_of-nil}
+use Rattle.path_keys.proofs.lemmas.reading.TextLemmas.{ups_key_len}
+use Rattle.path_keys.proofs.lemmas.reading.TextLemmas.{ups_text_len}
+use Rattle.path_keys.proofs.lemmas.spelling.UpRunLemmas.{ups_put_none, ups_run}
+
+-- bytes that are put in a buffer of which a front is kept are put in that, as far as they go
+overlay-take : (at m : ℕ) (bytes old : List ℕ) → at + m ≤ length old
+    → take (at + m) (overlay at bytes old) ≡ overlay at (take m bytes) (take (at + m) old)
+overlay-take at m bytes old l =
+    let before = take at old in
+    let behind = drop (at + length bytes) old in
+    let near : length before ≡ at = length-take-le at old (omega arith) in
+    let front : take at (take (at + m) old) ≡ before = take-take at (at + m) old (omega arith) in
+    ap (take (at + m)) (append_assoc before bytes behind)
+    ∙ ap (λ n. take (n + m) (before ++ (bytes ++ behind))) (sym near)
+    ∙ take-append-add before (bytes ++ behind) m
+    ∙ ⊎_elim
+    (λ more.
+    let cut : length (take m bytes) ≡ m = length-take-le m bytes (omega arith) in
+    let whole : length (take (at + m) old) ≡ at + m = length-take-le (at + m) old l in
+    ap (λ xs. before ++ xs) (take-append-le m bytes behind (omega arith))
+    ∙ sym (append-nil (before ++ take m bytes))
+    ∙ sym (ap₂ (λ xs ys. (xs ++ take m bytes) ++ ys) front
+    (drop_all (at + length (take m bytes)) (take (at + m) old) (omega (arith, cut, whole)))))
+    (λ few.
+    let n = m - length bytes in
+    let split : m ≡ length bytes + n = omega arith in
+    let end : at + m ≡ (at + length bytes) + n = omega arith in
+    ap (λ k. before ++ take k (bytes ++ behind)) split
+    ∙ ap (λ xs. before ++ xs) (take-append-add bytes behind n)
+    ∙ sym (append_assoc before bytes (take n behind))
+    ∙ ap (λ xs. (before ++ bytes) ++ xs) (sym (ap (λ k. drop (at + length bytes) (take k old)) end
+    ∙ drop-take (at + length bytes) n old))
+    ∙ sym (ap₂ (λ xs ys. (xs ++ ys) ++ drop (at + length ys) (take (at + m) old)) front
+    (take_all m bytes few)))
+    (cases_lt m (length bytes))
+
+-- bytes put first in a buffer of which a front is kept are put first in that, as far as they go
+cut_first : (m : ℕ) (bytes old : List ℕ) → m ≤ length old
+    → take m (overlay 0 bytes old) ≡ overlay 0 (take m bytes) (take m old)
+cut_first m bytes old l =
+    let whole : 0 + m ≡ m = omega arith in
+    ap (λ n. take n (overlay 0 bytes old)) (sym whole)
+    ∙ overlay-take 0 m bytes old (omega arith)
+    ∙ ap (λ n. overlay 0 (take m bytes) (take n old)) whole
+
+-- the text of some values of the key is written to a buffer that has room for all of it, and of
+-- which the front is `out`
+pub record SpellsCut (key rest old : List ℕ) (at : ℕ) (out : List ℕ) : Type 0 where
+  pub wide : List ℕ
+  pub wide_out : List ℕ
+  pub spells : SpellsOn key rest wide at wide_out
+  pub few : length wide ≤ length old + 1
+  pub enough : length old ≤ length wide
+  pub cut : out ≡ take (length old) wide_out
+
+-- the text of the lead is written, as far as there is room
+pub cut_lead : {key rest old out : List ℕ} {lead : Lead} {at : ℕ} → HasPath key (length old)
+    → BeginsLead key rest lead → out ≡ overlay 0 (take (length old) (lead_text lead)) old
+    → at ≡ length (lead_text lead) → SpellsCut key rest old at out
+cut_lead {key} {rest} {old} {out} {lead} {at} h k placed ends =
+    by (text_is (values h.path) (values-fit h.path))
+  where
+    reads : (n : ℕ) → n ≡ length (text_of (values h.path)) → ReadsAs key n
+    reads n e = record {
+      vs = values h.path;
+      fit = values-fit h.path;
+      key_is = h.read.key_is;
+      len_is = e;
+    }
+
+    spelled : length old ≡ length (spelling_of (values h.path))
+    spelled = h.len_is ∙ ap length h.read.spelled
+
+    within : (wide : List ℕ) → ReadsAs key (length wide) → length wide ≤ length old + 1
+        → length old ≤ length wide → old ≡ take (length old) wide → SpellsCut key rest old at out
+    within wide r few enough front = record {
+      wide = wide;
+      wide_out = overlay 0 (lead_text lead) wide;
+      spells = spells_lead r k refl ends;
+      few = few;
+      enough = enough;
+      cut = placed ∙ ap (overlay 0 (take (length old) (lead_text lead))) front
+          ∙ sym (cut_first (length old) (lead_text lead) wide enough);
+    }
+
+    by : IsText (text_of (values h.path)) (spelling_of (values h.path))
+        → SpellsCut key rest old at out
+    by (lone l e) = within old (reads (length old) (spelled ∙ ap length (sym e))) (omega arith)
+        (omega arith) (sym (take_all (length old) old (omega arith)))
+    by (longer l e) =
+        let wide = old ++ 0 ∷ [] in
+        let long : length wide ≡ length old + 1 = length-append old (0 ∷ []) in
+        within wide (reads (length wide) (omega (
+          arith,
+          long,
+          spelled,
+          ap length e,
+          length-append (spelling_of (values h.path)) (slash ∷ []),
+        ))) (omega (arith, long)) (omega (arith, long))
+        (sym (take_at old (0 ∷ []) (length old) refl))
+
+-- the text of what is left of the key has at most a byte more than there is room
+pub cut_leaves : {key rest old out : List ℕ} {at : ℕ}
+    → SpellsCut key rest old at out
+    → (at ≤ length old + 1) × LeavesText rest (length old + 1 - at)
+cut_leaves {key} {rest} {old} {out} {at} h =
+    let k = h.spells in
+    let w = k.written in
+    let count : at + length (text_of k.ws) ≤ length old + 1 =
+    omega (
+      arith,
+      h.few,
+      k.room,
+      w.at_is,
+      ap length w.whole_is,
+      length-append w.start (text_of k.ws),
+    ) in (
+      omega (arith, count),
+      record {
+        ws = k.ws;
+        fit = k.inner;
+        rest_is = k.rest_is;
+        short = omega (arith, count);
+      },
+    )
+
+-- there is room for the text of the next run, but for a last slash
+pub cut_room : {key rest old out : List ℕ} {at : ℕ} {run : Run}
+    → SpellsCut key rest old at out → TakesRun rest run
+    → at + length (run_text run) ≤ length old + 1
+cut_room h k = omega (arith, h.few, spells_room h.spells k)
+
+text_some : (run : Run) → 0 < length (run_text run)
+text_some (Up n) = omega (arith, ups_text_len (n + 1))
+text_some (Names bytes) = omega (arith, length-append (map decoded bytes.now) (slash ∷ []))
+
+-- the text of one more run is written, as far as there is room
+pub cut_one : {key rest old out more new : List ℕ} {at end : ℕ} {run : Run}
+    → SpellsCut key rest old at out → TakesRun rest run
+    → more ≡ drop (length (run_code run)) rest
+    → new ≡ overlay at (take (length old - at) (run_text run)) out
+    → end ≡ at + length (run_text run) → SpellsCut key more old end new
+cut_one {key} {rest} {old} {out} {more} {new} {at} {end} {run} h k e placed ends =
+    let n = length old in
+    let in_room : at ≤ n = omega (arith, text_some run, cut_room h k) in
+    let whole : at + (n - at) ≡ n = omega arith in
+    record {
+      wide = h.wide;
+      wide_out = overlay at (run_text run) h.wide_out;
+      spells = spells_one h.spells k e refl ends;
+      few = h.few;
+      enough = h.enough;
+      cut = placed ∙ ap (overlay at (take (n - at) (run_text run))) (h.cut
+          ∙ ap (λ k. take k h.wide_out) (sym whole))
+          ∙ sym (overlay-take at (n - at) (run_text run) h.wide_out
+          (omega (arith, h.enough, spells_long h.spells)))
+          ∙ ap (λ k. take k (overlay at (run_text run) h.wide_out)) whole;
+    }
+
+-- each `..` that stands first is written, as far as there is room, and there is that
+pub cut_ups_room : {key rest old out : List ℕ} {at : ℕ} (n : ℕ) → SpellsCut key rest old at out
+    → BeginsUps rest n → at + 3 * n ≤ length old + 1
+cut_ups_room zero h up = omega (arith, (cut_leaves h).0)
+cut_ups_room {key} {rest} {old} {out} {at} (suc n) h up =
+    let one : suc n ≡ n + 1 = omega arith in
+    omega (
+      arith,
+      cut_room h (ups_run rest n (subst (BeginsUps rest) one up)),
+      ups_text_len (n + 1),
+    )
+
+cut_ups : {key rest old out more new : List ℕ} {at end : ℕ} (n : ℕ)
+    → SpellsCut key rest old at out → BeginsUps rest n → more ≡ drop (2 * n) rest
+    → new ≡ overlay at (take (length old - at) (text_of (ups n))) out
+    → end ≡ at + 3 * n → SpellsCut key more old end new
+cut_ups {key} {rest} {old} {out} {more} {new} {at} {end} zero h up e placed ends =
+    subst (λ r. SpellsCut key r old end new) (sym e)
+    (subst (λ o. SpellsCut key rest old end o) (nothing ∙ sym placed)
+    (subst (λ k. SpellsCut key rest old k out) {x = at} {y = end} (omega (arith, ends)) h))
+  where
+    nothing : out ≡ overlay at (take (length old - at) (text_of (ups 0))) out
+    nothing = ups_put_none at out ∙ ap (λ t. overlay at t out) (text_of-nil
+        ∙ sym (take_all (length old - at) [] (omega arith))
+        ∙ ap (take (length old - at)) (sym text_of-nil))
+cut_ups {key} {rest} {old} {out} {more} {new} {at} {end} (suc n) h up e placed ends =
+    let one : suc n ≡ n + 1 = omega arith in
+    cut_one h (ups_run rest n (subst (BeginsUps rest) one up))
+    (e ∙ ap (λ k. drop k rest) {x = 2 * suc n} {y = length (key_of (ups (n + 1)))}
+    (omega (arith, ups_key_len (n + 1))))
+    (placed ∙ ap (λ k. overlay at (take (length old - at) (text_of (ups k))) out) one)
+    (omega (arith, ends, ups_text_len (n + 1)))
+
+-- the lead and each `..` behind it are written, as far as there is room
+pub cut_started : {key rest old out new : List ℕ} {lead : Lead} {at : ℕ} (n : ℕ)
+    → HasPath key (length old) → BeginsLead key rest lead
+    → out ≡ overlay 0 (take (length old) (lead_text lead)) old → length out ≡ length old
+    → at ≡ length (lead_text lead) → BeginsUps rest n
+    → new ≡ overlay at (take (length out - at) (text_of (ups n))) out
+    → SpellsCut key (take (length rest - 2 * n) (drop (2 * n) rest)) old (at + 3 * n) new
+cut_started {key} {rest} {old} {out} {new} {lead} {at} n p begins placed same ends up puts =
+    cut_ups n (cut_lead p begins placed ends) up (take_rest rest (2 * n))
+    (puts ∙ ap (λ k. overlay at (take (k - at) (text_of (ups n))) out) same) refl
+
+-- if no run is left, the path is written
+pub cut_all : {key rest old out : List ℕ} {at : ℕ}
+    → SpellsCut key rest old at out → HoldsNone rest → HasPath key (length old)
+    → IsRead key out
+cut_all {key} {rest} {old} {out} {at} h none p = subst (IsRead key) (sym is)
+    (spelled_read key (values p.path) (values-fit p.path) p.read.key_is)
+  where
+    vs : List Value
+    vs = values p.path
+
+    text : out ≡ take (length old) (text_of vs)
+    text = h.cut ∙ ap (take (length old))
+        (spells_all h.spells none vs (values-fit p.path) p.read.key_is)
+
+    spelled : length old ≡ length (spelling_of vs)
+    spelled = p.len_is ∙ ap length p.read.spelled
+
+    by : IsText (text_of vs) (spelling_of vs) → take (length old) (text_of vs) ≡ spelling_of vs
+    by (lone l e) = take_all (length old) (text_of vs) (omega (arith, spelled, ap length e)) ∙ e
+    by (longer l e) = ap (take (length old)) e
+        ∙ take_at (spelling_of vs) (slash ∷ []) (length old) (sym spelled)
+
+    is : out ≡ spelling_of vs
+    is = text ∙ by (text_is vs (values-fit p.path))
+
+-- nothing is the key of no values
+pub nothing_none : (s : List ℕ) → length s ≤ 0 → HoldsNone s
+nothing_none s l v vs fit e = omega (
+  arith,
+  l,
+  ap length e,
+  ap length (key_of-cons v vs),
+  length-append (code v) (key_of vs),
+  code-length v,
+)
+
+-- if what is left has as many bytes as there is room for its text, and these are put there as
+-- names, the path is written
+pub cut_plain : {key rest old out new : List ℕ} {at : ℕ} (b : Bor (List ℕ))
+    → SpellsCut key rest old at out → length rest ≡ length old + 1 - at → 0 < length rest
+    → new ≡ overlay at (map decoded (take (length old - at) rest)) out
+    → HasPath key (length old) → IsRead key new
+cut_plain {key} {rest} {old} {out} {new} {at} b h long some placed p =
+    let n = length old - at in
+    let leaves = cut_leaves h in
+    let names = take n rest in
+    let bytes : Bor (List ℕ) = record b { now = names } in
+    let less : n ≡ length rest - 1 = omega (arith, long, leaves.0) in
+    let run = plain_left bytes rest (length old + 1 - at) leaves.1 long some
+    (ap (λ k. take k rest) less) in
+    let size : length names ≡ n = length-take-le n rest (omega (arith, less)) in
+    let text : take n (map decoded names ++ slash ∷ []) ≡ map decoded names =
+    take_at (map decoded names) (slash ∷ []) n (length-map names decoded ∙ size) in
+    cut_all (cut_one h run refl (placed ∙ ap (λ t. overlay at t out) (sym text)) refl)
+    (nothing_none _ (omega (
+      arith,
+      length-drop (length (names ++ 0 ∷ [])) rest,
+      length-append names (0 ∷ []),
+      size,
+      less,
+      some,
+    ))) p

@@ -1,0 +1,132 @@
+-- Names in a key up to a stop, and what they are in a path.
+use Rattle.std.proofs.Common.{◌≡◌, ◌<◌, ◌+◌, ℕ, Bool, false, eqb}
+use Rattle.std.proofs.Common.{List, [], ◌∷◌}
+use Rattle.std.proofs.Common.{◌++◌, length, take, drop, map, get_or, refl, sym, ap, ap₂, ◌∙◌}
+use Rattle.std.proofs.Common.{subst, arith, append_assoc, length-append}
+use Rattle.std.proofs.Common.{◌&&◌, ◌||◌}
+use Rattle.std.proofs.Common.{⊎_elim, take-append-drop}
+use Rattle.std.proofs.lemmas.Bool.{cases_lt}
+use Rattle.std.proofs.lemmas.Bool.Decides.{nat_tests}
+use Rattle.std.proofs.lemmas.List.{get_or-map, length-map}
+use Rattle.std.proofs.lemmas.List.{get_or_past, length-take-le, drop_more}
+use Rattle.std.proofs.lemmas.List.Splits.{join_with_byte-slice_split}
+use Rattle.std.specs.Borrow.{Bor}
+use Rattle.std.specs.List.{AllByRecursion, slice_split, join_with_byte}
+use Rattle.unix_path.specs.Parts.{slash, is_slash, Normal}
+use Rattle.unix_path.specs.Parts.{value_bytes}
+use Rattle.path_runs.proofs.lemmas.spelling.PieceValueLemmas.{inner_values-pieces}
+use Rattle.path_keys.specs.Keys.{key_of, raised}
+use Rattle.path_keys.specs.Codes.{text_of, AllFit, IsName}
+use Rattle.path_keys.specs.Runs.{decoded, TakesRun}
+use Rattle.path_keys.specs.declared.runs.Run.TheVariants.{Names}
+use Rattle.path_keys.specs.Stretches.{coded, is_stop, is_stop_of, none_begins, FirstStopOf}
+use Rattle.path_keys.proofs.lemmas.stops.StopLemmas.{no_name, no_name-same, none_begins-take}
+use Rattle.path_keys.proofs.lemmas.stops.StopLemmas.{stop_end}
+use Rattle.path_keys.proofs.lemmas.stops.StopLemmas.{stop_mark, unstopped_to}
+use Rattle.path_keys.proofs.lemmas.writing.StretchLemmas.{all_pieces_names, names_of-names}
+use Rattle.path_keys.proofs.lemmas.writing.StretchLemmas.{some_piece}
+use Rattle.path_keys.proofs.lemmas.writing.StretchLemmas.{stretch_key}
+use Rattle.path_keys.proofs.lemmas.reading.TextLemmas.{text_of-slashed}
+
+coded-decoded : (b : ℕ) → coded (decoded b) ≡ b
+coded-decoded b = grind (arith, nat_tests)
+
+decoded-slash : (b : ℕ) → eqb (decoded b) 47 ≡ eqb b 0
+decoded-slash b = grind (arith, nat_tests)
+
+decoded-dot : (b : ℕ) → eqb (decoded b) 46 ≡ eqb b 47
+decoded-dot b = grind (arith, nat_tests)
+
+map-coded-decoded : (t : List ℕ) → map coded (map decoded t) ≡ t
+map-coded-decoded [] = refl
+map-coded-decoded (b ∷ t) = ap₂ (λ c s. c ∷ s) (coded-decoded b) (map-coded-decoded t)
+
+-- the byte at i of the path
+decoded_at : (t : List ℕ) (k : ℕ) → get_or (map decoded t) k 47 ≡ decoded (get_or t k 0)
+decoded_at t k = ⊎_elim
+    (λ inside. get_or-map decoded t k 0 47 inside)
+    (λ past.
+    get_or_past (map decoded t) k 47 (omega (arith, length-map t decoded))
+    ∙ sym (ap decoded (get_or_past t k 0 past)))
+    (cases_lt k (length t))
+
+-- names begin in the path where they do in the key
+none_begins-decoded : (t : List ℕ) (i : ℕ)
+    → none_begins 47 46 (map decoded t) i ≡ none_begins 0 47 t i
+none_begins-decoded t i =
+    no_name-same 47 46 (decoded_at t i) (decoded_at t (i + 1)) (decoded_at t (i + 2))
+    ∙ by (get_or t i 0) (get_or t (i + 1) 0) (get_or t (i + 2) 0)
+  where
+    by : (a b c : ℕ) → no_name 47 46 (decoded a) (decoded b) (decoded c) ≡ no_name 0 47 a b c
+    by a b c =
+        ap₂ (λ x y. x || y) (decoded-slash a)
+        (ap₂ (λ x y. x && y) (decoded-dot a) (ap₂ (λ x y. x || y) (decoded-slash b)
+        (ap₂ (λ x y. x && y) (decoded-dot b) (decoded-slash c))))
+
+-- a stop is in the path where it is in the key
+is_stop-decoded : (t : List ℕ) (i : ℕ) → i < length t
+    → is_stop (map decoded t) i ≡ is_stop_of 0 47 t i
+is_stop-decoded t i l =
+    ap₂ (λ x y. x && y) (ap (λ x. eqb x 47) (get_or-map decoded t i 0 0 l)
+    ∙ decoded-slash (get_or t i 0)) (none_begins-decoded t (i + 1))
+
+decoded-raised : (b : ℕ) → is_slash b ≡ false → decoded (raised b) ≡ b
+decoded-raised b h = grind (arith, nat_tests)
+
+pub map-decoded-raised : (p : List ℕ) → AllByRecursion (λ b. is_slash b ≡ false) p
+    → map decoded (map raised p) ≡ p
+map-decoded-raised [] h = refl
+map-decoded-raised (b ∷ p) h =
+    ap₂ (λ c s. c ∷ s) (decoded-raised b h.0) (map-decoded-raised p h.1)
+
+-- names may stand behind others, or first
+pub names_fit : (first : Bool) (ps : List (List ℕ)) → AllByRecursion IsName ps
+    → AllFit first (map Normal ps)
+names_fit first [] h = tt
+names_fit first (p ∷ ps) h = (h.0, names_fit false ps h.1)
+
+value_bytes-names : (ps : List (List ℕ)) → map value_bytes (map Normal ps) ≡ ps
+value_bytes-names [] = refl
+value_bytes-names (p ∷ ps) = ap (λ qs. p ∷ qs) (value_bytes-names ps)
+
+-- the bytes of names before others
+text_of-names : (p : List ℕ) (ps : List (List ℕ)) → AllByRecursion IsName (p ∷ ps)
+    → text_of (map Normal (p ∷ ps)) ≡ join_with_byte slash (p ∷ ps) ++ slash ∷ []
+text_of-names p ps h =
+    text_of-slashed (Normal p) (map Normal ps) (λ e. cc) (names_fit false ps h.1)
+    ∙ ap (λ qs. join_with_byte slash qs ++ slash ∷ []) (value_bytes-names (p ∷ ps))
+
+-- bytes at which a name begins hold names up to the first stop
+pub names_run : (names : Bor (List ℕ)) (s : List ℕ) (n : ℕ) → none_begins 0 47 s 0 ≡ false
+    → FirstStopOf 0 47 s n → n < length s → names.now ≡ take n s → TakesRun s (Names names)
+names_run names s n e h l is =
+    let t = take n s in
+    let d = map decoded t in
+    let pieces = slice_split is_slash d in
+    let size : length t ≡ n = length-take-le n s (omega arith) in
+    let begins : none_begins 47 46 d 0 ≡ false =
+    none_begins-decoded t 0
+    ∙ none_begins-take 0 47 s n 0 h.in_range (stop_end 0 47 s n h) (omega arith) ∙ e in
+    let unstopped : (i : ℕ) → i < length d → is_stop d i ≡ false =
+    λ i few. let low : i < length t = omega (arith, length-map t decoded) in
+    is_stop-decoded t i low ∙ unstopped_to 0 47 s n h i low in
+    let hold : AllByRecursion IsName pieces = all_pieces_names d begins unstopped in
+    let some = some_piece d in
+    let coded_is : t ++ 0 ∷ [] ≡ names.now ++ 0 ∷ [] = ap (λ xs. xs ++ 0 ∷ []) (sym is) in
+    record {
+      vs = map Normal pieces;
+      some = omega (arith, ap (λ ps. length (map Normal ps)) some.2);
+      fit = names_fit false pieces hold;
+      code_is = sym (ap key_of (inner_values-pieces d ∙ names_of-names pieces hold))
+          ∙ stretch_key d hold ∙ ap (λ xs. xs ++ 0 ∷ []) (map-coded-decoded t) ∙ coded_is;
+      text_is = ap (λ ps. text_of (map Normal ps)) some.2
+          ∙ text_of-names some.0 some.1 (subst (AllByRecursion IsName) some.2 hold)
+          ∙ ap (λ ps. join_with_byte slash ps ++ slash ∷ []) (sym some.2)
+          ∙ ap (λ xs. xs ++ slash ∷ []) (join_with_byte-slice_split slash d
+          ∙ ap (map decoded) (sym is));
+      is = sym (take-append-drop n s) ∙ ap (λ r. t ++ r) (drop_more s n 0 l
+          ∙ ap (λ x. x ∷ drop (n + 1) s) (stop_mark 0 47 s n h l))
+          ∙ sym (append_assoc t (0 ∷ []) (drop (n + 1) s))
+          ∙ ap₂ (λ xs k. xs ++ drop k s) coded_is
+          (omega (arith, size, ap length is, length-append names.now (0 ∷ [])));
+    }

@@ -1,0 +1,114 @@
+-- Names and stops in the bytes of a key.
+use Rattle.std.proofs.Common.{◌≡◌, ◌<◌, ◌+◌, ℕ, Bool, true, false, eqb, List, [], ◌∷◌}
+use Rattle.std.proofs.Common.{◌++◌, length, map, get_or, refl, sym, ap, ◌∙◌}
+use Rattle.std.proofs.Common.{subst, arith, append_assoc, length-append, ◌&&◌, ◌||◌}
+use Rattle.std.proofs.lemmas.Bool.{false≢true, true≢false}
+use Rattle.std.proofs.lemmas.Bool.Decides.{nat_tests}
+use Rattle.unix_path.specs.Parts.{is_slash, Value, RootDir, CurDir, ParentDir, Normal}
+use Rattle.unix_bytes.proofs.lemmas.lists.CaseLemmas.{by_test}
+use Rattle.path_keys.specs.Keys.{key_of, raised}
+use Rattle.path_keys.specs.Codes.{AllFit, IsName}
+use Rattle.path_keys.specs.Runs.{BeginsUps, HoldsNone}
+use Rattle.path_keys.specs.Stretches.{is_stop_of, none_begins, FirstStopOf}
+use Rattle.path_keys.proofs.lemmas.values.KeyLemmas.{key_of-nil, key_of-cons}
+use Rattle.path_keys.proofs.lemmas.values.LoweredLemmas.{raised-no_zero}
+use Rattle.path_keys.proofs.lemmas.stops.StopLemmas.{is_stop-append}
+use Rattle.path_keys.proofs.lemmas.spelling.UpRunLemmas.{one_up}
+
+-- an end mark before a mark or nothing is a stop
+mark_stops : (r : List ℕ) → get_or r 0 0 ≡ 0 → is_stop_of 0 47 (0 ∷ r) 0 ≡ true
+mark_stops [] e = refl
+mark_stops (x ∷ r) e =
+    ap (λ y. eqb y 0 || (eqb y 47 && (eqb (get_or r 0 0) 0 || (eqb (get_or r 0 0) 47
+    && eqb (get_or r 1 0) 0)))) e
+
+-- the key of values of which the first is a name
+named_key : (q : List ℕ) (vs : List Value)
+    → key_of (Normal q ∷ vs) ≡ map raised q ++ (0 ∷ key_of vs)
+named_key q vs = key_of-cons (Normal q) vs ∙ append_assoc (map raised q) (0 ∷ []) (key_of vs)
+
+-- a place in the bytes where a stop is
+record Stops (s : List ℕ) : Type 0 where
+  at : ℕ
+  in_range : at < length s
+  is : is_stop_of 0 47 s at ≡ true
+
+stops_here : (q : List ℕ) (vs : List Value) → get_or (key_of vs) 0 0 ≡ 0
+    → Stops (key_of (Normal q ∷ vs))
+stops_here q vs e = subst Stops (sym (named_key q vs)) (record {
+  at = length (map raised q) + 0;
+  in_range = omega (arith, length-append (map raised q) (0 ∷ key_of vs));
+  is = is_stop-append 0 47 (map raised q) (0 ∷ key_of vs) 0 ∙ mark_stops (key_of vs) e;
+})
+
+-- the key of values of which the first is a name has a stop
+key_stops : (q : List ℕ) (vs : List Value) → AllFit false vs → Stops (key_of (Normal q ∷ vs))
+key_stops q [] h = stops_here q [] (ap (λ k. get_or k 0 0) key_of-nil)
+key_stops q (RootDir ∷ vs) h = absurd (let d = h.0 in cc)
+key_stops q (CurDir ∷ vs) h = absurd (let d = h.0 in cc)
+key_stops q (ParentDir ∷ vs) h =
+    stops_here q (ParentDir ∷ vs) (ap (λ k. get_or k 0 0) (key_of-cons ParentDir vs))
+key_stops q (Normal r ∷ vs) h =
+    let more = key_stops r vs h.1 in
+    let front = map raised q ++ 0 ∷ [] in
+    let rest = key_of (Normal r ∷ vs) in
+    subst Stops (sym (key_of-cons (Normal q) (Normal r ∷ vs))) (record {
+      at = length front + more.at;
+      in_range = omega (arith, length-append front rest, more.in_range);
+      is = is_stop-append 0 47 front rest more.at ∙ more.is;
+    })
+
+-- a byte that is a raised dot was a dot
+raised-dot : (b : ℕ) → is_slash b ≡ false → eqb (raised b) 47 ≡ eqb b 46
+raised-dot b h = grind (arith, nat_tests)
+
+-- where a name stands one begins
+name_begins : (q r : List ℕ) → IsName q → none_begins 0 47 (map raised q ++ (0 ∷ r)) 0 ≡ false
+name_begins [] r h = absurd (let e = h.some in let k : true ≡ false = e in cc)
+name_begins (x ∷ []) r h =
+    let s = h.no_slash.0 in
+    by_test (eqb x 46)
+    (λ d. absurd (let k : true ≡ false = rw d at h.no_dot in cc))
+    (λ d. rw (raised-no_zero x s, raised-dot x s ∙ d) refl)
+name_begins (x ∷ y ∷ []) r h =
+    let s = h.no_slash.0 in
+    let t = h.no_slash.1.0 in
+    by_test (eqb x 46)
+    (λ d. by_test (eqb y 46)
+    (λ f. absurd (let k : true ≡ false = rw (d, f) at h.no_up in cc))
+    (λ f. rw (raised-no_zero x s, raised-dot x s ∙ d, raised-no_zero y t, raised-dot y t ∙ f)
+    refl))
+    (λ d. rw (raised-no_zero x s, raised-dot x s ∙ d) refl)
+name_begins (x ∷ y ∷ z ∷ q) r h =
+    let s = h.no_slash.0 in
+    let t = h.no_slash.1.0 in
+    let u = h.no_slash.1.1.0 in
+    by (eqb (raised x) 0) (eqb (raised x) 47) (eqb (raised y) 0) (eqb (raised y) 47)
+    (eqb (raised z) 0) (raised-no_zero x s) (raised-no_zero y t) (raised-no_zero z u)
+  where
+    by : (a b c d e : Bool) → a ≡ false → c ≡ false → e ≡ false
+        → (a || (b && (c || (d && e)))) ≡ false
+    by a b c d e f g h = rw (f, g, h) (by_test b (λ i. rw i (by_test d (λ j. rw j refl)
+        (λ j. rw j refl))) (λ i. rw i refl))
+
+-- bytes at which a name begins and that have no stop are no key
+pub no_stop_none : (s : List ℕ) → none_begins 0 47 s 0 ≡ false → FirstStopOf 0 47 s (length s)
+    → HoldsNone s
+no_stop_none s e h RootDir vs fit is = true≢false (sym fit.0)
+no_stop_none s e h CurDir vs fit is = true≢false (sym fit.0)
+no_stop_none s e h ParentDir vs fit is =
+    true≢false (ap (λ k. none_begins 0 47 k 0) (sym (key_of-cons ParentDir vs) ∙ is) ∙ e)
+no_stop_none s e h (Normal q) vs fit is =
+    let stops = subst Stops is (key_stops q vs fit.1) in
+    false≢true (sym (h.none_before stops.at stops.in_range) ∙ stops.is)
+
+-- bytes at which neither a name begins nor a `..` are no key
+pub no_name_none : (s : List ℕ) → none_begins 0 47 s 0 ≡ true → (BeginsUps s 1 → ⊥) → HoldsNone s
+no_name_none s e up RootDir vs fit is = true≢false (sym fit.0)
+no_name_none s e up CurDir vs fit is = true≢false (sym fit.0)
+no_name_none s e up ParentDir vs fit is =
+    up (subst (λ k. BeginsUps k 1) (sym (key_of-cons ParentDir vs) ∙ is)
+    (one_up (0 ∷ 3 ∷ key_of vs) (omega arith) refl refl))
+no_name_none s e up (Normal q) vs fit is =
+    true≢false (sym e ∙ ap (λ k. none_begins 0 47 k 0) (sym is ∙ named_key q vs)
+    ∙ name_begins q (key_of vs) fit.0)

@@ -1,0 +1,179 @@
+-- A key that is read run by run.
+use Rattle.std.proofs.Common.{◌≡◌, ◌<◌, ◌≤◌, ◌+◌, ◌*◌, ℕ, true, false, List, [], ◌∷◌, ◌++◌}
+use Rattle.std.proofs.Common.{length, drop, refl, sym, ap, ◌∙◌, arith, subst, append_assoc}
+use Rattle.std.proofs.Common.{length-append, length-drop}
+use Rattle.std.proofs.Common.{map}
+use Rattle.std.proofs.lemmas.List.{append_cancel_left, length-map}
+use Rattle.unix_path.specs.Parts.{Value, values}
+use Rattle.unix_path.specs.Parts.{slash}
+use Rattle.path_keys.specs.Keys.{code, key_of, IsKey}
+use Rattle.path_keys.specs.Codes.{slashed, text_of, AllFit}
+use Rattle.path_keys.specs.Runs.{decoded, lead_text, run_code, run_text}
+use Rattle.path_keys.specs.Runs.{BeginsLead, HoldsNone, TakesRun}
+use Rattle.path_keys.specs.declared.runs.Run.{Run}
+use Rattle.path_keys.specs.declared.runs.Lead.{Lead}
+use Rattle.path_keys.specs.declared.runs.Run.TheVariants.{Up, Names}
+use Rattle.path_keys.proofs.lemmas.values.CodeLemmas.{code-length, values-coded}
+use Rattle.path_keys.proofs.lemmas.reading.FitLemmas.{AllFit-coded, AllFit-first, values-fit}
+use Rattle.path_keys.proofs.lemmas.values.KeyLemmas.{key_of-nil, key_of-cons, key_of-append}
+use Rattle.path_keys.proofs.lemmas.values.OrderLemmas.{key_of-begins}
+use Rattle.path_keys.proofs.lemmas.reading.ReadLemmas.{starts}
+use Rattle.path_keys.proofs.lemmas.reading.TextLemmas.{text_of-nil, text_of-cons, text_of-append}
+use Rattle.path_keys.proofs.lemmas.reading.TextLemmas.{length-slashed}
+use Rattle.path_keys.proofs.lemmas.reading.TextLemmas.{ups_key_len, ups_text_len}
+
+-- values that may be all of a path's, and more that may stand behind others
+pub fit_all : (us vs : List Value) → AllFit true us → AllFit false vs → AllFit true (us ++ vs)
+fit_all [] vs h k = AllFit-first vs k
+fit_all (u ∷ us) vs h k = (h.0, behind us h.1)
+  where
+    behind : (us : List Value) → AllFit false us → AllFit false (us ++ vs)
+    behind [] h = k
+    behind (u ∷ us) h = (h.0, behind us h.1)
+
+-- the values behind the first of a path's may stand there
+pub fit_rest : (us ws : List Value) → AllFit true (us ++ ws) → AllFit (starts us) ws
+fit_rest [] ws h = h
+fit_rest (u ∷ us) ws h = behind us h.1
+  where
+    behind : (us : List Value) → AllFit false (us ++ ws) → AllFit false ws
+    behind [] h = h
+    behind (u ∷ us) h = behind us h.1
+
+pub starts-more : (us vs : List Value) → 0 < length vs → starts (us ++ vs) ≡ false
+starts-more [] [] l = absurd (omega arith)
+starts-more [] (v ∷ vs) l = refl
+starts-more (u ∷ us) vs l = refl
+
+-- how many bytes a run of `..` has in a key, and in a path
+pub up_code_len : {run : Run} {n : ℕ} → run ≡ Up n → length (run_code run) ≡ 2 * n + 2
+up_code_len {run} {n} e = omega (arith, ap (λ r. length (run_code r)) e, ups_key_len (n + 1))
+
+pub up_text_len : {run : Run} {n : ℕ} → run ≡ Up n → length (run_text run) ≡ 3 * n + 3
+up_text_len {run} {n} e = omega (arith, ap (λ r. length (run_text r)) e, ups_text_len (n + 1))
+
+-- a run has a byte, and at most twice as many in a path
+pub run_small : (run : Run)
+    → (0 < length (run_code run)) × (length (run_text run) ≤ 2 * length (run_code run))
+run_small (Up n) =
+    (omega (arith, ups_key_len (n + 1)), omega (arith, ups_key_len (n + 1), ups_text_len (n + 1)))
+run_small (Names bytes) =
+    let code = length-append bytes.now (0 ∷ []) in
+    let text = length-append (map decoded bytes.now) (slash ∷ []) in
+    (omega (arith, code), omega (arith, code, text, length-map bytes.now decoded))
+
+-- a run has at most a byte more in a key than in a path
+pub code_small : (run : Run) → length (run_code run) ≤ length (run_text run) + 1
+code_small (Up n) = omega (arith, ups_key_len (n + 1), ups_text_len (n + 1))
+code_small (Names bytes) = omega (
+  arith,
+  length-append bytes.now (0 ∷ []),
+  length-append (map decoded bytes.now) (slash ∷ []),
+  length-map bytes.now decoded,
+)
+
+-- the run that bytes begin with is no longer than they are
+pub run_within : {s : List ℕ} {run : Run} → TakesRun s run
+    → length (run_code run) ≤ length s
+run_within {s} {run} h = omega (
+  arith,
+  ap length h.is,
+  length-append (run_code run) (drop (length (run_code run)) s),
+  length-drop (length (run_code run)) s,
+)
+
+-- values have at most twice as many bytes in a path as in a key
+text_short : (vs : List Value) → length (text_of vs) ≤ 2 * length (key_of vs)
+text_short [] = omega (arith, ap length text_of-nil)
+text_short (v ∷ vs) = omega (
+  arith,
+  text_short vs,
+  length-slashed v,
+  code-length v,
+  ap length (text_of-cons v vs),
+  ap length (key_of-cons v vs),
+  length-append (slashed v) (text_of vs),
+  length-append (code v) (key_of vs),
+)
+
+-- `rest` is what is left of the key behind values that may be a path's, whose text has `len` bytes;
+-- in a path's key it is that of values behind the first
+pub record ReadsRuns (key rest : List ℕ) (len : ℕ) : Type 0 where
+  pub us : List Value
+  pub fit : AllFit true us
+  pub inner : (ws : List Value) → AllFit true (us ++ ws) → key_of ws ≡ rest → AllFit false ws
+  pub whole : key_of us ++ rest ≡ key
+  pub len_is : len ≡ length (text_of us)
+  pub small : len + 2 * length rest ≤ 2 * length key
+
+-- the lead is read
+pub reads_lead : {key rest : List ℕ} {lead : Lead} {len : ℕ} → BeginsLead key rest lead
+    → len ≡ length (lead_text lead) → ReadsRuns key rest len
+reads_lead {key} {rest} {lead} {len} h count = record {
+  us = h.vs;
+  fit = h.fit;
+  inner = h.inner;
+  whole = h.key_is;
+  len_is = count ∙ ap length (sym h.text_is);
+  small = omega (
+    arith,
+    count,
+    ap length h.text_is,
+    text_short h.vs,
+    ap length h.key_is,
+    length-append (key_of h.vs) rest,
+  );
+}
+
+-- one more run is read
+pub reads_run : {key rest more : List ℕ} {len n : ℕ} {run : Run}
+    → ReadsRuns key rest len → TakesRun rest run
+    → more ≡ drop (length (run_code run)) rest
+    → n ≡ len + length (run_text run) → ReadsRuns key more n
+reads_run {key} {rest} {more} {len} {n} {run} h k e count = record {
+  us = h.us ++ k.vs;
+  fit = fit_all h.us k.vs h.fit k.fit;
+  inner = λ ws fit _. subst (λ b. AllFit b ws) (starts-more h.us k.vs k.some)
+      (fit_rest (h.us ++ k.vs) ws fit);
+  whole =
+      ap (λ c. c ++ more) (key_of-append h.us k.vs ∙ ap (λ c. key_of h.us ++ c) k.code_is)
+      ∙ append_assoc (key_of h.us) (run_code run) more
+      ∙ ap (λ r. key_of h.us ++ (run_code run ++ r)) e
+      ∙ ap (λ r. key_of h.us ++ r) (sym k.is) ∙ h.whole;
+  len_is = omega (
+    arith,
+    count,
+    h.len_is,
+    ap length (text_of-append h.us k.vs),
+    length-append (text_of h.us) (text_of k.vs),
+    ap length k.text_is,
+  );
+  small = omega (
+    arith,
+    count,
+    h.small,
+    ap length e,
+    length-drop (length (run_code run)) rest,
+    run_within k,
+    run_small run,
+  );
+}
+
+-- if something is left that is the key of no values, no path has the key
+pub reads_no_run : {key rest : List ℕ} {len : ℕ} → ReadsRuns key rest len
+    → HoldsNone rest → 0 < length rest → IsKey key → ⊥
+reads_no_run {key} {rest} {len} h none some is = by begins.0 begins.1
+  where
+    begins : (ws : List Value) × (h.us ++ ws ≡ values is.0)
+    begins = key_of-begins h.us (values is.0) (AllFit-coded true h.us h.fit) (values-coded is.0)
+        rest (h.whole ∙ sym is.1)
+
+    left : (ws : List Value) → h.us ++ ws ≡ values is.0 → key_of ws ≡ rest
+    left ws e = append_cancel_left (key_of h.us) (key_of ws) rest
+        (sym (key_of-append h.us ws) ∙ ap key_of e ∙ is.1 ∙ sym h.whole)
+
+    by : (ws : List Value) → h.us ++ ws ≡ values is.0 → ⊥
+    by [] e = omega (arith, ap length (left [] e), ap length key_of-nil)
+    by (w ∷ ws) e = none w ws
+        (h.inner (w ∷ ws) (subst (AllFit true) (sym e) (values-fit is.0)) (left (w ∷ ws) e))
+        (left (w ∷ ws) e)

@@ -1,0 +1,161 @@
+-- A key whose path is written run by run.
+use Rattle.std.proofs.Common.{◌≡◌, ◌≤◌, ◌+◌, ℕ, true, false, List, [], ◌∷◌, ◌++◌}
+use Rattle.std.proofs.Common.{length, drop, refl, sym, ap, ◌∙◌, arith, subst, append_assoc}
+use Rattle.std.proofs.Common.{append-nil, length-append, length-drop}
+use Rattle.std.proofs.lemmas.List.{append_cancel_left, drop_all}
+use Rattle.unix_path.specs.Parts.{Value}
+use Rattle.path_runs.specs.Overlay.{overlay}
+use Rattle.path_runs.proofs.lemmas.lists.OverlayLemmas.{buffer_after-fits}
+use Rattle.path_runs.proofs.lemmas.lists.WritingLemmas.{WritesOn, writes_first, writes_stretch}
+use Rattle.path_runs.proofs.lemmas.lists.WritingLemmas.{writes_room}
+use Rattle.path_runs.proofs.lemmas.lists.WritingLemmas.{writes_last}
+use Rattle.path_keys.specs.Keys.{key_of}
+use Rattle.path_keys.specs.Codes.{text_of, AllFit, ReadsAs}
+use Rattle.path_keys.specs.Runs.{lead_text, run_code, run_text, BeginsLead, HoldsNone}
+use Rattle.path_keys.specs.Runs.{TakesRun}
+use Rattle.path_keys.specs.declared.runs.Lead.{Lead}
+use Rattle.path_keys.specs.declared.runs.Run.{Run}
+use Rattle.path_keys.proofs.lemmas.reading.FitLemmas.{AllFit-coded}
+use Rattle.path_keys.proofs.lemmas.values.KeyLemmas.{key_of-append}
+use Rattle.path_keys.proofs.lemmas.values.OrderLemmas.{key_of-begins, key_of-same}
+use Rattle.path_keys.proofs.lemmas.reading.TextLemmas.{text_of-append, text_of-nil}
+
+-- the text of some values of the key is written at the beginning of `old`; the others are left
+pub record SpellsOn (key rest old : List ℕ) (at : ℕ) (out : List ℕ) : Type 0 where
+  pub us : List Value
+  pub ws : List Value
+  pub fit : AllFit true (us ++ ws)
+  pub inner : AllFit false ws
+  pub key_is : key_of (us ++ ws) ≡ key
+  pub rest_is : rest ≡ key_of ws
+  pub room : length (text_of (us ++ ws)) ≡ length old
+  pub written : WritesOn (text_of (us ++ ws)) old at out (text_of ws)
+
+-- the text of the lead is written
+pub spells_lead : {key rest old out : List ℕ} {lead : Lead} {at : ℕ} → ReadsAs key (length old)
+    → BeginsLead key rest lead → out ≡ overlay 0 (lead_text lead) old
+    → at ≡ length (lead_text lead) → SpellsOn key rest old at out
+spells_lead {key} {rest} {old} {out} {lead} {at} h k placed ends = by begins.0 begins.1
+  where
+    begins : (ws : List Value) × (k.vs ++ ws ≡ h.vs)
+    begins = key_of-begins k.vs h.vs (AllFit-coded true k.vs k.fit) (AllFit-coded true h.vs h.fit)
+        rest (k.key_is ∙ sym h.key_is)
+
+    by : (ws : List Value) → k.vs ++ ws ≡ h.vs → SpellsOn key rest old at out
+    by ws e =
+        let fit = subst (AllFit true) (sym e) h.fit in
+        let left : key_of ws ≡ rest =
+        append_cancel_left (key_of k.vs) (key_of ws) rest
+        (sym (key_of-append k.vs ws) ∙ ap key_of e ∙ h.key_is ∙ sym k.key_is) in
+        record {
+          us = k.vs;
+          ws = ws;
+          fit = fit;
+          inner = k.inner ws fit left;
+          key_is = ap key_of e ∙ h.key_is;
+          rest_is = sym left;
+          room = ap (λ vs. length (text_of vs)) e ∙ sym h.len_is;
+          written = writes_stretch (lead_text lead) (text_of ws)
+              (writes_first (text_of (k.vs ++ ws)) old refl)
+              (text_of-append k.vs ws ∙ ap (λ t. t ++ text_of ws) k.text_is) placed
+              (omega (arith, ends));
+        }
+
+-- values behind some that stand behind others stand behind others
+fit_later : (vs ws : List Value) → AllFit false (vs ++ ws) → AllFit false ws
+fit_later [] ws h = h
+fit_later (v ∷ vs) ws h = fit_later vs ws h.1
+
+-- the values that are left begin with those of the run that is taken
+record NextIs (rest : List ℕ) (ws vs : List Value) (run : Run) : Type 0 where
+  more : List Value
+  is : ws ≡ vs ++ more
+  left : drop (length (run_code run)) rest ≡ key_of more
+
+next_is : {rest : List ℕ} {run : Run} (ws : List Value) → AllFit false ws
+    → rest ≡ key_of ws → (k : TakesRun rest run) → NextIs rest ws k.vs run
+next_is {rest} {run} ws h e k =
+    let left = drop (length (run_code run)) rest in
+    let whole : key_of k.vs ++ left ≡ key_of ws =
+    ap (λ c. c ++ left) k.code_is ∙ sym k.is ∙ e in
+    let begins = key_of-begins k.vs ws (AllFit-coded false k.vs k.fit) (AllFit-coded false ws h)
+    left whole in
+    record {
+      more = begins.0;
+      is = sym begins.1;
+      left = append_cancel_left (key_of k.vs) left (key_of begins.0)
+          (whole ∙ ap key_of (sym begins.1) ∙ key_of-append k.vs begins.0);
+    }
+
+-- the text of the values that are left begins with that of the next
+text_left : {ws : List Value} (vs more : List Value) (run : Run) → ws ≡ vs ++ more
+    → text_of vs ≡ run_text run → text_of ws ≡ run_text run ++ text_of more
+text_left {ws} vs more run e text =
+    ap text_of e ∙ text_of-append vs more ∙ ap (λ t. t ++ text_of more) text
+
+-- there is room for the text of the next run
+pub spells_room : {key rest old out : List ℕ} {at : ℕ} {run : Run}
+    → SpellsOn key rest old at out → TakesRun rest run
+    → at + length (run_text run) ≤ length old
+spells_room {key} {rest} {old} {out} {at} {run} h k =
+    let next = next_is h.ws h.inner h.rest_is k in
+    writes_room (run_text run) (text_of next.more) h.written
+    (text_left k.vs next.more run next.is k.text_is) (omega (arith, h.room))
+
+-- the buffer is as long as before
+pub spells_long : {key rest old out : List ℕ} {at : ℕ}
+    → SpellsOn key rest old at out → length out ≡ length old
+spells_long {key} {rest} {old} {out} {at} h =
+    let w = h.written in
+    omega (
+      arith,
+      h.room,
+      ap length w.out_is,
+      ap length w.whole_is,
+      length-append w.start (text_of h.ws),
+      length-append w.start (drop (length w.start) old),
+      length-drop (length w.start) old,
+    )
+
+-- the text of one more run is written
+pub spells_one : {key rest old out more new : List ℕ} {at end : ℕ} {run : Run}
+    → SpellsOn key rest old at out → TakesRun rest run
+    → more ≡ drop (length (run_code run)) rest → new ≡ overlay at (run_text run) out
+    → end ≡ at + length (run_text run) → SpellsOn key more old end new
+spells_one {key} {rest} {old} {out} {more} {new} {at} {end} {run} h k e placed ends =
+    let next = next_is h.ws h.inner h.rest_is k in
+    let all : h.us ++ h.ws ≡ (h.us ++ k.vs) ++ next.more =
+    ap (λ ws. h.us ++ ws) next.is ∙ sym (append_assoc h.us k.vs next.more) in
+    record {
+      us = h.us ++ k.vs;
+      ws = next.more;
+      fit = subst (AllFit true) all h.fit;
+      inner = fit_later k.vs next.more (subst (AllFit false) next.is h.inner);
+      key_is = ap key_of (sym all) ∙ h.key_is;
+      rest_is = e ∙ next.left;
+      room = ap (λ vs. length (text_of vs)) (sym all) ∙ h.room;
+      written = subst (λ vs. WritesOn (text_of vs) old end new (text_of next.more)) all
+          (writes_stretch (run_text run) (text_of next.more) h.written
+          (text_left k.vs next.more run next.is k.text_is) placed ends);
+    }
+
+-- if what is left is the key of no values, none are left
+nothing_left : {rest : List ℕ} (ws : List Value) → AllFit false ws → rest ≡ key_of ws
+    → HoldsNone rest → ws ≡ []
+nothing_left [] h e none = refl
+nothing_left (w ∷ ws) h e none = absurd (none w ws h (sym e))
+
+-- if no run is left, the text of all values is written
+pub spells_all : {key rest old out : List ℕ} {at : ℕ}
+    → SpellsOn key rest old at out → HoldsNone rest
+    → (vs : List Value) → AllFit true vs → key_of vs ≡ key → out ≡ text_of vs
+spells_all {key} {rest} {old} {out} {at} h none vs fit e =
+    let all = h.us ++ h.ws in
+    let empty = nothing_left h.ws h.inner h.rest_is none in
+    let whole = writes_last h.written (ap text_of empty ∙ text_of-nil) (omega (arith, h.room)) in
+    let same : all ≡ vs =
+    key_of-same all vs (AllFit-coded true all h.fit) (AllFit-coded true vs fit)
+    (h.key_is ∙ sym e) in
+    whole ∙ buffer_after-fits (text_of all) old (omega (arith, h.room))
+    ∙ ap (λ tail. text_of all ++ tail) (drop_all (length (text_of all)) old (omega (arith, h.room)))
+    ∙ append-nil (text_of all) ∙ ap text_of same

@@ -1,0 +1,3 @@
+-- Names in a key, and the stops behind them.
+pub mod NameLemmas
+pub mod StopLemmas

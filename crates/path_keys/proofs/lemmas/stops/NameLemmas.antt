@@ -1,0 +1,106 @@
+-- The name with which a key's bytes begin.
+use Rattle.std.proofs.Common.{◌≡◌, ◌<◌, ℕ, ◌+◌, true, false, eqb, List, [], ◌∷◌, ◌++◌}
+use Rattle.std.proofs.Common.{length, map, take, drop, get_or, refl, sym, ap, ap₂, ◌∙◌, arith}
+use Rattle.std.proofs.Common.{subst}
+use Rattle.std.proofs.Common.{append_assoc, length-append, eqb-true}
+use Rattle.std.proofs.lemmas.Bool.{false≢true}
+use Rattle.std.proofs.lemmas.List.{length-take-le, take_at, length-map}
+use Rattle.std.proofs.lemmas.List.Sums.{split_at_first, passes_at_first}
+use Rattle.std.proofs.lemmas.Slice.Eq.{bytes_eq-Decides}
+use Rattle.std.specs.List.{AllByRecursion, position_or_len}
+use Rattle.std.specs.Str.{bytes_eq}
+use Rattle.unix_path.specs.Parts.{slash, cur_dir, parent_dir, Normal}
+use Rattle.unix_bytes.proofs.lemmas.lists.CaseLemmas.{by_test}
+use Rattle.path_keys.specs.Keys.{code, raised}
+use Rattle.path_keys.specs.Codes.{lowered, IsName, TakesCode}
+use Rattle.path_keys.proofs.lemmas.values.LoweredLemmas.{NoZero, is_zero, map-raised-lowered}
+use Rattle.path_keys.proofs.lemmas.values.LoweredLemmas.{map-lowered-raised}
+use Rattle.path_keys.proofs.lemmas.values.LoweredLemmas.{lowered-NoSlash, raised-NoZero}
+use Rattle.path_keys.proofs.lemmas.values.LoweredLemmas.{NoZero-before}
+use Rattle.path_keys.proofs.lemmas.values.LoweredLemmas.{first_zero}
+
+not_empty : (p : List ℕ) → 0 < length p → bytes_eq p [] ≡ false
+not_empty [] l = absurd (omega arith)
+not_empty (b ∷ p) l = refl
+
+pub some_bytes : (p : List ℕ) → bytes_eq p [] ≡ false → 0 < length p
+some_bytes [] e = absurd (let d = e in cc)
+some_bytes (b ∷ p) e = omega arith
+
+-- if bytes aren't those of p in a key, they don't read back as p
+not_read : (bytes p : List ℕ) → NoZero bytes → bytes_eq bytes (map raised p) ≡ false
+    → bytes_eq (map lowered bytes) p ≡ false
+not_read bytes p h other_bytes = by_test (bytes_eq (map lowered bytes) p)
+    (λ same.
+    let e = sym (map-raised-lowered bytes h)
+    ∙ ap (map raised) ((bytes_eq-Decides (map lowered bytes) p).0 same) in
+    absurd (false≢true (sym other_bytes ∙ (bytes_eq-Decides bytes (map raised p)).1 e)))
+    (λ other. other)
+
+-- bytes up to a 0 are the code of a name, unless they are none, a dot's or two dots'
+pub takes_name : (s : List ℕ) (n : ℕ) → n ≡ position_or_len is_zero s → 0 < n → n < length s
+    → bytes_eq (take n s) (slash ∷ []) ≡ false → bytes_eq (take n s) (slash ∷ slash ∷ []) ≡ false
+    → TakesCode false s (Normal (map lowered (take n s)))
+takes_name s n e some l no_dot no_up =
+    let name = take n s in
+    let clean = NoZero-before s n e l in
+    let long : length name ≡ n = length-take-le n s (omega arith) in
+    let spelled = map-raised-lowered name clean in
+    let coded : code (Normal (map lowered name)) ≡ name ++ 0 ∷ [] = ap (λ p. p ++ 0 ∷ []) spelled in
+    let count : length (code (Normal (map lowered name))) ≡ n + 1 =
+    omega (arith, ap length coded, length-append name (0 ∷ [])) in
+    let zero_there : get_or s n 0 ≡ 0 = eqb-true _ 0
+    (ap (λ k. is_zero (get_or s k 0)) e ∙ passes_at_first is_zero s 0 (omega (arith, e))) in
+    let split : s ≡ take n s ++ get_or s n 0 ∷ drop (n + 1) s =
+    subst (λ k. s ≡ take k s ++ get_or s k 0 ∷ drop (k + 1) s) (sym e)
+    (split_at_first is_zero s 0 (omega (arith, e))) in
+    record {
+      fits = record {
+        some = not_read name [] clean (not_empty name (omega arith));
+        no_slash = lowered-NoSlash name clean;
+        no_dot = not_read name cur_dir clean no_dot;
+        no_up = not_read name parent_dir clean no_up;
+      };
+      is = split ∙ ap (λ b. name ++ b ∷ drop (n + 1) s) zero_there
+          ∙ sym (append_assoc name (0 ∷ []) (drop (n + 1) s))
+          ∙ ap₂ (λ c k. c ++ drop k s) (sym coded) (sym count);
+    }
+
+-- where the code of a name begins these bytes, the first 0 stands behind the name's bytes
+record FindsName (s name : List ℕ) (n : ℕ) : Type 0 where
+  some : 0 < n
+  in_range : n < length s
+  is : take n s ≡ map raised name
+
+finds_name : (s name x : List ℕ) (n : ℕ) → n ≡ position_or_len is_zero s → IsName name
+    → code (Normal name) ++ x ≡ s → FindsName s name n
+finds_name s name x n e h begins =
+    let whole : map raised name ++ 0 ∷ x ≡ s =
+    sym (append_assoc (map raised name) (0 ∷ []) x) ∙ begins in
+    let at : n ≡ length (map raised name) =
+    e ∙ ap (position_or_len is_zero) (sym whole)
+    ∙ first_zero (map raised name) x (raised-NoZero name h.no_slash) in
+    record {
+      some = omega (arith, at, length-map name raised, some_bytes name h.some);
+      in_range = omega (arith, at, ap length whole, length-append (map raised name) (0 ∷ x));
+      is = ap (take n) (sym whole) ∙ take_at (map raised name) (0 ∷ x) n (sym at);
+    }
+
+-- no name's code begins these bytes if the first 0 is their first, or there is none
+pub no_name_first : (s : List ℕ) (n : ℕ) → n ≡ position_or_len is_zero s
+    → (0 < n → n < length s → ⊥)
+    → (name x : List ℕ) → IsName name → code (Normal name) ++ x ≡ s → ⊥
+no_name_first s n e none name x h begins =
+    let found = finds_name s name x n e h begins in none found.some found.in_range
+
+-- no name's code begins these bytes if the first 0 stands behind those of p, which is no name
+pub no_name_read : (s p : List ℕ) (n : ℕ) → n ≡ position_or_len is_zero s
+    → bytes_eq (take n s) (map raised p) ≡ true → (IsName p → ⊥)
+    → AllByRecursion (λ b. eqb b 47 ≡ false) p
+    → (name x : List ℕ) → IsName name → code (Normal name) ++ x ≡ s → ⊥
+no_name_read s p n e same none clean name x h begins =
+    let found = finds_name s name x n e h begins in
+    let is : map raised p ≡ map raised name =
+    sym ((bytes_eq-Decides (take n s) (map raised p)).0 same) ∙ found.is in
+    none (subst IsName (sym (sym (map-lowered-raised p clean) ∙ ap (map lowered) is
+    ∙ map-lowered-raised name h.no_slash)) h)

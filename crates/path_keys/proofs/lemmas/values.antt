@@ -1,0 +1,13 @@
+-- Keys of values: their codes, order, length and ranges.
+pub mod KeyLemmas
+pub mod LengthLemmas
+pub mod CodeLemmas
+pub mod OrderLemmas
+pub mod RangeLemmas
+pub mod LastLemmas
+pub mod LoweredLemmas
+pub mod BeginLemmas
+-- Of this crate alone.
+mod ByteLemmas
+pub mod JoinLemmas
+pub mod MarkLemmas

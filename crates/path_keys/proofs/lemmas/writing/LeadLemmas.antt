@@ -1,0 +1,54 @@
+-- The root or the `.` with which a path begins, in a key.
+use Rattle.std.proofs.Common.{◌≡◌, ◌<◌, ℕ, true, false, eqb, List, [], ◌∷◌, ◌++◌, length}
+use Rattle.std.proofs.Common.{get_or, sym, ap, ap₂, ◌∙◌, arith, eq-eqb, ne_eqb, ◌&&◌}
+use Rattle.std.proofs.lemmas.List.{nil_from_length}
+use Rattle.std.specs.List.{slice_split}
+use Rattle.unix_path.specs.CommonDir.{inner_values}
+use Rattle.unix_path.specs.Parts.{RootDir, CurDir, is_slash, is_rooted, values}
+use Rattle.unix_path.specs.Scan.{is_idle}
+use Rattle.unix_path.proofs.lemmas.order.CommonPrefixLemmas.{inner_values-nil}
+use Rattle.unix_path.proofs.lemmas.filler.IdleLemmas.{first_piece_dot, values-busy}
+use Rattle.unix_path.proofs.lemmas.parts.PartLemmas.{values-nil}
+use Rattle.unix_path.proofs.lemmas.parts.PieceLemmas.{slice_split-first}
+use Rattle.path_runs.proofs.lemmas.joins.LeadLemmas.{dot_first, lead_by, values-lead}
+use Rattle.path_keys.specs.Keys.{key_of}
+use Rattle.path_keys.proofs.lemmas.values.KeyLemmas.{key_of-nil, key_of-cons}
+
+-- the key of the empty path
+pub lead-none : (s : List ℕ) → length s ≡ 0 → key_of (values s) ≡ key_of (inner_values s)
+lead-none s e =
+    let none = nil_from_length s e in
+    ap (λ s. key_of (values s)) none ∙ ap key_of (values-nil ∙ sym inner_values-nil)
+    ∙ sym (ap (λ s. key_of (inner_values s)) none)
+
+pub lead-busy : (s : List ℕ) → is_idle s 0 ≡ false
+    → key_of (values s) ≡ key_of (inner_values s)
+lead-busy s busy = ap key_of (values-busy s busy)
+
+-- the key of a path that begins with a slash
+pub lead-root : (s : List ℕ) → 0 < length s → get_or s 0 0 ≡ 47
+    → key_of (values s) ≡ (0 ∷ 1 ∷ []) ++ key_of (inner_values s)
+lead-root [] l e = absurd (omega arith)
+lead-root (x ∷ s) l e =
+    let rooted : is_rooted (x ∷ s) ≡ true = eq-eqb x 47 e in
+    ap key_of (values-lead (x ∷ s)
+    ∙ ap (λ c. lead_by c (dot_first (slice_split is_slash (x ∷ s))) ++ inner_values (x ∷ s)) rooted)
+    ∙ key_of-cons RootDir (inner_values (x ∷ s))
+
+-- the key of a path that begins with a `.` that counts
+pub lead-dot : (s : List ℕ) → 0 < length s → is_idle s 0 ≡ true → (get_or s 0 0 ≡ 47 → ⊥)
+    → key_of (values s) ≡ (0 ∷ 2 ∷ []) ++ key_of (inner_values s)
+lead-dot [] l idle e = absurd (omega arith)
+lead-dot (x ∷ s) l idle e =
+    let no_root : is_rooted (x ∷ s) ≡ false = ne_eqb x 47 e in
+    let dotted : (eqb x 46 && eqb (get_or s 0 47) 47) ≡ true = rw no_root at idle in
+    let first : dot_first (slice_split is_slash (x ∷ s)) ≡ true =
+    ap dot_first (slice_split-first (x ∷ s)) ∙ first_piece_dot (x ∷ s) ∙ dotted in
+    ap key_of (values-lead (x ∷ s)
+    ∙ ap₂ (λ c d. lead_by c d ++ inner_values (x ∷ s)) no_root first)
+    ∙ key_of-cons CurDir (inner_values (x ∷ s))
+
+-- the key of nothing
+pub none_left : (s : List ℕ) → length s ≡ 0 → key_of (inner_values s) ≡ []
+none_left s e = ap (λ s. key_of (inner_values s)) (nil_from_length s e)
+    ∙ ap key_of inner_values-nil ∙ key_of-nil

@@ -1,0 +1,162 @@
+-- A path with a plain extension set.
+use Rattle.std.proofs.Common.{◌≡◌, ℕ, ◌<◌, true, List, [], ◌∷◌, ◌++◌, length, Option}
+use Rattle.std.proofs.Common.{Some, None, is_some, option_map, refl, sym, ap, subst, ◌∙◌, arith}
+use Rattle.std.proofs.Common.{append_assoc, length-append}
+use Rattle.std.specs.Option.{option_and_then}
+use Rattle.unix_path.specs.Parts.{Value, Normal, values}
+use Rattle.unix_path.specs.Rest.{rest}
+use Rattle.unix_path.specs.Parents.{parent_of}
+use Rattle.unix_path.specs.Names.{file_name_of, split_name, stem_of, extension_of}
+use Rattle.unix_path.specs.Edits.{with_extension_of}
+use Rattle.unix_path.specs.Extensions.{has_slash}
+use Rattle.unix_path.specs.Joins.{is_open}
+use Rattle.unix_path.proofs.lemmas.edits.EditLemmas.{dot_before-some}
+use Rattle.path_runs.specs.declared.edits.Answer.TheVariants.{Flag, Separator}
+use Rattle.path_runs.specs.EditLists.{SetExtension, edit_of}
+use Rattle.path_runs.specs.JoinLaws.{drop_lead}
+use Rattle.path_runs.specs.EditLaws.{HasNone, IsPlainExtension, TakesExtension}
+use Rattle.unix_bytes.proofs.lemmas.lists.CaseLemmas.{by_test}
+use Rattle.path_runs.proofs.lemmas.joins.BehindLemmas.{rest-behind}
+use Rattle.path_runs.proofs.lemmas.edits.CongruenceLemmas.{unless_slash}
+use Rattle.path_runs.proofs.lemmas.names.ExtensionCutLemmas.{with_extension_of-cut}
+use Rattle.path_runs.proofs.lemmas.names.DotLemmas.{SplitCase, Whole, Cut, split_case}
+use Rattle.path_runs.proofs.lemmas.names.DotLemmas.{split_name-dot}
+use Rattle.path_runs.proofs.lemmas.names.DotLemmas.{stem_prefix}
+use Rattle.path_runs.proofs.lemmas.joins.LeadLemmas.{drop_lead-values}
+use Rattle.unix_path.proofs.lemmas.names.NameCutLemmas.{IsName, NameCut, name_cut, values-name}
+use Rattle.path_runs.proofs.lemmas.names.PieceNameLemmas.{IsPiece, piece-prefix, piece-append}
+use Rattle.path_runs.proofs.lemmas.names.PieceNameLemmas.{piece-none}
+use Rattle.path_runs.proofs.lemmas.names.PieceNameLemmas.{long-name}
+use Rattle.path_runs.proofs.lemmas.joins.SiblingLemmas.{parent_of-name, file_name_of-name}
+use Rattle.path_runs.proofs.lemmas.joins.ValueLemmas.{append_values, values-append_open}
+
+-- the stem of a name has a byte
+some_stem : (name : List ℕ) → 0 < length name → 0 < length (split_name name).0
+some_stem name l = by (split_case name)
+  where
+    by : SplitCase name → 0 < length (split_name name).0
+    by (Whole e) = subst (λ c. 0 < length c.0) (sym e) l
+    by (Cut b f x w e) = subst (λ c. 0 < length c.0) (sym e) (omega arith)
+
+-- t has a new file name, of this stem and the extension x, and the parent of s
+record NewExtension (s t stem x : List ℕ) : Type 0 where
+  pub name : List ℕ
+  pub file_name : file_name_of (values t) ≡ Some name
+  pub split : split_name name ≡ (stem, Some x)
+  pub parent : parent_of t ≡ parent_of s
+
+-- the stem of a piece is a piece
+stem_piece : (name : List ℕ) → IsPiece name → IsPiece (split_name name).0
+stem_piece name h =
+    let stem = stem_prefix name in
+    piece-prefix (split_name name).0 stem.0 (subst IsPiece stem.1 h)
+
+-- a stem with a dot and an extension without a slash is a name
+new_name : (name : List ℕ) (b : ℕ) (x : List ℕ) → IsName name → HasNone 47 (b ∷ x)
+    → IsName ((split_name name).0 ++ 46 ∷ b ∷ x)
+new_name name b x h k =
+    let stem = (split_name name).0 in
+    let some = some_stem name h.some in
+    long-name (stem ++ 46 ∷ b ∷ x) (omega (arith, length-append stem (46 ∷ b ∷ x)))
+    (piece-append stem (46 ∷ b ∷ x) (stem_piece name h.no_slash)
+    (piece-append (46 ∷ []) (b ∷ x) refl (piece-none (b ∷ x) k)))
+
+-- a name adds itself behind any values
+values-open_name : (u name : List ℕ) → values name ≡ Normal name ∷ []
+    → append_values (values u) name ≡ values u ++ Normal name ∷ []
+values-open_name u name e = by (values u)
+  where
+    by : (vs : List Value) → append_values vs name ≡ vs ++ Normal name ∷ []
+    by [] = e
+    by (v ∷ vs) = ap (λ ws. v ∷ vs ++ ws)
+        (sym (drop_lead-values name) ∙ ap drop_lead e)
+
+-- a path of an open prefix and one name has that prefix's rest as its parent
+parent_of-open : (s u b name : List ℕ) → s ≡ u ++ b → is_open u ≡ true
+    → values s ≡ values u ++ Normal name ∷ [] → parent_of s ≡ Some (rest u 0 0)
+parent_of-open s u b name is o e =
+    parent_of-name s name (values u) e
+    ∙ ap Some (ap (λ s. rest s 0 1) is
+    ∙ rest-behind u b (Normal name) o (ap values (sym is) ∙ e))
+
+-- a path, cut at its file name, has the new extension after it was set
+new_extension-cut : (s name : List ℕ) (b : ℕ) (x : List ℕ) → file_name_of (values s) ≡ Some name
+    → NameCut s name → HasNone 46 (b ∷ x) → HasNone 47 (b ∷ x)
+    → NewExtension s (with_extension_of s (b ∷ x)) (split_name name).0 (b ∷ x)
+new_extension-cut s name b x e c dot slash =
+    let stem = (split_name name).0 in
+    let new = stem ++ 46 ∷ b ∷ x in
+    let t = with_extension_of s (b ∷ x) in
+    let is : t ≡ c.prefix ++ new = with_extension_of-cut s name (b ∷ x) e c
+    ∙ ap (λ gap. c.prefix ++ (stem ++ (gap ++ b ∷ x))) (dot_before-some b x) in
+    let all : values t ≡ values c.prefix ++ Normal new ∷ [] =
+    ap values is ∙ values-append_open c.prefix new c.ends
+    ∙ values-open_name c.prefix new (values-name new (new_name name b x c.is_name slash)) in
+    record {
+      name = new;
+      file_name = file_name_of-name t new (values c.prefix) all;
+      split = split_name-dot stem (b ∷ x) (some_stem name c.is_name.some) dot;
+      parent = parent_of-open t c.prefix new new is c.ends all
+          ∙ sym (parent_of-open s c.prefix (name ++ c.back) name
+          (c.whole ∙ append_assoc c.prefix name c.back) c.ends c.before);
+    }
+
+-- a path with a file name has the new extension after it was set
+set_extension : (s name x : List ℕ) → file_name_of (values s) ≡ Some name
+    → IsPlainExtension x
+    → NewExtension s (with_extension_of s x) (split_name name).0 x
+set_extension s name [] e h = absurd (h.some refl)
+set_extension s name (b ∷ x) e h =
+    new_extension-cut s name b x e (name_cut s name e) h.no_dot h.no_slash
+
+-- if setting an extension answers true, there is a file name
+some_name : (s : List ℕ) → Flag (is_some (file_name_of (values s))) ≡ Flag true
+    → (name : List ℕ) × (file_name_of (values s) ≡ Some name)
+some_name s e = by (file_name_of (values s)) refl e
+  where
+    by : (o : Option (List ℕ)) → file_name_of (values s) ≡ o → Flag (is_some o) ≡ Flag true
+        → (name : List ℕ) × (file_name_of (values s) ≡ Some name)
+    by None is e = absurd (cc)
+    by (Some name) is e = (name, is)
+
+-- if setting an extension answers true, it has no slash, and the edit is `with_extension_of`
+edit_of-set_extension : (s x t : List ℕ) → edit_of s (SetExtension x) ≡ (t, Flag true)
+    → (with_extension_of s x ≡ t) × (Flag (is_some (file_name_of (values s))) ≡ Flag true)
+edit_of-set_extension s x t e =
+    let left : (unless_slash s x (with_extension_of s x)).0 ≡ t = ap (λ p. p.0) e in
+    let said : (unless_slash s x (with_extension_of s x)).1 ≡ Flag true = ap (λ p. p.1) e in
+    by_test (has_slash x)
+    (λ y. absurd (let no : Separator ≡ Flag true = rw y at said in cc))
+    (λ n. (rw n at left, rw n at said))
+
+-- a path that takes an extension has a file name, and then a new one with that extension
+new_extension : (s x t : List ℕ) → TakesExtension s x t
+    → (name : List ℕ) × (file_name_of (values s) ≡ Some name)
+    × NewExtension s t (split_name name).0 x
+new_extension s x t h =
+    let is = edit_of-set_extension s x t h.1 in
+    let name = some_name s is.1 in (
+      name.0,
+      name.1,
+      subst (λ u. NewExtension s u (split_name name.0).0 x) is.0
+          (set_extension s name.0 x name.1 h.0),
+    )
+
+-- a path that takes an extension keeps its stem
+pub stem_of-new_extension : (s x t : List ℕ) → TakesExtension s x t
+    → stem_of (values t) ≡ stem_of (values s)
+stem_of-new_extension s x t h =
+    let new = new_extension s x t h in
+    ap (option_map (λ name. (split_name name).0)) new.2.file_name ∙ ap (λ c. Some c.0) new.2.split
+    ∙ sym (ap (option_map (λ name. (split_name name).0)) new.1)
+
+-- a path that takes an extension has it
+pub extension_of-new_extension : (s x t : List ℕ) → TakesExtension s x t
+    → extension_of (values t) ≡ Some x
+extension_of-new_extension s x t h =
+    let new = new_extension s x t h in
+    ap (option_and_then (λ name. (split_name name).1)) new.2.file_name ∙ ap (λ c. c.1) new.2.split
+
+-- a path that takes an extension keeps its parent
+pub parent_of-new_extension : (s x t : List ℕ) → TakesExtension s x t → parent_of t ≡ parent_of s
+parent_of-new_extension s x t h = (new_extension s x t h).2.parent

@@ -1,0 +1,47 @@
+-- Sixteen bytes at once, searched for a gap.
+use Rattle.std.proofs.Common.{◌≡◌, ℕ, ◌+◌, ◌<◌, ◌≤◌, Bool, eqb, ◌&&◌, ◌||◌, List, length, get_or}
+use Rattle.std.proofs.Common.{ap₂, subst, arith}
+use Rattle.std.specs.Simd.Lanes.{chunk}
+use Rattle.std.proofs.lemmas.Simd.{length-chunk}
+use Rattle.unix_bytes.proofs.lemmas.vectors.TestLaneLemmas.{hits, both, either, Tells, Tells-hits}
+use Rattle.unix_bytes.proofs.lemmas.vectors.TestLaneLemmas.{Tells-both}
+use Rattle.unix_bytes.proofs.lemmas.vectors.TestLaneLemmas.{Tells-either, lane_at, TellFrom}
+use Rattle.path_runs.specs.Gaps.{is_gap}
+
+-- a gap begins at byte x, which y and z follow
+abbrev gap : ℕ → ℕ → ℕ → Bool
+gap x y z = eqb x 47 && (eqb y 47 || (eqb y 46 && eqb z 47))
+
+-- the lanes of 16 bytes that tell where a gap begins, by the bytes that follow them
+abbrev gap_lanes : List ℕ → List ℕ → List ℕ → List ℕ
+gap_lanes here next after =
+    both (hits 16 here 47) (either (hits 16 next 47) (both (hits 16 next 46) (hits 16 after 47)))
+
+-- a lane tells whether a gap begins at its byte
+Tells-gap : (here next after : List ℕ) (i : ℕ) → length here ≡ 16 → length next ≡ 16
+    → length after ≡ 16 → i < 16
+    → Tells 16 (gap_lanes here next after) i
+    (gap (get_or here i 0) (get_or next i 0) (get_or after i 0))
+Tells-gap here next after i l m n few =
+    Tells-both few (Tells-hits 16 here 47 i l few)
+    (Tells-either few (Tells-hits 16 next 47 i m few)
+    (Tells-both few (Tells-hits 16 next 46 i m few) (Tells-hits 16 after 47 i n few)))
+
+-- the lanes of the 16 bytes from `at` on
+abbrev lanes : List ℕ → ℕ → List ℕ
+lanes s at = gap_lanes (chunk at 16 s) (chunk (at + 1) 16 s) (chunk (at + 2) 16 s)
+
+-- they tell where gaps begin
+pub gaps_told : (s : List ℕ) (at : ℕ) → at + 18 ≤ length s → TellFrom 16 (lanes s at) (is_gap s) at
+gaps_told s at l = record {
+  some = omega arith;
+  few = omega arith;
+  each = λ i few. subst (Tells 16 (lanes s at) i)
+      (ap₂ (λ x yz. eqb x 47 && yz) (lane_at 16 0 s at i (at + i) (omega arith) few (omega arith))
+      (ap₂ (λ y z. eqb y 47 || (eqb y 46 && eqb z 47))
+      (lane_at 16 47 s (at + 1) i (at + i + 1) (omega arith) few (omega arith))
+      (lane_at 16 47 s (at + 2) i (at + i + 2) (omega arith) few (omega arith))))
+      (Tells-gap (chunk at 16 s) (chunk (at + 1) 16 s) (chunk (at + 2) 16 s) i
+      (length-chunk at 16 s (omega arith)) (length-chunk (at + 1) 16 s (omega arith))
+      (length-chunk (at + 2) 16 s (omega arith)) few);
+}

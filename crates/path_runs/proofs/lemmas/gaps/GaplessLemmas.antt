@@ -1,0 +1,111 @@
+-- A path is its own spelling exactly if it has no gap and ends in a part, or has one byte at most.
+use Rattle.std.proofs.Common.{◌≡◌, ℕ, zero, suc, ◌+◌, ◌<◌, ◌≤◌, true, nat_eq, eqb, List}
+use Rattle.std.proofs.Common.{[], ◌∷◌, length, take, drop, sym, ap, ◌∙◌, arith}
+use Rattle.std.proofs.Common.{eqb-true, eq-eqb, ltb-true, ltb-false, length-append, length-take-le}
+use Rattle.std.proofs.Common.{take_all, ◌⊎◌, inl, inr}
+use Rattle.std.proofs.lemmas.Bool.{and_parts}
+use Rattle.std.proofs.Math.Dec.{ltb}
+use Rattle.std.specs.Prelude.{IsTrue}
+use Rattle.unix_path.specs.Parts.{Value, values}
+use Rattle.unix_path.specs.CommonDir.{inner_values}
+use Rattle.unix_path.specs.Rest.{rest}
+use Rattle.unix_path.specs.Scan.{EndsInPart}
+use Rattle.unix_bytes.proofs.lemmas.lists.CaseLemmas.{by_test}
+use Rattle.unix_path.proofs.lemmas.steps.SpanLemmas.{rest-trimmed, trims_end}
+use Rattle.path_runs.specs.Gaps.{is_gap, slashed_parts, FirstGap}
+use Rattle.path_runs.specs.Spelling.{slashed_bytes, spelling_of}
+use Rattle.path_runs.proofs.lemmas.gaps.KeptLemmas.{is_gap-behind, nothing_left, slashed_parts-idle}
+use Rattle.path_runs.proofs.lemmas.gaps.KeptLemmas.{slashed_parts-slash}
+use Rattle.path_runs.proofs.lemmas.spelling.LeanLemmas.{slashed_bytes-lean, spelling_of-shortest}
+use Rattle.path_runs.proofs.lemmas.gaps.StretchLemmas.{slash_each, slashed_bytes-cons}
+use Rattle.path_runs.proofs.lemmas.gaps.StretchLemmas.{spelling_of-stretch}
+use Rattle.path_runs.proofs.lemmas.gaps.StretchLemmas.{spelling_of-whole}
+
+-- a slash before each value takes at most one byte more than slashes between
+slash_each-length : (vs : List Value) → length (slash_each vs) ≤ length (slashed_bytes vs) + 1
+slash_each-length [] = omega arith
+slash_each-length (v ∷ vs) = omega (arith, ap length (slashed_bytes-cons v vs))
+
+-- the parts of a string, each behind a slash, take at most one byte more than the string
+slashed_parts-length : (s : List ℕ) → length (slashed_parts s) ≤ length s + 1
+unfolding slashed_parts
+slashed_parts-length s = omega (arith, slash_each-length (inner_values s), slashed_bytes-lean s)
+
+-- the parts of a string that begins with a gap, each behind a slash, take fewer bytes than it
+first_gap-longer : (s : List ℕ) → 0 < length s → is_gap s 0 ≡ true
+    → length (slashed_parts s) < length s
+first_gap-longer [] l g = absurd (omega arith)
+first_gap-longer (x ∷ []) l g =
+    let e = (and_parts (eqb x 47) _ g).0 in
+    omega (
+      arith,
+      ap length (slashed_parts-slash x [] e),
+      ap length (nothing_left [] [] 0 (omega arith)),
+    )
+first_gap-longer (x ∷ y ∷ s) l g =
+    let both = and_parts (eqb x 47) _ g in
+    omega (
+      arith,
+      ap length (slashed_parts-slash x (y ∷ s) both.0),
+      ap length (slashed_parts-idle (y ∷ s) 0 (omega arith) both.1),
+      slashed_parts-length s,
+    )
+
+-- the parts from a gap on, each behind a slash, take fewer bytes than stand there
+gap-longer : (s : List ℕ) (n : ℕ) → n < length s → is_gap s n ≡ true
+    → length (slashed_parts (drop n s)) + n < length s
+gap-longer [] n l g = absurd (omega arith)
+gap-longer (x ∷ s) zero l g = omega (arith, first_gap-longer (x ∷ s) l g)
+gap-longer (x ∷ s) (suc n) l g =
+    omega (arith, gap-longer s n (omega arith) (sym (is_gap-behind x s n) ∙ g))
+
+-- the parts from a gap or the end on, each behind a slash, take no more bytes than stand there
+pub kept-length : (s : List ℕ) (n : ℕ) → n ≤ length s → (n < length s → is_gap s n ≡ true)
+    → n + length (slashed_parts (drop n s)) ≤ length s
+kept-length s n l g = by_test (ltb n (length s))
+    (λ e.
+    let some = ltb-true n (length s) e in
+    omega (arith, gap-longer s n some (g some)))
+    (λ e.
+    let all : length s ≤ n = ltb-false n (length s) e in
+    omega (arith, ap length (nothing_left [] s n all)))
+
+-- a path that has a gap isn't its own spelling
+gap_respelled : (s : List ℕ) (n : ℕ) → 1 < length s → EndsInPart s → FirstGap s n
+    → n < length s → s ≡ spelling_of (values s) → ⊥
+gap_respelled s n l ends h some own =
+    let is = ap length (own ∙ spelling_of-stretch s n l ends h) in
+    omega (
+      arith,
+      is,
+      length-append (take n s) (slashed_parts (drop n s)),
+      length-take-le n s h.in_range,
+      gap-longer s n some (h.gap some),
+    )
+
+-- a path with filler behind its last part isn't its own spelling
+pub tail_respelled : (s t : List ℕ) → t ≡ rest s 0 0 → values t ≡ values s → length t < length s
+    → s ≡ spelling_of (values s) → ⊥
+tail_respelled s t e same l own = by (spelling_of-shortest s t same)
+  where
+    by : (t ≡ spelling_of (values s)) ⊎ (length (spelling_of (values s)) < length t) → ⊥
+    by (inl f) = omega (arith, ap length f, ap length own)
+    by (inr h) = omega (arith, ap length own)
+
+-- if the rest of a fresh walk is as long as the path, it is the path
+pub rest-all : (s t : List ℕ) → t ≡ rest s 0 0 → length s ≤ length t → t ≡ s
+rest-all s t e l =
+    let trim = trims_end s in
+    let is = e ∙ rest-trimmed s trim.len trim.in_range trim.same trim.ends in
+    is ∙ take_all trim.len s (omega (arith, ap length is, length-take-le trim.len s trim.in_range))
+
+-- a path of two bytes or more that ends in a part is its own spelling exactly if it has no gap
+pub own_if_gapless : (s : List ℕ) (n : ℕ) → 1 < length s → EndsInPart s → FirstGap s n
+    → (IsTrue (nat_eq n (length s)) → s ≡ spelling_of (values s))
+    × (s ≡ spelling_of (values s) → IsTrue (nat_eq n (length s)))
+own_if_gapless s n l ends h = (
+  λ e. sym (spelling_of-whole s n ends h (inr (omega arith, eqb-true n (length s) e))),
+  λ own. by_test (ltb n (length s))
+      (λ e. absurd (gap_respelled s n l ends h (ltb-true n (length s) e) own))
+      (λ e. eq-eqb n (length s) (omega (arith, ltb-false n (length s) e, h.in_range))),
+)

@@ -1,0 +1,101 @@
+-- Rootless paths that are joined to a path, all of them or up to one.
+use Rattle.std.proofs.Common.{◌≡◌, ℕ, suc, ◌≤◌, ◌<◌, false, List, [], ◌∷◌, ◌++◌, length, take}
+use Rattle.std.proofs.Common.{drop, map, Option, slice_get, Some, refl, sym, ap, subst, ◌∙◌, arith}
+use Rattle.std.proofs.Common.{map-id}
+use Rattle.std.specs.List.{AllByRecursion}
+use Rattle.std.proofs.lemmas.Iterator.{YieldsList}
+use Rattle.std.proofs.lemmas.Iterator.Consumers.{YieldsList-so_far, nth_from_yields_List}
+use Rattle.std.proofs.lemmas.List.{map-append}
+use Rattle.std.proofs.lemmas.Option.{get_or_from_slice_get, slice_get_within}
+use Rattle.std.proofs.Math.Seq.{split_at}
+use Rattle.std.proofs.iter.runs.Made.{took}
+use Rattle.unix_path.specs.Buffers.{bytes_of_each, JoinsBeginning, JoinsFit}
+use Rattle.unix_path.specs.Joins.{is_open, join_of, join_all_of}
+use Rattle.unix_path.specs.Parts.{is_rooted}
+use Rattle.unix_path.specs.declared.path.Path.{Path}
+use Rattle.unix_bytes.proofs.lemmas.lists.CaseLemmas.{by_test}
+use Rattle.unix_path.proofs.lemmas.edits.JoinLemmas.{length-join_of_open, length-join_of_closed}
+use Rattle.path_runs.proofs.lemmas.lists.AllLemmas.{AllByRecursion-end}
+
+-- none of these is rooted
+abbrev pub AllRootless : List (List ℕ) → Type 0
+AllRootless bs = AllByRecursion (λ b. is_rooted b ≡ false) bs
+
+-- a join with a rootless path is no shorter than the first path
+length-join_of : (a b : List ℕ) → is_rooted b ≡ false → length a ≤ length (join_of a b)
+length-join_of a b r = by_test (is_open a)
+    (λ o. omega (arith, length-join_of_open a b r o))
+    (λ o. omega (arith, length-join_of_closed a b r o))
+
+-- a join with rootless paths is no shorter than the first path
+length-join_all_of : (a : List ℕ) (bs : List (List ℕ)) → AllRootless bs
+    → length a ≤ length (join_all_of a bs)
+length-join_all_of a [] h = omega arith
+length-join_all_of a (b ∷ bs) h =
+    omega (arith, length-join_of a b h.0, length-join_all_of (join_of a b) bs h.1)
+
+-- a join with two lists of paths is one with the first list, and then with the second
+pub join_all_of-append : (a : List ℕ) (bs cs : List (List ℕ))
+    → join_all_of a (bs ++ cs) ≡ join_all_of (join_all_of a bs) cs
+join_all_of-append a [] cs = refl
+join_all_of-append a (b ∷ bs) cs = join_all_of-append (join_of a b) bs cs
+
+-- a list is what stands before one of its items, that item, and what stands behind it
+slice_get-split : {X : Type 0} (xs : List X) (n : ℕ) (y : X) → slice_get xs n ≡ Some y
+    → xs ≡ take n xs ++ y ∷ drop (suc n) xs
+slice_get-split xs n y e = split_at xs n y (slice_get_within xs n y e)
+    ∙ ap (λ z. take n xs ++ z ∷ drop (suc n) xs) (get_or_from_slice_get xs n y y e)
+
+-- the join up to one path is no longer than the join with all
+length-join_of_next : (old : List ℕ) (all xs : List Path) (x : Path)
+    → map (λ x. x) xs ≡ take (length xs) all → Some x ≡ slice_get all (length xs)
+    → AllRootless (bytes_of_each all)
+    → length (join_of (join_all_of old (bytes_of_each xs)) x.bytes.now)
+    ≤ length (join_all_of old (bytes_of_each all))
+length-join_of_next old all xs x prefix at h =
+    let rest = drop (suc (length xs)) all in
+    let whole : all ≡ xs ++ x ∷ rest = slice_get-split all (length xs) x (sym at)
+    ∙ ap (λ ys. ys ++ x ∷ rest) (sym prefix ∙ map-id xs) in
+    let before = bytes_of_each xs in
+    let onward = bytes_of_each (x ∷ rest) in
+    let parts : bytes_of_each all ≡ before ++ onward = ap bytes_of_each whole
+    ∙ map-append (λ x. x.bytes.now) xs (x ∷ rest) in
+    let rootless = AllByRecursion-end (λ b. is_rooted b ≡ false) before onward
+    (subst AllRootless parts h) in
+    let made = join_of (join_all_of old before) x.bytes.now in
+    let all_is : join_all_of old (bytes_of_each all) ≡ join_all_of made (bytes_of_each rest) =
+    ap (join_all_of old) parts ∙ join_all_of-append old before onward in
+    omega (arith, ap length all_is, length-join_all_of made (bytes_of_each rest) rootless.1)
+
+-- if the join up to one of some rootless paths is longer than `most`, so is the join with all
+pub JoinsBeginning-exceeds : {S : Type 0} {steps : S → Option Path → S → Type 0} {items : S}
+    {all : List Path} (old new : List ℕ) (most : ℕ) → YieldsList steps (λ x. x) items all
+    → AllRootless (bytes_of_each all) → JoinsBeginning steps items old new most
+    → most < length (join_all_of old (bytes_of_each all))
+JoinsBeginning-exceeds {all = all} old new most yields h e =
+    let prefix = YieldsList-so_far yields e.paths e.items_before.0 e.items_before.1 in
+    let at = nth_from_yields_List (Some e.next) e.left (length e.paths)
+    (e.paths, e.items_before, refl)
+    yields in
+    omega (
+      arith,
+      length-join_of_next old all e.paths e.next prefix at h,
+      e.longer,
+      ap (λ s. length (join_of s e.next.bytes.now)) e.bytes,
+    )
+
+-- if an iterator gives nothing, what it gave is no path
+no_items : {A B : Type 0} (v : A → B) (xs : List A) → map v xs ≡ take (length xs) [] → xs ≡ []
+no_items v [] e = refl
+no_items v (x ∷ xs) e = absurd (omega (arith, ap length e))
+
+-- so its join to the empty path is empty
+pub JoinsFit-none : {S B : Type 0} {steps : S → Option Path → S → Type 0} {items : S}
+    (v : Path → B) (ys : List B) → ys ≡ [] → YieldsList steps v items ys
+    → JoinsFit steps items [] 0
+JoinsFit-none {steps = steps} v ys none yields run met from =
+    let gave = took run in
+    let so_far = YieldsList-so_far (subst (λ s. YieldsList steps v s ys) (sym from) yields)
+    run.items gave.0 gave.1 in
+    let nothing = no_items v run.items (so_far ∙ ap (take (length run.items)) none) in
+    omega (arith, ap (λ paths. length (join_all_of [] (bytes_of_each paths))) nothing)

@@ -1,0 +1,166 @@
+-- A leading root or dot, and the values behind it.
+use Rattle.std.proofs.Common.{◌≡◌, ℕ, ◌+◌, Bool, true, false, cond, List, [], ◌∷◌, ◌++◌}
+use Rattle.std.proofs.Common.{length, map, refl, sym, ap, subst, ◌∙◌, arith, append-nil}
+use Rattle.std.specs.List.{AllByRecursion, slice_split}
+use Rattle.std.specs.Str.{bytes_eq}
+use Rattle.unix_path.specs.Parts.{Part, Value, RootDir, CurDir, ParentDir, Normal, is_slash}
+use Rattle.unix_path.specs.Parts.{cur_dir, parent_dir, is_rooted, counts, parts_of_pieces}
+use Rattle.unix_path.specs.Parts.{inner_parts, leading_part, values}
+use Rattle.unix_path.specs.Joins.{join_of}
+use Rattle.unix_bytes.proofs.lemmas.lists.CaseLemmas.{by_test}
+use Rattle.unix_path.proofs.lemmas.edits.JoinLemmas.{join_of_rooted}
+use Rattle.unix_path.proofs.lemmas.parts.PartLemmas.{root_first, root_first-values, values-nil}
+use Rattle.unix_path.proofs.lemmas.parts.PieceLemmas.{first_piece, slice_split-first}
+use Rattle.path_runs.specs.JoinLaws.{drop_dot, drop_lead, values_added}
+use Rattle.path_runs.proofs.lemmas.joins.AssociativeLemmas.{join_of-nil}
+use Rattle.unix_path.specs.CommonDir.{inner_values}
+use Rattle.unix_path.proofs.lemmas.order.CommonPrefixLemmas.{inner_values-nil, values-leading}
+use Rattle.path_runs.proofs.lemmas.joins.ValueLemmas.{append_values}
+use Rattle.path_runs.proofs.lemmas.joins.ValueLemmas.{values-join_of, values-join_of_rootless}
+
+-- a value that can stand behind another
+abbrev pub IsInner : Value → Type 0
+IsInner RootDir = ⊥
+IsInner CurDir = ⊥
+IsInner ParentDir = Unit {0}
+IsInner (Normal name) = Unit {0}
+
+-- the values of the pieces that count can each stand behind another
+inner_pieces : (at : ℕ) (ps : List (List ℕ))
+    → AllByRecursion IsInner (map (λ p. p.value) (parts_of_pieces at ps))
+inner_pieces at [] = tt
+inner_pieces at (p ∷ ps) =
+    let next = inner_pieces (at + length p + 1) ps in
+    by_test (counts p) (λ e. rw e (by_value (bytes_eq p parent_dir), next)) (λ e. rw e next)
+  where
+    by_value : (c : Bool) → IsInner (cond c ParentDir (Normal p))
+    by_value true = tt
+    by_value false = tt
+
+inner_values-inner : (s : List ℕ) → AllByRecursion IsInner (inner_values s)
+unfolding inner_parts
+inner_values-inner s = inner_pieces 0 (slice_split is_slash s)
+
+-- neither the root nor a dot stands first
+pub record HasNoLead (vs : List Value) : Type 0 where
+  pub no_lead : drop_lead vs ≡ vs
+  pub no_dot : drop_dot vs ≡ vs
+  pub no_root : root_first vs ≡ false
+
+-- of inner values neither the root nor a dot stands first
+pub inner-no_lead : (vs : List Value) → AllByRecursion IsInner vs → HasNoLead vs
+inner-no_lead [] h = record { no_lead = refl; no_dot = refl; no_root = refl }
+inner-no_lead (RootDir ∷ vs) h = absurd h.0
+inner-no_lead (CurDir ∷ vs) h = absurd h.0
+inner-no_lead (ParentDir ∷ vs) h = record { no_lead = refl; no_dot = refl; no_root = refl }
+inner-no_lead (Normal name ∷ vs) h = record { no_lead = refl; no_dot = refl; no_root = refl }
+
+inner_values-no_lead : (s : List ℕ) → HasNoLead (inner_values s)
+inner_values-no_lead s = inner-no_lead (inner_values s) (inner_values-inner s)
+
+-- the first piece is `.`
+abbrev pub dot_first : List (List ℕ) → Bool
+dot_first [] = false
+dot_first (p ∷ ps) = bytes_eq p cur_dir
+
+-- the value that stands first: the root, or else a dot, or else none
+abbrev pub lead_by : Bool → Bool → List Value
+lead_by rooted dotted = cond rooted (RootDir ∷ []) (cond dotted (CurDir ∷ []) [])
+
+-- the leading part has the value that stands first
+leading_values : (s : List ℕ)
+    → map (λ (p : Part). p.value) (leading_part s) ≡ lead_by (is_rooted s)
+    (dot_first (slice_split is_slash s))
+unfolding leading_part
+leading_values s = by_test (is_rooted s) (λ e. rw e refl)
+    (λ e. rw (e, slice_split-first s) (by_test (bytes_eq (first_piece s) cur_dir)
+    (λ d. rw d refl) (λ d. rw d refl)))
+
+-- a path's values are its leading root or dot, and then its inner values
+pub values-lead : (s : List ℕ)
+    → values s ≡ lead_by (is_rooted s) (dot_first (slice_split is_slash s)) ++ inner_values s
+values-lead s = values-leading s ∙ ap (λ vs. vs ++ inner_values s) (leading_values s)
+
+-- without the root or the dot that stands first, only what follows it is left
+drop_lead-lead_by : (c d : Bool) (vs : List Value) → HasNoLead vs
+    → drop_lead (lead_by c d ++ vs) ≡ vs
+drop_lead-lead_by true d vs h = refl
+drop_lead-lead_by false true vs h = refl
+drop_lead-lead_by false false vs h = h.no_lead
+
+-- without a leading root or dot a path's values are its inner values
+pub drop_lead-values : (s : List ℕ) → drop_lead (values s) ≡ inner_values s
+drop_lead-values s =
+    ap drop_lead (values-lead s)
+    ∙ drop_lead-lead_by (is_rooted s) _ (inner_values s) (inner_values-no_lead s)
+
+same_tail : {x y : Value} {xs ys : List Value} → x ∷ xs ≡ y ∷ ys → xs ≡ ys
+same_tail e = cc
+
+-- behind the first value, be it a lead or an inner value, stand inner values
+inner_lead : (c d : Bool) (vs : List Value) (x : Value) (xs : List Value)
+    → AllByRecursion IsInner vs → lead_by c d ++ vs ≡ x ∷ xs → AllByRecursion IsInner xs
+inner_lead true d vs x xs h e = subst (AllByRecursion IsInner) (same_tail e) h
+inner_lead false true vs x xs h e = subst (AllByRecursion IsInner) (same_tail e) h
+inner_lead false false [] x xs h e = absurd (cc)
+inner_lead false false (v ∷ vs) x xs h e = subst (AllByRecursion IsInner) (same_tail e) h.1
+
+-- behind the first value stand no roots and no dots
+pub inner-behind : (s : List ℕ) (x : Value) (xs : List Value) → values s ≡ x ∷ xs
+    → AllByRecursion IsInner xs
+inner-behind s x xs e =
+    inner_lead (is_rooted s) _ (inner_values s) x xs (inner_values-inner s)
+    (sym (values-lead s) ∙ e)
+
+-- without the dot that stands first, only what follows it is left
+drop_dot-lead_by : (d : Bool) (vs : List Value) → HasNoLead vs
+    → drop_dot (lead_by false d ++ vs) ≡ vs
+drop_dot-lead_by true vs h = refl
+drop_dot-lead_by false vs h = h.no_dot
+
+-- without a leading dot a rootless path's values are its inner values
+pub drop_dot-values : (s : List ℕ) → is_rooted s ≡ false → drop_dot (values s) ≡ inner_values s
+drop_dot-values s r =
+    ap drop_dot (values-lead s
+    ∙ ap (λ c. lead_by c (dot_first (slice_split is_slash s)) ++ inner_values s) r)
+    ∙ drop_dot-lead_by (dot_first (slice_split is_slash s)) (inner_values s)
+    (inner_values-no_lead s)
+
+-- a join with a rootless path has the values of the first path, and then the values added
+pub values-join_of_values_added : (a b : List ℕ) → is_rooted b ≡ false
+    → values (join_of a b) ≡ values a ++ values_added a b
+values-join_of_values_added [] b r =
+    ap values (join_of-nil b) ∙ sym (ap (λ vs. vs ++ values b) values-nil)
+values-join_of_values_added (x ∷ a) b r = values-join_of (x ∷ a) b (omega arith) r
+    ∙ ap (λ vs. values (x ∷ a) ++ vs) (sym (drop_dot-values b r))
+
+-- of equal paths both are rooted or neither is
+pub roots_same : (s t : List ℕ) → values s ≡ values t → is_rooted s ≡ is_rooted t
+roots_same s t e = sym (root_first-values s) ∙ ap root_first e ∙ root_first-values t
+
+-- equal paths, joined to equal paths, are equal
+pub joins_same : (a b c d : List ℕ) → values a ≡ values b → values c ≡ values d
+    → values (join_of a c) ≡ values (join_of b d)
+joins_same a b c d e f = by_test (is_rooted c)
+    (λ r. ap values (join_of_rooted a c r) ∙ f
+    ∙ ap values (sym (join_of_rooted b d (sym root ∙ r))))
+    (λ r. values-join_of_rootless a c r ∙ ap (λ vs. append_values vs c) e ∙ append_same (values b)
+    ∙ sym (values-join_of_rootless b d (sym root ∙ r)))
+  where
+    root : is_rooted c ≡ is_rooted d
+    root = roots_same c d f
+
+    bodies : inner_values c ≡ inner_values d
+    bodies = sym (drop_lead-values c) ∙ ap drop_lead f ∙ drop_lead-values d
+
+    append_same : (vs : List Value) → append_values vs c ≡ append_values vs d
+    append_same [] = f
+    append_same (v ∷ vs) = ap (λ z. (v ∷ vs) ++ z) bodies
+
+-- a join with the empty path adds no value
+pub values-join_of_nil : (a : List ℕ) → values (join_of a []) ≡ values a
+values-join_of_nil a = values-join_of_rootless a [] refl ∙ append_values-nil (values a)
+  where
+    append_values-nil : (vs : List Value) → append_values vs [] ≡ vs
+    append_values-nil [] = values-nil
+    append_values-nil (v ∷ vs) = ap (λ b. (v ∷ vs) ++ b) inner_values-nil ∙ append-nil (v ∷ vs)

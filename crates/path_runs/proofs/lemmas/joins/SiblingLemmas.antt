@@ -1,0 +1,106 @@
+-- One name behind a path: pushed and popped, or set in place of the file name.
+use Rattle.std.proofs.Common.{◌≡◌, ℕ, true, false, List, [], ◌∷◌, ◌++◌, Some, is_some, unwrap_or}
+use Rattle.std.proofs.Common.{sym, ap, ◌∙◌, refl}
+use Rattle.unix_path.specs.Parts.{Value, Normal, is_rooted, values, SameValues}
+use Rattle.unix_path.specs.Rest.{rest}
+use Rattle.unix_path.specs.Joins.{join_of}
+use Rattle.unix_path.specs.Parents.{parent_of}
+use Rattle.unix_path.specs.Names.{file_name_of}
+use Rattle.unix_path.specs.Edits.{popped_of, with_name_of}
+use Rattle.unix_path.proofs.lemmas.rests.MiddleLemmas.{middle, middle-push}
+use Rattle.unix_path.proofs.lemmas.names.ParentLemmas.{before_name_of-some, parent_of-push}
+use Rattle.unix_path.proofs.lemmas.names.ParentLemmas.{file_name_of-last}
+use Rattle.unix_path.proofs.lemmas.parts.PartLemmas.{root_first, root_first-values}
+use Rattle.unix_path.proofs.lemmas.rests.RestLemmas.{rest-rest, values-rest}
+use Rattle.path_runs.specs.JoinLaws.{drop_lead}
+use Rattle.path_runs.specs.EditLaws.{IsOneName}
+use Rattle.path_runs.proofs.lemmas.joins.AssociativeLemmas.{separator, is_open-separator}
+use Rattle.path_runs.proofs.lemmas.joins.AssociativeLemmas.{join_of-separator}
+use Rattle.path_runs.proofs.lemmas.joins.BehindLemmas.{rest-behind, rest-separator}
+use Rattle.path_runs.proofs.lemmas.joins.BehindLemmas.{values-separator}
+use Rattle.path_runs.proofs.lemmas.joins.LeadLemmas.{drop_lead-values}
+use Rattle.unix_path.specs.CommonDir.{inner_values}
+use Rattle.path_runs.proofs.lemmas.joins.ValueLemmas.{append_values, values-join_of_rootless}
+
+-- a path whose last value is a name has a parent
+pub parent_of-name : (s name : List ℕ) (vs : List Value) → values s ≡ vs ++ Normal name ∷ []
+    → parent_of s ≡ Some (rest s 0 1)
+parent_of-name s name vs e =
+    sym (parent_of-push s vs (Normal name) e refl (λ h. cc))
+
+-- a path whose last value is a name has that file name
+pub file_name_of-name : (s name : List ℕ) (vs : List Value) → values s ≡ vs ++ Normal name ∷ []
+    → file_name_of (values s) ≡ Some name
+file_name_of-name s name vs e = ap file_name_of e ∙ file_name_of-last vs (Normal name)
+
+-- the rest before the last part has the values before the last
+pub values-rest_push : (s : List ℕ) (vs : List Value) (v : Value) → values s ≡ vs ++ v ∷ []
+    → values (rest s 0 1) ≡ vs
+values-rest_push s vs v e = values-rest s 0 1 ∙ ap (middle 0 1) e ∙ middle-push vs v
+
+-- a path of one name is rootless
+one_rootless : (n name : List ℕ) → IsOneName n name → is_rooted n ≡ false
+one_rootless n name e = sym (root_first-values n) ∙ ap root_first e
+
+-- a join with a path of one name adds that name
+pub values-join_of_one : (s n name : List ℕ) → IsOneName n name
+    → values (join_of s n) ≡ values s ++ Normal name ∷ []
+values-join_of_one s n name e =
+    values-join_of_rootless s n (one_rootless n name e) ∙ append_one (values s)
+  where
+    bodies : inner_values n ≡ Normal name ∷ []
+    bodies = sym (drop_lead-values n) ∙ ap drop_lead e
+
+    append_one : (vs : List Value) → append_values vs n ≡ vs ++ Normal name ∷ []
+    append_one [] = e
+    append_one (v ∷ vs) = ap (λ ws. v ∷ vs ++ ws) bodies
+
+-- ---- a push of one name, and a pop
+
+-- a pop after a push of one name answers true
+pub pop-answer : (s n name : List ℕ) → IsOneName n name
+    → is_some (parent_of (join_of s n)) ≡ true
+pop-answer s n name e =
+    ap is_some (parent_of-name (join_of s n) name (values s) (values-join_of_one s n name e))
+
+-- a pop after a push of one name leaves the values from before the push
+pub values-popped_of : (s n name : List ℕ) → IsOneName n name
+    → SameValues (popped_of (join_of s n)) s
+unfolding popped_of
+values-popped_of s n name e =
+    let t = join_of s n in
+    let all = values-join_of_one s n name e in
+    ap (λ o. values (unwrap_or o t)) (parent_of-name t name (values s) all)
+    ∙ values-rest_push t (values s) (Normal name) all
+
+-- ---- one name in place of the file name
+
+-- a join with one name, without its last part, is the first path up to the end of its last part
+pub rest-join_of_one : (r n name : List ℕ) → IsOneName n name
+    → rest (join_of r n) 0 1 ≡ rest r 0 0
+rest-join_of_one r n name e =
+    let u = r ++ separator r in
+    let is = join_of-separator r n (one_rootless n name e) in
+    let all : values (u ++ n) ≡ values u ++ Normal name ∷ [] =
+    ap values (sym is) ∙ values-join_of_one r n name e
+    ∙ ap (λ vs. vs ++ Normal name ∷ []) (sym (values-separator r)) in
+    ap (λ t. rest t 0 1) is ∙ rest-behind u n (Normal name) (is_open-separator r) all
+    ∙ rest-separator r
+
+-- a new file name is joined to the rest before the old one
+with_name_of-join : (s old n : List ℕ) → file_name_of (values s) ≡ Some old
+    → with_name_of s n ≡ join_of (rest s 0 1) n
+with_name_of-join s old n f = ap (λ r. join_of r n) (sym (before_name_of-some s old (sym f)))
+
+-- a new file name stands behind the values before the old one
+pub values-with_name_of : (s old n name : List ℕ) → file_name_of (values s) ≡ Some old
+    → IsOneName n name → values (with_name_of s n) ≡ values (rest s 0 1) ++ Normal name ∷ []
+values-with_name_of s old n name f e =
+    ap values (with_name_of-join s old n f) ∙ values-join_of_one (rest s 0 1) n name e
+
+-- a new file name leaves the rest before it as it was
+pub rest-with_name_of : (s old n name : List ℕ) → file_name_of (values s) ≡ Some old
+    → IsOneName n name → rest (with_name_of s n) 0 1 ≡ rest s 0 1
+rest-with_name_of s old n name f e =
+    ap (λ t. rest t 0 1) (with_name_of-join s old n f) ∙ rest-join_of_one (rest s 0 1) n name e
+    ∙ rest-rest s 0 1 0 0

@@ -1,0 +1,6 @@
+-- Lists of any items, and bytes put in a buffer.
+pub mod AllLemmas
+pub mod OverlayLemmas
+pub mod WritingLemmas
+-- Of this crate alone.
+pub mod TogetherLemmas

@@ -1,0 +1,62 @@
+-- Bytes that are written one behind the other, until the whole stands at the beginning.
+use Rattle.std.proofs.Common.{◌≡◌, ◌≤◌, ℕ, ◌+◌, List, [], ◌++◌, length, refl, sym, ap, ap₂, ◌∙◌}
+use Rattle.std.proofs.Common.{append_assoc, append-nil, arith, length-append}
+use Rattle.path_runs.specs.Overlay.{overlay}
+use Rattle.path_runs.specs.Buffer.{buffer_after}
+use Rattle.path_runs.proofs.lemmas.lists.OverlayLemmas.{bytes_over, overlay-bytes_over}
+use Rattle.path_runs.proofs.lemmas.lists.OverlayLemmas.{buffer_after-fits}
+
+-- `out` is `old` with the first `at` bytes of `whole` put at the beginning; `left` follows them
+pub record WritesOn (whole old : List ℕ) (at : ℕ) (out left : List ℕ) : Type 0 where
+  pub start : List ℕ
+  pub at_is : at ≡ length start
+  pub out_is : out ≡ bytes_over start old
+  pub whole_is : start ++ left ≡ whole
+
+-- before anything is written the whole is left
+pub writes_first : {left : List ℕ} (whole old : List ℕ) → left ≡ whole
+    → WritesOn whole old 0 old left
+writes_first whole old e = record { start = []; at_is = refl; out_is = refl; whole_is = e }
+
+-- one more stretch of what is left is written
+pub writes_stretch : {whole old out left new : List ℕ} {at end : ℕ} (stretch more : List ℕ)
+    → WritesOn whole old at out left → left ≡ stretch ++ more → new ≡ overlay at stretch out
+    → end ≡ at + length stretch → WritesOn whole old end new more
+writes_stretch {whole} {old} {out} {left} {new} {at} {end} stretch more h e placing ending =
+    record {
+      start = h.start ++ stretch;
+      at_is = omega (arith, ending, h.at_is, length-append h.start stretch);
+      out_is = placing ∙ ap₂ (λ n out. overlay n stretch out) h.at_is h.out_is
+          ∙ overlay-bytes_over h.start stretch old;
+      whole_is = append_assoc h.start stretch more ∙ ap (λ left. h.start ++ left) (sym e)
+          ∙ h.whole_is;
+    }
+
+-- if there is room for the whole, there is room for a stretch of what is left
+pub writes_room : {whole old out left : List ℕ} {at : ℕ} (stretch more : List ℕ)
+    → WritesOn whole old at out left → left ≡ stretch ++ more → length whole ≤ length old
+    → at + length stretch ≤ length old
+writes_room {whole} {old} {out} {left} {at} stretch more h e fits =
+    omega (
+      arith,
+      h.at_is,
+      ap length h.whole_is,
+      length-append h.start left,
+      ap length e,
+      length-append stretch more,
+      fits,
+    )
+
+-- if nothing is left, the whole is written
+pub writes_last : {whole old out left : List ℕ} {at : ℕ} → WritesOn whole old at out left
+    → left ≡ [] → length whole ≤ length old → out ≡ buffer_after whole old
+writes_last {whole} {old} {out} {left} {at} h e fits =
+    let all : h.start ≡ whole =
+    sym (append-nil h.start) ∙ ap (λ left. h.start ++ left) (sym e) ∙ h.whole_is in
+    h.out_is ∙ ap (λ start. bytes_over start old) all ∙ sym (buffer_after-fits whole old fits)
+
+-- if nothing is left, as many bytes are written as the whole has
+pub writes_end : {whole old out left : List ℕ} {at : ℕ} → WritesOn whole old at out left
+    → left ≡ [] → at ≡ length whole
+writes_end {whole} {old} {out} {left} {at} h e =
+    omega (arith, h.at_is, ap length h.whole_is, length-append h.start left, ap length e)

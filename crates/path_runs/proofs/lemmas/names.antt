@@ -1,0 +1,5 @@
+-- Names, cut at their last dots.
+pub mod DotLemmas
+pub mod ExtensionCutLemmas
+pub mod StemNameLemmas
+pub mod PieceNameLemmas

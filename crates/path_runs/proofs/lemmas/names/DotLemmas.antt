@@ -1,0 +1,93 @@
+-- A name cut at its last dot.
+use Rattle.std.proofs.Common.{◌≡◌, ◌≢◌, ℕ, suc, ◌+◌, ◌-◌, ◌≤◌, ◌<◌, true, false, not, eqb, List, []}
+use Rattle.std.proofs.Common.{◌∷◌, ◌++◌}
+use Rattle.std.proofs.Common.{length, get_or, drop, Some, None, refl, sym, ap, ap₂, ◌∙◌, arith}
+use Rattle.std.proofs.Common.{eqb-true, eq-eqb, length-append, append_assoc}
+use Rattle.std.proofs.Math.Seq.{get_or-append_seam}
+use Rattle.std.proofs.lemmas.Bool.{both_ways}
+use Rattle.std.proofs.lemmas.List.{get_or-append_right, take_at, drop_at, take-append-drop}
+use Rattle.std.proofs.lemmas.List.Elements.{All-nil, All-cons}
+use Rattle.unix_path.specs.Names.{past_last, split_name}
+use Rattle.unix_bytes.proofs.lemmas.lists.CaseLemmas.{by_test}
+use Rattle.unix_path.proofs.lemmas.names.NameLemmas.{is_dot, past_last-is, split_name-whole}
+use Rattle.unix_path.proofs.lemmas.names.NameLemmas.{split_name-cut}
+use Rattle.unix_path.proofs.lemmas.names.NameLemmas.{split_name-stem}
+use Rattle.path_runs.specs.EditLaws.{HasNone}
+
+-- if no byte is b, the byte at k isn't b
+none_at : (s : List ℕ) (b k : ℕ) → HasNone b s → k < length s → eqb (get_or s k 0) b ≡ false
+none_at s b k h l =
+    by_test (eqb (get_or s k 0) b) (λ e. absurd (h k 0 l (eqb-true _ _ e))) (λ e. e)
+
+past_last-none : (s : List ℕ) → HasNone 46 s → 0 ≡ past_last is_dot s
+past_last-none s h = past_last-is is_dot s 0 (omega arith)
+    (λ k a b. ap not (none_at s 46 k h b)) (λ l. absurd (omega arith))
+
+-- the last dot is the one behind which no dot stands
+past_last-dot : (f x : List ℕ) → HasNone 46 x → length f + 1 ≡ past_last is_dot (f ++ 46 ∷ x)
+past_last-dot f x h =
+    let s = f ++ 46 ∷ x in
+    let n = length-append f (46 ∷ x) in
+    past_last-is is_dot s (length f + 1) (omega arith) (λ k a b. after k a (omega arith))
+    (λ l. ap (λ i. not (is_dot (get_or s i 0))) {x = length f + 1 - 1} {y = length f} (omega arith)
+    ∙ ap (λ c. not (is_dot c)) (get_or-append_seam f 46 x 0))
+  where
+    after : (k : ℕ) → length f + 1 ≤ k → k < length f + suc (length x)
+        → not (is_dot (get_or (f ++ 46 ∷ x) k 0)) ≡ true
+    after k a b =
+        ap (λ c. not (is_dot c))
+        (get_or-append_right f (46 ∷ x) (length f) k 0 refl (omega arith)
+        ∙ ap (λ i. get_or (46 ∷ x) i 0) {x = k - length f} {y = suc (k - (length f + 1))}
+        (omega arith))
+        ∙ ap not (none_at x 46 (k - (length f + 1)) h (omega arith))
+
+-- a string has no dot, or is cut at its last dot into f and x
+data LastDot (s : List ℕ) : Type 0 where
+  NoDot : HasNone 46 s → LastDot s
+  AtDot : (f x : List ℕ) → s ≡ f ++ 46 ∷ x → HasNone 46 x → LastDot s
+
+last_dot-cons : (b : ℕ) (s : List ℕ) → LastDot s → LastDot (b ∷ s)
+last_dot-cons b s (AtDot f x e h) = AtDot (b ∷ f) x (ap (λ z. b ∷ z) e) h
+last_dot-cons b s (NoDot h) = by_test (eqb b 46)
+    (λ e. AtDot [] s (ap (λ b. b ∷ s) (eqb-true b 46 e)) h)
+    (λ e. NoDot (All-cons (λ c. c ≢ 46) b s (λ is. both_ways _ e (eq-eqb b 46 is)) h))
+
+last_dot : (s : List ℕ) → LastDot s
+last_dot [] = NoDot (All-nil (λ c. c ≢ 46))
+last_dot (b ∷ s) = last_dot-cons b s (last_dot s)
+
+-- a name is cut at its last dot if a byte stands before that
+pub split_name-dot : (f x : List ℕ) → 0 < length f → HasNone 46 x
+    → split_name (f ++ 46 ∷ x) ≡ (f, Some x)
+split_name-dot f x l h =
+    let n = length f + 1 in
+    split_name-cut (f ++ 46 ∷ x) n (past_last-dot f x h) (omega arith)
+    ∙ ap₂ (λ a b. (a, Some b)) (take_at f (46 ∷ x) (n - 1) (omega arith)) after
+  where
+    after : drop (length f + 1) (f ++ 46 ∷ x) ≡ x
+    after = ap (drop (length f + 1)) (sym (append_assoc f (46 ∷ []) x))
+        ∙ drop_at (f ++ 46 ∷ []) x (length f + 1) (length-append f (46 ∷ []))
+
+-- a name is its stem, or its stem with a dot and its extension behind
+pub data SplitCase (name : List ℕ) : Type 0 where
+  Whole : split_name name ≡ (name, None) → SplitCase name
+  Cut : (b : ℕ) (f x : List ℕ) → name ≡ b ∷ f ++ 46 ∷ x
+      → split_name name ≡ (b ∷ f, Some x) → SplitCase name
+
+pub split_case : (name : List ℕ) → SplitCase name
+split_case name = by (last_dot name)
+  where
+    by : LastDot name → SplitCase name
+    by (NoDot h) = Whole (split_name-whole name 0 (past_last-none name h) (omega arith))
+    by (AtDot [] x e h) = Whole (split_name-whole name 1
+        (past_last-dot [] x h ∙ ap (past_last is_dot) (sym e)) (omega arith))
+    by (AtDot (b ∷ f) x e h) =
+        Cut b f x e (ap split_name e ∙ split_name-dot (b ∷ f) x (omega arith) h)
+
+-- a name begins with its stem
+pub stem_prefix : (name : List ℕ) → (r : List ℕ) × (name ≡ (split_name name).0 ++ r)
+stem_prefix name =
+    let n = length (split_name name).0 in (
+      drop n name,
+      sym (take-append-drop n name) ∙ ap (λ stem. stem ++ drop n name) (split_name-stem name),
+    )

@@ -1,0 +1,93 @@
+-- The bytes and the values of a path with an extension set or added.
+use Rattle.std.proofs.Common.{◌≡◌, ℕ, ◌+◌, false, eqb, List, [], ◌∷◌, ◌++◌}
+use Rattle.std.proofs.Common.{length, take, Some, None}
+use Rattle.std.proofs.Common.{sym, ap, ◌∙◌, append_assoc, length-append}
+use Rattle.std.proofs.lemmas.Bool.{cond-false}
+use Rattle.std.proofs.lemmas.List.{take_at}
+use Rattle.unix_path.specs.Parts.{parts, values}
+use Rattle.unix_path.specs.Names.{file_name_of, split_name}
+use Rattle.unix_path.specs.Edits.{last_start_of}
+use Rattle.unix_path.specs.Edits.{stem_end_of, dot_before, with_extension_of}
+use Rattle.unix_path.specs.Extensions.{name_end_of, added_extension_of}
+use Rattle.unix_path.proofs.lemmas.edits.EditLemmas.{with_extension_at}
+use Rattle.unix_path.proofs.lemmas.names.NameEndLemmas.{name_end_by, added_extension_at}
+use Rattle.unix_path.proofs.lemmas.names.StemLemmas.{stem_end_by}
+use Rattle.path_runs.proofs.lemmas.names.DotLemmas.{stem_prefix}
+use Rattle.unix_path.proofs.lemmas.names.NameCutLemmas.{NameCut}
+use Rattle.path_runs.proofs.lemmas.joins.ValueLemmas.{append_values, values-append_open}
+
+-- what stands up to the stem's end is the prefix and the stem
+take-stem_end : (s name : List ℕ) (c : NameCut s name)
+    → take (last_start_of (parts s) + length (split_name name).0) s
+    ≡ c.prefix ++ (split_name name).0
+take-stem_end s name c =
+    let stem = (split_name name).0 in
+    let k = stem_prefix name in
+    let n = last_start_of (parts s) + length stem in
+    let size : length (c.prefix ++ stem) ≡ n =
+    length-append c.prefix stem ∙ ap (λ z. z + length stem) (sym c.start) in
+    ap (take n) (c.whole ∙ ap (λ z. (c.prefix ++ z) ++ c.back) k.1
+    ∙ regroup c.prefix stem k.0 c.back)
+    ∙ take_at (c.prefix ++ stem) (k.0 ++ c.back) n size
+  where
+    regroup : (f a b c : List ℕ) → (f ++ (a ++ b)) ++ c ≡ (f ++ a) ++ (b ++ c)
+    regroup f a b c = simp append_assoc
+
+-- with an extension set a path is the prefix, the stem, the dot if there is one, and the extension
+pub with_extension_of-cut : (s name x : List ℕ) → file_name_of (values s) ≡ Some name
+    → (c : NameCut s name)
+    → with_extension_of s x ≡ c.prefix ++ ((split_name name).0 ++ (dot_before x ++ x))
+unfolding with_extension_of stem_end_of
+with_extension_of-cut s name x e c =
+    ap (λ o. with_extension_at s x (stem_end_by s o)) e
+    ∙ ap (λ z. (z ++ dot_before x) ++ x) (take-stem_end s name c)
+    ∙ regroup c.prefix (split_name name).0 (dot_before x) x
+  where
+    regroup : (f a b c : List ℕ) → ((f ++ a) ++ b) ++ c ≡ f ++ (a ++ (b ++ c))
+    regroup f a b c = simp append_assoc
+
+-- with an extension set a path has the prefix's values, and what the new name adds
+pub values-with_extension_of : (s name x : List ℕ) → file_name_of (values s) ≡ Some name
+    → (c : NameCut s name)
+    → values (with_extension_of s x)
+    ≡ append_values (values c.prefix) ((split_name name).0 ++ (dot_before x ++ x))
+values-with_extension_of s name x e c =
+    ap values (with_extension_of-cut s name x e c)
+    ∙ values-append_open c.prefix ((split_name name).0 ++ (dot_before x ++ x)) c.ends
+
+-- setting an extension leaves a path without a file name as it is
+pub with_extension_of-none : (s x : List ℕ) → file_name_of (values s) ≡ None
+    → with_extension_of s x ≡ s
+unfolding with_extension_of stem_end_of
+with_extension_of-none s x e = ap (λ o. with_extension_at s x (stem_end_by s o)) e
+
+-- what stands up to the file name's end is the prefix and the name
+take-name_end : (s name : List ℕ) (c : NameCut s name)
+    → take (last_start_of (parts s) + length name) s ≡ c.prefix ++ name
+take-name_end s name c =
+    let n = last_start_of (parts s) + length name in
+    let size : length (c.prefix ++ name) ≡ n =
+    length-append c.prefix name ∙ ap (λ z. z + length name) (sym c.start) in
+    ap (take n) c.whole ∙ take_at (c.prefix ++ name) c.back n size
+
+-- with an extension added a path is the prefix, the name, a dot and the extension
+pub added_extension_of-cut : (s name x : List ℕ) → eqb (length x) 0 ≡ false
+    → file_name_of (values s) ≡ Some name → (c : NameCut s name)
+    → added_extension_of s x ≡ c.prefix ++ (name ++ 46 ∷ x)
+unfolding added_extension_of name_end_of
+added_extension_of-cut s name x some e c =
+    ap (λ o. added_extension_at s x (name_end_by s o)) e
+    ∙ cond-false _ _ _ some
+    ∙ ap (λ z. (z ++ 46 ∷ []) ++ x) (take-name_end s name c)
+    ∙ regroup c.prefix name x
+  where
+    regroup : (f a b : List ℕ) → ((f ++ a) ++ 46 ∷ []) ++ b ≡ f ++ (a ++ 46 ∷ b)
+    regroup f a b = append_assoc (f ++ a) (46 ∷ []) b ∙ append_assoc f a (46 ∷ b)
+
+-- with an extension added a path has the prefix's values, and what the new name adds
+pub values-added_extension_of : (s name x : List ℕ) → eqb (length x) 0 ≡ false
+    → file_name_of (values s) ≡ Some name → (c : NameCut s name)
+    → values (added_extension_of s x) ≡ append_values (values c.prefix) (name ++ 46 ∷ x)
+values-added_extension_of s name x some e c =
+    ap values (added_extension_of-cut s name x some e c)
+    ∙ values-append_open c.prefix (name ++ 46 ∷ x) c.ends

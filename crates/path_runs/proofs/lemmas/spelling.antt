@@ -1,0 +1,10 @@
+-- The values of a path by its pieces, and their canonical spelling.
+pub mod PieceValueLemmas
+pub mod SpellLemmas
+pub mod LeanLemmas
+pub mod OwnSpellingLemmas
+pub mod ReadBackLemmas
+pub mod PlainLemmas
+pub mod JoinAllLemmas
+-- Of this crate alone.
+pub mod FitLemmas

@@ -1,0 +1,54 @@
+-- The parts of a path have no more bytes than the path.
+use Rattle.std.proofs.Common.{◌≡◌, ◌≤◌, ℕ, List, [], ◌∷◌, length, map, ⊎_elim, refl, ap, arith}
+use Rattle.std.proofs.Common.{length-append}
+use Rattle.std.specs.List.{sum_by}
+use Rattle.std.proofs.lemmas.List.Sums.{sum_by-cons}
+use Rattle.unix_path.specs.Parts.{Value, RootDir, value_bytes, values}
+use Rattle.path_runs.specs.Spelling.{slashed_bytes, spelling_of}
+use Rattle.path_runs.proofs.lemmas.spelling.LeanLemmas.{spelling_of-shortest}
+
+-- how many bytes the values have
+abbrev pub byte_count : List Value → ℕ
+byte_count vs = sum_by (λ v. length (value_bytes v)) vs
+
+-- values have no more bytes than these have with slashes between
+byte_count-slashed_bytes : (vs : List Value) → byte_count vs ≤ length (slashed_bytes vs)
+byte_count-slashed_bytes [] = omega arith
+byte_count-slashed_bytes (v ∷ []) = omega (arith, sum_by-cons (λ v. length (value_bytes v)) v [])
+byte_count-slashed_bytes (v ∷ w ∷ vs) = omega (
+  arith,
+  sum_by-cons (λ v. length (value_bytes v)) v (w ∷ vs),
+  length-append (value_bytes v) (47 ∷ slashed_bytes (w ∷ vs)),
+  byte_count-slashed_bytes (w ∷ vs),
+)
+
+-- values have no more bytes than their spelling
+byte_count-spelling_of : (vs : List Value) → byte_count vs ≤ length (spelling_of vs)
+unfolding spelling_of
+byte_count-spelling_of [] = omega arith
+byte_count-spelling_of (RootDir ∷ vs) = omega (
+  arith,
+  sum_by-cons (λ v. length (value_bytes v)) RootDir vs,
+  byte_count-slashed_bytes vs,
+)
+byte_count-spelling_of (v ∷ vs) = byte_count-slashed_bytes (v ∷ vs)
+
+-- a path's values have no more bytes than the path
+pub byte_count-values : (s : List ℕ) → byte_count (values s) ≤ length s
+byte_count-values s =
+    let spelled = byte_count-spelling_of (values s) in
+    ⊎_elim (λ same. omega (arith, spelled, ap length same)) (λ longer. omega (arith, spelled))
+    (spelling_of-shortest s s refl)
+
+sum_by-map : (vs : List Value) → sum_by length (map value_bytes vs) ≡ byte_count vs
+sum_by-map [] = refl
+sum_by-map (v ∷ vs) = omega (
+  arith,
+  sum_by-cons length (value_bytes v) (map value_bytes vs),
+  sum_by-cons (λ v. length (value_bytes v)) v vs,
+  sum_by-map vs,
+)
+
+-- the bytes of a path's parts, as a list of strings, are no more than the path's
+pub sum_by-items : (s : List ℕ) → sum_by length (map value_bytes (values s)) ≤ length s
+sum_by-items s = omega (arith, sum_by-map (values s), byte_count-values s)

@@ -1,0 +1,130 @@
+-- The values of a path by the pieces between its slashes, and what holds of all of them.
+use Rattle.std.proofs.Common.{◌≡◌, ℕ, ◌+◌, Bool, true, false, cond, eqb, List, [], ◌∷◌}
+use Rattle.std.proofs.Common.{◌++◌, length, map, filter, refl, sym, ap, subst, ◌∙◌, eqb-true}
+use Rattle.std.specs.List.{AllByRecursion, slice_split, onto_first}
+use Rattle.std.specs.Str.{bytes_eq}
+use Rattle.std.proofs.lemmas.List.Splits.{slice_split-cons_yes, slice_split-cons_no}
+use Rattle.unix_path.specs.Parts.{is_slash, slash, cur_dir, Part, Value, RootDir, CurDir}
+use Rattle.unix_path.specs.Parts.{parts_of_pieces}
+use Rattle.unix_path.specs.Parts.{counts, value_of_piece, inner_parts, is_rooted, values}
+use Rattle.unix_bytes.proofs.lemmas.lists.CaseLemmas.{by_test}
+use Rattle.path_runs.proofs.lemmas.joins.LeadLemmas.{dot_first, lead_by, values-lead}
+use Rattle.unix_path.specs.CommonDir.{inner_values}
+
+-- the values of the pieces that count
+abbrev pub names_of : List (List ℕ) → List Value
+names_of ps = map value_of_piece (filter counts ps)
+
+-- all these pieces count
+abbrev pub AllCount : List (List ℕ) → Type 0
+AllCount ps = AllByRecursion (λ p. counts p ≡ true) ps
+
+-- the parts of the pieces have the values of the pieces that count
+names_of-parts : (at : ℕ) (ps : List (List ℕ))
+    → map (λ (p : Part). p.value) (parts_of_pieces at ps) ≡ names_of ps
+names_of-parts at [] = refl
+names_of-parts at (p ∷ ps) =
+    let next = names_of-parts (at + length p + 1) ps in
+    by_test (counts p) (λ e. rw e (ap (λ vs. value_of_piece p ∷ vs) next)) (λ e. rw e next)
+
+pub inner_values-pieces : (s : List ℕ) → inner_values s ≡ names_of (slice_split is_slash s)
+unfolding inner_parts
+inner_values-pieces s = names_of-parts 0 (slice_split is_slash s)
+
+-- a path's values are its leading root or dot, and then those of its pieces that count
+values-pieces : (s : List ℕ)
+    → values s ≡ lead_by (is_rooted s) (dot_first (slice_split is_slash s)) ++ names_of
+    (slice_split is_slash s)
+values-pieces s = values-lead s
+    ∙ ap (λ vs. lead_by (is_rooted s) (dot_first (slice_split is_slash s)) ++ vs)
+    (inner_values-pieces s)
+
+-- a rooted path's values are the root, and then those of the pieces behind it that count
+pub values-rooted : (t : List ℕ) → values (slash ∷ t) ≡ RootDir ∷ names_of (slice_split is_slash t)
+values-rooted t = values-pieces (slash ∷ t)
+
+-- a rootless path's values are a first `.`, if it has one, and then those of its pieces that count
+pub values-rootless : (s : List ℕ) (ps : List (List ℕ)) → is_rooted s ≡ false
+    → slice_split is_slash s ≡ ps
+    → values s ≡ cond (dot_first ps) (CurDir ∷ []) [] ++ names_of ps
+values-rootless s ps r e =
+    values-pieces s ∙ ap (λ ps. lead_by (is_rooted s) (dot_first ps) ++ names_of ps) e
+    ∙ ap (λ c. lead_by c (dot_first ps) ++ names_of ps) r
+
+-- a rooted path is a slash and what follows it
+pub is_rooted-slash : (s : List ℕ) → is_rooted s ≡ true → (t : List ℕ) × (s ≡ slash ∷ t)
+is_rooted-slash [] e = absurd (let d : false ≡ true = e in cc)
+is_rooted-slash (x ∷ t) e = (t, ap (λ x. x ∷ t) (eqb-true x 47 e))
+
+-- no byte of the piece is a slash
+abbrev pub NoSlash : List ℕ → Type 0
+NoSlash p = AllByRecursion (λ b. is_slash b ≡ false) p
+
+-- a byte that is no slash, put before the first piece, leaves pieces without a slash
+onto_first-no_slash : (x : ℕ) (ps : List (List ℕ)) → is_slash x ≡ false → AllByRecursion NoSlash ps
+    → AllByRecursion NoSlash (onto_first x ps)
+onto_first-no_slash x [] e h = ((e, tt), tt)
+onto_first-no_slash x (p ∷ ps) e h = ((e, h.0), h.1)
+
+-- no piece of a path has a slash
+pub slice_split-no_slash : (s : List ℕ) → AllByRecursion NoSlash (slice_split is_slash s)
+slice_split-no_slash [] = (tt, tt)
+slice_split-no_slash (x ∷ s) = by_test (eqb x 47)
+    (λ e. subst (AllByRecursion NoSlash) (sym (slice_split-cons_yes is_slash x s e))
+    (tt, slice_split-no_slash s))
+    (λ e. subst (AllByRecursion NoSlash) (sym (slice_split-cons_no is_slash x s e))
+    (onto_first-no_slash x (slice_split is_slash s) e (slice_split-no_slash s)))
+
+-- P holds of the value of each piece that counts and has no slash
+abbrev pub HoldsOfPieces : (Value → Type 0) → Type 0
+HoldsOfPieces P =
+    (p : List ℕ) → NoSlash p → bytes_eq p [] ≡ false → bytes_eq p cur_dir ≡ false
+    → P (value_of_piece p)
+
+-- what holds of the pieces holds of the values of those that count
+names_of-hold : (P : Value → Type 0) → HoldsOfPieces P → (ps : List (List ℕ))
+    → AllByRecursion NoSlash ps → AllByRecursion P (names_of ps)
+names_of-hold P of_piece [] h = tt
+names_of-hold P of_piece (p ∷ ps) h =
+    by (bytes_eq p []) (bytes_eq p cur_dir) refl refl (names_of-hold P of_piece ps h.1)
+  where
+    by : (c d : Bool) → bytes_eq p [] ≡ c → bytes_eq p cur_dir ≡ d
+        → AllByRecursion P (names_of ps) → AllByRecursion P (names_of (p ∷ ps))
+    by true d e f more = rw e more
+    by false true e f more = rw (e, f) more
+    by false false e f more = rw (e, f) (of_piece p h.0 e f, more)
+
+-- what holds of `.` and of some values holds of these behind a first `.`, if there is one
+lead-hold : (P : Value → Type 0) → P CurDir → (c : Bool) (vs : List Value)
+    → AllByRecursion P vs → AllByRecursion P (cond c (CurDir ∷ []) [] ++ vs)
+lead-hold P of_dot true vs h = (of_dot, h)
+lead-hold P of_dot false vs h = h
+
+-- what holds of `.` and of the pieces holds of each value of a rootless path
+pub values-hold_rootless : (P : Value → Type 0) → P CurDir → HoldsOfPieces P → (s : List ℕ)
+    → is_rooted s ≡ false → AllByRecursion P (values s)
+values-hold_rootless P of_dot of_piece s r =
+    let ps = slice_split is_slash s in
+    subst (AllByRecursion P) (sym (values-rootless s ps r refl))
+    (lead-hold P of_dot (dot_first ps) (names_of ps)
+    (names_of-hold P of_piece ps (slice_split-no_slash s)))
+
+-- what holds of the pieces holds of each value behind the root
+pub values-hold_rooted : (P : Value → Type 0) → HoldsOfPieces P → (s : List ℕ)
+    → is_rooted s ≡ true
+    → (vs : List Value) × (values s ≡ RootDir ∷ vs) × AllByRecursion P vs
+values-hold_rooted P of_piece s r =
+    let t = is_rooted-slash s r in
+    let ps = slice_split is_slash t.0 in (
+      names_of ps,
+      ap values t.1 ∙ values-rooted t.0,
+      names_of-hold P of_piece ps (slice_split-no_slash t.0),
+    )
+
+-- what holds of the root, of `.` and of the pieces holds of each value of a path
+pub values-hold : (P : Value → Type 0) → P RootDir → P CurDir → HoldsOfPieces P → (s : List ℕ)
+    → AllByRecursion P (values s)
+values-hold P of_root of_dot of_piece s = by_test (is_rooted s)
+    (λ r. let behind = values-hold_rooted P of_piece s r in
+    subst (AllByRecursion P) (sym behind.1) (of_root, behind.2))
+    (values-hold_rootless P of_dot of_piece s)

@@ -1,0 +1,135 @@
+-- The spelling of a path's values has these values.
+use Rattle.std.proofs.Common.{◌≡◌, ℕ, Bool, true, false, cond, not, ◌||◌, List, [], ◌∷◌, ◌++◌, map}
+use Rattle.std.proofs.Common.{filter, refl, sym, ap, subst, ◌∙◌}
+use Rattle.std.specs.List.{AllByRecursion, slice_split, join_with_byte}
+use Rattle.std.specs.Str.{bytes_eq}
+use Rattle.std.proofs.lemmas.List.Elements.{All-from_recursion}
+use Rattle.std.proofs.lemmas.List.Splits.{slice_split_none, slice_split_at}
+use Rattle.std.proofs.lemmas.Slice.Eq.{bytes_eq-Decides}
+use Rattle.unix_path.specs.Parts.{is_slash, slash, cur_dir, RootDir, CurDir, value_of_piece}
+use Rattle.unix_path.specs.Parts.{is_rooted, counts, values}
+use Rattle.unix_bytes.proofs.lemmas.lists.CaseLemmas.{by_test}
+use Rattle.path_runs.specs.Spelling.{spelling_of}
+use Rattle.path_runs.proofs.lemmas.joins.LeadLemmas.{dot_first}
+use Rattle.path_runs.proofs.lemmas.spelling.PieceValueLemmas.{AllCount, names_of, values-rooted}
+use Rattle.path_runs.proofs.lemmas.spelling.PieceValueLemmas.{values-rootless}
+use Rattle.path_runs.proofs.lemmas.spelling.PieceValueLemmas.{is_rooted-slash, NoSlash}
+use Rattle.path_runs.proofs.lemmas.spelling.PieceValueLemmas.{slice_split-no_slash}
+use Rattle.path_runs.proofs.lemmas.spelling.SpellLemmas.{lean_pieces, spelling_of-rooted}
+use Rattle.path_runs.proofs.lemmas.spelling.SpellLemmas.{spelling_of-rootless}
+
+-- joined pieces without a slash are cut into these pieces again
+slice_split-join_with_byte : (p : List ℕ) (ps : List (List ℕ)) → AllByRecursion NoSlash (p ∷ ps)
+    → slice_split is_slash (join_with_byte slash (p ∷ ps)) ≡ p ∷ ps
+slice_split-join_with_byte p [] h =
+    slice_split_none is_slash p (All-from_recursion (λ b. is_slash b ≡ false) p h.0)
+slice_split-join_with_byte p (q ∷ ps) h =
+    slice_split_at is_slash p slash (join_with_byte slash (q ∷ ps))
+    (All-from_recursion (λ b. is_slash b ≡ false) p h.0) refl
+    ∙ ap (λ qs. p ∷ qs) (slice_split-join_with_byte q ps h.1)
+
+-- of pieces without a slash, those that count have no slash either
+filter-no_slash : (ps : List (List ℕ)) → AllByRecursion NoSlash ps
+    → AllByRecursion NoSlash (filter counts ps)
+filter-no_slash [] h = tt
+filter-no_slash (p ∷ ps) h =
+    by_test (counts p) (λ e. rw e (h.0, filter-no_slash ps h.1))
+    (λ e. rw e (filter-no_slash ps h.1))
+
+filter-counts : (ps : List (List ℕ)) → AllCount (filter counts ps)
+filter-counts [] = tt
+filter-counts (p ∷ ps) =
+    by_test (counts p) (λ e. rw e (e, filter-counts ps)) (λ e. rw e (filter-counts ps))
+
+names_of-counts : (ps : List (List ℕ)) → AllCount ps → names_of ps ≡ map value_of_piece ps
+names_of-counts [] h = refl
+names_of-counts (p ∷ ps) h = rw h.0 (ap (λ vs. value_of_piece p ∷ vs) (names_of-counts ps h.1))
+
+-- joined pieces that count are cut into pieces that have their values
+pub names_of-join_with_byte : (ps : List (List ℕ)) → AllByRecursion NoSlash ps → AllCount ps
+    → names_of (slice_split is_slash (join_with_byte slash ps)) ≡ map value_of_piece ps
+names_of-join_with_byte [] h k = refl
+names_of-join_with_byte (p ∷ ps) h k =
+    ap names_of (slice_split-join_with_byte p ps h) ∙ names_of-counts (p ∷ ps) k
+
+-- joined pieces of which the first counts have no root
+is_rooted-join_with_byte : (p : List ℕ) (ps : List (List ℕ)) → NoSlash p → counts p ≡ true
+    → is_rooted (join_with_byte slash (p ∷ ps)) ≡ false
+is_rooted-join_with_byte [] ps h e = absurd (let d : false ≡ true = e in cc)
+is_rooted-join_with_byte (x ∷ p) [] h e = h.0
+is_rooted-join_with_byte (x ∷ p) (q ∷ ps) h e = h.0
+
+counts-no_dot : (p : List ℕ) → counts p ≡ true → bytes_eq p cur_dir ≡ false
+counts-no_dot p e = by (bytes_eq p []) (bytes_eq p cur_dir) refl refl e
+  where
+    by : (c d : Bool) → bytes_eq p [] ≡ c → bytes_eq p cur_dir ≡ d
+        → not (bytes_eq p [] || bytes_eq p cur_dir) ≡ true → bytes_eq p cur_dir ≡ false
+    by c false f g h = g
+    by true true f g h = absurd (let k : false ≡ true = rw f at h in cc)
+    by false true f g h = absurd (let k : false ≡ true = rw (f, g) at h in cc)
+
+-- the spelling of a rooted path's values has these values
+values-spelling_rooted : (t : List ℕ)
+    → values (spelling_of (values (slash ∷ t))) ≡ values (slash ∷ t)
+values-spelling_rooted t =
+    let ps = slice_split is_slash t in
+    let kept = filter counts ps in
+    ap values (spelling_of-rooted t) ∙ values-rooted (join_with_byte slash kept)
+    ∙ ap (λ vs. RootDir ∷ vs)
+    (names_of-join_with_byte kept (filter-no_slash ps (slice_split-no_slash t)) (filter-counts ps))
+    ∙ sym (values-rooted t)
+
+-- joined pieces that count have their values
+pub values-join_with_byte : (ps : List (List ℕ)) → AllByRecursion NoSlash ps → AllCount ps
+    → values (join_with_byte slash ps) ≡ map value_of_piece ps
+values-join_with_byte [] h k = values-rootless [] ([] ∷ []) refl refl
+values-join_with_byte (p ∷ ps) h k =
+    values-rootless (join_with_byte slash (p ∷ ps)) (p ∷ ps) (is_rooted-join_with_byte p ps h.0 k.0)
+    (slice_split-join_with_byte p ps h)
+    ∙ ap (λ c. cond c (CurDir ∷ []) [] ++ names_of (p ∷ ps)) (counts-no_dot p k.0)
+    ∙ names_of-counts (p ∷ ps) k
+
+dot_rootless : (ps : List (List ℕ)) → is_rooted (join_with_byte slash (cur_dir ∷ ps)) ≡ false
+dot_rootless [] = refl
+dot_rootless (p ∷ ps) = refl
+
+-- a first `.`, joined with pieces that count, has that `.` and their values
+pub values-join_with_byte_dot : (ps : List (List ℕ)) → AllByRecursion NoSlash ps → AllCount ps
+    → values (join_with_byte slash (cur_dir ∷ ps)) ≡ CurDir ∷ map value_of_piece ps
+values-join_with_byte_dot ps h k =
+    values-rootless (join_with_byte slash (cur_dir ∷ ps)) (cur_dir ∷ ps) (dot_rootless ps)
+    (slice_split-join_with_byte cur_dir ps ((refl, (tt)), h))
+    ∙ ap (λ vs. CurDir ∷ vs) (names_of-counts ps k)
+
+-- what the spelling keeps of a rootless path's pieces has the path's values
+values-lean_pieces : (ps : List (List ℕ)) → AllByRecursion NoSlash ps
+    → values (join_with_byte slash (lean_pieces ps)) ≡ cond (dot_first ps)
+    (CurDir ∷ []) [] ++ names_of ps
+values-lean_pieces [] h = values-rootless [] ([] ∷ []) refl refl
+values-lean_pieces (p ∷ qs) h = by (bytes_eq p cur_dir) refl
+  where
+    by : (c : Bool) → bytes_eq p cur_dir ≡ c
+        → values (join_with_byte slash (lean_pieces (p ∷ qs))) ≡ cond (bytes_eq p cur_dir)
+        (CurDir ∷ []) [] ++ names_of (p ∷ qs)
+    by true d = rw ((bytes_eq-Decides p cur_dir).0 d)
+        (values-join_with_byte_dot (filter counts qs) (filter-no_slash qs h.1) (filter-counts qs))
+    by false d = subst (λ c. values
+        (join_with_byte slash (cond c (cur_dir ∷ filter counts qs) (filter counts (p ∷ qs))))
+        ≡ cond c (CurDir ∷ []) [] ++ names_of (p ∷ qs)) (sym d)
+        (values-join_with_byte (filter counts (p ∷ qs)) (filter-no_slash (p ∷ qs) h)
+        (filter-counts (p ∷ qs)))
+
+-- the spelling of a path's values has these values
+pub values-spelling_of : (s : List ℕ) → values (spelling_of (values s)) ≡ values s
+values-spelling_of s = by_test (is_rooted s)
+    (λ r. let t = is_rooted-slash s r in
+    subst (λ s. values (spelling_of (values s)) ≡ values s) (sym t.1)
+    (values-spelling_rooted t.0))
+    (λ r. ap values (spelling_of-rootless s (slice_split is_slash s) r refl)
+    ∙ values-lean_pieces (slice_split is_slash s) (slice_split-no_slash s)
+    ∙ sym (values-rootless s (slice_split is_slash s) r refl))
+
+-- equal spellings come from equal values
+pub spelling_of-same : (s t : List ℕ) → spelling_of (values s) ≡ spelling_of (values t)
+    → values s ≡ values t
+spelling_of-same s t e = sym (values-spelling_of s) ∙ ap values e ∙ values-spelling_of t

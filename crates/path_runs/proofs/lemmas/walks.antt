@@ -1,0 +1,6 @@
+-- Walks: their turns, and runs of their calls.
+pub mod WalkLemmas
+-- Of this crate alone.
+pub mod WalkStepLemmas
+pub mod InOrderLemmas
+pub mod MixedLemmas

@@ -1,0 +1,3 @@
+-- The children of a base.
+pub mod ChildLemmas
+pub mod ChildWalkLemmas

@@ -1,0 +1,85 @@
+-- A key with another base's bytes in the place of those that begin it.
+use Rattle.std.proofs.Common.{◌≡◌, ◌∙◌, ◌<◌, ℕ, Bool, true, false, List, [], ◌∷◌, ◌++◌, ap, arith}
+use Rattle.std.proofs.Common.{drop, length, refl, subst, sym}
+use Rattle.std.proofs.lemmas.List.{drop_at}
+use Rattle.unix_path.specs.Parts.{Value, RootDir, CurDir, ParentDir, Normal}
+use Rattle.unix_path.specs.Prefixes.{Begins}
+use Rattle.path_keys.specs.Codes.{AllFit, Fits}
+use Rattle.path_keys.specs.Keys.{key_of}
+use Rattle.path_keys.proofs.lemmas.values.KeyLemmas.{key_of-append, key_of-nil}
+use Rattle.path_tree.specs.Read.{is_own, key_values}
+use Rattle.path_tree.proofs.lemmas.keys.ChildKeyLemmas.{fit-own, key_of-own, own-fit}
+use Rattle.path_tree.proofs.lemmas.keys.ReadLemmas.{key_values-key_of}
+use Rattle.path_tree.proofs.lemmas.keys.UnderLemmas.{values_begin}
+
+-- what may stand behind a first value may stand at any place
+fits_anywhere : (first : Bool) (v : Value) → Fits false v → Fits first v
+fits_anywhere first RootDir h = absurd (let e = h in cc)
+fits_anywhere first CurDir h = absurd (let e = h in cc)
+fits_anywhere first ParentDir h = tt
+fits_anywhere first (Normal name) h = h
+
+all_fit_anywhere : (first : Bool) (vs : List Value) → AllFit false vs → AllFit first vs
+all_fit_anywhere first [] h = tt
+all_fit_anywhere first (v ∷ vs) h = (fits_anywhere first v h.0, h.1)
+
+fit-append : (first : Bool) (us ws : List Value) → AllFit first us → AllFit false ws
+    → AllFit first (us ++ ws)
+fit-append first [] ws h k = all_fit_anywhere first ws k
+fit-append first (u ∷ us) ws h k = (h.0, fit-append false us ws h.1 k)
+
+-- what stands behind some first values may stand behind a first
+fit-behind : (first : Bool) (v : Value) (us ws : List Value) → AllFit first (v ∷ (us ++ ws))
+    → AllFit false ws
+fit-behind first v [] ws h = h.1
+fit-behind first v (u ∷ us) ws h = fit-behind false u us ws h.1
+
+module _ (key from to : List ℕ) (own : is_own key ≡ true) (from_own : is_own from ≡ true)
+    (to_own : is_own to ≡ true) (some : 0 < length from) (begins : Begins from key) where
+  -- what follows the base's values in the key's
+  pub record Follows : Type 0 where
+    pub ws : List Value
+    pub is : key_values from ++ ws ≡ key_values key
+    pub fit : AllFit false ws
+
+  follows-by : (fs ws : List Value) → key_values from ≡ fs → fs ++ ws ≡ key_values key
+      → AllFit false ws
+  follows-by [] ws none is =
+      let empty = ap length (key_of-own from from_own ∙ ap key_of none ∙ key_of-nil) in
+      absurd (omega (arith, empty))
+  follows-by (f ∷ fs) ws same is =
+      fit-behind true f fs ws (subst (AllFit true) (sym is) (fit-own key own))
+
+  pub follows : Follows
+  follows =
+      let under = values_begin from key from_own own begins in
+      record {
+        ws = under.0;
+        is = under.1;
+        fit = follows-by (key_values from) under.0 refl under.1;
+      }
+
+  rest_is : drop (length from) key ≡ key_of follows.ws
+  rest_is = ap (drop (length from)) (key_of-own key own ∙ ap key_of (sym follows.is)
+      ∙ key_of-append (key_values from) follows.ws
+      ∙ ap (λ k. k ++ key_of follows.ws) (sym (key_of-own from from_own)))
+      ∙ drop_at from (key_of follows.ws) (length from) refl
+
+  new_is : to ++ drop (length from) key ≡ key_of (key_values to ++ follows.ws)
+  new_is = ap (λ k. to ++ k) rest_is
+      ∙ ap (λ k. k ++ key_of follows.ws) (key_of-own to to_own)
+      ∙ sym (key_of-append (key_values to) follows.ws)
+
+  new_fit : AllFit true (key_values to ++ follows.ws)
+  new_fit = fit-append true (key_values to) follows.ws (fit-own to to_own) follows.fit
+
+  pub moved_own : is_own (to ++ drop (length from) key) ≡ true
+  moved_own = ap is_own new_is ∙ own-fit (key_values to ++ follows.ws) new_fit
+
+  pub moved_values : key_values (to ++ drop (length from) key)
+      ≡ key_values to ++ drop (length (key_values from)) (key_values key)
+  moved_values =
+      ap key_values new_is ∙ key_values-key_of true (key_values to ++ follows.ws) new_fit
+      ∙ ap (λ vs. key_values to ++ vs)
+      (sym (ap (drop (length (key_values from))) (sym follows.is)
+      ∙ drop_at (key_values from) follows.ws (length (key_values from)) refl))

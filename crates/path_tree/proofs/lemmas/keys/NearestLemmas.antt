@@ -1,0 +1,137 @@
+-- The nearest entry is found by going up: the keys of a path's ancestors begin its key.
+use Rattle.std.proofs.Common.{◌≡◌, ◌≤◌, ℕ, ◌+◌, ◌-◌, List, [], ◌∷◌, ◌++◌, length, take}
+use Rattle.std.proofs.Common.{Option, Some, None, IsSome, refl, sym, ap, ◌∙◌, subst, arith}
+use Rattle.std.proofs.Common.{append_assoc, append-nil, length-append, length-take-le}
+use Rattle.std.proofs.Common.{take_all, take_at, take-take, true, true≢false}
+use Rattle.std.proofs.lemmas.List.{nil_from_length}
+use Rattle.unix_path.specs.Parts.{Value, values}
+use Rattle.unix_path.specs.Prefixes.{Begins, stripped_of}
+use Rattle.path_runs.specs.Spelling.{spelling_of}
+use Rattle.path_runs.proofs.lemmas.spelling.ReadBackLemmas.{values-spelling_of}
+use Rattle.path_table.specs.Table.{value_at}
+use Rattle.path_keys.specs.Keys.{code, key_of}
+use Rattle.path_keys.proofs.lemmas.values.KeyLemmas.{key_of-append, key_of-cons, key_of-nil}
+use Rattle.path_tree.specs.Nearest.{IsNearest}
+use Rattle.path_tree.specs.Read.{is_own, key_values}
+use Rattle.path_tree.proofs.lemmas.keys.ReadLemmas.{own-is}
+
+-- a path's key is the key of the values that it stands for
+pub key-is : (key s : List ℕ) → is_own key ≡ true → key_values key ≡ values s
+    → key ≡ key_of (values s)
+key-is key s own is =
+    sym (own-is key own) ∙ ap (λ v. key_of (values (spelling_of v))) is
+    ∙ ap key_of (values-spelling_of s)
+
+-- lists of one length that begin a list are the same
+same_prefix : {A : Type 0} (u v w : List A) → Begins u w → Begins v w → length u ≡ length v
+    → u ≡ v
+same_prefix u v w begins other long =
+    sym (take_at u begins.0 (length u) refl)
+    ∙ ap (take (length u)) (begins.1 ∙ sym other.1)
+    ∙ take_at v other.0 (length u) (sym long)
+
+-- what has nothing has no value
+none_some : {A : Type 0} (x : Option A) → x ≡ None → IsSome x → ⊥
+none_some x none some = true≢false (sym (subst IsSome none some))
+
+-- if it isn't something it is nothing
+is_none : {A : Type 0} (x : Option A) → (IsSome x → ⊥) → x ≡ None
+is_none None h = refl
+is_none (Some a) h = absurd (h refl)
+
+module _ {V : Type 0} (s key : List ℕ) (rows : List (List Value × V)) where
+  -- what is left of the path s begins it, has the first `end` bytes of the key as its key, and no
+  -- longer beginning of s has a row
+  pub record GoesUp (end : ℕ) (left : List ℕ) : Type 0 where
+    pub begins : Begins (values left) (values s)
+    pub in_range : end ≤ length key
+    pub key_is : take end key ≡ key_of (values left)
+    pub longest : (v : List Value) → IsSome (value_at v rows) → Begins v (values s)
+        → length v ≤ length (values left)
+
+  -- at first all of it is left
+  pub goes_up : (end : ℕ) (left : List ℕ) → is_own key ≡ true → key_values key ≡ values s
+      → end ≡ length key → values left ≡ values s → GoesUp end left
+  goes_up end left own is all same = record {
+    begins = ([], append-nil (values left) ∙ same);
+    in_range = omega (arith, all);
+    key_is = ap (λ n. take n key) all ∙ take_all (length key) key (omega arith)
+        ∙ key-is key s own is ∙ ap key_of (sym same);
+    longest = λ v some begins. omega (
+      arith,
+      ap length same,
+      ap length begins.1,
+      length-append v begins.0,
+    );
+  }
+
+  -- the key of what is left ends in the code of its last part
+  key_cut : (end : ℕ) (left new : List ℕ) (v : Value) → GoesUp end left
+      → values left ≡ values new ++ v ∷ [] → take end key ≡ key_of (values new) ++ code v
+  key_cut end left new v h is =
+      h.key_is ∙ ap key_of is ∙ key_of-append (values new) (v ∷ [])
+      ∙ ap (λ k. key_of (values new) ++ k)
+      (key_of-cons v [] ∙ ap (λ k. code v ++ k) key_of-nil ∙ append-nil (code v))
+
+  key_long : (end : ℕ) (left new : List ℕ) (v : Value) → GoesUp end left
+      → values left ≡ values new ++ v ∷ [] → end ≡ length (key_of (values new)) + length (code v)
+  key_long end left new v h is =
+      sym (length-take-le end key h.in_range) ∙ ap length (key_cut end left new v h is)
+      ∙ length-append (key_of (values new)) (code v)
+
+  pub code_fits : (end : ℕ) (left new : List ℕ) (v : Value) → GoesUp end left
+      → values left ≡ values new ++ v ∷ [] → length (code v) ≤ end
+  code_fits end left new v h is = omega (arith, key_long end left new v h is)
+
+  -- where what is left has no row, its last part is taken off, and that part's code off the key
+  pub goes_on : (end : ℕ) (left new : List ℕ) (v : Value) → GoesUp end left
+      → value_at (values left) rows ≡ None → values left ≡ values new ++ v ∷ []
+      → GoesUp (end - length (code v)) new
+  goes_on end left new v h none is =
+      let cut = key_cut end left new v h is in
+      let long : end - length (code v) ≡ length (key_of (values new)) =
+      omega (arith, key_long end left new v h is) in
+      let shorter : length (values left) ≡ length (values new) + 1 =
+      ap length is ∙ length-append (values new) (v ∷ []) in
+      record {
+        begins = (
+          v ∷ h.begins.0,
+          sym (append_assoc (values new) (v ∷ []) h.begins.0)
+              ∙ ap (λ u. u ++ h.begins.0) (sym is) ∙ h.begins.1,
+        );
+        in_range = omega (arith, h.in_range);
+        key_is = sym (take-take (end - length (code v)) end key (omega arith))
+            ∙ ap (take (end - length (code v))) cut
+            ∙ take_at (key_of (values new)) (code v) (end - length (code v)) (sym long);
+        longest = λ u some begins. omega (
+          arith,
+          shorter,
+          h.longest u some begins,
+          λ (same : length u ≡ length (values left)).
+              none_some (value_at u rows)
+              (ap (λ w. value_at w rows)
+              (same_prefix u (values left) (values s) begins h.begins same) ∙ none)
+              some,
+        );
+      }
+
+  -- a row at what is left is the nearest
+  pub is_nearest : (end : ℕ) (left rest : List ℕ) (x : V) → GoesUp end left
+      → Some x ≡ value_at (values left) rows → rest ≡ stripped_of s left
+      → IsNearest s rows rest x
+  is_nearest end left rest x h found is = record {
+    base = values left;
+    value_is = sym found;
+    longest = (h.begins, h.longest);
+    rest_is = is;
+  }
+
+  -- without one at the empty path there is none
+  pub none_nearer : (end : ℕ) (left : List ℕ) → GoesUp end left
+      → value_at (values left) rows ≡ None → values left ≡ []
+      → (v : List Value) → Begins v (values s) → value_at v rows ≡ None
+  none_nearer end left h none empty v begins =
+      is_none (value_at v rows) (λ some.
+      let long : length v ≡ 0 = omega (arith, h.longest v some begins, ap length empty) in
+      none_some (value_at v rows)
+      (ap (λ w. value_at w rows) (nil_from_length v long ∙ sym empty) ∙ none) some)

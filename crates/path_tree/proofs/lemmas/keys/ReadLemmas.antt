@@ -1,0 +1,114 @@
+-- A key stands for the values of each path that has it.
+use Rattle.std.proofs.Common.{◌≡◌, ℕ, Bool, true, false, List, [], ◌∷◌, ◌++◌, map, Some}
+use Rattle.std.proofs.Common.{refl, sym, ap, ap₂, ◌∙◌, subst, append_assoc, append-nil, arith}
+use Rattle.std.proofs.lemmas.Bool.Decides.{nat_tests}
+use Rattle.std.proofs.lemmas.Slice.Eq.{bytes_eq-Decides}
+use Rattle.std.proofs.Math.Logic.{∥∥₁_elim}
+use Rattle.std.proofs.Props.{props}
+use Rattle.unix_path.specs.Order.{values_cmp}
+use Rattle.unix_path.specs.Parts.{Value, RootDir, CurDir, ParentDir, Normal, is_slash, values}
+use Rattle.path_runs.specs.Spelling.{spelling_of}
+use Rattle.path_runs.proofs.lemmas.spelling.PieceValueLemmas.{NoSlash}
+use Rattle.path_runs.proofs.lemmas.spelling.ReadBackLemmas.{values-spelling_of}
+use Rattle.path_keys.specs.Codes.{lowered, Fits, AllFit}
+use Rattle.path_keys.specs.Keys.{code, key_of, raised, IsKey}
+use Rattle.path_keys.specs.Ranges.{bytes_cmp}
+use Rattle.path_keys.proofs.lemmas.values.CodeLemmas.{values-coded}
+use Rattle.path_keys.proofs.lemmas.reading.FitLemmas.{values-fit}
+use Rattle.path_keys.proofs.lemmas.values.KeyLemmas.{key_of-nil, key_of-cons}
+use Rattle.path_keys.proofs.lemmas.values.LoweredLemmas.{raised-no_zero, lowered-raised}
+use Rattle.path_keys.proofs.lemmas.values.OrderLemmas.{bytes_cmp-keys}
+use Rattle.path_tree.specs.Read.{is_own, key_values, values_from}
+
+-- behind the first bytes of a name the rest of the name is read, up to its end mark
+values_from-name : (n : List ℕ) (a : ℕ) (name key : List ℕ) → NoSlash n
+    → values_from (Some (a ∷ name)) ((map raised n ++ 0 ∷ []) ++ key)
+    ≡ Normal (a ∷ (name ++ n)) ∷ values_from (Some []) key
+unfolding values_from
+values_from-name [] a name key h =
+    ap (λ p. Normal (a ∷ p) ∷ values_from (Some []) key) (sym (append-nil name))
+values_from-name (b ∷ n) a name key h =
+    rw (raised-no_zero b h.0, lowered-raised b h.0)
+    (values_from-name n a (name ++ b ∷ []) key h.1
+    ∙ ap (λ p. Normal (a ∷ p) ∷ values_from (Some []) key) (append_assoc name (b ∷ []) n))
+
+-- a code is read as its value
+values_from-code : (first : Bool) (v : Value) → Fits first v → (key : List ℕ)
+    → values_from (Some []) (code v ++ key) ≡ v ∷ values_from (Some []) key
+unfolding values_from
+values_from-code first RootDir h key = refl
+values_from-code first CurDir h key = refl
+values_from-code first ParentDir h key = refl
+values_from-code first (Normal []) h key = absurd (let e = h.some in cc)
+values_from-code first (Normal (b ∷ n)) h key =
+    rw (raised-no_zero b h.no_slash.0, lowered-raised b h.no_slash.0)
+    (values_from-name n b [] key h.no_slash.1)
+
+-- the key of values that may be a path's stands for these
+pub key_values-key_of : (first : Bool) (vs : List Value) → AllFit first vs
+    → key_values (key_of vs) ≡ vs
+unfolding values_from
+key_values-key_of first [] h = ap key_values key_of-nil
+key_values-key_of first (v ∷ vs) h =
+    ap key_values (key_of-cons v vs) ∙ values_from-code first v h.0 (key_of vs)
+    ∙ ap (λ us. v ∷ us) (key_values-key_of false vs h.1)
+
+-- the key of a path stands for its values
+pub key_values-values : (s : List ℕ) → key_values (key_of (values s)) ≡ values s
+key_values-values s = key_values-key_of true (values s) (values-fit s)
+
+-- the key of a path is that of the path that spells its values
+pub own-key_of : (s : List ℕ) → is_own (key_of (values s)) ≡ true
+own-key_of s =
+    let key = key_of (values s) in
+    (bytes_eq-Decides (key_of (values (spelling_of (key_values key)))) key).1
+    (ap (λ vs. key_of (values (spelling_of vs))) (key_values-values s)
+    ∙ ap key_of (values-spelling_of s))
+
+-- bytes that are a key are that of a path with the values that they stand for
+pub own-is : (key : List ℕ) → is_own key ≡ true
+    → key_of (values (spelling_of (key_values key))) ≡ key
+own-is key own = (bytes_eq-Decides (key_of (values (spelling_of (key_values key)))) key).0 own
+
+pub own-values : (key : List ℕ) → is_own key ≡ true
+    → values (spelling_of (key_values key)) ≡ key_values key
+own-values key own =
+    sym (key_values-values (spelling_of (key_values key))) ∙ ap key_values (own-is key own)
+
+-- keys are in the order of the values that they stand for
+pub bytes_cmp-own : (k l : List ℕ) → is_own k ≡ true → is_own l ≡ true
+    → bytes_cmp k l ≡ values_cmp (key_values k) (key_values l)
+bytes_cmp-own k l own other =
+    let s = spelling_of (key_values k) in
+    let t = spelling_of (key_values l) in
+    ap₂ bytes_cmp (sym (own-is k own)) (sym (own-is l other))
+    ∙ bytes_cmp-keys (values s) (values t) (values-coded s) (values-coded t)
+    ∙ ap₂ values_cmp (own-values k own) (own-values l other)
+
+-- the bytes are a path's key, and stand for the values v
+pub record StandsFor (key : List ℕ) (v : List Value) : Type 0 where
+  pub own : is_own key ≡ true
+  pub is : key_values key ≡ v
+
+-- a path's key stands for its values
+pub own-stands : (key : List ℕ) → is_own key ≡ true → StandsFor key (key_values key)
+own-stands key own = record { own = own; is = refl }
+
+-- such a key is in the order of its values
+pub bytes_cmp-stands : (key : List ℕ) (v : List Value) → StandsFor key v → (l : List ℕ)
+    → is_own l ≡ true → bytes_cmp key l ≡ values_cmp v (key_values l)
+bytes_cmp-stands key v h l other =
+    bytes_cmp-own key l h.own other ∙ ap (λ w. values_cmp w (key_values l)) h.is
+
+-- a key that is kept is a path's
+pub own-IsKey : (key held : List ℕ) → key ≡ held → ∥ IsKey held ∥₁ → is_own key ≡ true
+own-IsKey key held same is = ap is_own same
+    ∙ ∥∥₁_elim is (hlevel props) (λ h. subst (λ k. is_own k ≡ true) h.1 (own-key_of h.0))
+
+-- the key of a path is a path's
+pub own-of : (key s : List ℕ) → key ≡ key_of (values s) → is_own key ≡ true
+own-of key s is = ap is_own is ∙ own-key_of s
+
+-- and stands for the path's values
+pub values-of : (key s : List ℕ) → key ≡ key_of (values s) → key_values key ≡ values s
+values-of key s is = ap key_values is ∙ key_values-values s

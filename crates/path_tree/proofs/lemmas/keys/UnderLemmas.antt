@@ -1,0 +1,156 @@
+-- The entries whose keys lie in the range of a base's key are those under the base.
+use Rattle.std.proofs.Common.{◌≡◌, ◌∙◌, ◌&&◌, ℕ, Bool, true, false, cond, List, [], ◌∷◌}
+use Rattle.std.proofs.Common.{Some, None, Ordering, Less, Equal, Greater, IfSome}
+use Rattle.std.proofs.Common.{ap, append-nil, not, refl, sym, subst, subst₂, is_gt, is_le, arith}
+use Rattle.std.specs.Cmp.{both_ways}
+use Rattle.std.specs.Cmp.Lexicographic.{nat_list_cmp_total}
+use Rattle.std.specs.List.{AllByRecursion, filter}
+use Rattle.std.specs.List.Sorted.{IsStrictlySortedBy}
+use Rattle.std.specs.Map.{keys_of}
+use Rattle.std.specs.Ordering.{ordering_reverse}
+use Rattle.unix_path.specs.Order.{values_cmp}
+use Rattle.unix_path.specs.Parts.{Value}
+use Rattle.unix_path.specs.Prefixes.{Begins}
+use Rattle.path_runs.specs.Spelling.{spelling_of}
+use Rattle.path_table.specs.Table.{is_under}
+use Rattle.path_table.proofs.BeginLemmas.{begins_from_under, under_from_begins}
+use Rattle.path_keys.specs.Ranges.{bytes_cmp, end_of, LiesUnder}
+use Rattle.path_keys.proofs.lemmas.values.CodeLemmas.{values-coded}
+use Rattle.path_keys.proofs.lemmas.values.OrderLemmas.{key_of-begins, begins-key_of}
+use Rattle.path_keys.proofs.lemmas.values.RangeLemmas.{begins-lies_under, end_of-some}
+use Rattle.path_tree.specs.Read.{is_own, key_values, values_from}
+use Rattle.path_tree.proofs.lemmas.keys.ReadLemmas.{bytes_cmp-own, own-is, own-values}
+use Rattle.path_tree.proofs.lemmas.keys.RowLemmas.{AllOwn, Own, all_own, keys_cmp, rows_by}
+
+-- a key begins another exactly if its values begin the other's
+module _ (k l : List ℕ) (own : is_own k ≡ true) (other : is_own l ≡ true) where
+  pub key_begins : Begins (key_values k) (key_values l) → Begins k l
+  key_begins begins =
+      subst₂ Begins (own-is k own) (own-is l other)
+      (begins-key_of _ _
+      (subst₂ Begins (sym (own-values k own)) (sym (own-values l other)) begins))
+
+  pub values_begin : Begins k l → Begins (key_values k) (key_values l)
+  values_begin begins =
+      let s = spelling_of (key_values k) in
+      let t = spelling_of (key_values l) in
+      let both = subst₂ Begins (sym (own-is k own)) (sym (own-is l other)) begins in
+      subst₂ Begins (own-values k own) (own-values l other)
+      (key_of-begins _ _ (values-coded s) (values-coded t) both.0 both.1)
+
+less_not_le : (o : Ordering) (p : Ordering) → o ≡ ordering_reverse p
+    → p ≡ Less → not (is_le o) ≡ true
+less_not_le o p is less = ap (λ o. not (is_le o)) (is ∙ ap ordering_reverse less)
+
+less_from_not_le : (p : Ordering) → not (is_le (ordering_reverse p)) ≡ true → p ≡ Less
+less_from_not_le Less h = refl
+less_from_not_le Equal h = absurd (let e = h in cc)
+less_from_not_le Greater h = absurd (let e = h in cc)
+
+both_true : (p q : Bool) → p ≡ true → q ≡ true → (p && q) ≡ true
+both_true true true h k = refl
+both_true true false h k = k
+both_true false q h k = h
+
+first_true : (p q : Bool) → (p && q) ≡ true → p ≡ true
+first_true true q h = refl
+first_true false q h = h
+
+second_true : (p q : Bool) → (p && q) ≡ true → q ≡ true
+second_true true true h = refl
+second_true true false h = h
+second_true false q h = absurd (let e = h in cc)
+
+-- a key lies between the base's and the end of its range exactly if its values begin with those
+-- of the base
+pub between-under : (base end l : List ℕ) → end_of base ≡ Some end → is_own base ≡ true
+    → is_own l ≡ true
+    → (is_le (bytes_cmp base l) && not (is_le (bytes_cmp end l)))
+    ≡ is_under (key_values base) (key_values l)
+between-under base end l ends own other =
+    let from = is_le (bytes_cmp base l) in
+    let before = not (is_le (bytes_cmp end l)) in
+    both_ways (from && before) (is_under (key_values base) (key_values l))
+    (λ both.
+    let less = less_from_not_le (bytes_cmp l end)
+    (ap (λ o. not (is_le o)) (sym (nat_list_cmp_total.antisymm end l))
+    ∙ second_true from before both) in
+    let lies : LiesUnder base l = (
+      first_true from before both,
+      subst (λ o. IfSome o (λ end. bytes_cmp l end ≡ Less)) (sym ends) less,
+    ) in
+    under_from_begins (key_values base) (key_values l)
+    (values_begin base l own other ((begins-lies_under base l).1 lies)))
+    (λ under.
+    let lies = (begins-lies_under base l).0
+    (key_begins base l own other (begins_from_under (key_values base) (key_values l) under)) in
+    both_true from before lies.0
+    (less_not_le (bytes_cmp end l) (bytes_cmp l end) (nat_list_cmp_total.antisymm end l)
+    (subst (λ o. IfSome o (λ end. bytes_cmp l end ≡ Less)) ends lies.1)))
+
+-- a key whose range has no end has no bytes
+pub endless : (key : List ℕ) → end_of key ≡ None → key ≡ []
+endless [] is = refl
+endless (b ∷ bs) is = absurd (let e = sym is ∙ end_of-some (b ∷ bs) (omega arith) in cc)
+
+-- all values are under those of the empty key
+pub all-under : (base : List ℕ) → base ≡ [] → (v : List Value)
+    → true ≡ is_under (key_values base) v
+unfolding values_from
+all-under base none v =
+    sym (ap (λ k. is_under (key_values k) v) none ∙ under_from_begins [] v (v, refl))
+
+module _ {K V : Type 0} (bytes_of : K → List ℕ) (test : K → Bool) (keep : List Value → Bool)
+    (is : (k : K) → is_own (bytes_of k) ≡ true → test k ≡ keep (key_values (bytes_of k))) where
+  filter-all_own : (entries : List (K × V)) → AllOwn bytes_of entries
+      → rows_by bytes_of (filter (λ e. test e.0) entries)
+      ≡ filter (λ row. keep row.0) (rows_by bytes_of entries)
+  filter-all_own [] all = refl
+  filter-all_own (e ∷ entries) all =
+      let row : List Value × V = (key_values (bytes_of e.0), e.1) in
+      let kept = filter (λ (e : K × V). test e.0) entries in
+      let rows = filter (λ row. keep row.0) (rows_by bytes_of entries) in
+      ap (λ b. rows_by bytes_of (cond b (e ∷ kept) kept)) (is e.0 all.0)
+      ∙ elim (keep row.0) as (λ b.
+      rows_by bytes_of (cond b (e ∷ kept) kept) ≡ cond b (row ∷ rows) rows) [
+        | true ↦ ap (λ rows. row ∷ rows) (filter-all_own entries all.1)
+        | false ↦ filter-all_own entries all.1
+      ]
+
+  -- the entries whose keys pass a test of their values are the rows that pass it
+  pub filter-rows_by : (entries : List (K × V)) → Own bytes_of entries
+      → rows_by bytes_of (filter (λ e. test e.0) entries)
+      ≡ filter (λ row. keep row.0) (rows_by bytes_of entries)
+  filter-rows_by entries all = filter-all_own entries (all_own bytes_of entries all)
+
+module _ {K V : Type 0} (bytes_of : K → List ℕ) where
+  behind-all_own : (k : K) (entries : List (K × V)) → is_own (bytes_of k) ≡ true
+      → AllOwn bytes_of entries
+      → AllByRecursion (λ l. keys_cmp bytes_of k l ≡ Less) (keys_of entries)
+      → AllByRecursion (λ w. values_cmp (key_values (bytes_of k)) w ≡ Less)
+      (keys_of (rows_by bytes_of entries))
+  behind-all_own k [] own all behind = tt
+  behind-all_own k (e ∷ entries) own all behind = (
+    sym (bytes_cmp-own (bytes_of k) (bytes_of e.0) own all.0) ∙ behind.0,
+    behind-all_own k entries own all.1 behind.1,
+  )
+
+  sorted-all_own : (entries : List (K × V)) → AllOwn bytes_of entries
+      → IsStrictlySortedBy (keys_cmp bytes_of) (keys_of entries)
+      → IsStrictlySortedBy values_cmp (keys_of (rows_by bytes_of entries))
+  unfolding IsStrictlySortedBy
+  sorted-all_own [] all sorted = tt
+  sorted-all_own (e ∷ entries) all sorted =
+      (behind-all_own e.0 entries all.0 all.1 sorted.0, sorted-all_own entries all.1 sorted.1)
+
+  -- if the keys ascend, so do the rows
+  pub sorted-rows_by : (entries : List (K × V)) → Own bytes_of entries
+      → IsStrictlySortedBy (keys_cmp bytes_of) (keys_of entries)
+      → IsStrictlySortedBy values_cmp (keys_of (rows_by bytes_of entries))
+  sorted-rows_by entries all = sorted-all_own entries (all_own bytes_of entries all)
+
+-- a key is not greater than the end of its range
+pub forward : (base end : List ℕ) → end_of base ≡ Some end → is_gt (bytes_cmp base end) ≡ false
+forward base end ends =
+    let lies = (begins-lies_under base base).0 ([], append-nil base) in
+    ap is_gt (subst (λ o. IfSome o (λ end. bytes_cmp base end ≡ Less)) ends lies.1)

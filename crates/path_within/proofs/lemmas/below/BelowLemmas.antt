@@ -1,0 +1,181 @@
+-- A root and the names of a path, joined.
+use Rattle.std.proofs.Common.{◌≡◌, ℕ, ◌+◌, ◌≤◌, ◌<◌, true, false, List, [], ◌∷◌, ◌++◌, length, map}
+use Rattle.std.proofs.Common.{refl, sym, ap, subst, ◌∙◌, arith, append_assoc, append-nil}
+use Rattle.std.proofs.Common.{length-append}
+use Rattle.std.specs.List.{AllByRecursion, list_any}
+use Rattle.unix_path.specs.Joins.{join_of, join_all_of}
+use Rattle.unix_path.specs.Parts.{Value, RootDir, Normal, is_rooted, slash, value_bytes, values}
+use Rattle.unix_path.specs.Prefixes.{Begins, stripped_of}
+use Rattle.path_runs.specs.Spelling.{slashed_bytes, spelling_of}
+use Rattle.path_runs.proofs.lemmas.joins.AssociativeLemmas.{separator}
+use Rattle.path_runs.proofs.lemmas.spelling.JoinAllLemmas.{join_all_of-some, plain_bytes}
+use Rattle.path_runs.proofs.lemmas.spelling.PlainLemmas.{IsPlainValue, Shape, Rooted, Rootless}
+use Rattle.path_runs.proofs.lemmas.spelling.PlainLemmas.{values-shape}
+use Rattle.path_runs.proofs.lemmas.joins.SiblingLemmas.{values-join_of_one}
+use Rattle.path_runs.proofs.lemmas.spelling.SpellLemmas.{spelling_of-cons, spelling_of-nil}
+use Rattle.path_runs.proofs.lemmas.joins.StripLemmas.{values-stripped_of}
+use Rattle.path_within.specs.Below.{below_of, has_nul, names_below, IsBelow}
+use Rattle.path_within.specs.Climbs.{has_root_or_up}
+use Rattle.path_within.specs.PlainPieces.{is_plain}
+use Rattle.path_within.specs.Resolved.{AreNames, resolved_bytes_of}
+use Rattle.path_within.specs.Steps.{AllOne}
+use Rattle.path_within.specs.Written.{opened, AreSpelled}
+use Rattle.path_within.proofs.lemmas.below.BoundLemmas.{slashed_bytes-names}
+use Rattle.path_within.proofs.lemmas.below.NamesBelowLemmas.{AreNames-names_below}
+use Rattle.path_within.proofs.lemmas.below.NamesBelowLemmas.{names_below-names}
+use Rattle.path_within.proofs.lemmas.below.NamesBelowLemmas.{resolved_of-slash}
+use Rattle.path_within.proofs.lemmas.below.NulLemmas.{has_nul-values, no_nul-below, nul_in}
+use Rattle.path_within.proofs.lemmas.kept.PathOfLemmas.{AllOne-values}
+use Rattle.path_within.proofs.lemmas.plain.PlainLemmas.{plain_has_names}
+use Rattle.path_within.proofs.lemmas.kept.ResolveLemmas.{values-resolved}
+use Rattle.path_within.proofs.lemmas.plain.WholeLemmas.{names_down}
+
+-- with a slash in front, a path is resolved to bytes that have the root and the names
+abbrev rooted : List ℕ → List ℕ
+rooted b = resolved_bytes_of (slash ∷ b)
+
+values-rooted : (b : List ℕ) → values (rooted b) ≡ RootDir ∷ names_below (values b)
+values-rooted b = values-resolved (slash ∷ b) ∙ resolved_of-slash b
+
+-- the names are each spelled as a path of that name alone
+AllOne-names_below : (b : List ℕ) → AllOne (names_below (values b))
+AllOne-names_below b = (subst AllOne (values-rooted b) (AllOne-values (rooted b))).1
+
+-- a slash neither begins nor ends one of them
+plain_names : (b : List ℕ) → AllByRecursion IsPlainValue (names_below (values b))
+plain_names b = by (subst Shape (values-rooted b) (values-shape (rooted b)))
+  where
+    by : Shape (RootDir ∷ names_below (values b))
+        → AllByRecursion IsPlainValue (names_below (values b))
+    by (Rooted ws e h) =
+        let same : ws ≡ names_below (values b) = cc in subst (AllByRecursion IsPlainValue) same h
+    by (Rootless h) = absurd (h.0.no_root refl)
+
+-- without names the root is left
+pub below_of-nil : {vs : List Value} (root : List ℕ) → vs ≡ [] → below_of root vs ≡ root
+unfolding below_of
+below_of-nil root e = ap (λ vs. join_all_of root (map value_bytes vs)) e
+
+-- one name or more stand behind the opened root, with slashes between them
+below_of-some : (root b : List ℕ) (vs : List Value) → names_below (values b) ≡ vs
+    → 0 < length vs → below_of root (names_below (values b)) ≡ opened root ++ slashed_bytes vs
+unfolding below_of
+below_of-some root b [] e some = absurd (omega arith)
+below_of-some root b (v ∷ vs) e some =
+    ap (λ vs. join_all_of root (map value_bytes vs)) e
+    ∙ join_all_of-some root (value_bytes v) (map value_bytes vs)
+    (plain_bytes (v ∷ vs) (subst (AllByRecursion IsPlainValue) e (plain_names b)))
+
+-- names that are spelled stand behind the opened root
+pub below_of-spelled : {names : List ℕ} (root b : List ℕ)
+    → AreSpelled names (names_below (values b))
+    → opened root ++ names ≡ below_of root (names_below (values b))
+below_of-spelled root b h = ap (λ s. opened root ++ s) h.is
+    ∙ sym (below_of-some root b (names_below (values b)) refl h.some)
+
+-- ---- values
+
+values-names : (root : List ℕ) (vs : List Value) → AreNames vs → AllOne vs
+    → values (below_of root vs) ≡ values root ++ vs
+unfolding below_of
+values-names root [] h k = sym (append-nil (values root))
+values-names root (Normal name ∷ vs) h k =
+    values-names (join_of root name) vs h k.1
+    ∙ ap (λ ws. ws ++ vs) (values-join_of_one root name name k.0)
+    ∙ append_assoc (values root) (Normal name ∷ []) vs
+values-names root (v ∷ vs) h k = absurd h
+
+-- the root's values, and then the names
+pub values-below : (root b : List ℕ)
+    → values (below_of root (names_below (values b))) ≡ values root ++ names_below (values b)
+values-below root b = values-names root (names_below (values b))
+    (AreNames-names_below (values b)) (AllOne-names_below b)
+
+-- without the root the names are left
+pub values-stripped_below : (root b : List ℕ)
+    → values (stripped_of (below_of root (names_below (values b))) root) ≡ names_below (values b)
+values-stripped_below root b = values-stripped_of (below_of root (names_below (values b))) root
+    (names_below (values b)) (sym (values-below root b))
+
+-- a join with the names of a path without a NUL is below its root
+pub is_below : {s : List ℕ} (root b : List ℕ) → has_nul b ≡ false
+    → s ≡ below_of root (names_below (values b)) → IsBelow root s
+is_below {s} root b h e =
+    let vs = names_below (values b) in
+    let left = values-stripped_below root b in
+    subst (IsBelow root) (sym e) (record {
+      down = record {
+        begins = (vs, sym (values-below root b));
+        names = ap has_root_or_up left ∙ names_down vs (AreNames-names_below (values b));
+      };
+      no_nul = has_nul-values (stripped_of (below_of root vs) root) ∙ ap (list_any nul_in) left
+          ∙ no_nul-below (values b) (sym (has_nul-values b) ∙ h);
+    })
+
+-- ---- bytes
+
+-- behind the root's bytes stand the names and their slashes, which are no longer than b and a slash
+record Behind (root b : List ℕ) : Type 0 where
+  more : List ℕ
+  is : root ++ more ≡ below_of root (names_below (values b))
+  fits : length root + length more ≤ length (opened root) + length b
+
+behind : (root b : List ℕ) → Behind root b
+behind root b = by (names_below (values b)) refl
+  where
+    by : (vs : List Value) → names_below (values b) ≡ vs → Behind root b
+    by [] e = record {
+      more = [];
+      is = append-nil root ∙ sym (below_of-nil root e);
+      fits = omega (arith, length-append root (separator root));
+    }
+    by (v ∷ vs) e = record {
+      more = separator root ++ slashed_bytes (v ∷ vs);
+      is = sym (append_assoc root (separator root) (slashed_bytes (v ∷ vs)))
+          ∙ sym (below_of-some root b (v ∷ vs) e (omega arith));
+      fits = omega (
+        arith,
+        length-append (separator root) (slashed_bytes (v ∷ vs)),
+        length-append root (separator root),
+        ap (λ vs. length (slashed_bytes vs)) e,
+        slashed_bytes-names b,
+      );
+    }
+
+-- the root stands in front of a join with the names of a path
+pub begins : {s : List ℕ} (root b : List ℕ) → s ≡ below_of root (names_below (values b))
+    → Begins root s
+begins root b e = let h = behind root b in (h.more, h.is ∙ sym e)
+
+-- the join is no longer than the opened root and the path
+pub length-below : {s : List ℕ} (root b : List ℕ) → s ≡ opened root ++ b
+    → length (below_of root (names_below (values b))) ≤ length s
+length-below root b e = let h = behind root b in omega (
+  arith,
+  ap length h.is,
+  length-append root h.more,
+  ap length e,
+  length-append (opened root) b,
+)
+
+-- ---- a path that is its names as it is spelled
+
+-- names are spelled with slashes between them
+spelling_of-names : (vs : List Value) → AreNames vs → spelling_of vs ≡ slashed_bytes vs
+spelling_of-names [] h = spelling_of-nil
+spelling_of-names (v ∷ vs) h =
+    spelling_of-cons v vs (λ e. subst AreNames (ap (λ v. v ∷ vs) e) h)
+
+-- a plain path without a root is its names as they are spelled, and has some
+pub plain_spelled : (b : List ℕ) → is_plain b ≡ true → is_rooted b ≡ false
+    → AreSpelled b (names_below (values b))
+plain_spelled b plain r = record { some = by (names_below (values b)) same; is = same }
+  where
+    same : b ≡ slashed_bytes (names_below (values b))
+    same = let h = plain_has_names b plain r in
+        sym h.own ∙ spelling_of-names (values b) h.names
+        ∙ ap slashed_bytes (sym (names_below-names (values b) h.names))
+
+    by : (vs : List Value) → b ≡ slashed_bytes vs → 0 < length vs
+    by [] e = absurd ((plain_has_names b plain r).some e)
+    by (v ∷ vs) e = omega arith

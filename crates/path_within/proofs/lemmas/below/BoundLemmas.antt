@@ -1,0 +1,160 @@
+-- A resolved path has no more bytes than the path.
+use Rattle.std.proofs.Common.{◌≡◌, ℕ, ◌+◌, ◌-◌, ◌≤◌, false, List, [], ◌∷◌, length}
+use Rattle.std.proofs.Common.{reverse, refl, sym, ap, subst, ◌∙◌, arith, length-append}
+use Rattle.std.specs.List.{sum_by}
+use Rattle.std.proofs.lemmas.List.Sorted.{IsPermutation-reverse, sum_by-IsPermutation}
+use Rattle.std.proofs.lemmas.List.Sums.{sum_by-append, sum_by-cons}
+use Rattle.unix_path.specs.CommonDir.{inner_values}
+use Rattle.unix_path.specs.Joins.{is_open, join_of}
+use Rattle.unix_path.specs.Parts.{Value, RootDir, CurDir, ParentDir, Normal, slash}
+use Rattle.unix_path.specs.Parts.{is_rooted, value_bytes, values}
+use Rattle.unix_bytes.proofs.lemmas.lists.CaseLemmas.{by_test}
+use Rattle.unix_path.proofs.lemmas.edits.JoinLemmas.{join_of_rooted, length-join_of_open}
+use Rattle.unix_path.proofs.lemmas.edits.JoinLemmas.{length-join_of_closed}
+use Rattle.path_runs.specs.JoinLaws.{drop_dot}
+use Rattle.path_runs.specs.Spelling.{slashed_bytes, spelling_of}
+use Rattle.path_runs.proofs.lemmas.joins.LeadLemmas.{drop_dot-values}
+use Rattle.path_runs.proofs.lemmas.spelling.LeanLemmas.{slashed_bytes-lean}
+use Rattle.path_runs.proofs.lemmas.spelling.PieceValueLemmas.{is_rooted-slash}
+use Rattle.path_runs.proofs.lemmas.spelling.SpellLemmas.{spelling_of-root}
+use Rattle.path_within.specs.Below.{names_below}
+use Rattle.path_within.specs.Resolved.{keep, kept_of, resolved_of, resolved_bytes_of}
+use Rattle.path_within.specs.Written.{slashed_len}
+use Rattle.path_within.proofs.lemmas.below.NamesBelowLemmas.{names_kept, names_below-inner}
+use Rattle.path_within.proofs.lemmas.below.NamesBelowLemmas.{names_below-kept, resolved_of-slash}
+
+-- one more value adds no more than it has
+sum_by-keep : (f : Value → ℕ) (ks : List Value) (v : Value)
+    → sum_by f (keep ks v) ≤ sum_by f ks + f v
+sum_by-keep f ks RootDir = omega (arith, sum_by-cons f RootDir [])
+sum_by-keep f ks CurDir = omega arith
+sum_by-keep f ks (Normal name) = omega (arith, sum_by-cons f (Normal name) ks)
+sum_by-keep f [] ParentDir = omega (arith, sum_by-cons f ParentDir [])
+sum_by-keep f (RootDir ∷ ks) ParentDir = omega arith
+sum_by-keep f (Normal name ∷ ks) ParentDir = omega (arith, sum_by-cons f (Normal name) ks)
+sum_by-keep f (k ∷ ks) ParentDir = omega (arith, sum_by-cons f ParentDir (k ∷ ks))
+
+-- what is kept of values adds up to no more than they do
+sum_by-kept_of : (f : Value → ℕ) (ks vs : List Value)
+    → sum_by f (kept_of ks vs) ≤ sum_by f ks + sum_by f vs
+sum_by-kept_of f ks [] = omega arith
+sum_by-kept_of f ks (v ∷ vs) = omega (
+  arith,
+  sum_by-kept_of f (keep ks v) vs,
+  sum_by-keep f ks v,
+  sum_by-cons f v vs,
+)
+
+sum_by-reverse : (f : Value → ℕ) (vs : List Value) → sum_by f (reverse vs) ≡ sum_by f vs
+sum_by-reverse f vs = sum_by-IsPermutation f vs (reverse vs) (IsPermutation-reverse vs)
+
+-- nor do the names that are left
+pub sum_by-names_below : (f : Value → ℕ) (vs : List Value)
+    → sum_by f (names_below vs) ≤ sum_by f vs
+sum_by-names_below f vs =
+    let found = names_kept vs in
+    omega (
+      arith,
+      ap (sum_by f) (names_below-kept vs found.0 found.2),
+      sum_by-reverse f found.0,
+      ap (sum_by f) found.2,
+      sum_by-append f found.0 (RootDir ∷ []),
+      sum_by-kept_of f (RootDir ∷ []) vs,
+    )
+
+-- the values and their slashes, counted from the first on
+pub slashed_len-cons : (v : Value) (vs : List Value)
+    → slashed_len (v ∷ vs) ≡ (1 + length (value_bytes v)) + slashed_len vs
+slashed_len-cons v vs = sum_by-cons (λ v. 1 + length (value_bytes v)) v vs
+
+-- values have a byte less, if there are some, with slashes only between them
+pub length-slashed_bytes : (vs : List Value) → length (slashed_bytes vs) ≡ slashed_len vs - 1
+length-slashed_bytes [] = refl
+length-slashed_bytes (v ∷ []) = omega (arith, slashed_len-cons v [])
+length-slashed_bytes (v ∷ w ∷ vs) = omega (
+  arith,
+  slashed_len-cons v (w ∷ vs),
+  slashed_len-cons w vs,
+  length-slashed_bytes (w ∷ vs),
+  length-append (value_bytes v) (slash ∷ slashed_bytes (w ∷ vs)),
+)
+
+-- a path and a slash have room for its inner values and a slash for each
+slashed_len-inner : (s : List ℕ) → slashed_len (inner_values s) ≤ 1 + length s
+slashed_len-inner s =
+    omega (arith, length-slashed_bytes (inner_values s), slashed_bytes-lean s)
+
+-- and so they have for its names
+pub slashed_len-names : (s : List ℕ) → slashed_len (names_below (values s)) ≤ 1 + length s
+slashed_len-names s = omega (
+  arith,
+  ap slashed_len (names_below-inner s),
+  sum_by-names_below (λ v. 1 + length (value_bytes v)) (inner_values s),
+  slashed_len-inner s,
+)
+
+-- and without a slash in front it has room for its names with slashes between them
+pub slashed_bytes-names : (s : List ℕ) → length (slashed_bytes (names_below (values s))) ≤ length s
+slashed_bytes-names s =
+    omega (arith, length-slashed_bytes (names_below (values s)), slashed_len-names s)
+
+-- values, spelled, have one byte less than with a slash for each
+spelling_of-fit : (vs : List Value) (n : ℕ) → slashed_len vs ≤ 1 + n → length (spelling_of vs) ≤ n
+unfolding spelling_of
+spelling_of-fit [] n l = omega arith
+spelling_of-fit (RootDir ∷ []) n l = omega (arith, slashed_len-cons RootDir [])
+spelling_of-fit (RootDir ∷ v ∷ vs) n l =
+    omega (arith, slashed_len-cons RootDir (v ∷ vs), length-slashed_bytes (v ∷ vs))
+spelling_of-fit (v ∷ vs) n l = omega (arith, length-slashed_bytes (v ∷ vs))
+
+-- so they have no more bytes than with a slash for each
+pub length-spelling : (vs : List Value) → length (spelling_of vs) ≤ slashed_len vs - 1
+length-spelling vs = spelling_of-fit vs (slashed_len vs - 1) (omega arith)
+
+-- a leading dot is dropped
+kept_of-drop_dot : (vs : List Value) → kept_of [] (drop_dot vs) ≡ kept_of [] vs
+kept_of-drop_dot (CurDir ∷ vs) = refl
+kept_of-drop_dot vs = refl
+
+-- a path without a root and a slash have room for its resolved values and a slash for each
+pub slashed_len-rootless : (s : List ℕ) → is_rooted s ≡ false
+    → slashed_len (resolved_of (values s)) ≤ 1 + length s
+unfolding resolved_of
+slashed_len-rootless s r = omega (
+  arith,
+  sum_by-reverse (λ v. 1 + length (value_bytes v)) (kept_of [] (values s)),
+  ap slashed_len (ap (kept_of []) (sym (drop_dot-values s r)) ∙ kept_of-drop_dot (values s)),
+  sum_by-kept_of (λ v. 1 + length (value_bytes v)) [] (inner_values s),
+  slashed_len-inner s,
+)
+
+-- a resolved path has no more bytes than the path
+pub length-resolved : (s : List ℕ) → length (resolved_bytes_of s) ≤ length s
+unfolding resolved_of
+length-resolved s = by_test (is_rooted s)
+    (λ r. let t = is_rooted-slash s r in
+    subst (λ s. length (resolved_bytes_of s) ≤ length s) (sym t.1) (rooted t.0))
+    rootless
+  where
+    rootless : is_rooted s ≡ false → length (resolved_bytes_of s) ≤ length s
+    rootless r = spelling_of-fit (resolved_of (values s)) (length s) (slashed_len-rootless s r)
+
+    rooted : (t : List ℕ) → length (resolved_bytes_of (slash ∷ t)) ≤ length (slash ∷ t)
+    rooted t = omega (
+      arith,
+      ap (λ vs. length (spelling_of vs)) (resolved_of-slash t),
+      ap length (spelling_of-root (names_below (values t))),
+      slashed_bytes-names t,
+    )
+
+-- a join has one byte more than both at most
+pub length-join_of : (a b : List ℕ) → length (join_of a b) ≤ length a + 1 + length b
+length-join_of a b = by_test (is_rooted b)
+    (λ r. omega (arith, ap length (join_of_rooted a b r)))
+    (λ r. by_test (is_open a) (λ o. omega (arith, length-join_of_open a b r o))
+    (λ o. omega (arith, length-join_of_closed a b r o)))
+
+-- a join, resolved, has one byte more than both at most
+pub length-resolved_join : (a b : List ℕ)
+    → length (resolved_bytes_of (join_of a b)) ≤ length a + 1 + length b
+length-resolved_join a b = omega (arith, length-resolved (join_of a b), length-join_of a b)

@@ -1,0 +1,151 @@
+-- The names that are left of values that are resolved behind a root.
+use Rattle.std.proofs.Common.{◌≡◌, ℕ, suc, ◌+◌, Bool, false, not, ltb, List, [], ◌∷◌}
+use Rattle.std.proofs.Common.{◌++◌, length, drop, reverse}
+use Rattle.std.proofs.Common.{refl, sym, ap, subst, ◌∙◌, arith, rules, tests, eqb-true}
+use Rattle.std.specs.List.{list_any, position_or_len}
+use Rattle.std.proofs.lemmas.Bool.Decides.{nat_tests}
+use Rattle.std.proofs.lemmas.List.{reverse-append, reverse-reverse}
+use Rattle.unix_path.specs.CommonDir.{inner_values}
+use Rattle.unix_path.specs.Parts.{Value, RootDir, CurDir, ParentDir, Normal, is_slash, slash}
+use Rattle.unix_path.specs.Parts.{is_rooted, values}
+use Rattle.unix_bytes.proofs.lemmas.lists.CaseLemmas.{by_test}
+use Rattle.path_runs.specs.JoinLaws.{drop_dot, drop_lead}
+use Rattle.unix_path.proofs.lemmas.parts.PartLemmas.{root_first, root_first-values}
+use Rattle.path_runs.proofs.lemmas.joins.LeadLemmas.{drop_lead-values, inner-behind, inner-no_lead}
+use Rattle.path_runs.proofs.lemmas.spelling.PieceValueLemmas.{inner_values-pieces, values-rooted}
+use Rattle.path_within.specs.Resolved.{AreNames, kept_of, resolved_of}
+use Rattle.path_within.specs.Below.{names_below, has_nul, behind_slashes}
+use Rattle.path_within.specs.Climbs.{Climbs}
+use Rattle.path_within.specs.Written.{StandsFor}
+use Rattle.path_within.proofs.lemmas.kept.ClimbLemmas.{stays_within}
+use Rattle.path_within.proofs.lemmas.kept.KeepLemmas.{names_reverse}
+use Rattle.path_within.proofs.lemmas.kept.WayLemmas.{kept_of-names}
+
+-- names, the last first, and the root before them
+abbrev pub behind_root : List Value → List Value
+behind_root ns = ns ++ RootDir ∷ []
+
+-- kept behind a root and names, values leave the root and names
+kept_below : (ks vs : List Value) → AreNames ks
+    → (ns : List Value) × AreNames ns × (kept_of (behind_root ks) vs ≡ behind_root ns)
+kept_below ks [] h = (ks, h, refl)
+kept_below ks (RootDir ∷ vs) h = kept_below [] vs tt
+kept_below ks (CurDir ∷ vs) h = kept_below ks vs h
+kept_below ks (Normal name ∷ vs) h = kept_below (Normal name ∷ ks) vs h
+kept_below [] (ParentDir ∷ vs) h = kept_below [] vs tt
+kept_below (Normal name ∷ ks) (ParentDir ∷ vs) h = kept_below ks vs h
+kept_below (k ∷ ks) (ParentDir ∷ vs) h = absurd h
+
+pub names_kept : (vs : List Value)
+    → (ns : List Value) × AreNames ns × (kept_of (RootDir ∷ []) vs ≡ behind_root ns)
+names_kept vs = kept_below [] vs tt
+
+-- the names are those that are kept, in the order of the path
+pub names_below-kept : (vs ns : List Value) → kept_of (RootDir ∷ []) vs ≡ behind_root ns
+    → names_below vs ≡ reverse ns
+unfolding names_below resolved_of
+names_below-kept vs ns e =
+    ap (λ ks. drop 1 (reverse ks)) e ∙ ap (drop 1) (reverse-append ns (RootDir ∷ []))
+
+-- values behind a root resolve to the root and the names
+resolved_of-below : (vs : List Value) → resolved_of (RootDir ∷ vs) ≡ RootDir ∷ names_below vs
+unfolding resolved_of
+resolved_of-below vs =
+    let found = names_kept vs in
+    ap reverse found.2 ∙ reverse-append found.0 (RootDir ∷ [])
+    ∙ ap (λ ns. RootDir ∷ ns) (sym (names_below-kept vs found.0 found.2))
+
+-- they are names
+pub AreNames-names_below : (vs : List Value) → AreNames (names_below vs)
+AreNames-names_below vs =
+    let found = names_kept vs in
+    rw (names_below-kept vs found.0 found.2) (names_reverse found.0 found.1)
+
+-- names are what is left of them
+pub names_below-names : (vs : List Value) → AreNames vs → names_below vs ≡ vs
+names_below-names vs h = names_below-kept vs (reverse vs) (kept_of-names (RootDir ∷ []) vs h)
+    ∙ reverse-reverse vs
+
+-- of a path that doesn't climb they are what it resolves to
+pub names_below-resolved : (b : List ℕ) → (Climbs (values b) → ⊥)
+    → names_below (values b) ≡ resolved_of (values b)
+unfolding resolved_of
+names_below-resolved b h =
+    names_below-kept (values b) (kept_of [] (values b)) (stays_within (RootDir ∷ []) b h).kept
+
+-- a leading root or dot changes none of them
+names_below-drop_lead : (vs : List Value) → names_below (drop_lead vs) ≡ names_below vs
+unfolding names_below resolved_of
+names_below-drop_lead (RootDir ∷ vs) = refl
+names_below-drop_lead vs = refl
+
+-- a leading dot changes none of them
+pub names_below-drop_dot : (vs : List Value) → names_below (drop_dot vs) ≡ names_below vs
+unfolding names_below resolved_of
+names_below-drop_dot (CurDir ∷ vs) = refl
+names_below-drop_dot vs = refl
+
+-- they are those of the values behind a leading root or dot
+pub names_below-inner : (s : List ℕ) → names_below (inner_values s) ≡ names_below (values s)
+names_below-inner s =
+    ap names_below (sym (drop_lead-values s)) ∙ names_below-drop_lead (values s)
+
+values-slash : (t : List ℕ) → values (slash ∷ t) ≡ RootDir ∷ inner_values t
+values-slash t = values-rooted t ∙ ap (λ vs. RootDir ∷ vs) (sym (inner_values-pieces t))
+
+-- a slash in front changes none of them
+pub names_below-slash : (t : List ℕ) → names_below (values (slash ∷ t)) ≡ names_below (values t)
+unfolding names_below resolved_of
+names_below-slash t = ap names_below (values-slash t) ∙ names_below-inner t
+
+-- with a slash in front, a path resolves to the root and the names
+pub resolved_of-slash : (t : List ℕ)
+    → resolved_of (values (slash ∷ t)) ≡ RootDir ∷ names_below (values t)
+resolved_of-slash t =
+    ap resolved_of (values-slash t) ∙ resolved_of-below (inner_values t)
+    ∙ ap (λ vs. RootDir ∷ vs) (names_below-inner t)
+
+-- the bytes behind the leading slashes stand for the path, and have no NUL if the path has none
+pub behind_slashes-stands : (s : List ℕ)
+    → StandsFor (behind_slashes s) s × (has_nul s ≡ false → has_nul (behind_slashes s) ≡ false)
+behind_slashes-stands [] = (record { rootless = refl; names = refl }, λ h. h)
+behind_slashes-stands (x ∷ s) = by_test (is_slash x)
+    (λ e. subst (λ x. StandsFor (behind_slashes (x ∷ s)) (x ∷ s)
+    × (has_nul (x ∷ s) ≡ false → has_nul (behind_slashes (x ∷ s)) ≡ false)) (sym (eqb-true x 47 e))
+    (subst (λ t. StandsFor t (slash ∷ s) × (has_nul s ≡ false → has_nul t ≡ false)) (sym one_less)
+    (let more = behind_slashes-stands s in (
+      record { rootless = more.0.rootless; names = more.0.names ∙ sym (names_below-slash s) },
+      more.1,
+    ))))
+    (λ e. rw e (record { rootless = e; names = refl }, λ h. h))
+  where
+    one_less : behind_slashes (slash ∷ s) ≡ behind_slashes s
+    one_less = ap (λ k. drop k (slash ∷ s))
+        {y = suc (position_or_len (λ b. not (is_slash b)) s)} (omega arith)
+
+-- a path with the values of one without a root stands for it
+pub same_values-stands : {t s : List ℕ} → is_rooted s ≡ false → values t ≡ values s → StandsFor t s
+same_values-stands {t} {s} r e = record {
+  rootless = sym (root_first-values t) ∙ ap root_first e ∙ root_first-values s ∙ r;
+  names = ap names_below e;
+}
+
+-- and so does one without the dot in front
+pub dotted-stands : {t s : List ℕ} → values s ≡ CurDir ∷ values t → StandsFor t s
+unfolding names_below resolved_of
+dotted-stands {t} {s} e = record {
+  rootless = sym (root_first-values t)
+      ∙ (inner-no_lead (values t) (inner-behind s CurDir (values t) e)).no_root;
+  names = ap names_below (sym e);
+}
+
+-- a byte passes exactly if the first place that passes is before the end
+pub list_any-place : (p : ℕ → Bool) (s : List ℕ)
+    → ltb (position_or_len p s) (length s) ≡ list_any p s
+list_any-place p [] = refl
+list_any-place p (x ∷ s) = by_test (p x)
+    (λ e. rw e (search (rules, tests)))
+    (λ e. rw e (ltb-suc (position_or_len p s) (length s) ∙ list_any-place p s))
+  where
+    ltb-suc : (m n : ℕ) → ltb (1 + m) (suc n) ≡ ltb m n
+    ltb-suc m n = grind (arith, nat_tests)

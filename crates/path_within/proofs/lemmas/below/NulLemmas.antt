@@ -1,0 +1,79 @@
+-- A NUL stands in a path exactly if one stands in a name of the path.
+use Rattle.std.proofs.Common.{◌≡◌, ℕ, ◌<◌, ◌≤◌, Bool, true, false, cond, eqb, ltb, ◌||◌, List, []}
+use Rattle.std.proofs.Common.{◌∷◌, refl, sym, ap, ap₂, ◌∙◌, arith}
+use Rattle.std.specs.List.{count_by, join_with_byte, list_any, slice_split}
+use Rattle.std.specs.Str.{bytes_eq}
+use Rattle.std.proofs.lemmas.Bool.{lt-ltb}
+use Rattle.std.proofs.lemmas.Bool.Decides.{nat_tests}
+use Rattle.std.proofs.lemmas.List.Folds.{list_any-append}
+use Rattle.std.proofs.lemmas.List.Sums.{sum_by-cons}
+use Rattle.std.proofs.lemmas.Slice.Eq.{bytes_eq-Decides}
+use Rattle.unix_path.specs.Parts.{Value, RootDir, is_slash, cur_dir, counts, slash, value_bytes}
+use Rattle.unix_path.specs.Parts.{values}
+use Rattle.unix_bytes.proofs.lemmas.lists.CaseLemmas.{by_test}
+use Rattle.unix_path.proofs.lemmas.parts.ValueLemmas.{value_bytes-piece}
+use Rattle.path_runs.specs.JoinLaws.{drop_lead}
+use Rattle.path_runs.proofs.lemmas.joins.LeadLemmas.{drop_lead-values}
+use Rattle.path_runs.proofs.lemmas.spelling.LeanLemmas.{join_with_byte-pieces}
+use Rattle.path_runs.proofs.lemmas.spelling.PieceValueLemmas.{inner_values-pieces, names_of}
+use Rattle.path_within.specs.Below.{has_nul, names_below}
+use Rattle.path_within.proofs.lemmas.below.BoundLemmas.{sum_by-names_below}
+
+-- a value's bytes have a NUL
+abbrev pub nul_in : Value → Bool
+nul_in v = has_nul (value_bytes v)
+
+-- a NUL stands in a piece
+nul_pieces : (ps : List (List ℕ)) → has_nul (join_with_byte slash ps) ≡ list_any has_nul ps
+nul_pieces [] = refl
+nul_pieces (p ∷ []) = by_test (has_nul p) (λ e. rw e refl) (λ e. rw e refl)
+nul_pieces (p ∷ q ∷ ps) =
+    list_any-append (λ b. eqb b 0) p (slash ∷ join_with_byte slash (q ∷ ps))
+    ∙ ap (λ b. has_nul p || b) (nul_pieces (q ∷ ps))
+
+-- a piece that doesn't count has no NUL
+no_nul_idle : (p : List ℕ) → counts p ≡ false → has_nul p ≡ false
+no_nul_idle p h = by_test (bytes_eq p [])
+    (λ e. ap has_nul ((bytes_eq-Decides p []).0 e))
+    (λ e. by_test (bytes_eq p cur_dir)
+    (λ f. ap has_nul ((bytes_eq-Decides p cur_dir).0 f))
+    (λ f. absurd (let no : true ≡ false = rw (e, f) at h in cc)))
+
+-- a NUL stands in the value of a piece that counts
+nul_names : (ps : List (List ℕ)) → list_any has_nul ps ≡ list_any nul_in (names_of ps)
+nul_names [] = refl
+nul_names (p ∷ ps) = by_test (counts p)
+    (λ e. rw e (ap₂ ◌||◌ (ap has_nul (sym (value_bytes-piece p))) (nul_names ps)))
+    (λ e. rw (e, no_nul_idle p e) (nul_names ps))
+
+-- neither the root nor a dot has a NUL
+nul_lead : (vs : List Value) → list_any nul_in (drop_lead vs) ≡ list_any nul_in vs
+nul_lead (RootDir ∷ vs) = refl
+nul_lead vs = refl
+
+-- a NUL stands in one of a path's values
+pub has_nul-values : (s : List ℕ) → has_nul s ≡ list_any nul_in (values s)
+has_nul-values s =
+    let ps = slice_split is_slash s in
+    ap has_nul (sym (join_with_byte-pieces s)) ∙ nul_pieces ps ∙ nul_names ps
+    ∙ ap (list_any nul_in) (sym (drop_lead-values s ∙ inner_values-pieces s))
+    ∙ nul_lead (values s)
+
+-- some value passes exactly if more than none do
+list_any-count : (p : Value → Bool) (vs : List Value) → list_any p vs ≡ ltb 0 (count_by p vs)
+list_any-count p [] = refl
+list_any-count p (v ∷ vs) =
+    let more = sum_by-cons (λ v. cond (p v) 1 0) v vs in
+    by_test (p v)
+    (λ e. ap (λ b. b || list_any p vs) e ∙ sym (lt-ltb 0 (count_by p (v ∷ vs))
+    (let one : 0 < cond (p v) 1 0 = rw e (omega arith) in omega (arith, more, one))))
+    (λ e. ap (λ b. b || list_any p vs) e ∙ list_any-count p vs ∙ ap (ltb 0)
+    (let none : cond (p v) 1 0 ≤ 0 = rw e (omega arith) in omega (arith, more, none)))
+
+-- without a NUL in values there is none in the names that are left of them
+pub no_nul-below : (vs : List Value) → list_any nul_in vs ≡ false
+    → list_any nul_in (names_below vs) ≡ false
+no_nul-below vs h =
+    let fewer = sum_by-names_below (λ v. cond (nul_in v) 1 0) vs in
+    let none : ltb 0 (count_by nul_in vs) ≡ false = sym (list_any-count nul_in vs) ∙ h in
+    list_any-count nul_in (names_below vs) ∙ grind (arith, nat_tests)

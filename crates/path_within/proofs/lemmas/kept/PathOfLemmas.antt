@@ -1,0 +1,125 @@
+-- The values that are kept, spelled: each joined to those before it.
+use Rattle.std.proofs.Common.{◌≡◌, ℕ, false, cond, List, [], ◌∷◌, ◌++◌, map}
+use Rattle.std.proofs.Common.{reverse, refl, sym, ap, ◌∙◌}
+use Rattle.std.specs.List.{slice_split}
+use Rattle.std.proofs.lemmas.Grind.{reverse_onto}
+use Rattle.std.proofs.lemmas.List.{map-append}
+use Rattle.std.proofs.lemmas.List.Elements.{All-from_recursion}
+use Rattle.std.proofs.lemmas.List.Splits.{slice_split_none}
+use Rattle.unix_path.specs.CommonDir.{inner_values}
+use Rattle.unix_path.specs.Joins.{join_of, join_all_of}
+use Rattle.unix_path.specs.Parts.{is_slash, dot, is_rooted, value_of_piece}
+use Rattle.unix_path.specs.Parts.{Value, RootDir, CurDir, ParentDir, Normal, value_bytes, values}
+use Rattle.unix_path.proofs.lemmas.edits.JoinLemmas.{join_of_rooted}
+use Rattle.unix_path.proofs.lemmas.parts.PartLemmas.{root_first, root_first-values, values-nil}
+use Rattle.unix_path.proofs.lemmas.parts.ValueLemmas.{value_bytes-piece}
+use Rattle.path_runs.specs.JoinLaws.{drop_lead}
+use Rattle.path_runs.specs.Spelling.{spelling_of}
+use Rattle.path_runs.proofs.lemmas.joins.ExtendLemmas.{join_all_of-append}
+use Rattle.path_runs.proofs.lemmas.spelling.JoinAllLemmas.{join_all_of-values}
+use Rattle.path_runs.proofs.lemmas.joins.LeadLemmas.{IsInner, inner-no_lead, drop_lead-values}
+use Rattle.path_runs.proofs.lemmas.spelling.PieceValueLemmas.{HoldsOfPieces, names_of, NoSlash}
+use Rattle.path_runs.proofs.lemmas.spelling.PieceValueLemmas.{values-hold, values-rooted}
+use Rattle.path_runs.proofs.lemmas.spelling.PieceValueLemmas.{values-rootless}
+use Rattle.path_runs.proofs.lemmas.joins.ValueLemmas.{append_values, values-join_of_rootless}
+use Rattle.path_within.specs.Resolved.{up_from, keep, kept_of}
+use Rattle.path_within.specs.Steps.{AllOne, IsKept, IsOne, path_of}
+use Rattle.path_within.proofs.lemmas.kept.KeepLemmas.{IsKept-ups}
+
+pub IsOne-root : IsOne RootDir
+IsOne-root = values-rooted []
+
+IsOne-dot : IsOne CurDir
+IsOne-dot = values-rootless (dot ∷ []) ((dot ∷ []) ∷ []) refl refl
+
+pub IsOne-up : IsOne ParentDir
+IsOne-up = values-rootless (dot ∷ dot ∷ []) ((dot ∷ dot ∷ []) ∷ []) refl refl
+
+piece_rootless : (p : List ℕ) → NoSlash p → is_rooted p ≡ false
+piece_rootless [] h = refl
+piece_rootless (x ∷ p) h = h.0
+
+-- a piece that counts is spelled as a path of that piece alone
+IsOne-piece : HoldsOfPieces IsOne
+IsOne-piece p h e f =
+    let alone : slice_split is_slash p ≡ p ∷ [] =
+    slice_split_none is_slash p (All-from_recursion (λ b. is_slash b ≡ false) p h) in
+    let single : names_of (p ∷ []) ≡ value_of_piece p ∷ [] = rw (e, f) refl in
+    ap values (value_bytes-piece p) ∙ values-rootless p (p ∷ []) (piece_rootless p h) alone
+    ∙ ap (λ c. cond c (CurDir ∷ []) [] ++ names_of (p ∷ [])) f ∙ single
+
+-- each value of a path is spelled as a path of that value alone
+pub AllOne-values : (s : List ℕ) → AllOne (values s)
+AllOne-values s = values-hold IsOne IsOne-root IsOne-dot IsOne-piece s
+
+-- after one more `..`, each kept value is still spelled as a path of that value alone
+AllOne-up_from : (ks : List Value) → AllOne ks → AllOne (up_from ks)
+AllOne-up_from [] h = (IsOne-up, tt)
+AllOne-up_from (RootDir ∷ ks) h = h
+AllOne-up_from (CurDir ∷ ks) h = (IsOne-up, h)
+AllOne-up_from (ParentDir ∷ ks) h = (IsOne-up, h)
+AllOne-up_from (Normal name ∷ ks) h = h.1
+
+-- after one more value, each kept value is still spelled as a path of that value alone
+pub AllOne-keep : (ks : List Value) (v : Value) → AllOne ks → IsOne v → AllOne (keep ks v)
+AllOne-keep ks RootDir h k = (IsOne-root, tt)
+AllOne-keep ks CurDir h k = h
+AllOne-keep ks ParentDir h k = AllOne-up_from ks h
+AllOne-keep ks (Normal name) h k = (k, h)
+
+-- after more values, each kept value is still spelled as a path of that value alone
+pub AllOne-kept_of : (ks vs : List Value) → AllOne ks → AllOne vs → AllOne (kept_of ks vs)
+AllOne-kept_of ks [] h k = h
+AllOne-kept_of ks (v ∷ vs) h k = AllOne-kept_of (keep ks v) vs (AllOne-keep ks v h k.0) k.1
+
+-- bytes with one value, which is an inner value, add that value behind any others
+append_inner : (vs : List Value) (b : List ℕ) (v : Value) → values b ≡ v ∷ []
+    → inner_values b ≡ v ∷ [] → append_values vs b ≡ vs ++ v ∷ []
+append_inner [] b v e f = e
+append_inner (w ∷ vs) b v e f = ap (λ ws. w ∷ vs ++ ws) f
+
+-- a join with the bytes of an inner value adds that value
+values-join_of_value : (s : List ℕ) (v : Value) → IsInner v → IsOne v
+    → values (join_of s (value_bytes v)) ≡ values s ++ v ∷ []
+values-join_of_value s v i e =
+    let b = value_bytes v in
+    let inner = inner-no_lead (v ∷ []) (i, tt) in
+    let rootless : is_rooted b ≡ false =
+    sym (root_first-values b) ∙ ap root_first e ∙ inner.no_root in
+    values-join_of_rootless s b rootless
+    ∙ append_inner (values s) b v e (sym (drop_lead-values b) ∙ ap drop_lead e ∙ inner.no_lead)
+
+-- an inner value, joined to kept values, is read behind them
+push_value : (ks : List Value) (v : Value) → IsInner v → IsOne v
+    → values (path_of ks) ≡ reverse ks → values (path_of (v ∷ ks)) ≡ reverse (v ∷ ks)
+push_value ks v i e h = values-join_of_value (path_of ks) v i e
+    ∙ ap (λ vs. vs ++ v ∷ []) h ∙ sym (reverse_onto ks v [])
+
+-- kept values, joined one by one, are read back in the order of the path
+pub values-path_of : (ks : List Value) → IsKept ks → AllOne ks → values (path_of ks) ≡ reverse ks
+values-path_of [] h k = values-nil
+values-path_of (RootDir ∷ ks) h k =
+    rw h (ap values (join_of_rooted [] (value_bytes RootDir) refl) ∙ IsOne-root)
+values-path_of (CurDir ∷ ks) h k = absurd h
+values-path_of (ParentDir ∷ ks) h k =
+    push_value ks ParentDir tt k.0 (values-path_of ks (IsKept-ups ks h) k.1)
+values-path_of (Normal name ∷ ks) h k =
+    push_value ks (Normal name) tt k.0 (values-path_of ks h k.1)
+
+-- `path_of` joins the bytes of the kept values in the order of the path
+join_all_of-reverse : (ks : List Value)
+    → join_all_of [] (map value_bytes (reverse ks)) ≡ path_of ks
+join_all_of-reverse [] = refl
+join_all_of-reverse (v ∷ ks) =
+    ap (λ vs. join_all_of [] (map value_bytes vs)) (reverse_onto ks v [])
+    ∙ ap (join_all_of []) (map-append value_bytes (reverse ks) (v ∷ []))
+    ∙ join_all_of-append [] (map value_bytes (reverse ks)) (value_bytes v ∷ [])
+    ∙ ap (λ a. join_of a (value_bytes v)) (join_all_of-reverse ks)
+
+-- kept values, joined one by one, are their canonical spelling
+pub path_of-spelled : (ks : List Value) → IsKept ks → AllOne ks
+    → path_of ks ≡ spelling_of (reverse ks)
+path_of-spelled ks h k =
+    let all = values-path_of ks h k in
+    sym (join_all_of-reverse ks) ∙ ap (λ vs. join_all_of [] (map value_bytes vs)) (sym all)
+    ∙ join_all_of-values (path_of ks) ∙ ap spelling_of all

@@ -1,0 +1,171 @@
+-- What is spelled after one more `..`: a push of it, or a pop of the last name.
+use Rattle.std.proofs.Common.{◌≡◌, ℕ, ◌<◌, ◌≤◌, Bool, true, false, ltb, List, [], ◌∷◌, ◌++◌}
+use Rattle.std.proofs.Common.{length, reverse, refl, sym, ap, ap₂, ◌∙◌, ⊎_elim, arith}
+use Rattle.std.proofs.Common.{is_some, length-append, lt-ltb, unwrap_or}
+use Rattle.std.proofs.lemmas.Bool.{both_ways, le-ltb}
+use Rattle.unix_path.specs.Edits.{popped_of}
+use Rattle.unix_path.specs.Joins.{join_of}
+use Rattle.unix_path.specs.Names.{name_of}
+use Rattle.unix_path.specs.Parts.{Value, RootDir, CurDir, ParentDir, Normal, is_rooted}
+use Rattle.unix_path.specs.Parts.{parent_dir, values}
+use Rattle.unix_path.specs.Rest.{rest}
+use Rattle.unix_path.proofs.lemmas.names.ParentLemmas.{values-whole}
+use Rattle.unix_path.proofs.lemmas.parts.PartLemmas.{root_first, root_first-values, values-nil}
+use Rattle.unix_path.proofs.lemmas.names.StemLemmas.{length-rest_whole-le}
+use Rattle.path_runs.specs.Spelling.{spelling_of}
+use Rattle.path_runs.proofs.lemmas.joins.AssociativeLemmas.{join_of-separator, separator}
+use Rattle.path_runs.proofs.lemmas.spelling.LeanLemmas.{spelling_of-shortest}
+use Rattle.path_runs.proofs.lemmas.joins.SiblingLemmas.{parent_of-name, rest-join_of_one}
+use Rattle.path_runs.proofs.lemmas.joins.SiblingLemmas.{values-join_of_one}
+use Rattle.path_within.specs.Resolved.{AreNames, kept_of, up_from}
+use Rattle.path_within.specs.Steps.{below_names, AllOne, AreUps, IsKept, IsOne, path_of}
+use Rattle.path_within.specs.Steps.{Keeps, Spells}
+use Rattle.path_within.proofs.lemmas.kept.KeepLemmas.{ups_reverse}
+use Rattle.path_within.proofs.lemmas.kept.PathOfLemmas.{path_of-spelled, values-path_of, IsOne-up}
+
+-- the bytes of kept values have no filler behind their last part
+rest-path_of : (ks : List Value) → IsKept ks → AllOne ks → rest (path_of ks) 0 0 ≡ path_of ks
+rest-path_of ks h k =
+    let s = path_of ks in
+    let own : s ≡ spelling_of (values s) =
+    path_of-spelled ks h k ∙ ap spelling_of (sym (values-path_of ks h k)) in
+    ⊎_elim (λ same. same ∙ sym own)
+    (λ longer. absurd (omega (arith, longer, ap length own, length-rest_whole-le s)))
+    (spelling_of-shortest s (rest s 0 0) (values-whole s (rest s 0 0) refl))
+
+-- a pop after a name gives back what was kept before it
+popped_of-name : (ks : List Value) (name : List ℕ) → IsKept ks → AllOne ks → IsOne (Normal name)
+    → popped_of (path_of (Normal name ∷ ks)) ≡ path_of ks
+unfolding popped_of
+popped_of-name ks name h k e =
+    let s = path_of ks in
+    let t = join_of s name in
+    ap (λ o. unwrap_or o t) (parent_of-name t name (values s) (values-join_of_one s name name e))
+    ∙ rest-join_of_one s name name e ∙ rest-path_of ks h k
+
+-- the last of what is kept is a name
+abbrev pub ends_in_name : List Value → Bool
+ends_in_name [] = false
+ends_in_name (v ∷ ks) = is_some (name_of v)
+
+-- a join with a name is longer than what it is joined to
+join_longer : (x name : List ℕ) → IsOne (Normal name) → length x < length (join_of x name)
+join_longer x name one = omega (
+  arith,
+  ap length (join_of-separator x name (sym (root_first-values name) ∙ ap root_first one)),
+  length-append (x ++ separator x) name,
+  length-append x (separator x),
+  some name one,
+)
+  where
+    some : (name : List ℕ) → values name ≡ Normal name ∷ [] → 0 < length name
+    some [] e = absurd (let no : [] ≡ Normal [] ∷ [] = sym values-nil ∙ e in cc)
+    some (b ∷ name) e = omega arith
+
+-- what stands below the names is no longer than all, and shorter if a name is last
+below_shorter : (ks : List Value) → AllOne ks
+    → length (path_of (below_names ks)) ≤ length (path_of ks)
+below_shorter [] one = omega arith
+below_shorter (RootDir ∷ ks) one = omega arith
+below_shorter (CurDir ∷ ks) one = omega arith
+below_shorter (ParentDir ∷ ks) one = omega arith
+below_shorter (Normal name ∷ ks) one =
+    omega (arith, below_shorter ks one.1, join_longer (path_of ks) name one.0)
+
+-- kept bytes end in a name exactly if they are longer than the floor
+pub over_floor : {s : List ℕ} {floor : ℕ} {ks : List Value} → Keeps s floor ks
+    → ltb floor (length s) ≡ ends_in_name ks
+over_floor {s} {floor} {ks} h =
+    ap₂ ltb h.floor_is (ap length h.spells.is) ∙ by ks h.spells.one
+  where
+    by : (ks : List Value) → AllOne ks
+        → ltb (length (path_of (below_names ks))) (length (path_of ks)) ≡ ends_in_name ks
+    by [] one = refl
+    by (RootDir ∷ ks) one = le-ltb _ _ (omega arith)
+    by (CurDir ∷ ks) one = le-ltb _ _ (omega arith)
+    by (ParentDir ∷ ks) one = le-ltb _ _ (omega arith)
+    by (Normal name ∷ ks) one = lt-ltb _ _
+        (omega (arith, below_shorter ks one.1, join_longer (path_of ks) name one.0))
+
+-- what is kept below the names stays with more names
+pub below_more : (ks vs : List Value) → AreNames vs → below_names (kept_of ks vs) ≡ below_names ks
+below_more ks [] h = refl
+below_more ks (Normal name ∷ vs) h = below_more (Normal name ∷ ks) vs h
+below_more ks (RootDir ∷ vs) h = absurd h
+below_more ks (CurDir ∷ vs) h = absurd h
+below_more ks (ParentDir ∷ vs) h = absurd h
+
+-- kept bytes that end in a name keep, after a pop, what `..` leaves
+pub keeps_pop : {s t : List ℕ} {floor : ℕ} {ks : List Value} → Keeps s floor ks
+    → ends_in_name ks ≡ true → t ≡ popped_of s → Keeps t floor (up_from ks)
+keeps_pop {s} {t} {floor} {ks} h last e = by ks h.spells h.floor_is last
+  where
+    by : (ks : List Value) → Spells s ks → floor ≡ length (path_of (below_names ks))
+        → ends_in_name ks ≡ true → Keeps t floor (up_from ks)
+    by [] h f last = absurd (let no : false ≡ true = last in cc)
+    by (RootDir ∷ ks) h f last = absurd (let no : false ≡ true = last in cc)
+    by (CurDir ∷ ks) h f last = absurd (let no : false ≡ true = last in cc)
+    by (ParentDir ∷ ks) h f last = absurd (let no : false ≡ true = last in cc)
+    by (Normal name ∷ ks) h f last = record {
+      spells = record {
+        kept = h.kept;
+        one = h.one.1;
+        is = e ∙ ap popped_of h.is ∙ popped_of-name ks name h.kept h.one.1 h.one.0;
+      };
+      floor_is = f;
+    }
+
+-- values that are all `..` have no root in front
+ups-root_first : (vs : List Value) → AreUps vs → root_first vs ≡ false
+ups-root_first [] h = refl
+ups-root_first (ParentDir ∷ vs) h = refl
+ups-root_first (RootDir ∷ vs) h = absurd h
+ups-root_first (CurDir ∷ vs) h = absurd h
+ups-root_first (Normal name ∷ vs) h = absurd h
+
+-- the bytes of kept values are rooted exactly if the first of these is the root
+is_rooted-path_of : (ks : List Value) → IsKept ks → AllOne ks
+    → is_rooted (path_of ks) ≡ root_first (reverse ks)
+is_rooted-path_of ks h k =
+    sym (root_first-values (path_of ks)) ∙ ap root_first (values-path_of ks h k)
+
+-- kept values that are all `..` have no root in front
+root_first-ups : (ks : List Value) → AreUps ks → root_first (reverse ks) ≡ false
+root_first-ups ks h = ups-root_first (reverse ks) (ups_reverse ks h)
+
+-- rooted bytes without a name at the end keep the same after `..`
+pub keeps_root : {s : List ℕ} {floor : ℕ} {ks : List Value} → Keeps s floor ks
+    → ends_in_name ks ≡ false → is_rooted s ≡ true → Keeps s floor (up_from ks)
+keeps_root {s} {floor} {ks} h nameless rooted = by ks h nameless
+  where
+    by : (ks : List Value) → Keeps s floor ks → ends_in_name ks ≡ false
+        → Keeps s floor (up_from ks)
+    by [] h last = absurd (both_ways (is_rooted s) (ap is_rooted h.spells.is) rooted)
+    by (RootDir ∷ ks) h last = h
+    by (CurDir ∷ ks) h last = absurd h.spells.kept
+    by (ParentDir ∷ ks) h last = absurd (both_ways (is_rooted s) (ap is_rooted h.spells.is
+        ∙ is_rooted-path_of (ParentDir ∷ ks) h.spells.kept h.spells.one
+        ∙ root_first-ups (ParentDir ∷ ks) h.spells.kept) rooted)
+    by (Normal name ∷ ks) h last = absurd (let no : true ≡ false = last in cc)
+
+-- rootless bytes without a name at the end, joined with `..`, keep that `..`, all of it below names
+pub keeps_up : {s t : List ℕ} {ks : List Value} → Spells s ks → ends_in_name ks ≡ false
+    → is_rooted s ≡ false → t ≡ join_of s parent_dir → Keeps t (length t) (up_from ks)
+keeps_up {s} {t} {ks} h nameless rootless e = by ks h nameless
+  where
+    with_up : (ks : List Value) → Spells s ks → AreUps ks → Keeps t (length t) (ParentDir ∷ ks)
+    with_up ks h ups =
+        let is : t ≡ path_of (ParentDir ∷ ks) = e ∙ ap (λ s. join_of s parent_dir) h.is in
+        record {
+          spells = record { kept = ups; one = (IsOne-up, h.one); is = is };
+          floor_is = ap length is;
+        }
+
+    by : (ks : List Value) → Spells s ks → ends_in_name ks ≡ false → Keeps t (length t) (up_from ks)
+    by [] h last = with_up [] h tt
+    by (RootDir ∷ ks) h last = absurd (both_ways (is_rooted s) rootless (ap is_rooted h.is
+        ∙ is_rooted-path_of (RootDir ∷ ks) h.kept h.one
+        ∙ ap (λ ks. root_first (reverse (RootDir ∷ ks))) h.kept))
+    by (CurDir ∷ ks) h last = absurd h.kept
+    by (ParentDir ∷ ks) h last = with_up (ParentDir ∷ ks) h h.kept
+    by (Normal name ∷ ks) h last = absurd (let no : true ≡ false = last in cc)

@@ -1,0 +1,206 @@
+-- The runs of a string, from the left: what each of them is, and what is left behind it.
+use Rattle.std.proofs.Common.{◌≡◌, ℕ, zero, suc, ◌+◌, ◌<◌, ◌≤◌, true, false, eqb, ltb, cond}
+use Rattle.std.proofs.Common.{List, [], ◌∷◌, ◌++◌, length, take, drop, get_or, map, refl, sym, ap}
+use Rattle.std.proofs.Common.{◌∙◌, arith, eqb-true, take_all, take-append-drop, drop-cons}
+use Rattle.std.proofs.Common.{length-take-le, ne_eqb, ◌&&◌, ◌||◌}
+use Rattle.std.specs.List.{AllByRecursion, position_or_len, slice_split}
+use Rattle.std.proofs.Common.{Bool, not, subst, ap₂}
+use Rattle.std.proofs.lemmas.Bool.{ltb-true, ltb-false}
+use Rattle.std.proofs.lemmas.List.Elements.{All-from_recursion}
+use Rattle.std.proofs.lemmas.List.Splits.{slice_split_none}
+use Rattle.std.proofs.lemmas.List.Sums.{fails_before_first}
+use Rattle.std.proofs.lemmas.List.{append-nil, drop_all, get_or_default, get_or_past}
+use Rattle.unix_path.specs.CommonDir.{inner_values}
+use Rattle.unix_path.specs.Parts.{slash, is_slash, is_rooted, inner_parts, Part}
+use Rattle.unix_path.specs.Parts.{RootDir, values}
+use Rattle.unix_path.specs.Scan.{begins_with_parent, is_idle}
+use Rattle.unix_bytes.proofs.lemmas.lists.CaseLemmas.{by_test}
+use Rattle.unix_path.proofs.lemmas.order.CommonPrefixLemmas.{inner_values-nil, values-slash}
+use Rattle.unix_path.proofs.lemmas.filler.IdleLemmas.{idle_slash, inner_parts_idle_at, is_idle-drop}
+use Rattle.unix_path.proofs.lemmas.filler.IdleLemmas.{values-busy}
+use Rattle.unix_path.proofs.lemmas.steps.LeadLemmas.{busy_no_slash}
+use Rattle.unix_path.proofs.lemmas.parts.PieceLemmas.{position_or_len-other, position_or_len-slash}
+use Rattle.unix_path.proofs.lemmas.parts.PieceLemmas.{slice_split-first}
+use Rattle.unix_path.proofs.lemmas.parts.PlaceLemmas.{values-inner_parts}
+use Rattle.path_runs.proofs.lemmas.joins.LeadLemmas.{dot_first, lead_by, values-lead}
+use Rattle.path_runs.proofs.lemmas.spelling.PieceValueLemmas.{slice_split-no_slash, NoSlash}
+use Rattle.path_within.specs.PlainPieces.{begins_plain, goes_on_plain, has_plain_pieces, is_end}
+use Rattle.path_within.specs.Runs.{AreSpelledNames}
+use Rattle.path_within.proofs.lemmas.plain.PlainLemmas.{plain_has_names}
+use Rattle.path_within.proofs.lemmas.plain.PlainStretchLemmas.{begins_plain-scan, names_stretch}
+use Rattle.path_within.proofs.lemmas.plain.PlainStretchLemmas.{Stretch}
+
+-- an idle byte adds no value
+pub inner_values-idle : (s : List ℕ) (n : ℕ) → n < length s → is_idle s n ≡ true
+    → inner_values (drop n s) ≡ inner_values (drop (n + 1) s)
+inner_values-idle s n l idle = sym (values-inner_parts (0 + n) (drop n s))
+    ∙ ap (map (λ (p : Part). p.value)) (inner_parts_idle_at 0 s n l idle)
+    ∙ values-inner_parts (0 + (n + 1)) (drop (n + 1) s)
+
+-- nor does a slash, or the end
+pub inner_values-end : (s : List ℕ) (n : ℕ) → is_end s n ≡ true
+    → inner_values (drop n s) ≡ inner_values (drop (n + 1) s)
+inner_values-end s n e = by_test (ltb n (length s))
+    (λ t. let l = ltb-true n (length s) t in
+    inner_values-idle s n l (idle_slash s n (get_or_default s n 0 47 l ∙ eqb-true _ 47 e)))
+    (λ t. let l = ltb-false n (length s) t in
+    ap inner_values (drop_all n s l ∙ sym (drop_all (n + 1) s (omega arith))))
+
+-- a string whose length is 0 is empty
+pub no_byte : (s : List ℕ) → eqb (length s) 0 ≡ true → s ≡ []
+no_byte [] e = refl
+no_byte (b ∷ s) e = absurd (omega (arith, eqb-true (length (b ∷ s)) 0 e))
+
+-- a string whose length isn't 0 has a byte
+pub some_byte : (s : List ℕ) → eqb (length s) 0 ≡ false → 0 < length s
+some_byte [] e = absurd (let no : true ≡ false = e in cc)
+some_byte (b ∷ s) e = omega arith
+
+-- up to a slash or the end, and then behind it
+values-cut : (s : List ℕ) (n : ℕ) → 0 < n → n ≤ length s → is_end s n ≡ true
+    → values s ≡ values (take n s) ++ inner_values (drop (n + 1) s)
+values-cut s n some in_range e = by_test (ltb n (length s))
+    (λ t.
+    let l = ltb-true n (length s) t in
+    let here : get_or s n 0 ≡ slash = get_or_default s n 0 slash l ∙ eqb-true _ slash e in
+    let cons : drop n s ≡ slash ∷ drop (n + 1) s =
+    drop-cons s n 0 l ∙ ap (λ b. b ∷ drop (suc n) s) here
+    ∙ ap (λ k. slash ∷ drop k s) {x = suc n} {y = n + 1} (omega arith) in
+    ap values (sym (take-append-drop n s) ∙ ap (λ t. take n s ++ t) cons)
+    ∙ values-slash (take n s) (drop (n + 1) s) (omega (arith, length-take-le n s in_range)))
+    (λ t.
+    let l = ltb-false n (length s) t in
+    sym (ap (λ t. values (take n s) ++ inner_values t) (drop_all (n + 1) s (omega arith))
+    ∙ ap (λ vs. values (take n s) ++ vs) inner_values-nil ∙ append-nil (values (take n s))
+    ∙ ap values (take_all n s l)))
+
+-- a beginning of a string that begins with no slash has no root
+rootless_take : (s : List ℕ) (n : ℕ) → is_idle s 0 ≡ false → is_rooted (take n s) ≡ false
+rootless_take [] n busy = by_nothing n
+  where
+    by_nothing : (n : ℕ) → is_rooted (take n []) ≡ false
+    by_nothing zero = refl
+    by_nothing (suc n) = refl
+rootless_take (b ∷ s) zero busy = refl
+rootless_take (b ∷ s) (suc n) busy = busy_no_slash (b ∷ s) busy
+
+-- a rooted string has the root, and then its inner values
+pub values-root : (s : List ℕ) → is_rooted s ≡ true → values s ≡ RootDir ∷ inner_values s
+values-root s r = values-lead s
+    ∙ ap (λ c. lead_by c (dot_first (slice_split is_slash s)) ++ inner_values s) r
+
+-- what is left behind all filler begins with none
+pub busy_left : (s : List ℕ) (n : ℕ) → (n < length s → is_idle s n ≡ false)
+    → is_idle (drop n s) 0 ≡ false
+busy_left s n busy = is_idle-drop s n ∙ by_test (ltb n (length s))
+    (λ t. busy (ltb-true n (length s) t))
+    (λ t. ap (λ x. eqb x 47 || (eqb x 46 && eqb (get_or s (n + 1) 47) 47))
+    (get_or_past s n 0 (ltb-false n (length s) t)))
+
+-- behind all filler a string has its inner values
+pub values_left : (s : List ℕ) (n : ℕ) → (n < length s → is_idle s n ≡ false)
+    → inner_parts 0 s ≡ inner_parts (0 + n) (drop n s) → values (drop n s) ≡ inner_values s
+values_left s n busy idle = values-busy (drop n s) (busy_left s n busy)
+    ∙ sym (ap (map (λ (p : Part). p.value)) idle ∙ values-inner_parts (0 + n) (drop n s))
+
+-- plain bytes up to a slash or the end, taken as a path, have names, and behind them are the
+-- values of what is left
+pub record TakesNames (s names t : List ℕ) : Type 0 where
+  pub split : values s ≡ values names ++ values t
+  pub spelled : AreSpelledNames names
+
+pub takes_names : (s t names : List ℕ) (n : ℕ) → is_idle s 0 ≡ false → Stretch s n
+    → n ≤ length s → names ≡ take n s → values t ≡ inner_values (drop n s) → TakesNames s names t
+takes_names s t names n busy h l is left =
+    let rootless : is_rooted names ≡ false = ap is_rooted is ∙ rootless_take s n busy in
+    record {
+      split = values-cut s n h.some l h.ends
+          ∙ ap (λ vs. values (take n s) ++ vs) (sym (inner_values-end s n h.ends) ∙ sym left)
+          ∙ ap (λ names. values names ++ values t) (sym is);
+      spelled = record {
+        plain = ap (λ c. has_plain_pieces (cond c (drop 1 names) names)) rootless
+            ∙ ap has_plain_pieces is ∙ h.plain;
+        rootless = rootless;
+      };
+    }
+
+-- the first slash ends a piece, or else the string does
+is_end-first : (s : List ℕ) → is_end s (position_or_len is_slash s) ≡ true
+is_end-first [] = refl
+is_end-first (b ∷ s) = by_test (eqb b 47)
+    (λ e. ap (is_end (b ∷ s)) (position_or_len-slash b s e) ∙ e)
+    (λ e. let n = position_or_len is_slash s in
+    ap (is_end (b ∷ s)) {x = position_or_len is_slash (b ∷ s)} {y = suc n}
+    (omega (arith, position_or_len-other b s e)) ∙ is_end-first s)
+
+-- before the first slash a plain piece goes on
+pub first_goes_on : (s : List ℕ) (n : ℕ) → n ≡ position_or_len is_slash s
+    → (k : ℕ) → k < n → goes_on_plain s k ≡ true
+first_goes_on s n e k l =
+    let no = fails_before_first is_slash s k 0 (subst (λ n. k < n) e l) in rw no refl
+
+-- up to the first slash a plain piece stands
+pub first_stretch : (s : List ℕ) (n : ℕ) → begins_plain s 0 ≡ true
+    → n ≡ position_or_len is_slash s → Stretch s n
+first_stretch s n first e =
+    names_stretch s n first (first_goes_on s n e) (ap (is_end s) e ∙ is_end-first s)
+
+-- up to the first slash there is one piece
+pub one_piece : (s name : List ℕ) (n : ℕ) → n ≡ position_or_len is_slash s → name ≡ take n s
+    → slice_split is_slash name ≡ name ∷ []
+one_piece s name n e is =
+    let no_slash = (subst (AllByRecursion NoSlash) (slice_split-first s) (slice_split-no_slash s)).0
+    in subst (λ p. slice_split is_slash p ≡ p ∷ []) (ap (λ k. take k s) (sym e) ∙ sym is)
+    (slice_split_none is_slash _ (All-from_recursion (λ b. is_slash b ≡ false) _ no_slash))
+
+-- before the first slash, and over one behind which a plain piece begins, plain pieces go on
+pub goes_on_from : (s : List ℕ) (n end : ℕ) → n ≡ position_or_len is_slash s
+    → begins_plain s (n + 1) ≡ true
+    → ((k : ℕ) → n + 1 ≤ k → k < end → goes_on_plain s k ≡ true)
+    → (k : ℕ) → k < end → goes_on_plain s k ≡ true
+goes_on_from s n end e next goes k l = by_test (ltb k n)
+    (λ t. first_goes_on s n e k (ltb-true k n t))
+    (λ t. let from = ltb-false k n t in by_test (ltb k (n + 1))
+    (λ u. subst (λ j. goes_on_plain s j ≡ true) {x = n} {y = k}
+    (omega (arith, ltb-true k (n + 1) u)) (by_next (is_slash (get_or s n 0)) next))
+    (λ u. goes k (ltb-false k (n + 1) u) l))
+  where
+    by_next : (c : Bool) → begins_plain s (n + 1) ≡ true
+        → (not c || begins_plain s (n + 1)) ≡ true
+    by_next true h = h
+    by_next false h = refl
+
+-- where neither filler nor `..` begins, a plain piece does
+pub plain_here : (s : List ℕ) → 0 < length s → is_idle s 0 ≡ false
+    → begins_with_parent s ≡ false → begins_plain s 0 ≡ true
+plain_here s some busy no_up = begins_plain-scan s 0 some
+    ∙ ap₂ (λ x y. not x && not y) busy no_up
+
+-- where neither filler nor a dot begins, a plain piece does
+pub plain_behind : (s rest : List ℕ) (n : ℕ) → rest ≡ drop n s → n < length s
+    → is_idle rest 0 ≡ false → (get_or rest 0 0 ≡ 46 → ⊥) → begins_plain s n ≡ true
+plain_behind s rest n e l busy other = begins_plain-scan s n l
+    ∙ ap₂ (λ x y. not x && not y)
+    (sym (is_idle-drop s n) ∙ ap (λ t. is_idle t 0) (sym e) ∙ busy)
+    (ap begins_with_parent (sym e) ∙ ap (λ c. c && (eqb (get_or rest 1 0) 46
+    && eqb (get_or rest 2 47) 47)) (ne_eqb _ 46 other))
+
+-- up to the first slash stands one name, and behind that are the values of what is left
+pub record TakesName (s name t : List ℕ) : Type 0 where
+  pub split : values s ≡ values name ++ values t
+  pub spelled : AreSpelledNames name
+  pub one : length (values name) ≡ 1
+
+pub one_name : (s t name : List ℕ) (n : ℕ) → is_idle s 0 ≡ false → begins_plain s 0 ≡ true
+    → n ≡ position_or_len is_slash s → n ≤ length s → name ≡ take n s
+    → values t ≡ inner_values (drop (n + 1) s) → TakesName s name t
+one_name s t name n busy first e l is left =
+    let stretch = first_stretch s n first e in
+    let names = takes_names s t name n busy stretch l is
+    (left ∙ sym (inner_values-end s n stretch.ends)) in
+    record {
+      split = names.split;
+      spelled = names.spelled;
+      one = (plain_has_names name names.spelled.plain names.spelled.rootless).count
+          ∙ ap length (one_piece s name n e is);
+    }

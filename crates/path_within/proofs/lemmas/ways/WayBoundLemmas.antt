@@ -1,0 +1,99 @@
+-- A way has at most three bytes for each two of the first path, and those of the other.
+use Rattle.std.proofs.Common.{◌≡◌, ℕ, zero, suc, ◌+◌, ◌*◌, ◌<◌, ◌≤◌, true, false, List, []}
+use Rattle.std.proofs.Common.{◌∷◌, length, drop, Some, refl, sym, ap, subst, ◌∙◌}
+use Rattle.std.proofs.Common.{arith, take, take-append-drop}
+use Rattle.std.specs.List.{list_all, list_any}
+use Rattle.std.proofs.lemmas.List.Sums.{sum_by-append, sum_by-take-drop}
+use Rattle.unix_path.specs.Parts.{Value, RootDir, ParentDir, is_rooted, value_bytes, values}
+use Rattle.unix_bytes.proofs.lemmas.lists.CaseLemmas.{by_test}
+use Rattle.unix_path.proofs.lemmas.parts.PartLemmas.{values-nil}
+use Rattle.path_runs.specs.Spelling.{spelling_of}
+use Rattle.path_runs.proofs.lemmas.lists.AllLemmas.{AllByRecursion-end}
+use Rattle.path_runs.proofs.lemmas.spelling.PieceValueLemmas.{is_rooted-slash}
+use Rattle.path_within.specs.Below.{names_below}
+use Rattle.path_within.specs.Climbs.{is_name}
+use Rattle.path_within.specs.Resolved.{resolved_of, resolved_bytes_of}
+use Rattle.path_within.specs.Steps.{AllOne, IsOne}
+use Rattle.path_within.specs.Way.{is_root, way_of}
+use Rattle.path_within.specs.Written.{slashed_len}
+use Rattle.path_within.proofs.lemmas.kept.BetweenLemmas.{shared_count, steps_between-is, ups_of}
+use Rattle.path_within.proofs.lemmas.below.BoundLemmas.{length-spelling, slashed_len-cons}
+use Rattle.path_within.proofs.lemmas.below.BoundLemmas.{slashed_len-names}
+use Rattle.path_within.proofs.lemmas.below.BoundLemmas.{slashed_len-rootless}
+use Rattle.path_within.proofs.lemmas.below.NamesBelowLemmas.{resolved_of-slash}
+use Rattle.path_within.proofs.lemmas.kept.PathOfLemmas.{AllOne-values}
+use Rattle.path_within.proofs.lemmas.kept.ResolveLemmas.{values-resolved}
+use Rattle.path_within.proofs.lemmas.ways.FloorLemmas.{names_rootless}
+
+-- the bytes of a value that are a path of it alone are some
+one_has_bytes : (v : Value) → IsOne v → 0 < length (value_bytes v)
+one_has_bytes v one = some (value_bytes v) refl
+  where
+    some : (b : List ℕ) → value_bytes v ≡ b → 0 < length (value_bytes v)
+    some [] is =
+        absurd (let no : [] ≡ v ∷ [] = sym values-nil ∙ ap values (sym is) ∙ one in cc)
+    some (x ∷ b) is = omega (arith, ap length is)
+
+-- such values have two bytes each at least, with a slash for each
+ones_long : (vs : List Value) → AllOne vs → 2 * length vs ≤ slashed_len vs
+ones_long [] ones = omega arith
+ones_long (v ∷ vs) ones =
+    omega (arith, slashed_len-cons v vs, one_has_bytes v ones.0, ones_long vs ones.1)
+
+-- each `..` has three bytes with its slash
+ups_len : (vs : List Value) → slashed_len (ups_of vs) ≡ 3 * length vs
+ups_len [] = refl
+ups_len (v ∷ vs) = omega (arith, slashed_len-cons ParentDir (ups_of vs), ups_len vs)
+
+-- what follows some of the resolved values of a path, and has no root, fits the path and a slash
+rest_fits : (s : List ℕ) (n : ℕ) → list_any is_root (drop n (resolved_of (values s))) ≡ false
+    → slashed_len (drop n (resolved_of (values s))) ≤ 1 + length s
+rest_fits s n none = by_test (is_rooted s)
+    (λ r. let t = is_rooted-slash s r in
+    let is : resolved_of (values s) ≡ RootDir ∷ names_below (values t.0) =
+    ap (λ s. resolved_of (values s)) t.1 ∙ resolved_of-slash t.0 in
+    omega (
+      arith,
+      ap (λ vs. slashed_len (drop n vs)) is,
+      behind_root n (names_below (values t.0))
+          (sym (ap (λ vs. list_any is_root (drop n vs)) is) ∙ none),
+      slashed_len-names t.0,
+      ap length t.1,
+    ))
+    (λ r. omega (
+      arith,
+      sum_by-take-drop (λ v. 1 + length (value_bytes v)) (resolved_of (values s)) n,
+      slashed_len-rootless s r,
+    ))
+  where
+    behind_root : (n : ℕ) (ns : List Value) → list_any is_root (drop n (RootDir ∷ ns)) ≡ false
+        → slashed_len (drop n (RootDir ∷ ns)) ≤ slashed_len ns
+    behind_root zero ns none = absurd (let e = none in cc)
+    behind_root (suc n) ns none =
+        omega (arith, sum_by-take-drop (λ v. 1 + length (value_bytes v)) ns n)
+
+-- a way has at most three bytes for each two of the first path and one more, and those of the other
+pub length-way : (from to : List ℕ) (steps : List Value)
+    → way_of (values from) (values to) ≡ Some steps
+    → 2 * length (spelling_of steps) ≤ 3 * (length from + 1) + 2 * length to
+unfolding way_of
+length-way from to steps e =
+    let v = resolved_of (values from) in
+    let w = resolved_of (values to) in
+    let n = shared_count v w in
+    let x = drop n v in
+    let y = drop n w in
+    let are = steps_between-is x y steps e in
+    let ones : AllOne x =
+    AllByRecursion-end IsOne (take n v) x (subst AllOne (sym (take-append-drop n v))
+    (subst AllOne (values-resolved from) (AllOne-values (resolved_bytes_of from)))) in
+    omega (
+      arith,
+      length-spelling steps,
+      ap slashed_len (sym are.steps_are),
+      sum_by-append (λ v. 1 + length (value_bytes v)) (ups_of x) y,
+      ups_len x,
+      ones_long x ones,
+      rest_fits from n (names_rootless x are.names),
+      rest_fits to n are.no_root,
+    )

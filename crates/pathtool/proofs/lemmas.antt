@@ -1,0 +1,3 @@
+-- The lemmas, by subject.
+pub mod lines
+pub mod answers

@@ -1,0 +1,9 @@
+-- The answers of commands.
+pub mod AddLemmas
+pub mod ListLemmas
+pub mod BeginLemmas
+pub mod QuoteLemmas
+pub mod FieldLemmas
+pub mod WordLemmas
+pub mod TakeLemmas
+pub mod TableLemmas

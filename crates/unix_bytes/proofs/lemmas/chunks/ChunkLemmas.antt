@@ -1,0 +1,194 @@
+-- Chunks: the longest prefix that is text, the broken front behind it, and then further chunks.
+use Rattle.std.proofs.Common.{◌≡◌, ℕ, zero, suc, ◌+◌, ◌<◌, ◌≤◌, List, [], ◌∷◌, ◌++◌, length, take}
+use Rattle.std.proofs.Common.{drop, false, eqb, if◌then◌else◌, ⊎_elim, inr, refl, sym, ap, ◌∙◌}
+use Rattle.std.proofs.Common.{subst, arith, le_refl, length-drop, length-take-le, take-append-drop}
+use Rattle.std.proofs.Common.{append_assoc, append-nil, length-append, true}
+use Rattle.std.specs.List.{concat, flat_map, list_all}
+use Rattle.std.specs.Str.{IsUtf8}
+use Rattle.std.proofs.lemmas.Bool.{and_parts, cases_lt, cond-true, cond-false, ne_eqb}
+use Rattle.std.proofs.lemmas.List.{take_all, drop-drop}
+use Rattle.std.proofs.lemmas.Str.{IsUtf8-append}
+use Rattle.std.proofs.Math.Seq.{take-add}
+use Rattle.unix_bytes.specs.Utf8.{is_sequence, IsSequence, IsText}
+use Rattle.unix_bytes.specs.Lossy.{fronts_of, is_text, replacement, lossy_of}
+use Rattle.unix_bytes.specs.Chunks.{chunks_from, chunks_of, shown_chunk, replacement_for}
+use Rattle.unix_bytes.specs.Steps.{longest_len, longest_front_of, first_chunk_of, chunk_len}
+use Rattle.unix_bytes.proofs.lemmas.text.TextLemmas.{IsUtf8-sequence, IsUtf8-from_IsText}
+use Rattle.unix_bytes.proofs.lemmas.text.TextLemmas.{IsText-from_IsUtf8}
+use Rattle.unix_bytes.proofs.lemmas.text.TextLemmas.{IsText-nil}
+use Rattle.unix_bytes.proofs.lemmas.sequences.LongestLemmas.{longest_len-is, longest_len-longest}
+use Rattle.unix_bytes.proofs.lemmas.sequences.LongestLemmas.{longest_len-least}
+use Rattle.unix_bytes.proofs.lemmas.sequences.FrontLemmas.{longest_front_of-nil}
+use Rattle.unix_bytes.proofs.lemmas.sequences.FrontLemmas.{front_within}
+use Rattle.unix_bytes.proofs.lemmas.sequences.GrowLemmas.{fronts_of-nil, fronts_of-some}
+use Rattle.unix_bytes.proofs.lemmas.lossy.LossyLemmas.{is_text-from_IsText, IsText-from_is_text}
+use Rattle.unix_bytes.proofs.lemmas.lossy.LossyLemmas.{length-drop-some}
+use Rattle.unix_bytes.proofs.lemmas.lossy.LossyLemmas.{fronts_of-text, is_sequence-longest_front_of}
+use Rattle.unix_bytes.proofs.lemmas.lossy.LossyLemmas.{lossy_of-nil, lossy_of-append, lossy_of-none}
+
+-- the longest prefix of text that is text is the whole
+pub whole_text : (s : List ℕ) → IsUtf8 s → longest_len is_text s ≡ length s
+whole_text s u =
+    longest_len-is is_text s (length s) (le_refl (length s))
+    (inr (ap is_text (take_all (length s) s (le_refl (length s)))
+    ∙ is_text-from_IsText s (IsText-from_IsUtf8 s u)))
+    (λ k p q. absurd (omega arith))
+
+-- the longest prefix that is text is text
+pub text_prefix : (s : List ℕ) → IsText (take (longest_len is_text s) s)
+text_prefix s =
+    let n = longest_len is_text s in
+    ⊎_elim (λ z. subst (λ j. IsText (take j s)) (sym z) IsText-nil)
+    (λ p. IsText-from_is_text (take n s) p) (longest_len-longest is_text s).passes
+
+-- the first part of the first chunk is text
+pub first_chunk_of-text : (s : List ℕ) → IsText (first_chunk_of s).valid
+unfolding first_chunk_of
+first_chunk_of-text s = text_prefix s
+
+-- behind the longest prefix that is text no sequence stands
+pub none_after_text : (s : List ℕ)
+    → longest_len is_sequence (drop (longest_len is_text s) s) ≡ 0
+none_after_text s =
+    let n = longest_len is_text s in
+    let t = drop n s in
+    let k = longest_len is_sequence t in
+    let seq = longest_len-longest is_sequence t in
+    let within = (longest_len-longest is_text s).within in
+    ⊎_elim (λ z. z)
+    (λ h.
+    let front = IsUtf8-from_IsText (take n s) (text_prefix s) in
+    let more : IsUtf8 (take (n + k) s) =
+    subst IsUtf8 (sym (take-add n k s))
+    (IsUtf8-append (take n s) (take k t) front (IsUtf8-sequence (take k t) h)) in
+    let text = is_text-from_IsText (take (n + k) s) (IsText-from_IsUtf8 (take (n + k) s) more) in
+    let w = seq.within in
+    let fits : n + k ≤ length s = omega (arith, length-drop n s) in
+    let few = longest_len-least is_text s (n + k) fits text in
+    omega arith)
+    seq.passes
+
+-- the first chunk takes a byte or more
+pub chunk_some : (b : ℕ) (bs : List ℕ) → 1 ≤ chunk_len (first_chunk_of (b ∷ bs))
+unfolding first_chunk_of
+chunk_some b bs =
+    let s = b ∷ bs in
+    let n = longest_len is_text s in
+    let w = (longest_len-longest is_text s).within in
+    ⊎_elim (λ (some : 0 < n). omega (arith, length-take-le n s w))
+    (λ (none : n ≤ 0).
+    let z : n ≡ 0 = omega arith in
+    let e : length (longest_front_of (drop n s)) ≡ length (longest_front_of s) =
+    ap (λ k. length (longest_front_of (drop k s))) z in
+    omega (arith, e, (front_within b bs).0))
+    (cases_lt 0 n)
+
+-- the empty byte string has no chunks
+pub chunks_of-nil : chunks_of [] ≡ []
+unfolding chunks_of
+chunks_of-nil = ap (chunks_from []) fronts_of-nil
+
+-- bytes of length 0 have no chunks
+pub chunks_of-empty : (s : List ℕ) → length s ≡ 0 → chunks_of s ≡ []
+chunks_of-empty [] e = chunks_of-nil
+chunks_of-empty (b ∷ bs) e = absurd (omega arith)
+
+-- sequences are added to the text of a chunk
+chunks_from-sequences : (us : List (List ℕ)) (text : List ℕ) (rest : List (List ℕ))
+    → list_all is_sequence us ≡ true
+    → chunks_from text (us ++ rest) ≡ chunks_from (text ++ concat us) rest
+chunks_from-sequences [] text rest h =
+    ap (λ t. chunks_from t rest) (sym (append-nil text))
+chunks_from-sequences (u ∷ us) text rest h =
+    let k : IsSequence u × (list_all is_sequence us ≡ true) = and_parts _ _ h in
+    cond-true _ _ _ k.0 ∙ chunks_from-sequences us (text ++ u) rest k.1
+    ∙ ap (λ t. chunks_from t rest) (append_assoc text u (concat us))
+
+-- a broken front, or the end, ends a chunk
+chunks_from-rest : (text t : List ℕ) → longest_len is_sequence t ≡ 0 → 0 < length (text ++ t)
+    → chunks_from text (fronts_of t) ≡ record { valid = text; broken = longest_front_of t }
+    ∷ chunks_from [] (fronts_of (drop (length (longest_front_of t)) t))
+chunks_from-rest text [] z some =
+    let e : eqb (length text) 0 ≡ false =
+    ne_eqb (length text) 0 (omega (arith, length-append text [])) in
+    ap (chunks_from text) fronts_of-nil ∙ cond-false _ _ _ e
+    ∙ sym (rw (longest_front_of-nil, fronts_of-nil) refl)
+chunks_from-rest text (b ∷ bs) z some =
+    ap (chunks_from text) (fronts_of-some b bs)
+    ∙ cond-false _ _ _ (is_sequence-longest_front_of (b ∷ bs) z)
+
+-- if no sequence stands behind some text, the first chunk is that text and the front behind it
+chunks_of-append : (v t : List ℕ) → IsText v → longest_len is_sequence t ≡ 0
+    → 0 < length (v ++ t)
+    → chunks_of (v ++ t) ≡ record { valid = v; broken = longest_front_of t }
+    ∷ chunks_of (drop (length (longest_front_of t)) t)
+unfolding chunks_of
+chunks_of-append v t h z some =
+    let (us, all, e, cut) = fronts_of-text v t h in
+    ap (chunks_from []) cut ∙ chunks_from-sequences us [] (fronts_of t) all
+    ∙ ap (λ x. chunks_from x (fronts_of t)) e ∙ chunks_from-rest v t z some
+
+-- the chunks of some bytes are the first, and those of what follows it
+pub chunks_of-some : (b : ℕ) (bs : List ℕ) → chunks_of (b ∷ bs) ≡ first_chunk_of (b ∷ bs)
+    ∷ chunks_of (drop (chunk_len (first_chunk_of (b ∷ bs))) (b ∷ bs))
+unfolding first_chunk_of
+chunks_of-some b bs =
+    let s = b ∷ bs in
+    let n = longest_len is_text s in
+    let t = drop n s in
+    let k = length (longest_front_of t) in
+    let e : length (take n s) ≡ n =
+    length-take-le n s (longest_len-longest is_text s).within in
+    ap chunks_of (sym (take-append-drop n s))
+    ∙ chunks_of-append (take n s) t (text_prefix s) (none_after_text s)
+    (omega (arith, ap length (take-append-drop n s)))
+    ∙ ap (λ x. first_chunk_of s ∷ chunks_of x)
+    (drop-drop k n s ∙ ap (λ j. drop (j + k) s) (sym e))
+
+-- if no sequence stands at the beginning, U+FFFD is shown for the front, or nothing if it is empty
+lossy_of-rest : (t : List ℕ) → longest_len is_sequence t ≡ 0
+    → lossy_of t ≡ replacement_for (longest_front_of t)
+    ++ lossy_of (drop (length (longest_front_of t)) t)
+lossy_of-rest [] z = rw (ap length longest_front_of-nil) refl
+lossy_of-rest (b ∷ bs) z =
+    let s = b ∷ bs in
+    let k = length (longest_front_of s) in
+    let some : 1 ≤ k = (front_within b bs).0 in
+    let e : eqb k 0 ≡ false = ne_eqb k 0 (omega arith) in
+    lossy_of-none b bs z
+    ∙ ap (λ c. (if c then [] else replacement) ++ lossy_of (drop k s)) (sym e)
+
+-- lossy text is the first chunk as it is shown, and the lossy text of what follows
+lossy_of-chunk : (s : List ℕ) → lossy_of s
+    ≡ shown_chunk (first_chunk_of s) ++ lossy_of (drop (chunk_len (first_chunk_of s)) s)
+unfolding first_chunk_of
+lossy_of-chunk s =
+    let n = longest_len is_text s in
+    let v = take n s in
+    let t = drop n s in
+    let b = longest_front_of t in
+    let mark = replacement_for b in
+    let e : length v ≡ n = length-take-le n s (longest_len-longest is_text s).within in
+    ap lossy_of (sym (take-append-drop n s)) ∙ lossy_of-append v t (text_prefix s)
+    ∙ ap (λ x. v ++ x) (lossy_of-rest t (none_after_text s))
+    ∙ sym (append_assoc v mark (lossy_of (drop (length b) t)))
+    ∙ ap (λ x. (v ++ mark) ++ lossy_of x)
+    (drop-drop (length b) n s ∙ ap (λ j. drop (j + length b) s) (sym e))
+
+-- the chunks of at most n bytes, as they are shown, are the lossy text
+shows_lossy_within : (n : ℕ) (s : List ℕ) → length s ≤ n
+    → flat_map shown_chunk (chunks_of s) ≡ lossy_of s
+shows_lossy_within n [] le = ap (flat_map shown_chunk) chunks_of-nil ∙ sym lossy_of-nil
+shows_lossy_within zero (b ∷ bs) le = absurd (omega arith)
+shows_lossy_within (suc n) (b ∷ bs) le =
+    let s = b ∷ bs in
+    let c = first_chunk_of s in
+    let k = chunk_len c in
+    ap (flat_map shown_chunk) (chunks_of-some b bs)
+    ∙ ap (λ t. shown_chunk c ++ t)
+    (shows_lossy_within n (drop k s) (length-drop-some n k b bs (chunk_some b bs) le))
+    ∙ sym (lossy_of-chunk s)
+
+-- the chunks as they are shown are the lossy text
+pub flat_map-shown_chunk : (s : List ℕ) → flat_map shown_chunk (chunks_of s) ≡ lossy_of s
+flat_map-shown_chunk s = shows_lossy_within (length s) s (le_refl (length s))

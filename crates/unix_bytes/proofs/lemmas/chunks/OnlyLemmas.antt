@@ -1,0 +1,51 @@
+-- The first of the chunks, and whether it is the only one.
+use Rattle.std.proofs.Common.{◌≡◌, ℕ, List, [], ◌∷◌, ◌++◌, sym, ap, ◌∙◌}
+use Rattle.std.proofs.Common.{subst, arith, append-nil}
+use Rattle.std.specs.List.{flat_map}
+use Rattle.std.proofs.lemmas.List.{drop_all}
+use Rattle.unix_bytes.specs.Utf8.{IsText}
+use Rattle.unix_bytes.specs.Lossy.{is_text, lossy_of}
+use Rattle.unix_bytes.specs.Chunks.{Chunk, chunks_of, shown_chunk}
+use Rattle.unix_bytes.specs.Steps.{longest_len, longest_front_of, first_chunk_of}
+use Rattle.unix_bytes.proofs.lemmas.text.TextLemmas.{IsUtf8-from_IsText}
+use Rattle.unix_bytes.proofs.lemmas.sequences.FrontLemmas.{longest_front_of-nil}
+use Rattle.unix_bytes.proofs.lemmas.chunks.ChunkLemmas.{whole_text, chunks_of-nil, chunks_of-some}
+use Rattle.unix_bytes.proofs.lemmas.chunks.ChunkLemmas.{first_chunk_of-text, flat_map-shown_chunk}
+use Rattle.unix_bytes.proofs.lemmas.chunks.PartitionLemmas.{chunks_partition, whole_chunk_is_last}
+
+-- the chunk that stands first is `first_chunk_of`
+pub first_chunk_is : (s : List ℕ) (c : Chunk) (cs : List Chunk) → chunks_of s ≡ c ∷ cs
+    → first_chunk_of s ≡ c
+first_chunk_is [] c cs e = let h = chunks_of-nil in cc
+first_chunk_is (b ∷ bs) c cs e = let h = chunks_of-some b bs in cc
+
+-- if the first chunk has no broken bytes, its text is all of the bytes
+pub only_chunk : (s : List ℕ) (c : Chunk) (cs : List Chunk) → chunks_of s ≡ c ∷ cs
+    → c.broken ≡ [] → c.valid ≡ s
+only_chunk s c cs e z =
+    let none : cs ≡ [] = whole_chunk_is_last s [] cs c e z in
+    let bytes : Chunk → List ℕ = λ x. x.valid ++ x.broken in
+    sym (append-nil c.valid) ∙ ap (λ b. c.valid ++ b) (sym z) ∙ sym (append-nil (bytes c))
+    ∙ ap (flat_map bytes) (ap (λ t. c ∷ t) (sym none) ∙ sym e) ∙ chunks_partition s
+
+-- if the first chunk has no broken bytes, all of the bytes are text
+pub only_text : (s : List ℕ) (c : Chunk) (cs : List Chunk) → chunks_of s ≡ c ∷ cs
+    → c.broken ≡ [] → IsText s
+only_text s c cs e z =
+    subst IsText (ap (λ (x : Chunk). x.valid) (first_chunk_is s c cs e) ∙ only_chunk s c cs e z)
+    (first_chunk_of-text s)
+
+-- the first chunk and those behind it, as they are shown, are the lossy text
+pub lossy_of-first_chunk : (s : List ℕ) (c : Chunk) (cs : List Chunk) → chunks_of s ≡ c ∷ cs
+    → shown_chunk c ++ flat_map shown_chunk cs ≡ lossy_of s
+lossy_of-first_chunk s c cs e = ap (flat_map shown_chunk) (sym e) ∙ flat_map-shown_chunk s
+
+-- the first chunk of text has no broken bytes
+pub text_has_none_broken : (s : List ℕ) (c : Chunk) (cs : List Chunk) → chunks_of s ≡ c ∷ cs
+    → IsText s → c.broken ≡ []
+unfolding first_chunk_of
+text_has_none_broken s c cs e t =
+    let n = longest_len is_text s in
+    let all = whole_text s (IsUtf8-from_IsText s t) in
+    sym (ap (λ (x : Chunk). x.broken) (first_chunk_is s c cs e))
+    ∙ ap longest_front_of (drop_all n s (omega arith)) ∙ longest_front_of-nil

@@ -1,0 +1,2 @@
+-- Lists of any items.
+pub mod CaseLemmas

@@ -1,0 +1,168 @@
+-- Bytes cut into fronts, the test of text, and the lossy text.
+use Rattle.std.proofs.Common.{◌≡◌, ℕ, zero, suc, ◌≤◌, ◌<◌, List, [], ◌∷◌, ◌++◌, length, take, drop}
+use Rattle.std.proofs.Common.{true, false, refl, sym, ap, ap₂, ◌∙◌, arith, le_refl, append_assoc}
+use Rattle.std.proofs.Common.{length-drop, length-take-le, take-append-drop, append-nil}
+use Rattle.std.proofs.Common.{if◌then◌else◌}
+use Rattle.std.specs.List.{concat, flat_map, list_all}
+use Rattle.std.proofs.lemmas.Bool.{and_parts, cond-true, cond-false, false_from_ne_true}
+use Rattle.std.proofs.lemmas.List.{drop_at}
+use Rattle.std.proofs.lemmas.List.Concat.{flat_map-append}
+use Rattle.std.proofs.lemmas.List.Folds.{list_all-append}
+use Rattle.std.proofs.lemmas.List.Sums.{AllPass-from_list_all, list_all-from_AllPass}
+use Rattle.unix_bytes.specs.Utf8.{is_sequence, IsSequence, IsText}
+use Rattle.unix_bytes.specs.Lossy.{fronts_of, replacement, lossy_of, is_text}
+use Rattle.unix_bytes.specs.Steps.{longest_len, longest_front_of}
+use Rattle.unix_bytes.proofs.lemmas.sequences.SequenceLemmas.{is_sequence-nil, sequence_len}
+use Rattle.unix_bytes.proofs.lemmas.sequences.LongestLemmas.{longest_len-prefix}
+use Rattle.unix_bytes.proofs.lemmas.sequences.FrontLemmas.{longest_front_of-sequence}
+use Rattle.unix_bytes.proofs.lemmas.sequences.FrontLemmas.{longest_front_of-take}
+use Rattle.unix_bytes.proofs.lemmas.sequences.FrontLemmas.{front_within}
+use Rattle.unix_bytes.proofs.lemmas.sequences.GrowLemmas.{fronts_of-nil, fronts_of-some}
+
+-- a sequence as it is, and U+FFFD for a broken front
+abbrev pub shown_front : List ℕ → List ℕ
+shown_front u = if is_sequence u then u else replacement
+
+-- the first front of bytes that begin with a sequence is that sequence
+fronts_of-sequence : (u s : List ℕ) → IsSequence u → fronts_of (u ++ s) ≡ u ∷ fronts_of s
+fronts_of-sequence [] s h = let k = is_sequence-nil in cc
+fronts_of-sequence (b ∷ u) s h =
+    let e = longest_front_of-sequence (b ∷ u) s h in
+    fronts_of-some b (u ++ s)
+    ∙ ap (λ f. f ∷ fronts_of (drop (length f) (b ∷ u ++ s))) e
+    ∙ ap (λ t. (b ∷ u) ∷ fronts_of t) (drop_at (b ∷ u) s (length (b ∷ u)) refl)
+
+-- sequences, one after the other, and then s are cut into these sequences and the fronts of s
+fronts_of-concat : (us : List (List ℕ)) (s : List ℕ) → list_all is_sequence us ≡ true
+    → fronts_of (concat us ++ s) ≡ us ++ fronts_of s
+fronts_of-concat [] s h = refl
+fronts_of-concat (u ∷ us) s h =
+    let k : IsSequence u × (list_all is_sequence us ≡ true) = and_parts _ _ h in
+    ap fronts_of (append_assoc u (concat us) s) ∙ fronts_of-sequence u (concat us ++ s) k.0
+    ∙ ap (λ fs. u ∷ fs) (fronts_of-concat us s k.1)
+
+-- if at least one of at most n + 1 bytes is dropped, at most n are left
+pub length-drop-some : (n k b : ℕ) (bs : List ℕ) → 1 ≤ k → length (b ∷ bs) ≤ suc n
+    → length (drop k (b ∷ bs)) ≤ n
+length-drop-some n k b bs some le = omega (arith, length-drop k (b ∷ bs))
+
+-- the fronts of at most n bytes, one after the other, are the bytes
+concat-fronts_within : (n : ℕ) (s : List ℕ) → length s ≤ n → concat (fronts_of s) ≡ s
+concat-fronts_within n [] le = ap concat fronts_of-nil
+concat-fronts_within zero (b ∷ bs) le = absurd (omega arith)
+concat-fronts_within (suc n) (b ∷ bs) le =
+    let s = b ∷ bs in
+    let k = length (longest_front_of s) in
+    ap concat (fronts_of-some b bs)
+    ∙ ap₂ (λ f t. f ++ t) (longest_front_of-take s)
+    (concat-fronts_within n (drop k s) (length-drop-some n k b bs (front_within b bs).0 le))
+    ∙ take-append-drop k s
+
+-- the fronts, one after the other, are the bytes
+pub concat-fronts_of : (s : List ℕ) → concat (fronts_of s) ≡ s
+concat-fronts_of s = concat-fronts_within (length s) s (le_refl (length s))
+
+-- what passes the test is text
+pub IsText-from_is_text : (s : List ℕ) → is_text s ≡ true → IsText s
+unfolding is_text
+IsText-from_is_text s h =
+    (fronts_of s, AllPass-from_list_all is_sequence (fronts_of s) h, concat-fronts_of s)
+
+-- text at the beginning is cut into its sequences
+pub fronts_of-text : (t s : List ℕ) → IsText t → (us : List (List ℕ))
+    × (list_all is_sequence us ≡ true) × (concat us ≡ t) × (fronts_of (t ++ s) ≡ us ++ fronts_of s)
+fronts_of-text t s (us, h, e) =
+    let all = list_all-from_AllPass is_sequence us h in
+    (us, all, e, ap (λ x. fronts_of (x ++ s)) (sym e) ∙ fronts_of-concat us s all)
+
+-- text passes the test
+pub is_text-from_IsText : (s : List ℕ) → IsText s → is_text s ≡ true
+unfolding is_text
+is_text-from_IsText s t =
+    let (us, all, e, cut) = fronts_of-text s [] t in
+    let same : fronts_of s ≡ us =
+    ap fronts_of (sym (append-nil s)) ∙ cut ∙ ap (λ fs. us ++ fs) fronts_of-nil ∙ append-nil us in
+    ap (list_all is_sequence) same ∙ all
+
+-- what follows text in text is text
+pub text_rest : (t s : List ℕ) → IsText t → IsText (t ++ s) → IsText s
+unfolding is_text
+text_rest t s h k =
+    let (us, all, e, cut) = fronts_of-text t s h in
+    let both : list_all is_sequence (us ++ fronts_of s) ≡ true =
+    sym (ap (list_all is_sequence) cut) ∙ is_text-from_IsText (t ++ s) k in
+    IsText-from_is_text s
+    (and_parts _ _ (sym (list_all-append is_sequence us (fronts_of s)) ∙ both)).1
+
+-- sequences are shown as they are
+flat_map-shown_front : (us : List (List ℕ)) → list_all is_sequence us ≡ true
+    → flat_map shown_front us ≡ concat us
+flat_map-shown_front [] h = refl
+flat_map-shown_front (u ∷ us) h =
+    let k : IsSequence u × (list_all is_sequence us ≡ true) = and_parts _ _ h in
+    ap₂ (λ f t. f ++ t) (cond-true _ _ _ k.0) (flat_map-shown_front us k.1)
+
+-- the lossy text of no bytes is empty
+pub lossy_of-nil : lossy_of [] ≡ []
+unfolding lossy_of
+lossy_of-nil = ap (flat_map shown_front) fronts_of-nil
+
+-- text at the beginning is shown as it is
+pub lossy_of-append : (t s : List ℕ) → IsText t → lossy_of (t ++ s) ≡ t ++ lossy_of s
+unfolding lossy_of
+lossy_of-append t s h =
+    let (us, all, e, cut) = fronts_of-text t s h in
+    ap (flat_map shown_front) cut ∙ flat_map-append shown_front us (fronts_of s)
+    ∙ ap (λ x. x ++ flat_map shown_front (fronts_of s)) (flat_map-shown_front us all ∙ e)
+
+-- text is its own lossy text
+pub lossy_of-text : (s : List ℕ) → IsText s → lossy_of s ≡ s
+lossy_of-text s t =
+    ap lossy_of (sym (append-nil s)) ∙ lossy_of-append s [] t
+    ∙ ap (λ x. s ++ x) lossy_of-nil ∙ append-nil s
+
+-- if no sequence stands at the beginning, no prefix is one
+pub no_sequence : (s u v : List ℕ) → longest_len is_sequence s ≡ 0 → s ≡ u ++ v → IsSequence u → ⊥
+no_sequence s u v z e h =
+    let some = sequence_len u h in
+    let few = longest_len-prefix is_sequence s u v h e in
+    absurd (omega arith)
+
+-- if no sequence stands at the beginning, the longest front is no sequence
+pub is_sequence-longest_front_of : (s : List ℕ) → longest_len is_sequence s ≡ 0
+    → is_sequence (longest_front_of s) ≡ false
+is_sequence-longest_front_of s z =
+    let k = length (longest_front_of s) in
+    let e : s ≡ longest_front_of s ++ drop k s =
+    sym (take-append-drop k s) ∙ ap (λ f. f ++ drop k s) (sym (longest_front_of-take s)) in
+    false_from_ne_true (is_sequence (longest_front_of s))
+    (no_sequence s (longest_front_of s) (drop k s) z e)
+
+-- if no sequence stands at the beginning, U+FFFD is shown for the longest front
+pub lossy_of-none : (b : ℕ) (bs : List ℕ) → longest_len is_sequence (b ∷ bs) ≡ 0
+    → lossy_of (b ∷ bs)
+    ≡ replacement ++ lossy_of (drop (length (longest_front_of (b ∷ bs))) (b ∷ bs))
+unfolding lossy_of
+lossy_of-none b bs z =
+    let s = b ∷ bs in
+    ap (flat_map shown_front) (fronts_of-some b bs)
+    ∙ ap (λ f. f ++ flat_map shown_front (fronts_of (drop (length (longest_front_of s)) s)))
+    (cond-false _ _ _ (is_sequence-longest_front_of s z))
+
+-- if no sequence stands at the beginning, the only prefix that is text is the empty one
+pub no_text : (s : List ℕ) (k : ℕ) → IsText (take k s) → 0 < k → k ≤ length s
+    → longest_len is_sequence s ≡ 0 → ⊥
+no_text s k (us, h, e) some within z =
+    no_sequences us (list_all-from_AllPass is_sequence us h) e
+  where
+    no_sequences : (vs : List (List ℕ)) → list_all is_sequence vs ≡ true → concat vs ≡ take k s → ⊥
+    no_sequences [] all f = absurd (omega (arith, ap length f, length-take-le k s within))
+    no_sequences (v ∷ vs) all f =
+        let front : s ≡ v ++ (concat vs ++ drop k s) =
+        sym (take-append-drop k s) ∙ ap (λ t. t ++ drop k s) (sym f)
+        ∙ append_assoc v (concat vs) (drop k s) in
+        no_sequence s v (concat vs ++ drop k s) z front (and_parts _ _ all).0
+
+-- what is not text fails the test
+pub is_text-not : (s : List ℕ) → (IsText s → ⊥) → is_text s ≡ false
+is_text-not s broken = false_from_ne_true (is_text s) (λ t. broken (IsText-from_is_text s t))

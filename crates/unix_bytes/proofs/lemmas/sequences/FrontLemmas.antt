@@ -1,0 +1,127 @@
+-- The longest prefix that begins a sequence: a whole one, or else a broken front.
+use Rattle.std.proofs.Common.{◌≡◌, ℕ, suc, ◌-◌, ◌+◌, ◌<◌, ◌≤◌, List, [], ◌∷◌, ◌++◌, length, take}
+use Rattle.std.proofs.Common.{◌⊎◌, ⊎_elim, inl, inr, refl, sym, ap, ◌∙◌, subst, arith}
+use Rattle.std.proofs.Common.{append_assoc, append-nil, length-append, length-take-le}
+use Rattle.std.specs.Prelude.{max}
+use Rattle.std.proofs.lemmas.Bool.{cases_lt, false_from_ne_true}
+use Rattle.std.proofs.lemmas.List.{take_at, take_all}
+use Rattle.std.proofs.Math.Seq.{take-append-add}
+use Rattle.unix_bytes.specs.Utf8.{is_sequence, IsSequence, BeginsSequence, begins_sequence}
+use Rattle.unix_bytes.specs.Steps.{longest_len, longest_front_of, HasBegun}
+use Rattle.unix_bytes.proofs.lemmas.sequences.SequenceLemmas.{sequence_len}
+use Rattle.unix_bytes.proofs.lemmas.sequences.WidthLemmas.{prefix_free}
+use Rattle.unix_bytes.proofs.lemmas.sequences.BeginLemmas.{begins_sequence-from}
+use Rattle.unix_bytes.proofs.lemmas.sequences.BeginLemmas.{BeginsSequence-from}
+use Rattle.unix_bytes.proofs.lemmas.sequences.BeginLemmas.{BeginsSequence-take}
+use Rattle.unix_bytes.proofs.lemmas.sequences.LongestLemmas.{longest_len-is, longest_len-longest}
+use Rattle.unix_bytes.proofs.lemmas.sequences.LongestLemmas.{longest_len-least}
+
+-- a sequence begins a sequence
+pub BeginsSequence-sequence : (u : List ℕ) → IsSequence u → BeginsSequence u
+BeginsSequence-sequence u h = ([], subst IsSequence (sym (append-nil u)) h)
+
+-- no prefix that is longer than a sequence begins one
+none_longer : (u s : List ℕ) (k : ℕ) → IsSequence u → length u < k → k ≤ length (u ++ s)
+    → BeginsSequence (take k (u ++ s)) → ⊥
+none_longer u s k h more within (v, is) =
+    let j = k - length u in
+    let split : k ≡ length u + j = omega arith in
+    let front : take k (u ++ s) ≡ u ++ take j s =
+    ap (λ n. take n (u ++ s)) split ∙ take-append-add u s j in
+    let long : IsSequence (u ++ (take j s ++ v)) =
+    subst IsSequence (ap (λ x. x ++ v) front ∙ append_assoc u (take j s) v) is in
+    let none : take j s ++ v ≡ [] = prefix_free u (take j s ++ v) h long in
+    let some : j ≤ length s = omega (arith, length-append u s) in
+    absurd (omega (arith, ap length none, length-append (take j s) v, length-take-le j s some))
+
+-- the longest prefix that is a sequence is the sequence that the bytes begin with
+pub longest_len-sequence : (u s : List ℕ) → IsSequence u
+    → longest_len is_sequence (u ++ s) ≡ length u
+longest_len-sequence u s h =
+    longest_len-is is_sequence (u ++ s) (length u) (omega (arith, length-append u s))
+    (inr (ap is_sequence (take_at u s (length u) refl) ∙ h))
+    (λ k p q. false_from_ne_true (is_sequence (take k (u ++ s)))
+    (λ t. none_longer u s k h p q (BeginsSequence-sequence (take k (u ++ s)) t)))
+
+-- the longest prefix that begins a sequence is the sequence that the bytes begin with
+longest_len-begins_sequence : (u s : List ℕ) → IsSequence u
+    → longest_len begins_sequence (u ++ s) ≡ length u
+longest_len-begins_sequence u s h =
+    longest_len-is begins_sequence (u ++ s) (length u) (omega (arith, length-append u s))
+    (inr (ap begins_sequence (take_at u s (length u) refl)
+    ∙ begins_sequence-from u (BeginsSequence-sequence u h)))
+    (λ k p q. false_from_ne_true (begins_sequence (take k (u ++ s)))
+    (λ t. none_longer u s k h p q (BeginsSequence-from (take k (u ++ s)) t)))
+
+-- the longest front is the sequence that the bytes begin with
+pub longest_front_of-sequence : (u s : List ℕ) → IsSequence u → longest_front_of (u ++ s) ≡ u
+unfolding longest_front_of
+longest_front_of-sequence u s h =
+    let k = sequence_len u h in
+    let e : max 1 (longest_len begins_sequence (u ++ s)) ≡ length u =
+    omega (arith, longest_len-begins_sequence u s h) in
+    ap (λ n. take n (u ++ s)) e ∙ take_at u s (length u) refl
+
+-- the longest front has n bytes if n bytes begin a sequence or n is 1, and n + 1 bytes begin none
+pub length-longest_front_of : (s : List ℕ) (n : ℕ) → 1 ≤ n → n ≤ length s → (n ≡ 1) ⊎ HasBegun s n
+    → (HasBegun s (suc n) → ⊥) → length (longest_front_of s) ≡ n
+unfolding longest_front_of
+length-longest_front_of s n some within at above =
+    let l = longest_len begins_sequence s in
+    let h = longest_len-longest begins_sequence s in
+    let w = h.within in
+    let low : l ≤ n = ⊎_elim
+    (λ (more : n < l).
+    ⊎_elim (λ z. omega arith)
+    (λ p. absurd (above (
+      omega arith,
+      begins_sequence-from (take (suc n) s)
+          (BeginsSequence-take (suc n) l s (omega arith) (BeginsSequence-from (take l s) p)),
+    )))
+    h.passes) (λ le. le) (cases_lt n l) in
+    let high : n ≤ max 1 l = ⊎_elim (λ e. omega arith)
+    (λ b. let k = longest_len-least begins_sequence s n within b.1 in omega arith) at in
+    let e : max 1 l ≡ n = omega arith in
+    ap (λ k. length (take k s)) e ∙ length-take-le n s within
+
+-- the longest front of some bytes has a byte or more, and no more than there are
+pub front_within : (b : ℕ) (bs : List ℕ)
+    → (1 ≤ length (longest_front_of (b ∷ bs)))
+    × (length (longest_front_of (b ∷ bs)) ≤ length (b ∷ bs))
+unfolding longest_front_of
+front_within b bs =
+    let l = longest_len begins_sequence (b ∷ bs) in
+    let w = (longest_len-longest begins_sequence (b ∷ bs)).within in
+    let e : length (longest_front_of (b ∷ bs)) ≡ max 1 l =
+    length-take-le (max 1 l) (b ∷ bs) (omega arith) in
+    (omega (arith, e), omega (arith, e))
+
+-- the longest front of no bytes is empty
+pub longest_front_of-nil : longest_front_of [] ≡ []
+unfolding longest_front_of
+longest_front_of-nil = take_all _ [] (omega arith)
+
+-- the longest front is a prefix
+pub longest_front_of-take : (s : List ℕ) → longest_front_of s ≡ take (length (longest_front_of s)) s
+unfolding longest_front_of
+longest_front_of-take [] = longest_front_of-nil ∙ sym (take_all _ [] (omega arith))
+longest_front_of-take (b ∷ bs) =
+    let l = longest_len begins_sequence (b ∷ bs) in
+    let w = (longest_len-longest begins_sequence (b ∷ bs)).within in
+    let k = length-take-le (max 1 l) (b ∷ bs) (omega arith) in
+    ap (λ n. take n (b ∷ bs)) (sym k)
+
+-- the longest front has one byte if the first two begin no sequence
+pub one_byte_front : (s : List ℕ) → 0 < length s → (HasBegun s 2 → ⊥)
+    → length (longest_front_of s) ≡ 1
+one_byte_front s some end = length-longest_front_of s 1 (omega arith) (omega arith) (inl refl) end
+
+-- the longest front has two bytes if they begin a sequence and the first three do not
+pub two_byte_front : (s : List ℕ) → HasBegun s 2 → (HasBegun s 3 → ⊥)
+    → length (longest_front_of s) ≡ 2
+two_byte_front s h end = length-longest_front_of s 2 (omega arith) h.0 (inr h) end
+
+-- the longest front has three bytes if they begin one and the first four do not
+pub three_byte_front : (s : List ℕ) → HasBegun s 3 → (HasBegun s 4 → ⊥)
+    → length (longest_front_of s) ≡ 3
+three_byte_front s h end = length-longest_front_of s 3 (omega arith) h.0 (inr h) end

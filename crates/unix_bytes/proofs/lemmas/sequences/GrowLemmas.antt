@@ -1,0 +1,86 @@
+-- Fronts that grow byte by byte are the longest.
+use Rattle.std.proofs.Common.{◌≡◌, ℕ, suc, ◌+◌, ◌≤◌, List, [], ◌∷◌, ◌++◌, length, take, drop, Bool}
+use Rattle.std.proofs.Common.{true, false, cond, ◌⊎◌, ⊎_elim, inl, inr, refl, sym, ap, ◌∙◌, arith}
+use Rattle.std.proofs.Common.{append_assoc, append-nil, length-append}
+use Rattle.std.specs.List.{concat, push}
+use Rattle.std.proofs.lemmas.Bool.{true≢false}
+use Rattle.std.proofs.lemmas.List.{take_at, drop_at}
+use Rattle.std.proofs.Math.Seq.{take-append-add}
+use Rattle.unix_bytes.specs.Utf8.{begins_sequence}
+use Rattle.unix_bytes.specs.Lossy.{fronts_from, fronts_of, front_of}
+use Rattle.unix_bytes.specs.Steps.{longest_front_of, HasBegun}
+use Rattle.unix_bytes.proofs.lemmas.sequences.FrontLemmas.{length-longest_front_of}
+use Rattle.unix_bytes.proofs.lemmas.sequences.FrontLemmas.{longest_front_of-nil}
+use Rattle.unix_bytes.proofs.lemmas.sequences.FrontLemmas.{longest_front_of-take}
+
+-- one byte, or bytes that begin a sequence
+abbrev IsGrown : List ℕ → Type 0
+IsGrown u = (length u ≡ 1) ⊎ (begins_sequence u ≡ true)
+
+-- one byte, or bytes that begin a sequence, are the longest front if with the next byte they begin
+-- none
+longest_front_of-append : (u s : List ℕ) → 1 ≤ length u → IsGrown u
+    → (HasBegun (u ++ s) (suc (length u)) → ⊥) → longest_front_of (u ++ s) ≡ u
+longest_front_of-append u s some at end =
+    let n = length u in
+    let within : n ≤ length (u ++ s) = omega (arith, length-append u s) in
+    let front : take n (u ++ s) ≡ u = take_at u s n refl in
+    let begun : (n ≡ 1) ⊎ HasBegun (u ++ s) n =
+    ⊎_elim (λ e. inl e) (λ b. inr (within, ap begins_sequence front ∙ b)) at in
+    longest_front_of-take (u ++ s)
+    ∙ ap (λ k. take k (u ++ s)) (length-longest_front_of (u ++ s) n some within begun end) ∙ front
+
+-- the longest front, and then the fronts of what follows
+abbrev longest_fronts : List ℕ → List (List ℕ)
+longest_fronts s = longest_front_of s ∷ fronts_of (drop (length (longest_front_of s)) s)
+
+-- if u is the longest front, the fronts of what follows stand behind it
+longest_fronts-append : (u s : List ℕ) → 1 ≤ length u → IsGrown u
+    → (HasBegun (u ++ s) (suc (length u)) → ⊥) → longest_fronts (u ++ s) ≡ u ∷ fronts_of s
+longest_fronts-append u s some at end =
+    ap (λ f. f ∷ fronts_of (drop (length f) (u ++ s))) (longest_front_of-append u s some at end)
+    ∙ ap (λ t. u ∷ fronts_of t) (drop_at u s (length u) refl)
+
+-- a front takes the next byte if both begin a sequence, and else ends
+fronts_from-step : (b : ℕ) (s u : List ℕ) → 1 ≤ length u → IsGrown u
+    → (begins_sequence (push u b) ≡ true
+    → fronts_from (push u b) s ≡ longest_fronts (push u b ++ s))
+    → (c : Bool) → begins_sequence (push u b) ≡ c
+    → cond c (fronts_from (push u b) s) (u ∷ fronts_from (b ∷ []) s) ≡ longest_fronts (u ++ b ∷ s)
+unfolding fronts_of
+fronts_from-step b s u some at more true e = more e ∙ ap longest_fronts (append_assoc u (b ∷ []) s)
+fronts_from-step b s u some at more false e =
+    let next : take (suc (length u)) (u ++ b ∷ s) ≡ push u b =
+    ap (λ k. take k (u ++ b ∷ s)) {x = suc (length u)} {y = length u + 1} (omega arith)
+    ∙ take-append-add u (b ∷ s) 1 in
+    sym (longest_fronts-append u (b ∷ s) some at
+    (λ h. absurd (true≢false (sym h.1 ∙ ap begins_sequence next ∙ e))))
+
+-- a front that grows byte by byte becomes the longest
+fronts_from-longest : (s u : List ℕ) → 1 ≤ length u → IsGrown u
+    → fronts_from u s ≡ longest_fronts (u ++ s)
+unfolding fronts_of
+fronts_from-longest [] u some at =
+    sym (longest_fronts-append u [] some at (λ h. absurd (omega (arith, h.0, length-append u []))))
+fronts_from-longest (b ∷ s) u some at =
+    fronts_from-step b s u some at
+    (λ e. fronts_from-longest s (push u b) (omega (arith, length-append u (b ∷ []))) (inr e))
+    (begins_sequence (push u b)) refl
+
+-- the empty byte string has no fronts
+pub fronts_of-nil : fronts_of [] ≡ []
+unfolding fronts_of
+fronts_of-nil = refl
+
+-- the first front of some bytes is the longest, and behind it stand the fronts of what follows
+pub fronts_of-some : (b : ℕ) (bs : List ℕ) → fronts_of (b ∷ bs)
+    ≡ longest_front_of (b ∷ bs) ∷ fronts_of (drop (length (longest_front_of (b ∷ bs))) (b ∷ bs))
+unfolding fronts_of
+fronts_of-some b bs = fronts_from-longest bs (b ∷ []) (omega arith) (inl refl)
+
+-- the first front is the longest
+pub front_of-longest : (s : List ℕ) → front_of s ≡ longest_front_of s
+front_of-longest [] =
+    ap (λ us. concat (take 1 us)) fronts_of-nil ∙ sym longest_front_of-nil
+front_of-longest (b ∷ bs) =
+    ap (λ us. concat (take 1 us)) (fronts_of-some b bs) ∙ append-nil (longest_front_of (b ∷ bs))

@@ -1,0 +1,147 @@
+-- How far a sequence has begun, byte by byte.
+use Rattle.std.proofs.Common.{◌≡◌, ℕ, ◌<◌, ◌≤◌, List, [], ◌∷◌, length, take, true, ⊎_elim, arith}
+use Rattle.std.proofs.Common.{refl, ap, ◌∙◌, drop, slice_index, get_or-drop, add-zero}
+use Rattle.std.proofs.lemmas.Bool.{cases_lt}
+use Rattle.unix_bytes.specs.Utf8.{IsSequence, begins_sequence}
+use Rattle.unix_bytes.specs.Steps.{HasBegun}
+use Rattle.unix_bytes.proofs.lemmas.sequences.SequenceLemmas.{two_bytes, three_bytes, four_bytes}
+use Rattle.unix_bytes.proofs.lemmas.sequences.SequenceLemmas.{is_sequence-more}
+use Rattle.unix_bytes.proofs.lemmas.sequences.SequenceLemmas.{IsSequence-three, IsSequence-four}
+use Rattle.unix_bytes.proofs.lemmas.sequences.BeginLemmas.{begins_sequence-from}
+use Rattle.unix_bytes.proofs.lemmas.sequences.BeginLemmas.{BeginsSequence-from}
+
+-- the ranges of the first two bytes of a sequence
+abbrev Pair : ℕ → ℕ → Type 0
+Pair x y =
+    (0xC2 ≤ x) × (x ≤ 0xF4) × (0x80 ≤ y) × (y ≤ 0xBF) × (x ≡ 0xE0 → 0xA0 ≤ y)
+    × (x ≡ 0xED → y ≤ 0x9F) × (x ≡ 0xF0 → 0x90 ≤ y) × (x ≡ 0xF4 → y ≤ 0x8F)
+
+-- the first two bytes of a sequence are in their ranges
+pair_of : (x y : ℕ) (u : List ℕ) → IsSequence (x ∷ y ∷ u) → Pair x y
+pair_of x y [] h = let p = two_bytes x y h in grind arith
+pair_of x y (a ∷ []) h = let p = three_bytes x y a h in grind arith
+pair_of x y (a ∷ b ∷ []) h = let p = four_bytes x y a b h in grind arith
+pair_of x y (a ∷ b ∷ c ∷ u) h = let p = is_sequence-more x y a b c u in cc
+
+-- the byte may stand behind the first two of a sequence
+abbrev IsTail : ℕ → Type 0
+IsTail z = (0x80 ≤ z) × (z ≤ 0xBF)
+
+-- the first and the third byte of a sequence of three or more are in their ranges
+third_of : (x y z : ℕ) (u : List ℕ) → IsSequence (x ∷ y ∷ z ∷ u) → (0xE0 ≤ x) × IsTail z
+third_of x y z [] h = let p = three_bytes x y z h in (omega arith, (omega arith, omega arith))
+third_of x y z (a ∷ []) h =
+    let p = four_bytes x y z a h in (omega arith, (omega arith, omega arith))
+third_of x y z (a ∷ b ∷ u) h = let p = is_sequence-more x y z a b u in cc
+
+-- the first and the fourth byte of a sequence of four are in their ranges
+fourth_of : (x y z w : ℕ) (u : List ℕ) → IsSequence (x ∷ y ∷ z ∷ w ∷ u) → (0xF0 ≤ x) × IsTail w
+fourth_of x y z w [] h = let p = four_bytes x y z w h in (omega arith, (omega arith, omega arith))
+fourth_of x y z w (a ∷ u) h = let p = is_sequence-more x y z w a u in cc
+
+-- two bytes that begin a sequence of three or more still begin one with any tail byte behind them
+third_begins : (x y z : ℕ) → begins_sequence (x ∷ y ∷ []) ≡ true → 0xE0 ≤ x → IsTail z
+    → begins_sequence (x ∷ y ∷ z ∷ []) ≡ true
+third_begins x y z b g r =
+    let (u, is) = BeginsSequence-from (x ∷ y ∷ []) b in
+    let h = pair_of x y u is in
+    begins_sequence-from (x ∷ y ∷ z ∷ [])
+    (⊎_elim (λ (l : x < 0xF0). ([], IsSequence-three x y z (grind arith)))
+    (λ (k : 0xF0 ≤ x). (0x80 ∷ [], IsSequence-four x y z 0x80 (grind arith))) (cases_lt x 0xF0))
+
+-- three bytes that begin a sequence of four still begin one with any tail byte behind them
+fourth_begins : (x y z w : ℕ) → begins_sequence (x ∷ y ∷ z ∷ []) ≡ true → 0xF0 ≤ x → IsTail w
+    → begins_sequence (x ∷ y ∷ z ∷ w ∷ []) ≡ true
+fourth_begins x y z w b g r =
+    let (u, is) = BeginsSequence-from (x ∷ y ∷ z ∷ []) b in
+    let h = pair_of x y (z ∷ u) is in
+    let k = third_of x y z u is in
+    begins_sequence-from (x ∷ y ∷ z ∷ w ∷ []) ([], IsSequence-four x y z w (grind arith))
+
+-- the first two bytes of a string
+pub take-two : (s : List ℕ) → 1 < length s
+    → take 2 s ≡ slice_index s 0 ∷ slice_index s 1 ∷ []
+take-two [] l = absurd (omega arith)
+take-two (x ∷ []) l = absurd (omega arith)
+take-two (x ∷ y ∷ s) l = refl
+
+-- the first byte behind i bytes is the one at place i
+pub first_of_drop : (i : ℕ) (s : List ℕ) → slice_index (drop i s) 0 ≡ slice_index s i
+first_of_drop i s = get_or-drop i s 0 0 ∙ ap (slice_index s) (add-zero i)
+
+-- the ranges of the first two bytes, if these begin a sequence
+pub pair_bounds : (s : List ℕ) → HasBegun s 2 → (0xC2 ≤ slice_index s 0)
+    × (slice_index s 0 ≤ 0xF4) × (1 < length s) × IsTail (slice_index s 1)
+pair_bounds [] h = absurd (omega arith)
+pair_bounds (x ∷ []) h = absurd (omega arith)
+pair_bounds (x ∷ y ∷ s) h =
+    let (u, is) = BeginsSequence-from (x ∷ y ∷ []) h.1 in
+    let p = pair_of x y u is in
+    (p.0, p.1, omega arith, (p.2, p.3))
+
+-- three bytes begin a sequence of three or more if two do and the third is a tail byte
+pub HasBegun-three : (s : List ℕ) → HasBegun s 2 → 0xE0 ≤ slice_index s 0 → 2 < length s
+    → IsTail (slice_index s 2) → HasBegun s 3
+HasBegun-three [] h g l t = absurd (omega arith)
+HasBegun-three (x ∷ []) h g l t = absurd (omega arith)
+HasBegun-three (x ∷ y ∷ []) h g l t = absurd (omega arith)
+HasBegun-three (x ∷ y ∷ z ∷ s) h g l t = (omega arith, third_begins x y z h.1 g t)
+
+-- the ranges of the first and the third byte, if three bytes begin a sequence
+pub third_byte_bounds : (s : List ℕ) → HasBegun s 3
+    → (0xE0 ≤ slice_index s 0) × (2 < length s) × IsTail (slice_index s 2)
+third_byte_bounds [] h = absurd (omega arith)
+third_byte_bounds (x ∷ []) h = absurd (omega arith)
+third_byte_bounds (x ∷ y ∷ []) h = absurd (omega arith)
+third_byte_bounds (x ∷ y ∷ z ∷ s) h =
+    let (u, is) = BeginsSequence-from (x ∷ y ∷ z ∷ []) h.1 in
+    let t = third_of x y z u is in
+    (t.0, omega arith, t.1)
+
+-- four bytes begin a sequence of four if three do and the fourth is a tail byte
+pub HasBegun-four : (s : List ℕ) → HasBegun s 3 → 0xF0 ≤ slice_index s 0 → 3 < length s
+    → IsTail (slice_index s 3) → HasBegun s 4
+HasBegun-four [] h g l t = absurd (omega arith)
+HasBegun-four (x ∷ []) h g l t = absurd (omega arith)
+HasBegun-four (x ∷ y ∷ []) h g l t = absurd (omega arith)
+HasBegun-four (x ∷ y ∷ z ∷ []) h g l t = absurd (omega arith)
+HasBegun-four (x ∷ y ∷ z ∷ w ∷ s) h g l t = (omega arith, fourth_begins x y z w h.1 g t)
+
+-- the ranges of the first and the fourth byte, if four bytes begin a sequence
+pub fourth_byte_bounds : (s : List ℕ) → HasBegun s 4
+    → (0xF0 ≤ slice_index s 0) × (3 < length s) × IsTail (slice_index s 3)
+fourth_byte_bounds [] h = absurd (omega arith)
+fourth_byte_bounds (x ∷ []) h = absurd (omega arith)
+fourth_byte_bounds (x ∷ y ∷ []) h = absurd (omega arith)
+fourth_byte_bounds (x ∷ y ∷ z ∷ []) h = absurd (omega arith)
+fourth_byte_bounds (x ∷ y ∷ z ∷ w ∷ s) h =
+    let (u, is) = BeginsSequence-from (x ∷ y ∷ z ∷ w ∷ []) h.1 in
+    let t = fourth_of x y z w u is in
+    (t.0, omega arith, t.1)
+
+-- if four bytes begin a sequence, the first three do
+pub HasBegun-three_of_four : (s : List ℕ) → HasBegun s 4 → HasBegun s 3
+HasBegun-three_of_four [] h = absurd (omega arith)
+HasBegun-three_of_four (x ∷ []) h = absurd (omega arith)
+HasBegun-three_of_four (x ∷ y ∷ []) h = absurd (omega arith)
+HasBegun-three_of_four (x ∷ y ∷ z ∷ []) h = absurd (omega arith)
+HasBegun-three_of_four (x ∷ y ∷ z ∷ w ∷ s) h =
+    let (u, is) = BeginsSequence-from (x ∷ y ∷ z ∷ w ∷ []) h.1 in
+    (omega arith, begins_sequence-from (x ∷ y ∷ z ∷ []) (w ∷ u, is))
+
+-- if three bytes begin a sequence, the first two do
+pub HasBegun-two_of_three : (s : List ℕ) → HasBegun s 3 → HasBegun s 2
+HasBegun-two_of_three [] h = absurd (omega arith)
+HasBegun-two_of_three (x ∷ []) h = absurd (omega arith)
+HasBegun-two_of_three (x ∷ y ∷ []) h = absurd (omega arith)
+HasBegun-two_of_three (x ∷ y ∷ z ∷ s) h =
+    let (u, is) = BeginsSequence-from (x ∷ y ∷ z ∷ []) h.1 in
+    (omega arith, begins_sequence-from (x ∷ y ∷ []) (z ∷ u, is))
+
+-- how far a sequence has begun, by the bytes at each place
+pub ruleset beginnings =
+    (take-two, pair_bounds, HasBegun-three, third_byte_bounds, HasBegun-four, fourth_byte_bounds)
+
+-- how far a sequence has begun, by the bytes at each place, and that fewer bytes begin one if more
+-- do
+pub ruleset all_beginnings = (beginnings, HasBegun-two_of_three, HasBegun-three_of_four)

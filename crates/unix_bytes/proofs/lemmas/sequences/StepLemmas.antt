@@ -1,0 +1,126 @@
+-- The sequence that bytes begin with, by how far one has begun.
+use Rattle.std.proofs.Common.{◌≡◌, ℕ, zero, suc, ◌<◌, ◌≤◌, List, [], ◌∷◌, ◌++◌, length, take, drop}
+use Rattle.std.proofs.Common.{⊎_elim, sym, ap, ◌∙◌, subst, arith, append-nil, slice_index}
+use Rattle.std.proofs.Common.{length-append, length-take-le, take-append-drop}
+use Rattle.std.proofs.lemmas.Bool.{cases_lt}
+use Rattle.unix_bytes.specs.Utf8.{is_sequence, IsSequence, BeginsSequence}
+use Rattle.unix_bytes.specs.Steps.{longest_len, HasBegun}
+use Rattle.unix_bytes.proofs.lemmas.sequences.SequenceLemmas.{is_sequence-nil, sequence_len}
+use Rattle.unix_bytes.proofs.lemmas.sequences.WidthLemmas.{HasWidth, has_width}
+use Rattle.unix_bytes.proofs.lemmas.sequences.BeginLemmas.{begins_sequence-from}
+use Rattle.unix_bytes.proofs.lemmas.sequences.BeginLemmas.{BeginsSequence-from}
+use Rattle.unix_bytes.proofs.lemmas.sequences.BeginLemmas.{BeginsSequence-take}
+use Rattle.unix_bytes.proofs.lemmas.sequences.LongestLemmas.{longest_len-longest}
+use Rattle.unix_bytes.proofs.lemmas.sequences.FrontLemmas.{longest_len-sequence}
+use Rattle.unix_bytes.proofs.lemmas.sequences.FrontLemmas.{BeginsSequence-sequence}
+
+-- n bytes that begin a sequence are one if no sequence that begins with them is longer
+none_missing : (n : ℕ) (t : List ℕ) → length t ≡ n
+    → ((u : List ℕ) → IsSequence (t ++ u) → length (t ++ u) ≤ n) → BeginsSequence t → IsSequence t
+none_missing n t e few ([], h) = subst IsSequence (append-nil t) h
+none_missing n t e few (x ∷ v, h) =
+    let k = few (x ∷ v) h in absurd (omega (arith, length-append t (x ∷ v)))
+
+-- n bytes that begin a sequence are the longest one if no sequence that begins with them is longer
+longest_len-HasBegun : (s : List ℕ) (n : ℕ) → HasBegun s n
+    → ((u : List ℕ) → IsSequence (take n s ++ u) → length (take n s ++ u) ≤ n)
+    → longest_len is_sequence s ≡ n
+longest_len-HasBegun s n h few =
+    let e = length-take-le n s h.0 in
+    let is = none_missing n (take n s) e few (BeginsSequence-from (take n s) h.1) in
+    ap (longest_len is_sequence) (sym (take-append-drop n s))
+    ∙ longest_len-sequence (take n s) (drop n s) is ∙ e
+
+-- no sequence stands at the beginning if the first n bytes begin none, and any sequence there would
+-- have n bytes or more
+longest_len-not_HasBegun : (s : List ℕ) (n : ℕ) → (HasBegun s n → ⊥)
+    → ((k : ℕ) → k ≤ length s → IsSequence (take k s) → n ≤ k) → longest_len is_sequence s ≡ 0
+longest_len-not_HasBegun s n never many =
+    let k = longest_len is_sequence s in
+    let h = longest_len-longest is_sequence s in
+    let within = h.within in
+    ⊎_elim (λ z. z)
+    (λ t.
+    let le = many k within t in
+    let begins = BeginsSequence-take n k s le (BeginsSequence-sequence (take k s) t) in
+    absurd (never (omega arith, begins_sequence-from (take n s) begins)))
+    h.passes
+
+-- the first byte of a sequence bounds its length
+module _ (b n : ℕ) (w : HasWidth b n) where
+  two_at_most : b < 0xE0 → n ≤ 2
+  two_at_most l =
+      ⊎_elim (λ (c : b < 0xC2). let e = (w.one c).1 in omega arith)
+      (λ c. let e = w.two c (omega arith) in omega arith) (cases_lt b 0xC2)
+
+  three_at_most : b < 0xF0 → n ≤ 3
+  three_at_most l =
+      ⊎_elim (λ (c : b < 0xE0). let e = two_at_most c in omega arith)
+      (λ c. let e = w.three c (omega arith) in omega arith) (cases_lt b 0xE0)
+
+  four_at_least : 0xF0 ≤ b → 4 ≤ n
+  four_at_least g = let e = (w.four g).1 in omega arith
+
+  three_at_least : 0xE0 ≤ b → 3 ≤ n
+  three_at_least g =
+      ⊎_elim (λ (c : b < 0xF0). let e = w.three g (omega arith) in omega arith)
+      (λ c. let e = four_at_least c in omega arith) (cases_lt b 0xF0)
+
+  two_at_least : 0x80 ≤ b → 2 ≤ n
+  two_at_least g =
+      ⊎_elim (λ (c : b < 0xC2). let e = (w.one c).0 in absurd (omega arith))
+      (λ c. ⊎_elim (λ (d : b < 0xE0). let e = w.two c (omega arith) in omega arith)
+      (λ d. let e = three_at_least d in omega arith) (cases_lt b 0xE0)) (cases_lt b 0xC2)
+
+-- the first byte of a prefix that is a sequence tells its length
+prefix_width : (b : ℕ) (bs : List ℕ) (k : ℕ) → k ≤ length (b ∷ bs) → IsSequence (take k (b ∷ bs))
+    → HasWidth b k
+prefix_width b bs zero within h = let z = is_sequence-nil in cc
+prefix_width b bs (suc k) within h =
+    subst (λ n. HasWidth b (suc n)) (length-take-le k bs (omega arith)) (has_width b (take k bs) h)
+
+-- two bytes that begin a sequence are one if the first leads no more than two
+pub two_byte_sequence : (s : List ℕ) → HasBegun s 2 → slice_index s 0 < 0xE0
+    → longest_len is_sequence s ≡ 2
+two_byte_sequence [] h l = absurd (omega arith)
+two_byte_sequence (b ∷ []) h l = absurd (omega arith)
+two_byte_sequence (b ∷ x ∷ s) h l =
+    longest_len-HasBegun (b ∷ x ∷ s) 2 h (λ u is. two_at_most b _ (has_width b (x ∷ u) is) l)
+
+-- three bytes that begin a sequence are one if the first leads no more than three
+pub three_byte_sequence : (s : List ℕ) → HasBegun s 3 → slice_index s 0 < 0xF0
+    → longest_len is_sequence s ≡ 3
+three_byte_sequence [] h l = absurd (omega arith)
+three_byte_sequence (b ∷ []) h l = absurd (omega arith)
+three_byte_sequence (b ∷ x ∷ []) h l = absurd (omega arith)
+three_byte_sequence (b ∷ x ∷ y ∷ s) h l =
+    longest_len-HasBegun (b ∷ x ∷ y ∷ s) 3 h
+    (λ u is. three_at_most b _ (has_width b (x ∷ y ∷ u) is) l)
+
+-- four bytes that begin a sequence are one
+pub four_byte_sequence : (s : List ℕ) → HasBegun s 4 → longest_len is_sequence s ≡ 4
+four_byte_sequence s h = longest_len-HasBegun s 4 h (λ u is. (sequence_len (take 4 s ++ u) is).1)
+
+-- no sequence stands at the beginning if two bytes begin none and the first is not ASCII
+pub none_of_two : (s : List ℕ) → (HasBegun s 2 → ⊥) → 0x80 ≤ slice_index s 0
+    → longest_len is_sequence s ≡ 0
+none_of_two [] never g = absurd (omega arith)
+none_of_two (b ∷ bs) never g =
+    longest_len-not_HasBegun (b ∷ bs) 2 never
+    (λ k within h. two_at_least b k (prefix_width b bs k within h) g)
+
+-- no sequence stands at the beginning if three bytes begin none and the first leads three or more
+pub none_of_three : (s : List ℕ) → (HasBegun s 3 → ⊥) → 0xE0 ≤ slice_index s 0
+    → longest_len is_sequence s ≡ 0
+none_of_three [] never g = absurd (omega arith)
+none_of_three (b ∷ bs) never g =
+    longest_len-not_HasBegun (b ∷ bs) 3 never
+    (λ k within h. three_at_least b k (prefix_width b bs k within h) g)
+
+-- no sequence stands at the beginning if four bytes begin none and the first leads four
+pub none_of_four : (s : List ℕ) → (HasBegun s 4 → ⊥) → 0xF0 ≤ slice_index s 0
+    → longest_len is_sequence s ≡ 0
+none_of_four [] never g = absurd (omega arith)
+none_of_four (b ∷ bs) never g =
+    longest_len-not_HasBegun (b ∷ bs) 4 never
+    (λ k within h. four_at_least b k (prefix_width b bs k within h) g)

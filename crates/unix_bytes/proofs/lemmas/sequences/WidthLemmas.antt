@@ -1,0 +1,119 @@
+-- How many bytes a sequence has, by its first; so no sequence begins another.
+use Rattle.std.specs.Prelude.{◌↔◌}
+use Rattle.std.proofs.Common.{◌⊎◌, ◌≡◌, ℕ, suc, ◌<◌, ◌≤◌, List, [], ◌∷◌, ◌++◌, length, ⊎_elim, refl}
+use Rattle.std.proofs.Common.{sym, ◌∙◌, arith, length-append}
+use Rattle.std.proofs.lemmas.Bool.{cases_lt}
+use Rattle.unix_bytes.specs.Utf8.{IsSequence, BeginsSequence}
+use Rattle.unix_bytes.proofs.lemmas.sequences.SequenceLemmas.{one_byte, two_bytes, three_bytes}
+use Rattle.unix_bytes.proofs.lemmas.sequences.SequenceLemmas.{four_bytes}
+use Rattle.unix_bytes.proofs.lemmas.sequences.SequenceLemmas.{IsSequence-one, IsSequence-two}
+use Rattle.unix_bytes.proofs.lemmas.sequences.SequenceLemmas.{IsSequence-three}
+use Rattle.unix_bytes.proofs.lemmas.sequences.SequenceLemmas.{IsSequence-four, is_sequence-nil}
+use Rattle.unix_bytes.proofs.lemmas.sequences.SequenceLemmas.{is_sequence-more}
+
+-- n is the length of a sequence, by its first byte b
+pub record HasWidth (b n : ℕ) : Type 0 where
+  pub one : b < 0xC2 → (b ≤ 0x7F) × (n ≡ 1)
+  pub two : 0xC2 ≤ b → b ≤ 0xDF → n ≡ 2
+  pub three : 0xE0 ≤ b → b ≤ 0xEF → n ≡ 3
+  pub four : 0xF0 ≤ b → (b ≤ 0xF4) × (n ≡ 4)
+
+-- the first byte of a sequence tells its length
+pub has_width : (b : ℕ) (u : List ℕ) → IsSequence (b ∷ u) → HasWidth b (suc (length u))
+has_width b [] h =
+    let p = one_byte b h in
+    record {
+      one = λ l. (omega arith, omega arith);
+      two = λ l g. absurd (omega arith);
+      three = λ l g. absurd (omega arith);
+      four = λ l. absurd (omega arith);
+    }
+has_width b (x ∷ []) h =
+    let p = two_bytes b x h in
+    record {
+      one = λ l. absurd (omega arith);
+      two = λ l g. omega arith;
+      three = λ l g. absurd (omega arith);
+      four = λ l. absurd (omega arith);
+    }
+has_width b (x ∷ y ∷ []) h =
+    let p = three_bytes b x y h in
+    record {
+      one = λ l. absurd (omega arith);
+      two = λ l g. absurd (omega arith);
+      three = λ l g. omega arith;
+      four = λ l. absurd (omega arith);
+    }
+has_width b (x ∷ y ∷ z ∷ []) h =
+    let p = four_bytes b x y z h in
+    record {
+      one = λ l. absurd (omega arith);
+      two = λ l g. absurd (omega arith);
+      three = λ l g. absurd (omega arith);
+      four = λ l. (omega arith, omega arith);
+    }
+has_width b (x ∷ y ∷ z ∷ w ∷ u) h = let p = is_sequence-more b x y z w u in cc
+
+-- the first byte tells only one length
+same_width : (b n m : ℕ) → HasWidth b n → HasWidth b m → n ≡ m
+same_width b n m p q =
+    ⊎_elim (λ (l : b < 0xC2). (p.one l).1 ∙ sym (q.one l).1)
+    (λ g. ⊎_elim (λ (l : b < 0xE0). p.two g (omega arith) ∙ sym (q.two g (omega arith)))
+    (λ g. ⊎_elim (λ (l : b < 0xF0). p.three g (omega arith) ∙ sym (q.three g (omega arith)))
+    (λ g. (p.four g).1 ∙ sym (q.four g).1)
+    (cases_lt b 0xF0)) (cases_lt b 0xE0)) (cases_lt b 0xC2)
+
+-- what adds no length is empty
+none_more : (u v : List ℕ) → length (u ++ v) ≡ length u → v ≡ []
+none_more u [] e = refl
+none_more u (x ∷ v) e = absurd (omega (arith, length-append u (x ∷ v)))
+
+-- no sequence begins another
+pub prefix_free : (u v : List ℕ) → IsSequence u → IsSequence (u ++ v) → v ≡ []
+prefix_free [] v h k = let e = is_sequence-nil in cc
+prefix_free (b ∷ u) v h k =
+    none_more (b ∷ u) v
+    (same_width b (length (b ∷ u ++ v)) (length (b ∷ u)) (has_width b (u ++ v) k) (has_width b u h))
+
+-- a byte of ASCII begins a sequence
+pub begins_one : (b : ℕ) → b ≤ 0x7F → BeginsSequence (b ∷ [])
+begins_one b h = ([], IsSequence-one b h)
+
+-- a byte that leads two begins a sequence
+pub begins_two : (b : ℕ) → 0xC2 ≤ b → b ≤ 0xDF → BeginsSequence (b ∷ [])
+begins_two b h k = (0x80 ∷ [], IsSequence-two b 0x80 (h, k, omega arith, omega arith))
+
+-- a byte that leads three begins a sequence
+pub begins_three : (b : ℕ) → 0xE0 ≤ b → b ≤ 0xEF → BeginsSequence (b ∷ [])
+begins_three b h k =
+    ⊎_elim (λ (l : b < 0xE1). (0xA0 ∷ 0x80 ∷ [], IsSequence-three b 0xA0 0x80 (grind arith)))
+    (λ (g : 0xE1 ≤ b). (0x80 ∷ 0x80 ∷ [], IsSequence-three b 0x80 0x80 (grind arith)))
+    (cases_lt b 0xE1)
+
+-- a byte that leads four begins a sequence
+pub begins_four : (b : ℕ) → 0xF0 ≤ b → b ≤ 0xF4 → BeginsSequence (b ∷ [])
+begins_four b h k =
+    ⊎_elim
+    (λ (l : b < 0xF1). (0x90 ∷ 0x80 ∷ 0x80 ∷ [], IsSequence-four b 0x90 0x80 0x80 (grind arith)))
+    (λ (g : 0xF1 ≤ b). (0x80 ∷ 0x80 ∷ 0x80 ∷ [], IsSequence-four b 0x80 0x80 0x80 (grind arith)))
+    (cases_lt b 0xF1)
+
+-- if a byte begins a sequence, a width that is not 0 fits it
+pub some_width : (b n : ℕ) → 0 < n → BeginsSequence (b ∷ [])
+    → (n ≡ 0) ↔ ¬ (BeginsSequence (b ∷ []))
+some_width b n some begins = (λ e. absurd (omega arith), λ none. absurd (none begins))
+
+-- the byte leads no sequence
+abbrev pub LeadsNone : ℕ → Type 0
+LeadsNone b = ((0x80 ≤ b) × (b < 0xC2)) ⊎ (0xF4 < b)
+
+-- a byte that leads no sequence begins none
+pub leads_none : (b : ℕ) (u : List ℕ) → LeadsNone b → IsSequence (b ∷ u) → ⊥
+leads_none b u lone h =
+    let w = has_width b u h in
+    ⊎_elim (λ l. let p = (w.one l.1).0 in omega arith)
+    (λ g. let p = (w.four (omega arith)).0 in omega arith) lone
+
+-- the width 0 fits a byte that leads no sequence
+pub no_width : (b : ℕ) → LeadsNone b → ◌≡◌ {A = ℕ} 0 0 ↔ ¬ (BeginsSequence (b ∷ []))
+no_width b lone = (λ e (u, h). leads_none b u lone h, λ none. refl)

@@ -1,0 +1,4 @@
+-- Text, and windows of it.
+pub mod FinishLemmas
+pub mod TextLemmas
+pub mod WindowLemmas

@@ -1,0 +1,63 @@
+-- Text ends with a finished sequence.
+use Rattle.std.proofs.Common.{◌≡◌, ℕ, ◌+◌, ◌-◌, ◌≤◌, List, [], ◌∷◌, ◌++◌, length, take, drop}
+use Rattle.std.proofs.Common.{ap, ◌∙◌, subst, arith, slice_index, length-drop}
+use Rattle.std.specs.List.{All, concat}
+use Rattle.std.proofs.lemmas.List.Elements.{All-head, All-tail}
+use Rattle.std.proofs.Math.Seq.{take-add}
+use Rattle.unix_bytes.specs.Utf8.{IsSequence, IsText}
+use Rattle.unix_bytes.specs.Windows.{IsFinished}
+use Rattle.unix_bytes.proofs.lemmas.sequences.SequenceLemmas.{one_byte, two_bytes, three_bytes}
+use Rattle.unix_bytes.proofs.lemmas.sequences.SequenceLemmas.{four_bytes}
+use Rattle.unix_bytes.proofs.lemmas.sequences.SequenceLemmas.{is_sequence-nil, is_sequence-more}
+
+-- the last three of the bytes, behind three others, are the end of finished sequences
+abbrev EndsFinished : ℕ → ℕ → ℕ → List ℕ → Type 0
+EndsFinished a b c [] = IsFinished a b c
+EndsFinished a b c (d ∷ s) = EndsFinished b c d s
+
+-- the bytes leave finished sequences finished
+abbrev KeepsFinished : List ℕ → Type 0
+KeepsFinished s = (a b c : ℕ) → IsFinished a b c → EndsFinished a b c s
+
+-- bytes that leave finished sequences finished do so behind a sequence too
+sequence_keeps_finished : (u s : List ℕ) → IsSequence u → KeepsFinished s → KeepsFinished (u ++ s)
+sequence_keeps_finished [] s h next a b c k = let z = is_sequence-nil in cc
+sequence_keeps_finished (d ∷ []) s h next a b c k =
+    let p = one_byte d h in next b c d (omega arith, omega arith, omega arith)
+sequence_keeps_finished (d ∷ e ∷ []) s h next a b c k =
+    let p = two_bytes d e h in next c d e (omega arith, omega arith, omega arith)
+sequence_keeps_finished (d ∷ e ∷ f ∷ []) s h next a b c k =
+    let p = three_bytes d e f h in next d e f (omega arith, omega arith, omega arith)
+sequence_keeps_finished (d ∷ e ∷ f ∷ x ∷ []) s h next a b c k =
+    let p = four_bytes d e f x h in next e f x (omega arith, omega arith, omega arith)
+sequence_keeps_finished (d ∷ e ∷ f ∷ x ∷ y ∷ u) s h next a b c k =
+    let z = is_sequence-more d e f x y u in cc
+
+-- sequences, one after the other, leave finished sequences finished
+text_keeps_finished : (us : List (List ℕ)) → All IsSequence us → KeepsFinished (concat us)
+text_keeps_finished [] all = λ a b c k. k
+text_keeps_finished (u ∷ us) all =
+    sequence_keeps_finished u (concat us) (All-head IsSequence u us all)
+    (text_keeps_finished us (All-tail IsSequence u us all))
+
+-- if u and then three bytes of w end in finished sequences, these three do
+IsFinished-last : (u w : List ℕ) (a b c : ℕ) → 3 ≤ length w → EndsFinished a b c (u ++ take 3 w)
+    → IsFinished (slice_index w 0) (slice_index w 1) (slice_index w 2)
+IsFinished-last [] [] a b c l h = absurd (omega arith)
+IsFinished-last [] (x ∷ []) a b c l h = absurd (omega arith)
+IsFinished-last [] (x ∷ y ∷ []) a b c l h = absurd (omega arith)
+IsFinished-last [] (x ∷ y ∷ z ∷ w) a b c l h = h
+IsFinished-last (d ∷ u) w a b c l h = IsFinished-last u w b c d l h
+
+-- the last three bytes of text are the end of finished sequences
+pub IsFinished-before : (s : List ℕ) (i : ℕ) → 3 ≤ i → i ≤ length s → IsText (take i s)
+    → IsFinished (slice_index (drop (i - 3) s) 0) (slice_index (drop (i - 3) s) 1)
+    (slice_index (drop (i - 3) s) 2)
+IsFinished-before s i some within (us, all, e) =
+    let w = drop (i - 3) s in
+    let split : i ≡ i - 3 + 3 = omega arith in
+    let cut : take i s ≡ take (i - 3) s ++ take 3 w =
+    ap (λ n. take n s) split ∙ take-add (i - 3) 3 s in
+    IsFinished-last (take (i - 3) s) w 0 0 0 (omega (arith, length-drop (i - 3) s))
+    (subst (EndsFinished 0 0 0) (e ∙ cut)
+    (text_keeps_finished us all 0 0 0 (omega arith, omega arith, omega arith)))

@@ -1,0 +1,177 @@
+-- Windows of text: bytes that each may follow the three before them.
+use Rattle.std.proofs.Common.{◌≡◌, ℕ, zero, suc, ◌+◌, ◌-◌, ◌<◌, ◌≤◌, List, [], ◌∷◌, ◌++◌, length}
+use Rattle.std.proofs.Common.{take, drop, Bool, true, false, ⊎_elim, inl, inr, refl, sym, ap, ◌∙◌}
+use Rattle.std.proofs.Common.{subst, arith, slice_index, length-append, length-take-le, le-leb}
+use Rattle.std.proofs.Common.{le_refl}
+use Rattle.std.specs.Prelude.{◌==◌, if◌then◌else◌}
+use Rattle.std.proofs.lemmas.Bool.{cases_lt, lt-leb}
+use Rattle.std.proofs.lemmas.List.{take-take}
+use Rattle.std.proofs.Math.Seq.{take-append-add}
+use Rattle.unix_bytes.specs.Utf8.{IsSequence, IsText}
+use Rattle.unix_bytes.specs.Windows.{least_second, most_second, unfinished_len, IsFinished}
+use Rattle.unix_bytes.specs.Windows.{Fits, FitAfter, FitsWindow}
+use Rattle.unix_bytes.proofs.lemmas.sequences.SequenceLemmas.{IsSequence-one, IsSequence-two}
+use Rattle.unix_bytes.proofs.lemmas.sequences.SequenceLemmas.{IsSequence-three}
+use Rattle.unix_bytes.proofs.lemmas.sequences.SequenceLemmas.{IsSequence-four}
+use Rattle.unix_bytes.proofs.lemmas.text.TextLemmas.{IsText-nil, IsText-append, IsText-sequence}
+
+-- how many of the last bytes, after a, b and c, are of a sequence that is not finished
+abbrev unfinished_after : ℕ → ℕ → ℕ → List ℕ → ℕ
+unfinished_after a b c [] = unfinished_len a b c
+unfinished_after a b c (d ∷ s) = unfinished_after b c d s
+
+-- the text that the bytes begin with, up to a sequence that is not finished at their end
+record TextPrefix (a b c : ℕ) (s : List ℕ) : Type 0 where
+  len : ℕ
+  whole : len + unfinished_after a b c s ≡ length s
+  text : IsText (take len s)
+
+-- behind finished sequences no byte is of one that is not finished
+unfinished_len-finished : (a b c : ℕ) → IsFinished a b c → unfinished_len a b c ≡ 0
+unfinished_len-finished a b c h = rw (lt-leb 0xC0 c h.2, lt-leb 0xE0 b h.1, lt-leb 0xF0 a h.0) refl
+
+-- the upper bound of a second byte is never more than F4
+most_bound : (c : ℕ) → most_second c ≤ 0xF4
+most_bound c = by (c == 0xED) (c == 0xF4)
+  where
+    by : (p q : Bool) → (if p then 0x9F else if q then 0x8F else 0xF4) ≤ 0xF4
+    by true q = omega arith
+    by false true = omega arith
+    by false false = omega arith
+
+-- if all bytes are of a sequence that is not finished, the text that they begin with is empty
+no_prefix : (a b c : ℕ) (s : List ℕ) → unfinished_after a b c s ≡ length s → TextPrefix a b c s
+no_prefix a b c s e = record { len = 0; whole = omega (arith, e); text = IsText-nil }
+
+-- a sequence, and the text that the bytes behind it begin with, are text at the beginning of all
+more_prefix : (u s : List ℕ) (a b c x y z n : ℕ) → IsSequence u → length u ≡ n → TextPrefix x y z s
+    → unfinished_after a b c (u ++ s) ≡ unfinished_after x y z s → TextPrefix a b c (u ++ s)
+more_prefix u s a b c x y z n h l f e = record {
+  len = n + f.len;
+  whole = omega (arith, e, f.whole, length-append u s);
+  text = subst IsText
+      (sym (ap (λ k. take (k + f.len) (u ++ s)) (sym l) ∙ take-append-add u s f.len))
+      (IsText-append u (take f.len s) (IsText-sequence u h) f.text);
+}
+
+-- one byte, a lead, is of a sequence that is not finished
+unfinished_len-one : (a b c : ℕ) → 0xC0 ≤ c → unfinished_len a b c ≡ 1
+unfinished_len-one a b c h = rw (le-leb 0xC0 c h) refl
+
+-- two bytes, of which the first leads three or more, are of a sequence that is not finished
+unfinished_len-two : (a b c : ℕ) → c < 0xC0 → 0xE0 ≤ b → unfinished_len a b c ≡ 2
+unfinished_len-two a b c l h = rw (lt-leb 0xC0 c l, le-leb 0xE0 b h) refl
+
+-- three bytes, of which the first leads four, are of a sequence that is not finished
+unfinished_len-three : (a b c : ℕ) → c < 0xC0 → b < 0xE0 → 0xF0 ≤ a → unfinished_len a b c ≡ 3
+unfinished_len-three a b c l k h = rw (lt-leb 0xC0 c l, lt-leb 0xE0 b k, le-leb 0xF0 a h) refl
+
+-- the bounds of a second byte
+second_bounds : (d e : ℕ) → least_second d ≤ e → e ≤ most_second d
+    → (d ≡ 0xE0 → 0xA0 ≤ e) × (d ≡ 0xED → e ≤ 0x9F) × (d ≡ 0xF0 → 0x90 ≤ e) × (d ≡ 0xF4 → e ≤ 0x8F)
+second_bounds d e l m = (
+  λ h. subst (λ x. least_second x ≤ e) h l,
+  λ h. subst (λ x. e ≤ most_second x) h m,
+  λ h. subst (λ x. least_second x ≤ e) h l,
+  λ h. subst (λ x. e ≤ most_second x) h m,
+)
+
+-- up to n bytes that each may follow the three before them begin with text
+abbrev HasPrefixUpTo : ℕ → Type 0
+HasPrefixUpTo n =
+    (a b c : ℕ) (s : List ℕ) → length s ≤ n → IsFinished a b c → FitAfter a b c s
+    → TextPrefix a b c s
+
+module _ (n : ℕ) (fewer : HasPrefixUpTo n) (a b c d : ℕ) (k : IsFinished a b c) where
+  -- at most n + 1 bytes that may follow begin with text, if the first leads two
+  two_byte_prefix : (s : List ℕ) → length s ≤ n → 0xC2 ≤ d → d ≤ 0xDF → FitAfter b c d s
+      → TextPrefix a b c (d ∷ s)
+  two_byte_prefix [] le g l hs = no_prefix _ _ _ _ (unfinished_len-one b c d (omega arith))
+  two_byte_prefix (e ∷ s) le g l (h, hs) =
+      let (lo, hi) = h.goes.within (inr (inr (omega arith))) in
+      more_prefix (d ∷ e ∷ []) s a b c c d e 2 (IsSequence-two d e (g, l, lo, hi)) refl
+      (fewer c d e s (omega arith) (omega arith, omega arith, omega arith) hs) refl
+
+  -- at most n + 1 bytes that may follow begin with text, if the first leads three
+  three_byte_prefix : (s : List ℕ) → length s ≤ n → 0xE0 ≤ d → d ≤ 0xEF → FitAfter b c d s
+      → TextPrefix a b c (d ∷ s)
+  three_byte_prefix [] le g l hs = no_prefix _ _ _ _ (unfinished_len-one b c d (omega arith))
+  three_byte_prefix (e ∷ []) le g l (h, hs) =
+      let (lo, hi) = h.goes.within (inr (inr (omega arith))) in
+      no_prefix _ _ _ _ (unfinished_len-two c d e (omega arith) g)
+  three_byte_prefix (e ∷ f ∷ s) le g l (h, (i, hs)) =
+      let (lo, hi) = h.goes.within (inr (inr (omega arith))) in
+      let (lo2, hi2) = i.goes.within (inr (inl g)) in
+      let second = second_bounds d e h.least h.most in
+      more_prefix (d ∷ e ∷ f ∷ []) s a b c d e f 3
+      (IsSequence-three d e f (g, l, lo, hi, lo2, hi2, second.0, second.1)) refl
+      (fewer d e f s (omega arith) (omega arith, omega arith, omega arith) hs) refl
+
+  -- at most n + 1 bytes that may follow begin with text, if the first leads four
+  four_byte_prefix : (s : List ℕ) → length s ≤ n → 0xF0 ≤ d → d ≤ 0xF4 → FitAfter b c d s
+      → TextPrefix a b c (d ∷ s)
+  four_byte_prefix [] le g l hs = no_prefix _ _ _ _ (unfinished_len-one b c d (omega arith))
+  four_byte_prefix (e ∷ []) le g l (h, hs) =
+      let (lo, hi) = h.goes.within (inr (inr (omega arith))) in
+      no_prefix _ _ _ _ (unfinished_len-two c d e (omega arith) (omega arith))
+  four_byte_prefix (e ∷ f ∷ []) le g l (h, (i, hs)) =
+      let (lo, hi) = h.goes.within (inr (inr (omega arith))) in
+      let (lo2, hi2) = i.goes.within (inr (inl (omega arith))) in
+      no_prefix _ _ _ _ (unfinished_len-three d e f (omega arith) (omega arith) g)
+  four_byte_prefix (e ∷ f ∷ x ∷ s) le g l (h, (i, (j, hs))) =
+      let (lo, hi) = h.goes.within (inr (inr (omega arith))) in
+      let (lo2, hi2) = i.goes.within (inr (inl (omega arith))) in
+      let (lo3, hi3) = j.goes.within (inl g) in
+      let second = second_bounds d e h.least h.most in
+      more_prefix (d ∷ e ∷ f ∷ x ∷ []) s a b c e f x 4
+      (IsSequence-four d e f x (g, l, lo, hi, lo2, hi2, lo3, hi3, second.2, second.3)) refl
+      (fewer e f x s (omega arith) (omega arith, omega arith, omega arith) hs) refl
+
+  -- at most n + 1 bytes that may follow begin with text, whatever the first is
+  any_prefix : (s : List ℕ) → length s ≤ n → Fits a b c d → FitAfter b c d s
+      → TextPrefix a b c (d ∷ s)
+  any_prefix s le h hs =
+      let last = most_bound c in
+      let most = h.most in
+      ⊎_elim (λ (l : d < 0x80).
+      more_prefix (d ∷ []) s a b c b c d 1 (IsSequence-one d (omega arith)) refl
+      (fewer b c d s le (omega arith, omega arith, omega arith) hs) refl)
+      (λ (g : 0xC2 ≤ d).
+      ⊎_elim (λ (l : d < 0xE0). two_byte_prefix s le g (omega arith) hs)
+      (λ (e : 0xE0 ≤ d). ⊎_elim (λ (l : d < 0xF0). three_byte_prefix s le e (omega arith) hs)
+      (λ (f : 0xF0 ≤ d). four_byte_prefix s le f (omega arith) hs) (cases_lt d 0xF0))
+      (cases_lt d 0xE0))
+      (h.goes.begins k)
+
+-- bytes that each may follow the three before them begin with text
+has_prefix : (n : ℕ) → HasPrefixUpTo n
+has_prefix n a b c [] le k h = no_prefix _ _ _ _ (unfinished_len-finished a b c k)
+has_prefix zero a b c (d ∷ s) le k h = absurd (omega arith)
+has_prefix (suc n) a b c (d ∷ s) le k (h, hs) =
+    any_prefix n (has_prefix n) a b c d k s (omega arith) h hs
+
+-- how many of the last of n bytes are of a sequence that is not finished, by their places
+unfinished_after-take : (n a b c : ℕ) (s : List ℕ) → n ≤ length s
+    → unfinished_after a b c (take n s)
+    ≡ unfinished_len (slice_index (a ∷ b ∷ c ∷ s) n) (slice_index (a ∷ b ∷ c ∷ s) (suc n))
+    (slice_index (a ∷ b ∷ c ∷ s) (suc (suc n)))
+unfinished_after-take zero a b c s le = refl
+unfinished_after-take (suc n) a b c [] le = absurd (omega arith)
+unfinished_after-take (suc n) a b c (d ∷ s) le = unfinished_after-take n b c d s (omega arith)
+
+-- the text that a window begins with
+pub window_text : (w : List ℕ) → 19 ≤ length w
+    → IsFinished (slice_index w 0) (slice_index w 1) (slice_index w 2) → FitsWindow w
+    → let last = slice_index w in
+    IsText (take (16 - unfinished_len (last 16) (last 17) (last 18)) (drop 3 w))
+window_text [] l k h = absurd (omega arith)
+window_text (a ∷ []) l k h = absurd (omega arith)
+window_text (a ∷ b ∷ []) l k h = absurd (omega arith)
+window_text (a ∷ b ∷ c ∷ s) l k h =
+    let f = has_prefix (length (take 16 s)) a b c (take 16 s) (le_refl _) k h in
+    let sixteen : length (take 16 s) ≡ 16 = length-take-le 16 s (omega arith) in
+    let last = slice_index (a ∷ b ∷ c ∷ s) in
+    let e : f.len ≡ 16 - unfinished_len (last 16) (last 17) (last 18) =
+    omega (arith, f.whole, unfinished_after-take 16 a b c s (omega arith)) in
+    subst (λ n. IsText (take n s)) e
+    (subst IsText (take-take f.len 16 s (omega (arith, f.whole))) f.text)

@@ -1,0 +1,166 @@
+-- How far two strings are the same, and several bytes of each compared at once.
+use Rattle.std.proofs.Common.{◌≡◌, ℕ, zero, suc, ◌+◌, ◌-◌, ◌^◌, ◌%◌, ◌<◌, ◌≤◌, Bool, true, false}
+use Rattle.std.proofs.Common.{cond, not, eqb, List, [], ◌∷◌, length, map, get_or, ⊎_elim}
+use Rattle.std.proofs.Common.{refl, sym, ap, ap₂, ◌∙◌, arith, w8, eq-eqb, ne_eqb, eqb-true}
+use Rattle.std.specs.Int.Count.{count_trailing_zeros}
+use Rattle.std.specs.List.{common_prefix_len, prefix_len}
+use Rattle.std.specs.Simd.Lanes.{zip2, chunk, mask_l, top}
+use Rattle.std.proofs.lemmas.Bool.{cases_Bool}
+use Rattle.std.proofs.lemmas.List.{length-map}
+use Rattle.std.proofs.lemmas.List.Sums.{common_prefix_len-le}
+use Rattle.std.proofs.lemmas.Simd.{tops_compared, mask_l-mod, first_set_mask_l}
+use Rattle.std.proofs.lemmas.Simd.{length-chunk, get_or-chunk}
+use Rattle.unix_bytes.proofs.lemmas.vectors.HitLemmas.{in_window}
+
+-- n is the length of the common prefix if the bytes before n are the same, and at n a string ends
+-- or the two differ
+pub common_prefix_len-is : (a b : List ℕ) (n : ℕ) → n ≤ length a → n ≤ length b
+    → ((k : ℕ) → k < n → get_or a k 0 ≡ get_or b k 0)
+    → (n < length a → n < length b → eqb (get_or a n 0) (get_or b n 0) ≡ false)
+    → n ≡ common_prefix_len eqb a b
+common_prefix_len-is [] b n l m same differs = omega arith
+common_prefix_len-is (x ∷ a) [] n l m same differs = omega arith
+common_prefix_len-is (x ∷ a) (y ∷ b) zero l m same differs =
+    rw (differs (omega arith) (omega arith)) refl
+common_prefix_len-is (x ∷ a) (y ∷ b) (suc n) l m same differs =
+    let first : eqb x y ≡ true = eq-eqb x y (same 0 (omega arith)) in
+    let next : n ≡ common_prefix_len eqb a b =
+    common_prefix_len-is a b n (omega arith) (omega arith) (λ k h. same (suc k) (omega arith))
+    (λ i j. differs (omega arith) (omega arith)) in
+    let total : suc n ≡ 1 + common_prefix_len eqb a b = omega arith in
+    rw first total
+
+-- two strings have the same byte at each place of their common prefix
+pub common_prefix_len-same : (a b : List ℕ) (k : ℕ) → k < common_prefix_len eqb a b
+    → get_or a k 0 ≡ get_or b k 0
+common_prefix_len-same [] b k l = absurd (omega arith)
+common_prefix_len-same (x ∷ a) [] k l = absurd (omega arith)
+common_prefix_len-same (x ∷ a) (y ∷ b) zero l =
+    ⊎_elim (λ (same : eqb x y ≡ true). eqb-true x y same)
+    (λ (other : eqb x y ≡ false). let m : 0 < 0 = rw other at l in absurd (omega arith))
+    (cases_Bool (eqb x y))
+common_prefix_len-same (x ∷ a) (y ∷ b) (suc k) l =
+    ⊎_elim
+    (λ (same : eqb x y ≡ true).
+    let m : suc k < 1 + common_prefix_len eqb a b = rw same at l in
+    common_prefix_len-same a b k (omega arith))
+    (λ (other : eqb x y ≡ false). let m : suc k < 0 = rw other at l in absurd (omega arith))
+    (cases_Bool (eqb x y))
+
+-- two strings that go on behind their common prefix differ there
+pub common_prefix_len-differs : (a b : List ℕ) (n : ℕ) → n ≡ common_prefix_len eqb a b → n < length a
+    → n < length b → eqb (get_or a n 0) (get_or b n 0) ≡ false
+common_prefix_len-differs [] b n e l m = absurd (omega arith)
+common_prefix_len-differs (x ∷ a) [] n e l m = absurd (omega arith)
+common_prefix_len-differs (x ∷ a) (y ∷ b) zero e l m =
+    ⊎_elim
+    (λ (same : eqb x y ≡ true).
+    let f : 0 ≡ 1 + common_prefix_len eqb a b = rw same at e in absurd (omega arith))
+    (λ (other : eqb x y ≡ false). other) (cases_Bool (eqb x y))
+common_prefix_len-differs (x ∷ a) (y ∷ b) (suc n) e l m =
+    ⊎_elim
+    (λ (same : eqb x y ≡ true).
+    let f : suc n ≡ 1 + common_prefix_len eqb a b = rw same at e in
+    common_prefix_len-differs a b n (omega arith) (omega arith) (omega arith))
+    (λ (other : eqb x y ≡ false). let f : suc n ≡ 0 = rw other at e in absurd (omega arith))
+    (cases_Bool (eqb x y))
+
+-- the two bytes of a pair are not the same
+abbrev differ : ℕ × ℕ → Bool
+differ pair = not (eqb pair.0 pair.1)
+
+-- the bytes of two strings, place by place
+abbrev pairs : List ℕ → List ℕ → List (ℕ × ℕ)
+pairs a b = zip2 (λ x y. (x, y)) a b
+
+-- the places at which two strings differ, by their pairs
+zip2-pairs : (a b : List ℕ) → zip2 (λ x y. not (eqb x y)) a b ≡ map differ (pairs a b)
+zip2-pairs [] b = refl
+zip2-pairs (x ∷ a) [] = refl
+zip2-pairs (x ∷ a) (y ∷ b) = ap (λ ts. not (eqb x y) ∷ ts) (zip2-pairs a b)
+
+-- the pairs before the first that differs are the common prefix
+prefix_len-pairs : (a b : List ℕ)
+    → prefix_len (λ pair. not (differ pair)) (pairs a b) ≡ common_prefix_len eqb a b
+prefix_len-pairs [] b = refl
+prefix_len-pairs (x ∷ a) [] = refl
+prefix_len-pairs (x ∷ a) (y ∷ b) =
+    ⊎_elim (λ (same : eqb x y ≡ true). rw same (ap (λ n. 1 + n) (prefix_len-pairs a b)))
+    (λ (other : eqb x y ≡ false). rw other refl) (cases_Bool (eqb x y))
+
+-- two strings of one length have as many pairs
+length-pairs : (a b : List ℕ) → length a ≡ length b → length (pairs a b) ≡ length a
+length-pairs [] b e = refl
+length-pairs (x ∷ a) [] e = absurd (omega arith)
+length-pairs (x ∷ a) (y ∷ b) e = ap (λ n. suc n) (length-pairs a b (omega arith))
+
+-- a bit for each pair of bytes, the lowest for the first: set if they differ
+abbrev other_mask : List ℕ → List ℕ → ℕ
+other_mask a b = mask_l (map (top 7) (zip2 (λ x y. cond (not (eqb x y)) 255 0) a b)) % 2 ^ 64
+
+-- the mask that the code computes has a bit for each pair that differs
+other_mask-pairs : (a b : List ℕ) (n : ℕ) → n ≤ 64 → length a ≡ n → length b ≡ n
+    → other_mask a b ≡ mask_l (map differ (pairs a b))
+other_mask-pairs a b n few l m =
+    let size : length (map differ (pairs a b)) ≤ 64 =
+    omega (arith, length-map (pairs a b) differ, length-pairs a b (l ∙ sym m)) in
+    ap (λ ts. mask_l ts % 2 ^ 64) (tops_compared w8 (λ x y. not (eqb x y)) a b ∙ zip2-pairs a b)
+    ∙ mask_l-mod (map differ (pairs a b)) 64 size
+
+-- the length of the common prefix is n if no bit is set, and else the place of the lowest
+first_other : (a b : List ℕ) (n : ℕ) → n ≤ 64 → length a ≡ n → length b ≡ n
+    → cond (eqb (other_mask a b) 0) n (count_trailing_zeros 64 (other_mask a b))
+    ≡ common_prefix_len eqb a b
+first_other a b n few l m =
+    ap (λ k. cond (eqb k 0) n (count_trailing_zeros 64 k)) (other_mask-pairs a b n few l m)
+    ∙ first_set_mask_l differ (pairs a b) n (length-pairs a b (l ∙ sym m) ∙ l) few
+    ∙ prefix_len-pairs a b
+
+-- of the n bytes from `at` on, `len` stand before the first place at which two strings differ
+pub record CommonInLanes (a b : List ℕ) (n at len : ℕ) : Type 0 where
+  pub in_range : len ≤ n
+  pub same : (k : ℕ) → at ≤ k → k < at + len → get_or a k 0 ≡ get_or b k 0
+  pub differs : len < n → eqb (get_or a (at + len) 0) (get_or b (at + len) 0) ≡ false
+
+-- the common prefix of n bytes from `at` on, by the places in the whole strings
+in_lanes : (a b : List ℕ) (n at len : ℕ) → at + n ≤ length a → at + n ≤ length b
+    → len ≡ common_prefix_len eqb (chunk at n a) (chunk at n b) → CommonInLanes a b n at len
+in_lanes a b n at len l m is =
+    let few : len ≤ n = omega (
+      arith,
+      (common_prefix_len-le eqb (chunk at n a) (chunk at n b)).0,
+      length-chunk at n a l,
+    ) in
+    record {
+      in_range = few;
+      same = λ k from to.
+          sym (in_window at n a k from (omega arith))
+          ∙ common_prefix_len-same (chunk at n a) (chunk at n b) (k - at) (omega arith)
+          ∙ in_window at n b k from (omega arith);
+      differs = λ short.
+          sym (ap₂ eqb (get_or-chunk at n a len 0 short) (get_or-chunk at n b len 0 short))
+          ∙ common_prefix_len-differs (chunk at n a) (chunk at n b) len is
+          (omega (arith, length-chunk at n a l)) (omega (arith, length-chunk at n b m));
+    }
+
+-- if no bit is set, n bytes from `at` on are the same
+pub none_other : (a b : List ℕ) (n at : ℕ) → n ≤ 64 → at + n ≤ length a → at + n ≤ length b
+    → other_mask (chunk at n a) (chunk at n b) ≡ 0 → CommonInLanes a b n at n
+none_other a b n at few l m none =
+    let mask = other_mask (chunk at n a) (chunk at n b) in
+    in_lanes a b n at n l m
+    (sym (ap (λ c. cond c n (count_trailing_zeros 64 mask)) (eq-eqb mask 0 none))
+    ∙ first_other (chunk at n a) (chunk at n b) n few (length-chunk at n a l)
+    (length-chunk at n b m))
+
+-- if a bit is set, the lowest is that of the first pair that differs
+pub some_other : (a b : List ℕ) (n at : ℕ) → n ≤ 64 → at + n ≤ length a → at + n ≤ length b
+    → (other_mask (chunk at n a) (chunk at n b) ≡ 0 → ⊥)
+    → CommonInLanes a b n at
+    (count_trailing_zeros 64 (other_mask (chunk at n a) (chunk at n b)))
+some_other a b n at few l m some =
+    let mask = other_mask (chunk at n a) (chunk at n b) in
+    in_lanes a b n at (count_trailing_zeros 64 mask) l m
+    (sym (ap (λ c. cond c n (count_trailing_zeros 64 mask)) (ne_eqb mask 0 some))
+    ∙ first_other (chunk at n a) (chunk at n b) n few (length-chunk at n a l)
+    (length-chunk at n b m))

@@ -1,0 +1,120 @@
+-- One byte searched for, sixteen bytes at a time.
+use Rattle.std.proofs.Common.{◌≡◌, ℕ, suc, ◌+◌, ◌-◌, ◌*◌, ◌/◌, ◌%◌, ◌^◌, ◌<◌, ◌≤◌, ◌==◌, Bool}
+use Rattle.std.proofs.Common.{true, false, List, length, take, drop, map, get_or, ⊎_elim, refl}
+use Rattle.std.proofs.Common.{sym, ap, subst, ◌∙◌, arith, length-drop, get_or-drop}
+use Rattle.std.specs.Int.Count.{count_leading_zeros}
+use Rattle.std.specs.List.{position_or_len}
+use Rattle.std.proofs.Math.Nat.{div-eq_of_lt, pow-succ'}
+use Rattle.std.proofs.Math.Pow.{pow_mono}
+use Rattle.std.proofs.lemmas.Bool.{cases_lt}
+use Rattle.std.proofs.lemmas.List.{get_or-map, get_or-take, length-map}
+use Rattle.std.proofs.lemmas.List.Sums.{position_or_len_is}
+use Rattle.std.proofs.lemmas.Nat.{div_below, le-div, leading_length}
+use Rattle.std.proofs.lemmas.Simd.{bit_mask_l, mask_l-lt, run_in_chunk_fails, run_in_chunk_stops}
+use Rattle.unix_bytes.specs.Lanes.{hit_mask}
+use Rattle.unix_bytes.proofs.lemmas.vectors.MaskLemmas.{bit, is_clear}
+
+-- if the byte stands nowhere before `at`, it stands nowhere before its first place in a window that
+-- begins at `at` or earlier
+pub none_before : (byte : ℕ) (s : List ℕ) (at from n : ℕ) → from ≤ at → from + 16 ≤ length s
+    → n ≡ position_or_len (λ b. b == byte) (take 16 (drop from s))
+    → ((k : ℕ) → k < at → (get_or s k 0 == byte) ≡ false)
+    → (k : ℕ) → k < from + n → (get_or s k 0 == byte) ≡ false
+none_before byte s at from n order fits is none k l =
+    ⊎_elim (λ (less : k < at). none k less)
+    (λ (more : at ≤ k).
+    run_in_chunk_fails (λ b. b == byte) s from 16 n 0 fits is k (omega arith) l) (cases_lt k at)
+
+-- if the byte stands nowhere before `at`, its first place in a window that begins at `at` or
+-- earlier is its first of all
+pub first_after : (byte : ℕ) (s : List ℕ) (at from n : ℕ) → from ≤ at → from + 16 ≤ length s
+    → n ≡ position_or_len (λ b. b == byte) (take 16 (drop from s)) → n ≤ 16
+    → ((k : ℕ) → k < at → (get_or s k 0 == byte) ≡ false) → (from + n < length s → n < 16)
+    → from + n ≡ position_or_len (λ b. b == byte) s
+first_after byte s at from n order fits is few none stops =
+    let p = λ (b : ℕ). b == byte in
+    sym (position_or_len_is p s (from + n) 0 (omega arith)
+    (none_before byte s at from n order fits is none)
+    (λ l. run_in_chunk_stops p s from 16 n 0 fits is (stops l)))
+
+-- a number below 2^k has no bit at k or above
+no_bit : (a k m : ℕ) → a < 2 ^ m → m ≤ k → a / 2 ^ k ≡ 0
+no_bit a k m l h = div-eq_of_lt (omega (arith, pow_mono h))
+
+-- a number from 2^k up to 2^(k+1) has its highest bit at k
+top_bit : (a k : ℕ) → 2 ^ k ≤ a → a < 2 * 2 ^ k → a / 2 ^ k ≡ 1
+top_bit a k low high =
+    let some : 0 < 2 ^ k = omega (arith, pow_mono {i = 0} {j = k} (omega arith)) in
+    omega (arith, le-div 1 a (2 ^ k) some (omega arith), div_below a (2 ^ k) 2 some (omega arith))
+
+-- the k-th bit of the mask says whether the k-th byte is `byte`
+bit_of : (byte : ℕ) (xs : List ℕ) (k : ℕ) → k < length xs
+    → hit_mask byte xs / 2 ^ k % 2 ≡ bit (get_or xs k 0 == byte)
+bit_of byte xs k l =
+    bit_mask_l (map (λ b. b == byte) xs) k
+    ∙ ap bit (get_or-map (λ b. b == byte) xs k 0 false l)
+
+-- a test whose bit is 1 is true
+is_set : (t : Bool) → bit t ≡ 1 → t ≡ true
+is_set true e = refl
+is_set false e = absurd (omega arith)
+
+-- the last place of `byte` among 16 bytes is just before `past`, or there is none and `past` is 0
+pub record LastHit (byte : ℕ) (xs : List ℕ) (past : ℕ) : Type 0 where
+  pub in_range : past ≤ 16
+  pub after : 0 < past → (get_or xs (past - 1) 0 == byte) ≡ true
+  pub none_behind : (k : ℕ) → past ≤ k → k < 16 → (get_or xs k 0 == byte) ≡ false
+
+-- a number of 16 bits has its highest bit below 16
+at_most_16 : (a m : ℕ) → a < 2 ^ 16 → 2 ^ m ≤ 2 * a + 1 → m ≤ 16
+at_most_16 a m small low =
+    ⊎_elim
+    (λ (more : 16 < m).
+    let many : 2 ^ 17 ≤ 2 ^ m = pow_mono {i = 17} {j = m} (omega arith) in
+    absurd (omega (arith, small, low, many)))
+    (λ (few : m ≤ 16). few) (cases_lt 16 m)
+
+-- a power of two is twice the one before
+halves : (m : ℕ) → 0 < m → 2 ^ m ≡ 2 * 2 ^ (m - 1)
+halves m some = ap (λ k. 2 ^ k) {x = m} {y = suc (m - 1)} (omega arith) ∙ pow-succ' 2 (m - 1)
+
+-- the leading zeros of the mask of 16 bytes tell the last place of the byte
+pub last_hit : (byte : ℕ) (xs : List ℕ) → length xs ≡ 16
+    → LastHit byte xs (64 - count_leading_zeros 64 (hit_mask byte xs))
+last_hit byte xs l =
+    let a = hit_mask byte xs in
+    let n = length-map xs (λ b. b == byte) ∙ l in
+    let small : a < 2 ^ 16 = subst (λ k. a < 2 ^ k) n (mask_l-lt (map (λ b. b == byte) xs)) in
+    let top = leading_length 64 a (omega (arith, small)) in
+    let m = top.0 in
+    let high : a < 2 ^ m = top.2 in
+    let low : 2 ^ m ≤ 2 * a + 1 = top.3 in
+    let few : m ≤ 16 = at_most_16 a m small low in
+    let past : m ≡ 64 - count_leading_zeros 64 a = omega (arith, top.1) in
+    subst (LastHit byte xs) past (record {
+      in_range = few;
+      after = λ some.
+          let two = halves m some in
+          is_set _ (sym (bit_of byte xs (m - 1) (omega arith)) ∙ ap (λ n. n % 2)
+          (top_bit a (m - 1) (omega (arith, low, two)) (omega (arith, high, two))));
+      none_behind = λ k h n.
+          is_clear _ (sym (bit_of byte xs k (omega arith)) ∙ ap (λ n. n % 2) (no_bit a k m high h));
+    })
+
+-- if the byte stands nowhere from `from` on, the search there finds none
+pub none_from : (byte : ℕ) (s : List ℕ) (from : ℕ) → from ≤ length s
+    → ((k : ℕ) → from ≤ k → k < length s → (get_or s k 0 == byte) ≡ false)
+    → position_or_len (λ b. b == byte) (drop from s) ≡ length (drop from s)
+none_from byte s from l none =
+    let size = length-drop from s in
+    position_or_len_is (λ b. b == byte) (drop from s) (length (drop from s)) 0 (omega arith)
+    (λ k few. ap (λ b. b == byte) (get_or-drop from s k 0)
+    ∙ none (from + k) (omega arith) (omega arith))
+    (λ few. absurd (omega arith))
+
+-- each byte of a window of n bytes is the byte of the whole string at the same place
+pub in_window : (at n : ℕ) (s : List ℕ) (k : ℕ) → at ≤ k → k < at + n
+    → get_or (take n (drop at s)) (k - at) 0 ≡ get_or s k 0
+in_window at n s k l h =
+    get_or-take n (drop at s) (k - at) 0 (omega arith) ∙ get_or-drop at s (k - at) 0
+    ∙ ap (λ i. get_or s i 0) {x = at + (k - at)} {y = k} (omega arith)

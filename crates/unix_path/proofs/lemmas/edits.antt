@@ -1,0 +1,5 @@
+-- Joins, and the cuts of edits.
+pub mod JoinLemmas
+pub mod EditLemmas
+-- Of this crate alone.
+pub mod GapLemmas

@@ -1,0 +1,11 @@
+-- The parent, the file name, its stem and its extension.
+pub mod ParentLemmas
+pub mod NameLemmas
+pub mod StemLemmas
+pub mod NameCutLemmas
+pub mod NameEndLemmas
+-- Of this crate alone.
+mod DepthLemmas
+pub mod AncestorLemmas
+pub mod NamedLemmas
+pub mod StemCutLemmas

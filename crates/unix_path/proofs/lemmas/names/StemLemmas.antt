@@ -1,0 +1,122 @@
+-- Where the stem of a file name ends.
+use Rattle.std.proofs.Common.{◌≡◌, ℕ, ◌+◌, ◌-◌, ◌≤◌, List, [], ◌∷◌, ◌++◌}
+use Rattle.std.proofs.Common.{length, map, Option, Some, None, option_map, refl, sym, ap}
+use Rattle.std.proofs.Common.{subst, ◌∙◌, arith}
+use Rattle.std.specs.Option.{option_map_or}
+use Rattle.std.specs.List.{AllByRecursion, before_first, slice_split}
+use Rattle.std.specs.Str.{bytes_eq}
+use Rattle.std.proofs.lemmas.List.{map-append, length-take}
+use Rattle.std.proofs.lemmas.Option.{none-some}
+use Rattle.unix_path.specs.Parts.{Part, Normal, value_bytes}
+use Rattle.unix_path.specs.Parts.{is_slash, cur_dir, counts, parts_of_pieces}
+use Rattle.unix_path.specs.Parts.{inner_parts, leading_part, parts}
+use Rattle.unix_path.specs.Parts.{values, is_rooted}
+use Rattle.unix_path.specs.Rest.{rest}
+use Rattle.unix_path.proofs.lemmas.parts.PlaceLemmas.{parts_end}
+use Rattle.unix_path.specs.Names.{name_of, file_name_of, split_name}
+use Rattle.unix_path.specs.Edits.{last_start_of, stem_end_of}
+use Rattle.unix_bytes.proofs.lemmas.lists.CaseLemmas.{by_test, Snoc, Empty, Push, snoc}
+use Rattle.unix_bytes.proofs.lemmas.lists.CaseLemmas.{last_or-push}
+use Rattle.unix_path.proofs.lemmas.names.ParentLemmas.{file_name_of-last}
+use Rattle.unix_path.proofs.lemmas.rests.RestLemmas.{take-rest}
+use Rattle.unix_path.proofs.lemmas.steps.SpanLemmas.{length-rest_whole, parts_end-append}
+use Rattle.unix_path.proofs.lemmas.parts.ValueLemmas.{value_bytes-piece, name_of-some}
+
+-- a part is as long as the bytes of its value
+abbrev SpansValue : Part → Type 0
+SpansValue p = p.end ≡ p.start + length (value_bytes p.value)
+
+-- the parts of pieces are as long as the bytes of their values
+SpansValue-parts_of_pieces : (at : ℕ) (ps : List (List ℕ))
+    → AllByRecursion SpansValue (parts_of_pieces at ps)
+SpansValue-parts_of_pieces at [] = tt
+SpansValue-parts_of_pieces at (p ∷ ps) =
+    let next = SpansValue-parts_of_pieces (at + length p + 1) ps in
+    by_test (counts p)
+    (λ e. rw e (ap (λ b. at + length b) (sym (value_bytes-piece p)), next))
+    (λ e. rw e next)
+
+SpansValue-append : (ps qs : List Part) → AllByRecursion SpansValue ps
+    → AllByRecursion SpansValue qs → AllByRecursion SpansValue (ps ++ qs)
+SpansValue-append [] qs h k = k
+SpansValue-append (p ∷ ps) qs h k = (h.0, SpansValue-append ps qs h.1 k)
+
+SpansValue-leading_part : (s : List ℕ) → AllByRecursion SpansValue (leading_part s)
+unfolding leading_part
+SpansValue-leading_part s = by_test (is_rooted s) (λ e. rw e (refl, tt))
+    (λ e. rw e (by_test (bytes_eq (before_first is_slash s) cur_dir) (λ d. rw d (refl, tt))
+    (λ d. rw d tt)))
+
+-- the parts of a path are as long as the bytes of their values
+SpansValue-parts : (s : List ℕ) → AllByRecursion SpansValue (parts s)
+unfolding parts inner_parts
+SpansValue-parts s =
+    SpansValue-append (leading_part s) (inner_parts 0 s) (SpansValue-leading_part s)
+    (SpansValue-parts_of_pieces 0 (slice_split is_slash s))
+
+SpansValue-last : (ps : List Part) (p : Part) → AllByRecursion SpansValue (ps ++ p ∷ [])
+    → SpansValue p
+SpansValue-last [] p h = h.0
+SpansValue-last (q ∷ ps) p h = SpansValue-last ps p h.1
+
+-- the last of some parts and one behind them starts where that one does
+last_start_of-push : (ps : List Part) (p : Part) → last_start_of (ps ++ p ∷ []) ≡ p.start
+last_start_of-push ps p = ap (λ o. option_map_or (λ p. p.start) o 0) (last_or-push None ps p)
+
+-- the file name ends where a fresh cursor's rest ends
+pub last_start_of-name : (s name : List ℕ) → Some name ≡ file_name_of (values s)
+    → last_start_of (parts s) + length name ≡ length (rest s 0 0)
+unfolding file_name_of values
+last_start_of-name s name e = by_last (snoc (parts s))
+  where
+    by_last : Snoc (parts s) → last_start_of (parts s) + length name ≡ length (rest s 0 0)
+    by_last (Empty n) =
+        let none : Some name ≡ None =
+        e ∙ ap (λ ps. file_name_of (map (λ p. p.value) ps)) n in
+        absurd (none-some name (sym none))
+    by_last (Push ps p n) =
+        let last : file_name_of (map (λ p. p.value) (parts s)) ≡ name_of p.value =
+        ap (λ ps. file_name_of (map (λ p. p.value) ps)) n
+        ∙ ap file_name_of (map-append (λ p. p.value) ps (p ∷ []))
+        ∙ file_name_of-last (map (λ p. p.value) ps) p.value in
+        let v : p.value ≡ Normal name = name_of-some p.value name (sym last ∙ sym e) in
+        let size : p.end ≡ p.start + length (value_bytes p.value) =
+        SpansValue-last ps p (subst (AllByRecursion SpansValue) n (SpansValue-parts s)) in
+        let bytes : length (value_bytes p.value) ≡ length name =
+        ap (λ v. length (value_bytes v)) v in
+        let from : last_start_of (parts s) ≡ p.start =
+        ap last_start_of n ∙ last_start_of-push ps p in
+        let to : parts_end (parts s) ≡ p.end = ap parts_end n ∙ parts_end-append ps p in
+        omega (arith, length-rest_whole s)
+
+-- a name is no longer than what stands up to its end
+pub length-name : (s name : List ℕ) (end : ℕ) → Some name ≡ file_name_of (values s)
+    → end ≡ length (rest s 0 0) → length name ≤ end
+length-name s name end e at = omega (arith, last_start_of-name s name e, at)
+
+-- the place where the stem of this name ends in s, if there is a name
+abbrev pub stem_end_by : List ℕ → Option (List ℕ) → Option ℕ
+stem_end_by s name = option_map (λ stem. last_start_of (parts s) + length stem)
+    (option_map (λ name. (split_name name).0) name)
+
+-- without a file name there is no place where its stem ends
+pub stem_end_of-none : (s : List ℕ) → None ≡ file_name_of (values s) → None ≡ stem_end_of s
+unfolding stem_end_of
+stem_end_of-none s e = ap (stem_end_by s) e
+
+-- the stem begins where the name does, and the name ends where a fresh cursor's rest ends
+pub stem_end_of-some : {stem : List ℕ} (s name : List ℕ) (end : ℕ)
+    → Some name ≡ file_name_of (values s) → end ≡ length (rest s 0 0)
+    → stem ≡ (split_name name).0 → Some (end - length name + length stem) ≡ stem_end_of s
+unfolding stem_end_of
+stem_end_of-some {stem} s name end e at is =
+    let start = last_start_of-name s name e in
+    let to : end - length name + length stem
+    ≡ last_start_of (parts s) + length (split_name name).0 =
+    omega (arith, at, ap length is) in
+    ap Some to ∙ ap (stem_end_by s) e
+
+-- no more is left of a path than its bytes
+pub length-rest_whole-le : (s : List ℕ) → length (rest s 0 0) ≤ length s
+length-rest_whole-le s =
+    omega (arith, ap length (take-rest s 0), length-take (length (rest s 0 0)) s)

@@ -1,0 +1,61 @@
+-- The place just after the last slash of what two strings both begin with.
+use Rattle.std.proofs.Common.{◌≡◌, ℕ, ◌-◌, ◌<◌, ◌≤◌, Bool, true, false, not, eqb, List, length}
+use Rattle.std.proofs.Common.{get_or, take, drop, refl, sym, ap, arith, ◌∙◌, eqb-true, length-take-le}
+use Rattle.std.proofs.Common.{ne_eqb}
+use Rattle.std.specs.List.{common_prefix_len, position_or_len, suffix_len}
+use Rattle.std.specs.Prelude.{reverse}
+use Rattle.std.proofs.lemmas.List.{get_or-reverse, get_or-take, length-reverse}
+use Rattle.std.proofs.lemmas.List.Sums.{common_prefix_len-le, prefix_len_stops}
+use Rattle.unix_path.specs.CommonDir.{inner_values, common_dir_of}
+use Rattle.unix_path.specs.Names.{past_last}
+use Rattle.unix_path.specs.Order.{values_cmp}
+use Rattle.unix_path.specs.Parts.{is_slash, slash, values}
+use Rattle.unix_path.proofs.lemmas.order.BehindLemmas.{values_cmp-shared}
+use Rattle.unix_path.proofs.lemmas.names.NameLemmas.{past_last-byte}
+use Rattle.unix_path.proofs.lemmas.order.PairLemmas.{cuts-begins}
+
+-- a place in the common prefix with a slash just before it, if it isn't 0, and none behind it, is
+-- the common dir
+pub common_dir_of-is : (a b : List ℕ) (common n : ℕ) → common ≡ common_prefix_len eqb a b
+    → n ≤ length (take common a) → (0 < n → get_or (take common a) (n - 1) 0 ≡ slash)
+    → position_or_len is_slash (drop n (take common a)) ≡ length (drop n (take common a))
+    → n ≡ common_dir_of a b
+unfolding common_dir_of
+common_dir_of-is a b common n is l after none =
+    past_last-byte slash (take common a) n l after none
+    ∙ ap (λ m. past_last is_slash (take m a)) is
+
+-- the byte before the place just after the last slash is a slash
+past_last-slash : (s : List ℕ) → 0 < past_last is_slash s
+    → get_or s (past_last is_slash s - 1) 0 ≡ slash
+past_last-slash s some =
+    let q : ℕ → Bool = λ b. not (is_slash b) in
+    let n = past_last is_slash s in
+    let m = suffix_len q s in
+    let short : m < length (reverse s) = omega (arith, length-reverse s) in
+    let here : get_or (reverse s) m 0 ≡ get_or s (n - 1) 0 =
+    get_or-reverse s m 0 (omega arith)
+    ∙ ap (λ k. get_or s k 0) {x = length s - 1 - m} {y = n - 1} (omega arith) in
+    eqb-true (get_or s (n - 1) 0) 47
+    (not_false (is_slash (get_or s (n - 1) 0))
+    (ap q (sym here) ∙ prefix_len_stops q (reverse s) 0 short))
+  where
+    not_false : (b : Bool) → not b ≡ false → b ≡ true
+    not_false true e = refl
+    not_false false e = cc
+
+-- the order of two strings that begin with the same bytes, up to a slash
+pub values_cmp-common_dir : (a b : List ℕ) → 0 < common_dir_of a b
+    → values_cmp (values a) (values b)
+    ≡ values_cmp (inner_values (drop (common_dir_of a b) a))
+    (inner_values (drop (common_dir_of a b) b))
+unfolding common_dir_of
+values_cmp-common_dir a b some =
+    let m = common_prefix_len eqb a b in
+    let n = past_last is_slash (take m a) in
+    let inside : n ≤ m = omega (arith, length-take-le m a (common_prefix_len-le eqb a b).0) in
+    let here : get_or a (n - 1) 0 ≡ 47 =
+    sym (get_or-take m a (n - 1) 0 (omega arith)) ∙ past_last-slash (take m a) some in
+    let other : eqb n 0 ≡ false = ne_eqb n 0 (λ e. omega (arith, some, e)) in
+    let cut = cuts-begins a b m n refl inside (rw (other, here) refl) in
+    sym (values_cmp-shared (cut.shares some))

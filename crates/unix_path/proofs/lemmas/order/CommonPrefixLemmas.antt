@@ -1,0 +1,115 @@
+-- What two strings both begin with, and their values behind it.
+use Rattle.std.proofs.Common.{◌≡◌, ℕ, zero, suc, ◌+◌, ◌-◌, ◌<◌, ◌≤◌, Equal, Ordering, eqb, List, [], ◌∷◌, ◌++◌}
+use Rattle.std.proofs.Common.{length, get_or, take, map, refl, sym, ap, ap₂, ◌∙◌, arith, append_assoc}
+use Rattle.std.proofs.Common.{eqb-true, length-append, take_all}
+use Rattle.std.specs.Cmp.{IsTotalOrder}
+use Rattle.std.specs.Cmp.Lexicographic.{slice_cmp}
+use Rattle.std.specs.List.{common_prefix_len}
+use Rattle.std.specs.Ordering.{ordering_then}
+use Rattle.std.proofs.lemmas.Cmp.{tied_itself}
+use Rattle.std.proofs.lemmas.List.{map-append, take_more}
+use Rattle.unix_path.specs.CommonDir.{inner_values}
+use Rattle.unix_path.specs.Order.{values_cmp}
+use Rattle.unix_path.specs.OrderLaws.{value_cmp-total, values_cmp-total}
+use Rattle.unix_path.specs.Parts.{slash, Part, Value, inner_parts, leading_part, parts, values}
+use Rattle.unix_bytes.proofs.lemmas.lists.CaseLemmas.{by_test}
+use Rattle.unix_path.proofs.lemmas.parts.PieceLemmas.{inner_parts-nil}
+use Rattle.unix_path.proofs.lemmas.parts.PlaceLemmas.{values-inner_parts}
+use Rattle.unix_path.proofs.lemmas.filler.TrimLemmas.{parts-append, parts-slash}
+
+-- a string's values are those of its leading part and its inner values
+pub values-leading : (s : List ℕ)
+    → values s ≡ map (λ (p : Part). p.value) (leading_part s) ++ inner_values s
+unfolding values parts
+values-leading s = map-append (λ (p : Part). p.value) (leading_part s) (inner_parts 0 s)
+
+pub inner_values-nil : inner_values [] ≡ []
+inner_values-nil = ap (map (λ (p : Part). p.value)) (inner_parts-nil 0)
+
+-- a string has the values before any slash but its first byte, and then the inner values behind it
+pub values-slash : (a b : List ℕ) → 0 < length a
+    → values (a ++ slash ∷ b) ≡ values a ++ inner_values b
+unfolding values
+values-slash a b l =
+    let n = 0 + length a + 1 in
+    ap (map (λ (p : Part). p.value))
+    (parts-append a b ∙ ap (λ ps. ps ++ inner_parts n b) (parts-slash a l))
+    ∙ map-append (λ (p : Part). p.value) (parts a) (inner_parts n b)
+    ∙ ap (λ vs. map (λ (p : Part). p.value) (parts a) ++ vs) (values-inner_parts n b)
+
+-- behind a string that ends in a slash the inner parts follow its parts
+pub parts-past_slash : (f b : List ℕ)
+    → parts ((f ++ slash ∷ []) ++ b)
+    ≡ parts (f ++ slash ∷ []) ++ inner_parts (length (f ++ slash ∷ [])) b
+parts-past_slash f b =
+    let g = f ++ slash ∷ [] in
+    ap parts (append_assoc f (slash ∷ []) b) ∙ parts-append f b
+    ∙ ap (λ n. parts g ++ inner_parts n b) {x = 0 + length f + 1} {y = length g}
+    (omega (arith, length-append f (slash ∷ [])))
+
+-- behind a string that ends in a slash the inner values follow its values
+pub values-past_slash : (f b : List ℕ)
+    → values ((f ++ slash ∷ []) ++ b) ≡ values (f ++ slash ∷ []) ++ inner_values b
+unfolding values
+values-past_slash f b =
+    let g = f ++ slash ∷ [] in
+    ap (map (λ (p : Part). p.value)) (parts-past_slash f b)
+    ∙ map-append (λ (p : Part). p.value) (parts g) (inner_parts (length g) b)
+    ∙ ap (λ vs. map (λ (p : Part). p.value) (parts g) ++ vs) (values-inner_parts (length g) b)
+
+-- elements that two lists both begin with change nothing in their order
+pub slice_cmp-common : {A : Type 0} {R : A → A → Ordering} → IsTotalOrder R → (v w x : List A)
+    → slice_cmp R (v ++ w) (v ++ x) ≡ slice_cmp R w x
+slice_cmp-common order [] w x = refl
+slice_cmp-common {R = R} order (y ∷ v) w x =
+    ap (λ o. ordering_then o (slice_cmp R (v ++ w) (v ++ x))) (tied_itself order y)
+    ∙ slice_cmp-common order v w x
+
+-- nor do such values
+pub values_cmp-common : (v w x : List Value) → values_cmp (v ++ w) (v ++ x) ≡ values_cmp w x
+values_cmp-common = slice_cmp-common value_cmp-total
+
+-- two strings with the same bytes up to a slash are in the order of the inner values behind it
+pub values_cmp-slash : (f a b : List ℕ)
+    → values_cmp (values (f ++ slash ∷ a)) (values (f ++ slash ∷ b))
+    ≡ values_cmp (inner_values a) (inner_values b)
+values_cmp-slash f a b =
+    let g = f ++ slash ∷ [] in
+    let behind : (t : List ℕ) → values (f ++ slash ∷ t) ≡ values g ++ inner_values t =
+    λ t. ap values (sym (append_assoc f (slash ∷ []) t)) ∙ values-past_slash f t in
+    ap₂ values_cmp (behind a) (behind b)
+    ∙ values_cmp-common (values g) (inner_values a) (inner_values b)
+
+-- the first n bytes of a string, of which the last is a slash, are the n - 1 before it, and it
+pub take-past_slash : (s : List ℕ) (n : ℕ) → 0 < n → n ≤ length s → get_or s (n - 1) 0 ≡ slash
+    → take n s ≡ take (n - 1) s ++ slash ∷ []
+take-past_slash s n some l is =
+    let i = n - 1 in
+    ap (λ k. take k s) {x = n} {y = i + 1} (omega arith) ∙ take_more s i 0 (omega arith)
+    ∙ ap (λ b. take i s ++ b ∷ []) is
+
+-- equal strings tie
+pub values_cmp-equal_strings : (a b : List ℕ) → a ≡ b → Equal ≡ values_cmp (values a) (values b)
+values_cmp-equal_strings a b e =
+    sym (ap (λ t. values_cmp (values a) (values t)) (sym e)
+    ∙ tied_itself values_cmp-total (values a))
+
+-- two strings have the same first bytes as far as their common prefix goes
+pub take-common : (a b : List ℕ) (n : ℕ) → n ≤ common_prefix_len eqb a b → take n a ≡ take n b
+take-common [] [] n l = refl
+take-common [] (y ∷ b) zero l = refl
+take-common [] (y ∷ b) (suc n) l = absurd (omega arith)
+take-common (x ∷ a) [] zero l = refl
+take-common (x ∷ a) [] (suc n) l = absurd (omega arith)
+take-common (x ∷ a) (y ∷ b) zero l = refl
+take-common (x ∷ a) (y ∷ b) (suc n) l = by_test (eqb x y)
+    (λ e. let m : suc n ≤ 1 + common_prefix_len eqb a b = rw e at l in
+    ap₂ (λ z zs. z ∷ zs) (eqb-true x y e) (take-common a b n (omega arith)))
+    (λ e. let m : suc n ≤ 0 = rw e at l in absurd (omega arith))
+
+-- two strings are the same if their common prefix is all of both
+pub common_prefix_len-whole : (a b : List ℕ) → common_prefix_len eqb a b ≡ length a
+    → common_prefix_len eqb a b ≡ length b → a ≡ b
+common_prefix_len-whole a b e f =
+    sym (take_all (length a) a (omega arith)) ∙ take-common a b (length a) (omega (arith, e))
+    ∙ take_all (length a) b (omega (arith, e, f))

@@ -1,0 +1,40 @@
+-- Strings of which one is empty, in their order.
+use Rattle.std.proofs.Common.{◌≡◌, ℕ, ◌<◌, List, [], ◌∷◌, length, map, sym, ap, ap₂, ◌∙◌, arith, Less}
+use Rattle.std.proofs.Common.{Greater}
+use Rattle.std.proofs.lemmas.List.{nil_from_length}
+use Rattle.std.specs.Cmp.{nat_cmp_is}
+use Rattle.std.specs.Ordering.{nat_cmp}
+use Rattle.unix_path.proofs.lemmas.parts.PartLemmas.{values-nil}
+use Rattle.unix_path.proofs.lemmas.rests.SplitLemmas.{splits_first}
+use Rattle.unix_path.specs.Order.{values_cmp}
+use Rattle.unix_path.specs.Parts.{Value, values}
+
+-- the values of s are `first` and `others`
+pub record SomeValue (s : List ℕ) : Type 0 where
+  pub first : Value
+  pub others : List Value
+  pub is : values s ≡ first ∷ others
+
+-- a string that is not empty has a value
+pub some_value : (s : List ℕ) → 0 < length s → SomeValue s
+unfolding values
+some_value s l =
+    let h = splits_first s l in
+    record {
+      first = h.first.value;
+      others = _;
+      is = ap (map (λ p. p.value)) h.is;
+    }
+
+-- two strings of which one is empty are in the order of their lengths
+pub values_cmp-end : (s t : List ℕ) → (0 < length s → length t ≡ 0)
+    → nat_cmp (length s) (length t) ≡ values_cmp (values s) (values t)
+values_cmp-end [] [] h = sym (ap₂ values_cmp values-nil values-nil)
+values_cmp-end [] (y ∷ t) h =
+    let some = some_value (y ∷ t) (omega arith) in
+    sym (nat_cmp_is 0 (length (y ∷ t)) Less (omega arith)) ∙ sym (ap₂ values_cmp values-nil some.is)
+values_cmp-end (x ∷ s) t h =
+    let none : t ≡ [] = nil_from_length t (h (omega arith)) in
+    let some = some_value (x ∷ s) (omega arith) in
+    sym (nat_cmp_is (length (x ∷ s)) (length t) Greater (omega (arith, ap length none)))
+    ∙ sym (ap₂ values_cmp some.is (ap values none ∙ values-nil))

@@ -1,0 +1,164 @@
+-- Where two paths can be cut, and what that tells of them.
+use Rattle.std.proofs.Common.{◌≡◌, ℕ, suc, ◌+◌, ◌-◌, ◌≤◌, ◌<◌, ◌⊎◌, true, false, eqb, ltb, List, [], ◌∷◌}
+use Rattle.std.proofs.Common.{◌++◌, length, get_or, take, drop, map, refl, sym, ap, ap₂, arith, ◌∙◌}
+use Rattle.std.proofs.Common.{subst, ⊎_elim, append-nil, eqb-true, length-take-le, ltb-false, ltb-true}
+use Rattle.std.proofs.Common.{inl, inr, nat_cmp, ne_eqb, take-append-drop, take_all}
+use Rattle.std.specs.Borrow.{Bor}
+use Rattle.std.proofs.Math.Seq.{drop-cons, drop-length}
+use Rattle.std.proofs.lemmas.Bool.{eqb-false, or_parts}
+use Rattle.std.proofs.lemmas.List.{drop_all, get_or_past, map-append}
+use Rattle.std.proofs.lemmas.List.Sums.{common_prefix_len-le}
+use Rattle.unix_bytes.proofs.lemmas.vectors.CommonLemmas.{common_prefix_len-same}
+use Rattle.unix_path.proofs.lemmas.order.ApartLemmas.{ranks_end}
+use Rattle.unix_path.proofs.lemmas.order.BehindLemmas.{more-apart}
+use Rattle.unix_bytes.proofs.lemmas.lists.CaseLemmas.{by_test}
+use Rattle.unix_path.proofs.lemmas.order.CommonPrefixLemmas.{parts-past_slash, take-common}
+use Rattle.unix_path.proofs.lemmas.order.CommonPrefixLemmas.{take-past_slash}
+use Rattle.unix_path.proofs.lemmas.order.DifferLemmas.{rank_end}
+use Rattle.unix_path.proofs.lemmas.order.KindLemmas.{first_parts-apart}
+use Rattle.unix_path.proofs.lemmas.parts.PieceLemmas.{inner_parts-nil, inner_parts-slash}
+use Rattle.unix_path.proofs.lemmas.parts.PlaceLemmas.{values-inner_parts}
+use Rattle.unix_path.proofs.lemmas.filler.TrimLemmas.{parts-append, parts-slash}
+use Rattle.unix_path.specs.Pairs.{Compared, Tells, kind_rank}
+use Rattle.unix_path.specs.Parts.{Part, inner_parts, parts, slash, values}
+use Rattle.unix_path.specs.Prefixes.{Begins}
+use Rattle.unix_path.specs.Steps.{begins_piece, piece_rank, IsAlike, SharesFront}
+use Rattle.unix_path.specs.contracts.pair.KindOrd.TheImpl as the_order
+use Rattle.unix_path.specs.declared.pair.Comparison.{Comparison}
+use Rattle.unix_path.specs.declared.pair.Comparison.TheVariants.{Differ, StartsWith, IsPrefix}
+use Rattle.unix_path.specs.declared.pair.Difference.{Difference}
+use Rattle.unix_path.specs.declared.pair.Difference.TheVariants.{InParts, InFirstParts, Behind}
+use Rattle.unix_path.specs.declared.pair.Kind.{Kind}
+use Rattle.unix_path.specs.declared.pair.Kind.TheVariants.{Nothing, RootDir, CurDir, ParentDir, Name}
+
+-- no slash stands before a place at which no piece begins, and that isn't 0
+pub inside_piece : (s : List ℕ) (i : ℕ) → begins_piece s i ≡ false → 0 < i
+inside_piece s i e = omega (arith, eqb-false i 0 (or_parts (eqb i 0) _ e).0)
+
+-- a piece of s begins or ends at n, where s can be cut
+abbrev pub CanCut : List ℕ → ℕ → Type 0
+CanCut s n = (begins_piece s n ≡ true) ⊎ (piece_rank s n ≡ 0)
+
+-- the parts of a string cut just after one of its slashes are those of both sides
+parts-behind : (s : List ℕ) (n : ℕ) → 0 < n → n ≤ length s → get_or s (n - 1) 0 ≡ slash
+    → parts s ≡ parts (take n s) ++ inner_parts n (drop n s)
+parts-behind s n some l is =
+    let f = take (n - 1) s in
+    let common = take-past_slash s n some l is in
+    ap parts (sym (take-append-drop n s) ∙ ap (λ t. t ++ drop n s) common)
+    ∙ parts-past_slash f (drop n s)
+    ∙ ap (λ t. parts t ++ inner_parts (length t) (drop n s)) (sym common)
+    ∙ ap (λ k. parts (take n s) ++ inner_parts k (drop n s)) (length-take-le n s l)
+
+-- so are those of a string cut at a slash
+parts-before : (s : List ℕ) (n : ℕ) → 0 < n → n < length s → get_or s n slash ≡ slash
+    → parts s ≡ parts (take n s) ++ inner_parts n (drop n s)
+parts-before s n some l is =
+    let f = take n s in
+    let t = drop (suc n) s in
+    let size = length-take-le n s (omega arith) in
+    let behind : drop n s ≡ slash ∷ t = drop-cons s n slash l ∙ ap (λ b. b ∷ t) is in
+    ap parts (sym (ap (λ u. f ++ u) (sym behind) ∙ take-append-drop n s))
+    ∙ parts-append f t
+    ∙ ap (λ ps. ps ++ inner_parts (0 + length f + 1) t) (parts-slash f (omega (arith, size)))
+    ∙ ap (λ k. parts f ++ inner_parts k t) {x = 0 + length f + 1} {y = n + 1}
+    (omega (arith, size))
+    ∙ ap (λ ps. parts f ++ ps) (sym (ap (inner_parts n) behind ∙ inner_parts-slash n t))
+
+-- where a string can be cut, its parts are those of both sides
+parts-cut : (s : List ℕ) (n : ℕ) → 0 < n → n ≤ length s → CanCut s n
+    → parts s ≡ parts (take n s) ++ inner_parts n (drop n s)
+parts-cut s n some inside = ⊎_elim
+    (λ begins.
+    let no : eqb n 0 ≡ false = ne_eqb n 0 (λ e. omega (arith, some, e)) in
+    parts-behind s n some inside (eqb-true (get_or s (n - 1) 0) 47 (rw no at begins)))
+    (λ ends. by_test (ltb n (length s))
+    (λ e. parts-before s n some (ltb-true n (length s) e) (rank_end s n ends))
+    (λ e.
+    let end : length s ≤ n = ltb-false n (length s) e in
+    sym (ap₂ (λ t u. parts t ++ inner_parts n u) (take_all n s end) (drop_all n s end)
+    ∙ ap (λ ps. parts s ++ ps) (inner_parts-nil n) ∙ append-nil (parts s))))
+
+-- both strings have k bytes, behind which they have what follows the same values
+pub record CutsAt (a b : List ℕ) (k : ℕ) : Type 0 where
+  pub in_first : k ≤ length a
+  pub in_second : k ≤ length b
+  pub shares : 0 < k → SharesFront a b (drop k a) (drop k b)
+
+-- so it is if both can be cut there, and are alike before it
+pub cuts : (a b : List ℕ) (n k : ℕ) → IsAlike a b n → k ≤ n → CanCut a k → CanCut b k
+    → CutsAt a b k
+unfolding values
+cuts a b n k alike l first second =
+    let range = common_prefix_len-le eqb a b in
+    let in_first : k ≤ length a = omega (arith, alike, range.0, l) in
+    let in_second : k ≤ length b = omega (arith, alike, range.1, l) in
+    record {
+      in_first = in_first;
+      in_second = in_second;
+      shares = λ some. record {
+        front = parts (take k a);
+        at = k;
+        is = refl;
+        first = parts-cut a k some in_first first;
+        second = ap (map (λ (p : Part). p.value)) (parts-cut b k some in_second second)
+            ∙ map-append (λ (p : Part). p.value) (parts (take k b)) (inner_parts k (drop k b))
+            ∙ ap₂ (λ t vs. map (λ (p : Part). p.value) (parts t) ++ vs)
+            (sym (take-common a b k (omega (arith, alike, l))))
+            (values-inner_parts k (drop k b));
+      };
+    }
+
+-- at the first difference, if a piece ends in both there
+pub cuts-ends : (a b : List ℕ) (n : ℕ) → IsAlike a b n → piece_rank a n ≡ piece_rank b n
+    → CutsAt a b n
+cuts-ends a b n alike same =
+    let end = ranks_end a b n alike same in
+    cuts a b n n alike (omega arith) (inr end) (inr (sym same ∙ end))
+
+-- or where a piece begins in one of them, and so in both
+pub cuts-begins : (a b : List ℕ) (n k : ℕ) → IsAlike a b n → k ≤ n → begins_piece a k ≡ true
+    → CutsAt a b k
+cuts-begins a b n k alike l begins = cuts a b n k alike l (inl begins) (inl (by_test (eqb k 0)
+    (λ e. rw e refl)
+    (λ e.
+    let some : 0 < k = omega (arith, eqb-false k 0 e) in
+    let here : eqb (get_or a (k - 1) 0) 47 ≡ true = rw e at begins in
+    let same = common_prefix_len-same a b (k - 1) (omega (arith, alike, l, some)) in
+    rw e (ap (λ b. eqb b 47) (sym same) ∙ here))))
+
+-- if all bytes of b begin a, which can be cut there, what follows them is left of it
+pub shares-written : (a b : List ℕ) (n : ℕ) → IsAlike a b n → 0 < length b → length b ≤ n
+    → CanCut a (length b) → SharesFront a b (drop (length b) a) []
+shares-written a b n alike some all first =
+    let ends : CanCut b (length b) = inr (rw (get_or_past b (length b) 47 (omega arith)) refl) in
+    subst (SharesFront a b (drop (length b) a)) (drop-length b)
+    ((cuts a b n (length b) alike all first ends).shares some)
+
+-- where the first difference gives no cut, the second doesn't begin the first
+pub apart-unless : (a : Bor (List ℕ)) (b : List ℕ) (n : ℕ) (said : Difference) → IsAlike a.now b n
+    → Tells a b n said → ((x y : Bor (List ℕ)) → said ≡ Behind x y → ⊥) → 0 < length b
+    → Begins (values b) (values a.now) → ⊥
+apart-unless a b n (InParts order) alike h other some = h.no_prefix
+apart-unless a b n InFirstParts alike h other some =
+    first_parts-apart a.now b n alike h some
+apart-unless a b n (Behind x y) alike h other some = absurd (other x y refl)
+
+-- a comparison tells whether the second begins the first
+pub no_prefix-unless : (s t : List ℕ) (a : Bor (List ℕ)) (b : List ℕ) (said : Comparison)
+    → Compared a b said → SharesFront s t a.now b
+    → ((left : Bor (List ℕ)) → said ≡ StartsWith left → ⊥)
+    → Begins (values t) (values s) → ⊥
+no_prefix-unless s t a b (Differ order) h cut other = (h s t cut).no_prefix
+no_prefix-unless s t a b (StartsWith left) h cut other = absurd (other left refl)
+no_prefix-unless s t a b IsPrefix h cut other = (more-apart (h s t cut)).no_prefix
+
+-- kinds are in the order of their places
+pub kinds-cmp : (x y : Kind)
+    → the_order.ghosts.cmp x y ≡ nat_cmp (kind_rank x) (kind_rank y)
+kinds-cmp Nothing Nothing = refl
+kinds-cmp RootDir RootDir = refl
+kinds-cmp CurDir CurDir = refl
+kinds-cmp ParentDir ParentDir = refl
+kinds-cmp Name Name = refl
+kinds-cmp x y = refl

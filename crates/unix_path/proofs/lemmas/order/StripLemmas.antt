@@ -1,0 +1,69 @@
+-- What a path has left behind another one, without the filler behind its last part.
+use Rattle.std.proofs.Common.{◌≡◌, ℕ, ◌+◌, ◌-◌, ◌≤◌, ◌<◌, false, List, [], ◌++◌, length, take, map}
+use Rattle.std.proofs.Common.{sym, ap, subst, ◌∙◌, arith, take_all}
+use Rattle.std.specs.Borrow.{Bor}
+use Rattle.std.proofs.lemmas.List.{nil_from_length}
+use Rattle.unix_path.specs.Parts.{Part, parts, values}
+use Rattle.unix_path.specs.Places.{EndsAt, IsTail}
+use Rattle.unix_path.specs.Prefixes.{Begins, stripped_of}
+use Rattle.unix_path.specs.Rest.{rest}
+use Rattle.unix_path.specs.Scan.{is_idle, is_trailing, EndsInPart}
+use Rattle.unix_path.specs.Steps.{SharesFront}
+use Rattle.unix_path.proofs.lemmas.order.BehindLemmas.{rest-left}
+use Rattle.unix_path.proofs.lemmas.parts.PartLemmas.{values-nil}
+use Rattle.unix_path.proofs.lemmas.rests.RestLemmas.{rest-rest}
+use Rattle.unix_path.proofs.lemmas.steps.SpanLemmas.{rest-trimmed}
+use Rattle.unix_path.proofs.lemmas.filler.TrimLemmas.{EndsInPart-drop, EndsInPart-take}
+
+-- the first n bytes of s have all its parts, and end in one
+pub record Trims (s : List ℕ) (n : ℕ) : Type 0 where
+  pub in_range : n ≤ length s
+  pub same : parts (take n s) ≡ parts (take (length s) s)
+  pub ends : 0 < n → is_trailing s (n - 1) ≡ false
+
+-- so they are what is left of it
+pub rest-trims : (s : List ℕ) (n : ℕ) → Trims s n → (rest s 0 0 ≡ take n s) × EndsInPart (take n s)
+rest-trims s n h =
+    let ends = EndsInPart-take s n h.in_range h.ends in
+    let same = h.same ∙ ap parts (take_all (length s) s (omega arith)) in
+    (rest-trimmed s n h.in_range same ends, ends)
+
+-- and have all its values
+pub values-trims : (s : List ℕ) (n : ℕ) → Trims s n → values (take n s) ≡ values s
+unfolding values
+values-trims s n h = ap (map (λ (p : Part). p.value))
+    (h.same ∙ ap parts (take_all (length s) s (omega arith)))
+
+-- the empty path begins every path
+pub begins-empty : (s base : List ℕ) → length base ≡ 0 → Begins (values base) (values s)
+begins-empty s base none =
+    let no_values = ap values (nil_from_length base none) ∙ values-nil in
+    (values s, ap (λ vs. vs ++ values s) no_values)
+
+-- and leaves it whole
+pub stripped-whole : (s base : List ℕ) (n : ℕ) → Trims s n → length base ≡ 0
+    → take n s ≡ stripped_of s base
+stripped-whole s base n h none =
+    let no_values = ap values (nil_from_length base none) ∙ values-nil in
+    sym (ap (λ vs. rest s (length vs) 0) no_values ∙ (rest-trims s n h).0)
+
+-- what they have behind the values of the base is what is stripped of s
+pub stripped-is : (s base : List ℕ) (n : ℕ) (left whole : Bor (List ℕ)) → Trims s n
+    → whole.now ≡ take n s → IsTail left whole → SharesFront whole.now base left.now []
+    → is_idle left.now 0 ≡ false → left.now ≡ stripped_of s base
+stripped-is s base n left whole h is tail shares busy =
+    let k = length (values base) in
+    let trimmed = rest-trims s n h in
+    let ends : EndsInPart left.now = subst EndsInPart (sym tail.bytes)
+    (EndsInPart-drop whole.now (length whole.now - length left.now) (omega arith)
+    (subst EndsInPart (sym is) trimmed.1)) in
+    sym (rest-left shares busy ends) ∙ ap (λ r. rest r k 0) (is ∙ sym trimmed.0)
+    ∙ rest-rest s 0 0 k 0
+    ∙ ap (λ i. rest s i (0 + 0)) {x = 0 + k} {y = k} (omega arith)
+
+-- and ends where the last part does
+pub stripped-end : (path left whole : Bor (List ℕ)) (n : ℕ) → Trims path.now n
+    → whole.now ≡ take n path.now → whole.ref_ptr.1 ≡ path.ref_ptr.1 → IsTail left whole
+    → EndsAt left path (length (rest path.now 0 0))
+stripped-end path left whole n h is begins tail =
+    omega (arith, tail.place, begins, ap length is, ap length (rest-trims path.now n h).0)

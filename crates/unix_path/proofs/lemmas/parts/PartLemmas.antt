@@ -1,0 +1,123 @@
+-- The parts of a whole string, by what stands first.
+use Rattle.std.proofs.Common.{◌≡◌, ℕ, ◌+◌, ◌-◌, ◌<◌, Bool, true, false, cond, eqb, List, [], ◌∷◌}
+use Rattle.std.proofs.Common.{◌++◌, length, get_or, take, drop, map, eqb-true, refl, sym, ap, ap₂}
+use Rattle.std.proofs.Common.{◌∙◌, arith, take_all, zero-add}
+use Rattle.std.specs.List.{position_or_len}
+use Rattle.std.specs.Str.{bytes_eq}
+use Rattle.std.proofs.lemmas.Slice.Eq.{bytes_eq-Decides}
+use Rattle.std.proofs.lemmas.List.{drop_all, nil_from_length}
+use Rattle.unix_bytes.proofs.lemmas.lists.CaseLemmas.{by_test}
+use Rattle.unix_path.proofs.lemmas.parts.PieceLemmas.{inner_parts-first, inner_parts-slash}
+use Rattle.unix_path.proofs.lemmas.parts.PieceLemmas.{parts_of_piece}
+use Rattle.unix_path.proofs.lemmas.parts.PieceLemmas.{first_piece, first_piece-other}
+use Rattle.unix_path.proofs.lemmas.parts.PieceLemmas.{length-first_piece}
+use Rattle.unix_path.specs.Parts.{Value, parent_dir, is_rooted, CurDir, Part}
+use Rattle.unix_path.specs.Parts.{RootDir, inner_parts, cur_dir, is_slash}
+use Rattle.unix_path.specs.Parts.{leading_part, parts, value_of_piece, values}
+use Rattle.unix_path.specs.Rest.{rest, span_of}
+use Rattle.unix_path.proofs.lemmas.parts.ValueLemmas.{first_value}
+
+abbrev root : Part
+root = record { start = 0; end = 1; value = RootDir }
+
+-- a string that begins with a slash has the root as its first part
+pub parts-root : (s : List ℕ) → get_or s 0 0 ≡ 47
+    → parts s ≡ record { start = 0; end = 1; value = RootDir } ∷ inner_parts 1 (drop 1 s)
+unfolding parts leading_part
+parts-root [] e = absurd (omega arith)
+parts-root (b ∷ s) e = ap (λ b. parts (b ∷ s)) e ∙ ap (λ ps. root ∷ ps) (inner_parts-slash 0 s)
+
+-- whether a string is rooted is told by byte 0, if it has one
+pub is_rooted-at : (s : List ℕ) → is_rooted s ≡ eqb (get_or s 0 0) 47
+is_rooted-at [] = refl
+is_rooted-at (b ∷ s) = refl
+
+-- a string that begins with no slash has a leading part exactly if its first piece is `.`
+pub leading_part-name : (s : List ℕ) → eqb (get_or s 0 0) 47 ≡ false
+    → leading_part s ≡ cond (bytes_eq (first_piece s) cur_dir)
+    (record { start = 0; end = 1; value = CurDir } ∷ []) []
+unfolding leading_part
+leading_part-name s e =
+    rw (is_rooted-at s ∙ e) refl
+
+-- a string that is not empty and begins with no slash doesn't have an empty first piece
+pub nonempty_first_piece : (s : List ℕ) → 0 < length s → eqb (get_or s 0 0) 47 ≡ false
+    → bytes_eq (first_piece s) [] ≡ false
+nonempty_first_piece [] l e = absurd (omega arith)
+nonempty_first_piece (b ∷ s) l e = ap (λ p. bytes_eq p []) (first_piece-other b s e)
+
+-- a string that begins with another byte than a slash has its first piece as its first part
+pub parts-name : (s : List ℕ) → 0 < length s → eqb (get_or s 0 0) 47 ≡ false
+    → parts s ≡ record {
+      start = 0;
+      end = position_or_len is_slash s;
+      value = first_value (first_piece s);
+    } ∷ inner_parts (position_or_len is_slash s)
+    (drop (position_or_len is_slash s) s)
+unfolding parts
+parts-name s l e =
+    let n = position_or_len is_slash s in
+    let p = first_piece s in
+    let tail = inner_parts n (drop n s) in
+    let all : parts s ≡ cond (bytes_eq p cur_dir)
+    (record { start = 0; end = 1; value = CurDir } ∷ []) [] ++ (parts_of_piece 0 p ++ tail) =
+    ap₂ ◌++◌ (leading_part-name s e)
+    (inner_parts-first 0 s
+    ∙ ap (λ k. parts_of_piece 0 p ++ inner_parts k (drop n s)) (zero-add n)) in
+    let some = nonempty_first_piece s l e in
+    by_test (bytes_eq p cur_dir)
+    (λ dot. all ∙ rw (some, dot)
+    (ap (λ k. record { start = 0; end = k; value = CurDir } ∷ tail)
+    (sym (ap length ((bytes_eq-Decides p cur_dir).0 dot)) ∙ length-first_piece s)))
+    (λ no. all ∙ rw (some, no)
+    (ap (λ k. record { start = 0; end = k; value = value_of_piece p } ∷ tail)
+    (zero-add (length p) ∙ length-first_piece s)))
+
+pub values-nil : values [] ≡ []
+unfolding values parts leading_part inner_parts
+values-nil = refl
+
+pub rest-nil : (k m : ℕ) → rest [] k m ≡ []
+unfolding rest parts leading_part inner_parts
+rest-nil k m = ap (λ ps. span_of [] (take (0 - (k + m)) ps)) (drop_all k [] (omega arith))
+    ∙ ap (span_of []) (take_all (0 - (k + m)) [] (omega arith))
+
+pub parts-nil : parts [] ≡ []
+unfolding parts leading_part inner_parts
+parts-nil = refl
+
+-- a string without bytes has no parts
+pub parts-none : (s : List ℕ) → length s ≡ 0 → parts s ≡ []
+parts-none s e = ap parts (nil_from_length s e) ∙ parts-nil
+
+-- a path of a byte or more has a value
+pub some_values : (s : List ℕ) → 0 < length s
+    → (v : Value) × (vs : List Value) × (values s ≡ v ∷ vs)
+unfolding values
+some_values s l = by_test (eqb (get_or s 0 0) 47)
+    (λ e. (_, _, ap (map (λ (p : Part). p.value)) (parts-root s (eqb-true _ 47 e))))
+    (λ e. (_, _, ap (map (λ (p : Part). p.value)) (parts-name s l e)))
+
+-- a path without a value has no byte
+pub values-none : (s : List ℕ) → values s ≡ [] → s ≡ []
+values-none [] none = refl
+values-none (b ∷ s) none = let some = some_values (b ∷ s) (omega arith) in cc (some.2)
+
+-- whether the first value is the root
+abbrev pub root_first : List Value → Bool
+root_first [] = false
+root_first (RootDir ∷ vs) = true
+root_first (_ ∷ vs) = false
+
+-- the first value is the root exactly if byte 0 is a slash
+pub root_first-values : (s : List ℕ) → root_first (values s) ≡ is_rooted s
+unfolding values
+root_first-values [] = ap (λ ps. root_first (map (λ p. p.value) ps)) parts-nil
+root_first-values (b ∷ s) = by_test (eqb b 47)
+    (λ e. rw (parts-root (b ∷ s) (eqb-true b 47 e)) (sym e))
+    (λ e. rw (parts-name (b ∷ s) (omega arith) e) (no_root (first_piece (b ∷ s)) _ ∙ sym e))
+  where
+    no_root : (p : List ℕ) (vs : List Value) → root_first (first_value p ∷ vs) ≡ false
+    no_root p vs = by_test (bytes_eq p cur_dir)
+        (λ e. rw e refl)
+        (λ e. by_test (bytes_eq p parent_dir) (λ f. rw (e, f) refl) (λ f. rw (e, f) refl))

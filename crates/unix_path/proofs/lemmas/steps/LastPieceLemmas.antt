@@ -1,0 +1,115 @@
+-- The last part of a string, by what it ends with.
+use Rattle.std.proofs.Common.{◌≡◌, ℕ, zero, suc, ◌+◌, ◌-◌, ◌<◌, true, false, ◌||◌, ◌≤◌, take, subst}
+use Rattle.std.proofs.Common.{eqb, ltb, List, [], ◌∷◌, length, get_or, drop, refl, sym, ap}
+use Rattle.std.proofs.Common.{ap₂, ◌∙◌, ⊎_elim, arith, eqb-true, lt-ltb, ltb-true}
+use Rattle.std.proofs.Common.{length-drop, get_or-drop}
+use Rattle.std.specs.Str.{bytes_eq}
+use Rattle.std.proofs.lemmas.Bool.{or_cases, and_parts, both_ways}
+use Rattle.std.proofs.lemmas.List.{drop_all, drop_more}
+use Rattle.std.proofs.lemmas.Slice.Eq.{bytes_eq-Decides}
+use Rattle.unix_path.proofs.lemmas.steps.LastLemmas.{last_counts}
+pub use Rattle.unix_path.proofs.lemmas.steps.LastLemmas.{IsLastStart}
+use Rattle.unix_bytes.proofs.lemmas.lists.CaseLemmas.{by_test}
+use Rattle.unix_path.specs.Parts.{CurDir, ParentDir, Normal, cur_dir, parent_dir, parts}
+use Rattle.unix_path.specs.Scan.{ends_with_parent, EndsInPart, is_trailing}
+use Rattle.unix_path.specs.Steps.{TakesLast}
+use Rattle.unix_path.proofs.lemmas.parts.ValueLemmas.{first_value}
+use Rattle.unix_path.proofs.lemmas.steps.StepLemmas.{takes_last}
+
+-- the last piece of a string that ends in a part and isn't `.` is no `.`
+no_dot_piece : (s : List ℕ) (start : ℕ) → IsLastStart s start → start < length s → EndsInPart s
+    → bytes_eq s cur_dir ≡ false → bytes_eq (drop start s) cur_dir ≡ false
+no_dot_piece s zero h l ends no_dot = no_dot
+no_dot_piece s (suc k) h l ends no_dot = (last_counts s (suc k) h (omega arith) l ends).1
+
+-- a last piece of two bytes is the whole string or stands behind a slash
+begins_piece : (s : List ℕ) (start : ℕ) → IsLastStart s start → length s ≡ start + 2
+    → (eqb (length s) 2 || eqb (get_or s (length s - 3) 0) 47) ≡ true
+begins_piece s zero h n = rw n refl
+begins_piece s (suc k) h n =
+    let slash : get_or s (length s - 3) 0 ≡ 47 =
+    ap (λ i. get_or s i 0) {x = length s - 3} {y = suc k - 1} (omega (arith, n))
+    ∙ h.after_slash (omega arith) in
+    by_test (eqb (length s) 2) (λ e. rw e refl) (λ e. rw (e, slash) refl)
+
+-- the last piece is no `..` if `ends_with_parent` is false
+no_parent_piece : (s : List ℕ) (start : ℕ) → IsLastStart s start → start < length s
+    → ends_with_parent s ≡ false → bytes_eq (drop start s) parent_dir ≡ false
+no_parent_piece s start h l no_parent =
+    by_test (bytes_eq (drop start s) parent_dir)
+    (λ e.
+    let two = (bytes_eq-Decides (drop start s) parent_dir).0 e in
+    let n : length s ≡ start + 2 = omega (arith, ap length two, length-drop start s) in
+    let last : get_or s (length s - 1) 0 ≡ 46 =
+    ap (λ i. get_or s i 0) {x = length s - 1} {y = start + 1} (omega (arith, n))
+    ∙ sym (get_or-drop start s 1 0) ∙ ap (λ t. get_or t 1 0) two in
+    let before : get_or s (length s - 2) 0 ≡ 46 =
+    ap (λ i. get_or s i 0) {x = length s - 2} {y = start + 0} (omega (arith, n))
+    ∙ sym (get_or-drop start s 0 0) ∙ ap (λ t. get_or t 0 0) two in
+    let hit : ends_with_parent s ≡ true =
+    rw (last, before, begins_piece s start h n, lt-ltb 1 (length s) (omega (arith, n))) refl in
+    absurd (both_ways _ no_parent hit))
+    (λ e. e)
+
+-- the last piece of a string that ends in a part is a name, unless it is `.` or `..`
+pub last_name : (s : List ℕ) (start : ℕ) → IsLastStart s start → start < length s → EndsInPart s
+    → bytes_eq s cur_dir ≡ false → ends_with_parent s ≡ false
+    → first_value (drop start s) ≡ Normal (drop start s)
+last_name s start h l ends no_dot no_parent =
+    rw (no_dot_piece s start h l ends no_dot, no_parent_piece s start h l no_parent) refl
+
+-- it is taken, and then the filler before it
+pub takes_last_name : (s : List ℕ) (start n : ℕ) → IsLastStart s start → start < length s
+    → EndsInPart s → bytes_eq s cur_dir ≡ false → ends_with_parent s ≡ false → n ≤ start
+    → parts (take n s) ≡ parts (take start s) → (0 < n → is_trailing s (n - 1) ≡ false)
+    → TakesLast s (take n s) (Normal (drop start s))
+takes_last_name s start n h l ends no_dot no_parent before same trimmed =
+    subst (TakesLast s (take n s)) (last_name s start h l ends no_dot no_parent)
+    (takes_last s start n h l ends before same trimmed)
+
+-- a string that ends with `..` has two bytes at least
+pub length-with_parent : (s : List ℕ) → ends_with_parent s ≡ true → 1 < length s
+length-with_parent s e =
+    let all = and_parts (eqb (get_or s (length s - 1) 0) 46) _ e in
+    ltb-true _ _ (and_parts (ltb 1 (length s)) _ all.1).0
+
+-- the last piece of a string that ends with `..` is that, and begins two bytes before the end
+pub starts_parent : (s : List ℕ) → ends_with_parent s ≡ true
+    → IsLastStart s (length s - 2) × (first_value (drop (length s - 2) s) ≡ ParentDir)
+starts_parent s e =
+    let n = length s in
+    let all = and_parts (eqb (get_or s (n - 1) 0) 46) _ e in
+    let more = and_parts (ltb 1 n) _ all.1 in
+    let some : 1 < n = length-with_parent s e in
+    let rest = and_parts (eqb (get_or s (n - 2) 0) 46) _ more.1 in
+    let next : drop (n - 2) s ≡ get_or s (n - 2) 0 ∷ drop (n - 2 + 1) s =
+    drop_more s (n - 2) 0 (omega arith) in
+    let last : drop (n - 2 + 1) s ≡ get_or s (n - 1) 0 ∷ [] =
+    ap (λ i. drop i s) {x = n - 2 + 1} {y = n - 1} (omega arith)
+    ∙ drop_more s (n - 1) 0 (omega arith)
+    ∙ ap (λ t. get_or s (n - 1) 0 ∷ t) (drop_all (n - 1 + 1) s (omega arith)) in
+    let is : drop (n - 2) s ≡ 46 ∷ 46 ∷ [] = next
+    ∙ ap₂ (λ b t. b ∷ t) (eqb-true _ 46 rest.0) (last ∙ ap (λ b. b ∷ []) (eqb-true _ 46 all.0)) in (
+      record {
+        in_range = omega arith;
+        after_slash = λ l. ⊎_elim (λ two. absurd (omega (arith, eqb-true n 2 two)))
+            (λ slash. ap (λ i. get_or s i 0) {x = n - 2 - 1} {y = n - 3} (omega arith)
+            ∙ eqb-true _ 47 slash)
+            (or_cases (eqb n 2) _ rest.1);
+        no_slash = rw is refl;
+      },
+      ap first_value is,
+    )
+
+-- the last piece of `.` is that, and begins at place 0
+pub starts_dot : (s : List ℕ) → bytes_eq s cur_dir ≡ true
+    → IsLastStart s 0 × (first_value (drop 0 s) ≡ CurDir)
+starts_dot s e =
+    let is = (bytes_eq-Decides s cur_dir).0 e in (
+      record {
+        in_range = omega arith;
+        after_slash = λ l. absurd (omega arith);
+        no_slash = rw is refl;
+      },
+      ap first_value is,
+    )

@@ -1,0 +1,152 @@
+-- The first part of a string, by what it begins with.
+use Rattle.std.proofs.Common.{◌≡◌, ℕ, ◌+◌, ◌≤◌, ◌<◌, true, false, ◌&&◌}
+use Rattle.std.proofs.Common.{eqb, List, [], ◌∷◌, length, get_or, take, drop, refl, sym, ap}
+use Rattle.std.proofs.Common.{ap₂, ◌∙◌, ⊎_elim, arith, eqb-true, drop-drop}
+use Rattle.std.proofs.Common.{length-drop, map}
+use Rattle.std.specs.List.{position_or_len}
+use Rattle.std.specs.Str.{bytes_eq}
+use Rattle.std.proofs.lemmas.Bool.{or_parts, and_parts, both_ways}
+use Rattle.unix_bytes.proofs.lemmas.lists.CaseLemmas.{by_test}
+use Rattle.unix_path.proofs.lemmas.filler.IdleLemmas.{busy_parts, first_piece_dot, idle_from}
+use Rattle.unix_path.proofs.lemmas.filler.IdleLemmas.{is_idle-drop}
+use Rattle.unix_path.proofs.lemmas.filler.IdleLemmas.{parts-busy}
+use Rattle.unix_path.proofs.lemmas.parts.PartLemmas.{parts-name}
+use Rattle.unix_path.proofs.lemmas.parts.PieceLemmas.{first_piece, first_piece-other}
+use Rattle.unix_path.proofs.lemmas.parts.PieceLemmas.{position_or_len-other}
+use Rattle.unix_path.proofs.lemmas.parts.PieceLemmas.{position_or_len-slash}
+use Rattle.unix_path.proofs.lemmas.steps.StepLemmas.{takes_first}
+use Rattle.unix_path.specs.Parts.{Value, CurDir, ParentDir, Normal, parent_dir, Part}
+use Rattle.unix_path.specs.Parts.{inner_parts, is_slash, parts, values}
+use Rattle.unix_path.proofs.lemmas.parts.PlaceLemmas.{values-inner_parts}
+use Rattle.unix_path.specs.Scan.{begins_with_parent, is_idle}
+use Rattle.unix_path.specs.CommonDir.{inner_values}
+use Rattle.unix_path.specs.Steps.{StepsFirst}
+use Rattle.unix_path.proofs.lemmas.parts.ValueLemmas.{first_value}
+
+-- the first piece of an empty string, or of one that begins with a slash, has no byte
+position_or_len-cut : (s : List ℕ) → get_or s 0 47 ≡ 47 → position_or_len is_slash s ≡ 0
+position_or_len-cut [] e = refl
+position_or_len-cut (b ∷ s) e = position_or_len-slash b s (rw e refl)
+
+-- a `.` that a slash or the end follows is the first part
+parts-leading_dot : (s : List ℕ) → get_or s 0 47 ≡ 47
+    → parts (46 ∷ s) ≡ record { start = 0; end = 1; value = CurDir } ∷ inner_parts 1 s
+parts-leading_dot s e =
+    let one : position_or_len is_slash (46 ∷ s) ≡ 1 =
+    position_or_len-other 46 s refl ∙ ap (λ n. 1 + n) (position_or_len-cut s e) in
+    parts-name (46 ∷ s) (omega arith) refl
+    ∙ ap (λ n. record { start = 0; end = n; value = first_value (take n (46 ∷ s)) }
+    ∷ inner_parts n (drop n (46 ∷ s))) one
+
+-- a `..` that a slash or the end follows is the first part
+parts-two_dots : (s : List ℕ) → get_or s 0 47 ≡ 47
+    → parts (46 ∷ 46 ∷ s) ≡ record { start = 0; end = 2; value = ParentDir } ∷ inner_parts 2 s
+parts-two_dots s e =
+    let two : position_or_len is_slash (46 ∷ 46 ∷ s) ≡ 2 =
+    position_or_len-other 46 (46 ∷ s) refl
+    ∙ ap (λ n. 1 + n)
+    (position_or_len-other 46 s refl ∙ ap (λ n. 1 + n) (position_or_len-cut s e)) in
+    parts-name (46 ∷ 46 ∷ s) (omega arith) refl
+    ∙ ap (λ n. record { start = 0; end = n; value = first_value (take n (46 ∷ 46 ∷ s)) }
+    ∷ inner_parts n (drop n (46 ∷ 46 ∷ s))) two
+
+-- a string that begins with a `.` that counts has it as its first part
+pub parts-dot_first : (s : List ℕ) → 0 < length s → is_idle s 0 ≡ true
+    → eqb (get_or s 0 0) 47 ≡ false
+    → parts s ≡ record { start = 0; end = 1; value = CurDir } ∷ inner_parts 1 (drop 1 s)
+parts-dot_first [] l e differs = absurd (omega arith)
+parts-dot_first (b ∷ s) l e differs =
+    ⊎_elim (λ is. absurd (slash_or_not b is differs))
+    (λ is. ap (λ b. parts (b ∷ s)) is.0 ∙ parts-leading_dot s is.1) (idle_from b s e)
+  where
+    slash_or_not : (b : ℕ) → b ≡ 47 → eqb b 47 ≡ false → ⊥
+    slash_or_not b is e = cc
+
+-- a string of one byte doesn't begin with `..`
+one_byte_no_parent : (b : ℕ) → (eqb b 46 && false) ≡ true → ⊥
+one_byte_no_parent b e =
+    by_test (eqb b 46) (λ h. both_ways _ (rw h refl) e) (λ h. both_ways _ (rw h refl) e)
+
+-- a string that begins with `..` has it as its first part
+pub parts-parent_first : (s : List ℕ) → begins_with_parent s ≡ true
+    → parts s ≡ record { start = 0; end = 2; value = ParentDir } ∷ inner_parts 2 (drop 2 s)
+parts-parent_first [] e = cc
+parts-parent_first (b ∷ []) e = absurd (one_byte_no_parent b e)
+parts-parent_first (b ∷ c ∷ s) e =
+    let first = and_parts (eqb b 46) (eqb c 46 && eqb (get_or s 0 47) 47) e in
+    let second = and_parts (eqb c 46) (eqb (get_or s 0 47) 47) first.1 in
+    ap₂ (λ b c. parts (b ∷ c ∷ s)) (eqb-true b 46 first.0) (eqb-true c 46 second.0)
+    ∙ parts-two_dots s (eqb-true _ 47 second.1)
+
+-- and its values are that and those of what follows it
+pub values-parent_first : (s : List ℕ) → begins_with_parent s ≡ true
+    → values s ≡ ParentDir ∷ inner_values (drop 2 s)
+unfolding values
+values-parent_first s e = ap (map (λ (p : Part). p.value)) (parts-parent_first s e)
+    ∙ ap (λ vs. ParentDir ∷ vs) (values-inner_parts 2 (drop 2 s))
+
+-- a string that begins with `..` has two bytes at least
+pub length-parent_first : (s : List ℕ) → begins_with_parent s ≡ true → 2 ≤ length s
+length-parent_first [] e = cc
+length-parent_first (b ∷ []) e = absurd (one_byte_no_parent b e)
+length-parent_first (b ∷ c ∷ s) e = omega arith
+
+-- a string that begins with no idle byte doesn't begin with a slash
+pub busy_no_slash : (s : List ℕ) → is_idle s 0 ≡ false → eqb (get_or s 0 0) 47 ≡ false
+busy_no_slash s e = (or_parts (eqb (get_or s 0 0) 47) _ e).0
+
+-- whether the first piece is `..`, by its first three bytes
+first_piece_parent : (s : List ℕ) → eqb (get_or s 0 0) 47 ≡ false
+    → bytes_eq (first_piece s) parent_dir ≡ begins_with_parent s
+first_piece_parent [] e = refl
+first_piece_parent (b ∷ s) e =
+    ap (λ p. bytes_eq p parent_dir) (first_piece-other b s e)
+    ∙ ap (λ t. eqb b 46 && t) (first_piece_dot s)
+
+-- a first piece that counts and isn't `..` is a name
+pub first_value-name : (s : List ℕ) → 0 < length s → is_idle s 0 ≡ false
+    → begins_with_parent s ≡ false → first_value (first_piece s) ≡ Normal (first_piece s)
+first_value-name s l busy e =
+    let is = busy_parts s l busy in
+    let no_parent : bytes_eq (first_piece s) parent_dir ≡ false =
+    first_piece_parent s is.0 ∙ e in
+    rw (is.1, no_parent) refl
+
+-- the first part ends at e and has the value v, and the filler behind it ends at n
+pub record IsFirst (t : List ℕ) (e n : ℕ) (v : Value) : Type 0 where
+  pub in_range : n ≤ length t
+  pub parts_are : parts t ≡ record { start = 0; end = e; value = v } ∷ inner_parts n (drop n t)
+  pub busy : n < length t → is_idle t n ≡ false
+
+-- so it is if filler of d bytes stands behind it
+pub is_first : (t : List ℕ) (e d : ℕ) (v : Value) → e ≤ length t
+    → parts t ≡ record { start = 0; end = e; value = v } ∷ inner_parts e (drop e t)
+    → d ≤ length (drop e t)
+    → inner_parts e (drop e t) ≡ inner_parts (e + d) (drop d (drop e t))
+    → (d < length (drop e t) → is_idle (drop e t) d ≡ false) → IsFirst t e (e + d) v
+is_first t e d v l first m idle busy =
+    let is = drop-drop d e t in
+    let size = length-drop e t in
+    record {
+      in_range = omega arith;
+      parts_are = first ∙ ap (λ ps. record { start = 0; end = e; value = v } ∷ ps)
+          (idle ∙ ap (inner_parts (e + d)) is);
+      busy = λ more. sym (is_idle-drop t (e + d)) ∙ ap (λ u. is_idle u 0) (sym is)
+          ∙ is_idle-drop (drop e t) d ∙ busy (omega arith);
+    }
+
+-- a step over it takes that part
+pub steps_first : (t : List ℕ) (e n : ℕ) (v : Value) → IsFirst t e n v → StepsFirst t n v
+unfolding values
+steps_first t e n v h =
+    let u = drop n t in
+    let next : 0 < length u → is_idle u 0 ≡ false =
+    λ some. is_idle-drop t n ∙ h.busy (omega (arith, length-drop n t)) in
+    record {
+      in_range = h.in_range;
+      value = ap (map (λ p. p.value)) h.parts_are
+          ∙ ap (λ vs. v ∷ vs) (values-inner_parts n u
+          ∙ ap (map (λ p. p.value)) (sym (parts-busy u next)));
+      takes = λ ends. takes_first t e n v ends h.in_range h.parts_are next;
+      busy = next;
+    }

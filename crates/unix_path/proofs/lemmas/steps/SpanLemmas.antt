@@ -1,0 +1,154 @@
+-- Where the parts of a string begin and end.
+use Rattle.std.proofs.Common.{◌≡◌, ℕ, ◌+◌, ◌-◌, ◌≤◌, ◌<◌, eqb, ltb, List, [], ◌∷◌, ◌++◌, length}
+use Rattle.std.proofs.Common.{get_or, take, drop, map, refl, sym, ap, ap₂, ◌∙◌, arith, eqb-true}
+use Rattle.std.proofs.Common.{take_all, ltb-true, ltb-false, length-take-le, subst, length-append}
+use Rattle.std.proofs.lemmas.List.{nil_from_length, take-append-le}
+use Rattle.unix_bytes.proofs.lemmas.lists.CaseLemmas.{by_test}
+use Rattle.unix_path.proofs.lemmas.steps.LastLemmas.{last_part, last_start, root_alone}
+use Rattle.unix_path.proofs.lemmas.parts.PartLemmas.{parts-name, parts-none, parts-root}
+use Rattle.unix_path.proofs.lemmas.parts.PlaceLemmas.{last_end-part_at, part_at, parts_end}
+use Rattle.unix_path.proofs.lemmas.filler.TrimLemmas.{EndsInPart-take, trims_to}
+use Rattle.unix_path.specs.Parts.{Part, Value, parts}
+use Rattle.unix_path.specs.Rest.{last_end, rest, span_of}
+use Rattle.unix_path.specs.Scan.{EndsInPart}
+
+-- some parts with one more behind them end where that one does
+last_end-append : (p : Part) (ps : List Part) (q : Part) → last_end p (ps ++ q ∷ []) ≡ q.end
+last_end-append p [] q = refl
+last_end-append p (r ∷ ps) q = last_end-append r ps q
+
+pub parts_end-append : (ps : List Part) (q : Part) → parts_end (ps ++ q ∷ []) ≡ q.end
+parts_end-append [] q = refl
+parts_end-append (p ∷ ps) q = last_end-append p ps q
+
+-- the last part of a string that ends in a part ends where the string does
+pub parts_end-whole : (s : List ℕ) → EndsInPart s → parts_end (parts s) ≡ length s
+parts_end-whole s ends =
+    let at = last_start s in
+    let l = at.1.in_range in
+    by_test (ltb at.0 (length s))
+    (λ e. let last = last_part s at.0 at.1 (ltb-true _ _ e) ends in ap parts_end last.1
+    ∙ parts_end-append (parts (take at.0 s)) _)
+    (λ e. by_test (ltb 0 (length s))
+    (λ some.
+    let here : at.0 ≡ length s = omega (arith, ltb-false _ _ e) in
+    let l : 0 < length s = ltb-true _ _ some in
+    ap parts_end (root_alone s l ends
+    (ap (λ k. get_or s (k - 1) 0) (sym here) ∙ at.1.after_slash (omega arith))))
+    (λ none.
+    let size : length s ≡ 0 = omega (arith, ltb-false _ _ none) in
+    ap parts_end (parts-none s size) ∙ sym size))
+
+-- parts of which the first begins at place 0 span the string up to the end of the last
+from_zero : (t : List ℕ) {all : List Part} {v : Value} {e : ℕ} {ps : List Part}
+    → all ≡ record { start = 0; end = e; value = v } ∷ ps → span_of t all ≡ take (parts_end all) t
+from_zero t {v = v} {e = e} {ps = ps} is =
+    ap (span_of t) is ∙ ap
+    (λ k. take k t) {x = last_end (record { start = 0; end = e; value = v }) ps - 0}
+    {y = last_end (record { start = 0; end = e; value = v }) ps} (omega arith)
+    ∙ ap (λ ps. take (parts_end ps) t) (sym is)
+
+-- all parts of a string span it from its first byte on
+pub span-parts : (t s : List ℕ) → span_of t (parts s) ≡ take (parts_end (parts s)) t
+span-parts t s = by_test (ltb 0 (length s))
+    (λ some. by_test (eqb (get_or s 0 0) 47)
+    (λ e. from_zero t (parts-root s (eqb-true _ 47 e)))
+    (λ e. from_zero t (parts-name s (ltb-true _ _ some) e)))
+    (λ none.
+    let is = parts-none s (omega (arith, ltb-false _ _ none)) in
+    ap (span_of t) is ∙ ap (λ ps. take (parts_end ps) t) (sym is))
+
+-- if no part is taken, what is left ends where the last part ends
+pub rest-whole : (s : List ℕ) → rest s 0 0 ≡ take (parts_end (parts s)) s
+unfolding rest
+rest-whole s = ap (span_of s) (take_all (length (parts s) - (0 + 0)) (parts s) (omega arith))
+    ∙ span-parts s s
+
+-- a beginning of a string that has all its parts and ends in one is what is left if no part is
+-- taken
+pub rest-trimmed : (s : List ℕ) (n : ℕ) → n ≤ length s → parts (take n s) ≡ parts s
+    → EndsInPart (take n s) → rest s 0 0 ≡ take n s
+rest-trimmed s n l same ends = rest-whole s
+    ∙ ap (λ k. take k s) (ap parts_end (sym same) ∙ parts_end-whole (take n s) ends
+    ∙ length-take-le n s l)
+
+-- before the last part the others are left
+pub rest-last : (s : List ℕ) (ps : List Part) (p : Part) → parts s ≡ ps ++ p ∷ []
+    → rest s 0 1 ≡ span_of s ps
+unfolding rest
+rest-last s ps p e =
+    let n : length (ps ++ p ∷ []) - (0 + 1) ≡ length ps =
+    omega (arith, length-append ps (p ∷ [])) in
+    ap (λ all. span_of s (take (length all - (0 + 1)) all)) e
+    ∙ ap (λ k. span_of s (take k (ps ++ p ∷ []))) n
+    ∙ ap (span_of s) (take-append-le (length ps) ps (p ∷ []) (omega arith)
+    ∙ take_all (length ps) ps (omega arith))
+
+-- a string that ends in a part is what is left of it
+pub rest-ended : (s : List ℕ) → EndsInPart s → rest s 0 0 ≡ s
+rest-ended s ends =
+    let all = take_all (length s) s (omega arith) in
+    rest-trimmed s (length s) (omega arith) (ap parts all) (subst EndsInPart (sym all) ends) ∙ all
+
+-- w stands in s from `at` on
+abbrev pub StandsAt : List ℕ → ℕ → List ℕ → Type 0
+StandsAt s at w = take (length w) (drop at s) ≡ w
+
+-- parts that span all of w span it in s, too, if w stands in s
+span_of-part_at : (s : List ℕ) (at : ℕ) (ps : List Part) (w : List ℕ)
+    → span_of w ps ≡ take (parts_end ps) w → parts_end ps ≡ length w → StandsAt s at w
+    → (ps ≡ [] → w ≡ []) → ((p : Part) (qs : List Part) → ps ≡ p ∷ qs → p.start ≡ 0)
+    → span_of s (map (part_at at) ps) ≡ w
+span_of-part_at s at [] w span end stands none first = sym (none refl)
+span_of-part_at s at (p ∷ ps) w span end stands none first =
+    let start : p.start + at ≡ at = omega (arith, first p ps refl) in
+    let size : last_end (part_at at p) (map (part_at at) ps) - (p.start + at) ≡ length w =
+    omega (arith, last_end-part_at at p ps, first p ps refl) in
+    ap₂ (λ n i. take n (drop i s)) size start ∙ stands
+
+-- the first part of a string begins at its first byte
+first_start : (s : List ℕ) (p : Part) (qs : List Part) → parts s ≡ p ∷ qs → p.start ≡ 0
+first_start s p qs e = by_test (ltb 0 (length s))
+    (λ some. by_test (eqb (get_or s 0 0) 47)
+    (λ slash. let h = sym e ∙ parts-root s (eqb-true _ 47 slash) in start_of h)
+    (λ no. let h = sym e ∙ parts-name s (ltb-true _ _ some) no in start_of h))
+    (λ none.
+    let nil = parts-none s (omega (arith, ltb-false _ _ none)) in
+    absurd (let h = sym nil ∙ e in cc))
+  where
+    start_of : {p q : Part} {ps qs : List Part} → p ∷ ps ≡ q ∷ qs → p.start ≡ q.start
+    start_of h = cc
+
+-- if w stands in s, the parts of w span it there
+pub span_at : (s w : List ℕ) (at : ℕ) → StandsAt s at w → EndsInPart w
+    → span_of s (map (part_at at) (parts w)) ≡ w
+span_at s w at stands ends =
+    let end = parts_end-whole w ends in
+    span_of-part_at s at (parts w) w (span-parts w w) end stands
+    (λ none. nil_from_length w (sym end ∙ ap parts_end none)) (first_start w)
+
+-- the first `len` bytes of s have all its parts and end in one
+pub record TrimsEnd (s : List ℕ) : Type 0 where
+  pub len : ℕ
+  pub in_range : len ≤ length s
+  pub same : parts (take len s) ≡ parts s
+  pub ends : EndsInPart (take len s)
+
+-- every string can lose the filler at its end
+pub trims_end : (s : List ℕ) → TrimsEnd s
+trims_end s =
+    let trim = trims_to s (length s) (omega arith) in
+    record {
+      len = trim.len;
+      in_range = trim.in_range;
+      same = trim.same
+          ∙ ap parts (take_all (length s) s (omega arith));
+      ends = EndsInPart-take s trim.len trim.in_range trim.ends;
+    }
+
+-- a fresh cursor's rest ends where the last part ends
+pub length-rest_whole : (s : List ℕ) → length (rest s 0 0) ≡ parts_end (parts s)
+length-rest_whole s =
+    let trim = trims_end s in
+    ap length (rest-trimmed s trim.len trim.in_range trim.same trim.ends)
+    ∙ sym (parts_end-whole (take trim.len s) trim.ends) ∙ ap parts_end trim.same

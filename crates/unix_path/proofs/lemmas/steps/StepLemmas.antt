@@ -1,0 +1,94 @@
+-- One part is taken, in front or behind.
+use Rattle.std.proofs.Common.{◌≡◌, ℕ, ◌-◌, ◌≤◌, ◌<◌, false, List, [], ◌∷◌, ◌++◌, length}
+use Rattle.std.proofs.Common.{get_or, take, drop, map, refl, sym, ap, ◌∙◌, arith, take_all}
+use Rattle.std.proofs.Common.{length-drop, length-take-le}
+use Rattle.std.proofs.lemmas.List.{map-append}
+use Rattle.unix_path.proofs.lemmas.filler.IdleLemmas.{inner_parts_busy, parts-busy}
+use Rattle.unix_path.proofs.lemmas.steps.LastLemmas.{last_part, root_alone, IsLastStart}
+use Rattle.unix_path.proofs.lemmas.parts.PartLemmas.{parts-nil}
+use Rattle.unix_path.proofs.lemmas.parts.PieceLemmas.{inner_parts-nil}
+use Rattle.unix_path.proofs.lemmas.parts.PlaceLemmas.{values-inner_parts, parts_end}
+use Rattle.unix_path.proofs.lemmas.steps.SpanLemmas.{parts_end-whole, span-parts, rest-last}
+use Rattle.unix_path.proofs.lemmas.filler.TrimLemmas.{EndsInPart-drop, EndsInPart-take}
+use Rattle.unix_path.proofs.lemmas.parts.ValueLemmas.{first_value}
+use Rattle.unix_path.specs.Parts.{Part, RootDir, Value, inner_parts, parts, values}
+use Rattle.unix_path.specs.Rest.{rest, span_of}
+use Rattle.unix_path.specs.Scan.{is_idle, is_trailing, EndsInPart}
+use Rattle.unix_path.specs.Steps.{TakesFirst, TakesLast}
+
+-- after the first part the others are left
+rest-first : (s : List ℕ) (p : Part) (ps : List Part) → parts s ≡ p ∷ ps
+    → rest s 1 0 ≡ span_of s ps
+unfolding rest
+rest-first s p ps e = rw e (ap (span_of s) (take_all (length (p ∷ ps) - 1) ps (omega arith)))
+
+-- the parts of u, which is t from place i on, span all of u
+span_busy : (t u : List ℕ) (i : ℕ) → drop i t ≡ u → i ≤ length t
+    → (0 < length u → is_idle u 0 ≡ false) → (0 < length u → parts_end (inner_parts i u) ≡ length t)
+    → span_of t (inner_parts i u) ≡ u
+span_busy t [] i is l busy end = ap (span_of t) (inner_parts-nil i)
+span_busy t (b ∷ u) i is l busy end =
+    let first = inner_parts_busy i (b ∷ u) (omega arith) (busy (omega arith)) in
+    let reaches = end (omega arith) in
+    let n : length (drop i t) ≡ length t - i = length-drop i t in
+    ap (span_of t) first ∙ ap (λ n. take (n - i) (drop i t)) (sym (ap parts_end first) ∙ reaches)
+    ∙ take_all (length t - i) (drop i t) (omega arith) ∙ is
+
+-- the first part is taken, which ends at e, and the filler behind it, which ends at n
+pub takes_first : (t : List ℕ) (e n : ℕ) (v : Value) → EndsInPart t → n ≤ length t
+    → parts t ≡ record { start = 0; end = e; value = v } ∷ inner_parts n (drop n t)
+    → (0 < length (drop n t) → is_idle (drop n t) 0 ≡ false) → TakesFirst t (drop n t) v
+unfolding values
+takes_first t e n v ends l all busy =
+    let u = drop n t in
+    let end : 0 < length u
+    → parts_end (inner_parts n u) ≡ length t = λ some. end_of n u some (busy some) e v
+    ∙ sym (ap parts_end all) ∙ parts_end-whole t ends in
+    record {
+      value = ap (map (λ p. p.value)) all
+          ∙ ap (λ vs. v ∷ vs) (values-inner_parts n u
+          ∙ ap (map (λ p. p.value)) (sym (parts-busy u busy)));
+      rest = rest-first t _ _ all ∙ span_busy t u n refl l busy end;
+      ends = EndsInPart-drop t n l ends;
+    }
+  where
+    end_of : (i : ℕ) (u : List ℕ) → 0 < length u → is_idle u 0 ≡ false → (e : ℕ) (v : Value)
+        → parts_end (inner_parts i u) ≡ parts_end
+        (record { start = 0; end = e; value = v } ∷ inner_parts i u)
+    end_of i u some busy e v = let first = inner_parts_busy i u some busy in rw first refl
+
+-- the last part is taken, and what is left ends in a part
+takes_last_to : (t : List ℕ) (n at to : ℕ) (v : Value) → n ≤ length t
+    → parts t ≡ parts (take n t) ++ record { start = at; end = to; value = v } ∷ []
+    → EndsInPart (take n t) → TakesLast t (take n t) v
+unfolding values
+takes_last_to t n at to v l all ends =
+    let u = take n t in
+    record {
+      value = ap (map (λ p. p.value)) all
+          ∙ map-append (λ p. p.value) (parts u) (record { start = at; end = to; value = v } ∷ []);
+      rest = rest-last t (parts u) _ all ∙ span-parts t u
+          ∙ ap (λ k. take k t) (parts_end-whole u ends ∙ length-take-le n t l);
+      ends = ends;
+    }
+
+-- the last piece is taken, and then the filler before it
+pub takes_last : (t : List ℕ) (start n : ℕ) → IsLastStart t start → start < length t → EndsInPart t
+    → n ≤ start → parts (take n t) ≡ parts (take start t) → (0 < n → is_trailing t (n - 1) ≡ false)
+    → TakesLast t (take n t) (first_value (drop start t))
+takes_last t start n h l ends m same trimmed =
+    let last = last_part t start h l ends in
+    takes_last_to t n last.0 (length t) (first_value (drop start t)) (omega arith)
+    (last.1 ∙ ap (λ ps. ps ++ record
+    { start = last.0; end = length t; value = first_value (drop start t) } ∷ []) (sym same))
+    (EndsInPart-take t n (omega arith) trimmed)
+
+-- the root is taken from a string that ends in a part and in a slash
+pub takes_root : (t : List ℕ) → 0 < length t → EndsInPart t → get_or t (length t - 1) 0 ≡ 47
+    → TakesLast t (take 0 t) RootDir
+takes_root t l ends e =
+    takes_last_to t 0 0 (length t) RootDir (omega arith)
+    (root_alone t l ends e
+    ∙ ap (λ ps. ps ++ record { start = 0; end = length t; value = RootDir } ∷ [])
+    (sym parts-nil))
+    (λ l. absurd (omega arith))

@@ -1,0 +1,40 @@
+-- Components and their values.
+use Rattle.std.proofs.Common.{◌≡◌, List, ℕ, [], ◌∷◌, ◌++◌, Some, None, refl, sym, ap, ◌∙◌}
+use Rattle.unix_bytes.specs.declared.bytes.UnixStr.{UnixStr}
+use Rattle.unix_path.specs.Views.{value_of}
+use Rattle.unix_path.specs.Parts.{values}
+use Rattle.unix_path.specs.Parts as parts
+use Rattle.unix_path.specs.Names.{name_of, file_name_of}
+use Rattle.unix_path.proofs.lemmas.names.ParentLemmas.{file_name_of-push}
+use Rattle.unix_path.specs.declared.cursor.component.Component.{Component}
+use Rattle.unix_path.specs.declared.cursor.component.Component.TheVariants.{RootDir, CurDir}
+use Rattle.unix_path.specs.declared.cursor.component.Component.TheVariants.{ParentDir, Normal}
+
+-- a component that is no `Normal` has no name
+name_of-other : (x : Component) → ((name : UnixStr) → x ≡ Normal name → ⊥)
+    → None ≡ name_of (value_of x)
+name_of-other RootDir h = refl
+name_of-other CurDir h = refl
+name_of-other ParentDir h = refl
+name_of-other (Normal name) h = absurd (h name refl)
+
+-- the value of a component that isn't `RootDir` isn't the root
+pub value_of-other : (x : Component) → (x ≡ RootDir → ⊥) → value_of x ≡ parts.RootDir → ⊥
+value_of-other RootDir h e = h refl
+value_of-other CurDir h e = cc
+value_of-other ParentDir h e = cc
+value_of-other (Normal name) h e = cc
+
+-- the last component tells the file name
+pub file_name_of-normal : {x : Component} {name : UnixStr} (s w : List ℕ)
+    → values s ≡ values w ++ value_of x ∷ [] → x ≡ Normal name
+    → Some name.bytes.now ≡ file_name_of (values s)
+file_name_of-normal {x} s w last is =
+    ap (λ x. name_of (value_of x)) (sym is) ∙ file_name_of-push s w (value_of x) last
+
+-- if the last component is no `Normal`, there is no file name
+pub file_name_of-other : (s w : List ℕ) (x : Component)
+    → values s ≡ values w ++ value_of x ∷ [] → ((name : UnixStr) → x ≡ Normal name → ⊥)
+    → None ≡ file_name_of (values s)
+file_name_of-other s w x last differs =
+    name_of-other x differs ∙ file_name_of-push s w (value_of x) last

@@ -1,0 +1,78 @@
+-- What calls and chains over a cursor give: its values in order, or backwards behind `rev`.
+use Rattle.std.proofs.Common.{ap, ◌∙◌, ◌∷◌, [], length, None, reverse, subst, ◌≤◌, ◌-◌, drop}
+use Rattle.std.proofs.Common.{◌≡◌, refl, sym, arith, length-drop}
+use Rattle.std.specs.Iterator.Adapters.{rev_source, rev_steps}
+use Rattle.std.specs.declared.iter.Rev.{Rev}
+use Rattle.std.proofs.lemmas.List.{reverse-append, length-take}
+use Rattle.std.proofs.lemmas.Iterator.{YieldsList}
+use Rattle.std.proofs.lemmas.Iterator.Consumers.{YieldsList-from_shown}
+use Rattle.unix_path.proofs.lemmas.parts.PartLemmas.{rest-nil, values-nil}
+use Rattle.unix_path.proofs.lemmas.rests.SourceLemmas.{LiesIn-itself}
+use Rattle.unix_path.proofs.lemmas.steps.SpanLemmas.{rest-ended}
+use Rattle.unix_path.specs.Parts.{values}
+use Rattle.unix_path.specs.Rest.{rest}
+use Rattle.unix_path.specs.Views.{value_of}
+use Rattle.unix_path.specs.Cursor.{cursor_rest, cursor_source, cursor_values, iter_bytes}
+use Rattle.unix_path.specs.Cursor.{GivesFirstPart, GivesLastPart, GivesLastName, name_bytes}
+use Rattle.unix_path.specs.declared.cursor.walk.Components.{Components}
+use Rattle.unix_path.specs.declared.cursor.iter.Iter.{Iter}
+use Rattle.unix_path.specs.Steps.{IsWalk}
+
+-- what is left of a walk is no longer than its source
+pub length-cursor_rest : (c : Components) → length (cursor_rest c) ≤ length (cursor_source c).now
+unfolding cursor_rest
+length-cursor_rest c = omega (
+  arith,
+  length-take (c.end - c.start) (drop c.start c.source.now),
+  length-drop c.start c.source.now,
+)
+
+-- the bytes that a walk stands for are what is left of them
+pub cursor_rest-whole : (c : Components) → cursor_rest c ≡ rest (cursor_rest c) 0 0
+unfolding cursor_rest IsWalk
+cursor_rest-whole c = sym (rest-ended (cursor_rest c) c.fields.ends)
+
+-- if nothing is left, `next` gives nothing, and leaves the cursor as it is
+pub GivesFirst-none : (c : Components) → cursor_rest c ≡ [] → GivesFirstPart c None c
+GivesFirst-none c none =
+    let no_value = ap values none ∙ values-nil in
+    record {
+      item_is = (no_value, no_value);
+      rest_is = none ∙ sym (ap (λ s. rest s 1 0) none ∙ rest-nil 1 0);
+      place_is = LiesIn-itself (cursor_source c);
+      end_is = refl;
+    }
+
+-- if nothing is left, `next_back` gives nothing, and leaves the cursor as it is
+pub GivesLast-none : (c : Components) → cursor_rest c ≡ [] → GivesLastPart c None c
+GivesLast-none c none =
+    let no_value = ap values none ∙ values-nil in
+    record {
+      item_is = (no_value, no_value);
+      rest_is = none ∙ sym (ap (λ s. rest s 0 1) none ∙ rest-nil 0 1);
+      place_is = LiesIn-itself (cursor_source c);
+      start_is = refl;
+    }
+
+-- a cursor gives its values in order
+pub Components-yields : (s : Components) → YieldsList GivesFirstPart value_of s (cursor_values s)
+Components-yields s =
+    YieldsList-from_shown GivesFirstPart value_of cursor_values (λ s t h. ap length h.item_is.0)
+    (λ s x t h. h.item_is) s
+
+-- behind `rev` an `Iter` gives the bytes of its values from the last on
+Rev-yields : (s : Rev Iter)
+    → YieldsList (rev_steps GivesLastName) name_bytes s (reverse (iter_bytes (rev_source s)))
+Rev-yields s =
+    YieldsList-from_shown (rev_steps GivesLastName) name_bytes
+    (λ s. reverse (iter_bytes (rev_source s)))
+    (λ s t h. ap (λ vs. length (reverse vs)) h.item_is.0)
+    (λ s x t h. ap reverse h.item_is
+    ∙ reverse-append (iter_bytes (rev_source t)) (name_bytes x ∷ [])) s
+
+-- the `rev` of c gives the bytes of the values of c from the last on
+pub Iter-yields_back : {s : Rev Iter} {c : Iter} → rev_source s ≡ c
+    → YieldsList (rev_steps GivesLastName) name_bytes s (reverse (iter_bytes c))
+Iter-yields_back {s} e =
+    subst (λ c. YieldsList (rev_steps GivesLastName) name_bytes s (reverse (iter_bytes c))) e
+    (Rev-yields s)

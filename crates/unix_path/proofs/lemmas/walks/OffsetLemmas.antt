@@ -1,0 +1,180 @@
+-- What stands between two places of a string, as its parts are taken.
+use Rattle.std.proofs.Common.{◌≡◌, ℕ, ◌+◌, ◌-◌, ◌≤◌, ◌<◌, Bool, true, false, ◌&&◌, ◌||◌, eqb}
+use Rattle.std.proofs.Common.{ltb, List, [], ◌∷◌, ◌++◌, length, get_or, take, drop, map, refl, sym}
+use Rattle.std.proofs.Common.{ap, subst, ◌∙◌, arith, drop-drop, take-take, eqb-true}
+use Rattle.std.proofs.Common.{ltb-true, ltb-false}
+use Rattle.std.specs.Prelude.{slice_range}
+use Rattle.std.specs.Str.{bytes_eq}
+use Rattle.std.proofs.lemmas.List.{length-map, nil_from_length, drop-take}
+use Rattle.unix_path.specs.Cursor.{cursor_rest}
+use Rattle.unix_path.specs.declared.cursor.walk.Components.{Components}
+use Rattle.unix_path.specs.Parts.{Value, RootDir, CurDir, ParentDir, Normal, parts, values}
+use Rattle.unix_path.specs.Parts.{cur_dir, parent_dir}
+use Rattle.unix_path.specs.Scan.{is_idle, EndsInPart}
+use Rattle.unix_path.specs.Rest.{rest}
+use Rattle.unix_path.specs.Steps.{HasLast, IsWalk, TakesFirst, StepsFirst, TakesLast}
+use Rattle.unix_bytes.proofs.lemmas.lists.CaseLemmas.{by_test, length-range}
+use Rattle.unix_path.proofs.lemmas.filler.IdleLemmas.{first_piece_dot}
+use Rattle.unix_path.proofs.lemmas.names.ParentLemmas.{rest-whole_last, values-whole}
+use Rattle.unix_path.proofs.lemmas.parts.PartLemmas.{parts-nil, parts-root, parts-name}
+use Rattle.unix_path.proofs.lemmas.parts.PieceLemmas.{first_piece}
+use Rattle.unix_path.proofs.lemmas.steps.SpanLemmas.{parts_end-whole}
+use Rattle.unix_path.proofs.lemmas.parts.ValueLemmas.{first_value}
+use Rattle.unix_path.proofs.lemmas.parts.PlaceLemmas.{parts_end}
+
+-- what stands from a to b, without its first n bytes, stands from a + n to b
+range-drop : (s : List ℕ) (a b n : ℕ) → n ≤ b - a
+    → drop n (slice_range s a b) ≡ slice_range s (a + n) b
+range-drop s a b n l =
+    ap (λ k. drop n (take k (drop a s))) {x = b - a} {y = n + (b - (a + n))} (omega arith)
+    ∙ drop-take n (b - (a + n)) (drop a s) ∙ ap (take (b - (a + n))) (drop-drop n a s)
+
+-- the first n bytes of what stands from a to b stand from a to a + n
+range-take : (s : List ℕ) (a b n : ℕ) → n ≤ b - a
+    → take n (slice_range s a b) ≡ slice_range s a (a + n)
+range-take s a b n l =
+    take-take n (b - a) (drop a s) l
+    ∙ ap (λ k. take k (drop a s)) {x = n} {y = a + n - a} (omega arith)
+
+-- what stands from 0 to n are the first n bytes
+pub range-zero : (s : List ℕ) (n : ℕ) → slice_range s 0 n ≡ take n s
+range-zero s n = ap (λ k. take k s) {x = n - 0} {y = n} (omega arith)
+
+-- whether a root or a `.` comes first
+abbrev lead_first : List Value → Bool
+lead_first (RootDir ∷ vs) = true
+lead_first (CurDir ∷ vs) = true
+lead_first _ = false
+
+is_idle-first : (s : List ℕ) → is_idle s 0 ≡ lead_first (values s)
+unfolding values
+is_idle-first [] = ap (λ ps. lead_first (map (λ p. p.value) ps)) (sym parts-nil)
+is_idle-first (b ∷ s) = by_test (eqb b 47)
+    (λ e. rw (parts-root (b ∷ s) (eqb-true b 47 e), e) refl)
+    (λ e. ap (λ t. t || (eqb b 46 && eqb (get_or s 0 47) 47)) e ∙ sym (first_piece_dot (b ∷ s))
+    ∙ of_piece (first_piece (b ∷ s)) _
+    ∙ ap (λ ps. lead_first (map (λ p. p.value) ps)) (sym (parts-name (b ∷ s) (omega arith) e)))
+  where
+    of_piece : (p : List ℕ) (vs : List Value)
+        → bytes_eq p cur_dir ≡ lead_first (first_value p ∷ vs)
+    of_piece p vs = by_test (bytes_eq p cur_dir)
+        (λ e. rw e refl)
+        (λ e. by_test (bytes_eq p parent_dir) (λ f. rw (e, f) refl) (λ f. rw (e, f) refl))
+
+-- strings with the same parts begin alike
+pub is_idle-same : (s t : List ℕ) → parts s ≡ parts t → is_idle s 0 ≡ is_idle t 0
+unfolding values
+is_idle-same s t e = is_idle-first s ∙ ap (λ ps. lead_first (map (λ p. p.value) ps)) e
+    ∙ sym (is_idle-first t)
+
+pub not_idle : (u : List ℕ) → (0 < length u → is_idle u 0 ≡ false) → false ≡ is_idle u 0
+not_idle [] h = refl
+not_idle (b ∷ u) h = sym (h (omega arith))
+
+-- the first part is taken: what is left begins n bytes further
+pub record StepsForward (s : List ℕ) (a b n : ℕ) (v : Value) : Type 0 where
+  pub in_order : a + n ≤ b
+  pub takes : TakesFirst (slice_range s a b) (slice_range s (a + n) b) v
+  pub lead : false ≡ is_idle (slice_range s (a + n) b) 0
+
+-- a step over the first part of what stands from a to b moves a by n
+pub steps_forward : (s : List ℕ) (a b n : ℕ) (v : Value) → a ≤ b → b ≤ length s
+    → EndsInPart (slice_range s a b) → StepsFirst (slice_range s a b) n v → StepsForward s a b n v
+steps_forward s a b n v in_order in_range ends step =
+    let size = length-range s a b in_range in
+    let l = step.in_range in
+    let is = range-drop s a b n (omega arith) in
+    record {
+      in_order = omega arith;
+      takes = subst (λ u. TakesFirst (slice_range s a b) u v) is (step.takes ends);
+      lead = not_idle (slice_range s (a + n) b)
+          (subst (λ u. 0 < length u → is_idle u 0 ≡ false) is step.busy);
+    }
+
+-- a step over the first part of what is left of a walk moves the first of its places by n
+pub walks_forward : {t : List ℕ} (c : Components) (n : ℕ) (v : Value) → t ≡ cursor_rest c
+    → StepsFirst t n v → StepsForward c.source.now c.start c.end n v
+unfolding cursor_rest IsWalk
+walks_forward c n v e step =
+    steps_forward c.source.now c.start c.end n v c.fields.in_order c.fields.in_range c.fields.ends
+    (subst (λ t. StepsFirst t n v) e step)
+
+-- the last part is taken: the first n bytes are left
+pub record StepsBack (s : List ℕ) (a b n : ℕ) (v : Value) : Type 0 where
+  pub in_order : a + n ≤ b
+  pub takes : TakesLast (slice_range s a b) (slice_range s a (a + n)) v
+  pub lead : (is_idle (slice_range s a b) 0 && ltb 0 n) ≡ is_idle (slice_range s a (a + n)) 0
+
+-- a string that ends in a part and has none is empty
+no_values : (u : List ℕ) → EndsInPart u → values u ≡ [] → length u ≡ 0
+unfolding values
+no_values u ends e =
+    let none : parts u ≡ [] =
+    nil_from_length (parts u) (sym (length-map (parts u) (λ p. p.value)) ∙ ap length e) in
+    sym (parts_end-whole u ends) ∙ ap parts_end none
+
+lead_first-push : (vs : List Value) (v : Value) → (vs ≡ [] → ⊥)
+    → lead_first (vs ++ v ∷ []) ≡ lead_first vs
+lead_first-push [] v some = absurd (some refl)
+lead_first-push (RootDir ∷ vs) v some = refl
+lead_first-push (CurDir ∷ vs) v some = refl
+lead_first-push (ParentDir ∷ vs) v some = refl
+lead_first-push (Normal name ∷ vs) v some = refl
+
+-- what is left before the last part begins with a root or a `.` that counts if all of it did,
+-- unless nothing is left
+lead_before_last : (t u : List ℕ) (v : Value) (n : ℕ) → TakesLast t u v → length u ≡ n
+    → (is_idle t 0 && ltb 0 n) ≡ is_idle u 0
+lead_before_last t u v n h size = by_test (ltb 0 n)
+    (λ e.
+    let some : 0 < n = ltb-true _ _ e in
+    rw e (and_true (is_idle t 0) ∙ is_idle-first t ∙ ap lead_first h.value
+    ∙ lead_first-push (values u) v
+    (λ none. let z = no_values u h.ends none in absurd (omega arith))
+    ∙ sym (is_idle-first u)))
+    (λ e. rw e (and_false (is_idle t 0)
+    ∙ sym (ap (λ u. is_idle u 0) (nil_from_length u (omega (arith, ltb-false _ _ e))))))
+  where
+    and_true : (b : Bool) → (b && true) ≡ b
+    and_true true = refl
+    and_true false = refl
+
+    and_false : (b : Bool) → (b && false) ≡ false
+    and_false true = refl
+    and_false false = refl
+
+-- a step over the last part of what stands from a to b moves b to n bytes behind a
+pub steps_back : (s : List ℕ) (a b n : ℕ) (v : Value) → a ≤ b → b ≤ length s
+    → n ≤ length (slice_range s a b) → TakesLast (slice_range s a b) (take n (slice_range s a b)) v
+    → StepsBack s a b n v
+steps_back s a b n v in_order in_range l takes =
+    let size = length-range s a b in_range in
+    let is = range-take s a b n (omega arith) in
+    let moved : TakesLast (slice_range s a b) (slice_range s a (a + n)) v =
+    subst (λ u. TakesLast (slice_range s a b) u v) is takes in
+    let before : length (slice_range s a (a + n)) ≡ n =
+    omega (arith, length-range s a (a + n)) in
+    record {
+      in_order = omega arith;
+      takes = moved;
+      lead = lead_before_last (slice_range s a b) (slice_range s a (a + n)) v n moved before;
+    }
+
+-- a step over the last part of what is left of a walk moves the second of its places
+pub walks_back : {t : List ℕ} (c : Components) (n : ℕ) (v : Value) → t ≡ cursor_rest c
+    → n ≤ length t → TakesLast t (take n t) v → StepsBack c.source.now c.start c.end n v
+unfolding cursor_rest IsWalk
+walks_back c n v e l takes =
+    steps_back c.source.now c.start c.end n v c.fields.in_order c.fields.in_range
+    (subst (λ t. n ≤ length t) e l) (subst (λ t. TakesLast t (take n t) v) e takes)
+
+-- the last part of a fresh walk's rest u is the last part of s, and w is left before it
+pub has_last : {u w : List ℕ} (s : List ℕ) (before end : ℕ) (v : Value) → u ≡ rest s 0 0
+    → values u ≡ values w ++ v ∷ [] → w ≡ rest u 0 1 → w ≡ take before s → length u ≡ end
+    → before ≤ length s → HasLast s before end v
+has_last {u} {w} s before end v whole is left at n l = record {
+  in_range = l;
+  value = sym (values-whole s u whole) ∙ is ∙ ap (λ w. values w ++ v ∷ []) at;
+  before_is = sym at ∙ rest-whole_last s whole left;
+  end_is = sym n ∙ ap length whole;
+}

@@ -1,0 +1,4 @@
+-- The lemmas, by subject.
+pub mod places
+pub mod walks
+pub mod buffers

@@ -1,0 +1,173 @@
+-- Where a parent, a file name with what it is made of, and what follows a base stand.
+use Rattle.std.proofs.Common.{◌≡◌, ℕ, zero, suc, ◌+◌, ◌-◌, ◌≤◌, ◌<◌, ltb, List, [], ◌∷◌, ◌++◌}
+use Rattle.std.proofs.Common.{Bool, true, false, cond}
+use Rattle.std.proofs.Common.{length, take, drop, Option, Some, None, option_map, refl, sym, ap}
+use Rattle.std.proofs.Common.{ap₂, subst, ◌∙◌, arith, append_assoc, length-drop, take_all}
+use Rattle.std.proofs.Math.Seq.{take-append_seam, drop-append_seam}
+use Rattle.std.specs.Option.{option_and_then}
+use Rattle.std.proofs.lemmas.List.{length-take}
+use Rattle.std.proofs.lemmas.Option.{same_Some, none-some}
+use Rattle.unix_path.specs.Parts.{Part, parts, values}
+use Rattle.unix_path.specs.Rest.{rest, span_of}
+use Rattle.unix_path.specs.Parents.{parent_of}
+use Rattle.unix_path.specs.Names.{past_last, file_name_of, split_name, stem_of, extension_of}
+use Rattle.unix_path.specs.Prefixes.{stripped_of}
+use Rattle.unix_path.specs.Edits.{last_start_of}
+use Rattle.unix_path.proofs.lemmas.parts.PlaceLemmas.{parts_end}
+use Rattle.unix_path.proofs.lemmas.names.NameLemmas.{is_dot, split_name-stem}
+use Rattle.unix_path.proofs.lemmas.names.ParentLemmas.{parent_of-some}
+use Rattle.unix_path.proofs.lemmas.rests.RestLemmas.{take-rest}
+use Rattle.unix_path.proofs.lemmas.steps.SpanLemmas.{length-rest_whole}
+use Rattle.unix_path.proofs.lemmas.names.StemLemmas.{last_start_of-name, length-name}
+use Rattle.unix_path.proofs.lemmas.names.StemLemmas.{length-rest_whole-le}
+use Rattle.unix_path.proofs.lemmas.names.NameCutLemmas.{name_cut}
+use Rattle.unix_path_c.specs.Places.{name_start_of}
+use Rattle.unix_path_c.proofs.lemmas.places.StretchLemmas.{Stands, stands, range_stands}
+use Rattle.unix_path_c.proofs.lemmas.places.StretchLemmas.{stands-beginning, stands-end, EndsAt}
+use Rattle.unix_path_c.proofs.lemmas.places.StretchLemmas.{nothing_ends}
+use Rattle.unix_path_c.proofs.lemmas.places.StretchLemmas.{range_ends}
+
+-- a parent is a prefix of its path
+pub parent_stands : (s parent : List ℕ) → Some parent ≡ parent_of s → Stands s 0 parent
+parent_stands s parent e =
+    let is = parent_of-some s parent (sym e) in
+    stands s parent 0 (omega arith)
+    (ap (λ w. take (length w) s) is ∙ take-rest s 1 ∙ sym is)
+
+-- what stands between two strings
+pub take-inside : (x y z : List ℕ) → take (length y) (drop (length x) ((x ++ y) ++ z)) ≡ y
+take-inside x y z =
+    ap (λ t. take (length y) (drop (length x) t)) (append_assoc x y z)
+    ∙ ap (take (length y)) (drop-append_seam x (y ++ z)) ∙ take-append_seam y z
+
+-- the file name stands where the last part starts
+name_stands : (s name : List ℕ) → Some name ≡ file_name_of (values s)
+    → Stands s (last_start_of (parts s)) name
+name_stands s name e =
+    let cut = name_cut s name (sym e) in
+    stands s name (last_start_of (parts s))
+    (omega (arith, last_start_of-name s name e, length-rest_whole-le s))
+    (ap₂ (λ i t. take (length name) (drop i t)) cut.start cut.whole
+    ∙ take-inside cut.prefix name cut.back)
+
+-- the file name ends where the last part ends
+pub name_ends : (s name : List ℕ) (end : ℕ) → Some name ≡ file_name_of (values s)
+    → end ≡ length (rest s 0 0) → EndsAt s end name
+name_ends s name end e at =
+    let from : last_start_of (parts s) ≡ end - length name =
+    omega (arith, last_start_of-name s name e) in
+    record {
+      fits = length-name s name end e at;
+      stands = subst (λ i. Stands s i name) from (name_stands s name e);
+    }
+
+pub name_start_of-none : (s : List ℕ) → None ≡ file_name_of (values s) → None ≡ name_start_of s
+unfolding name_start_of
+name_start_of-none s e = ap (option_map (λ name. last_start_of (parts s))) e
+
+pub name_start_of-some : (s name : List ℕ) (end : ℕ) → Some name ≡ file_name_of (values s)
+    → end ≡ length (rest s 0 0) → Some (end - length name) ≡ name_start_of s
+unfolding name_start_of
+name_start_of-some s name end e at =
+    let start : end - length name ≡ last_start_of (parts s) =
+    omega (arith, last_start_of-name s name e) in
+    ap Some start ∙ ap (option_map (λ name. last_start_of (parts s))) e
+
+-- a stem is what its name has before the last dot, or the whole name
+stem_of-name : (s name stem : List ℕ) → Some name ≡ file_name_of (values s)
+    → Some stem ≡ stem_of (values s) → stem ≡ (split_name name).0
+stem_of-name s name stem named e =
+    same_Some stem (split_name name).0
+    (e ∙ ap (option_map (λ name. (split_name name).0)) (sym named))
+
+-- the stem stands where the file name does
+pub stem_stands : (s stem : List ℕ) (start n : ℕ) → start + n ≤ length s
+    → Some (take n (drop start s)) ≡ file_name_of (values s) → Some stem ≡ stem_of (values s)
+    → Stands s start stem
+stem_stands s stem start n l named e =
+    let name = take n (drop start s) in
+    let is = stem_of-name s name stem named e in
+    stands-beginning s name stem start (range_stands s start n (omega arith))
+    (ap (λ w. take (length w) name) is ∙ split_name-stem name ∙ sym is)
+
+-- an extension is the end of a name, from some place on
+record IsEnd (name extension : List ℕ) : Type 0 where
+  from : ℕ
+  in_range : from ≤ length name
+  is : drop from name ≡ extension
+
+abbrev Split : Type 0
+Split = List ℕ × Option (List ℕ)
+
+split_name-extension : (name extension : List ℕ) → Some extension ≡ (split_name name).1
+    → IsEnd name extension
+unfolding split_name
+split_name-extension name extension = by (ltb 1 (past_last is_dot name))
+  where
+    by : (c : Bool) → Some extension
+        ≡ (cond {A = Split} c (
+          take (past_last is_dot name - 1) name,
+          Some (drop (past_last is_dot name) name),
+        ) (name, None)).1 → IsEnd name extension
+    by false e = absurd (none-some extension (sym e))
+    by true e = record {
+      from = past_last is_dot name;
+      in_range = omega arith;
+      is = sym (same_Some extension _ e);
+    }
+
+-- the extension ends where the file name does
+pub extension_ends : (s extension : List ℕ) (start n : ℕ) → start + n ≤ length s
+    → Some (take n (drop start s)) ≡ file_name_of (values s)
+    → Some extension ≡ extension_of (values s) → EndsAt s (start + n) extension
+extension_ends s extension start n l named e =
+    let name = take n (drop start s) in
+    let size : length name ≡ n =
+    omega (arith, length-take n (drop start s), length-drop start s) in
+    let part = split_name-extension name extension
+    (e ∙ ap (option_and_then (λ name. (split_name name).1)) (sym named)) in
+    let in_range = part.in_range in
+    let left : length extension ≡ length name - part.from =
+    sym (ap length part.is) ∙ length-drop part.from name in
+    let from : start + part.from ≡ start + n - length extension = omega arith in
+    record {
+      fits = omega arith;
+      stands = subst (Stands s (start + n - length extension)) part.is
+          (subst (λ i. Stands s i (drop part.from name)) from
+          (stands-end s name start part.from (range_stands s start n (omega arith)) in_range));
+    }
+
+-- the last part stays the last if fewer parts than all are dropped in front
+parts_end-drop : (k : ℕ) (ps : List Part) → k < length ps → parts_end (drop k ps) ≡ parts_end ps
+parts_end-drop zero ps l = refl
+parts_end-drop (suc k) [] l = absurd (omega arith)
+parts_end-drop (suc k) (p ∷ []) l = absurd (omega arith)
+parts_end-drop (suc k) (p ∷ q ∷ ps) l = parts_end-drop k (q ∷ ps) (omega arith)
+
+-- a span of parts ends where the last of them does
+span_ends : (s : List ℕ) (ps : List Part) (end : ℕ) → end ≤ length s
+    → (0 < length ps → parts_end ps ≡ end) → EndsAt s end (span_of s ps)
+span_ends s [] end l h = nothing_ends s end l
+span_ends s (p ∷ ps) end l h =
+    subst (λ e. EndsAt s end (take (e - p.start) (drop p.start s))) (sym (h (omega arith)))
+    (range_ends s p.start end l)
+
+-- what is left behind some parts ends where the last part does
+rest_ends : (s : List ℕ) (k : ℕ) → EndsAt s (length (rest s 0 0)) (rest s k 0)
+unfolding rest
+rest_ends s k =
+    let all = parts s in
+    let end = length (rest s 0 0) in
+    let whole : take (length all - (k + 0)) (drop k all) ≡ drop k all =
+    take_all (length all - (k + 0)) (drop k all) (omega (arith, length-drop k all)) in
+    subst (λ ps. EndsAt s end (span_of s ps)) (sym whole)
+    (span_ends s (drop k all) end (length-rest_whole-le s)
+    (λ l. parts_end-drop k all (omega (arith, length-drop k all)) ∙ sym (length-rest_whole s)))
+
+-- what follows a base ends where the last part does
+pub stripped_ends : (s base left : List ℕ) (end : ℕ) → left ≡ stripped_of s base
+    → end ≡ length (rest s 0 0) → EndsAt s end left
+stripped_ends s base left end is at =
+    let h = rest_ends s (length (values base)) in
+    subst (EndsAt s end) (sym is)
+    (subst (λ e. EndsAt s e (stripped_of s base)) (sym at) h)

@@ -1,0 +1,91 @@
+-- Stretches of bytes: what stands in a string from a place on, or up to one.
+use Rattle.std.proofs.Common.{◌≡◌, ℕ, ◌+◌, ◌-◌, ◌≤◌, ltb, List, []}
+use Rattle.std.proofs.Common.{length, take, drop, refl, sym, ap, ap₂}
+use Rattle.std.proofs.Common.{subst, ◌∙◌, arith, length-drop, ltb-true, ltb-false}
+use Rattle.std.proofs.Math.Seq.{take-length}
+use Rattle.std.proofs.lemmas.List.{length-take}
+use Rattle.unix_bytes.proofs.lemmas.lists.CaseLemmas.{by_test, take-beginning, take-take_front}
+use Rattle.unix_path.proofs.lemmas.rests.MiddleLemmas.{stands_in}
+use Rattle.unix_path.proofs.lemmas.steps.SpanLemmas.{StandsAt}
+use Rattle.unix_path_c.specs.Places.{place_end, place_bytes}
+use Rattle.unix_path_c.specs.declared.places.Place.{Place}
+
+-- w stands in s from i on, and s doesn't end before it does
+pub record Stands (s : List ℕ) (i : ℕ) (w : List ℕ) : Type 0 where
+  pub bytes : StandsAt s i w
+  pub inside : i + length w ≤ length s
+
+-- what is read in s from i on stands there
+pub stands : (s w : List ℕ) (i : ℕ) → i ≤ length s → StandsAt s i w → Stands s i w
+stands s w i l e = record {
+  bytes = e;
+  inside = omega (arith, ap length e, length-take (length w) (drop i s), length-drop i s);
+}
+
+-- the bytes of a stretch stand where it starts
+pub range_stands : (s : List ℕ) (i n : ℕ) → i ≤ length s → Stands s i (take n (drop i s))
+range_stands s i n l = stands s (take n (drop i s)) i l (take-take_front n (drop i s))
+
+-- a beginning of what stands at a place stands there too
+pub stands-beginning : (s w v : List ℕ) (i : ℕ) → Stands s i w
+    → take (length v) w ≡ v → Stands s i v
+stands-beginning s w v i h e =
+    let shorter : length v ≤ length w = omega (arith, ap length e, length-take (length v) w) in
+    record {
+      bytes = sym (take-beginning (drop i s) w (length v) h.bytes shorter) ∙ e;
+      inside = omega (arith, h.inside);
+    }
+
+-- an end of what stands at a place stands further on
+pub stands-end : (s w : List ℕ) (i n : ℕ) → Stands s i w → n ≤ length w
+    → Stands s (i + n) (drop n w)
+stands-end s w i n h l = record {
+  bytes = stands_in s w (drop n w) i n h.bytes (take-length (drop n w));
+  inside = omega (arith, h.inside, length-drop n w);
+}
+
+-- w stands in s, up to `end`
+pub record EndsAt (s : List ℕ) (end : ℕ) (w : List ℕ) : Type 0 where
+  pub fits : length w ≤ end
+  pub stands : Stands s (end - length w) w
+
+-- the place has the bytes w and ends at `end`
+pub record IsPlaceOf (s : List ℕ) (end : ℕ) (w : List ℕ) (place : Place) : Type 0 where
+  pub bytes : place_bytes s place ≡ w
+  pub end_is : place_end place ≡ end
+  pub inside : place_end place ≤ length s
+
+-- a place made of an end and a length
+pub place_of : (s w : List ℕ) (end : ℕ) (place : Place) → EndsAt s end w
+    → place ≡ record { start = end - length w; length = length w } → IsPlaceOf s end w place
+place_of s w end place h e =
+    let to : place_end place ≡ end - length w + length w = ap place_end e in
+    record {
+      bytes = ap (place_bytes s) e ∙ h.stands.bytes;
+      end_is = omega (arith, h.fits);
+      inside = omega (arith, h.stands.inside);
+    }
+
+-- no bytes end anywhere in s
+pub nothing_ends : (s : List ℕ) (end : ℕ) → end ≤ length s → EndsAt s end []
+nothing_ends s end l =
+    record { fits = omega arith; stands = stands s [] (end - 0) (omega arith) refl }
+
+-- what is cut out up to `end` ends there
+pub range_ends : (s : List ℕ) (i end : ℕ) → end ≤ length s
+    → EndsAt s end (take (end - i) (drop i s))
+range_ends s i end l = by_test (ltb i end)
+    (λ e.
+    let w = take (end - i) (drop i s) in
+    let before = ltb-true _ _ e in
+    let size : length w ≡ end - i =
+    omega (arith, length-take (end - i) (drop i s), length-drop i s) in
+    let from : end - length w ≡ i = omega arith in
+    record {
+      fits = omega arith;
+      stands = stands s w (end - length w) (omega arith)
+          (ap₂ (λ n i. take n (drop i s)) size from);
+    })
+    (λ e.
+    let none : 0 ≡ end - i = omega (arith, ltb-false _ _ e) in
+    subst (λ n. EndsAt s end (take n (drop i s))) none (nothing_ends s end l))

@@ -1,0 +1,189 @@
+-- What is left of a walk, by the walk's places.
+use Rattle.std.proofs.Common.{◌≡◌, ℕ, ◌+◌, ◌-◌, ◌≤◌, ◌<◌, ◌&&◌, cond, leb, ltb, List, [], length}
+use Rattle.std.proofs.Common.{◌⊎◌, ⊎_elim, min, take, drop, map}
+use Rattle.std.proofs.Common.{refl, sym, ap, ap₂, ◌∙◌, arith, drop-drop}
+use Rattle.std.proofs.Common.{take-take, take_all, ltb-true, ltb-false}
+use Rattle.std.specs.Prelude.{slice_range}
+use Rattle.std.proofs.Math.Nat.{min-le_right}
+use Rattle.std.proofs.lemmas.Bool.{and_parts, le-leb, leb-true}
+use Rattle.std.proofs.lemmas.List.{drop-take, nil_from_length}
+use Rattle.unix_path.specs.Parts.{RootDir, CurDir, ParentDir, Normal, Value, parts, value_bytes}
+use Rattle.unix_path.specs.Parts.{values}
+use Rattle.unix_path.specs.Rest.{rest}
+use Rattle.unix_bytes.proofs.lemmas.lists.CaseLemmas.{by_test, length-range}
+use Rattle.unix_path.proofs.lemmas.rests.MiddleLemmas.{middle_of, rest-middle}
+use Rattle.unix_path.proofs.lemmas.names.ParentLemmas.{values-whole}
+use Rattle.unix_path.proofs.lemmas.parts.PartLemmas.{rest-nil}
+use Rattle.unix_path.proofs.lemmas.parts.PlaceLemmas.{part_at, part_at-zero}
+use Rattle.unix_path.proofs.lemmas.rests.RestLemmas.{middle_of-at, take-rest}
+use Rattle.unix_path.proofs.lemmas.names.StemLemmas.{length-rest_whole-le}
+use Rattle.unix_path_c.specs.Places.{place_bytes, place_end}
+use Rattle.unix_path_c.specs.Walks.{kind_of, bytes_left, part_bytes, part_value, parts_left}
+use Rattle.unix_path_c.specs.Walks.{value_of_kind}
+use Rattle.unix_path_c.specs.declared.places.Place.{Place}
+use Rattle.unix_path_c.specs.declared.walks.Part.{Part}
+use Rattle.unix_path_c.specs.declared.walks.Walk.{Walk}
+
+-- the walk's places lie in the path, in order, and s stands between them
+pub record Between (path : List ℕ) (walk : Walk) (s : List ℕ) : Type 0 where
+  pub in_order : walk.front ≤ walk.back
+  pub in_range : walk.back ≤ length path
+  pub is : s ≡ slice_range path walk.front walk.back
+  pub size : length s ≡ walk.back - walk.front
+
+-- if a byte is left, the walk's places lie in the path, in order
+pub stands_between : (path : List ℕ) (walk : Walk) → 0 < length (bytes_left path walk)
+    → Between path walk (bytes_left path walk)
+unfolding bytes_left
+stands_between path walk some =
+    let s = slice_range path walk.front walk.back in
+    by_test (leb walk.front walk.back && leb walk.back (length path))
+    (λ e.
+    let both = and_parts _ _ e in
+    let in_range = leb-true walk.back (length path) both.1 in
+    let is : bytes_left path walk ≡ s = ap (λ c. cond c s []) e in
+    record {
+      in_order = leb-true walk.front walk.back both.0;
+      in_range = in_range;
+      is = is;
+      size = ap length is ∙ length-range path walk.front walk.back in_range;
+    })
+    (λ e.
+    let none : length (bytes_left path walk) ≡ 0 = ap (λ c. length (cond c s [])) e in
+    absurd (omega (arith, some, none)))
+
+-- if the walk's places lie in the path, in order, the bytes between them are left
+pub bytes_left-in_range : (path : List ℕ) (walk : Walk) → walk.front ≤ walk.back
+    → walk.back ≤ length path → bytes_left path walk ≡ slice_range path walk.front walk.back
+unfolding bytes_left
+bytes_left-in_range path walk in_order in_range =
+    ap₂ (λ a b. cond (a && b) (slice_range path walk.front walk.back) [])
+    (le-leb walk.front walk.back in_order) (le-leb walk.back (length path) in_range)
+
+-- if the walk's places are out of order or past the path's end, nothing is left
+pub bytes_left-outside : (path : List ℕ) (walk : Walk)
+    → (walk.back < walk.front) ⊎ (length path < walk.back) → bytes_left path walk ≡ []
+unfolding bytes_left
+bytes_left-outside path walk outside =
+    let s = slice_range path walk.front walk.back in
+    by_test (leb walk.front walk.back && leb walk.back (length path))
+    (λ e.
+    let both = and_parts _ _ e in
+    let in_order = leb-true walk.front walk.back both.0 in
+    let in_range = leb-true walk.back (length path) both.1 in
+    ⊎_elim (λ less. absurd (omega arith)) (λ past. absurd (omega arith)) outside)
+    (λ e. ap (λ c. cond c s []) e)
+
+-- what stands in a range, by its place in the whole
+pub take-range : (path : List ℕ) (a b i k : ℕ) → i + k ≤ b - a
+    → take k (drop i (slice_range path a b)) ≡ take k (drop (a + i) path)
+take-range path a b i k l =
+    ap (λ x. take k (drop i (take x (drop a path)))) {x = b - a} {y = i + (b - a - i)}
+    (omega (arith, l))
+    ∙ ap (take k) (drop-take i (b - a - i) (drop a path))
+    ∙ take-take k (b - a - i) (drop i (drop a path)) (omega (arith, l))
+    ∙ ap (take k) (drop-drop i a path)
+
+-- what stands at a place of the path, by where it stands in what is left
+pub take-bytes_left : (path : List ℕ) (walk : Walk) (s : List ℕ) (from i k : ℕ)
+    → Between path walk s → i + k ≤ length s → from ≡ walk.front + i
+    → take k (drop from path) ≡ take k (drop i s)
+take-bytes_left path walk s from i k h l start =
+    ap (λ j. take k (drop j path)) start
+    ∙ sym (take-range path walk.front walk.back i k (omega (arith, l, h.size)))
+    ∙ ap (λ s. take k (drop i s)) (sym h.is)
+
+-- what stands between two places of the path, by where it stands in what is left
+pub range-bytes_left : (path : List ℕ) (walk : Walk) (s : List ℕ) (from to i k : ℕ)
+    → Between path walk s → i + k ≤ length s → from ≡ walk.front + i → to ≡ from + k
+    → slice_range path from to ≡ take k (drop i s)
+range-bytes_left path walk s from to i k h l start end =
+    let size : to - from ≡ k = omega (arith, end) in
+    ap (λ n. take n (drop from path)) size ∙ take-bytes_left path walk s from i k h l start
+
+value_of_kind-kind_of : (v : Value) → value_of_kind (kind_of v) (value_bytes v) ≡ v
+value_of_kind-kind_of RootDir = refl
+value_of_kind-kind_of CurDir = refl
+value_of_kind-kind_of ParentDir = refl
+value_of_kind-kind_of (Normal name) = refl
+
+pub kind_of-lt : (v : Value) → kind_of v < 4
+kind_of-lt RootDir = omega arith
+kind_of-lt CurDir = omega arith
+kind_of-lt ParentDir = omega arith
+kind_of-lt (Normal name) = omega arith
+
+-- a part that has v's kind and v's bytes has the value v
+pub part_value-is : (path : List ℕ) (part : Part) (v : Value) → part.kind ≡ kind_of v
+    → part_bytes path part ≡ value_bytes v → part_value path part ≡ v
+part_value-is path part v kind bytes = ap₂ value_of_kind kind bytes ∙ value_of_kind-kind_of v
+
+pub parts-whole : (s : List ℕ) → parts (rest s 0 0) ≡ parts s
+parts-whole s =
+    let h = middle_of s 0 0 in
+    ap parts (rest-middle s 0 0 h) ∙ sym (part_at-zero (parts h.left))
+    ∙ ap (λ i. map (part_at i) (parts h.left)) (sym (middle_of-at s 0)) ∙ sym h.is
+    ∙ take_all (length (parts s) - (0 + 0)) (parts s) (omega arith)
+
+-- a walk from the first byte to the end of the last part
+pub record IsFresh (path : List ℕ) (walk : Walk) : Type 0 where
+  pub left_is : bytes_left path walk ≡ rest path 0 0
+  pub parts_are : parts_left path walk ≡ parts path
+  pub values_are : values (bytes_left path walk) ≡ values path
+  pub in_order : walk.front ≤ walk.back
+  pub in_range : walk.back ≤ length path
+
+pub is_fresh : (path : List ℕ) (walk : Walk) → walk.front ≡ 0
+    → walk.back ≡ length (rest path 0 0) → IsFresh path walk
+is_fresh path walk front back =
+    let in_range : walk.back ≤ length path = omega (arith, back, length-rest_whole-le path) in
+    let size : walk.back - walk.front ≡ length (rest path 0 0) = omega (arith, front, back) in
+    let is : bytes_left path walk ≡ rest path 0 0 =
+    bytes_left-in_range path walk (omega (arith, front)) in_range
+    ∙ ap₂ (λ n i. take n (drop i path)) size front ∙ take-rest path 0 in
+    record {
+      left_is = is;
+      values_are = values-whole path (bytes_left path walk) is;
+      parts_are = ap₂ (λ i s. map (part_at i) (parts s)) front is
+          ∙ part_at-zero (parts (rest path 0 0)) ∙ parts-whole path;
+      in_order = omega (arith, front);
+      in_range = in_range;
+    }
+
+-- the place of what is left, without the filler at its end
+pub record HoldsLeft (path : List ℕ) (walk : Walk) (place : Place) : Type 0 where
+  pub bytes : place_bytes path place ≡ rest (bytes_left path walk) 0 0
+  pub same : values (place_bytes path place) ≡ values (bytes_left path walk)
+  pub in_range : place_end place ≤ length path
+
+holds_left-at : (path : List ℕ) (walk : Walk) (place : Place)
+    → place_bytes path place ≡ rest (bytes_left path walk) 0 0 → place_end place ≤ length path
+    → HoldsLeft path walk place
+holds_left-at path walk place bytes in_range = record {
+  bytes = bytes;
+  same = values-whole (bytes_left path walk) (place_bytes path place) bytes;
+  in_range = in_range;
+}
+
+pub holds_left : (path : List ℕ) (walk : Walk) (place : Place)
+    → place.start ≡ min walk.front (length path)
+    → place.length ≡ length (rest (bytes_left path walk) 0 0) → HoldsLeft path walk place
+holds_left path walk place start size =
+    let s = bytes_left path walk in
+    let n = length (rest s 0 0) in
+    by_test (ltb 0 (length s))
+    (λ e.
+    let h = stands_between path walk (ltb-true _ _ e) in
+    let l = length-rest_whole-le s in
+    let here : place.start ≡ walk.front + 0 = omega (arith, start, h.in_order, h.in_range) in
+    holds_left-at path walk place
+    (ap (λ k. take k (drop place.start path)) size
+    ∙ take-bytes_left path walk s place.start 0 n h (omega (arith, l)) here ∙ take-rest s 0)
+    (omega (arith, here, size, l, h.size, h.in_order, h.in_range)))
+    (λ e.
+    let nothing : s ≡ [] = nil_from_length s (omega (arith, ltb-false _ _ e)) in
+    let none : rest s 0 0 ≡ [] = ap (λ s. rest s 0 0) nothing ∙ rest-nil 0 0 in
+    let zero_long : place.length ≡ 0 = size ∙ ap length none in
+    holds_left-at path walk place
+    (ap (λ k. take k (drop place.start path)) zero_long ∙ sym none)
+    (omega (arith, size, ap length none, start, min-le_right walk.front (length path))))

@@ -1,0 +1,79 @@
+-- Steps over a name that stands between bytes that are neither slashes nor dots.
+use Rattle.std.proofs.Common.{◌≡◌, ℕ, ◌-◌, ◌≤◌, ◌<◌, true, false, ltb, eqb, List}
+use Rattle.std.proofs.Common.{length, get_or, take, refl, sym, ap, ◌∙◌, arith}
+use Rattle.std.proofs.Common.{take_all, lt-ltb, ltb-true, ltb-false, subst}
+use Rattle.std.specs.Str.{bytes_eq}
+use Rattle.std.proofs.lemmas.Bool.{both_ways}
+use Rattle.std.proofs.lemmas.Slice.Eq.{bytes_eq-Decides}
+use Rattle.unix_path.specs.Parts.{Value, cur_dir, parts}
+use Rattle.unix_path.specs.Scan.{ends_with_parent, is_trailing, EndsInPart}
+use Rattle.unix_bytes.proofs.lemmas.lists.CaseLemmas.{by_test}
+use Rattle.unix_path.proofs.lemmas.filler.TrimLemmas.{parts_shorter}
+use Rattle.unix_path.proofs.lemmas.steps.LastPieceLemmas.{takes_last_name, IsLastStart}
+use Rattle.unix_path_c.specs.Steps.{EndsInName}
+
+-- the byte at i is neither a slash nor a dot
+pub record IsPlain (s : List ℕ) (i : ℕ) : Type 0 where
+  pub no_slash : eqb (get_or s i 0) 47 ≡ false
+  pub no_dot : eqb (get_or s i 0) 46 ≡ false
+
+pub is_trailing-plain : (s : List ℕ) (i : ℕ) → IsPlain s i → is_trailing s i ≡ false
+is_trailing-plain s i h = by_test (ltb 0 i)
+    (λ e. rw (e, h.no_slash, h.no_dot) refl)
+    (λ e. rw e refl)
+
+-- what ends in a byte that is neither a slash nor a dot ends in a part
+pub ends_plain : (s : List ℕ) → IsPlain s (length s - 1) → EndsInPart s
+ends_plain s h = λ _. is_trailing-plain s (length s - 1) h
+
+module _ (s : List ℕ) (start : ℕ) (some : 0 < length s) (last : IsPlain s (length s - 1))
+    (is : IsLastStart s start) where
+  -- the last piece isn't empty
+  begins_in : start < length s
+  begins_in = by_test (ltb start (length s)) (λ e. ltb-true _ _ e) (λ e.
+      let all : start ≡ length s = omega (arith, ltb-false _ _ e, is.in_range) in
+      let slash : get_or s (length s - 1) 0 ≡ 47 =
+      ap (λ k. get_or s (k - 1) 0) (sym all) ∙ is.after_slash (omega (arith, all)) in
+      absurd (both_ways _ (ap (λ b. eqb b 47) (sym slash) ∙ last.no_slash) refl))
+
+  no_cur_dir : bytes_eq s cur_dir ≡ false
+  no_cur_dir = by_test (bytes_eq s cur_dir)
+      (λ e.
+      let one = (bytes_eq-Decides s cur_dir).0 e in
+      let dot : eqb (get_or s (length s - 1) 0) 46 ≡ true =
+      ap (λ s. eqb (get_or s (length s - 1) 0) 46) one in
+      absurd (both_ways _ last.no_dot dot))
+      (λ e. e)
+
+  no_parent_dir : ends_with_parent s ≡ false
+  no_parent_dir = rw last.no_dot refl
+
+  pub name_behind : (before : ℕ) → before ≤ start → parts (take before s) ≡ parts (take start s)
+      → (0 < before → is_trailing s (before - 1) ≡ false) → EndsInName s before start
+  name_behind before l same trimmed =
+      let ends = ends_plain s last in
+      let taken = takes_last_name s start before is begins_in ends no_cur_dir no_parent_dir l same
+      trimmed in
+      record {
+        ends = ends;
+        in_range = is.in_range;
+        in_order = l;
+        values_are = taken.value;
+        rest_is = taken.rest;
+      }
+
+  -- a name before which nothing stands, or a root
+  pub name_first : start < 2 → EndsInName s start start
+  name_first few = name_behind start (omega arith) refl
+      (λ l. ap (is_trailing s) {x = start - 1} {y = 0} (omega arith))
+
+  -- a name before which a slash stands, and another name before that slash
+  pub name_after : 2 ≤ start → IsPlain s (start - 2) → EndsInName s (start - 1) start
+  name_after enough plain =
+      let slash : eqb (get_or s (start - 1) 0) 47 ≡ true =
+      ap (λ b. eqb b 47) (is.after_slash (omega arith)) in
+      let some = lt-ltb 0 (start - 1) (omega arith) in
+      name_behind (start - 1) (omega arith)
+      (parts_shorter s start (omega arith) is.in_range (rw (some, slash) refl))
+      (λ _. ap (is_trailing s) {x = start - 1 - 1} {y = start - 2} (omega arith)
+      ∙ is_trailing-plain s (start - 2) plain)
