@@ -26,34 +26,34 @@ fn main() {
     if env::var_os("DOCS_RS").is_some() {
         return;
     }
-    let places = places();
-    match places
+    let library_folders = library_folders();
+    match library_folders
         .iter()
-        .find(|place| place.folder.join(LIBRARY).is_file())
+        .find(|library_folder| library_folder.folder.join(LIBRARY).is_file())
     {
-        Some(place) => link(&place.folder),
-        None => refuse(&places),
+        Some(library_folder) => link(&library_folder.folder),
+        None => refuse(&library_folders),
     }
 }
 
 /// A folder that may hold the library, and what named it.
-struct Place {
+struct LibraryFolder {
     folder: PathBuf,
     named_by: &'static str,
 }
 
 /// The folders, in the order in which they are looked at. A folder that the environment names is
 /// the only one.
-fn places() -> Vec<Place> {
-    if let Some(place) = from_environment() {
-        return vec![place];
+fn library_folders() -> Vec<LibraryFolder> {
+    if let Some(library_folder) = from_environment() {
+        return vec![library_folder];
     }
     let here = Path::new(env!("CARGO_MANIFEST_DIR"));
-    let repository = Place {
+    let repository = LibraryFolder {
         folder: here.join("../../crates/unix_path_c/out"),
         named_by: "this repository",
     };
-    let system = from_pkg_config().map(|folder| Place {
+    let system = from_pkg_config().map(|folder| LibraryFolder {
         folder,
         named_by: "pkg-config",
     });
@@ -61,15 +61,15 @@ fn places() -> Vec<Place> {
 }
 
 /// The folder that `UNIX_PATH_LIB_DIR` names, or that of the file that `UNIX_PATH_LIB` names.
-fn from_environment() -> Option<Place> {
+fn from_environment() -> Option<LibraryFolder> {
     if let Some(folder) = env::var_os("UNIX_PATH_LIB_DIR") {
-        return Some(Place {
+        return Some(LibraryFolder {
             folder: folder.into(),
             named_by: "UNIX_PATH_LIB_DIR",
         });
     }
     let file = PathBuf::from(env::var_os("UNIX_PATH_LIB")?);
-    Some(Place {
+    Some(LibraryFolder {
         folder: file.parent()?.to_path_buf(),
         named_by: "UNIX_PATH_LIB",
     })
@@ -96,13 +96,13 @@ fn link(folder: &Path) {
 }
 
 /// Says where the library was looked for and what to do, and ends the build.
-fn refuse(places: &[Place]) -> ! {
+fn refuse(library_folders: &[LibraryFolder]) -> ! {
     eprintln!("{LIBRARY} was not found. Looked into:");
-    for place in places {
+    for library_folder in library_folders {
         eprintln!(
             "    {} (named by {})",
-            place.folder.display(),
-            place.named_by
+            library_folder.folder.display(),
+            library_folder.named_by
         );
     }
     eprintln!("Do one of these, and build again:");

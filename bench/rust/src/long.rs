@@ -53,7 +53,7 @@ pub fn make_deep(bytes: &mut Vec<u8>, random: &mut Random) {
 }
 
 /// Sets the bytes to 16 stretches of some 24,000 bytes in all, three in four of them of filler.
-fn make_idle(bytes: &mut Vec<u8>, random: &mut Random) {
+fn make_filler(bytes: &mut Vec<u8>, random: &mut Random) {
     bytes.clear();
     bytes.push(b'x');
     for _ in 0..16 {
@@ -193,7 +193,7 @@ pub fn run(seed: u64, count: u64) -> u64 {
         compare(path_of(&bytes), &mut digest);
         if place % 32 == 0 {
             edit(path_of(&bytes), &mut random, &mut digest);
-            make_idle(&mut bytes, &mut random);
+            make_filler(&mut bytes, &mut random);
             walk(path_of(&bytes), &mut digest);
             compare(path_of(&bytes), &mut digest);
         }

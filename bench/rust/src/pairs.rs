@@ -4,7 +4,7 @@ use crate::lines::path_of;
 use crate::long::make_deep;
 use crate::random::Random;
 use crate::requests::push_request;
-use crate::tree::{gap, noise_of, Tree};
+use crate::tree::{noise_of, separator, Tree};
 use std::cmp::Ordering;
 use std::os::unix::ffi::OsStrExt;
 use std::path::{Component, Path};
@@ -12,12 +12,12 @@ use std::path::{Component, Path};
 /// What a byte is changed to.
 static BYTES: [u8; 4] = [b'/', b'.', b'b', 0xFF];
 
-/// Adds the path with a gap for each slash, by three bits of the noise, from the lowest on.
+/// Adds the path with a separator for each slash, by three bits of the noise, from the lowest on.
 fn push_respelled(out: &mut Vec<u8>, path: &[u8], noise: u64) {
     let mut noise = noise;
     for byte in path {
         if *byte == b'/' {
-            out.extend_from_slice(gap(noise).as_bytes());
+            out.extend_from_slice(separator(noise).as_bytes());
             noise = noise.rotate_right(3);
         } else {
             out.push(*byte);

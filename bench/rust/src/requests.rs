@@ -91,7 +91,7 @@ fn answer(root: &Path, request: &Path, digest: &mut Digest) {
 
 /// Adds the answer of those who trust no link: the plain join, if the request has no root and no
 /// `..`.
-fn answer_plain(root: &Path, request: &Path, digest: &mut Digest) {
+fn answer_plain_join(root: &Path, request: &Path, digest: &mut Digest) {
     digest.add_flag(climbs(request));
     match join_plain(root, request) {
         Some(path) => digest.add_path(&path),
@@ -125,7 +125,7 @@ pub fn run(seed: u64, count: u64) -> u64 {
         for turn in 0..3 {
             answer(root_at(turn), asked, &mut digest);
         }
-        answer_plain(root_at(3), asked, &mut digest);
+        answer_plain_join(root_at(3), asked, &mut digest);
         answer_link(path_of(&page), asked, &mut digest);
         page.clone_from(&request);
     }

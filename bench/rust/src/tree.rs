@@ -21,13 +21,13 @@ static ENDINGS: [&str; 16] = [
 /// A tree of 2^20 files below one folder, whose names the seed makes.
 #[derive(Clone, Copy)]
 pub struct Tree<'a> {
-    front: &'a str,
+    prefix: &'a str,
     seed: u64,
 }
 
 /// What stands between two names or behind the last one: `/`, or more if the lowest three bits of
 /// `noise` are 5 or greater.
-pub fn gap(noise: u64) -> &'static str {
+pub fn separator(noise: u64) -> &'static str {
     match noise & 7 {
         5 => "//",
         6 => "/./",
@@ -58,9 +58,9 @@ pub fn push_tag(out: &mut Vec<u8>, tag: u64) {
 }
 
 impl<'a> Tree<'a> {
-    pub fn new(front: &'a str, seed: u64) -> Tree<'a> {
+    pub fn new(prefix: &'a str, seed: u64) -> Tree<'a> {
         let seed = mix(seed);
-        Tree { front, seed }
+        Tree { prefix, seed }
     }
 
     /// Adds a name of one or two words. `place` tells the file or folder from others; of the 64
@@ -74,23 +74,23 @@ impl<'a> Tree<'a> {
         }
     }
 
-    /// Adds the names of the folders of a file, each with a gap before it.
+    /// Adds the names of the folders of a file, each with a separator before it.
     fn push_folders(self, out: &mut Vec<u8>, number: u64, noise: u64) {
-        push_text(out, gap(noise));
+        push_text(out, separator(noise));
         self.push_name(
             out,
             (1 << 32) | (number >> 17),
             ((number >> 17) & 7) << 3,
             8,
         );
-        push_text(out, gap(noise >> 3));
+        push_text(out, separator(noise >> 3));
         self.push_name(
             out,
             (2 << 32) | (number >> 15),
             ((number >> 15) & 3) << 4,
             16,
         );
-        push_text(out, gap(noise >> 6));
+        push_text(out, separator(noise >> 6));
         self.push_name(
             out,
             (3 << 32) | (number >> 13),
@@ -99,18 +99,18 @@ impl<'a> Tree<'a> {
         );
     }
 
-    /// Adds the names of a file's inner folders, each with a gap before it.
+    /// Adds the names of a file's inner folders, each with a separator before it.
     fn push_inner(self, out: &mut Vec<u8>, number: u64, noise: u64) {
-        push_text(out, gap(noise >> 9));
+        push_text(out, separator(noise >> 9));
         self.push_name(
             out,
             (4 << 32) | (number >> 10),
             ((number >> 10) & 7) << 3,
             8,
         );
-        push_text(out, gap(noise >> 12));
+        push_text(out, separator(noise >> 12));
         self.push_name(out, (5 << 32) | (number >> 7), ((number >> 7) & 7) << 3, 8);
-        push_text(out, gap(noise >> 15));
+        push_text(out, separator(noise >> 15));
         self.push_name(out, (6 << 32) | (number >> 4), ((number >> 4) & 7) << 3, 8);
     }
 
@@ -138,19 +138,19 @@ impl<'a> Tree<'a> {
     }
 
     /// Adds the path of a file, with the folder of the tree. Without noise the spelling is
-    /// canonical. Each gap has three bits of the noise, from the lowest on, and what stands behind
-    /// the file's name those from the 22nd on.
+    /// canonical. Each separator has three bits of the noise, from the lowest on, and what stands
+    /// behind the file's name those from the 22nd on.
     pub fn push(self, out: &mut Vec<u8>, number: u64, noise: u64) {
         let is_in_large = self.is_in_large(number);
-        push_text(out, self.front);
+        push_text(out, self.prefix);
         self.push_folders(out, number, noise);
         if !is_in_large {
             self.push_inner(out, number, noise);
         }
-        push_text(out, gap(noise >> 18));
+        push_text(out, separator(noise >> 18));
         self.push_file(out, number, is_in_large);
         if (noise >> 21) & 7 != 0 {
-            push_text(out, gap(noise >> 21));
+            push_text(out, separator(noise >> 21));
         }
     }
 
@@ -159,11 +159,11 @@ impl<'a> Tree<'a> {
         self.push_name(out, (9 << 32) | (number >> 12), 0, 64);
     }
 
-    /// Adds one to five names that go by the number, each with a gap before it, a tag and an
+    /// Adds one to five names that go by the number, each with a separator before it, a tag and an
     /// ending.
     pub fn push_short(self, out: &mut Vec<u8>, number: u64, noise: u64, tag: u64) {
         for level in 0..1 + number % 5 {
-            push_text(out, gap(noise >> (3 * level)));
+            push_text(out, separator(noise >> (3 * level)));
             self.push_name(out, ((10 + level) << 32) | (number >> 5), 0, 64);
         }
         push_tag(out, tag);

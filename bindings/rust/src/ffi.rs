@@ -75,8 +75,8 @@ fn cut(path: &[u8], start: usize, length: usize) -> Option<&[u8]> {
     path.get(start..start.checked_add(length)?)
 }
 
-impl Place {
-    const NOWHERE: Place = Place {
+impl Span {
+    const NOWHERE: Span = Span {
         start: 0,
         length: 0,
     };
@@ -112,10 +112,10 @@ impl Walk {
     /// What is left of the path.
     #[inline]
     pub fn left(self, path: &[u8]) -> Option<&[u8]> {
-        let mut place = Place::NOWHERE;
+        let mut span = Span::NOWHERE;
         // SAFETY: the slice and the walk are read, and the place is written.
-        unsafe { unix_path_as_path(path.as_ptr(), path.len(), &self, &mut place) };
-        place.of(path)
+        unsafe { unix_path_as_path(path.as_ptr(), path.len(), &self, &mut span) };
+        span.of(path)
     }
 }
 
@@ -143,11 +143,11 @@ impl Step {
 /// The next ancestor of a path, which has `next` bytes; then it is told how many the one behind has.
 #[inline]
 pub(crate) fn next_ancestor<'a>(path: &'a [u8], next: &mut usize) -> Option<&'a [u8]> {
-    let mut place = Place::NOWHERE;
+    let mut span = Span::NOWHERE;
     // SAFETY: the slice is read, and the number and the place are written.
-    let is_there = unsafe { unix_path_next_ancestor(path.as_ptr(), path.len(), next, &mut place) };
+    let is_there = unsafe { unix_path_next_ancestor(path.as_ptr(), path.len(), next, &mut span) };
     if is_there {
-        place.of(path)
+        span.of(path)
     } else {
         None
     }
@@ -173,7 +173,7 @@ pub(crate) fn next_chunk<'a>(path: &'a [u8], next: &mut usize) -> Option<(&'a [u
 }
 
 /// Calls that find something in a path.
-pub(crate) struct Find(PlaceInOne);
+pub(crate) struct Find(SpanInOne);
 
 impl Find {
     pub const PARENT: Find = Find(unix_path_parent);
@@ -184,11 +184,11 @@ impl Find {
 
     #[inline]
     pub fn find(self, path: &[u8]) -> Option<&[u8]> {
-        let mut place = Place::NOWHERE;
+        let mut span = Span::NOWHERE;
         // SAFETY: the slice is read, and the place is written.
-        let is_there = unsafe { (self.0)(path.as_ptr(), path.len(), &mut place) };
+        let is_there = unsafe { (self.0)(path.as_ptr(), path.len(), &mut span) };
         if is_there {
-            place.of(path)
+            span.of(path)
         } else {
             None
         }
@@ -198,12 +198,12 @@ impl Find {
 #[inline]
 pub(crate) fn strip_prefix<'a>(path: &'a [u8], base: &[u8]) -> Option<&'a [u8]> {
     let (start, length) = (path.as_ptr(), path.len());
-    let mut place = Place::NOWHERE;
+    let mut span = Span::NOWHERE;
     // SAFETY: the slices are read, and the place is written.
     let is_there =
-        unsafe { unix_path_strip_prefix(start, length, base.as_ptr(), base.len(), &mut place) };
+        unsafe { unix_path_strip_prefix(start, length, base.as_ptr(), base.len(), &mut span) };
     if is_there {
-        place.of(path)
+        span.of(path)
     } else {
         None
     }

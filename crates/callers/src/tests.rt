@@ -101,7 +101,7 @@ static ROUTED: [(&'static str, u8, &'static str); 9] = [
 ];
 
 // Whether the path that was found has the bytes that are wanted.
-fn is(found: Option<PathBuf>, want: Option<&str>) -> bool {
+fn is_wanted(found: Option<PathBuf>, want: Option<&str>) -> bool {
     match (found, want) {
         (Some(found), Some(want)) => found.as_path().as_unix_str() == UnixStr::new(want),
         (None, None) => true,
@@ -154,7 +154,7 @@ fn entries_are_unpacked(rt: HostRuntime) -> Result<(), Fail> {
 // Whether the file that a URL's path names is the one that is wanted.
 fn names(found: Result<Option<PathBuf>, WithinError>, want: Option<&str>) -> bool {
     match found {
-        Ok(found) => is(found, want),
+        Ok(found) => is_wanted(found, want),
         Err(WithinError::Escapes) => want == Some("refused"),
         Err(WithinError::Memory(_)) => false,
     }
@@ -181,7 +181,7 @@ fn is_mapped(alloc: Global, root: &Root, row: &(&str, Option<&str>)) -> Result<b
         root,
         Path::from_text(row.0),
     )?;
-    Ok(is(found, row.1))
+    Ok(is_wanted(found, row.1))
 }
 
 #[test]
@@ -342,7 +342,7 @@ fn mounts_have_files(rt: HostRuntime) -> Result<(), Fail> {
     let mounts = mounts(rt.alloc())?;
     for row in MOUNTED.iter() {
         let found = mounted_file(rt.alloc(), &mounts, Path::from_text(row.0))?;
-        assert!(rt; is(found, row.1), "{}", row.0);
+        assert!(rt; is_wanted(found, row.1), "{}", row.0);
     }
     assert!(rt; mounted_file(rt.alloc(), &mounts, Path::from_text("/a\0"))?.is_none());
     Ok(())

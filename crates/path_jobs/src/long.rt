@@ -49,7 +49,7 @@ pub(crate) fn make_deep(bytes: &mut Vec<u8>, random: &mut Random) -> Result<(), 
 }
 
 // Sets the bytes to 16 stretches of some 24,000 bytes in all, three in four of them of filler.
-fn make_idle(bytes: &mut Vec<u8>, random: &mut Random) -> Result<(), AllocError> {
+fn make_filler(bytes: &mut Vec<u8>, random: &mut Random) -> Result<(), AllocError> {
     bytes.clear();
     bytes.extend_from_slice(b"x")?;
     for _ in 0..16 {
@@ -190,7 +190,7 @@ pub(crate) fn run(alloc: Global, seed: u64, count: u64) -> Result<u64, AllocErro
         compare(alloc, Path::from_bytes(&bytes), &mut digest)?;
         if place % 32 == 0 {
             edit(alloc, Path::from_bytes(&bytes), &mut random, &mut digest)?;
-            make_idle(&mut bytes, &mut random)?;
+            make_filler(&mut bytes, &mut random)?;
             walk(Path::from_bytes(&bytes), &mut digest);
             compare(alloc, Path::from_bytes(&bytes), &mut digest)?;
         }

@@ -3,7 +3,7 @@ use crate::digest::Digest;
 use crate::long::make_deep;
 use crate::random::Random;
 use crate::requests::push_request;
-use crate::tree::{Tree, gap, noise_of};
+use crate::tree::{Tree, noise_of, separator};
 use std::alloc::{AllocError, Global};
 use std::cmp::Ordering;
 use unix_path::{Component, Path};
@@ -11,12 +11,12 @@ use unix_path::{Component, Path};
 // What a byte is changed to.
 static BYTES: [u8; 4] = [b'/', b'.', b'b', 0xFF];
 
-// Adds the path with a gap for each slash, by three bits of the noise, from the lowest on.
+// Adds the path with a separator for each slash, by three bits of the noise, from the lowest on.
 fn push_respelled(out: &mut Vec<u8>, path: &[u8], noise: u64) -> Result<(), AllocError> {
     let mut noise = noise;
     for byte in path {
         if *byte == b'/' {
-            out.extend_from_slice(gap(noise).as_bytes())?;
+            out.extend_from_slice(separator(noise).as_bytes())?;
             noise = noise.rotate_right(3);
         } else {
             out.push(*byte)?;

@@ -108,7 +108,7 @@ fn answer(
 
 // Adds the answer of those who trust no link: the plain join, if the request has no root and no
 // `..`.
-fn answer_plain(
+fn answer_plain_join(
     alloc: Global,
     root: Path<'_>,
     request: Path<'_>,
@@ -156,7 +156,7 @@ pub(crate) fn run(alloc: Global, seed: u64, count: u64) -> Result<u64, AllocErro
             answer(alloc, root, asked, &mut digest)?;
         }
         let root = Path::from_text(ROOTS[(place.wrapping_add(3) & 7) as usize]);
-        answer_plain(alloc, root, asked, &mut digest)?;
+        answer_plain_join(alloc, root, asked, &mut digest)?;
         answer_link(alloc, Path::from_bytes(&page), asked, &mut digest)?;
         page.clear();
         page.extend_from_slice(&request)?;

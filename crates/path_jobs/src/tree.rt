@@ -26,14 +26,14 @@ static ENDINGS: [&str; 16] = [
 // gives the files in the order of their numbers.
 #[derive(Clone, Copy)]
 pub(crate) struct Tree<'a> {
-    front: &'a str,
+    prefix: &'a str,
     seed: u64,
 }
 
 // What stands between two names or behind the last one: `/`, or more if the lowest three bits of
 // `noise` are 5 or greater.
 #[inline]
-pub(crate) fn gap(noise: u64) -> &'static str {
+pub(crate) fn separator(noise: u64) -> &'static str {
     match noise & 7 {
         5 => "//",
         6 => "/./",
@@ -72,9 +72,9 @@ pub(crate) fn push_tag(out: &mut Vec<u8>, tag: u64) -> Result<(), AllocError> {
 }
 
 impl<'a> Tree<'a> {
-    pub(crate) fn new(front: &'a str, seed: u64) -> Tree<'a> {
+    pub(crate) fn new(prefix: &'a str, seed: u64) -> Tree<'a> {
         Tree {
-            front,
+            prefix,
             seed: mix(seed),
         }
     }
@@ -96,30 +96,30 @@ impl<'a> Tree<'a> {
             WORDS[(first.wrapping_add(random % span) & 63) as usize],
         )?;
         if random >> 32 & 1 == 0 {
-            let gap = if random >> 33 & 1 == 0 { "-" } else { "_" };
-            push_text(out, gap)?;
+            let separator = if random >> 33 & 1 == 0 { "-" } else { "_" };
+            push_text(out, separator)?;
             push_text(out, WORDS[(random >> 34 & 63) as usize])?;
         }
         Ok(())
     }
 
-    // Adds the names of the folders of a file, each with a gap before it.
+    // Adds the names of the folders of a file, each with a separator before it.
     fn push_folders(self, out: &mut Vec<u8>, number: u64, noise: u64) -> Result<(), AllocError> {
-        push_text(out, gap(noise))?;
+        push_text(out, separator(noise))?;
         self.push_name(out, 1 << 32 | number >> 17, (number >> 17 & 7) << 3, 8)?;
-        push_text(out, gap(noise >> 3))?;
+        push_text(out, separator(noise >> 3))?;
         self.push_name(out, 2 << 32 | number >> 15, (number >> 15 & 3) << 4, 16)?;
-        push_text(out, gap(noise >> 6))?;
+        push_text(out, separator(noise >> 6))?;
         self.push_name(out, 3 << 32 | number >> 13, (number >> 13 & 3) << 4, 16)
     }
 
-    // Adds the names of a file's inner folders, each with a gap before it.
+    // Adds the names of a file's inner folders, each with a separator before it.
     fn push_inner(self, out: &mut Vec<u8>, number: u64, noise: u64) -> Result<(), AllocError> {
-        push_text(out, gap(noise >> 9))?;
+        push_text(out, separator(noise >> 9))?;
         self.push_name(out, 4 << 32 | number >> 10, (number >> 10 & 7) << 3, 8)?;
-        push_text(out, gap(noise >> 12))?;
+        push_text(out, separator(noise >> 12))?;
         self.push_name(out, 5 << 32 | number >> 7, (number >> 7 & 7) << 3, 8)?;
-        push_text(out, gap(noise >> 15))?;
+        push_text(out, separator(noise >> 15))?;
         self.push_name(out, 6 << 32 | number >> 4, (number >> 4 & 7) << 3, 8)
     }
 
@@ -159,9 +159,9 @@ impl<'a> Tree<'a> {
         push_text(out, ENDINGS[(random >> 32 & 15) as usize])
     }
 
-    // Adds what follows the folder of the tree in the path of a file; it begins with a gap. Without
-    // noise the spelling is canonical. Each gap has three bits of the noise, from the lowest on,
-    // and what stands behind the file's name those from the 22nd on.
+    // Adds what follows the folder of the tree in the path of a file; it begins with a separator.
+    // Without noise the spelling is canonical. Each separator has three bits of the noise, from the
+    // lowest on, and what stands behind the file's name those from the 22nd on.
     pub(crate) fn push_below(
         self,
         out: &mut Vec<u8>,
@@ -173,10 +173,10 @@ impl<'a> Tree<'a> {
         if !is_in_large {
             self.push_inner(out, number, noise)?;
         }
-        push_text(out, gap(noise >> 18))?;
+        push_text(out, separator(noise >> 18))?;
         self.push_file(out, number, is_in_large)?;
         if noise >> 21 & 7 != 0 {
-            push_text(out, gap(noise >> 21))?;
+            push_text(out, separator(noise >> 21))?;
         }
         Ok(())
     }
@@ -186,7 +186,8 @@ impl<'a> Tree<'a> {
         self.push_name(out, 9 << 32 | number >> 12, 0, 64)
     }
 
-    // Adds one to five names that go by the number, each with a gap before it, a tag and an ending.
+    // Adds one to five names that go by the number, each with a separator before it, a tag and an
+    // ending.
     #[inline(always)]
     pub(crate) fn push_short(
         self,
@@ -197,7 +198,7 @@ impl<'a> Tree<'a> {
     ) -> Result<(), AllocError> {
         let mut noise = noise;
         for level in 0..1 + number % 5 {
-            push_text(out, gap(noise))?;
+            push_text(out, separator(noise))?;
             self.push_name(out, (10 + level) << 32 | number >> 5, 0, 64)?;
             noise >>= 3;
         }
@@ -207,7 +208,7 @@ impl<'a> Tree<'a> {
 
     // Adds the path of a file, with the folder of the tree.
     pub(crate) fn push(self, out: &mut Vec<u8>, number: u64, noise: u64) -> Result<(), AllocError> {
-        push_text(out, self.front)?;
+        push_text(out, self.prefix)?;
         self.push_below(out, number, noise)
     }
 }

@@ -19,7 +19,7 @@ fn code_byte(b: u8) -> u8
 
 // Overwrites the bytes of `out` from `at` on with those of the stretch in a key, one by one.
 #[inline]
-fn place_few(out: &mut [u8], at: usize, bytes: &[u8])
+fn write_few(out: &mut [u8], at: usize, bytes: &[u8])
     requires { at + length bytes.now ≤ length out.old }
     ensures { out.new ≡ overlay at (map coded bytes.now) out.old }
 {
@@ -30,7 +30,7 @@ fn place_few(out: &mut [u8], at: usize, bytes: &[u8])
 
 // Overwrites 16 bytes of `out` from `to` on with those of the stretch from `from` on in a key.
 #[inline(always)]
-fn place_lanes(out: &mut [u8], to: usize, bytes: &[u8], from: usize)
+fn write_lanes(out: &mut [u8], to: usize, bytes: &[u8], from: usize)
     requires room { to + 16 ≤ length out.old }
     requires some { from + 16 ≤ length bytes.now }
     ensures { out.new ≡ put_chunk to out.old (map coded (take 16 (drop from bytes.now))) }
@@ -45,7 +45,7 @@ fn place_lanes(out: &mut [u8], to: usize, bytes: &[u8], from: usize)
 
 // Overwrites 8 bytes of `out` from `to` on with those of the stretch from `from` on in a key.
 #[inline(always)]
-fn place_half(out: &mut [u8], to: usize, bytes: &[u8], from: usize)
+fn write_half(out: &mut [u8], to: usize, bytes: &[u8], from: usize)
     requires room { to + 8 ≤ length out.old }
     requires some { from + 8 ≤ length bytes.now }
     ensures { out.new ≡ put_chunk to out.old (map coded (take 8 (drop from bytes.now))) }
@@ -60,7 +60,7 @@ fn place_half(out: &mut [u8], to: usize, bytes: &[u8], from: usize)
 
 // Overwrites 4 bytes of `out` from `to` on with those of the stretch from `from` on in a key.
 #[inline(always)]
-fn place_quarter(out: &mut [u8], to: usize, bytes: &[u8], from: usize)
+fn write_quarter(out: &mut [u8], to: usize, bytes: &[u8], from: usize)
     requires room { to + 4 ≤ length out.old }
     requires some { from + 4 ≤ length bytes.now }
     ensures { out.new ≡ put_chunk to out.old (map coded (take 4 (drop from bytes.now))) }
@@ -76,52 +76,52 @@ fn place_quarter(out: &mut [u8], to: usize, bytes: &[u8], from: usize)
 // Overwrites the bytes of `out` from `at` on with those of the stretch, fewer than 8 bytes, in a
 // key.
 #[inline(always)]
-fn place_tiny(out: &mut [u8], at: usize, bytes: &[u8])
+fn write_tiny(out: &mut [u8], at: usize, bytes: &[u8])
     requires room { at + length bytes.now ≤ length out.old }
     requires few { length bytes.now < 8 }
     ensures { out.new ≡ overlay at (map coded bytes.now) out.old }
 {
     if bytes.len() < 4 {
-        place_few(out, at, bytes);
+        write_few(out, at, bytes);
         return;
     }
     let last = bytes.len() - 4;
-    place_quarter(out, at, bytes, 0);
-    place_quarter(out, at + last, bytes, last);
+    write_quarter(out, at, bytes, 0);
+    write_quarter(out, at + last, bytes, last);
 }
 
 // Overwrites the bytes of `out` from `at` on with those of the stretch, fewer than 16 bytes, in a
 // key.
 #[inline]
-fn place_short(out: &mut [u8], at: usize, bytes: &[u8])
+fn write_short(out: &mut [u8], at: usize, bytes: &[u8])
     requires room { at + length bytes.now ≤ length out.old }
     requires few { length bytes.now < 16 }
     ensures { out.new ≡ overlay at (map coded bytes.now) out.old }
 {
     if bytes.len() < 8 {
-        place_tiny(out, at, bytes);
+        write_tiny(out, at, bytes);
         return;
     }
     let last = bytes.len() - 8;
-    place_half(out, at, bytes, 0);
-    place_half(out, at + last, bytes, last);
+    write_half(out, at, bytes, 0);
+    write_half(out, at + last, bytes, last);
 }
 
 // Overwrites the bytes of `out` from `at` on with those of the stretch in a key.
 #[inline]
-pub(crate) fn place_coded(out: &mut [u8], at: usize, bytes: &[u8])
+pub(crate) fn write_coded(out: &mut [u8], at: usize, bytes: &[u8])
     requires { at + length bytes.now ≤ length out.old }
     ensures { out.new ≡ overlay at (map coded bytes.now) out.old }
 {
     if bytes.len() < 16 {
-        place_short(out, at, bytes);
+        write_short(out, at, bytes);
         return;
     }
     let last = bytes.len() - 16;
     let mut from = 0;
     while from < last {
-        place_lanes(out, at + from, bytes, from);
+        write_lanes(out, at + from, bytes, from);
         from += 16;
     }
-    place_lanes(out, at + last, bytes, last);
+    write_lanes(out, at + last, bytes, last);
 }

@@ -20,7 +20,7 @@ fn decode(b: u8) -> u8
 // Overwrites the bytes of `out` from `at` on with those of the names that stand like this in a key,
 // one by one.
 #[inline]
-fn place_few(out: &mut [u8], at: usize, names: &[u8])
+fn write_few(out: &mut [u8], at: usize, names: &[u8])
     requires { at + length names.now ≤ length out.old }
     ensures { out.new ≡ overlay at (map decoded names.now) out.old }
 {
@@ -32,7 +32,7 @@ fn place_few(out: &mut [u8], at: usize, names: &[u8])
 // Overwrites 16 bytes of `out` from `to` on with those of the names that stand from `from` on in a
 // key.
 #[inline(always)]
-fn place_lanes(out: &mut [u8], to: usize, names: &[u8], from: usize)
+fn write_lanes(out: &mut [u8], to: usize, names: &[u8], from: usize)
     requires room { to + 16 ≤ length out.old }
     requires some { from + 16 ≤ length names.now }
     ensures { out.new ≡ put_chunk to out.old (map decoded (take 16 (drop from names.now))) }
@@ -48,7 +48,7 @@ fn place_lanes(out: &mut [u8], to: usize, names: &[u8], from: usize)
 // Overwrites 8 bytes of `out` from `to` on with those of the names that stand from `from` on in a
 // key.
 #[inline(always)]
-fn place_half(out: &mut [u8], to: usize, names: &[u8], from: usize)
+fn write_half(out: &mut [u8], to: usize, names: &[u8], from: usize)
     requires room { to + 8 ≤ length out.old }
     requires some { from + 8 ≤ length names.now }
     ensures { out.new ≡ put_chunk to out.old (map decoded (take 8 (drop from names.now))) }
@@ -64,7 +64,7 @@ fn place_half(out: &mut [u8], to: usize, names: &[u8], from: usize)
 // Overwrites 4 bytes of `out` from `to` on with those of the names that stand from `from` on in a
 // key.
 #[inline(always)]
-fn place_quarter(out: &mut [u8], to: usize, names: &[u8], from: usize)
+fn write_quarter(out: &mut [u8], to: usize, names: &[u8], from: usize)
     requires room { to + 4 ≤ length out.old }
     requires some { from + 4 ≤ length names.now }
     ensures { out.new ≡ put_chunk to out.old (map decoded (take 4 (drop from names.now))) }
@@ -80,53 +80,53 @@ fn place_quarter(out: &mut [u8], to: usize, names: &[u8], from: usize)
 // Overwrites the bytes of `out` from `at` on with those of the names, fewer than 8 bytes, that
 // stand like this in a key.
 #[inline(always)]
-fn place_tiny(out: &mut [u8], at: usize, names: &[u8])
+fn write_tiny(out: &mut [u8], at: usize, names: &[u8])
     requires room { at + length names.now ≤ length out.old }
     requires few { length names.now < 8 }
     ensures { out.new ≡ overlay at (map decoded names.now) out.old }
 {
     if names.len() < 4 {
-        place_few(out, at, names);
+        write_few(out, at, names);
         return;
     }
     let last = names.len() - 4;
-    place_quarter(out, at, names, 0);
-    place_quarter(out, at + last, names, last);
+    write_quarter(out, at, names, 0);
+    write_quarter(out, at + last, names, last);
 }
 
 // Overwrites the bytes of `out` from `at` on with those of the names, fewer than 16 bytes, that
 // stand like this in a key.
 #[inline]
-fn place_short(out: &mut [u8], at: usize, names: &[u8])
+fn write_short(out: &mut [u8], at: usize, names: &[u8])
     requires room { at + length names.now ≤ length out.old }
     requires few { length names.now < 16 }
     ensures { out.new ≡ overlay at (map decoded names.now) out.old }
 {
     if names.len() < 8 {
-        place_tiny(out, at, names);
+        write_tiny(out, at, names);
         return;
     }
     let last = names.len() - 8;
-    place_half(out, at, names, 0);
-    place_half(out, at + last, names, last);
+    write_half(out, at, names, 0);
+    write_half(out, at + last, names, last);
 }
 
 // Overwrites the bytes of `out` from `at` on with those of the names that stand like this in a key,
 // with a slash for each end mark.
 #[inline]
-pub(crate) fn place_decoded(out: &mut [u8], at: usize, names: &[u8])
+pub(crate) fn write_decoded(out: &mut [u8], at: usize, names: &[u8])
     requires { at + length names.now ≤ length out.old }
     ensures { out.new ≡ overlay at (map decoded names.now) out.old }
 {
     if names.len() < 16 {
-        place_short(out, at, names);
+        write_short(out, at, names);
         return;
     }
     let last = names.len() - 16;
     let mut from = 0;
     while from < last {
-        place_lanes(out, at + from, names, from);
+        write_lanes(out, at + from, names, from);
         from += 16;
     }
-    place_lanes(out, at + last, names, last);
+    write_lanes(out, at + last, names, last);
 }

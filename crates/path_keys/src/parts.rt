@@ -3,26 +3,26 @@ ghost use Rattle.std.specs.Prelude.{◌≡◌, ◌+◌, ◌*◌, ◌≤◌, ◌<
 ghost use Rattle.std.specs.Prelude.{codes, map, take, IsTrue, MatchOption};
 ghost use Rattle.unix_path.specs.CommonDir.{inner_values};
 ghost use Rattle.unix_path.specs.Parts.{values};
-ghost use Rattle.unix_path.specs.Scan.{begins_with_parent, is_idle};
+ghost use Rattle.unix_path.specs.Scan.{begins_with_parent, is_filler};
 ghost use Rattle.path_runs.specs.Buffer.{buffer_after};
 ghost use Rattle.path_runs.specs.Overlay.{overlay};
 ghost use Rattle.path_keys.specs.Keys.{key_of};
 ghost use Rattle.path_keys.specs.Stretches.{coded, run_key, AreNamesTo, BeginsKey};
 ghost use Rattle.path_keys.specs.Stretches.{IsRun, IsUp, PutsFirst};
 
-use crate::coded::place_coded;
+use crate::coded::write_coded;
 use crate::stretch::first_stop;
 use std::simd::prelude::*;
-use unix_path::scan::{begins_with_parent, idle_len, is_idle};
+use unix_path::scan::{begins_with_parent, filler_len, is_filler};
 
 // What follows the filler, slashes and `.` pieces, in front.
 #[inline]
 fn past_filler(bytes: &[u8]) -> &[u8]
     ensures same { inner_values bytes.now ≡ inner_values result.now }
-    ensures busy { is_idle result.now 0 ≡ false }
+    ensures busy { is_filler result.now 0 ≡ false }
     ensures short { length result.now ≤ length bytes.now }
 {
-    &bytes[idle_len(bytes)..]
+    &bytes[filler_len(bytes)..]
 }
 
 // The mark of the root or the `.` with which a path begins; `None` if it begins with none.
@@ -34,7 +34,7 @@ fn lead_mark(path: &[u8]) -> Option<u8>
     if path.is_empty() {
         return None;
     }
-    if !is_idle(path, 0) {
+    if !is_filler(path, 0) {
         return None;
     }
     if path[0] == b'/' {
@@ -47,7 +47,7 @@ fn lead_mark(path: &[u8]) -> Option<u8>
 #[inline]
 fn run_len(bytes: &[u8]) -> usize
     requires some { 0 < length bytes.now }
-    requires busy { is_idle bytes.now 0 ≡ false }
+    requires busy { is_filler bytes.now 0 ≡ false }
     ensures { IsRun bytes.now result }
 {
     if begins_with_parent(bytes) {
@@ -86,7 +86,7 @@ pub(crate) fn key_len_of(path: &[u8]) -> usize
 
 // Overwrites two bytes of `out` from `at` on with 0 and `mark`.
 #[inline]
-fn place_mark(out: &mut [u8], at: usize, mark: u8)
+fn write_mark(out: &mut [u8], at: usize, mark: u8)
     requires { at + 2 ≤ length out.old }
     ensures { out.new ≡ overlay at (0 ∷ mark ∷ []) out.old }
 {
@@ -95,20 +95,20 @@ fn place_mark(out: &mut [u8], at: usize, mark: u8)
 
 // Overwrites two bytes of `out` from `at` on with the mark of a `..`.
 #[inline]
-fn place_up(out: &mut [u8], at: usize)
+fn write_up(out: &mut [u8], at: usize)
     requires { at + 2 ≤ length out.old }
     ensures { out.new ≡ overlay at (0 ∷ 3 ∷ []) out.old }
 {
-    place_mark(out, at, 3);
+    write_mark(out, at, 3);
 }
 
 // Overwrites the bytes of `out` from `at` on with those of the names in a key.
 #[inline]
-fn place_names(out: &mut [u8], at: usize, names: &[u8])
+fn write_names(out: &mut [u8], at: usize, names: &[u8])
     requires { at + length names.now < length out.old }
     ensures { out.new ≡ overlay at (map coded names.now ++ 0 ∷ []) out.old }
 {
-    place_coded(out, at, names);
+    write_coded(out, at, names);
     out[at + names.len()] = 0;
 }
 
@@ -123,7 +123,7 @@ fn write_lead(path: &[u8], out: &mut [u8]) -> usize
     let Some(mark) = lead_mark(path) else {
         return 0;
     };
-    place_mark(out, 0, mark);
+    write_mark(out, 0, mark);
     2
 }
 
@@ -131,7 +131,7 @@ fn write_lead(path: &[u8], out: &mut [u8]) -> usize
 #[inline(always)]
 fn names_len(bytes: &[u8]) -> usize
     requires some { 0 < length bytes.now }
-    requires busy { is_idle bytes.now 0 ≡ false }
+    requires busy { is_filler bytes.now 0 ≡ false }
     requires no_up { begins_with_parent bytes.now ≡ false }
     ensures { AreNamesTo bytes.now result }
 {
@@ -178,23 +178,23 @@ fn are_five_ups(bytes: &[u8]) -> bool
 
 // Overwrites ten bytes of `out` from `at` on with the marks of five `..`.
 #[inline(always)]
-fn place_five_ups(out: &mut [u8], at: usize)
+fn write_five_ups(out: &mut [u8], at: usize)
     requires { at + 10 ≤ length out.old }
     ensures { out.new ≡ overlay at (0 ∷ 3 ∷ 0 ∷ 3 ∷ 0 ∷ 3 ∷ 0 ∷ 3 ∷ 0 ∷ 3 ∷ []) out.old }
 {
     out[at..at + 10].copy_from_slice(&[0, 3, 0, 3, 0, 3, 0, 3, 0, 3]);
 }
 
-// As `place_ups`, in groups of five.
+// As `write_ups`, in groups of five.
 #[inline(always)]
-fn place_fives(out: &mut [u8], at: usize, bytes: &[u8]) -> usize
+fn write_fives(out: &mut [u8], at: usize, bytes: &[u8]) -> usize
     requires { at + length (key_of (inner_values bytes.now)) ≤ length out.old }
     ensures { PutsFirst bytes.now (3 * result) at (2 * result) out.old out.new }
 {
     let mut count = 0;
     let mut rest = bytes;
     while are_five_ups(rest) {
-        place_five_ups(out, at + 2 * count);
+        write_five_ups(out, at + 2 * count);
         count += 5;
         rest = &rest[15..];
     }
@@ -204,14 +204,14 @@ fn place_fives(out: &mut [u8], at: usize, bytes: &[u8]) -> usize
 // Overwrites the bytes of `out` from `at` on with the mark of each `..` that stands first, with one
 // slash before it. Returns how many these are.
 #[inline(always)]
-fn place_ups(out: &mut [u8], at: usize, bytes: &[u8]) -> usize
+fn write_ups(out: &mut [u8], at: usize, bytes: &[u8]) -> usize
     requires { at + length (key_of (inner_values bytes.now)) ≤ length out.old }
     ensures { PutsFirst bytes.now (3 * result) at (2 * result) out.old out.new }
 {
-    let mut count = place_fives(out, at, bytes);
+    let mut count = write_fives(out, at, bytes);
     let mut rest = &bytes[3 * count..];
     while is_up(rest) {
-        place_up(out, at + 2 * count);
+        write_up(out, at + 2 * count);
         count += 1;
         rest = &rest[3..];
     }
@@ -228,13 +228,13 @@ pub(crate) fn write_path(path: &[u8], out: &mut [u8]) -> usize
     let mut left = past_filler(path);
     while !left.is_empty() {
         if begins_with_parent(left) {
-            place_up(out, at);
-            let ups = place_ups(out, at + 2, &left[2..]);
+            write_up(out, at);
+            let ups = write_ups(out, at + 2, &left[2..]);
             at += 2 + 2 * ups;
             left = past_filler(&left[2 + 3 * ups..]);
         } else {
             let end = names_len(left);
-            place_names(out, at, &left[..end]);
+            write_names(out, at, &left[..end]);
             at += end + 1;
             left = past_filler(&left[end..]);
         }

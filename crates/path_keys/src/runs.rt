@@ -134,7 +134,7 @@ fn is_up(bytes: &[u8]) -> bool
     bytes[1] == 3
 }
 
-// Whether the marks of four `..` stand first.
+// Whether the four_ups of four `..` stand first.
 #[inline(always)]
 fn are_four_ups(bytes: &[u8]) -> bool
     ensures { IsTrue result → BeginsUps bytes.now 4 }
@@ -142,11 +142,11 @@ fn are_four_ups(bytes: &[u8]) -> bool
     if bytes.len() < 8 {
         return false;
     }
-    let marks = u8x8::from_array([0, 3, 0, 3, 0, 3, 0, 3]);
-    u8x8::from_slice(bytes).simd_eq(marks).to_bitmask() == 255
+    let four_ups = u8x8::from_array([0, 3, 0, 3, 0, 3, 0, 3]);
+    u8x8::from_slice(bytes).simd_eq(four_ups).to_bitmask() == 255
 }
 
-// How many marks of a `..` stand first, in groups of four.
+// How many four_ups of a `..` stand first, in groups of four.
 #[inline(always)]
 fn up_fours(bytes: &[u8]) -> usize
     ensures { BeginsUps bytes.now result }
@@ -160,7 +160,7 @@ fn up_fours(bytes: &[u8]) -> usize
     count
 }
 
-// How many marks of a `..` stand first, one behind the other.
+// How many four_ups of a `..` stand first, one behind the other.
 #[inline(always)]
 pub(crate) fn up_count(bytes: &[u8]) -> usize
     ensures ups { BeginsUps bytes.now result }

@@ -7,12 +7,12 @@ ghost use Rattle.path_keys.specs.Keys.{IsKey};
 ghost use Rattle.path_keys.specs.Codes.{slashed, text_of, HasPath, IsRead, ReadsAs};
 ghost use Rattle.path_keys.specs.Runs.{decoded, lead_text, run_text, ups};
 
-use crate::decoded::place_decoded;
+use crate::decoded::write_decoded;
 use crate::runs::{Lead, Run, next_run, past_lead, run_in, up_count};
 
 // Overwrites the bytes of `out` from `at` on with `bytes`, as many as there is room for.
 #[inline(always)]
-fn place(out: &mut [u8], at: usize, bytes: &[u8])
+fn write_at(out: &mut [u8], at: usize, bytes: &[u8])
     requires { at ≤ length out.old }
     ensures { out.new ≡ overlay at (take (length out.old - at) bytes.now) out.old }
 {
@@ -26,7 +26,7 @@ fn place(out: &mut [u8], at: usize, bytes: &[u8])
 
 // Overwrites the bytes of `out` from `at` on with `..` and, if there is room for it, a slash.
 #[inline(always)]
-fn place_last_up(out: &mut [u8], at: usize)
+fn write_last_up(out: &mut [u8], at: usize)
     requires { at + 2 ≤ length out.old }
     ensures { out.new ≡ overlay at (take (length out.old - at) (slashed ParentDir)) out.old }
 {
@@ -39,7 +39,7 @@ fn place_last_up(out: &mut [u8], at: usize)
 
 // Overwrites three bytes of `out` from `at` on with `../`.
 #[inline(always)]
-fn place_up(out: &mut [u8], at: usize)
+fn write_up(out: &mut [u8], at: usize)
     requires { at + 3 ≤ length out.old }
     ensures { out.new ≡ overlay at (slashed ParentDir) out.old }
 {
@@ -48,7 +48,7 @@ fn place_up(out: &mut [u8], at: usize)
 
 // Overwrites twelve bytes of `out` from `at` on with four times `../`.
 #[inline(always)]
-fn place_four(out: &mut [u8], at: usize)
+fn write_four(out: &mut [u8], at: usize)
     requires { at + 12 ≤ length out.old }
     ensures { let up = slashed ParentDir in
         out.new ≡ overlay at (up ++ up ++ up ++ up) out.old }
@@ -59,14 +59,14 @@ fn place_four(out: &mut [u8], at: usize)
 // Overwrites the bytes of `out` from `at` on with `../`, in groups of four and at most so many.
 // Returns how many these are.
 #[inline(always)]
-fn place_fours(out: &mut [u8], at: usize, count: usize) -> usize
+fn write_fours(out: &mut [u8], at: usize, count: usize) -> usize
     requires { at + 3 * count ≤ length out.old }
     ensures few { result ≤ count }
     ensures out { out.new ≡ overlay at (text_of (ups result)) out.old }
 {
     let mut done = 0;
     while done + 4 <= count {
-        place_four(out, at + 3 * done);
+        write_four(out, at + 3 * done);
         done += 4;
     }
     done
@@ -74,13 +74,13 @@ fn place_fours(out: &mut [u8], at: usize, count: usize) -> usize
 
 // Overwrites the bytes of `out` from `at` on with so many `../`.
 #[inline(always)]
-fn place_ups(out: &mut [u8], at: usize, count: usize)
+fn write_all_ups(out: &mut [u8], at: usize, count: usize)
     requires { at + 3 * count ≤ length out.old }
     ensures { out.new ≡ overlay at (text_of (ups count)) out.old }
 {
-    let mut done = place_fours(out, at, count);
+    let mut done = write_fours(out, at, count);
     while done < count {
-        place_up(out, at + 3 * done);
+        write_up(out, at + 3 * done);
         done += 1;
     }
 }
@@ -88,26 +88,26 @@ fn place_ups(out: &mut [u8], at: usize, count: usize)
 // Overwrites the bytes of `out` from `at` on with so many `../`, but for the last slash if there is
 // no room for it.
 #[inline(always)]
-fn place_up_run(out: &mut [u8], at: usize, count: usize)
+fn write_up_run(out: &mut [u8], at: usize, count: usize)
     requires { at + 3 * count ≤ length out.old + 1 }
     ensures { out.new ≡ overlay at (take (length out.old - at) (text_of (ups count))) out.old }
 {
     if count == 0 {
         return;
     }
-    place_ups(out, at, count - 1);
-    place_last_up(out, at + 3 * (count - 1));
+    write_all_ups(out, at, count - 1);
+    write_last_up(out, at + 3 * (count - 1));
 }
 
 // Overwrites the bytes of `out` from `at` on with those of the names that stand like this in a key,
 // and the one behind them, if there is one, with a slash.
 #[inline]
-fn place_names(out: &mut [u8], at: usize, names: &[u8])
+fn write_names(out: &mut [u8], at: usize, names: &[u8])
     requires { at + length names.now ≤ length out.old }
     ensures { out.new
         ≡ overlay at (take (length out.old - at) (map decoded names.now ++ slash ∷ [])) out.old }
 {
-    place_decoded(out, at, names);
+    write_decoded(out, at, names);
     let end = at + names.len();
     if end < out.len() {
         out[end] = b'/';
@@ -117,26 +117,26 @@ fn place_names(out: &mut [u8], at: usize, names: &[u8])
 // Overwrites the bytes of `out` from `at` on with those of the run in a path before others, but for
 // a slash for which there is no room.
 #[inline(always)]
-fn place_run(out: &mut [u8], at: usize, run: Run<'_>)
+fn write_run(out: &mut [u8], at: usize, run: Run<'_>)
     requires { at + length (run_text run) ≤ length out.old + 1 }
     ensures { out.new ≡ overlay at (take (length out.old - at) (run_text run.entry)) out.old }
 {
     match run {
-        Run::Up(more) => place_up_run(out, at, more + 1),
-        Run::Names(names) => place_names(out, at, names),
+        Run::Up(more) => write_up_run(out, at, more + 1),
+        Run::Names(names) => write_names(out, at, names),
     }
 }
 
 // Overwrites the first bytes of `out` with those of the lead in a path before others, but for a
 // slash for which there is no room.
 #[inline(always)]
-fn place_lead(out: &mut [u8], lead: Lead)
+fn write_lead(out: &mut [u8], lead: Lead)
     ensures { out.new ≡ overlay 0 (take (length out.old) (lead_text lead)) out.old }
 {
     match lead {
         Lead::Absent => {}
-        Lead::Root => place(out, 0, b"/"),
-        Lead::Dot => place(out, 0, b"./"),
+        Lead::Root => write_at(out, 0, b"/"),
+        Lead::Dot => write_at(out, 0, b"./"),
     }
 }
 
@@ -182,11 +182,11 @@ fn write_runs(key: &[u8], out: &mut [u8])
     ensures { IsRead key.now out.new }
 {
     let started = past_lead(key);
-    place_lead(out, started.lead);
+    write_lead(out, started.lead);
     let mut rest = started.rest;
     let mut at = started.lead.len_in_path();
     while let Some(run) = next_run(rest, out.len() + 1 - at) {
-        place_run(out, at, run);
+        write_run(out, at, run);
         at += run.text_len();
         rest = &rest[run.len()..];
     }
@@ -200,10 +200,10 @@ fn write_ups(key: &[u8], out: &mut [u8])
     ensures { IsRead key.now out.new }
 {
     let started = past_lead(key);
-    place_lead(out, started.lead);
+    write_lead(out, started.lead);
     let first = started.lead.len_in_path();
     let ups = up_count(started.rest);
-    place_up_run(out, first, ups);
+    write_up_run(out, first, ups);
     let rest = &started.rest[2 * ups..];
     let at = first + 3 * ups;
     let room = out.len() + 1 - at;
@@ -214,7 +214,7 @@ fn write_ups(key: &[u8], out: &mut [u8])
     if room == 0 {
         return;
     }
-    place_decoded(out, at, &rest[..room - 1]);
+    write_decoded(out, at, &rest[..room - 1]);
 }
 
 // Writes the path of a key over all of `out`.
@@ -224,7 +224,7 @@ pub(crate) fn write_text(key: &[u8], out: &mut [u8])
     ensures { IsRead key.now out.new }
 {
     let started = past_lead(key);
-    place_lead(out, started.lead);
+    write_lead(out, started.lead);
     if started.rest.is_empty() {
         return;
     }
@@ -235,5 +235,5 @@ pub(crate) fn write_text(key: &[u8], out: &mut [u8])
         write_ups(key, out);
         return;
     }
-    place_decoded(out, at, &started.rest[..room - 1]);
+    write_decoded(out, at, &started.rest[..room - 1]);
 }

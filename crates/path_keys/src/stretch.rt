@@ -59,11 +59,11 @@ fn unbroken_in_half(bytes: &[u8], at: usize, mark: u8, point: u8) -> usize
     ensures none_before { (i : ℕ) → at ≤ i → i < at + result
         → is_break_of mark point bytes.now i ≡ false }
 {
-    let marks = u8x8::splat(mark);
+    let each_mark = u8x8::splat(mark);
     let here = u8x8::from_slice(&bytes[at..]);
     let next = u8x8::from_slice(&bytes[at + 1..]);
-    let is_next = next.simd_eq(marks) | next.simd_eq(u8x8::splat(point));
-    let breaks = (here.simd_eq(marks) & is_next).to_bitmask();
+    let is_next = next.simd_eq(each_mark) | next.simd_eq(u8x8::splat(point));
+    let breaks = (here.simd_eq(each_mark) & is_next).to_bitmask();
     if breaks == 0 {
         8
     } else {
@@ -80,15 +80,15 @@ fn unstopped_in_lanes(bytes: &[u8], at: usize, mark: u8, point: u8) -> usize
     ensures none_before { (i : ℕ) → at ≤ i → i < at + result
         → is_stop_of mark point bytes.now i ≡ false }
 {
-    let marks = u8x16::splat(mark);
-    let points = u8x16::splat(point);
+    let each_mark = u8x16::splat(mark);
+    let each_point = u8x16::splat(point);
     let here = u8x16::from_slice(&bytes[at..]);
     let first = u8x16::from_slice(&bytes[at + 1..]);
     let second = u8x16::from_slice(&bytes[at + 2..]);
     let third = u8x16::from_slice(&bytes[at + 3..]);
-    let is_two = second.simd_eq(points) & third.simd_eq(marks);
-    let is_point = first.simd_eq(points) & (second.simd_eq(marks) | is_two);
-    let stops = (here.simd_eq(marks) & (first.simd_eq(marks) | is_point)).to_bitmask();
+    let is_two = second.simd_eq(each_point) & third.simd_eq(each_mark);
+    let is_point = first.simd_eq(each_point) & (second.simd_eq(each_mark) | is_two);
+    let stops = (here.simd_eq(each_mark) & (first.simd_eq(each_mark) | is_point)).to_bitmask();
     if stops == 0 {
         16
     } else {

@@ -58,24 +58,24 @@ abbrev pub HasNone : ℕ → List ℕ → Type 0
 HasNone b s = All (λ c. c ≢ b) s
 
 -- the extension x is not empty, and has neither a dot nor a slash
-pub record IsPlainExtension (x : List ℕ) : Type 0 where
+pub record IsSimpleExtension (x : List ℕ) : Type 0 where
   pub some : x ≢ []
   pub no_dot : HasNone dot x
   pub no_slash : HasNone slash x
 
--- x is plain, and setting it on s answers true and leaves t
+-- x is simple, and setting it on s answers true and leaves t
 abbrev pub TakesExtension : List ℕ → List ℕ → List ℕ → Type 0
-TakesExtension s x t = IsPlainExtension x × (edit_of s (SetExtension x) ≡ (t, Flag true))
+TakesExtension s x t = IsSimpleExtension x × (edit_of s (SetExtension x) ≡ (t, Flag true))
 
--- a plain extension that was set leaves the stem as it was
+-- a simple extension that was set leaves the stem as it was
 abbrev pub NewExtensionKeepsStem : Type 0
 NewExtensionKeepsStem =
     (s x t : List ℕ) → TakesExtension s x t → stem_of (values t) ≡ stem_of (values s)
 
--- a plain extension that was set is the extension
+-- a simple extension that was set is the extension
 abbrev pub NewExtensionIsSet : Type 0
 NewExtensionIsSet = (s x t : List ℕ) → TakesExtension s x t → extension_of (values t) ≡ Some x
 
--- a plain extension that was set leaves the parent's bytes as they were
+-- a simple extension that was set leaves the parent's bytes as they were
 abbrev pub NewExtensionKeepsParent : Type 0
 NewExtensionKeepsParent = (s x t : List ℕ) → TakesExtension s x t → parent_of t ≡ parent_of s

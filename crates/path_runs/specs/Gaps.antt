@@ -5,7 +5,7 @@ use Rattle.std.specs.Prelude.{List, ◌∷◌, ◌++◌, length, drop, slice_ind
 use Rattle.std.specs.List.{flat_map}
 use Rattle.unix_path.specs.Parts.{slash, dot, value_bytes}
 use Rattle.unix_path.specs.CommonDir.{inner_values}
-use Rattle.unix_path.specs.Scan.{is_idle}
+use Rattle.unix_path.specs.Scan.{is_filler}
 
 -- the byte at i is a slash, and the piece behind it is empty or `.`
 abbrev pub is_gap : List ℕ → ℕ → Bool
@@ -24,7 +24,7 @@ pub record FirstGap (s : List ℕ) (at : ℕ) : Type 0 where
 pub record IsPart (s : List ℕ) (at : ℕ) : Type 0 where
   pub behind : 0 < at
   pub after_slash : slice_index s (at - 1) ≡ slash
-  pub begins : is_idle s at ≡ false
+  pub begins : is_filler s at ≡ false
 
 -- the bytes of the pieces of s that count, each behind a slash
 unfoldable pub slashed_parts : List ℕ → List ℕ

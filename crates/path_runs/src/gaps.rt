@@ -1,11 +1,11 @@
 //! The gaps of a path: its slashes with an empty piece or the piece `.` behind them.
 ghost use Rattle.std.specs.Prelude.{◌≡◌, ℕ, ◌+◌, ◌<◌, ◌≤◌, length, drop, false, slice_index};
 ghost use Rattle.unix_path.specs.Parts.{slash};
-ghost use Rattle.unix_path.specs.Scan.{is_idle};
+ghost use Rattle.unix_path.specs.Scan.{is_filler};
 ghost use Rattle.path_runs.specs.Gaps.{is_gap, slashed_parts, FirstGap, IsPart};
 
 use std::simd::prelude::*;
-use unix_path::scan::is_idle;
+use unix_path::scan::is_filler;
 
 // Whether the byte at `at` is a slash, and the piece behind it is empty or `.`.
 #[inline]
@@ -13,7 +13,7 @@ fn is_gap(bytes: &[u8], at: usize) -> bool
     requires { at < length bytes.now }
     ensures { result ≡ is_gap bytes.now at }
 {
-    bytes[at] == b'/' && (at + 1 == bytes.len() || is_idle(bytes, at + 1))
+    bytes[at] == b'/' && (at + 1 == bytes.len() || is_filler(bytes, at + 1))
 }
 
 // How many of the 16 bytes from `at` on stand before the first gap among them, or 16 if no gap
@@ -83,7 +83,7 @@ pub(crate) fn past_gap(bytes: &[u8], gap: usize) -> usize
     ensures same { slashed_parts (drop gap bytes.now) ≡ slashed_parts (drop result bytes.now) }
 {
     let mut at = gap;
-    while at < bytes.len() && is_idle(bytes, at) {
+    while at < bytes.len() && is_filler(bytes, at) {
         at += 1;
     }
     at

@@ -204,7 +204,7 @@ static PARTS: [Parts; 8] = [
 ];
 
 // Whether the range, the parent and the name of the path's key are those of the row.
-fn has_parts(alloc: Global, row: &Parts) -> Result<bool, AllocError> {
+fn has_key_parts(alloc: Global, row: &Parts) -> Result<bool, AllocError> {
     let key = PathKey::of(alloc, Path::from_text(row.0))?;
     let range = key.range_under()?;
     let end = match &range.end {
@@ -217,7 +217,7 @@ fn has_parts(alloc: Global, row: &Parts) -> Result<bool, AllocError> {
 #[test]
 fn ranges_parents_and_names(rt: HostRuntime) -> Result<(), Fail> {
     for row in PARTS.iter() {
-        assert!(rt; has_parts(rt.alloc(), row)?, "{}", row.0);
+        assert!(rt; has_key_parts(rt.alloc(), row)?, "{}", row.0);
     }
     Ok(())
 }

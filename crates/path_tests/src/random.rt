@@ -22,10 +22,10 @@ impl Random {
         mixed ^ mixed >> 31
     }
 
-    // In plain strings a letter; in others a letter one time in four, and else any byte.
-    fn byte(&mut self, is_plain: bool) -> u8 {
+    // In strings of letters a letter; in others a letter one time in four, and else any byte.
+    fn byte(&mut self, has_letters_alone: bool) -> u8 {
         let word = self.next();
-        let is_letter = is_plain || word >> 32 & 3 == 0;
+        let is_letter = has_letters_alone || word >> 32 & 3 == 0;
         if is_letter {
             LETTERS[(word & 7) as usize]
         } else {
@@ -36,10 +36,10 @@ impl Random {
     // A string of at most 64 bytes.
     pub(crate) fn string(&mut self, alloc: Global) -> Result<Vec<u8>, AllocError> {
         let word = self.next();
-        let is_plain = word >> 32 & 1 == 0;
+        let has_letters_alone = word >> 32 & 1 == 0;
         let mut bytes = Vec::new(alloc);
         for _ in 0..word % 65 {
-            bytes.push(self.byte(is_plain))?;
+            bytes.push(self.byte(has_letters_alone))?;
         }
         Ok(bytes)
     }

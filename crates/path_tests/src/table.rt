@@ -1,4 +1,4 @@
-//! Rows of calls of a table, its callers, and a table beside a plain list.
+//! Rows of calls of a table, its callers, and a table beside a list.
 mod beside_list;
 mod callers;
 

@@ -1,4 +1,4 @@
-//! Rows of calls of a tree, its callers, and a tree beside a plain list.
+//! Rows of calls of a tree, its callers, and a tree beside a list.
 mod beside_list;
 mod callers;
 mod children;

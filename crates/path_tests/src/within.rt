@@ -1,6 +1,6 @@
 //! Rows of paths from outside, and the laws on all short paths.
 mod bounds;
-mod plain;
+mod naive;
 mod requests;
 mod rows;
 mod short_pairs;

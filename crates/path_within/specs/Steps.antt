@@ -18,12 +18,12 @@ IsKept (RootDir ∷ ks) = ks ≡ []
 IsKept ks = AreUps ks
 
 -- the value's bytes are a path of this value alone
-abbrev pub IsOne : Value → Type 0
-IsOne v = values (value_bytes v) ≡ v ∷ []
+abbrev pub ValueReadsAsItself : Value → Type 0
+ValueReadsAsItself v = values (value_bytes v) ≡ v ∷ []
 
 -- the bytes of each of these values are a path of that value alone
-abbrev pub AllOne : List Value → Type 0
-AllOne vs = AllByRecursion IsOne vs
+abbrev pub ReadsAsItself : List Value → Type 0
+ReadsAsItself vs = AllByRecursion ValueReadsAsItself vs
 
 -- the bytes of these values, the last first, each joined to those before it
 abbrev pub path_of : List Value → List ℕ
@@ -33,7 +33,7 @@ path_of (v ∷ ks) = join_of (path_of ks) (value_bytes v)
 -- the bytes spell these values, which are kept ones, the last first
 pub record Spells (bytes : List ℕ) (ks : List Value) : Type 0 where
   pub kept : IsKept ks
-  pub one : AllOne ks
+  pub one : ReadsAsItself ks
   pub is : bytes ≡ path_of ks
 
 -- the kept values, the last first, without the names at the end

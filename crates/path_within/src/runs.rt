@@ -2,14 +2,14 @@
 ghost use Rattle.std.specs.Prelude.{◌≡◌, ℕ, ◌<◌, ◌≤◌, true, false, [], length, None, IfSome, IsTrue};
 ghost use Rattle.unix_path.specs.CommonDir.{inner_values};
 ghost use Rattle.unix_path.specs.Parts.{values};
-ghost use Rattle.unix_path.specs.Scan.{is_idle};
+ghost use Rattle.unix_path.specs.Scan.{is_filler};
 ghost use Rattle.path_within.specs.PlainPieces.{begins_plain, goes_on_plain, is_end, is_plain};
 
 use path_runs::laws::walks_in_order;
 use unix_bytes::search::first_place;
 use unix_path::Path;
 use unix_path::scan::{
-    any_break, begins_with_parent, ends_with_parent, first_break, idle_len, is_idle,
+    any_break, begins_with_parent, ends_with_parent, filler_len, first_break, is_filler,
 };
 
 // Whether the byte at `i` is a slash, or `i` is at the end or behind it.
@@ -25,7 +25,7 @@ pub(crate) fn is_end(bytes: &[u8], i: usize) -> bool
 pub(crate) fn begins_plain(bytes: &[u8], at: usize) -> bool
     ensures { result ≡ begins_plain bytes.now at }
 {
-    at < bytes.len() && !is_idle(bytes, at) && !begins_with_parent(&bytes[at..])
+    at < bytes.len() && !is_filler(bytes, at) && !begins_with_parent(&bytes[at..])
 }
 
 // The place, from `start` on, of the first slash with no plain piece behind it, or the length if
@@ -74,7 +74,7 @@ pub(crate) enum Run<'a> {
 #[derive(Clone, Copy)]
 pub(crate) struct Runs<'a> {
     pub(crate) left: &'a [u8],
-    ghost busy: { is_idle left.now 0 ≡ false },
+    ghost busy: { is_filler left.now 0 ≡ false },
 }
 
 impl<'a> Runs<'a> {
@@ -86,7 +86,7 @@ impl<'a> Runs<'a> {
         ensures values { values result.left.now ≡ inner_values bytes.now }
         ensures short { length result.left.now ≤ length bytes.now }
     {
-        let left = &bytes[idle_len(bytes)..];
+        let left = &bytes[filler_len(bytes)..];
         Runs { left }
     }
 
@@ -106,7 +106,7 @@ impl<'a> Runs<'a> {
         }
         let name_len = first_place(bytes, b'/');
         let rest = &bytes[(name_len + 1).min(bytes.len())..];
-        let filler = idle_len(rest);
+        let filler = filler_len(rest);
         if rest.is_empty() || filler > 0 || rest[0] == b'.' {
             let left = &rest[filler..];
             *self = Runs { left };

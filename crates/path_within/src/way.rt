@@ -17,7 +17,7 @@ use unix_path::{Component, Path, PathBuf};
 
 // What is left of two resolved paths behind the parts that both begin with, as it is spelled. Both
 // paths have a root, or neither.
-fn unshared<'a, 'b>(from: Path<'a>, to: Path<'b>) -> (Path<'a>, Path<'b>)
+fn remainders<'a, 'b>(from: Path<'a>, to: Path<'b>) -> (Path<'a>, Path<'b>)
     requires first { resolved_bytes_of from.bytes.now ≡ from.bytes.now }
     requires second { resolved_bytes_of to.bytes.now ≡ to.bytes.now }
     requires roots { is_rooted from.bytes.now ≡ is_rooted to.bytes.now }
@@ -73,7 +73,7 @@ pub fn way(alloc: Global, from: Path<'_>, to: Path<'_>) -> Result<Option<PathBuf
     if first.has_root() != second.has_root() {
         return Ok(None);
     }
-    let (left, onward) = unshared(first, second);
+    let (left, onward) = remainders(first, second);
     if !left.bytes.is_empty() && begins_with_parent(left.bytes) {
         return Ok(None);
     }

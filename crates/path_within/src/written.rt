@@ -15,7 +15,7 @@ ghost use Rattle.path_within.specs.Written.{StandsFor};
 
 use crate::request::{Request, take_name};
 use crate::runs::is_plain;
-use unix_bytes::buffers::place;
+use unix_bytes::buffers::write_at;
 use unix_path::scan::is_open;
 use unix_path::{Component, Path};
 
@@ -72,14 +72,14 @@ fn spelled_names<'a>(path: Path<'a>, is_spelled: bool) -> Option<&'a [u8]>
 // Overwrites the bytes before `end` with a slash and the name, and returns where these begin. Both
 // are counted from a slash that is thought before `out`: there the first name's slash goes.
 #[inline]
-fn place_before(out: &mut [u8], end: usize, name: &[u8]) -> usize
+fn write_before(out: &mut [u8], end: usize, name: &[u8]) -> usize
     requires in_range { end ≤ 1 + length out.old }
     requires room { 1 + length name.now ≤ end }
     ensures start { result + (1 + length name.now) ≡ end }
     ensures bytes { drop result (slash ∷ out.new) ≡ slash ∷ name.now ++ drop end (slash ∷ out.old) }
 {
     let start = end - 1 - name.len();
-    place(out, start, name);
+    write_at(out, start, name);
     if start == 0 {
         return 0;
     }
@@ -96,14 +96,14 @@ fn fill_resolved(out: &mut [u8], path: Path<'_>)
     let mut end = 1 + out.len();
     let mut left = path.components();
     while let Some(name) = take_name(&mut left) {
-        end = place_before(out, end, name.bytes);
+        end = write_before(out, end, name.bytes);
     }
 }
 
 // Overwrites the bytes of `out` from `start` up to `end` with the names of a path, as it is
 // resolved behind `/`, with a slash between two of them.
 #[inline]
-fn place_resolved(out: &mut [u8], start: usize, end: usize, path: Path<'_>)
+fn write_resolved_names(out: &mut [u8], start: usize, end: usize, path: Path<'_>)
     requires end { 1 + end ≡ start + slashed_len (names_below (values path.bytes.now)) }
     requires in_order { start ≤ end }
     requires room { end ≤ length out.old }
@@ -127,12 +127,12 @@ fn opened_len(root: &[u8]) -> usize
 
 // Overwrites the first `len` bytes of `out` with what stands before the first name of a join.
 #[inline]
-fn place_opened(root: &[u8], len: usize, out: &mut [u8])
+fn write_opened(root: &[u8], len: usize, out: &mut [u8])
     requires len { len ≡ length (opened root.now) }
     requires room { len ≤ length out.old }
     ensures { out.new ≡ opened root.now ++ drop len out.old }
 {
-    place(out, 0, root);
+    write_at(out, 0, root);
     if root.len() < len {
         out[root.len()] = b'/';
     }
@@ -147,8 +147,8 @@ fn write_spelled(root: &[u8], names: &[u8], out: &mut [u8]) -> usize
     let start = opened_len(root);
     let len = start + names.len();
     if len <= out.len() {
-        place_opened(root, start, out);
-        place(out, start, names);
+        write_opened(root, start, out);
+        write_at(out, start, names);
     }
     len
 }
@@ -160,7 +160,7 @@ fn write_root(root: &[u8], out: &mut [u8]) -> usize
     ensures { IsWritten root.now out.old out.new result }
 {
     if root.len() <= out.len() {
-        place(out, 0, root);
+        write_at(out, 0, root);
     }
     root.len()
 }
@@ -178,8 +178,8 @@ fn write_resolved(root: &[u8], path: Path<'_>, out: &mut [u8]) -> usize
     let start = opened_len(root);
     let len = start + (names_len - 1);
     if len <= out.len() {
-        place_opened(root, start, out);
-        place_resolved(out, start, len, path);
+        write_opened(root, start, out);
+        write_resolved_names(out, start, len, path);
     }
     len
 }

@@ -5,7 +5,7 @@ ghost use Rattle.pathtool.specs.Others.{other_fields};
 ghost use Rattle.pathtool.specs.Steps.{newline};
 
 use crate::edits::push_edit;
-use crate::fields::{Line, Others, is, line_from};
+use crate::fields::{Line, Others, is_named, line_from};
 use crate::lists::{push_ancestors, push_back, push_parts};
 use crate::names::{push_extension, push_name, push_stem};
 use crate::paths::{push_canon, push_join, push_parent, push_stripped};
@@ -28,26 +28,34 @@ fn push_answer_to(line: Line<'_>, answer: &mut Vec<u8>) -> Result<(), AllocError
         ..
     } = line;
     match others {
-        _ if is(command, b"edit") => push_edit(path, others, answer),
-        _ if is(command, b"under") => push_under(path, others, answer),
+        _ if is_named(command, b"edit") => push_edit(path, others, answer),
+        _ if is_named(command, b"under") => push_under(path, others, answer),
 
-        Others::None if is(command, b"parts") => push_parts(path, answer),
-        Others::None if is(command, b"back") => push_back(path, answer),
-        Others::None if is(command, b"parent") => push_parent(path, answer),
-        Others::None if is(command, b"name") => push_name(path, answer),
-        Others::None if is(command, b"stem") => push_stem(path, answer),
-        Others::None if is(command, b"ext") => push_extension(path, answer),
-        Others::None if is(command, b"ancestors") => push_ancestors(path, answer),
-        Others::None if is(command, b"canon") => push_canon(path, answer),
-        Others::None if is(command, b"show") => push_show(path, answer),
-        Others::None if is(command, b"json") => push_json(path, answer),
+        Others::None if is_named(command, b"parts") => push_parts(path, answer),
+        Others::None if is_named(command, b"back") => push_back(path, answer),
+        Others::None if is_named(command, b"parent") => push_parent(path, answer),
+        Others::None if is_named(command, b"name") => push_name(path, answer),
+        Others::None if is_named(command, b"stem") => push_stem(path, answer),
+        Others::None if is_named(command, b"ext") => push_extension(path, answer),
+        Others::None if is_named(command, b"ancestors") => push_ancestors(path, answer),
+        Others::None if is_named(command, b"canon") => push_canon(path, answer),
+        Others::None if is_named(command, b"show") => push_show(path, answer),
+        Others::None if is_named(command, b"json") => push_json(path, answer),
 
-        Others::One(bytes) if is(command, b"join") => push_join(path, Path { bytes }, answer),
-        Others::One(bytes) if is(command, b"strip") => push_stripped(path, Path { bytes }, answer),
-        Others::One(bytes) if is(command, b"starts") => push_starts(path, Path { bytes }, answer),
-        Others::One(bytes) if is(command, b"ends") => push_ends(path, Path { bytes }, answer),
-        Others::One(bytes) if is(command, b"cmp") => push_order(path, Path { bytes }, answer),
-        Others::One(letters) if is(command, b"walk") => push_walk(path, letters, answer),
+        Others::One(bytes) if is_named(command, b"join") => push_join(path, Path { bytes }, answer),
+        Others::One(bytes) if is_named(command, b"strip") => push_stripped(
+            path,
+            Path { bytes },
+            answer,
+        ),
+        Others::One(bytes) if is_named(command, b"starts") => push_starts(
+            path,
+            Path { bytes },
+            answer,
+        ),
+        Others::One(bytes) if is_named(command, b"ends") => push_ends(path, Path { bytes }, answer),
+        Others::One(bytes) if is_named(command, b"cmp") => push_order(path, Path { bytes }, answer),
+        Others::One(letters) if is_named(command, b"walk") => push_walk(path, letters, answer),
 
         _ => push_bad_command(answer),
     }

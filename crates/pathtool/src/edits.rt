@@ -9,7 +9,7 @@ ghost use Rattle.pathtool.specs.EditFields.{edits_by_name, edit_of_field, answer
 ghost use Rattle.pathtool.specs.EditFields.{edit_answer};
 ghost use Rattle.pathtool.specs.Steps.{edits_of_fields, edited_answer, words_of};
 
-use crate::fields::{Others, is};
+use crate::fields::{Others, is_named};
 use crate::texts::push_bad_command;
 use path_runs::edits::apply;
 use path_runs::{Answer, Edit};
@@ -25,17 +25,17 @@ fn edit_by_name<'a>(name: &[u8], held: &'a [u8]) -> Option<Edit<'a>>
         ≡ option_map (λ edit. edit held.now) (lookup (bytes_eq name.now) edits_by_name) }
 {
     let held = UnixStr::from_bytes(held);
-    if is(name, b"push:") {
+    if is_named(name, b"push:") {
         Some(Edit::Push(Path::new(held)))
-    } else if is(name, b"pop") {
+    } else if is_named(name, b"pop") {
         Some(Edit::Pop)
-    } else if is(name, b"name:") {
+    } else if is_named(name, b"name:") {
         Some(Edit::SetFileName(held))
-    } else if is(name, b"ext:") {
+    } else if is_named(name, b"ext:") {
         Some(Edit::SetExtension(held))
-    } else if is(name, b"add:") {
+    } else if is_named(name, b"add:") {
         Some(Edit::AddExtension(held))
-    } else if is(name, b"clear") {
+    } else if is_named(name, b"clear") {
         Some(Edit::Clear)
     } else {
         None

@@ -44,8 +44,8 @@ pub fn first_line(input: &[u8]) -> (&[u8], &[u8])
 
 /// Whether a field is this name.
 ///
-/// `is(b"pop", b"pop")` is true.
-pub fn is(field: &[u8], name: &[u8]) -> bool
+/// `is_named(b"pop", b"pop")` is true.
+pub fn is_named(field: &[u8], name: &[u8]) -> bool
     ensures { result ≡ bytes_eq field.now name.now }
 {
     field == name

@@ -5,7 +5,7 @@ ghost use Rattle.std.specs.Prelude.{◌≡◌, ◌+◌, ◌≤◌, ◌++◌, len
 ///
 /// If `out` is `a/..` and `at` is 2, `bc` makes it `a/bc`.
 #[inline]
-pub fn place(out: &mut [u8], at: usize, bytes: &[u8])
+pub fn write_at(out: &mut [u8], at: usize, bytes: &[u8])
     requires { at + length bytes.now ≤ length out.old }
     ensures { out.new ≡ (take at out.old ++ bytes.now) ++ drop (at + length bytes.now) out.old }
 {

@@ -4,8 +4,8 @@ use Rattle.std.specs.Borrow.{Bor}
 use Rattle.unix_path.specs.Order.{rank}
 use Rattle.unix_path.specs.Parts.{Value}
 use Rattle.unix_path.specs.Places.{IsTail}
-use Rattle.unix_path.specs.Scan.{is_idle}
-use Rattle.unix_path.specs.Steps.{AreApart, DiffersAtStart, HasMore, SharesFront}
+use Rattle.unix_path.specs.Scan.{is_filler}
+use Rattle.unix_path.specs.Steps.{AreApart, DiffersAtStart, HasMore, SharesFirst}
 use Rattle.unix_path.specs.declared.pair.Kind.{Kind}
 use Rattle.unix_path.specs.declared.pair.Kind.TheVariants.{Nothing, RootDir, CurDir, ParentDir, Name}
 use Rattle.unix_path.specs.declared.pair.Difference.{Difference}
@@ -28,7 +28,7 @@ first_rank (v ∷ vs) = 1 + rank v
 
 -- x and y are what a and b have behind a cut
 pub record Cuts (a : Bor (List ℕ)) (b : List ℕ) (x : Bor (List ℕ)) (y : List ℕ) : Type 0 where
-  pub shares : SharesFront a.now b x.now y
+  pub shares : SharesFirst a.now b x.now y
   pub shorter : length x.now < length a.now
   pub tail : IsTail x a
 
@@ -40,11 +40,11 @@ Tells a b n (Behind x y) = Cuts a b x y.now
 
 -- `left` is what paths of which a and b stand behind a cut have behind the second
 pub record IsLeft (a : Bor (List ℕ)) (b : List ℕ) (left : Bor (List ℕ)) : Type 0 where
-  pub shares : (s t : List ℕ) → SharesFront s t a.now b → SharesFront s t left.now []
+  pub shares : (s t : List ℕ) → SharesFirst s t a.now b → SharesFirst s t left.now []
   pub tail : IsTail left a
 
 -- what a comparison says of paths of which a and b stand behind a cut
 abbrev pub Compared : Bor (List ℕ) → List ℕ → Comparison → Type 0
-Compared a b (Differ order) = (s t : List ℕ) → SharesFront s t a.now b → AreApart s t order
-Compared a b (StartsWith left) = IsLeft a b left × (is_idle left.now 0 ≡ false)
-Compared a b IsPrefix = (s t : List ℕ) → SharesFront s t a.now b → HasMore s t
+Compared a b (Differ order) = (s t : List ℕ) → SharesFirst s t a.now b → AreApart s t order
+Compared a b (StartsWith left) = IsLeft a b left × (is_filler left.now 0 ≡ false)
+Compared a b IsPrefix = (s t : List ℕ) → SharesFirst s t a.now b → HasMore s t

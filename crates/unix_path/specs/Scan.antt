@@ -5,8 +5,8 @@ use Rattle.std.specs.Prelude.{slice_index, slice_index_or, Option, Some, None}
 use Rattle.unix_path.specs.Parts.{slash, dot}
 
 -- the byte at i is a slash, or a `.` that a slash or the end follows
-abbrev pub is_idle : List ℕ → ℕ → Bool
-is_idle s i =
+abbrev pub is_filler : List ℕ → ℕ → Bool
+is_filler s i =
     slice_index s i == slash
     || (slice_index s i == dot && slice_index_or s (i + 1) slash == slash)
 
@@ -39,6 +39,6 @@ is_break s i =
     slice_index s i == slash && (next == slash || next == dot)
 
 -- the byte between what is kept and what is added, if there is one
-abbrev pub gap_bytes : Option ℕ → List ℕ
-gap_bytes None = []
-gap_bytes (Some b) = b ∷ []
+abbrev pub separator_bytes : Option ℕ → List ℕ
+separator_bytes None = []
+separator_bytes (Some b) = b ∷ []

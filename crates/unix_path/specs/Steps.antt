@@ -10,7 +10,7 @@ use Rattle.unix_path.specs.Order.{values_cmp}
 use Rattle.unix_path.specs.Parts.{slash, is_slash, dot, Part, Value, inner_parts, parts, values}
 use Rattle.unix_path.specs.Prefixes.{Begins}
 use Rattle.unix_path.specs.Rest.{rest}
-use Rattle.unix_path.specs.Scan.{is_idle, EndsInPart}
+use Rattle.unix_path.specs.Scan.{is_filler, EndsInPart}
 
 -- the last piece of s is its last part
 pub record EndsInPiece (s : List ℕ) : Type 0 where
@@ -29,7 +29,7 @@ pub record StepsFirst (s : List ℕ) (n : ℕ) (v : Value) : Type 0 where
   pub in_range : n ≤ length s
   pub value : values s ≡ v ∷ values (drop n s)
   pub takes : EndsInPart s → TakesFirst s (drop n s) v
-  pub busy : 0 < length (drop n s) → is_idle (drop n s) 0 ≡ false
+  pub busy : 0 < length (drop n s) → is_filler (drop n s) 0 ≡ false
 
 -- v is the last value of s, and t is what is left before it
 pub record TakesLast (s t : List ℕ) (v : Value) : Type 0 where
@@ -57,7 +57,7 @@ pub record PastFiller (s t : List ℕ) : Type 0 where
   pub len : ℕ
   pub is : t ≡ drop len s
   pub filler : (at : ℕ) → inner_parts at s ≡ inner_parts (at + len) t
-  pub busy : is_idle t 0 ≡ false
+  pub busy : is_filler t 0 ≡ false
 
 -- the longest string that a and b both begin with has n bytes
 abbrev pub IsAlike : List ℕ → List ℕ → ℕ → Type 0
@@ -74,12 +74,12 @@ pub record DiffersAtStart (a b : List ℕ) (n : ℕ) : Type 0 where
   pub at_ends : piece_rank a n ≡ piece_rank b n → n ≡ 0
 
 -- x and y are what a and b have behind the same values; filler may stand in front of them
-pub record SharesFront (a b x y : List ℕ) : Type 0 where
-  pub front : List Part
+pub record SharesFirst (a b x y : List ℕ) : Type 0 where
+  pub shared : List Part
   pub at : ℕ
   pub is : x ≡ drop at a
-  pub first : parts a ≡ front ++ inner_parts at x
-  pub second : values b ≡ map (λ p. p.value) front ++ inner_values y
+  pub first : parts a ≡ shared ++ inner_parts at x
+  pub second : values b ≡ map (λ p. p.value) shared ++ inner_values y
 
 -- b doesn't begin a, and the first values that differ are in this order
 pub record AreApart (a b : List ℕ) (order : Ordering) : Type 0 where
@@ -112,8 +112,8 @@ pub record WalkFields (source : List ℕ) (start end : ℕ) (has_lead lead_left 
   pub in_order : start ≤ end
   pub in_range : end ≤ length source
   pub ends : EndsInPart (slice_range source start end)
-  pub has_lead_is : has_lead ≡ is_idle source 0
-  pub lead_left_is : lead_left ≡ is_idle (slice_range source start end) 0
+  pub has_lead_is : has_lead ≡ is_filler source 0
+  pub lead_left_is : lead_left ≡ is_filler (slice_range source start end) 0
 
 -- what the fields of a walk say of each other, as one fact that no search unfolds
 unfoldable pub IsWalk : List ℕ → ℕ → ℕ → Bool → Bool → Type 0

@@ -7,12 +7,12 @@ ghost use Rattle.unix_path.specs.Order.{values_cmp};
 ghost use Rattle.unix_path.specs.Parts.{dot, values};
 ghost use Rattle.unix_path.specs.Places.{IsTail};
 ghost use Rattle.unix_path.specs.Prefixes.{Begins};
-ghost use Rattle.unix_path.specs.Scan.{is_idle};
+ghost use Rattle.unix_path.specs.Scan.{is_filler};
 ghost use Rattle.unix_path.specs.Steps.{begins_piece, piece_rank, DiffersAtStart, IsAlike};
-ghost use Rattle.unix_path.specs.Steps.{IsAlike-prop, PastFiller, SharesFront};
+ghost use Rattle.unix_path.specs.Steps.{IsAlike-prop, PastFiller, SharesFirst};
 
-use crate::cursor::long_idle_len;
-use crate::scan::{begins_with_parent, is_idle};
+use crate::cursor::long_filler_len;
+use crate::scan::{begins_with_parent, is_filler};
 use std::cmp::Ordering;
 use unix_bytes::search::{common_len, near_common_len};
 
@@ -60,11 +60,11 @@ enum Kind {
 // What follows the filler at the beginning of a string that stands behind a cut.
 #[inline]
 pub(crate) fn past_filler(bytes: &[u8]) -> &[u8]
-    ensures lead { is_idle result.now 0 ≡ false }
+    ensures lead { is_filler result.now 0 ≡ false }
     ensures behind { PastFiller bytes.now result.now }
     ensures tail { IsTail result bytes.entry }
 {
-    &bytes[long_idle_len(bytes)..]
+    &bytes[long_filler_len(bytes)..]
 }
 
 // How many bytes follow the filler behind a cut: none exactly if no part follows. It isn't inlined,
@@ -120,7 +120,7 @@ impl Kind {
             Kind::Nothing
         } else if path[0] == b'/' {
             Kind::RootDir
-        } else if is_idle(path, 0) {
+        } else if is_filler(path, 0) {
             Kind::CurDir
         } else if begins_with_parent(path) {
             Kind::ParentDir
@@ -174,7 +174,7 @@ impl<'a, 'b> Pair<'a, 'b> {
     pub(crate) fn left(first: &'a [u8], second: &'b [u8]) -> Option<&'a [u8]>
         requires { 0 < length second.now }
         ensures begins { IsSome result ↔ Begins (values second.now) (values first.now) }
-        ensures left { IfSome result (λ left. SharesFront first.now second.now left.now []) }
+        ensures left { IfSome result (λ left. SharesFirst first.now second.now left.now []) }
         ensures tail { IfSome result (λ left. IsTail left first.entry) }
     {
         let (common, len) = (common_len(first, second), second.len());
@@ -239,7 +239,7 @@ impl<'a> Comparison<'a> {
     // The order of two paths of which `a` and `b` stand behind a cut.
     #[inline(never)]
     pub(crate) fn order_behind_cut(a: &[u8], b: &[u8]) -> Ordering
-        ensures { (s t : List ℕ) → SharesFront s t a.now b.now
+        ensures { (s t : List ℕ) → SharesFirst s t a.now b.now
             → result ≡ values_cmp (values s) (values t) }
     {
         match Comparison::behind_cut(a, b) {
@@ -253,7 +253,7 @@ impl<'a> Comparison<'a> {
     // stand behind a cut.
     #[inline(never)]
     fn left_behind_cut(a: &'a [u8], b: &[u8]) -> Option<&'a [u8]>
-        ensures begins { (s t : List ℕ) → SharesFront s t a.now b.now
+        ensures begins { (s t : List ℕ) → SharesFirst s t a.now b.now
             → IsSome result ↔ Begins (values t) (values s) }
         ensures left { IfSome result (λ left. IsLeft a.entry b.now left) }
     {

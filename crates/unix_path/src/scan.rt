@@ -9,7 +9,8 @@ ghost use Rattle.unix_path.specs.Edits.{dot_before, stem_end_of};
 ghost use Rattle.unix_path.specs.Extensions.{has_slash, name_end_of};
 ghost use Rattle.unix_path.specs.Joins.{is_open};
 ghost use Rattle.unix_path.specs.Parts.{inner_parts, parts, Normal, ParentDir};
-ghost use Rattle.unix_path.specs.Scan.{begins_with_parent, ends_with_parent, gap_bytes, is_idle};
+ghost use Rattle.unix_path.specs.Scan.{begins_with_parent, ends_with_parent, separator_bytes};
+ghost use Rattle.unix_path.specs.Scan.{is_filler};
 ghost use Rattle.unix_path.specs.Scan.{is_break, is_trailing};
 
 use std::simd::prelude::*;
@@ -23,9 +24,9 @@ use unix_bytes::search::{first_place, past_last_of_two};
 ///
 /// In `a/./b` it is true at 1, 2 and 3.
 #[inline]
-pub fn is_idle(bytes: &[u8], at: usize) -> bool
+pub fn is_filler(bytes: &[u8], at: usize) -> bool
     requires { at < length bytes.now }
-    ensures { result ≡ is_idle bytes.now at }
+    ensures { result ≡ is_filler bytes.now at }
 {
     bytes[at] == b'/' || (bytes[at] == b'.' && (at + 1 == bytes.len() || bytes[at + 1] == b'/'))
 }
@@ -51,14 +52,14 @@ pub fn is_trailing(bytes: &[u8], at: usize) -> bool
 ///
 /// For `/./a` it is 3, and for `.a` it is 0.
 #[inline]
-pub fn idle_len(bytes: &[u8]) -> usize
+pub fn filler_len(bytes: &[u8]) -> usize
     ensures in_range { result ≤ length bytes.now }
-    ensures idle { (at : ℕ) →
+    ensures filler { (at : ℕ) →
         inner_parts at bytes.now ≡ inner_parts (at + result) (drop result bytes.now) }
-    ensures busy { result < length bytes.now → is_idle bytes.now result ≡ false }
+    ensures busy { result < length bytes.now → is_filler bytes.now result ≡ false }
 {
     let mut len = 0;
-    while len < bytes.len() && is_idle(bytes, len) {
+    while len < bytes.len() && is_filler(bytes, len) {
         len += 1;
     }
     len
@@ -265,9 +266,9 @@ pub fn parent_step(bytes: &[u8]) -> usize
     ensures in_range { result ≤ length bytes.now }
     ensures parts { parts bytes.now ≡ record { start = 0; end = 2; value = ParentDir }
         ∷ inner_parts result (drop result bytes.now) }
-    ensures busy { result < length bytes.now → is_idle bytes.now result ≡ false }
+    ensures busy { result < length bytes.now → is_filler bytes.now result ≡ false }
 {
-    2 + idle_len(&bytes[2..])
+    2 + filler_len(&bytes[2..])
 }
 
 /// How many bytes the first part has, which is a name, and how many it takes with the filler behind
@@ -277,17 +278,17 @@ pub fn parent_step(bytes: &[u8]) -> usize
 #[inline(always)]
 pub fn name_step(bytes: &[u8]) -> (usize, usize)
     requires some { 0 < length bytes.now }
-    requires busy { is_idle bytes.now 0 ≡ false }
+    requires busy { is_filler bytes.now 0 ≡ false }
     requires no_parent { begins_with_parent bytes.now ≡ false }
     ensures in_order { result.0 ≤ result.1 }
     ensures in_range { result.1 ≤ length bytes.now }
     ensures parts { parts bytes.now
         ≡ record { start = 0; end = result.0; value = Normal (take result.0 bytes.now) }
         ∷ inner_parts result.1 (drop result.1 bytes.now) }
-    ensures busy { result.1 < length bytes.now → is_idle bytes.now result.1 ≡ false }
+    ensures busy { result.1 < length bytes.now → is_filler bytes.now result.1 ≡ false }
 {
     let end = first_place(bytes, b'/');
-    let step = end + idle_len(&bytes[end..]);
+    let step = end + filler_len(&bytes[end..]);
     (end, step)
 }
 
@@ -357,7 +358,7 @@ pub fn is_open(bytes: &[u8]) -> bool
 /// Before `rs` it is a dot.
 #[inline]
 pub fn dot_before(extension: &[u8]) -> Option<u8>
-    ensures { gap_bytes result ≡ dot_before extension.now }
+    ensures { separator_bytes result ≡ dot_before extension.now }
 {
     if extension.is_empty() {
         return None;

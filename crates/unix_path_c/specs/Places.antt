@@ -4,15 +4,15 @@ use Rattle.unix_path.specs.Parts.{parts, values}
 use Rattle.unix_path.specs.Rest.{rest}
 use Rattle.unix_path.specs.Names.{file_name_of}
 use Rattle.unix_path.specs.Edits.{last_start_of}
-use Rattle.unix_path_c.specs.declared.places.Place.{Place}
+use Rattle.unix_path_c.specs.declared.places.Span.{Span}
 
 -- the place just after the last byte of the stretch
-abbrev pub place_end : Place → ℕ
-place_end place = place.start + place.length
+abbrev pub span_end : Span → ℕ
+span_end span = span.start + span.length
 
 -- the path's bytes in the stretch
-abbrev pub place_bytes : List ℕ → Place → List ℕ
-place_bytes path place = take place.length (drop place.start path)
+abbrev pub span_bytes : List ℕ → Span → List ℕ
+span_bytes path span = take span.length (drop span.start path)
 
 -- the place where the file name starts
 unfoldable pub name_start_of : List ℕ → Option ℕ

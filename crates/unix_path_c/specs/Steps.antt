@@ -2,7 +2,7 @@
 use Rattle.std.specs.Prelude.{◌≡◌, ◌≤◌, ◌<◌, ℕ, false, List, [], ◌∷◌, ◌++◌, length, take, drop}
 use Rattle.unix_path.specs.Parts.{Normal, Value, inner_parts, parts, value_bytes, values}
 use Rattle.unix_path.specs.Rest.{rest}
-use Rattle.unix_path.specs.Scan.{is_idle, EndsInPart}
+use Rattle.unix_path.specs.Scan.{is_filler, EndsInPart}
 use Rattle.unix_path_c.specs.Walks.{InOrder, kind_of, bytes_left, part_bytes, part_end, part_in}
 use Rattle.unix_path_c.specs.Walks.{part_value, parts_left}
 use Rattle.unix_path_c.specs.declared.walks.Part.{Part}
@@ -18,7 +18,7 @@ pub record BeginsInPart (s : List ℕ) (size step kind : ℕ) : Type 0 where
   pub in_range : step ≤ length s
   pub parts_are : parts s ≡ record { start = 0; end = size; value = value }
       ∷ inner_parts step (drop step s)
-  pub busy : step < length s → is_idle s step ≡ false
+  pub busy : step < length s → is_filler s step ≡ false
 
 -- s ends where its last part ends, which is the name from `start` on; before that name the first
 -- `before` bytes are left

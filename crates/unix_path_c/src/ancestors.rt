@@ -1,9 +1,9 @@
 //! A path and its parents, one at a time, which a caller walks by a length.
 ghost use Rattle.std.specs.Prelude.{◌≡◌, ◌↔◌, ◌≤◌, [], ◌∷◌, length, IsFalse, IsTrue};
 ghost use Rattle.unix_path_c.specs.Ancestors.{ancestors_left};
-ghost use Rattle.unix_path_c.specs.Places.{place_bytes, place_end};
+ghost use Rattle.unix_path_c.specs.Places.{span_bytes, span_end};
 
-use crate::places::Place;
+use crate::places::Span;
 use unix_path::Path;
 
 // What is told as the length of the next ancestor if there is none. No path has as many bytes.
@@ -22,15 +22,15 @@ const NONE_LEFT: usize = usize::MAX;
 pub extern "C" fn unix_path_next_ancestor(
     path: &[u8],
     next: &mut usize,
-    ancestor: &mut Place,
+    ancestor: &mut Span,
 ) -> bool
     ensures ended { IsFalse result ↔ (ancestors_left path.now next.old ≡ []) }
     ensures next_stays { IsFalse result → next.new ≡ next.old }
     ensures ancestor_stays { IsFalse result → ancestor.new ≡ ancestor.old }
     ensures ancestors { IsTrue result → ancestors_left path.now next.old
-        ≡ place_bytes path.now ancestor.new ∷ ancestors_left path.now next.new }
+        ≡ span_bytes path.now ancestor.new ∷ ancestors_left path.now next.new }
     ensures start { IsTrue result → ancestor.new.start ≡ 0 }
-    ensures inside { IsTrue result → place_end ancestor.new ≤ length path.now }
+    ensures inside { IsTrue result → span_end ancestor.new ≤ length path.now }
 {
     let length = *next;
     if length > path.len() {
@@ -41,6 +41,6 @@ pub extern "C" fn unix_path_next_ancestor(
         Some(parent) => parent.bytes.len(),
         None => NONE_LEFT,
     };
-    *ancestor = Place { start: 0, length };
+    *ancestor = Span { start: 0, length };
     true
 }

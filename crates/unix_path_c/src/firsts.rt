@@ -3,7 +3,7 @@
 ghost use Rattle.std.specs.Prelude.{◌<◌, length, IfSome};
 ghost use Rattle.unix_path_c.specs.Steps.{BeginsInPart};
 
-use unix_path::scan::{begins_with_parent, is_idle, is_trailing, name_step, parent_step};
+use unix_path::scan::{begins_with_parent, is_filler, is_trailing, name_step, parent_step};
 
 // The kind of a `..`.
 pub(crate) const PARENT_DIR: u32 = 2;
@@ -18,7 +18,7 @@ pub(crate) fn first_part(bytes: &[u8]) -> Option<(usize, usize, u32)>
     requires { 0 < length bytes.now }
     ensures { IfSome result (λ part. BeginsInPart bytes.now part.0 part.1 part.2) }
 {
-    if is_idle(bytes, 0) || is_trailing(bytes, bytes.len() - 1) {
+    if is_filler(bytes, 0) || is_trailing(bytes, bytes.len() - 1) {
         return None;
     }
     if begins_with_parent(bytes) {

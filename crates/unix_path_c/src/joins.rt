@@ -3,24 +3,24 @@ ghost use Rattle.std.specs.Prelude.{◌≡◌, ◌↔◌, ◌⊎◌, ◌≤◌, 
 ghost use Rattle.unix_path.specs.Edits.{with_extension_of, with_name_of};
 ghost use Rattle.unix_path.specs.Extensions.{added_extension_of, has_slash};
 ghost use Rattle.unix_path.specs.Joins.{join_of};
-ghost use Rattle.unix_path.specs.Scan.{gap_bytes};
+ghost use Rattle.unix_path.specs.Scan.{separator_bytes};
 ghost use Rattle.unix_path_c.specs.Layout.{layout_bytes};
 ghost use Rattle.unix_path_c.specs.Refusals.{IsLength, separator, too_long};
 ghost use Rattle.path_runs.specs.Buffer.{buffer_after};
 
-use crate::writing::{gap_len, place_gap, told_len};
-use unix_bytes::buffers::place;
+use crate::writing::{separator_len, told_len, write_separator};
+use unix_bytes::buffers::write_at;
 use unix_path::Path;
 use unix_path::scan::{dot_before, has_slash, is_open};
 
 // The answer if an extension has a slash.
 const SEPARATOR: usize = usize::MAX - 6;
 
-// What an answer is made of: a beginning, then a gap of one byte or none, and an end.
+// What an answer is made of: a beginning, then a separator of one byte or none, and an end.
 #[derive(Clone, Copy)]
 struct Layout<'a> {
     beginning: &'a [u8],
-    gap: Option<u8>,
+    separator: Option<u8>,
     end: &'a [u8],
 }
 
@@ -30,9 +30,9 @@ impl Layout<'_> {
     fn total_len(&self) -> usize
         ensures total { result ≡ length (layout_bytes self.now) }
         ensures sum { result ≡ length self.now.beginning.now
-            + length (gap_bytes self.now.gap) + length self.now.end.now }
+            + length (separator_bytes self.now.separator) + length self.now.end.now }
     {
-        self.beginning.len() + gap_len(self.gap) + self.end.len()
+        self.beginning.len() + separator_len(self.separator) + self.end.len()
     }
 
     // Writes the whole to the beginning of the buffer if it has room for all of it, and gives how
@@ -46,9 +46,9 @@ impl Layout<'_> {
         if total > out.len() {
             return total;
         }
-        place(out, 0, self.beginning);
-        place_gap(out, self.beginning.len(), self.gap);
-        place(out, total - self.end.len(), self.end);
+        write_at(out, 0, self.beginning);
+        write_separator(out, self.beginning.len(), self.separator);
+        write_at(out, total - self.end.len(), self.end);
         total
     }
 }
@@ -62,7 +62,7 @@ fn join_layout<'a>(base: Path<'a>, path: Path<'a>) -> Layout<'a>
     if path.has_root() {
         return Layout {
             beginning: &[],
-            gap: None,
+            separator: None,
             end,
         };
     }
@@ -70,13 +70,13 @@ fn join_layout<'a>(base: Path<'a>, path: Path<'a>) -> Layout<'a>
     if is_open(beginning) {
         return Layout {
             beginning,
-            gap: None,
+            separator: None,
             end,
         };
     }
     Layout {
         beginning,
-        gap: Some(b'/'),
+        separator: Some(b'/'),
         end,
     }
 }
@@ -88,7 +88,7 @@ fn whole_layout<'a>(path: Path<'a>) -> Layout<'a>
 {
     Layout {
         beginning: path.bytes,
-        gap: None,
+        separator: None,
         end: &[],
     }
 }
@@ -103,7 +103,7 @@ fn extension_layout<'a>(path: Path<'a>, extension: &'a [u8]) -> Layout<'a>
     };
     Layout {
         beginning: &path.bytes[..end],
-        gap: dot_before(extension),
+        separator: dot_before(extension),
         end: extension,
     }
 }
@@ -122,7 +122,7 @@ fn added_layout<'a>(path: Path<'a>, extension: &'a [u8]) -> Layout<'a>
     };
     Layout {
         beginning: &path.bytes[..end],
-        gap: Some(b'.'),
+        separator: Some(b'.'),
         end: extension,
     }
 }

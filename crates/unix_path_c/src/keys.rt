@@ -10,7 +10,7 @@ ghost use Rattle.unix_path_c.specs.Refusals.{IsLength, no_end, not_a_key, too_lo
 
 use crate::writing::told_len;
 use path_keys::{is_key, write_key, write_path_of};
-use unix_bytes::buffers::place;
+use unix_bytes::buffers::write_at;
 use unix_path::Path;
 
 // The answer if bytes are the key of no path.
@@ -70,7 +70,7 @@ pub extern "C" fn unix_path_from_key(key: &[u8], out: &mut [u8]) -> usize
 
 // Writes the end of the range of a key to the beginning of the buffer if it has room for all of it,
 // and gives how many bytes it has.
-fn place_end(out: &mut [u8], key: &[u8]) -> usize
+fn write_end(out: &mut [u8], key: &[u8]) -> usize
     requires some { 0 < length key.now }
     requires is_key { IsKey key.now }
     ensures out { IfSome (end_of key.now) (λ end. out.new ≡ buffer_after end out.old) }
@@ -79,7 +79,7 @@ fn place_end(out: &mut [u8], key: &[u8]) -> usize
 {
     let last = key.len() - 1;
     if last < out.len() {
-        place(out, 0, key);
+        write_at(out, 0, key);
         // The last byte of a key is less than 4.
         out[last] = key[last] + 1;
     }
@@ -116,5 +116,5 @@ pub extern "C" fn unix_path_key_end(key: &[u8], out: &mut [u8]) -> usize
     if !is_key(key) {
         return NOT_A_KEY;
     }
-    place_end(out, key)
+    write_end(out, key)
 }

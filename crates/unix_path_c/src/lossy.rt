@@ -6,7 +6,7 @@ ghost use Rattle.unix_path_c.specs.Refusals.{IsLength, too_long};
 ghost use Rattle.unix_path_c.specs.SaturatedSize.{saturated_size};
 ghost use Rattle.path_runs.specs.Buffer.{buffer_after};
 
-use crate::writing::{place_both, told_len};
+use crate::writing::{told_len, write_both};
 use unix_bytes::lossy::Utf8Lossy;
 
 // What is shown for these broken bytes: U+FFFD, or nothing if there are none.
@@ -44,7 +44,7 @@ fn write_lossy(path: &[u8], out: &mut [u8])
     let mut at = 0_usize;
     for chunk in Utf8Lossy::from_bytes(path).chunks() {
         let shown = replacement_for(chunk.broken);
-        at = place_both(out, at, chunk.valid.as_bytes(), shown);
+        at = write_both(out, at, chunk.valid.as_bytes(), shown);
     }
 }
 

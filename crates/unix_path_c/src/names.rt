@@ -8,7 +8,7 @@ use unix_bytes::search::past_last;
 
 // Whether the byte is neither a slash nor a dot.
 #[inline]
-fn is_plain(byte: u8) -> bool
+fn is_ordinary(byte: u8) -> bool
     ensures no_slash { IsTrue result → (byte == slash) ≡ false }
     ensures no_dot { IsTrue result → (byte == dot) ≡ false }
 {
@@ -22,14 +22,14 @@ pub(crate) fn last_name(bytes: &[u8]) -> Option<(usize, usize)>
     requires { 0 < length bytes.now }
     ensures { IfSome result (λ name. EndsInName bytes.now name.0 name.1) }
 {
-    if !is_plain(bytes[bytes.len() - 1]) {
+    if !is_ordinary(bytes[bytes.len() - 1]) {
         return None;
     }
     let start = past_last(bytes, b'/');
     if start < 2 {
         return Some((start, start));
     }
-    if is_plain(bytes[start - 2]) {
+    if is_ordinary(bytes[start - 2]) {
         return Some((start - 1, start));
     }
     None

@@ -8,7 +8,7 @@ ghost use Rattle.unix_path.specs.Parents.{parent_of};
 ghost use Rattle.unix_path.specs.Names.{file_name_of, stem_of, extension_of, file_prefix_of};
 ghost use Rattle.unix_path.specs.Extensions.{name_end_of};
 ghost use Rattle.unix_path.specs.Prefixes.{Begins, stripped_of};
-ghost use Rattle.unix_path_c.specs.Places.{place_end, place_bytes, name_start_of, last_end_of};
+ghost use Rattle.unix_path_c.specs.Places.{span_end, span_bytes, name_start_of, last_end_of};
 
 use unix_path::Path;
 
@@ -19,20 +19,20 @@ use unix_path::Path;
 /// That of `tmp` in `/tmp//foo/` starts at 1 and has 3 bytes.
 #[derive(Clone, Copy)]
 #[repr(C)]
-pub struct Place {
+pub struct Span {
     /// The place of the first byte.
     pub start: usize,
     /// How many bytes there are.
     pub length: usize,
 }
 
-// The place of these bytes, which end at `end`.
+// The span of these bytes, which end at `end`.
 #[inline]
-fn place_at_end(end: usize, bytes: &[u8]) -> Place
+fn span_at_end(end: usize, bytes: &[u8]) -> Span
     requires { length bytes.now ≤ end }
     ensures { result ≡ record { start = end - length bytes.now; length = length bytes.now } }
 {
-    Place {
+    Span {
         start: end - bytes.len(),
         length: bytes.len(),
     }
@@ -46,70 +46,70 @@ pub(crate) fn last_end(path: Path<'_>) -> usize
     path.components().as_path().bytes.len()
 }
 
-// The place of the file name.
+// The span of the file name.
 #[inline]
-fn name_place(path: Path<'_>) -> Option<Place>
-    ensures bytes { option_map (place_bytes path.entry.bytes.now) result
+fn name_span(path: Path<'_>) -> Option<Span>
+    ensures bytes { option_map (span_bytes path.entry.bytes.now) result
         ≡ file_name_of (values path.entry.bytes.now) }
-    ensures start { option_map (λ place. place.start) result ≡ name_start_of path.entry.bytes.now }
-    ensures end { option_map place_end result ≡ name_end_of path.entry.bytes.now }
-    ensures inside { IfSome result (λ place. place_end place ≤ length path.entry.bytes.now) }
+    ensures start { option_map (λ span. span.start) result ≡ name_start_of path.entry.bytes.now }
+    ensures end { option_map span_end result ≡ name_end_of path.entry.bytes.now }
+    ensures inside { IfSome result (λ span. span_end span ≤ length path.entry.bytes.now) }
 {
     let Some(name) = path.file_name() else {
         return None;
     };
-    Some(place_at_end(last_end(path), name.bytes))
+    Some(span_at_end(last_end(path), name.bytes))
 }
 
-/// Puts the place of the parent into `place`: the path without its last part. False if there is no
-/// part or the last is the root, and then `place` stays as it was.
+/// Puts the span of the parent into `span`: the path without its last part. False if there is no
+/// part or the last is the root, and then `span` stays as it was.
 ///
 /// The parent is a prefix of the path; that of a single name is empty. `path` isn't null, even if
 /// its length is 0. Does not allocate. As Rust's `Path::parent`.
 ///
 /// For `/tmp//foo/.` it starts at 0 and has 4 bytes: `/tmp`.
 #[unsafe(no_mangle)]
-pub extern "C" fn unix_path_parent(path: &[u8], place: &mut Place) -> bool
+pub extern "C" fn unix_path_parent(path: &[u8], span: &mut Span) -> bool
     ensures value { result ≡ is_some (parent_of path.now) }
-    ensures kept { OnFalse result (place.new ≡ place.old) }
-    ensures bytes { OnTrue result (Some (place_bytes path.now place.new) ≡ parent_of path.now) }
-    ensures start { OnTrue result (place.new.start ≡ 0) }
-    ensures inside { OnTrue result (place_end place.new ≤ length path.now) }
+    ensures kept { OnFalse result (span.new ≡ span.old) }
+    ensures bytes { OnTrue result (Some (span_bytes path.now span.new) ≡ parent_of path.now) }
+    ensures start { OnTrue result (span.new.start ≡ 0) }
+    ensures inside { OnTrue result (span_end span.new ≤ length path.now) }
 {
     let Some(parent) = (Path { bytes: path }).parent() else {
         return false;
     };
-    *place = Place {
+    *span = Span {
         start: 0,
         length: parent.bytes.len(),
     };
     true
 }
 
-/// Puts the place of the last part into `place`, if it is a name. False if there is no part or the
-/// last is the root, `.` or `..`, and then `place` stays as it was.
+/// Puts the span of the last part into `span`, if it is a name. False if there is no part or the
+/// last is the root, `.` or `..`, and then `span` stays as it was.
 ///
 /// `path` isn't null, even if its length is 0. Does not allocate. As Rust's `Path::file_name`.
 ///
 /// For `a//foo.txt/.` it starts at 3 and has 7 bytes: `foo.txt`.
 #[unsafe(no_mangle)]
-pub extern "C" fn unix_path_file_name(path: &[u8], place: &mut Place) -> bool
+pub extern "C" fn unix_path_file_name(path: &[u8], span: &mut Span) -> bool
     ensures value { result ≡ is_some (file_name_of (values path.now)) }
-    ensures kept { OnFalse result (place.new ≡ place.old) }
+    ensures kept { OnFalse result (span.new ≡ span.old) }
     ensures bytes { OnTrue result
-        (Some (place_bytes path.now place.new) ≡ file_name_of (values path.now)) }
-    ensures start { OnTrue result (Some place.new.start ≡ name_start_of path.now) }
-    ensures inside { OnTrue result (place_end place.new ≤ length path.now) }
+        (Some (span_bytes path.now span.new) ≡ file_name_of (values path.now)) }
+    ensures start { OnTrue result (Some span.new.start ≡ name_start_of path.now) }
+    ensures inside { OnTrue result (span_end span.new ≤ length path.now) }
 {
-    let Some(name) = name_place(Path { bytes: path }) else {
+    let Some(name) = name_span(Path { bytes: path }) else {
         return false;
     };
-    *place = name;
+    *span = name;
     true
 }
 
-/// Puts the place of the stem into `place`: the file name up to its last dot, or all of it if that
-/// dot is its first byte, or if there is no dot. False if there is no file name, and then `place`
+/// Puts the span of the stem into `span`: the file name up to its last dot, or all of it if that
+/// dot is its first byte, or if there is no dot. False if there is no file name, and then `span`
 /// stays as it was.
 ///
 /// The stem starts where the file name does. `path` isn't null, even if its length is 0. Does not
@@ -117,30 +117,30 @@ pub extern "C" fn unix_path_file_name(path: &[u8], place: &mut Place) -> bool
 ///
 /// For `a/foo.tar.gz` it starts at 2 and has 7 bytes: `foo.tar`.
 #[unsafe(no_mangle)]
-pub extern "C" fn unix_path_file_stem(path: &[u8], place: &mut Place) -> bool
+pub extern "C" fn unix_path_file_stem(path: &[u8], span: &mut Span) -> bool
     ensures value { result ≡ is_some (stem_of (values path.now)) }
-    ensures kept { OnFalse result (place.new ≡ place.old) }
+    ensures kept { OnFalse result (span.new ≡ span.old) }
     ensures bytes { OnTrue result
-        (Some (place_bytes path.now place.new) ≡ stem_of (values path.now)) }
-    ensures start { OnTrue result (Some place.new.start ≡ name_start_of path.now) }
-    ensures inside { OnTrue result (place_end place.new ≤ length path.now) }
+        (Some (span_bytes path.now span.new) ≡ stem_of (values path.now)) }
+    ensures start { OnTrue result (Some span.new.start ≡ name_start_of path.now) }
+    ensures inside { OnTrue result (span_end span.new ≤ length path.now) }
 {
     let path = Path { bytes: path };
-    let Some(name) = name_place(path) else {
+    let Some(name) = name_span(path) else {
         return false;
     };
     let Some(stem) = path.file_stem() else {
         return false;
     };
-    *place = Place {
+    *span = Span {
         start: name.start,
         length: stem.bytes.len(),
     };
     true
 }
 
-/// Puts the place of the extension into `place`: the file name's bytes after its last dot. False if
-/// that dot is its first byte, or there is no dot or no file name, and then `place` stays as it
+/// Puts the span of the extension into `span`: the file name's bytes after its last dot. False if
+/// that dot is its first byte, or there is no dot or no file name, and then `span` stays as it
 /// was.
 ///
 /// The extension ends where the file name does; that of `foo.` is empty. `path` isn't null, even if
@@ -148,27 +148,27 @@ pub extern "C" fn unix_path_file_stem(path: &[u8], place: &mut Place) -> bool
 ///
 /// For `a/foo.tar.gz` it starts at 10 and has 2 bytes: `gz`.
 #[unsafe(no_mangle)]
-pub extern "C" fn unix_path_extension(path: &[u8], place: &mut Place) -> bool
+pub extern "C" fn unix_path_extension(path: &[u8], span: &mut Span) -> bool
     ensures value { result ≡ is_some (extension_of (values path.now)) }
-    ensures kept { OnFalse result (place.new ≡ place.old) }
+    ensures kept { OnFalse result (span.new ≡ span.old) }
     ensures bytes { OnTrue result
-        (Some (place_bytes path.now place.new) ≡ extension_of (values path.now)) }
-    ensures end { OnTrue result (Some (place_end place.new) ≡ name_end_of path.now) }
-    ensures inside { OnTrue result (place_end place.new ≤ length path.now) }
+        (Some (span_bytes path.now span.new) ≡ extension_of (values path.now)) }
+    ensures end { OnTrue result (Some (span_end span.new) ≡ name_end_of path.now) }
+    ensures inside { OnTrue result (span_end span.new ≤ length path.now) }
 {
     let path = Path { bytes: path };
-    let Some(name) = name_place(path) else {
+    let Some(name) = name_span(path) else {
         return false;
     };
     let Some(extension) = path.extension() else {
         return false;
     };
-    *place = place_at_end(name.start + name.length, extension.bytes);
+    *span = span_at_end(name.start + name.length, extension.bytes);
     true
 }
 
-/// Puts the place of the prefix into `place`: the file name up to its first dot after its first
-/// byte, or all of it if there is none. False if there is no file name, and then `place` stays as
+/// Puts the span of the prefix into `span`: the file name up to its first dot after its first
+/// byte, or all of it if there is none. False if there is no file name, and then `span` stays as
 /// it was.
 ///
 /// The prefix starts where the file name does. `path` isn't null, even if its length is 0. Does not
@@ -176,30 +176,30 @@ pub extern "C" fn unix_path_extension(path: &[u8], place: &mut Place) -> bool
 ///
 /// For `a/foo.tar.gz` it starts at 2 and has 3 bytes: `foo`.
 #[unsafe(no_mangle)]
-pub extern "C" fn unix_path_file_prefix(path: &[u8], place: &mut Place) -> bool
+pub extern "C" fn unix_path_file_prefix(path: &[u8], span: &mut Span) -> bool
     ensures value { result ≡ is_some (file_prefix_of (values path.now)) }
-    ensures kept { OnFalse result (place.new ≡ place.old) }
+    ensures kept { OnFalse result (span.new ≡ span.old) }
     ensures bytes { OnTrue result
-        (Some (place_bytes path.now place.new) ≡ file_prefix_of (values path.now)) }
-    ensures start { OnTrue result (Some place.new.start ≡ name_start_of path.now) }
-    ensures inside { OnTrue result (place_end place.new ≤ length path.now) }
+        (Some (span_bytes path.now span.new) ≡ file_prefix_of (values path.now)) }
+    ensures start { OnTrue result (Some span.new.start ≡ name_start_of path.now) }
+    ensures inside { OnTrue result (span_end span.new ≤ length path.now) }
 {
     let path = Path { bytes: path };
-    let Some(name) = name_place(path) else {
+    let Some(name) = name_span(path) else {
         return false;
     };
     let Some(prefix) = path.file_prefix() else {
         return false;
     };
-    *place = Place {
+    *span = Span {
         start: name.start,
         length: prefix.bytes.len(),
     };
     true
 }
 
-/// Puts the place of what follows `base` into `place`, if the parts of `base` begin those of the
-/// path. False if they don't, and then `place` stays as it was.
+/// Puts the span of what follows `base` into `span`, if the parts of `base` begin those of the
+/// path. False if they don't, and then `span` stays as it was.
 ///
 /// Whole parts count: `foo/bar` has no prefix `foo/ba`. What follows ends where the path's last
 /// part does. If all parts match, it has no bytes. Neither pointer is null, even if its length is
@@ -208,18 +208,18 @@ pub extern "C" fn unix_path_file_prefix(path: &[u8], place: &mut Place) -> bool
 ///
 /// For `/a//b/` by `/a` it starts at 4 and has 1 byte: `b`.
 #[unsafe(no_mangle)]
-pub extern "C" fn unix_path_strip_prefix(path: &[u8], base: &[u8], place: &mut Place) -> bool
+pub extern "C" fn unix_path_strip_prefix(path: &[u8], base: &[u8], span: &mut Span) -> bool
     ensures value { IsTrue result ↔ Begins (values base.now) (values path.now) }
-    ensures kept { OnFalse result (place.new ≡ place.old) }
+    ensures kept { OnFalse result (span.new ≡ span.old) }
     ensures bytes { OnTrue result
-        (place_bytes path.now place.new ≡ stripped_of path.now base.now) }
-    ensures end { OnTrue result (place_end place.new ≡ last_end_of path.now) }
-    ensures inside { OnTrue result (place_end place.new ≤ length path.now) }
+        (span_bytes path.now span.new ≡ stripped_of path.now base.now) }
+    ensures end { OnTrue result (span_end span.new ≡ last_end_of path.now) }
+    ensures inside { OnTrue result (span_end span.new ≤ length path.now) }
 {
     let path = Path { bytes: path };
     let Ok(left) = path.strip_prefix(Path { bytes: base }) else {
         return false;
     };
-    *place = place_at_end(last_end(path), left.bytes);
+    *span = span_at_end(last_end(path), left.bytes);
     true
 }

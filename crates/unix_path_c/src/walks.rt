@@ -4,14 +4,14 @@ ghost use Rattle.std.specs.Prelude.{IsFalse, IsTrue};
 ghost use Rattle.unix_path.specs.Parts.{parts, value_bytes, values};
 ghost use Rattle.unix_path.specs.Rest.{rest};
 ghost use Rattle.unix_path.specs.Views.{value_of};
-ghost use Rattle.unix_path_c.specs.Places.{place_bytes, place_end};
+ghost use Rattle.unix_path_c.specs.Places.{span_bytes, span_end};
 ghost use Rattle.unix_path_c.specs.Steps.{TakenBehind, TakenInFront};
 ghost use Rattle.unix_path_c.specs.Walks.{InOrder, bytes_left, kind_of as kind_of_value};
 ghost use Rattle.unix_path_c.specs.Walks.{part_bytes, part_end, part_in, part_value, parts_left};
 
 use crate::firsts::{NORMAL, PARENT_DIR, first_part};
 use crate::names::last_name;
-use crate::places::Place;
+use crate::places::Span;
 use unix_path::{Component, Path};
 
 /// A walk over the parts of a path, from both ends: what is left stands between two places.
@@ -227,14 +227,14 @@ pub extern "C" fn unix_path_next_back(path: &[u8], walk: &mut Walk, part: &mut P
 ///
 /// For `/tmp//foo/` after one `unix_path_next` it is 8 bytes from 1 on, `tmp//foo`.
 #[unsafe(no_mangle)]
-pub extern "C" fn unix_path_as_path(path: &[u8], walk: &Walk, place: &mut Place)
-    ensures bytes { place_bytes path.now place.new ≡ rest (bytes_left path.now walk.now) 0 0 }
-    ensures values { values (place_bytes path.now place.new)
+pub extern "C" fn unix_path_as_path(path: &[u8], walk: &Walk, span: &mut Span)
+    ensures bytes { span_bytes path.now span.new ≡ rest (bytes_left path.now walk.now) 0 0 }
+    ensures values { values (span_bytes path.now span.new)
         ≡ values (bytes_left path.now walk.now) }
-    ensures start { place.new.start ≡ min walk.now.front (length path.now) }
-    ensures in_range { place_end place.new ≤ length path.now }
+    ensures start { span.new.start ≡ min walk.now.front (length path.now) }
+    ensures in_range { span_end span.new ≤ length path.now }
 {
-    *place = Place {
+    *span = Span {
         start: walk.front.min(path.len()),
         length: left_of(path, walk).components().as_path().bytes.len(),
     };

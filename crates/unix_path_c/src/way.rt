@@ -8,7 +8,7 @@ ghost use Rattle.path_within.specs.Way.{way_of};
 ghost use Rattle.unix_path_c.specs.Refusals.{IsLength, no_memory, no_way};
 
 use crate::within::NO_MEMORY;
-use crate::writing::place_whole;
+use crate::writing::write_whole;
 use path_within::way::way;
 use std::alloc::Global;
 use unix_path::Path;
@@ -50,7 +50,7 @@ pub extern "C" fn unix_path_way(alloc: Global, from: &[u8], to: &[u8], out: &mut
     ensures refused { result ≡ no_memory → out.new ≡ out.old }
 {
     match way(alloc, Path::from_bytes(from), Path::from_bytes(to)) {
-        Ok(Some(found)) => place_whole(out, found.as_path().bytes),
+        Ok(Some(found)) => write_whole(out, found.as_path().bytes),
         Ok(None) => NO_WAY,
         Err(_) => NO_MEMORY,
     }

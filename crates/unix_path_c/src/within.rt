@@ -12,7 +12,7 @@ ghost use Rattle.unix_path_c.specs.Refusals.{too_long};
 ghost use Rattle.path_runs.specs.Buffer.{buffer_after};
 
 use crate::joins::unix_path_join;
-use crate::writing::{place_whole, told_len};
+use crate::writing::{told_len, write_whole};
 use path_within::resolved::resolved;
 use path_within::within::{has_root_or_up, join_within};
 use path_within::{Request, RequestError, WithinError};
@@ -55,7 +55,7 @@ pub extern "C" fn unix_path_resolved(alloc: Global, path: &[u8], out: &mut [u8])
     ensures refused { result ≡ no_memory → out.new ≡ out.old }
 {
     match resolved(alloc, Path::from_bytes(path)) {
-        Ok(resolved) => place_whole(out, resolved.as_path().bytes),
+        Ok(resolved) => write_whole(out, resolved.as_path().bytes),
         Err(_) => NO_MEMORY,
     }
 }
@@ -94,7 +94,7 @@ pub extern "C" fn unix_path_join_within(
     ensures refused { result ≡ no_memory → out.new ≡ out.old }
 {
     match join_within(alloc, Path::from_bytes(root), Path::from_bytes(request)) {
-        Ok(joined) => place_whole(out, joined.as_path().bytes),
+        Ok(joined) => write_whole(out, joined.as_path().bytes),
         Err(WithinError::Escapes) => ESCAPES,
         Err(WithinError::Memory(_)) => NO_MEMORY,
     }

@@ -11,19 +11,19 @@ struct Walk {
 /// Where an answer stands, and of which kind a part is.
 #[repr(C)]
 #[derive(Default)]
-struct Place {
+struct Span {
     start: usize,
     length: usize,
     kind: u32,
 }
 
-type Step = unsafe extern "C" fn(Start, usize, *mut Walk, *mut Place) -> bool;
+type Step = unsafe extern "C" fn(Start, usize, *mut Walk, *mut Span) -> bool;
 
 extern "C" {
-    fn unix_path_next(path: Start, length: usize, walk: *mut Walk, part: *mut Place) -> bool;
-    fn unix_path_next_back(path: Start, length: usize, walk: *mut Walk, part: *mut Place) -> bool;
-    fn unix_path_parent(path: Start, length: usize, place: *mut Place) -> bool;
-    fn unix_path_file_name(path: Start, length: usize, place: *mut Place) -> bool;
+    fn unix_path_next(path: Start, length: usize, walk: *mut Walk, part: *mut Span) -> bool;
+    fn unix_path_next_back(path: Start, length: usize, walk: *mut Walk, part: *mut Span) -> bool;
+    fn unix_path_parent(path: Start, length: usize, span: *mut Span) -> bool;
+    fn unix_path_file_name(path: Start, length: usize, span: *mut Span) -> bool;
     fn unix_path_starts_with(a: Start, a_length: usize, b: Start, b_length: usize) -> bool;
     fn unix_path_equal(a: Start, a_length: usize, b: Start, b_length: usize) -> bool;
     fn unix_path_compare(a: Start, a_length: usize, b: Start, b_length: usize) -> i32;
@@ -39,7 +39,7 @@ extern "C" {
     ) -> usize;
 }
 
-impl Place {
+impl Span {
     fn of(self, path: &[u8]) -> &[u8] {
         // SAFETY: the library answers places in the path.
         unsafe { path.get_unchecked(self.start..self.start + self.length) }
@@ -47,13 +47,10 @@ impl Place {
 }
 
 // The bytes at the place that the call answers.
-fn find(
-    call: unsafe extern "C" fn(Start, usize, *mut Place) -> bool,
-    path: &[u8],
-) -> Option<&[u8]> {
-    let mut place = Place::default();
+fn find(call: unsafe extern "C" fn(Start, usize, *mut Span) -> bool, path: &[u8]) -> Option<&[u8]> {
+    let mut span = Span::default();
     // SAFETY: the path is read, and the place is written, whose kind is left as it is.
-    unsafe { call(path.as_ptr(), path.len(), &mut place) }.then(|| place.of(path))
+    unsafe { call(path.as_ptr(), path.len(), &mut span) }.then(|| span.of(path))
 }
 
 pub fn parent(path: &[u8]) -> Option<&[u8]> {
@@ -71,7 +68,7 @@ fn take_parts(step: Step, path: &[u8]) -> impl Iterator<Item = &[u8]> {
         back: path.len(),
     };
     std::iter::from_fn(move || {
-        let mut part = Place::default();
+        let mut part = Span::default();
         // SAFETY: the path is read, and both records are written.
         let is_taken = unsafe { step(path.as_ptr(), path.len(), &mut walk, &mut part) };
         is_taken.then(|| part.of(path))

@@ -22,7 +22,7 @@ pub struct Part {
 
 /// Where an answer stands in a path.
 #[repr(C)]
-pub struct Place {
+pub struct Span {
     pub(super) start: usize,
     pub(super) length: usize,
 }
@@ -38,7 +38,7 @@ pub struct Chunk {
 pub type TruthOfOne = unsafe extern "C" fn(Start, usize) -> bool;
 pub type TruthOfTwo = unsafe extern "C" fn(Start, usize, Start, usize) -> bool;
 pub type StepOfWalk = unsafe extern "C" fn(Start, usize, *mut Walk, *mut Part) -> bool;
-pub type PlaceInOne = unsafe extern "C" fn(Start, usize, *mut Place) -> bool;
+pub type SpanInOne = unsafe extern "C" fn(Start, usize, *mut Span) -> bool;
 pub type BytesOfOne = unsafe extern "C" fn(Start, usize, *mut u8, usize) -> usize;
 pub type BytesOfTwo = unsafe extern "C" fn(Start, usize, Start, usize, *mut u8, usize) -> usize;
 
@@ -48,20 +48,20 @@ extern "C" {
         -> bool;
     pub fn unix_path_next_back(path: Start, path_length: usize, walk: *mut Walk, part: *mut Part)
         -> bool;
-    pub fn unix_path_as_path(path: Start, path_length: usize, walk: *const Walk, place: *mut Place);
+    pub fn unix_path_as_path(path: Start, path_length: usize, walk: *const Walk, span: *mut Span);
 
     pub fn unix_path_next_ancestor(path: Start, path_length: usize, next: *mut usize,
-        ancestor: *mut Place) -> bool;
+        ancestor: *mut Span) -> bool;
     pub fn unix_path_next_chunk(path: Start, path_length: usize, next: *mut usize,
         chunk: *mut Chunk) -> bool;
 
-    pub fn unix_path_parent(path: Start, path_length: usize, place: *mut Place) -> bool;
-    pub fn unix_path_file_name(path: Start, path_length: usize, place: *mut Place) -> bool;
-    pub fn unix_path_file_stem(path: Start, path_length: usize, place: *mut Place) -> bool;
-    pub fn unix_path_extension(path: Start, path_length: usize, place: *mut Place) -> bool;
-    pub fn unix_path_file_prefix(path: Start, path_length: usize, place: *mut Place) -> bool;
+    pub fn unix_path_parent(path: Start, path_length: usize, span: *mut Span) -> bool;
+    pub fn unix_path_file_name(path: Start, path_length: usize, span: *mut Span) -> bool;
+    pub fn unix_path_file_stem(path: Start, path_length: usize, span: *mut Span) -> bool;
+    pub fn unix_path_extension(path: Start, path_length: usize, span: *mut Span) -> bool;
+    pub fn unix_path_file_prefix(path: Start, path_length: usize, span: *mut Span) -> bool;
     pub fn unix_path_strip_prefix(path: Start, path_length: usize, base: Start, base_length: usize,
-        place: *mut Place) -> bool;
+        span: *mut Span) -> bool;
 
     pub fn unix_path_starts_with(a: Start, a_length: usize, b: Start, b_length: usize) -> bool;
     pub fn unix_path_ends_with(a: Start, a_length: usize, b: Start, b_length: usize) -> bool;

@@ -1,5 +1,5 @@
 -- Bytes of keys and paths, many at once.
-pub mod PlaceLemmas
+pub mod PutLemmas
 pub mod DecodedLaneLemmas
 pub mod BreakLaneLemmas
 pub mod SameLaneLemmas

@@ -2,7 +2,7 @@
 pub mod OrderLemmas
 pub mod IntervalLemmas
 mod FeedLemmas
-pub mod TellLemmas
+pub mod HashInjectiveLemmas
 pub mod ParentBeforeLemmas
 pub mod AncestorPrefixLemmas
 pub mod TableLemmas

@@ -4,7 +4,7 @@ pub mod SpellLemmas
 pub mod LeanLemmas
 pub mod OwnSpellingLemmas
 pub mod ReadBackLemmas
-pub mod PlainLemmas
+pub mod UnslashedLemmas
 pub mod JoinAllLemmas
 -- Of this crate alone.
 pub mod FitLemmas

@@ -8,7 +8,7 @@ ghost use Rattle.path_runs.specs.Overlay.{overlay};
 ghost use Rattle.path_runs.specs.Spelling.{spelling_of};
 
 use crate::gaps::{first_gap, past_gap};
-use unix_bytes::buffers::place;
+use unix_bytes::buffers::write_at;
 use unix_path::Path;
 
 // How many bytes of the path are kept at the beginning of its spelling: those before the first gap,
@@ -69,12 +69,12 @@ fn write_stretches(bytes: &[u8], gap: usize, out: &mut [u8]) -> usize
         out.new ≡ buffer_after whole out.old }
     ensures len { result ≡ length (take gap bytes.now ++ slashed_parts (drop gap bytes.now)) }
 {
-    place(out, 0, &bytes[..gap]);
+    write_at(out, 0, &bytes[..gap]);
     let mut at = gap;
     let mut start = past_gap(bytes, gap);
     while start < bytes.len() {
         let stretch = stretch_at(bytes, start);
-        place(out, at, stretch);
+        write_at(out, at, stretch);
         at += stretch.len();
         start = past_gap(bytes, start - 1 + stretch.len());
     }

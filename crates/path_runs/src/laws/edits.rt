@@ -31,11 +31,11 @@ pub fn push_then_pop()
     ensures last { NewNameIsLast }
 {}
 
-/// Setting a plain extension sets the extension, and keeps the stem and the parent.
+/// Setting a simple extension sets the extension, and keeps the stem and the parent.
 ///
-/// An extension is plain if it has at least one byte, and neither a dot nor a slash. The law speaks
-/// of paths that have a file name: on all others the edit answers false. Calling it does nothing.
-/// Not in Rust's std.
+/// An extension is simple if it has at least one byte, and neither a dot nor a slash. The law
+/// speaks of paths that have a file name: on all others the edit answers false. Calling it does
+/// nothing. Not in Rust's std.
 ///
 /// `/a/b.c` with the extension `d` is `/a/b.d`.
 pub fn extension_set()

@@ -159,7 +159,7 @@ fn first_up<'a>(path: Path<'a>) -> Option<Component<'a>>
     path.components().find(|part| *part == Component::ParentDir)
 }
 
-fn place_up(path: Path<'_>) -> Option<usize>
+fn place_of_up(path: Path<'_>) -> Option<usize>
     ensures none { IfNone result (All (λ v. v ≢ ParentDir) (values path.entry.bytes.now)) }
     ensures there { IfSome result (λ i.
         slice_get (values path.entry.bytes.now) i ≡ Some ParentDir) }
@@ -255,7 +255,7 @@ fn parts_by_number(rt: HostRuntime) {
 fn parts_that_are_sought(rt: HostRuntime) {
     let long = path("/a/../b//c/.");
     assert!(rt; first_up(long) == Some(Component::ParentDir));
-    assert!(rt; place_up(long) == Some(2) && place_up(path("a/b")) == None);
+    assert!(rt; place_of_up(long) == Some(2) && place_of_up(path("a/b")) == None);
     assert!(rt; goes_up(long) && !goes_up(path("a/..b")));
     assert!(rt; all_names(path("a/b")) && !all_names(path("./a")));
 }

@@ -1,10 +1,10 @@
 //! Paths beside the lists of their parts, and whether two are compared as these lists are.
-use super::plain::{Part, left_between, parts_of};
+use super::naive::{Part, left_between, parts_of};
 use std::alloc::{AllocError, Global};
 use std::cmp::Ordering;
 use unix_path::Path;
 
-// A path, and its parts by a plain reading.
+// A path, and its parts by a naive reading.
 #[derive(Drop)]
 pub(super) struct ListedPath<'a> {
     pub(super) path: Path<'a>,

@@ -1,5 +1,5 @@
-//! Random byte strings, set and added as extensions of others, beside the plain reading.
-use super::plain::{is_name, last_dot, parts_of};
+//! Random byte strings, set and added as extensions of others, beside the naive reading.
+use super::naive::{is_name, last_dot, parts_of};
 use crate::random::Random;
 use std::alloc::{AllocError, Global};
 use std::test::Fail;
@@ -104,7 +104,7 @@ fn is_added(
     )
 }
 
-// Whether the extension is set and added as the plain reading has it.
+// Whether the extension is set and added as the naive reading has it.
 fn is_extended(alloc: Global, bytes: &[u8], extension: &[u8]) -> Result<bool, AllocError> {
     let (path, text) = (Path::from_bytes(bytes), UnixStr::from_bytes(extension));
     let ends = ends_of(alloc, bytes)?;

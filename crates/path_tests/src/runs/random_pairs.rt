@@ -1,5 +1,5 @@
 //! Random pairs of byte strings: whether two paths answer as their lists of parts do.
-use super::plain::{left_between, parts_of};
+use super::naive::{left_between, parts_of};
 use crate::random::Random;
 use std::alloc::{AllocError, Global};
 use std::test::Fail;

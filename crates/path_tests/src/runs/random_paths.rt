@@ -1,5 +1,5 @@
-//! Random byte strings: whether each answer of a path is that of the plain reading.
-use super::plain::{Part, are_parts, first_dot, is_name, last_dot, left_between, parts_of};
+//! Random byte strings: whether each answer of a path is that of the naive reading.
+use super::naive::{Part, are_parts, first_dot, is_name, last_dot, left_between, parts_of};
 use crate::random::Random;
 use path_runs::canonical::{canonical, write_canonical};
 use std::alloc::{AllocError, Global};
@@ -38,7 +38,11 @@ fn has_parents<'a>(path: Path<'a>, parts: &[Part<'a>]) -> bool {
 }
 
 // Whether the parts are these, from both ends.
-fn has_parts<'a>(alloc: Global, path: Path<'a>, parts: &[Part<'a>]) -> Result<bool, AllocError> {
+fn has_parts_from_both_ends<'a>(
+    alloc: Global,
+    path: Path<'a>,
+    parts: &[Part<'a>],
+) -> Result<bool, AllocError> {
     let listed: Vec<Component<'_>> = path.components().collect(alloc)?;
     let mut back: Vec<Component<'_>> = path.components().rev().collect(alloc)?;
     back.reverse();
@@ -127,7 +131,7 @@ fn is_shown(alloc: Global, path: Path<'_>, text: Option<&str>) -> Result<bool, A
     Ok(is_lossy(path, text, shown.as_str()) && lossy.as_str() == shown.as_str())
 }
 
-// Whether the path of these bytes answers as the plain reading has it, and is text exactly if std's
+// Whether the path of these bytes answers as the naive reading has it, and is text exactly if std's
 // `from_utf8` says so.
 fn is_read(alloc: Global, bytes: &[u8]) -> Result<bool, AllocError> {
     let path = Path::from_bytes(bytes);
@@ -137,7 +141,7 @@ fn is_read(alloc: Global, bytes: &[u8]) -> Result<bool, AllocError> {
         has_parents(path, &parts)
             && has_name(path, &parts)
             && has_json(alloc, path, text)
-            && has_parts(alloc, path, &parts)?
+            && has_parts_from_both_ends(alloc, path, &parts)?
             && is_spelled(alloc, path, &parts)?
             && is_shown(alloc, path, text)?,
     )

@@ -1,5 +1,5 @@
 //! All short paths, each walked by all short lists of turns.
-use super::plain::{Part, is_part, left_between, parts_of};
+use super::naive::{Part, is_part, left_between, parts_of};
 use super::turns_of;
 use crate::strings::strings_over;
 use path_runs::walk::{Turn, walk};
@@ -68,7 +68,7 @@ fn is_walked<'a>(
     )
 }
 
-// How many of the lists of turns walk the path as its plain reading says.
+// How many of the lists of turns walk the path as its naive reading says.
 fn count_walks(alloc: Global, path: &[u8], lists: &[Vec<Turn>]) -> Result<usize, AllocError> {
     let parts = parts_of(alloc, path)?;
     let mut count = 0_usize;

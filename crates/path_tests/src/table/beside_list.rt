@@ -1,4 +1,4 @@
-//! Random calls of a table, beside a plain list of the same paths and values.
+//! Random calls of a table, beside a list of the same paths and values.
 use crate::random::Random;
 use path_table::PathTable;
 use std::alloc::{AllocError, Global};
@@ -22,11 +22,11 @@ fn path_from(alloc: Global, random: &mut Random) -> Result<PathBuf, AllocError> 
 
 // Paths, no two of them equal, and their values.
 #[derive(Drop)]
-struct PlainList {
+struct Listed {
     files: Vec<(PathBuf, u32)>,
 }
 
-impl PlainList {
+impl Listed {
     fn place(&self, path: &PathBuf) -> Option<usize> {
         self.files.iter().position(|file| file.0 == *path)
     }
@@ -77,20 +77,20 @@ fn answers_alike(
     alloc: Global,
     random: &mut Random,
     table: &mut PathTable<u32>,
-    plain: &mut PlainList,
+    listed: &mut Listed,
     value: u32,
 ) -> Result<bool, AllocError> {
     let path = path_from(alloc, random)?;
     Ok(match random.next() % 8 {
         0..3 => {
             let other = path.as_path().to_path_buf(alloc)?;
-            table.insert(path, value)? == plain.insert(other, value)?
+            table.insert(path, value)? == listed.insert(other, value)?
         }
-        3 => table.remove(&path) == plain.remove(&path),
-        4 => table.get(&path).copied() == plain.get(&path),
+        3 => table.remove(&path) == listed.remove(&path),
+        4 => table.get(&path).copied() == listed.get(&path),
         _ => {
             let found = table.under(alloc, &path)?;
-            plain.has_under(path.as_path(), found.as_slice())
+            listed.has_under(path.as_path(), found.as_slice())
         }
     })
 }
@@ -100,12 +100,12 @@ fn answers_alike(
 fn calls_alike(alloc: Global, seed: u64) -> Result<u32, AllocError> {
     let mut random = Random::new(seed);
     let mut table = PathTable::new(alloc);
-    let mut plain = PlainList {
+    let mut listed = Listed {
         files: Vec::new(alloc),
     };
     for value in 0..CALLS {
-        let alike = answers_alike(alloc, &mut random, &mut table, &mut plain, value)?;
-        if !alike || table.len() != plain.files.len() {
+        let alike = answers_alike(alloc, &mut random, &mut table, &mut listed, value)?;
+        if !alike || table.len() != listed.files.len() {
             return Ok(value);
         }
     }

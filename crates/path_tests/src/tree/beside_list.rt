@@ -1,4 +1,4 @@
-//! Random calls of a tree, beside a plain list of the same paths and values.
+//! Random calls of a tree, beside a list of the same paths and values.
 use crate::random::Random;
 use path_keys::{PathKey, path_of};
 use path_tree::PathTree;
@@ -31,11 +31,11 @@ fn first_behind<'a>(path: Path<'a>, base: Path<'_>) -> Option<Component<'a>> {
 
 // Paths, no two of them equal, and their values.
 #[derive(Drop)]
-struct PlainList {
+struct Listed {
     files: Vec<(PathBuf, u32)>,
 }
 
-impl PlainList {
+impl Listed {
     fn place(&self, path: Path<'_>) -> Option<usize> {
         self.files.iter().position(|file| file.0.as_path() == path)
     }
@@ -130,16 +130,16 @@ fn moves_alike(
     alloc: Global,
     random: &mut Random,
     tree: &mut PathTree<u32>,
-    plain: &mut PlainList,
+    listed: &mut Listed,
     from: Path<'_>,
 ) -> Result<bool, AllocError> {
     let target = path_from(alloc, random)?;
     let to = target.as_path();
-    let is_refused = to.starts_with(from) || plain.count_under(to) > 0;
+    let is_refused = to.starts_with(from) || listed.count_under(to) > 0;
     match tree.move_under(&PathKey::of(alloc, from)?, &PathKey::of(alloc, to)?) {
         Ok(count) => {
-            let is_alike = !is_refused && count == plain.count_under(from);
-            for file in plain.files.iter_mut() {
+            let is_alike = !is_refused && count == listed.count_under(from);
+            for file in listed.files.iter_mut() {
                 let moved = match file.0.as_path().strip_prefix(from) {
                     Ok(rest) => Some(to.join(alloc, rest)?),
                     Err(_) => None,
@@ -148,28 +148,28 @@ fn moves_alike(
                     file.0 = path;
                 }
             }
-            Ok(is_alike && has_all(tree, plain)?)
+            Ok(is_alike && has_all(tree, listed)?)
         }
-        Err(_) => Ok(is_refused && has_all(tree, plain)?),
+        Err(_) => Ok(is_refused && has_all(tree, listed)?),
     }
 }
 
 fn are_alike(found: Option<(Path<'_>, &u32)>, want: Option<(Path<'_>, u32)>) -> bool {
     match (found, want) {
-        (Some(near), Some(plain)) => near.0 == plain.0 && *near.1 == plain.1,
+        (Some(near), Some(listed)) => near.0 == listed.0 && *near.1 == listed.1,
         (None, None) => true,
         _ => false,
     }
 }
 
 // Whether the tree has each file of the list.
-fn has_all(tree: &PathTree<u32>, plain: &PlainList) -> Result<bool, AllocError> {
-    for (path, value) in &plain.files {
+fn has_all(tree: &PathTree<u32>, listed: &Listed) -> Result<bool, AllocError> {
+    for (path, value) in &listed.files {
         if tree.get_path(path.as_path())? != Some(value) {
             return Ok(false);
         }
     }
-    Ok(tree.len() == plain.files.len())
+    Ok(tree.len() == listed.files.len())
 }
 
 // Inserts the value at the path and another at a random path into both, and says whether they are
@@ -178,14 +178,14 @@ fn extends_alike(
     alloc: Global,
     random: &mut Random,
     tree: &mut PathTree<u32>,
-    plain: &mut PlainList,
+    listed: &mut Listed,
     file: (Path<'_>, u32),
 ) -> Result<bool, AllocError> {
     let other = path_from(alloc, random)?;
     let files = [file, (other.as_path(), file.1.wrapping_add(CALLS)), file];
     tree.extend(files.iter().copied())?;
-    plain.insert_all(alloc, files.as_slice())?;
-    has_all(tree, plain)
+    listed.insert_all(alloc, files.as_slice())?;
+    has_all(tree, listed)
 }
 
 // Whether the tree has what a tree of three random paths lacks, as the list says it: as many
@@ -194,9 +194,9 @@ fn lacks_alike(
     alloc: Global,
     random: &mut Random,
     tree: &PathTree<u32>,
-    plain: &PlainList,
+    listed: &Listed,
 ) -> Result<bool, AllocError> {
-    let mut other = PlainList {
+    let mut other = Listed {
         files: Vec::new(alloc),
     };
     let mut others = PathTree::new(alloc);
@@ -206,7 +206,7 @@ fn lacks_alike(
         other.insert(path, value)?;
     }
     let mut count = 0usize;
-    for (path, _) in &plain.files {
+    for (path, _) in &listed.files {
         if other.place(path.as_path()).is_none() {
             count = count.wrapping_add(1);
         }
@@ -217,22 +217,22 @@ fn lacks_alike(
             return Ok(false);
         };
         let path = path.as_path();
-        if other.place(path).is_some() || plain.get(path) != Some(**value) {
+        if other.place(path).is_some() || listed.get(path) != Some(**value) {
             return Ok(false);
         }
     }
-    Ok(found.len() == count && changes_alike(tree, plain, &others, &other)?)
+    Ok(found.len() == count && changes_alike(tree, listed, &others, &other)?)
 }
 
 // Whether the trees have as many files with different values as the lists.
 fn changes_alike(
     tree: &PathTree<u32>,
-    plain: &PlainList,
+    listed: &Listed,
     others: &PathTree<u32>,
-    other: &PlainList,
+    other: &Listed,
 ) -> Result<bool, AllocError> {
     let mut count = 0usize;
-    for (path, value) in &plain.files {
+    for (path, value) in &listed.files {
         let is_changed = match other.get(path.as_path()) {
             Some(found) => found != *value,
             None => false,
@@ -249,7 +249,7 @@ fn changes_alike(
 fn has_children(
     alloc: Global,
     tree: &PathTree<u32>,
-    plain: &PlainList,
+    listed: &Listed,
     base: Path<'_>,
 ) -> Result<bool, AllocError> {
     let found = tree.children(&PathKey::of(alloc, base)?)?;
@@ -260,12 +260,12 @@ fn has_children(
         };
         let path = path.as_path();
         let is_below = path.starts_with(base) && path.components().count() == depth;
-        let is_found = plain.count_under(path) > 0 && plain.get(path) == value.copied();
+        let is_found = listed.count_under(path) > 0 && listed.get(path) == value.copied();
         if !is_below || !is_found {
             return Ok(false);
         }
     }
-    Ok(found.len() == plain.count_children(base))
+    Ok(found.len() == listed.count_children(base))
 }
 
 // Makes one call of the tree and one of the list, and says whether they answer alike.
@@ -273,26 +273,26 @@ fn answers_alike(
     alloc: Global,
     random: &mut Random,
     tree: &mut PathTree<u32>,
-    plain: &mut PlainList,
+    listed: &mut Listed,
     value: u32,
 ) -> Result<bool, AllocError> {
     let owned = path_from(alloc, random)?;
     let path = owned.as_path();
     let key = PathKey::of(alloc, path)?;
     Ok(match random.next() % 19 {
-        0..3 => tree.insert(path, value)? == plain.insert(path.to_path_buf(alloc)?, value)?,
-        3 => tree.remove(&key) == plain.remove(path),
-        4 => tree.remove_path(path)? == plain.remove(path),
-        5 => tree.get(&key).copied() == plain.get(path),
-        6 => tree.contains(&key) == plain.get(path).is_some(),
-        7 => tree.get_path(path)?.copied() == plain.get(path),
-        8 => tree.under(&key)?.count() == plain.count_under(path),
-        9 => extends_alike(alloc, random, tree, plain, (path, value))?,
-        11 => lacks_alike(alloc, random, tree, plain)?,
-        12 | 13 => has_children(alloc, tree, plain, path)?,
-        14 | 15 => moves_alike(alloc, random, tree, plain, path)?,
-        10 => tree.remove_under(&key) == plain.remove_under(path) && has_all(tree, plain)?,
-        _ => are_alike(tree.nearest(path)?, plain.nearest(path)),
+        0..3 => tree.insert(path, value)? == listed.insert(path.to_path_buf(alloc)?, value)?,
+        3 => tree.remove(&key) == listed.remove(path),
+        4 => tree.remove_path(path)? == listed.remove(path),
+        5 => tree.get(&key).copied() == listed.get(path),
+        6 => tree.contains(&key) == listed.get(path).is_some(),
+        7 => tree.get_path(path)?.copied() == listed.get(path),
+        8 => tree.under(&key)?.count() == listed.count_under(path),
+        9 => extends_alike(alloc, random, tree, listed, (path, value))?,
+        11 => lacks_alike(alloc, random, tree, listed)?,
+        12 | 13 => has_children(alloc, tree, listed, path)?,
+        14 | 15 => moves_alike(alloc, random, tree, listed, path)?,
+        10 => tree.remove_under(&key) == listed.remove_under(path) && has_all(tree, listed)?,
+        _ => are_alike(tree.nearest(path)?, listed.nearest(path)),
     })
 }
 
@@ -301,12 +301,12 @@ fn answers_alike(
 fn calls_alike(alloc: Global, seed: u64) -> Result<u32, AllocError> {
     let mut random = Random::new(seed);
     let mut tree = PathTree::new(alloc);
-    let mut plain = PlainList {
+    let mut listed = Listed {
         files: Vec::new(alloc),
     };
     for value in 0..CALLS {
-        let alike = answers_alike(alloc, &mut random, &mut tree, &mut plain, value)?;
-        if !alike || tree.len() != plain.files.len() {
+        let alike = answers_alike(alloc, &mut random, &mut tree, &mut listed, value)?;
+        if !alike || tree.len() != listed.files.len() {
             return Ok(value);
         }
     }

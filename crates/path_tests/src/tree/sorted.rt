@@ -20,7 +20,10 @@ static RISING: [(&'static [&'static str], bool); 10] = [
 ];
 
 // The paths and their places, from 1.
-fn placed(alloc: Global, paths: &[&'static str]) -> Result<Vec<(Path<'static>, u32)>, AllocError> {
+fn with_places(
+    alloc: Global,
+    paths: &[&'static str],
+) -> Result<Vec<(Path<'static>, u32)>, AllocError> {
     let mut items = Vec::new(alloc);
     let mut place = 0u32;
     for path in paths {
@@ -32,7 +35,7 @@ fn placed(alloc: Global, paths: &[&'static str]) -> Result<Vec<(Path<'static>, u
 
 // Whether the paths make a tree of them all, or are refused, as the row says.
 fn is_made(alloc: Global, paths: &[&'static str], rise: bool) -> Result<bool, AllocError> {
-    let items = placed(alloc, paths)?;
+    let items = with_places(alloc, paths)?;
     match PathTree::from_sorted(alloc, items.iter().copied()) {
         Ok(tree) => {
             for (path, place) in items.iter() {

@@ -1,5 +1,5 @@
 //! All pairs of short paths: joins within, and ways.
-use super::{is_joined, plain};
+use super::{is_joined, naive};
 use crate::strings::strings_over;
 use path_within::resolved::resolved;
 use path_within::way::way;
@@ -20,7 +20,7 @@ struct ShortPath<'a> {
     path: Path<'a>,
     // What the call resolves it to.
     resolved: PathBuf,
-    // What a plain reading makes of it, and the pieces that this leaves.
+    // What a naive reading makes of it, and the pieces that this leaves.
     want: Vec<u8>,
     pieces: Vec<&'a [u8]>,
     climbs: bool,
@@ -33,10 +33,10 @@ fn read_path(alloc: Global, bytes: &[u8]) -> Result<ShortPath<'_>, AllocError> {
     Ok(ShortPath {
         path,
         resolved: resolved(alloc, path)?,
-        want: plain::resolved_of(alloc, bytes)?,
-        pieces: plain::pieces_left(alloc, bytes)?,
-        climbs: plain::climbs(bytes),
-        has_root_or_up: plain::has_root_or_up(bytes),
+        want: naive::resolved_of(alloc, bytes)?,
+        pieces: naive::pieces_left(alloc, bytes)?,
+        climbs: naive::climbs(bytes),
+        has_root_or_up: naive::has_root_or_up(bytes),
     })
 }
 
@@ -63,7 +63,7 @@ fn stays_within(
         Ok(left) => left.bytes == bytes_of(&request.resolved),
         Err(_) => false,
     };
-    let want = plain::resolved_of(alloc, bytes_of(whole))?;
+    let want = naive::resolved_of(alloc, bytes_of(whole))?;
     Ok(is_behind && bytes_of(&joined) == want.as_slice())
 }
 
@@ -87,7 +87,7 @@ fn stays_plain(
     }
 }
 
-// Whether there is no way by a plain reading: one has a root and the other has none, or a `..` is
+// Whether there is no way by a naive reading: one has a root and the other has none, or a `..` is
 // left of the first.
 fn has_no_way(from: &ShortPath<'_>, to: &ShortPath<'_>) -> bool {
     let shared = from
@@ -100,11 +100,11 @@ fn has_no_way(from: &ShortPath<'_>, to: &ShortPath<'_>) -> bool {
         .pieces
         .iter()
         .skip(shared)
-        .any(|piece| plain::is_up(piece));
-    plain::is_rooted(from.path.bytes) != plain::is_rooted(to.path.bytes) || is_above
+        .any(|piece| naive::is_up(piece));
+    naive::is_rooted(from.path.bytes) != naive::is_rooted(to.path.bytes) || is_above
 }
 
-// Whether the way leads from the first path to the other, or there is none by a plain reading too.
+// Whether the way leads from the first path to the other, or there is none by a naive reading too.
 fn leads_there(
     alloc: Global,
     from: &ShortPath<'_>,
@@ -113,7 +113,7 @@ fn leads_there(
     match way(alloc, from.path, to.path)? {
         Some(steps) => {
             let joined = from.path.join(alloc, steps.as_path())?;
-            let end = plain::resolved_of(alloc, bytes_of(&joined))?;
+            let end = naive::resolved_of(alloc, bytes_of(&joined))?;
             Ok(end.as_slice() == to.want.as_slice() && !has_no_way(from, to))
         }
         None => Ok(has_no_way(from, to)),

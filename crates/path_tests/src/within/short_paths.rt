@@ -1,5 +1,5 @@
 //! All short paths, resolved.
-use super::plain;
+use super::naive;
 use crate::strings::strings_over;
 use path_runs::canonical::canonical;
 use path_within::resolved::resolved;
@@ -55,14 +55,14 @@ fn all_resolve_to(alloc: Global, path: Path<'_>, want: &[u8]) -> Result<bool, Al
     )
 }
 
-// Whether the path resolves to what the plain reading gives, which isn't longer than the path, is
+// Whether the path resolves to what the naive reading gives, which isn't longer than the path, is
 // normal, and resolves to itself; and whether the path climbs exactly if that reading says so.
 fn is_resolved(alloc: Global, bytes: &[u8]) -> Result<bool, AllocError> {
     let path = Path::from_bytes(bytes);
-    let want = plain::resolved_of(alloc, bytes)?;
+    let want = naive::resolved_of(alloc, bytes)?;
     Ok(
         want.len() <= bytes.len()
-            && climbs(path) == plain::climbs(bytes)
+            && climbs(path) == naive::climbs(bytes)
             && all_resolve_to(alloc, path, &want)?
             && stays(alloc, &want)?,
     )

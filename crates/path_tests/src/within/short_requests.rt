@@ -1,5 +1,5 @@
-//! All short strings as requests and as paths below roots, beside a plain reading.
-use super::plain;
+//! All short strings as requests and as paths below roots, beside a naive reading.
+use super::naive;
 use crate::strings::strings_over;
 use path_within::{Request, RequestError, Root, StripError};
 use std::alloc::{AllocError, Global};
@@ -20,7 +20,7 @@ fn has_names(request: Request<'_>, path: &[u8], names: &[&[u8]]) -> bool {
     };
     is_last
         && request.is_root() == names.is_empty()
-        && request.ends_in_slash() == plain::ends_in_slash(path)
+        && request.ends_in_slash() == naive::ends_in_slash(path)
 }
 
 // Whether the root contains the path, and these names are left of it without the root.
@@ -33,7 +33,7 @@ fn is_stripped(
     let Ok(request) = root.strip(path) else {
         return Ok(false);
     };
-    let left = plain::names_below(alloc, request.as_path().bytes)?;
+    let left = naive::names_below(alloc, request.as_path().bytes)?;
     let is_same = left.len() == names.len()
         && left
             .iter()
@@ -66,7 +66,7 @@ fn is_joined(
     request: Request<'_>,
     names: &[&[u8]],
 ) -> Result<bool, AllocError> {
-    let want = plain::joined(alloc, root.as_path().bytes, names)?;
+    let want = naive::joined(alloc, root.as_path().bytes, names)?;
     let joined = root.join(alloc, request)?;
     root.join_into(buffer, request)?;
     let is_made = joined.as_path().bytes == want.as_slice()
@@ -75,11 +75,11 @@ fn is_joined(
     Ok(is_made && is_stripped(alloc, root, buffer.as_path(), names)?)
 }
 
-// Why `new` refuses the path by a plain reading, if it does.
+// Why `new` refuses the path by a naive reading, if it does.
 fn refusal(path: &[u8]) -> Option<RequestError> {
-    if plain::is_rooted(path) {
+    if naive::is_rooted(path) {
         Some(RequestError::Rooted)
-    } else if plain::climbs(path) {
+    } else if naive::climbs(path) {
         Some(RequestError::Climbs)
     } else if path.contains(&0) {
         Some(RequestError::Nul)
@@ -95,7 +95,7 @@ fn is_read(
     buffer: &mut PathBuf,
     path: &[u8],
 ) -> Result<bool, AllocError> {
-    let names = plain::names_below(alloc, path)?;
+    let names = naive::names_below(alloc, path)?;
     let names = names.as_slice();
     let is_new = match (Request::new(Path::from_bytes(path)), refusal(path)) {
         (Ok(request), None) => {
@@ -115,17 +115,17 @@ fn is_read(
     Ok(is_new && is_below)
 }
 
-// Whether the root tells of the path what a plain reading tells.
+// Whether the root tells of the path what a naive reading tells.
 fn is_told(alloc: Global, root: &Root, path: &[u8]) -> Result<bool, AllocError> {
-    let root_parts = plain::parts(alloc, root.as_path().bytes)?;
-    let parts = plain::parts(alloc, path)?;
+    let root_parts = naive::parts(alloc, root.as_path().bytes)?;
+    let parts = naive::parts(alloc, path)?;
     let is_begun = parts.as_slice().starts_with(root_parts.as_slice());
     let skipped = root_parts.len();
     let goes_down = is_begun
         && !parts
             .iter()
             .skip(skipped)
-            .any(|part| plain::is_up(part) || plain::is_rooted(part));
+            .any(|part| naive::is_up(part) || naive::is_rooted(part));
     let has_nul = parts.iter().skip(skipped).any(|part| part.contains(&0));
     let is_answer = match root.strip(Path::from_bytes(path)) {
         Ok(_) => goes_down && !has_nul,

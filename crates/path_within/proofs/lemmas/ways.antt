@@ -1,7 +1,7 @@
 -- The way from one path to another.
 pub mod WayBoundLemmas
 -- Of this crate alone.
-pub mod FloorLemmas
+pub mod NoWayLemmas
 pub mod LeadsLemmas
-pub mod UnsharedLemmas
+pub mod RemainderLemmas
 pub mod WaySpellingLemmas

@@ -1,6 +1,6 @@
 -- The answers of commands.
 pub mod AddLemmas
-pub mod ListLemmas
+pub mod TabbedLemmas
 pub mod BeginLemmas
 pub mod QuoteLemmas
 pub mod FieldLemmas

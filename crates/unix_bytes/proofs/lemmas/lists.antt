@@ -1,2 +1,2 @@
 -- Lists of any items.
-pub mod CaseLemmas
+pub mod ListLemmas

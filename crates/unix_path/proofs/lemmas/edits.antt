@@ -2,4 +2,4 @@
 pub mod JoinLemmas
 pub mod EditLemmas
 -- Of this crate alone.
-pub mod GapLemmas
+pub mod SeparatorLemmas

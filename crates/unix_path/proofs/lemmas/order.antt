@@ -2,7 +2,7 @@
 pub mod CommonPrefixLemmas
 -- Of this crate alone.
 pub mod EightLemmas
-pub mod TieLemmas
+pub mod EqualValueLemmas
 pub mod ComparisonLemmas
 pub mod BehindLemmas
 mod DifferLemmas

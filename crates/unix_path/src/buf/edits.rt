@@ -8,7 +8,7 @@ ghost use Rattle.unix_path.specs.Edits.{popped_of, with_name_of};
 ghost use Rattle.unix_path.specs.Joins.{is_open, join_of};
 ghost use Rattle.unix_path.specs.Parents.{parent_of};
 ghost use Rattle.unix_path.specs.Parts.{is_rooted};
-ghost use Rattle.unix_path.specs.Scan.{gap_bytes};
+ghost use Rattle.unix_path.specs.Scan.{separator_bytes};
 
 use crate::buf::PathBuf;
 use crate::path::Path;
@@ -19,10 +19,10 @@ use unix_bytes::bytes::{UnixStr, UnixString};
 // The byte that a join puts between its base and a path without a root, if any.
 #[inline]
 #[tactic(auto, using(crate::proofs::lemmas::edits::JoinLemmas::rootless_joins))]
-fn join_gap(base: &[u8], path: Path<'_>) -> Option<u8>
+fn join_separator(base: &[u8], path: Path<'_>) -> Option<u8>
     requires { is_rooted path.bytes.now ≡ false }
     ensures { join_of base.now path.entry.bytes.now
-        ≡ (base.now ++ gap_bytes result) ++ path.entry.bytes.now }
+        ≡ (base.now ++ separator_bytes result) ++ path.entry.bytes.now }
 {
     if is_open(base) {
         return None;
@@ -33,58 +33,60 @@ fn join_gap(base: &[u8], path: Path<'_>) -> Option<u8>
 // How many bytes of its base a join keeps, and the byte that it puts between them and the path,
 // if any.
 #[inline]
-#[tactic(auto, using(crate::proofs::lemmas::edits::GapLemmas::join_cases))]
+#[tactic(auto, using(crate::proofs::lemmas::edits::SeparatorLemmas::join_cases))]
 fn join_cut(base: &[u8], path: Path<'_>) -> (usize, Option<u8>)
     ensures in_range { result.0 ≤ length base.now }
     ensures value { join_of base.now path.entry.bytes.now
-        ≡ (take result.0 base.now ++ gap_bytes result.1) ++ path.entry.bytes.now }
+        ≡ (take result.0 base.now ++ separator_bytes result.1) ++ path.entry.bytes.now }
 {
     if path.has_root() {
         return (0, None);
     }
-    (base.len(), join_gap(base, path))
+    (base.len(), join_separator(base, path))
 }
 
-// The number of bytes in all: `keep`, the gap's byte if there is one, and those of the slice.
+// The number of bytes in all: `keep`, the separator's byte if there is one, and those of the slice.
 #[inline]
-pub(super) fn total_len(keep: usize, gap: Option<u8>, more: &[u8]) -> usize
+pub(super) fn total_len(keep: usize, separator: Option<u8>, more: &[u8]) -> usize
     requires { keep < 2 ^ 63 }
-    ensures { result ≡ keep + length (gap_bytes gap) + length more.now }
+    ensures { result ≡ keep + length (separator_bytes separator) + length more.now }
 {
-    match gap {
+    match separator {
         Some(_) => keep + 1 + more.len(),
         None => keep + more.len(),
     }
 }
 
-// Adds the gap's byte, if there is one, and then the slice.
+// Adds the separator's byte, if there is one, and then the slice.
 #[inline]
-fn push_end(text: &mut UnixString, gap: Option<u8>, more: &[u8]) -> Result<(), AllocError>
+fn push_end(text: &mut UnixString, separator: Option<u8>, more: &[u8]) -> Result<(), AllocError>
     ensures ok { OnOk result
-        (owned_bytes text.new ≡ (owned_bytes text.old ++ gap_bytes gap) ++ more.now) }
-    ensures succeeds { length (gap_bytes gap ++ more.now) ≤ owned_room text.old → IsOk result }
+        (owned_bytes text.new ≡ (owned_bytes text.old ++ separator_bytes separator) ++ more.now) }
+    ensures succeeds { length (separator_bytes separator ++ more.now) ≤ owned_room text.old
+        → IsOk result }
     ensures capacity { owned_capacity text.old ≤ owned_capacity text.new }
 {
-    if let Some(byte) = gap {
+    if let Some(byte) = separator {
         text.push(UnixStr::from_bytes(&[byte]))?;
     }
     text.push(UnixStr::from_bytes(more))
 }
 
-// A path of the base, the gap's byte if there is one, and the slice. Allocates once, or not at all
-// for no bytes.
+// A path of the base, the separator's byte if there is one, and the slice. Allocates once, or not
+// at all for no bytes.
 pub(super) fn copy_of(
     alloc: Global,
     base: &[u8],
-    gap: Option<u8>,
+    separator: Option<u8>,
     more: &[u8],
 ) -> Result<PathBuf, AllocError>
-    ensures bytes { IfOk result (λ p. path_bytes p ≡ (base.now ++ gap_bytes gap) ++ more.now) }
-    ensures succeeds { (base.now ++ gap_bytes gap) ++ more.now ≡ [] → IsOk result }
+    ensures bytes { IfOk result
+        (λ p. path_bytes p ≡ (base.now ++ separator_bytes separator) ++ more.now) }
+    ensures succeeds { (base.now ++ separator_bytes separator) ++ more.now ≡ [] → IsOk result }
 {
-    let mut inner = UnixString::with_capacity(alloc, total_len(base.len(), gap, more))?;
+    let mut inner = UnixString::with_capacity(alloc, total_len(base.len(), separator, more))?;
     inner.push(UnixStr::from_bytes(base))?;
-    push_end(&mut inner, gap, more)?;
+    push_end(&mut inner, separator, more)?;
     Ok(PathBuf { inner })
 }
 
@@ -156,7 +158,7 @@ impl PathBuf {
     /// fails, the bytes stay as they were. As Rust's `PathBuf::set_file_name`.
     ///
     /// `foo/.` with the file name `bar` is `bar`, and `foo/..` is `foo/../bar`.
-    #[tactic(auto, using(crate::proofs::lemmas::edits::GapLemmas::beginnings))]
+    #[tactic(auto, using(crate::proofs::lemmas::edits::SeparatorLemmas::beginnings))]
     pub fn set_file_name(&mut self, name: UnixStr<'_>) -> Result<(), AllocError>
         ensures ok { OnOk result
             (path_bytes self.new ≡ with_name_of (path_bytes self.old) name.entry.bytes.now) }
@@ -165,32 +167,34 @@ impl PathBuf {
             ≤ capacity self.old → IsOk result }
         ensures capacity { capacity self.old ≤ capacity self.new }
     {
-        let (keep, gap) = join_cut(self.as_path().before_name().bytes, Path::new(name));
-        self.replace_end(keep, gap, name.bytes)
+        let (keep, separator) = join_cut(self.as_path().before_name().bytes, Path::new(name));
+        self.replace_end(keep, separator, name.bytes)
     }
 
-    // Keeps the first `keep` bytes, and puts the gap's byte and the slice behind them. It grows
-    // before it cuts, so that a failed allocation leaves the bytes as they were.
+    // Keeps the first `keep` bytes, and puts the separator's byte and the slice behind them. It
+    // grows before it cuts, so that a failed allocation leaves the bytes as they were.
     #[inline]
     pub(super) fn replace_end(
         &mut self,
         keep: usize,
-        gap: Option<u8>,
+        separator: Option<u8>,
         more: &[u8],
     ) -> Result<(), AllocError>
         requires { keep ≤ length (path_bytes self.old) }
         ensures ok { OnOk result
-            (path_bytes self.new ≡ (take keep (path_bytes self.old) ++ gap_bytes gap) ++ more.now) }
+            (path_bytes self.new ≡ (take keep (path_bytes self.old) ++ separator_bytes separator)
+            ++ more.now) }
         ensures err { OnErr result (path_bytes self.new ≡ path_bytes self.old) }
-        ensures succeeds { length ((take keep (path_bytes self.old) ++ gap_bytes gap) ++ more.now)
+        ensures succeeds { length
+            ((take keep (path_bytes self.old) ++ separator_bytes separator) ++ more.now)
             ≤ capacity self.old → IsOk result }
         ensures capacity { capacity self.old ≤ capacity self.new }
     {
         let len = self.inner.as_unix_str().len();
-        let growth = total_len(keep, gap, more).saturating_sub(len);
+        let growth = total_len(keep, separator, more).saturating_sub(len);
         self.inner.reserve(growth)?;
         self.inner.truncate(keep);
-        push_end(&mut self.inner, gap, more)
+        push_end(&mut self.inner, separator, more)
     }
 }
 
@@ -207,8 +211,8 @@ impl<'a> Path<'a> {
             (λ p. path_bytes p ≡ join_of self.now.bytes.now path.entry.bytes.now) }
         ensures succeeds { join_of self.now.bytes.now path.entry.bytes.now ≡ [] → IsOk result }
     {
-        let (keep, gap) = join_cut(self.bytes, path);
-        copy_of(alloc, &self.bytes[..keep], gap, path.bytes)
+        let (keep, separator) = join_cut(self.bytes, path);
+        copy_of(alloc, &self.bytes[..keep], separator, path.bytes)
     }
 
     /// A copy of the path, with this file name as `PathBuf::set_file_name` sets it.

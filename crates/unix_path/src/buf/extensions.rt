@@ -7,7 +7,7 @@ ghost use Rattle.unix_path.specs.Edits.{dot_before, with_extension_of};
 ghost use Rattle.unix_path.specs.Extensions.{has_slash, added_extension_of};
 ghost use Rattle.unix_path.specs.Names.{file_name_of};
 ghost use Rattle.unix_path.specs.Parts.{values};
-ghost use Rattle.unix_path.specs.Scan.{gap_bytes};
+ghost use Rattle.unix_path.specs.Scan.{separator_bytes};
 
 use crate::buf::PathBuf;
 use crate::buf::edits::{copy_of, total_len};
@@ -153,21 +153,23 @@ impl PathBuf {
     fn replace_end_exact(
         &mut self,
         keep: usize,
-        gap: Option<u8>,
+        separator: Option<u8>,
         more: &[u8],
     ) -> Result<(), AllocError>
         requires { keep ≤ length (path_bytes self.old) }
         ensures ok { OnOk result
-            (path_bytes self.new ≡ (take keep (path_bytes self.old) ++ gap_bytes gap) ++ more.now) }
+            (path_bytes self.new ≡ (take keep (path_bytes self.old) ++ separator_bytes separator)
+            ++ more.now) }
         ensures err { OnErr result (path_bytes self.new ≡ path_bytes self.old) }
-        ensures succeeds { length ((take keep (path_bytes self.old) ++ gap_bytes gap) ++ more.now)
+        ensures succeeds { length
+            ((take keep (path_bytes self.old) ++ separator_bytes separator) ++ more.now)
             ≤ capacity self.old → IsOk result }
         ensures capacity { capacity self.old ≤ capacity self.new }
     {
         let len = self.inner.as_unix_str().len();
-        let growth = total_len(keep, gap, more).saturating_sub(len);
+        let growth = total_len(keep, separator, more).saturating_sub(len);
         self.inner.reserve_exact(growth)?;
-        self.replace_end(keep, gap, more)
+        self.replace_end(keep, separator, more)
     }
 }
 
@@ -236,25 +238,27 @@ impl<'a> Path<'a> {
             .map_err(ExtensionError::from)
     }
 
-    // A copy of the path up to `end`, with the gap's byte, if there is one, and the slice behind
-    // it. If `end` is `None`, a copy of the whole path without them.
+    // A copy of the path up to `end`, with the separator's byte, if there is one, and the slice
+    // behind it. If `end` is `None`, a copy of the whole path without them.
     fn copy_with_end(
         &self,
         alloc: Global,
         end: Option<usize>,
-        gap: Option<u8>,
+        separator: Option<u8>,
         more: &[u8],
     ) -> Result<PathBuf, AllocError>
         requires { IfSome end (λ end. end ≤ length self.now.bytes.now) }
         ensures whole { end ≡ None → IfOk result (λ p. path_bytes p ≡ self.now.bytes.now) }
         ensures cut { IfSome end (λ end. IfOk result (λ p.
-            path_bytes p ≡ (take end self.now.bytes.now ++ gap_bytes gap) ++ more.now)) }
+            path_bytes p ≡ (take end self.now.bytes.now ++ separator_bytes separator)
+            ++ more.now)) }
         ensures succeeds_whole { end ≡ None → self.now.bytes.now ≡ [] → IsOk result }
         ensures succeeds_cut { IfSome end (λ end.
-            (take end self.now.bytes.now ++ gap_bytes gap) ++ more.now ≡ [] → IsOk result) }
+            (take end self.now.bytes.now ++ separator_bytes separator) ++ more.now ≡ []
+            → IsOk result) }
     {
         match end {
-            Some(end) => copy_of(alloc, &self.bytes[..end], gap, more),
+            Some(end) => copy_of(alloc, &self.bytes[..end], separator, more),
             None => self.to_path_buf(alloc),
         }
     }

@@ -41,7 +41,7 @@ impl PathBuf {
     /// `PathBuf`.
     ///
     /// `a`, extended by `b`, `/c` and `d`, is `/c/d`.
-    #[tactic(auto, using(crate::proofs::lemmas::edits::GapLemmas::join_all_of_snoc))]
+    #[tactic(auto, using(crate::proofs::lemmas::edits::SeparatorLemmas::join_all_of_snoc))]
     pub fn extend<'a, I: Iterator<Item = Path<'a>>>(&mut self, items: I) -> Result<(), AllocError>
         requires can { I.can_next items }
         requires ends { IsFinite (I.remaining items) }

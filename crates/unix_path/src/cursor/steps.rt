@@ -3,14 +3,15 @@ ghost use Rattle.std.specs.Prelude.{◌≡◌, ℕ, ◌+◌, ◌-◌, ◌<◌, �
 ghost use Rattle.std.specs.Prelude.{◌∷◌, take, drop};
 ghost use Rattle.std.specs.Str.{bytes_eq};
 ghost use Rattle.unix_path.specs.Parts.{cur_dir, parts, inner_parts};
-ghost use Rattle.unix_path.specs.Scan.{begins_with_parent, ends_with_parent, is_idle, EndsInPart};
+ghost use Rattle.unix_path.specs.Scan.{begins_with_parent, ends_with_parent, is_filler, EndsInPart};
 ghost use Rattle.unix_path.specs.Scan.{is_trailing};
 ghost use Rattle.unix_path.specs.Views.{value_of};
 ghost use Rattle.unix_path.specs.Steps.{StepsFirst, TakesLast};
 
 use crate::cursor::Component;
 use crate::scan::{
-    begins_with_parent, ends_with_parent, idle_len, is_idle, is_trailing, name_step, parent_step,
+    begins_with_parent, ends_with_parent, filler_len, is_filler, is_trailing, name_step,
+    parent_step,
 };
 use std::simd::prelude::*;
 use unix_bytes::bytes::UnixStr;
@@ -18,9 +19,9 @@ use unix_bytes::search::past_last;
 
 // True only if each of the 16 bytes from `at` on is a slash, or a `.` before a slash.
 #[inline]
-fn is_idle_block(path: &[u8], at: usize) -> bool
+fn is_filler_block(path: &[u8], at: usize) -> bool
     requires { at + 16 < length path.now }
-    ensures { IsTrue result → ((k : ℕ) → at ≤ k → k < at + 16 → is_idle path.now k ≡ true) }
+    ensures { IsTrue result → ((k : ℕ) → at ≤ k → k < at + 16 → is_filler path.now k ≡ true) }
 {
     let slash = u8x16::splat(b'/');
     let here = u8x16::from_slice(&path[at..]);
@@ -34,32 +35,32 @@ fn is_idle_block(path: &[u8], at: usize) -> bool
 // and then 16 for each block of 16 bytes that are all filler. It stops if 16 bytes or fewer are
 // left.
 #[inline]
-fn idle_blocks_len(path: &[u8], start: usize) -> usize
+fn filler_blocks_len(path: &[u8], start: usize) -> usize
     requires { start ≤ length path.now }
     ensures forward { start ≤ result }
     ensures in_range { result ≤ length path.now }
-    ensures idle { (at : ℕ) → inner_parts (at + start) (drop start path.now)
+    ensures filler { (at : ℕ) → inner_parts (at + start) (drop start path.now)
         ≡ inner_parts (at + result) (drop result path.now) }
 {
     let mut len = start;
-    while path.len() - len > 16 && is_idle_block(path, len) {
+    while path.len() - len > 16 && is_filler_block(path, len) {
         len += 16;
     }
     len
 }
 
-// As `long_idle_len`, for filler of which `start` bytes are known: it looks at blocks of 16. It isn't
-// inlined, since most filler is short.
+// As `long_filler_len`, for filler of which `start` bytes are known: it looks at blocks of 16. It
+// isn't inlined, since most filler is short.
 #[inline(never)]
-fn idle_len_from(path: &[u8], start: usize) -> usize
+fn filler_len_from(path: &[u8], start: usize) -> usize
     requires { start ≤ length path.now }
     ensures in_range { result ≤ length path.now }
-    ensures idle { (at : ℕ) → inner_parts (at + start) (drop start path.now)
+    ensures filler { (at : ℕ) → inner_parts (at + start) (drop start path.now)
         ≡ inner_parts (at + result) (drop result path.now) }
-    ensures busy { result < length path.now → is_idle path.now result ≡ false }
+    ensures busy { result < length path.now → is_filler path.now result ≡ false }
 {
-    let mut len = idle_blocks_len(path, start);
-    while len < path.len() && is_idle(path, len) {
+    let mut len = filler_blocks_len(path, start);
+    while len < path.len() && is_filler(path, len) {
         len += 1;
     }
     len
@@ -68,12 +69,12 @@ fn idle_len_from(path: &[u8], start: usize) -> usize
 // How many bytes of filler begin at `i`: a slash, a `.` and the slash behind it, or a `.` at the
 // end. 0 if a part begins there.
 #[inline]
-fn idle_step(path: &[u8], i: usize) -> usize
+fn filler_step(path: &[u8], i: usize) -> usize
     requires { i < length path.now }
     ensures in_range { i + result ≤ length path.now }
-    ensures idle { (at : ℕ) → inner_parts (at + i) (drop i path.now)
+    ensures filler { (at : ℕ) → inner_parts (at + i) (drop i path.now)
         ≡ inner_parts (at + (i + result)) (drop (i + result) path.now) }
-    ensures busy { result ≡ 0 → is_idle path.now i ≡ false }
+    ensures busy { result ≡ 0 → is_filler path.now i ≡ false }
 {
     if path[i] == b'/' {
         return 1;
@@ -88,23 +89,23 @@ fn idle_step(path: &[u8], i: usize) -> usize
 }
 
 // The length of the filler at the beginning, for when it may be long: behind its first four bytes,
-// blocks of 16 are looked at. `idle_len` is quicker for short filler, as between two parts.
+// blocks of 16 are looked at. `filler_len` is quicker for short filler, as between two parts.
 #[inline]
-pub(crate) fn long_idle_len(path: &[u8]) -> usize
+pub(crate) fn long_filler_len(path: &[u8]) -> usize
     ensures in_range { result ≤ length path.now }
-    ensures idle { (at : ℕ) →
+    ensures filler { (at : ℕ) →
         inner_parts at path.now ≡ inner_parts (at + result) (drop result path.now) }
-    ensures busy { result < length path.now → is_idle path.now result ≡ false }
+    ensures busy { result < length path.now → is_filler path.now result ≡ false }
 {
     let mut len = 0;
     while len < path.len() {
-        let step = idle_step(path, len);
+        let step = filler_step(path, len);
         if step == 0 {
             return len;
         }
         len += step;
         if len > 3 {
-            return idle_len_from(path, len);
+            return filler_len_from(path, len);
         }
     }
     len
@@ -113,16 +114,16 @@ pub(crate) fn long_idle_len(path: &[u8]) -> usize
 // Whether the path begins with a root or with a `.` that counts.
 #[inline]
 pub(crate) fn has_lead(path: &[u8]) -> bool
-    ensures { result ≡ is_idle path.now 0 }
+    ensures { result ≡ is_filler path.now 0 }
 {
-    !path.is_empty() && is_idle(path, 0)
+    !path.is_empty() && is_filler(path, 0)
 }
 
 // The root or the `.` that a path begins with.
 #[inline]
 fn lead(path: &[u8]) -> Component<'_>
     requires some { 0 < length path.now }
-    requires lead { is_idle path.now 0 ≡ true }
+    requires lead { is_filler path.now 0 ≡ true }
     ensures { parts path.now ≡ record { start = 0; end = 1; value = value_of result }
         ∷ inner_parts 1 (drop 1 path.now) }
 {
@@ -137,17 +138,17 @@ fn lead(path: &[u8]) -> Component<'_>
 #[inline]
 fn lead_step(path: &[u8]) -> (usize, Component<'_>)
     requires some { 0 < length path.now }
-    requires lead { is_idle path.now 0 ≡ true }
+    requires lead { is_filler path.now 0 ≡ true }
     ensures { StepsFirst path.now result.0 (value_of result.1) }
 {
-    (1 + idle_len(&path[1..]), lead(path))
+    (1 + filler_len(&path[1..]), lead(path))
 }
 
 // The first part, and how many bytes it and the filler behind it take.
 #[inline(always)]
 pub(crate) fn first_step(path: &[u8], has_lead: bool) -> (usize, Component<'_>)
     requires some { 0 < length path.now }
-    requires lead { has_lead ≡ is_idle path.now 0 }
+    requires lead { has_lead ≡ is_filler path.now 0 }
     ensures { StepsFirst path.now result.0 (value_of result.1) }
 {
     if has_lead {

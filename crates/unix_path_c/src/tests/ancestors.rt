@@ -1,9 +1,9 @@
 //! Rows of ancestors, which a caller walks by a length.
 use crate::ancestors::unix_path_next_ancestor;
-use crate::places::Place;
+use crate::places::Span;
 
 // What the record holds before a call.
-const OLD_PLACE: Place = Place {
+const OLD_SPAN: Span = Span {
     start: 70,
     length: 90,
 };
@@ -27,7 +27,7 @@ static ANCESTORS: [(&str, &[usize]); 13] = [
 
 // Whether the next ancestor has so many bytes.
 fn gives(path: &str, next: &mut usize, want: usize) -> bool {
-    let mut ancestor = OLD_PLACE;
+    let mut ancestor = OLD_SPAN;
     unix_path_next_ancestor(path.as_bytes(), next, &mut ancestor)
         && ancestor.start == 0
         && ancestor.length == want
@@ -36,11 +36,11 @@ fn gives(path: &str, next: &mut usize, want: usize) -> bool {
 // Whether no ancestor is left from this length on, and nothing is written.
 fn has_ended(path: &str, next: usize) -> bool {
     let mut left = next;
-    let mut ancestor = OLD_PLACE;
+    let mut ancestor = OLD_SPAN;
     !unix_path_next_ancestor(path.as_bytes(), &mut left, &mut ancestor)
         && left == next
-        && ancestor.start == OLD_PLACE.start
-        && ancestor.length == OLD_PLACE.length
+        && ancestor.start == OLD_SPAN.start
+        && ancestor.length == OLD_SPAN.length
 }
 
 // Whether these are the path's ancestors, and no more.

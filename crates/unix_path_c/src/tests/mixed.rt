@@ -1,19 +1,19 @@
 //! A proved caller of a walk that takes from both ends.
 ghost use Rattle.std.specs.Prelude.{◌≡◌, [], ◌∷◌, ◌++◌, IsTrue};
 ghost use Rattle.unix_path.specs.Parts.{values};
-ghost use Rattle.unix_path_c.specs.Places.{place_bytes};
+ghost use Rattle.unix_path_c.specs.Places.{span_bytes};
 ghost use Rattle.unix_path_c.specs.Walks.{part_value};
 
-use crate::places::Place;
+use crate::places::Span;
 use crate::walks::{
     Part, Walk, unix_path_as_path, unix_path_components, unix_path_next, unix_path_next_back,
 };
 use std::test::Fail;
 
 // The first part of a path, the last, and where those between stand; false with fewer than two.
-fn take_ends(path: &[u8], first: &mut Part, between: &mut Place, last: &mut Part) -> bool
+fn take_ends(path: &[u8], first: &mut Part, between: &mut Span, last: &mut Part) -> bool
     ensures { IsTrue result → values path.now ≡ part_value path.now first.new
-        ∷ (values (place_bytes path.now between.new) ++ part_value path.now last.new ∷ []) }
+        ∷ (values (span_bytes path.now between.new) ++ part_value path.now last.new ∷ []) }
 {
     let mut walk = Walk { front: 0, back: 0 };
     unix_path_components(path, &mut walk);
@@ -35,7 +35,7 @@ fn ends_are_taken(rt: HostRuntime) -> Result<(), Fail> {
         kind: 0,
     };
     let mut last = first;
-    let mut between = Place {
+    let mut between = Span {
         start: 0,
         length: 0,
     };

@@ -4,21 +4,21 @@ ghost use Rattle.unix_path.specs.Names.{file_name_of};
 ghost use Rattle.unix_path.specs.Parts.{values};
 
 use crate::places::{
-    Place, unix_path_extension, unix_path_file_name, unix_path_file_prefix, unix_path_file_stem,
+    Span, unix_path_extension, unix_path_file_name, unix_path_file_prefix, unix_path_file_stem,
     unix_path_parent, unix_path_strip_prefix,
 };
 
 // What the record holds before a call.
-const OLD_PLACE: Place = Place {
+const OLD_SPAN: Span = Span {
     start: 70,
     length: 90,
 };
 
-// Whether the call found this place, or found none and left what stood there.
-fn is_answer(found: bool, place: Place, want: Option<(usize, usize)>) -> bool {
+// Whether the call found this span, or found none and left what stood there.
+fn is_answer(found: bool, span: Span, want: Option<(usize, usize)>) -> bool {
     match want {
-        Some((start, length)) => found && place.start == start && place.length == length,
-        None => !found && place.start == OLD_PLACE.start && place.length == OLD_PLACE.length,
+        Some((start, length)) => found && span.start == start && span.length == length,
+        None => !found && span.start == OLD_SPAN.start && span.length == OLD_SPAN.length,
     }
 }
 
@@ -41,9 +41,9 @@ static PARENTS: [(&str, Option<(usize, usize)>); 14] = [
 ];
 
 fn has_parent(row: &(&str, Option<(usize, usize)>)) -> bool {
-    let mut place = OLD_PLACE;
-    let found = unix_path_parent(row.0.as_bytes(), &mut place);
-    is_answer(found, place, row.1)
+    let mut span = OLD_SPAN;
+    let found = unix_path_parent(row.0.as_bytes(), &mut span);
+    is_answer(found, span, row.1)
 }
 
 #[test]
@@ -72,9 +72,9 @@ static NAMES: [(&str, Option<(usize, usize)>); 14] = [
 ];
 
 fn has_name(row: &(&str, Option<(usize, usize)>)) -> bool {
-    let mut place = OLD_PLACE;
-    let found = unix_path_file_name(row.0.as_bytes(), &mut place);
-    is_answer(found, place, row.1)
+    let mut span = OLD_SPAN;
+    let found = unix_path_file_name(row.0.as_bytes(), &mut span);
+    is_answer(found, span, row.1)
 }
 
 #[test]
@@ -101,9 +101,9 @@ static STEMS: [(&str, Option<(usize, usize)>); 12] = [
 ];
 
 fn has_stem(row: &(&str, Option<(usize, usize)>)) -> bool {
-    let mut place = OLD_PLACE;
-    let found = unix_path_file_stem(row.0.as_bytes(), &mut place);
-    is_answer(found, place, row.1)
+    let mut span = OLD_SPAN;
+    let found = unix_path_file_stem(row.0.as_bytes(), &mut span);
+    is_answer(found, span, row.1)
 }
 
 #[test]
@@ -131,9 +131,9 @@ static EXTENSIONS: [(&str, Option<(usize, usize)>); 13] = [
 ];
 
 fn has_extension(row: &(&str, Option<(usize, usize)>)) -> bool {
-    let mut place = OLD_PLACE;
-    let found = unix_path_extension(row.0.as_bytes(), &mut place);
-    is_answer(found, place, row.1)
+    let mut span = OLD_SPAN;
+    let found = unix_path_extension(row.0.as_bytes(), &mut span);
+    is_answer(found, span, row.1)
 }
 
 #[test]
@@ -160,9 +160,9 @@ static PREFIXES: [(&str, Option<(usize, usize)>); 12] = [
 ];
 
 fn has_prefix(row: &(&str, Option<(usize, usize)>)) -> bool {
-    let mut place = OLD_PLACE;
-    let found = unix_path_file_prefix(row.0.as_bytes(), &mut place);
-    is_answer(found, place, row.1)
+    let mut span = OLD_SPAN;
+    let found = unix_path_file_prefix(row.0.as_bytes(), &mut span);
+    is_answer(found, span, row.1)
 }
 
 #[test]
@@ -195,9 +195,9 @@ static REMAINDERS: [(&str, &str, Option<(usize, usize)>); 17] = [
 ];
 
 fn has_remainder(row: &(&str, &str, Option<(usize, usize)>)) -> bool {
-    let mut place = OLD_PLACE;
-    let found = unix_path_strip_prefix(row.0.as_bytes(), row.1.as_bytes(), &mut place);
-    is_answer(found, place, row.2)
+    let mut span = OLD_SPAN;
+    let found = unix_path_strip_prefix(row.0.as_bytes(), row.1.as_bytes(), &mut span);
+    is_answer(found, span, row.2)
 }
 
 #[test]
@@ -211,11 +211,11 @@ fn places_behind_bases(rt: HostRuntime) {
 fn read_file_name(path: &[u8]) -> Option<&[u8]>
     ensures { option_map (λ name. name.now) result ≡ file_name_of (values path.now) }
 {
-    let mut place = OLD_PLACE;
-    if !unix_path_file_name(path, &mut place) {
+    let mut span = OLD_SPAN;
+    if !unix_path_file_name(path, &mut span) {
         return None;
     }
-    Some(&path[place.start..place.start + place.length])
+    Some(&path[span.start..span.start + span.length])
 }
 
 #[test]

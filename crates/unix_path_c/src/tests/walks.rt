@@ -1,5 +1,5 @@
 //! Walks that a caller keeps, over all short paths and between places that make no sense.
-use crate::places::Place;
+use crate::places::Span;
 use crate::walks::{
     Part, Walk, unix_path_as_path, unix_path_components, unix_path_next, unix_path_next_back,
 };
@@ -47,7 +47,7 @@ fn strings_over(alloc: Global, letters: &[u8], shorter: usize) -> Result<Vec<Vec
     Ok(strings)
 }
 
-// A plain reading: the parts of these bytes, which stand at this place, cut at every slash.
+// A naive reading: the parts of these bytes, which stand at this place, cut at every slash.
 fn parts_at(alloc: Global, at: usize, bytes: &[u8]) -> Result<Vec<PartFields>, AllocError> {
     let mut parts = Vec::new(alloc);
     let mut start = at;
@@ -116,15 +116,15 @@ fn has_ended(path: &[u8], walk: &Walk) -> bool {
 
 // Whether what is left reaches from the first of these parts to the last, in the path.
 fn reaches(path: &[u8], walk: &Walk, parts: &[PartFields]) -> bool {
-    let mut place = Place {
+    let mut span = Span {
         start: 77,
         length: 77,
     };
-    unix_path_as_path(path, walk, &mut place);
-    let end = place.start.saturating_add(place.length);
+    unix_path_as_path(path, walk, &mut span);
+    let end = span.start.saturating_add(span.length);
     match (parts.first(), parts.last()) {
-        (Some(first), Some(last)) => place.start == first.0 && end == last.0.saturating_add(last.1),
-        _ => place.length == 0 && place.start <= path.len(),
+        (Some(first), Some(last)) => span.start == first.0 && end == last.0.saturating_add(last.1),
+        _ => span.length == 0 && span.start <= path.len(),
     }
 }
 
@@ -150,8 +150,8 @@ fn whole(path: &[u8]) -> Walk {
     walk
 }
 
-// Whether the plain reading and the walks from either end give the row's parts.
-fn has_parts(alloc: Global, row: &(&str, &[PartFields])) -> Result<bool, AllocError> {
+// Whether the naive reading and the walks from either end give the row's parts.
+fn walks_give_parts(alloc: Global, row: &(&str, &[PartFields])) -> Result<bool, AllocError> {
     let (path, want) = (row.0.as_bytes(), row.1);
     let parts = parts_at(alloc, 0, path)?;
     Ok(
@@ -164,7 +164,7 @@ fn has_parts(alloc: Global, row: &(&str, &[PartFields])) -> Result<bool, AllocEr
 #[test]
 fn parts_have_places(rt: HostRuntime) -> Result<(), Fail> {
     for row in WALKS.iter() {
-        assert!(rt; has_parts(rt.alloc(), row)?, "{}", row.0);
+        assert!(rt; walks_give_parts(rt.alloc(), row)?, "{}", row.0);
     }
     Ok(())
 }
@@ -187,7 +187,7 @@ fn all_short_paths(rt: HostRuntime) -> Result<(), Fail> {
     Ok(())
 }
 
-// Whether a walk between these places gives the parts that a plain reading finds there, or none if
+// Whether a walk between these places gives the parts that a naive reading finds there, or none if
 // no bytes lie between them.
 fn is_safe(alloc: Global, front: usize, back: usize) -> Result<bool, AllocError> {
     let parts = match PATH.get(front..back) {

@@ -1,7 +1,7 @@
 //! Rows of what single bytes of a path are.
 use unix_path::scan::{
-    any_break, begins_with_parent, dot_before, ends_in_name, ends_with_parent, first_break,
-    has_slash, idle_len, is_idle, is_open, is_trailing, name_step, parent_step, stem_end,
+    any_break, begins_with_parent, dot_before, ends_in_name, ends_with_parent, filler_len,
+    first_break, has_slash, is_filler, is_open, is_trailing, name_step, parent_step, stem_end,
 };
 
 // Bytes, `x` for each that is filler or a lead from in front, the same from behind, and how many
@@ -62,22 +62,22 @@ static BREAKS: [(&[u8], usize, usize, bool); 16] = [
     (b"0/1/2/3/4/5/6/7/8/9/a/b/c/d/e/f/g/h/.i", 17, 35, true),
 ];
 
-fn marks_idle(bytes: &[u8], marks: &[u8]) -> bool {
+fn marks_filler(bytes: &[u8], crosses: &[u8]) -> bool {
     for at in 0..bytes.len() {
-        if is_idle(bytes, at) != (marks.get(at) == Some(&b'x')) {
+        if is_filler(bytes, at) != (crosses.get(at) == Some(&b'x')) {
             return false;
         }
     }
-    bytes.len() == marks.len()
+    bytes.len() == crosses.len()
 }
 
-fn marks_trailing(bytes: &[u8], marks: &[u8]) -> bool {
+fn marks_trailing(bytes: &[u8], crosses: &[u8]) -> bool {
     for at in 0..bytes.len() {
-        if is_trailing(bytes, at) != (marks.get(at) == Some(&b'x')) {
+        if is_trailing(bytes, at) != (crosses.get(at) == Some(&b'x')) {
             return false;
         }
     }
-    bytes.len() == marks.len()
+    bytes.len() == crosses.len()
 }
 
 fn begins(bytes: &[u8]) -> bool {
@@ -91,9 +91,9 @@ fn ends(bytes: &[u8]) -> bool {
 #[test]
 fn bytes_are_filler(rt: HostRuntime) {
     for &(bytes, in_front, behind, len) in &FILLER {
-        assert!(rt; marks_idle(bytes, in_front));
+        assert!(rt; marks_filler(bytes, in_front));
         assert!(rt; marks_trailing(bytes, behind));
-        assert!(rt; idle_len(bytes) == len);
+        assert!(rt; filler_len(bytes) == len);
     }
 }
 
@@ -113,7 +113,7 @@ static FIRST_PARTS: [(&[u8], usize, usize); 10] = [
 ];
 
 fn steps_over(bytes: &[u8], size: usize, step: usize) -> bool {
-    if bytes.is_empty() || is_idle(bytes, 0) {
+    if bytes.is_empty() || is_filler(bytes, 0) {
         return false;
     }
     if begins_with_parent(bytes) {

@@ -3,7 +3,7 @@ use super::super::drought;
 use super::{debug_has, display_has, hash_same};
 use std::alloc::Global;
 use std::test::Fail;
-use unix_bytes::buffers::place;
+use unix_bytes::buffers::write_at;
 use unix_bytes::bytes::{LossyText, UnixStr, UnixString};
 use unix_bytes::lossy::{Utf8Lossy, utf8_char_width};
 use unix_bytes::search::{common_len, first_place, near_common_len, past_last, past_last_of_two};
@@ -32,7 +32,7 @@ fn has_chunks() -> bool {
 
 fn is_placed() -> bool {
     let mut out = [b'.'; 4];
-    place(&mut out, 1, b"ab");
+    write_at(&mut out, 1, b"ab");
     out == *b".ab."
 }
 

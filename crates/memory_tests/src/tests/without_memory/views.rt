@@ -5,8 +5,8 @@ use std::cmp::Ordering;
 use std::test::Fail;
 use unix_path::bytes::UnixStr;
 use unix_path::scan::{
-    any_break, begins_with_parent, dot_before, ends_in_name, ends_with_parent, first_break,
-    has_slash, idle_len, is_idle, is_open, is_trailing, name_step, parent_step,
+    any_break, begins_with_parent, dot_before, ends_in_name, ends_with_parent, filler_len,
+    first_break, has_slash, is_filler, is_open, is_trailing, name_step, parent_step,
 };
 use unix_path::{Component, Display, Path, StripPrefixError, is_separator};
 
@@ -79,7 +79,7 @@ fn is_listed() -> bool {
         && debug_has(&names, 11)
 }
 
-fn has_parts() -> bool {
+fn component_is_viewed() -> bool {
     let part = Component::Normal(UnixStr::new("a"));
     part.as_unix_str() == UnixStr::new("a")
         && is_view(part.as_path(), "a")
@@ -87,9 +87,9 @@ fn has_parts() -> bool {
 }
 
 fn is_scanned() -> bool {
-    is_idle(b"/a", 0)
+    is_filler(b"/a", 0)
         && is_trailing(b"a/", 1)
-        && idle_len(b"/./a") == 3
+        && filler_len(b"/./a") == 3
         && parent_step(b".././a") == 5
         && name_step(b"a/./b") == (1, 4)
         && first_break(b"a/b/.", 0) == 3
@@ -117,7 +117,7 @@ fn views_need_no_memory(rt: HostRuntime) -> Result<(), Fail> {
     assert!(rt; is_compared());
     assert!(rt; is_walked());
     assert!(rt; is_listed());
-    assert!(rt; has_parts());
+    assert!(rt; component_is_viewed());
     assert!(rt; is_scanned());
     Ok(())
 }

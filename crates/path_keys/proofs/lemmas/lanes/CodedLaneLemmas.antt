@@ -6,7 +6,7 @@ use Rattle.std.proofs.lemmas.Bool.{ltb-true}
 use Rattle.std.proofs.lemmas.Simd.{zip2_splat, splat_is_map}
 use Rattle.std.proofs.Math.Dec.{ltb}
 use Rattle.unix_bytes.proofs.lemmas.vectors.TestLaneLemmas.{lane, top_lane}
-use Rattle.unix_bytes.proofs.lemmas.lists.CaseLemmas.{by_test}
+use Rattle.unix_bytes.proofs.lemmas.lists.ListLemmas.{by_test}
 use Rattle.path_keys.specs.Stretches.{coded}
 
 -- a byte as the lanes make it

@@ -7,7 +7,7 @@ use Rattle.std.proofs.lemmas.Bool.Decides.{nat_tests}
 use Rattle.std.proofs.lemmas.Simd.{zip2_splat, zip2_splat_left, splat_is_map}
 use Rattle.std.proofs.Math.Dec.{ltb}
 use Rattle.unix_bytes.proofs.lemmas.vectors.TestLaneLemmas.{lane, top_lane}
-use Rattle.unix_bytes.proofs.lemmas.lists.CaseLemmas.{by_test}
+use Rattle.unix_bytes.proofs.lemmas.lists.ListLemmas.{by_test}
 use Rattle.path_keys.specs.Codes.{lowered}
 use Rattle.path_keys.specs.Runs.{decoded}
 

@@ -22,7 +22,7 @@ use Rattle.path_keys.specs.declared.runs.Run.TheVariants.{Up, Names}
 use Rattle.path_keys.proofs.lemmas.reading.FitLemmas.{values-fit}
 use Rattle.path_keys.proofs.lemmas.values.CodeLemmas.{code-length}
 use Rattle.path_keys.proofs.lemmas.values.KeyLemmas.{key_of-cons}
-use Rattle.path_keys.proofs.lemmas.spelling.PlainLemmas.{plain_left}
+use Rattle.path_keys.proofs.lemmas.spelling.NamesLeftLemmas.{names_left}
 use Rattle.path_keys.proofs.lemmas.reading.KeyReadLemmas.{spelled_read}
 use Rattle.path_keys.proofs.lemmas.spelling.SpellLemmas.{SpellsOn, spells_lead, spells_room}
 use Rattle.path_keys.proofs.lemmas.spelling.SpellLemmas.{spells_one, spells_all}
@@ -32,7 +32,7 @@ use Rattle.path_keys.proofs.lemmas.reading.TextLemmas.{ups_key_len}
 use Rattle.path_keys.proofs.lemmas.reading.TextLemmas.{ups_text_len}
 use Rattle.path_keys.proofs.lemmas.spelling.UpRunLemmas.{ups_put_none, ups_run}
 
--- bytes that are put in a buffer of which a front is kept are put in that, as far as they go
+-- bytes that are put in a buffer of which a beginning is kept are put in that, as far as they go
 overlay-take : (at m : ℕ) (bytes old : List ℕ) → at + m ≤ length old
     → take (at + m) (overlay at bytes old) ≡ overlay at (take m bytes) (take (at + m) old)
 overlay-take at m bytes old l =
@@ -64,7 +64,7 @@ overlay-take at m bytes old l =
     (take_all m bytes few)))
     (cases_lt m (length bytes))
 
--- bytes put first in a buffer of which a front is kept are put first in that, as far as they go
+-- bytes put first in a buffer of which a beginning is kept are put first in that, as far as they go
 cut_first : (m : ℕ) (bytes old : List ℕ) → m ≤ length old
     → take m (overlay 0 bytes old) ≡ overlay 0 (take m bytes) (take m old)
 cut_first m bytes old l =
@@ -74,7 +74,7 @@ cut_first m bytes old l =
     ∙ ap (λ n. overlay 0 (take m bytes) (take n old)) whole
 
 -- the text of some values of the key is written to a buffer that has room for all of it, and of
--- which the front is `out`
+-- which the beginning is `out`
 pub record SpellsCut (key rest old : List ℕ) (at : ℕ) (out : List ℕ) : Type 0 where
   pub wide : List ℕ
   pub wide_out : List ℕ
@@ -87,7 +87,7 @@ pub record SpellsCut (key rest old : List ℕ) (at : ℕ) (out : List ℕ) : Typ
 pub cut_lead : {key rest old out : List ℕ} {lead : Lead} {at : ℕ} → HasPath key (length old)
     → BeginsLead key rest lead → out ≡ overlay 0 (take (length old) (lead_text lead)) old
     → at ≡ length (lead_text lead) → SpellsCut key rest old at out
-cut_lead {key} {rest} {old} {out} {lead} {at} h k placed ends =
+cut_lead {key} {rest} {old} {out} {lead} {at} h k is_put ends =
     by (text_is (values h.path) (values-fit h.path))
   where
     reads : (n : ℕ) → n ≡ length (text_of (values h.path)) → ReadsAs key n
@@ -109,7 +109,7 @@ cut_lead {key} {rest} {old} {out} {lead} {at} h k placed ends =
       spells = spells_lead r k refl ends;
       few = few;
       enough = enough;
-      cut = placed ∙ ap (overlay 0 (take (length old) (lead_text lead))) front
+      cut = is_put ∙ ap (overlay 0 (take (length old) (lead_text lead))) front
           ∙ sym (cut_first (length old) (lead_text lead) wide enough);
     }
 
@@ -170,7 +170,7 @@ pub cut_one : {key rest old out more new : List ℕ} {at end : ℕ} {run : Run}
     → more ≡ drop (length (run_code run)) rest
     → new ≡ overlay at (take (length old - at) (run_text run)) out
     → end ≡ at + length (run_text run) → SpellsCut key more old end new
-cut_one {key} {rest} {old} {out} {more} {new} {at} {end} {run} h k e placed ends =
+cut_one {key} {rest} {old} {out} {more} {new} {at} {end} {run} h k e is_put ends =
     let n = length old in
     let in_room : at ≤ n = omega (arith, text_some run, cut_room h k) in
     let whole : at + (n - at) ≡ n = omega arith in
@@ -180,7 +180,7 @@ cut_one {key} {rest} {old} {out} {more} {new} {at} {end} {run} h k e placed ends
       spells = spells_one h.spells k e refl ends;
       few = h.few;
       enough = h.enough;
-      cut = placed ∙ ap (overlay at (take (n - at) (run_text run))) (h.cut
+      cut = is_put ∙ ap (overlay at (take (n - at) (run_text run))) (h.cut
           ∙ ap (λ k. take k h.wide_out) (sym whole))
           ∙ sym (overlay-take at (n - at) (run_text run) h.wide_out
           (omega (arith, h.enough, spells_long h.spells)))
@@ -203,21 +203,21 @@ cut_ups : {key rest old out more new : List ℕ} {at end : ℕ} (n : ℕ)
     → SpellsCut key rest old at out → BeginsUps rest n → more ≡ drop (2 * n) rest
     → new ≡ overlay at (take (length old - at) (text_of (ups n))) out
     → end ≡ at + 3 * n → SpellsCut key more old end new
-cut_ups {key} {rest} {old} {out} {more} {new} {at} {end} zero h up e placed ends =
+cut_ups {key} {rest} {old} {out} {more} {new} {at} {end} zero h up e is_put ends =
     subst (λ r. SpellsCut key r old end new) (sym e)
-    (subst (λ o. SpellsCut key rest old end o) (nothing ∙ sym placed)
+    (subst (λ o. SpellsCut key rest old end o) (nothing ∙ sym is_put)
     (subst (λ k. SpellsCut key rest old k out) {x = at} {y = end} (omega (arith, ends)) h))
   where
     nothing : out ≡ overlay at (take (length old - at) (text_of (ups 0))) out
     nothing = ups_put_none at out ∙ ap (λ t. overlay at t out) (text_of-nil
         ∙ sym (take_all (length old - at) [] (omega arith))
         ∙ ap (take (length old - at)) (sym text_of-nil))
-cut_ups {key} {rest} {old} {out} {more} {new} {at} {end} (suc n) h up e placed ends =
+cut_ups {key} {rest} {old} {out} {more} {new} {at} {end} (suc n) h up e is_put ends =
     let one : suc n ≡ n + 1 = omega arith in
     cut_one h (ups_run rest n (subst (BeginsUps rest) one up))
     (e ∙ ap (λ k. drop k rest) {x = 2 * suc n} {y = length (key_of (ups (n + 1)))}
     (omega (arith, ups_key_len (n + 1))))
-    (placed ∙ ap (λ k. overlay at (take (length old - at) (text_of (ups k))) out) one)
+    (is_put ∙ ap (λ k. overlay at (take (length old - at) (text_of (ups k))) out) one)
     (omega (arith, ends, ups_text_len (n + 1)))
 
 -- the lead and each `..` behind it are written, as far as there is room
@@ -227,8 +227,8 @@ pub cut_started : {key rest old out new : List ℕ} {lead : Lead} {at : ℕ} (n 
     → at ≡ length (lead_text lead) → BeginsUps rest n
     → new ≡ overlay at (take (length out - at) (text_of (ups n))) out
     → SpellsCut key (take (length rest - 2 * n) (drop (2 * n) rest)) old (at + 3 * n) new
-cut_started {key} {rest} {old} {out} {new} {lead} {at} n p begins placed same ends up puts =
-    cut_ups n (cut_lead p begins placed ends) up (take_rest rest (2 * n))
+cut_started {key} {rest} {old} {out} {new} {lead} {at} n p begins is_put same ends up puts =
+    cut_ups n (cut_lead p begins is_put ends) up (take_rest rest (2 * n))
     (puts ∙ ap (λ k. overlay at (take (k - at) (text_of (ups n))) out) same) refl
 
 -- if no run is left, the path is written
@@ -269,22 +269,22 @@ nothing_none s l v vs fit e = omega (
 
 -- if what is left has as many bytes as there is room for its text, and these are put there as
 -- names, the path is written
-pub cut_plain : {key rest old out new : List ℕ} {at : ℕ} (b : Bor (List ℕ))
+pub cut_names : {key rest old out new : List ℕ} {at : ℕ} (b : Bor (List ℕ))
     → SpellsCut key rest old at out → length rest ≡ length old + 1 - at → 0 < length rest
     → new ≡ overlay at (map decoded (take (length old - at) rest)) out
     → HasPath key (length old) → IsRead key new
-cut_plain {key} {rest} {old} {out} {new} {at} b h long some placed p =
+cut_names {key} {rest} {old} {out} {new} {at} b h long some is_put p =
     let n = length old - at in
     let leaves = cut_leaves h in
     let names = take n rest in
     let bytes : Bor (List ℕ) = record b { now = names } in
     let less : n ≡ length rest - 1 = omega (arith, long, leaves.0) in
-    let run = plain_left bytes rest (length old + 1 - at) leaves.1 long some
+    let run = names_left bytes rest (length old + 1 - at) leaves.1 long some
     (ap (λ k. take k rest) less) in
     let size : length names ≡ n = length-take-le n rest (omega (arith, less)) in
     let text : take n (map decoded names ++ slash ∷ []) ≡ map decoded names =
     take_at (map decoded names) (slash ∷ []) n (length-map names decoded ∙ size) in
-    cut_all (cut_one h run refl (placed ∙ ap (λ t. overlay at t out) (sym text)) refl)
+    cut_all (cut_one h run refl (is_put ∙ ap (λ t. overlay at t out) (sym text)) refl)
     (nothing_none _ (omega (
       arith,
       length-drop (length (names ++ 0 ∷ [])) rest,

@@ -5,7 +5,7 @@ use Rattle.std.proofs.Common.{subst, arith, append_assoc, length-append, ◌&&�
 use Rattle.std.proofs.lemmas.Bool.{false≢true, true≢false}
 use Rattle.std.proofs.lemmas.Bool.Decides.{nat_tests}
 use Rattle.unix_path.specs.Parts.{is_slash, Value, RootDir, CurDir, ParentDir, Normal}
-use Rattle.unix_bytes.proofs.lemmas.lists.CaseLemmas.{by_test}
+use Rattle.unix_bytes.proofs.lemmas.lists.ListLemmas.{by_test}
 use Rattle.path_keys.specs.Keys.{key_of, raised}
 use Rattle.path_keys.specs.Codes.{AllFit, IsName}
 use Rattle.path_keys.specs.Runs.{BeginsUps, HoldsNone}

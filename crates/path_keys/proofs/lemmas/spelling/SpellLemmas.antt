@@ -35,7 +35,7 @@ pub record SpellsOn (key rest old : List ℕ) (at : ℕ) (out : List ℕ) : Type
 pub spells_lead : {key rest old out : List ℕ} {lead : Lead} {at : ℕ} → ReadsAs key (length old)
     → BeginsLead key rest lead → out ≡ overlay 0 (lead_text lead) old
     → at ≡ length (lead_text lead) → SpellsOn key rest old at out
-spells_lead {key} {rest} {old} {out} {lead} {at} h k placed ends = by begins.0 begins.1
+spells_lead {key} {rest} {old} {out} {lead} {at} h k is_put ends = by begins.0 begins.1
   where
     begins : (ws : List Value) × (k.vs ++ ws ≡ h.vs)
     begins = key_of-begins k.vs h.vs (AllFit-coded true k.vs k.fit) (AllFit-coded true h.vs h.fit)
@@ -57,7 +57,7 @@ spells_lead {key} {rest} {old} {out} {lead} {at} h k placed ends = by begins.0 b
           room = ap (λ vs. length (text_of vs)) e ∙ sym h.len_is;
           written = writes_stretch (lead_text lead) (text_of ws)
               (writes_first (text_of (k.vs ++ ws)) old refl)
-              (text_of-append k.vs ws ∙ ap (λ t. t ++ text_of ws) k.text_is) placed
+              (text_of-append k.vs ws ∙ ap (λ t. t ++ text_of ws) k.text_is) is_put
               (omega (arith, ends));
         }
 
@@ -122,7 +122,7 @@ pub spells_one : {key rest old out more new : List ℕ} {at end : ℕ} {run : Ru
     → SpellsOn key rest old at out → TakesRun rest run
     → more ≡ drop (length (run_code run)) rest → new ≡ overlay at (run_text run) out
     → end ≡ at + length (run_text run) → SpellsOn key more old end new
-spells_one {key} {rest} {old} {out} {more} {new} {at} {end} {run} h k e placed ends =
+spells_one {key} {rest} {old} {out} {more} {new} {at} {end} {run} h k e is_put ends =
     let next = next_is h.ws h.inner h.rest_is k in
     let all : h.us ++ h.ws ≡ (h.us ++ k.vs) ++ next.more =
     ap (λ ws. h.us ++ ws) next.is ∙ sym (append_assoc h.us k.vs next.more) in
@@ -136,7 +136,7 @@ spells_one {key} {rest} {old} {out} {more} {new} {at} {end} {run} h k e placed e
       room = ap (λ vs. length (text_of vs)) (sym all) ∙ h.room;
       written = subst (λ vs. WritesOn (text_of vs) old end new (text_of next.more)) all
           (writes_stretch (run_text run) (text_of next.more) h.written
-          (text_left k.vs next.more run next.is k.text_is) placed ends);
+          (text_left k.vs next.more run next.is k.text_is) is_put ends);
     }
 
 -- if what is left is the key of no values, none are left

@@ -157,8 +157,8 @@ pub ups_put_more : (at n k : ℕ) (old out new : List ℕ) → at ≤ length old
     → out ≡ overlay at (text_of (ups n)) old
     → new ≡ overlay (at + 3 * n) (text_of (ups k)) out
     → new ≡ overlay at (text_of (ups (n + k))) old
-ups_put_more at n k old out new l is placed =
-    placed ∙ ap₂ (λ j o. overlay (at + j) (text_of (ups k)) o) (sym (ups_text_len n)) is
+ups_put_more at n k old out new l is is_put =
+    is_put ∙ ap₂ (λ j o. overlay (at + j) (text_of (ups k)) o) (sym (ups_text_len n)) is
     ∙ overlay-overlay at (text_of (ups n)) (text_of (ups k)) old l
     ∙ ap (λ t. overlay at t old)
     (sym (ap text_of (ups_append n k) ∙ text_of-append (ups n) (ups k)))
@@ -168,8 +168,8 @@ pub ups_put_one : (at n : ℕ) (old out new : List ℕ) → at ≤ length old
     → out ≡ overlay at (text_of (ups n)) old
     → new ≡ overlay (at + 3 * n) (slashed ParentDir) out
     → new ≡ overlay at (text_of (ups (n + 1))) old
-ups_put_one at n old out new l is placed = ups_put_more at n 1 old out new l is
-    (placed ∙ ap (λ t. overlay (at + 3 * n) t out) (sym (text_of-cons ParentDir []
+ups_put_one at n old out new l is is_put = ups_put_more at n 1 old out new l is
+    (is_put ∙ ap (λ t. overlay (at + 3 * n) t out) (sym (text_of-cons ParentDir []
     ∙ ap (λ t. slashed ParentDir ++ t) text_of-nil)))
 
 -- the last `../` is put, as far as there is room
@@ -177,12 +177,12 @@ pub ups_put_last : (at n : ℕ) (old out new : List ℕ) → at + 3 * n + 3 ≤ 
     → out ≡ overlay at (text_of (ups n)) old
     → new ≡ overlay (at + 3 * n) (take (length old - (at + 3 * n)) (slashed ParentDir)) out
     → new ≡ overlay at (take (length old - at) (text_of (ups (n + 1)))) old
-ups_put_last at n old out new l is placed =
+ups_put_last at n old out new l is is_put =
     let t = text_of (ups n) in
     let m = length old - (at + 3 * n) in
     let long = ups_text_len n in
     let room : length t + m ≡ length old - at = omega (arith, long) in
-    placed ∙ ap₂ (λ k o. overlay (at + k) (take m (slashed ParentDir)) o) (sym long) is
+    is_put ∙ ap₂ (λ k o. overlay (at + k) (take m (slashed ParentDir)) o) (sym long) is
     ∙ overlay-overlay at t (take m (slashed ParentDir)) old (omega arith)
     ∙ ap (λ xs. overlay at xs old) (sym (take-append-add t (slashed ParentDir) m)
     ∙ ap₂ (λ k xs. take k xs) room (sym (ups_text-behind n)))

@@ -10,7 +10,7 @@ use Rattle.std.proofs.lemmas.Slice.Eq.{bytes_eq-Decides}
 use Rattle.std.specs.List.{AllByRecursion, position_or_len}
 use Rattle.std.specs.Str.{bytes_eq}
 use Rattle.unix_path.specs.Parts.{slash, cur_dir, parent_dir, Normal}
-use Rattle.unix_bytes.proofs.lemmas.lists.CaseLemmas.{by_test}
+use Rattle.unix_bytes.proofs.lemmas.lists.ListLemmas.{by_test}
 use Rattle.path_keys.specs.Keys.{code, raised}
 use Rattle.path_keys.specs.Codes.{lowered, IsName, TakesCode}
 use Rattle.path_keys.proofs.lemmas.values.LoweredLemmas.{NoZero, is_zero, map-raised-lowered}

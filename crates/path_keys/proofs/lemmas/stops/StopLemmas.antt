@@ -44,7 +44,7 @@ is_stop-append m p xs ys i =
     at : (k n : ℕ) → k ≡ length xs + n → get_or (xs ++ ys) k m ≡ get_or ys n m
     at k n e = ap (λ n. get_or (xs ++ ys) n m) e ∙ get_or-append-add xs ys n m
 
--- the byte at i in the front of a string that ends before a mark or with the string
+-- the byte at i in the beginning of a string that ends before a mark or with the string
 front_same : (m : ℕ) (s : List ℕ) (n i : ℕ) → n ≤ length s → get_or s n m ≡ m → i ≤ n
     → get_or (take n s) i m ≡ get_or s i m
 front_same m s n i l e few = ⊎_elim
@@ -54,11 +54,11 @@ front_same m s n i l e few = ⊎_elim
     ∙ sym (ap (λ k. get_or s k m) {x = i} {y = n} (omega arith) ∙ e))
     (cases_lt i n)
 
--- behind that front a mark is read
+-- behind that beginning a mark is read
 front_past : (m : ℕ) (s : List ℕ) (n i : ℕ) → n ≤ length s → n ≤ i → get_or (take n s) i m ≡ m
 front_past m s n i l past = get_or_past (take n s) i m (omega (arith, length-take-le n s l))
 
--- in the front that ends there names begin where they do in the string
+-- in the beginning that ends there names begin where they do in the string
 pub none_begins-take : (m p : ℕ) (s : List ℕ) (n i : ℕ) → n ≤ length s → get_or s n m ≡ m → i ≤ n
     → none_begins m p (take n s) i ≡ none_begins m p s i
 none_begins-take m p s n i l e few = ⊎_elim inside at_end (cases_lt i n)

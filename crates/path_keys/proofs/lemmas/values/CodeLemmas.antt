@@ -9,7 +9,7 @@ use Rattle.std.specs.Str.{bytes_eq}
 use Rattle.unix_path.specs.Parts.{Value, RootDir, CurDir, ParentDir, Normal, parent_dir, values}
 use Rattle.unix_path.specs.Order.{value_cmp}
 use Rattle.unix_path.specs.OrderLaws.{value_cmp-equal}
-use Rattle.unix_bytes.proofs.lemmas.lists.CaseLemmas.{by_test}
+use Rattle.unix_bytes.proofs.lemmas.lists.ListLemmas.{by_test}
 use Rattle.path_runs.proofs.lemmas.spelling.PieceValueLemmas.{HoldsOfPieces, NoSlash, values-hold}
 use Rattle.path_keys.specs.Keys.{code}
 use Rattle.path_keys.specs.Ranges.{bytes_cmp}

@@ -4,7 +4,7 @@ use Rattle.std.proofs.Common.{arith}
 use Rattle.unix_path.specs.Joins.{join_of}
 use Rattle.unix_path.specs.Parts.{Part, leading_part, inner_parts, parts, is_rooted, values}
 use Rattle.unix_path.specs.CommonDir.{inner_values}
-use Rattle.unix_bytes.proofs.lemmas.lists.CaseLemmas.{by_test}
+use Rattle.unix_bytes.proofs.lemmas.lists.ListLemmas.{by_test}
 use Rattle.unix_path.proofs.lemmas.edits.JoinLemmas.{join_of_open}
 use Rattle.unix_path.proofs.lemmas.parts.PartLemmas.{values-nil}
 use Rattle.path_runs.proofs.lemmas.joins.ValueLemmas.{values-join_of}

@@ -5,9 +5,9 @@ use Rattle.std.proofs.lemmas.List.{nil_from_length}
 use Rattle.std.specs.List.{slice_split}
 use Rattle.unix_path.specs.CommonDir.{inner_values}
 use Rattle.unix_path.specs.Parts.{RootDir, CurDir, is_slash, is_rooted, values}
-use Rattle.unix_path.specs.Scan.{is_idle}
+use Rattle.unix_path.specs.Scan.{is_filler}
 use Rattle.unix_path.proofs.lemmas.order.CommonPrefixLemmas.{inner_values-nil}
-use Rattle.unix_path.proofs.lemmas.filler.IdleLemmas.{first_piece_dot, values-busy}
+use Rattle.unix_path.proofs.lemmas.filler.FillerLemmas.{first_piece_dot, values-busy}
 use Rattle.unix_path.proofs.lemmas.parts.PartLemmas.{values-nil}
 use Rattle.unix_path.proofs.lemmas.parts.PieceLemmas.{slice_split-first}
 use Rattle.path_runs.proofs.lemmas.joins.LeadLemmas.{dot_first, lead_by, values-lead}
@@ -21,7 +21,7 @@ lead-none s e =
     ap (λ s. key_of (values s)) none ∙ ap key_of (values-nil ∙ sym inner_values-nil)
     ∙ sym (ap (λ s. key_of (inner_values s)) none)
 
-pub lead-busy : (s : List ℕ) → is_idle s 0 ≡ false
+pub lead-busy : (s : List ℕ) → is_filler s 0 ≡ false
     → key_of (values s) ≡ key_of (inner_values s)
 lead-busy s busy = ap key_of (values-busy s busy)
 
@@ -36,12 +36,12 @@ lead-root (x ∷ s) l e =
     ∙ key_of-cons RootDir (inner_values (x ∷ s))
 
 -- the key of a path that begins with a `.` that counts
-pub lead-dot : (s : List ℕ) → 0 < length s → is_idle s 0 ≡ true → (get_or s 0 0 ≡ 47 → ⊥)
+pub lead-dot : (s : List ℕ) → 0 < length s → is_filler s 0 ≡ true → (get_or s 0 0 ≡ 47 → ⊥)
     → key_of (values s) ≡ (0 ∷ 2 ∷ []) ++ key_of (inner_values s)
-lead-dot [] l idle e = absurd (omega arith)
-lead-dot (x ∷ s) l idle e =
+lead-dot [] l filler e = absurd (omega arith)
+lead-dot (x ∷ s) l filler e =
     let no_root : is_rooted (x ∷ s) ≡ false = ne_eqb x 47 e in
-    let dotted : (eqb x 46 && eqb (get_or s 0 47) 47) ≡ true = rw no_root at idle in
+    let dotted : (eqb x 46 && eqb (get_or s 0 47) 47) ≡ true = rw no_root at filler in
     let first : dot_first (slice_split is_slash (x ∷ s)) ≡ true =
     ap dot_first (slice_split-first (x ∷ s)) ∙ first_piece_dot (x ∷ s) ∙ dotted in
     ap key_of (values-lead (x ∷ s)

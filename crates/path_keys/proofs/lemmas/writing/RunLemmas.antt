@@ -11,8 +11,8 @@ use Rattle.std.specs.List.{AllByRecursion, slice_split, onto_first, position_or_
 use Rattle.unix_path.specs.CommonDir.{inner_values}
 use Rattle.unix_path.specs.Parts.{ParentDir, Normal, Part, is_slash, slash}
 use Rattle.unix_path.specs.Parts.{counts, inner_parts, value_of_piece, values}
-use Rattle.unix_path.specs.Scan.{begins_with_parent, is_idle}
-use Rattle.unix_bytes.proofs.lemmas.lists.CaseLemmas.{by_test}
+use Rattle.unix_path.specs.Scan.{begins_with_parent, is_filler}
+use Rattle.unix_bytes.proofs.lemmas.lists.ListLemmas.{by_test}
 use Rattle.unix_path.proofs.lemmas.order.CommonPrefixLemmas.{inner_values-nil}
 use Rattle.unix_path.proofs.lemmas.steps.LeadLemmas.{busy_no_slash, first_value-name}
 use Rattle.unix_path.proofs.lemmas.steps.LeadLemmas.{length-parent_first}
@@ -26,12 +26,12 @@ use Rattle.path_keys.specs.Stretches.{coded, AreNamesTo, FirstStop, IsRun}
 use Rattle.path_keys.proofs.lemmas.stops.StopLemmas.{stop_mark, unstopped_to}
 use Rattle.path_keys.proofs.lemmas.reading.FitLemmas.{values-fit}
 use Rattle.path_keys.proofs.lemmas.values.KeyLemmas.{key_of-cons, key_of-append}
-use Rattle.unix_path.proofs.lemmas.filler.IdleLemmas.{values-busy}
+use Rattle.unix_path.proofs.lemmas.filler.FillerLemmas.{values-busy}
 use Rattle.path_keys.proofs.lemmas.writing.StretchLemmas.{later, later_names, some_piece}
 use Rattle.path_keys.proofs.lemmas.writing.StretchLemmas.{stretch_key}
 
 -- the first value of a string that begins with neither filler nor `..` is its first piece
-values-first : (s : List ℕ) → 0 < length s → is_idle s 0 ≡ false → begins_with_parent s ≡ false
+values-first : (s : List ℕ) → 0 < length s → is_filler s 0 ≡ false → begins_with_parent s ≡ false
     → values s ≡ Normal (first_piece s) ∷ map (λ (p : Part). p.value)
     (inner_parts (position_or_len is_slash s) (drop (position_or_len is_slash s) s))
 unfolding values
@@ -42,12 +42,12 @@ values-first s l busy e =
     (first_value-name s l busy e)
 
 -- the first piece of a string that begins with neither filler nor `..` is a name
-first_name : (s : List ℕ) → 0 < length s → is_idle s 0 ≡ false → begins_with_parent s ≡ false
+first_name : (s : List ℕ) → 0 < length s → is_filler s 0 ≡ false → begins_with_parent s ≡ false
     → IsName (first_piece s)
 first_name s l busy e = (subst (AllFit true) (values-first s l busy e) (values-fit s)).0
 
 -- `..` is a run
-pub run-up : (s : List ℕ) → is_idle s 0 ≡ false → begins_with_parent s ≡ true → IsRun s 2
+pub run-up : (s : List ℕ) → is_filler s 0 ≡ false → begins_with_parent s ≡ true → IsRun s 2
 run-up s busy e = record {
   some = omega arith;
   in_range = length-parent_first s e;
@@ -144,7 +144,7 @@ first_stops s n l h none =
     ∙ eq-eqb (get_or s n 0) 47 (stop_mark 47 46 s n h (omega arith))
 
 -- what stands before the first stop is a run of names
-pub run-names : (s : List ℕ) (n : ℕ) → 0 < length s → is_idle s 0 ≡ false
+pub run-names : (s : List ℕ) (n : ℕ) → 0 < length s → is_filler s 0 ≡ false
     → begins_with_parent s ≡ false → FirstStop s n → IsRun s n
 run-names s n l busy e h =
     let t = take n s in
@@ -167,7 +167,7 @@ run-names s n l busy e h =
     }
 
 -- what stands before the first stop are names
-pub names_to : (s : List ℕ) (n : ℕ) → 0 < length s → is_idle s 0 ≡ false
+pub names_to : (s : List ℕ) (n : ℕ) → 0 < length s → is_filler s 0 ≡ false
     → begins_with_parent s ≡ false → FirstStop s n → AreNamesTo s n
 names_to s n l busy e h =
     let run = run-names s n l busy e h in

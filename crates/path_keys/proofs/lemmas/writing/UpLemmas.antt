@@ -10,7 +10,7 @@ use Rattle.std.proofs.lemmas.List.Splits.{slice_split-cons_yes}
 use Rattle.std.specs.Prelude.{codes}
 use Rattle.unix_path.specs.CommonDir.{inner_values}
 use Rattle.unix_path.specs.Parts.{is_slash, slash}
-use Rattle.unix_path.specs.Scan.{begins_with_parent, is_idle}
+use Rattle.unix_path.specs.Scan.{begins_with_parent, is_filler}
 use Rattle.unix_path.proofs.lemmas.steps.LeadLemmas.{length-parent_first}
 use Rattle.path_runs.proofs.lemmas.lists.OverlayLemmas.{overlay-bytes_over}
 use Rattle.path_runs.proofs.lemmas.spelling.PieceValueLemmas.{inner_values-pieces, names_of}
@@ -20,13 +20,13 @@ use Rattle.path_keys.specs.Stretches.{coded, IsUp, PutsFirst}
 use Rattle.path_keys.proofs.lemmas.writing.RunLemmas.{run-up}
 
 -- a string that begins with `..` begins with no filler
-up_busy : (s : List ℕ) → begins_with_parent s ≡ true → is_idle s 0 ≡ false
+up_busy : (s : List ℕ) → begins_with_parent s ≡ true → is_filler s 0 ≡ false
 up_busy [] e = cc
 up_busy (b ∷ []) e = absurd (omega (arith, length-parent_first (b ∷ []) e))
 up_busy (b ∷ c ∷ s) e =
     let first = and_parts (eqb b 46) (eqb c 46 && eqb (get_or s 0 47) 47) e in
     let second = and_parts (eqb c 46) (eqb (get_or s 0 47) 47) first.1 in
-    ap₂ (λ b c. is_idle (b ∷ c ∷ s) 0) (eqb-true b 46 first.0) (eqb-true c 46 second.0)
+    ap₂ (λ b c. is_filler (b ∷ c ∷ s) 0) (eqb-true b 46 first.0) (eqb-true c 46 second.0)
 
 -- the key of a string that begins with `..`
 pub up_key : (s : List ℕ) → begins_with_parent s ≡ true
@@ -87,12 +87,12 @@ ups_none s at old l = record {
     here = omega arith
 
 -- there is room for the marks of more `..`
-pub ups_room : {s rest old out : List ℕ} {at count : ℕ} (k : ℕ) (marks : List ℕ)
+pub ups_room : {s rest old out : List ℕ} {at count : ℕ} (k : ℕ) (ups_code : List ℕ)
     → UpsPut s rest at count old out
-    → key_of (inner_values rest) ≡ marks ++ key_of (inner_values (drop (3 * k) rest))
+    → key_of (inner_values rest) ≡ ups_code ++ key_of (inner_values (drop (3 * k) rest))
     → at + length (key_of (inner_values s)) ≤ length old
-    → at + 2 * count + length marks ≤ length old
-ups_room {s} {rest} {old} {out} {at} {count} k marks h up fits =
+    → at + 2 * count + length ups_code ≤ length old
+ups_room {s} {rest} {old} {out} {at} {count} k ups_code h up fits =
     let p = h.puts in
     let more = key_of (inner_values (drop (3 * count) s)) in
     omega (
@@ -103,23 +103,23 @@ ups_room {s} {rest} {old} {out} {at} {count} k marks h up fits =
       length-append p.lead more,
       ap (λ r. length (key_of (inner_values r))) h.rest_is,
       ap length up,
-      length-append marks (key_of (inner_values (drop (3 * k) rest))),
+      length-append ups_code (key_of (inner_values (drop (3 * k) rest))),
     )
 
 -- the marks of more `..` are put
-pub ups_more : {s rest more old out new : List ℕ} {at count : ℕ} (k : ℕ) (marks : List ℕ)
+pub ups_more : {s rest more old out new : List ℕ} {at count : ℕ} (k : ℕ) (ups_code : List ℕ)
     → UpsPut s rest at count old out
-    → key_of (inner_values rest) ≡ marks ++ key_of (inner_values (drop (3 * k) rest))
-    → 2 * k ≡ length marks → 3 * k ≤ length rest → at ≤ length old → more ≡ drop (3 * k) rest
-    → new ≡ overlay (at + 2 * count) marks out → UpsPut s more at (count + k) old new
-ups_more {s} {rest} {more} {old} {out} {new} {at} {count} k marks h up long within l e placed =
+    → key_of (inner_values rest) ≡ ups_code ++ key_of (inner_values (drop (3 * k) rest))
+    → 2 * k ≡ length ups_code → 3 * k ≤ length rest → at ≤ length old → more ≡ drop (3 * k) rest
+    → new ≡ overlay (at + 2 * count) ups_code out → UpsPut s more at (count + k) old new
+ups_more {s} {rest} {more} {old} {out} {new} {at} {count} k ups_code h up long within l e is_put =
     let p = h.puts in
     let behind : drop (3 * k) rest ≡ drop (3 * (count + k)) s =
     ap (drop (3 * k)) h.rest_is ∙ drop-drop (3 * k) (3 * count) s
     ∙ ap (λ n. drop n s) {x = 3 * count + 3 * k} {y = 3 * (count + k)} (omega arith) in
     record {
       puts = record {
-        lead = p.lead ++ marks;
+        lead = p.lead ++ ups_code;
         in_range = omega (
           arith,
           p.in_range,
@@ -129,11 +129,11 @@ ups_more {s} {rest} {more} {old} {out} {new} {at} {count} k marks h up long with
         );
         split = p.split ∙ ap (λ r. p.lead ++ key_of (inner_values r)) (sym h.rest_is)
             ∙ ap (λ k. p.lead ++ k) up
-            ∙ sym (append_assoc p.lead marks (key_of (inner_values (drop (3 * k) rest))))
-            ∙ ap (λ r. (p.lead ++ marks) ++ key_of (inner_values r)) behind;
-        len_is = omega (arith, p.len_is, long, length-append p.lead marks);
-        new_is = placed ∙ ap₂ (λ n o. overlay (at + n) marks o) p.len_is p.new_is
-            ∙ overlay-overlay at p.lead marks old l;
+            ∙ sym (append_assoc p.lead ups_code (key_of (inner_values (drop (3 * k) rest))))
+            ∙ ap (λ r. (p.lead ++ ups_code) ++ key_of (inner_values r)) behind;
+        len_is = omega (arith, p.len_is, long, length-append p.lead ups_code);
+        new_is = is_put ∙ ap₂ (λ n o. overlay (at + n) ups_code o) p.len_is p.new_is
+            ∙ overlay-overlay at p.lead ups_code old l;
       };
       rest_is = e ∙ behind;
     }

@@ -23,8 +23,8 @@ pub written_up : {whole old out new : List ℕ} {at : ℕ} (s : List ℕ)
     → begins_with_parent s ≡ true → WritesOn whole old at out (key_of (inner_values s))
     → new ≡ overlay at (0 ∷ 3 ∷ []) out
     → WritesOn whole old (at + 2) new (key_of (inner_values (drop 2 s)))
-written_up {whole} {old} {out} {new} {at} s e h placed =
-    writes_stretch (0 ∷ 3 ∷ []) (key_of (inner_values (drop 2 s))) h (up_key s e) placed refl
+written_up {whole} {old} {out} {new} {at} s e h is_put =
+    writes_stretch (0 ∷ 3 ∷ []) (key_of (inner_values (drop 2 s))) h (up_key s e) is_put refl
 
 -- there is room for all that is left
 pub room_left : {whole old out left : List ℕ} {at : ℕ} → WritesOn whole old at out left
@@ -67,7 +67,7 @@ pub written_names : {whole old out new : List ℕ} {at end : ℕ} (s left : List
     → inner_values (drop n s) ≡ inner_values left
     → new ≡ overlay at (map coded (take n s) ++ 0 ∷ []) out
     → end ≡ at + n + 1 → WritesOn whole old end new (key_of (inner_values left))
-written_names {whole} {old} {out} {new} {at} {end} s left n names h same placed ends =
+written_names {whole} {old} {out} {new} {at} {end} s left n names h same is_put ends =
     writes_stretch (map coded (take n s) ++ 0 ∷ []) (key_of (inner_values left)) h
     (names.split ∙ ap (λ vs. (map coded (take n s) ++ 0 ∷ []) ++ key_of vs) same)
-    placed (omega (arith, ends, names_len s n names.in_range))
+    is_put (omega (arith, ends, names_len s n names.in_range))

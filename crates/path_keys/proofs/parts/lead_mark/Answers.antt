@@ -8,9 +8,9 @@ returns-then-is_empty c =
     let none : length c.args.path.now ≡ 0 = grind (arith, nat_tests) in
     lead-none c.args.path.now none
 
-pub returns-then-not-is_idle : goal.returns-then-not-is_idle
-returns-then-not-is_idle c =
-    lead-busy c.args.path.now (sym c.is_idle.ensures ∙ c.if-not-is_idle.true)
+pub returns-then-not-is_filler : goal.returns-then-not-is_filler
+returns-then-not-is_filler c =
+    lead-busy c.args.path.now (sym c.is_filler.ensures ∙ c.if-not-is_filler.true)
 
 pub returns-then-path-eq47 : goal.returns-then-path-eq47
 returns-then-path-eq47 c =
@@ -20,5 +20,5 @@ returns-then-path-eq47 c =
 pub returns : goal.returns
 returns c =
     let some : 0 < length c.args.path.now = grind (arith, nat_tests) in
-    lead-dot c.args.path.now some (sym c.is_idle.ensures ∙ c.if-not-is_idle.false)
+    lead-dot c.args.path.now some (sym c.is_filler.ensures ∙ c.if-not-is_filler.false)
     c.if-path-eq47.false

@@ -8,6 +8,6 @@ use Rattle.path_keys.proofs.parts.past_filler.Goals as goal
 pub returns-clause-same : goal.returns-clause-same
 returns-clause-same c =
     let s = c.args.bytes.now in
-    let n = c.idle_len.result in
-    ap (map (λ (p : Part). p.value)) (c.idle_len.ensures.idle 0)
+    let n = c.filler_len.result in
+    ap (map (λ (p : Part). p.value)) (c.filler_len.ensures.filler 0)
     ∙ values-inner_parts (0 + n) (drop n s) ∙ sym (ap inner_values (take_rest s n))

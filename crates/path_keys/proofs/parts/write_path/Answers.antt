@@ -11,45 +11,45 @@ use Rattle.path_keys.proofs.lemmas.writing.WrittenLemmas.{room_up, room_left, ro
 use Rattle.path_keys.proofs.lemmas.writing.WrittenLemmas.{written_up, written_first, written_names}
 use Rattle.path_keys.proofs.parts.write_path.Goals as goal
 
-pub place_up-requires : goal.place_up-requires
-place_up-requires c = omega (
+pub write_up-requires : goal.write_up-requires
+write_up-requires c = omega (
   arith,
   c.loop-left.auto.out,
   room_up c.loop-left.left.now (sym c.begins_with_parent.ensures ∙ c.if-begins_with_parent.true)
       c.loop-left.invariant.written c.requires,
 )
 
-pub place_ups-ups-requires : goal.place_ups-ups-requires
-place_ups-ups-requires c =
+pub write_ups-ups-requires : goal.write_ups-ups-requires
+write_ups-ups-requires c =
     let s = c.loop-left.left.now in
     omega (
       arith,
       c.loop-left.auto.out,
-      c.place_up.auto.out,
+      c.write_up.auto.out,
       ap (λ r. length (key_of (inner_values r))) (take_rest s 2),
       room_left (written_up s (sym c.begins_with_parent.ensures ∙ c.if-begins_with_parent.true)
-          c.loop-left.invariant.written c.place_up.ensures) c.requires,
+          c.loop-left.invariant.written c.write_up.ensures) c.requires,
     )
 
 pub loop-left-preserved-then-begins_with_parent : goal.loop-left-preserved-then-begins_with_parent
 loop-left-preserved-then-begins_with_parent c =
     let s = c.loop-left.left.now in
-    let ups = c.place_ups-ups in
+    let ups = c.write_ups-ups in
     let left = c.past_filler-left-then-begins_with_parent in
     record {
       busy = left.ensures.busy;
       written = written_first (drop 2 s) left.result.now
           (written_up s (sym c.begins_with_parent.ensures ∙ c.if-begins_with_parent.true)
-          c.loop-left.invariant.written c.place_up.ensures)
+          c.loop-left.invariant.written c.write_up.ensures)
           (subst (λ r. PutsFirst r (3 * ups.result) (c.loop-left.at + 2) (2 * ups.result)
-          c.place_up.new.out ups.new.out) (take_rest s 2) ups.ensures)
+          c.write_up.new.out ups.new.out) (take_rest s 2) ups.ensures)
           (ap inner_values (drop-drop (3 * ups.result) 2 s
           ∙ sym (take_rest s (2 + 3 * ups.result))) ∙ left.ensures.same)
           (omega arith);
     }
 
-pub place_names-requires : goal.place_names-requires
-place_names-requires c =
+pub write_names-requires : goal.write_names-requires
+write_names-requires c =
     let n = c.names_len-end.result in
     omega (
       arith,
@@ -68,7 +68,7 @@ loop-left-preserved c =
       written = written_names c.loop-left.left.now left.result.now n c.names_len-end.ensures
           c.loop-left.invariant.written
           (ap inner_values (sym (take_rest c.loop-left.left.now n)) ∙ left.ensures.same)
-          c.place_names.ensures (omega arith);
+          c.write_names.ensures (omega arith);
     }
 
 pub returns-clause-out : goal.returns-clause-out

@@ -10,19 +10,19 @@ use Rattle.path_keys.proofs.spelled.write_runs.Goals as goal
 
 pub loop-run-init : goal.loop-run-init
 loop-run-init c =
-    cut_lead c.requires c.past_lead-started.ensures c.place_lead.ensures c.len_in_path-at.ensures
+    cut_lead c.requires c.past_lead-started.ensures c.write_lead.ensures c.len_in_path-at.ensures
 
 pub next_run-requires : goal.next_run-requires
 next_run-requires c =
     subst (λ n. LeavesText c.loop-run.rest.now (n + 1 - c.loop-run.at))
-    (sym (c.loop-run.auto.out ∙ c.place_lead.auto.out)) (cut_leaves c.loop-run.invariant).1
+    (sym (c.loop-run.auto.out ∙ c.write_lead.auto.out)) (cut_leaves c.loop-run.invariant).1
 
-pub place_run-requires : goal.place_run-requires
-place_run-requires c =
+pub write_run-requires : goal.write_run-requires
+write_run-requires c =
     omega (
       arith,
       c.loop-run.auto.out,
-      c.place_lead.auto.out,
+      c.write_lead.auto.out,
       cut_room c.loop-run.invariant c.in-Some.ensures.some,
     )
 
@@ -31,7 +31,7 @@ text_len-at-requires c =
     omega (
       arith,
       c.loop-run.auto.out,
-      c.place_lead.auto.out,
+      c.write_lead.auto.out,
       cut_room c.loop-run.invariant c.in-Some.ensures.some,
     )
 
@@ -39,7 +39,7 @@ pub len-requires : goal.len-requires
 len-requires c = omega (
   arith,
   c.loop-run.auto.out,
-  c.place_lead.auto.out,
+  c.write_lead.auto.out,
   cut_room c.loop-run.invariant c.in-Some.ensures.some,
   code_small c.in-Some.run',
 )
@@ -59,8 +59,8 @@ overflow_add-at c =
     omega (
       arith,
       c.loop-run.auto.out,
-      c.place_lead.auto.out,
-      c.place_lead.auto.out,
+      c.write_lead.auto.out,
+      c.write_lead.auto.out,
       cut_room c.loop-run.invariant c.in-Some.ensures.some,
       c.text_len-at.ensures,
     )
@@ -70,9 +70,9 @@ loop-run-preserved c =
     cut_one c.loop-run.invariant c.in-Some.ensures.some
     (take_rest c.loop-run.rest.now c.len.result
     ∙ ap (λ n. drop n c.loop-run.rest.now) c.len.ensures)
-    (c.place_run.ensures ∙ ap (λ n. overlay c.loop-run.at
+    (c.write_run.ensures ∙ ap (λ n. overlay c.loop-run.at
     (take (n - c.loop-run.at) (run_text c.in-Some.run')) c.loop-run.out)
-    (c.loop-run.auto.out ∙ c.place_lead.auto.out))
+    (c.loop-run.auto.out ∙ c.write_lead.auto.out))
     (ap (λ n. c.loop-run.at + n) c.text_len-at.ensures)
 
 pub returns : goal.returns

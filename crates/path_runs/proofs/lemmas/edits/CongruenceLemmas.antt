@@ -11,7 +11,7 @@ use Rattle.unix_path.specs.Names.{file_name_of, split_name}
 use Rattle.unix_path.specs.Edits.{popped_of, before_name_of, with_name_of}
 use Rattle.unix_path.specs.Edits.{dot_before, with_extension_of}
 use Rattle.unix_path.specs.Extensions.{has_slash, added_extension_of}
-use Rattle.unix_bytes.proofs.lemmas.lists.CaseLemmas.{by_test}
+use Rattle.unix_bytes.proofs.lemmas.lists.ListLemmas.{by_test}
 use Rattle.unix_path.proofs.lemmas.rests.MiddleLemmas.{middle}
 use Rattle.unix_path.proofs.lemmas.rests.RestLemmas.{values-rest}
 use Rattle.unix_path.proofs.lemmas.names.NameEndLemmas.{name_end_of-none}

@@ -16,7 +16,7 @@ use Rattle.unix_path.specs.Joins.{is_open, join_of}
 use Rattle.unix_path.specs.Edits.{before_name_of, dot_before, popped_of, stem_end_of, with_name_of}
 use Rattle.unix_path.specs.Edits.{with_extension_of}
 use Rattle.unix_path.specs.Extensions.{added_extension_of, name_end_of}
-use Rattle.unix_bytes.proofs.lemmas.lists.CaseLemmas.{by_test}
+use Rattle.unix_bytes.proofs.lemmas.lists.ListLemmas.{by_test}
 use Rattle.unix_path.proofs.lemmas.edits.EditLemmas.{dot_before-some, file_name_of-stem}
 use Rattle.unix_path.proofs.lemmas.edits.EditLemmas.{popped_of-none}
 use Rattle.unix_path.proofs.lemmas.edits.EditLemmas.{with_extension_of-none, with_extension_of-some}

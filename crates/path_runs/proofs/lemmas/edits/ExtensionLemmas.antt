@@ -1,4 +1,4 @@
--- A path with a plain extension set.
+-- A path with a simple extension set.
 use Rattle.std.proofs.Common.{◌≡◌, ℕ, ◌<◌, true, List, [], ◌∷◌, ◌++◌, length, Option}
 use Rattle.std.proofs.Common.{Some, None, is_some, option_map, refl, sym, ap, subst, ◌∙◌, arith}
 use Rattle.std.proofs.Common.{append_assoc, length-append}
@@ -14,8 +14,8 @@ use Rattle.unix_path.proofs.lemmas.edits.EditLemmas.{dot_before-some}
 use Rattle.path_runs.specs.declared.edits.Answer.TheVariants.{Flag, Separator}
 use Rattle.path_runs.specs.EditLists.{SetExtension, edit_of}
 use Rattle.path_runs.specs.JoinLaws.{drop_lead}
-use Rattle.path_runs.specs.EditLaws.{HasNone, IsPlainExtension, TakesExtension}
-use Rattle.unix_bytes.proofs.lemmas.lists.CaseLemmas.{by_test}
+use Rattle.path_runs.specs.EditLaws.{HasNone, IsSimpleExtension, TakesExtension}
+use Rattle.unix_bytes.proofs.lemmas.lists.ListLemmas.{by_test}
 use Rattle.path_runs.proofs.lemmas.joins.BehindLemmas.{rest-behind}
 use Rattle.path_runs.proofs.lemmas.edits.CongruenceLemmas.{unless_slash}
 use Rattle.path_runs.proofs.lemmas.names.ExtensionCutLemmas.{with_extension_of-cut}
@@ -103,7 +103,7 @@ new_extension-cut s name b x e c dot slash =
 
 -- a path with a file name has the new extension after it was set
 set_extension : (s name x : List ℕ) → file_name_of (values s) ≡ Some name
-    → IsPlainExtension x
+    → IsSimpleExtension x
     → NewExtension s (with_extension_of s x) (split_name name).0 x
 set_extension s name [] e h = absurd (h.some refl)
 set_extension s name (b ∷ x) e h =

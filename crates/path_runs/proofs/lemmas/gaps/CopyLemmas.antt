@@ -6,8 +6,8 @@ use Rattle.std.specs.Prelude.{slice_range}
 use Rattle.std.proofs.lemmas.Bool.{and_parts}
 use Rattle.std.proofs.lemmas.List.{get_or-drop}
 use Rattle.unix_path.specs.Parts.{values}
-use Rattle.unix_path.specs.Scan.{is_idle}
-use Rattle.unix_path.proofs.lemmas.filler.IdleLemmas.{is_idle-drop}
+use Rattle.unix_path.specs.Scan.{is_filler}
+use Rattle.unix_path.proofs.lemmas.filler.FillerLemmas.{is_filler-drop}
 use Rattle.path_runs.specs.Gaps.{slashed_parts, FirstGap, IsCopied, IsPart}
 use Rattle.path_runs.specs.Spelling.{spelling_of}
 use Rattle.path_runs.proofs.lemmas.gaps.KeptLemmas.{nothing_left, part_stretch, slashed_stretch}
@@ -21,7 +21,7 @@ spelling_of-single s n l e =
     spelling_of-short s l ∙ sym (nothing_left (take n s) s n all ∙ take_all n s all)
 
 -- a string that begins with a part doesn't begin with a gap
-gap_behind : (s : List ℕ) (n : ℕ) → 0 < length s → is_idle s 0 ≡ false → FirstGap s n → 0 < n
+gap_behind : (s : List ℕ) (n : ℕ) → 0 < length s → is_filler s 0 ≡ false → FirstGap s n → 0 < n
 gap_behind s zero l e h =
     let slash = (and_parts (eqb (get_or s 0 0) 47) _ (h.gap l)).0 in
     absurd (let d : true ≡ false = rw slash at e in cc)
@@ -33,7 +33,7 @@ pub copied_at : (s : List ℕ) (start n : ℕ) → start < length s → IsPart s
 copied_at s start n l part h =
     let stretch = slice_range s (start - 1) (start + n) in
     let left = length-drop start s in
-    let busy : is_idle (drop start s) 0 ≡ false = is_idle-drop s start ∙ part.begins in
+    let busy : is_filler (drop start s) 0 ≡ false = is_filler-drop s start ∙ part.begins in
     let some : 0 < n = gap_behind (drop start s) n (omega (arith, left)) busy h in
     let is = slashed_stretch s start n l part in
     let size : length stretch ≡ suc n =

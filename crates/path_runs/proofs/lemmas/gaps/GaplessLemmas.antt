@@ -10,11 +10,12 @@ use Rattle.unix_path.specs.Parts.{Value, values}
 use Rattle.unix_path.specs.CommonDir.{inner_values}
 use Rattle.unix_path.specs.Rest.{rest}
 use Rattle.unix_path.specs.Scan.{EndsInPart}
-use Rattle.unix_bytes.proofs.lemmas.lists.CaseLemmas.{by_test}
+use Rattle.unix_bytes.proofs.lemmas.lists.ListLemmas.{by_test}
 use Rattle.unix_path.proofs.lemmas.steps.SpanLemmas.{rest-trimmed, trims_end}
 use Rattle.path_runs.specs.Gaps.{is_gap, slashed_parts, FirstGap}
 use Rattle.path_runs.specs.Spelling.{slashed_bytes, spelling_of}
-use Rattle.path_runs.proofs.lemmas.gaps.KeptLemmas.{is_gap-behind, nothing_left, slashed_parts-idle}
+use Rattle.path_runs.proofs.lemmas.gaps.KeptLemmas.{is_gap-behind, nothing_left}
+use Rattle.path_runs.proofs.lemmas.gaps.KeptLemmas.{slashed_parts-filler}
 use Rattle.path_runs.proofs.lemmas.gaps.KeptLemmas.{slashed_parts-slash}
 use Rattle.path_runs.proofs.lemmas.spelling.LeanLemmas.{slashed_bytes-lean, spelling_of-shortest}
 use Rattle.path_runs.proofs.lemmas.gaps.StretchLemmas.{slash_each, slashed_bytes-cons}
@@ -47,7 +48,7 @@ first_gap-longer (x ∷ y ∷ s) l g =
     omega (
       arith,
       ap length (slashed_parts-slash x (y ∷ s) both.0),
-      ap length (slashed_parts-idle (y ∷ s) 0 (omega arith) both.1),
+      ap length (slashed_parts-filler (y ∷ s) 0 (omega arith) both.1),
       slashed_parts-length s,
     )
 

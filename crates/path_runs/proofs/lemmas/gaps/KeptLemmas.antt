@@ -8,10 +8,10 @@ use Rattle.std.specs.List.{flat_map, position_or_len}
 use Rattle.std.proofs.lemmas.Bool.{and_parts}
 use Rattle.std.proofs.lemmas.List.{drop_all}
 use Rattle.unix_path.specs.Parts.{Part, inner_parts, is_slash, slash, value_bytes}
-use Rattle.unix_path.specs.Scan.{is_idle}
-use Rattle.unix_bytes.proofs.lemmas.lists.CaseLemmas.{by_test, drop-suc_cons}
-use Rattle.unix_path.proofs.lemmas.filler.IdleLemmas.{inner_parts_busy, inner_parts_idle_at}
-use Rattle.unix_path.proofs.lemmas.filler.IdleLemmas.{is_idle-drop}
+use Rattle.unix_path.specs.Scan.{is_filler}
+use Rattle.unix_bytes.proofs.lemmas.lists.ListLemmas.{by_test, drop-suc_cons}
+use Rattle.unix_path.proofs.lemmas.filler.FillerLemmas.{inner_parts_busy, inner_parts_filler_at}
+use Rattle.unix_path.proofs.lemmas.filler.FillerLemmas.{is_filler-drop}
 use Rattle.unix_path.proofs.lemmas.parts.PieceLemmas.{first_piece, first_piece-slash}
 use Rattle.unix_path.proofs.lemmas.parts.PieceLemmas.{first_piece-other}
 use Rattle.unix_path.proofs.lemmas.parts.PieceLemmas.{position_or_len-slash, position_or_len-other}
@@ -20,16 +20,16 @@ use Rattle.unix_path.proofs.lemmas.parts.ValueLemmas.{value_bytes-piece}
 use Rattle.path_runs.specs.Gaps.{is_gap, slashed_parts, FirstGap, IsPart}
 
 -- a byte of filler may be left out
-pub slashed_parts-idle : (s : List ℕ) (i : ℕ) → i < length s → is_idle s i ≡ true
+pub slashed_parts-filler : (s : List ℕ) (i : ℕ) → i < length s → is_filler s i ≡ true
     → slashed_parts (drop i s) ≡ slashed_parts (drop (i + 1) s)
 unfolding slashed_parts
-slashed_parts-idle s i l e = ap (flat_map (λ v. slash ∷ value_bytes v))
+slashed_parts-filler s i l e = ap (flat_map (λ v. slash ∷ value_bytes v))
     (sym (values-inner_parts (0 + i) (drop i s))
-    ∙ ap (map (λ (p : Part). p.value)) (inner_parts_idle_at 0 s i l e)
+    ∙ ap (map (λ (p : Part). p.value)) (inner_parts_filler_at 0 s i l e)
     ∙ values-inner_parts (0 + (i + 1)) (drop (i + 1) s))
 
 -- the first part of a string that begins with a part is its first piece
-slashed_parts-busy : (s : List ℕ) → 0 < length s → is_idle s 0 ≡ false
+slashed_parts-busy : (s : List ℕ) → 0 < length s → is_filler s 0 ≡ false
     → slashed_parts s ≡ slash ∷ (first_piece s ++ slashed_parts
     (drop (position_or_len is_slash s) s))
 unfolding slashed_parts
@@ -59,7 +59,7 @@ FirstGap-behind x s n h = record {
 
 -- behind a slash at which no gap begins stands a part
 busy_behind : (x : ℕ) (s : List ℕ) → eqb x 47 ≡ true → is_gap (x ∷ s) 0 ≡ false
-    → (0 < length s) × (is_idle s 0 ≡ false)
+    → (0 < length s) × (is_filler s 0 ≡ false)
 busy_behind x [] e g = absurd (let d : true ≡ false = rw e at g in cc)
 busy_behind x (y ∷ s) e g = (omega arith, rw e at g)
 
@@ -73,7 +73,7 @@ first_slash x s e = ap₂ (λ p k. p ++ slashed_parts (drop k (x ∷ s))) (first
 -- a first slash may be left out
 pub slashed_parts-slash : (x : ℕ) (s : List ℕ) → eqb x 47 ≡ true
     → slashed_parts (x ∷ s) ≡ slashed_parts s
-slashed_parts-slash x s e = slashed_parts-idle (x ∷ s) 0 (omega arith) (rw e refl)
+slashed_parts-slash x s e = slashed_parts-filler (x ∷ s) 0 (omega arith) (rw e refl)
 
 -- up to its first gap a string is its first piece, and then its parts, each behind a slash
 pub kept_stretch : (s : List ℕ) (n : ℕ) → FirstGap s n
@@ -96,7 +96,7 @@ kept_stretch (x ∷ s) (suc n) h = by_test (eqb x 47)
     ∙ ap (λ u. x ∷ u) (kept_stretch s n (FirstGap-behind x s n h)))
 
 -- a string that begins with a part has it and those up to its first gap, each behind a slash
-pub part_stretch : (s : List ℕ) (n : ℕ) → 0 < length s → is_idle s 0 ≡ false → FirstGap s n
+pub part_stretch : (s : List ℕ) (n : ℕ) → 0 < length s → is_filler s 0 ≡ false → FirstGap s n
     → slashed_parts s ≡ (slash ∷ take n s) ++ slashed_parts (drop n s)
 part_stretch s n l e h = slashed_parts-busy s l e ∙ ap (λ u. slash ∷ u) (kept_stretch s n h)
 
@@ -127,7 +127,7 @@ append_stretch a s start n l part h =
     (ap₂ (λ u v. u ++ slashed_parts v) (slashed_stretch s start n l part)
     (sym (drop-drop n start s))
     ∙ sym (part_stretch (drop start s) n (omega (arith, length-drop start s))
-    (is_idle-drop s start ∙ part.begins) h))
+    (is_filler-drop s start ∙ part.begins) h))
 
 pub slice_range-from : (s : List ℕ) (i : ℕ) → slice_range s i (length s) ≡ drop i s
 slice_range-from s i = take_all (length s - i) (drop i s) (omega (arith, length-drop i s))

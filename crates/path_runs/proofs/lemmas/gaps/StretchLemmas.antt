@@ -7,7 +7,7 @@ use Rattle.unix_path.specs.Parts.{Part, Value, RootDir, is_slash, slash}
 use Rattle.unix_path.specs.Parts.{inner_parts, value_bytes, values}
 use Rattle.unix_path.specs.Rest.{rest}
 use Rattle.unix_path.specs.Scan.{EndsInPart}
-use Rattle.unix_bytes.proofs.lemmas.lists.CaseLemmas.{by_test}
+use Rattle.unix_bytes.proofs.lemmas.lists.ListLemmas.{by_test}
 use Rattle.unix_path.proofs.lemmas.parts.PartLemmas.{parts-name, parts-root, values-nil}
 use Rattle.unix_path.proofs.lemmas.parts.PieceLemmas.{first_piece}
 use Rattle.unix_path.proofs.lemmas.parts.PlaceLemmas.{values-inner_parts, parts_end}

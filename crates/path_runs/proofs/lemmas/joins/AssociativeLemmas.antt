@@ -3,7 +3,7 @@ use Rattle.std.proofs.Common.{◌≡◌, ℕ, true, false, cond, List, [], ◌�
 use Rattle.std.proofs.Common.{append_assoc, append-nil}
 use Rattle.unix_path.specs.Parts.{is_rooted}
 use Rattle.unix_path.specs.Joins.{is_open, join_of}
-use Rattle.unix_bytes.proofs.lemmas.lists.CaseLemmas.{by_test}
+use Rattle.unix_bytes.proofs.lemmas.lists.ListLemmas.{by_test}
 use Rattle.unix_path.proofs.lemmas.edits.JoinLemmas.{join_of_rooted, join_of_open, join_of_closed}
 
 -- what a join with a rootless path puts behind a: a slash, or nothing if a is open
@@ -48,9 +48,9 @@ regroup : (a p b q c : List ℕ) → (((a ++ p) ++ b) ++ q) ++ c ≡ (a ++ p) ++
 regroup a p b q c = simp append_assoc
 
 -- joins of rootless paths to a path are associative
-join_of-plain : (a b c : List ℕ) → is_rooted b ≡ false → is_rooted c ≡ false
+join_of-rootless : (a b c : List ℕ) → is_rooted b ≡ false → is_rooted c ≡ false
     → join_of (join_of a b) c ≡ join_of a (join_of b c)
-join_of-plain a b c m n =
+join_of-rootless a b c m n =
     join_of-separator (join_of a b) c n
     ∙ ap (λ t. (join_of a b ++ cond t [] (47 ∷ [])) ++ c) (is_open-join_of a b m)
     ∙ ap (λ x. (x ++ separator b) ++ c) (join_of-separator a b m)
@@ -66,4 +66,4 @@ join_of-join_of a b c = by_test (is_rooted c)
     (λ n. by_test (is_rooted b)
     (λ r. ap (λ x. join_of x c) (join_of_rooted a b r)
     ∙ sym (join_of_rooted a (join_of b c) (is_rooted-join_of b c n ∙ r)))
-    (λ m. join_of-plain a b c m n))
+    (λ m. join_of-rootless a b c m n))

@@ -6,7 +6,7 @@ use Rattle.unix_path.specs.Parts.{Part, Value, inner_parts, parts, values}
 use Rattle.unix_path.specs.Rest.{rest}
 use Rattle.unix_path.proofs.lemmas.parts.PlaceLemmas.{parts_end}
 use Rattle.unix_path.specs.Joins.{is_open}
-use Rattle.unix_bytes.proofs.lemmas.lists.CaseLemmas.{by_test}
+use Rattle.unix_bytes.proofs.lemmas.lists.ListLemmas.{by_test}
 use Rattle.unix_path.proofs.lemmas.order.CommonPrefixLemmas.{parts-past_slash}
 use Rattle.unix_path.proofs.lemmas.parts.PartLemmas.{parts-nil}
 use Rattle.unix_path.proofs.lemmas.steps.SpanLemmas.{length-rest_whole, rest-whole, span-parts}

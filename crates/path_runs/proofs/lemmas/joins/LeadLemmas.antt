@@ -7,7 +7,7 @@ use Rattle.unix_path.specs.Parts.{Part, Value, RootDir, CurDir, ParentDir, Norma
 use Rattle.unix_path.specs.Parts.{cur_dir, parent_dir, is_rooted, counts, parts_of_pieces}
 use Rattle.unix_path.specs.Parts.{inner_parts, leading_part, values}
 use Rattle.unix_path.specs.Joins.{join_of}
-use Rattle.unix_bytes.proofs.lemmas.lists.CaseLemmas.{by_test}
+use Rattle.unix_bytes.proofs.lemmas.lists.ListLemmas.{by_test}
 use Rattle.unix_path.proofs.lemmas.edits.JoinLemmas.{join_of_rooted}
 use Rattle.unix_path.proofs.lemmas.parts.PartLemmas.{root_first, root_first-values, values-nil}
 use Rattle.unix_path.proofs.lemmas.parts.PieceLemmas.{first_piece, slice_split-first}

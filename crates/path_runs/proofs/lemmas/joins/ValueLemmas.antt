@@ -5,7 +5,7 @@ use Rattle.std.proofs.Common.{eqb-true}
 use Rattle.unix_path.specs.Parts.{slash, is_rooted, Value}
 use Rattle.unix_path.specs.Parts.{values}
 use Rattle.unix_path.specs.Joins.{is_open, join_of}
-use Rattle.unix_bytes.proofs.lemmas.lists.CaseLemmas.{by_test}
+use Rattle.unix_bytes.proofs.lemmas.lists.ListLemmas.{by_test}
 use Rattle.unix_path.proofs.lemmas.order.CommonPrefixLemmas.{values-past_slash, values-slash}
 use Rattle.unix_path.specs.CommonDir.{inner_values}
 use Rattle.unix_path.proofs.lemmas.edits.JoinLemmas.{join_of_open, join_of_closed}

@@ -8,7 +8,7 @@ use Rattle.std.proofs.lemmas.Bool.{both_ways}
 use Rattle.std.proofs.lemmas.List.{get_or-append_right, take_at, drop_at, take-append-drop}
 use Rattle.std.proofs.lemmas.List.Elements.{All-nil, All-cons}
 use Rattle.unix_path.specs.Names.{past_last, split_name}
-use Rattle.unix_bytes.proofs.lemmas.lists.CaseLemmas.{by_test}
+use Rattle.unix_bytes.proofs.lemmas.lists.ListLemmas.{by_test}
 use Rattle.unix_path.proofs.lemmas.names.NameLemmas.{is_dot, past_last-is, split_name-whole}
 use Rattle.unix_path.proofs.lemmas.names.NameLemmas.{split_name-cut}
 use Rattle.unix_path.proofs.lemmas.names.NameLemmas.{split_name-stem}

@@ -12,7 +12,7 @@ use Rattle.unix_path.specs.OrderLaws.{value_cmp-total}
 use Rattle.unix_path.proofs.lemmas.names.ParentLemmas.{parent_of-none, parent_of-some}
 use Rattle.unix_path.proofs.lemmas.names.NameCutLemmas.{name_cut, values-name}
 use Rattle.path_runs.proofs.lemmas.joins.SiblingLemmas.{values-rest_push, values-join_of_one}
-use Rattle.unix_bytes.proofs.lemmas.lists.CaseLemmas.{Snoc, Empty, Push, snoc}
+use Rattle.unix_bytes.proofs.lemmas.lists.ListLemmas.{Snoc, Empty, Push, snoc}
 
 -- values stand before themselves with one more behind
 before_push : (vs : List Value) (v : Value) → IsBefore vs (vs ++ v ∷ [])

@@ -8,9 +8,10 @@ use Rattle.unix_path.proofs.lemmas.edits.JoinLemmas.{join_of_rooted, join_of_clo
 use Rattle.path_runs.specs.Spelling.{slashed_bytes, spelling_of}
 use Rattle.path_runs.proofs.lemmas.joins.AssociativeLemmas.{separator, join_of-separator}
 use Rattle.path_runs.proofs.lemmas.spelling.SpellLemmas.{spelling_of-root}
-use Rattle.path_runs.proofs.lemmas.spelling.PlainLemmas.{IsPlain, IsPlainValue, Shape, Rooted}
-use Rattle.path_runs.proofs.lemmas.spelling.PlainLemmas.{Rootless}
-use Rattle.path_runs.proofs.lemmas.spelling.PlainLemmas.{values-shape}
+use Rattle.path_runs.proofs.lemmas.spelling.UnslashedLemmas.{IsUnslashed, IsUnslashedValue, Shape}
+use Rattle.path_runs.proofs.lemmas.spelling.UnslashedLemmas.{Rooted}
+use Rattle.path_runs.proofs.lemmas.spelling.UnslashedLemmas.{Rootless}
+use Rattle.path_runs.proofs.lemmas.spelling.UnslashedLemmas.{values-shape}
 
 -- what is put before the first of some strings stands before their join
 join_with_byte-onto : (x b : List ℕ) (bs : List (List ℕ))
@@ -25,12 +26,12 @@ is_open-append_closed (x ∷ []) [] e = absurd (let d : true ≡ false = e in cc
 is_open-append_closed (x ∷ []) (y ∷ b) e = e
 is_open-append_closed (x ∷ y ∷ a) b e = is_open-append_closed (y ∷ a) b e
 
--- all these are plain
-abbrev pub AllPlain : List (List ℕ) → Type 0
-AllPlain bs = AllByRecursion IsPlain bs
+-- all these are unslashed
+abbrev pub AllUnslashed : List (List ℕ) → Type 0
+AllUnslashed bs = AllByRecursion IsUnslashed bs
 
--- plain paths, joined to a path that isn't open, each follow a slash
-join_all_of-closed : (a : List ℕ) (bs : List (List ℕ)) → is_open a ≡ false → AllPlain bs
+-- unslashed paths, joined to a path that isn't open, each follow a slash
+join_all_of-closed : (a : List ℕ) (bs : List (List ℕ)) → is_open a ≡ false → AllUnslashed bs
     → join_all_of a bs ≡ join_with_byte slash (a ∷ bs)
 join_all_of-closed a [] o h = refl
 join_all_of-closed a (b ∷ bs) o h =
@@ -40,8 +41,8 @@ join_all_of-closed a (b ∷ bs) o h =
     ∙ join_with_byte-onto (a ++ slash ∷ []) b bs
     ∙ append_assoc a (slash ∷ []) (join_with_byte slash (b ∷ bs))
 
--- plain paths, joined to any path, one of them at least, have slashes between them
-pub join_all_of-some : (a b : List ℕ) (bs : List (List ℕ)) → AllPlain (b ∷ bs)
+-- unslashed paths, joined to any path, one of them at least, have slashes between them
+pub join_all_of-some : (a b : List ℕ) (bs : List (List ℕ)) → AllUnslashed (b ∷ bs)
     → join_all_of a (b ∷ bs) ≡ (a ++ separator a) ++ join_with_byte slash (b ∷ bs)
 join_all_of-some a b bs h =
     ap (λ c. join_all_of c bs) (join_of-separator a b h.0.rootless)
@@ -49,29 +50,31 @@ join_all_of-some a b bs h =
     (is_open-append_closed (a ++ separator a) b h.0.closed) h.1
     ∙ join_with_byte-onto (a ++ separator a) b bs
 
-join_all_of-plain : (bs : List (List ℕ)) → AllPlain bs → join_all_of [] bs ≡ join_with_byte slash bs
-join_all_of-plain [] h = refl
-join_all_of-plain (b ∷ bs) h = join_all_of-some [] b bs h
+join_all_of-unslashed : (bs : List (List ℕ)) → AllUnslashed bs
+    → join_all_of [] bs ≡ join_with_byte slash bs
+join_all_of-unslashed [] h = refl
+join_all_of-unslashed (b ∷ bs) h = join_all_of-some [] b bs h
 
--- plain paths, joined to the root, follow it with slashes between them
-join_all_of-root : (bs : List (List ℕ)) → AllPlain bs
+-- unslashed paths, joined to the root, follow it with slashes between them
+join_all_of-root : (bs : List (List ℕ)) → AllUnslashed bs
     → join_all_of [] ((slash ∷ []) ∷ bs) ≡ slash ∷ join_with_byte slash bs
 join_all_of-root [] h = join_of_rooted [] (slash ∷ []) refl
 join_all_of-root (b ∷ bs) h =
     ap (λ c. join_all_of c (b ∷ bs)) (join_of_rooted [] (slash ∷ []) refl)
     ∙ join_all_of-some (slash ∷ []) b bs h
 
-pub plain_bytes : (vs : List Value) → AllByRecursion IsPlainValue vs → AllPlain (map value_bytes vs)
-plain_bytes [] h = tt
-plain_bytes (v ∷ vs) h = (h.0.plain, plain_bytes vs h.1)
+pub unslashed_bytes : (vs : List Value) → AllByRecursion IsUnslashedValue vs
+    → AllUnslashed (map value_bytes vs)
+unslashed_bytes [] h = tt
+unslashed_bytes (v ∷ vs) h = (h.0.unslashed, unslashed_bytes vs h.1)
 
--- the spelling of plain values is their bytes with a slash between two of them
-pub spelling_of-plain : (vs : List Value) → AllByRecursion IsPlainValue vs
+-- the spelling of unslashed values is their bytes with a slash between two of them
+pub spelling_of-unslashed : (vs : List Value) → AllByRecursion IsUnslashedValue vs
     → spelling_of vs ≡ slashed_bytes vs
 unfolding spelling_of
-spelling_of-plain [] h = refl
-spelling_of-plain (RootDir ∷ vs) h = absurd (h.0.no_root refl)
-spelling_of-plain (v ∷ vs) h = refl
+spelling_of-unslashed [] h = refl
+spelling_of-unslashed (RootDir ∷ vs) h = absurd (h.0.no_root refl)
+spelling_of-unslashed (v ∷ vs) h = refl
 
 -- the values' bytes, each joined to those before it, are the spelling
 pub join_all_of-values : (s : List ℕ)
@@ -80,7 +83,8 @@ join_all_of-values s = by (values-shape s)
   where
     by : Shape (values s) → join_all_of [] (map value_bytes (values s)) ≡ spelling_of (values s)
     by (Rooted ws e h) = ap (λ vs. join_all_of [] (map value_bytes vs)) e
-        ∙ join_all_of-root (map value_bytes ws) (plain_bytes ws h)
+        ∙ join_all_of-root (map value_bytes ws) (unslashed_bytes ws h)
         ∙ sym (ap spelling_of e ∙ spelling_of-root ws)
-    by (Rootless h) = join_all_of-plain (map value_bytes (values s)) (plain_bytes (values s) h)
-        ∙ sym (spelling_of-plain (values s) h)
+    by (Rootless h) = join_all_of-unslashed (map value_bytes (values s))
+        (unslashed_bytes (values s) h)
+        ∙ sym (spelling_of-unslashed (values s) h)

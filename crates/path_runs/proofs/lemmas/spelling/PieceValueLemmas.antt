@@ -7,7 +7,7 @@ use Rattle.std.proofs.lemmas.List.Splits.{slice_split-cons_yes, slice_split-cons
 use Rattle.unix_path.specs.Parts.{is_slash, slash, cur_dir, Part, Value, RootDir, CurDir}
 use Rattle.unix_path.specs.Parts.{parts_of_pieces}
 use Rattle.unix_path.specs.Parts.{counts, value_of_piece, inner_parts, is_rooted, values}
-use Rattle.unix_bytes.proofs.lemmas.lists.CaseLemmas.{by_test}
+use Rattle.unix_bytes.proofs.lemmas.lists.ListLemmas.{by_test}
 use Rattle.path_runs.proofs.lemmas.joins.LeadLemmas.{dot_first, lead_by, values-lead}
 use Rattle.unix_path.specs.CommonDir.{inner_values}
 

@@ -8,7 +8,7 @@ use Rattle.std.proofs.lemmas.List.Splits.{slice_split_none, slice_split_at}
 use Rattle.std.proofs.lemmas.Slice.Eq.{bytes_eq-Decides}
 use Rattle.unix_path.specs.Parts.{is_slash, slash, cur_dir, RootDir, CurDir, value_of_piece}
 use Rattle.unix_path.specs.Parts.{is_rooted, counts, values}
-use Rattle.unix_bytes.proofs.lemmas.lists.CaseLemmas.{by_test}
+use Rattle.unix_bytes.proofs.lemmas.lists.ListLemmas.{by_test}
 use Rattle.path_runs.specs.Spelling.{spelling_of}
 use Rattle.path_runs.proofs.lemmas.joins.LeadLemmas.{dot_first}
 use Rattle.path_runs.proofs.lemmas.spelling.PieceValueLemmas.{AllCount, names_of, values-rooted}

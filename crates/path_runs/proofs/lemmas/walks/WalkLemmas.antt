@@ -10,7 +10,7 @@ use Rattle.std.proofs.lemmas.List.Sums.{sum_by-cons}
 use Rattle.std.proofs.lemmas.List.{take-take}
 use Rattle.unix_path.specs.Parts.{Value, values}
 use Rattle.unix_path.specs.Rest.{rest}
-use Rattle.unix_bytes.proofs.lemmas.lists.CaseLemmas.{by_test}
+use Rattle.unix_bytes.proofs.lemmas.lists.ListLemmas.{by_test}
 use Rattle.unix_path.proofs.lemmas.rests.MiddleLemmas.{middle}
 use Rattle.unix_path.proofs.lemmas.rests.RestLemmas.{values-rest}
 use Rattle.path_runs.proofs.lemmas.lists.TogetherLemmas.{take-middle-reverse}

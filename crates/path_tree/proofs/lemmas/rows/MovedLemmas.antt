@@ -8,7 +8,7 @@ use Rattle.std.specs.List.{AllByRecursion, filter}
 use Rattle.std.specs.List.Sorted.{IsStrictlySortedBy}
 use Rattle.std.specs.Map.{keys_of}
 use Rattle.std.specs.Ordering.{match_ordering, ordering_reverse}
-use Rattle.unix_bytes.proofs.lemmas.lists.CaseLemmas.{by_test}
+use Rattle.unix_bytes.proofs.lemmas.lists.ListLemmas.{by_test}
 use Rattle.unix_path.specs.Order.{values_cmp}
 use Rattle.unix_path.specs.OrderLaws.{values_cmp-equal, values_cmp-total}
 use Rattle.unix_path.specs.Parts.{Value}

@@ -4,7 +4,7 @@ use Rattle.std.proofs.Common.{Ordering, Less, length, ◌≤◌, arith}
 use Rattle.std.specs.List.{AllByRecursion, filter}
 use Rattle.std.specs.List.Sorted.{IsStrictlySortedBy}
 use Rattle.std.specs.Map.{keys_of}
-use Rattle.unix_bytes.proofs.lemmas.lists.CaseLemmas.{by_test}
+use Rattle.unix_bytes.proofs.lemmas.lists.ListLemmas.{by_test}
 
 module _ {K V : Type 0} (P : K → Type 0) where
   -- what holds of all keys holds of those of the rest

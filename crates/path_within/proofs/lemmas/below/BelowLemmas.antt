@@ -8,9 +8,10 @@ use Rattle.unix_path.specs.Parts.{Value, RootDir, Normal, is_rooted, slash, valu
 use Rattle.unix_path.specs.Prefixes.{Begins, stripped_of}
 use Rattle.path_runs.specs.Spelling.{slashed_bytes, spelling_of}
 use Rattle.path_runs.proofs.lemmas.joins.AssociativeLemmas.{separator}
-use Rattle.path_runs.proofs.lemmas.spelling.JoinAllLemmas.{join_all_of-some, plain_bytes}
-use Rattle.path_runs.proofs.lemmas.spelling.PlainLemmas.{IsPlainValue, Shape, Rooted, Rootless}
-use Rattle.path_runs.proofs.lemmas.spelling.PlainLemmas.{values-shape}
+use Rattle.path_runs.proofs.lemmas.spelling.JoinAllLemmas.{join_all_of-some, unslashed_bytes}
+use Rattle.path_runs.proofs.lemmas.spelling.UnslashedLemmas.{IsUnslashedValue, Shape, Rooted}
+use Rattle.path_runs.proofs.lemmas.spelling.UnslashedLemmas.{Rootless}
+use Rattle.path_runs.proofs.lemmas.spelling.UnslashedLemmas.{values-shape}
 use Rattle.path_runs.proofs.lemmas.joins.SiblingLemmas.{values-join_of_one}
 use Rattle.path_runs.proofs.lemmas.spelling.SpellLemmas.{spelling_of-cons, spelling_of-nil}
 use Rattle.path_runs.proofs.lemmas.joins.StripLemmas.{values-stripped_of}
@@ -18,14 +19,14 @@ use Rattle.path_within.specs.Below.{below_of, has_nul, names_below, IsBelow}
 use Rattle.path_within.specs.Climbs.{has_root_or_up}
 use Rattle.path_within.specs.PlainPieces.{is_plain}
 use Rattle.path_within.specs.Resolved.{AreNames, resolved_bytes_of}
-use Rattle.path_within.specs.Steps.{AllOne}
+use Rattle.path_within.specs.Steps.{ReadsAsItself}
 use Rattle.path_within.specs.Written.{opened, AreSpelled}
 use Rattle.path_within.proofs.lemmas.below.BoundLemmas.{slashed_bytes-names}
 use Rattle.path_within.proofs.lemmas.below.NamesBelowLemmas.{AreNames-names_below}
 use Rattle.path_within.proofs.lemmas.below.NamesBelowLemmas.{names_below-names}
 use Rattle.path_within.proofs.lemmas.below.NamesBelowLemmas.{resolved_of-slash}
 use Rattle.path_within.proofs.lemmas.below.NulLemmas.{has_nul-values, no_nul-below, nul_in}
-use Rattle.path_within.proofs.lemmas.kept.PathOfLemmas.{AllOne-values}
+use Rattle.path_within.proofs.lemmas.kept.PathOfLemmas.{ReadsAsItself-values}
 use Rattle.path_within.proofs.lemmas.plain.PlainLemmas.{plain_has_names}
 use Rattle.path_within.proofs.lemmas.kept.ResolveLemmas.{values-resolved}
 use Rattle.path_within.proofs.lemmas.plain.WholeLemmas.{names_down}
@@ -38,17 +39,19 @@ values-rooted : (b : List ℕ) → values (rooted b) ≡ RootDir ∷ names_below
 values-rooted b = values-resolved (slash ∷ b) ∙ resolved_of-slash b
 
 -- the names are each spelled as a path of that name alone
-AllOne-names_below : (b : List ℕ) → AllOne (names_below (values b))
-AllOne-names_below b = (subst AllOne (values-rooted b) (AllOne-values (rooted b))).1
+ReadsAsItself-names_below : (b : List ℕ) → ReadsAsItself (names_below (values b))
+ReadsAsItself-names_below b
+    = (subst ReadsAsItself (values-rooted b) (ReadsAsItself-values (rooted b))).1
 
 -- a slash neither begins nor ends one of them
-plain_names : (b : List ℕ) → AllByRecursion IsPlainValue (names_below (values b))
-plain_names b = by (subst Shape (values-rooted b) (values-shape (rooted b)))
+unslashed_names : (b : List ℕ) → AllByRecursion IsUnslashedValue (names_below (values b))
+unslashed_names b = by (subst Shape (values-rooted b) (values-shape (rooted b)))
   where
     by : Shape (RootDir ∷ names_below (values b))
-        → AllByRecursion IsPlainValue (names_below (values b))
+        → AllByRecursion IsUnslashedValue (names_below (values b))
     by (Rooted ws e h) =
-        let same : ws ≡ names_below (values b) = cc in subst (AllByRecursion IsPlainValue) same h
+        let same : ws
+        ≡ names_below (values b) = cc in subst (AllByRecursion IsUnslashedValue) same h
     by (Rootless h) = absurd (h.0.no_root refl)
 
 -- without names the root is left
@@ -64,7 +67,7 @@ below_of-some root b [] e some = absurd (omega arith)
 below_of-some root b (v ∷ vs) e some =
     ap (λ vs. join_all_of root (map value_bytes vs)) e
     ∙ join_all_of-some root (value_bytes v) (map value_bytes vs)
-    (plain_bytes (v ∷ vs) (subst (AllByRecursion IsPlainValue) e (plain_names b)))
+    (unslashed_bytes (v ∷ vs) (subst (AllByRecursion IsUnslashedValue) e (unslashed_names b)))
 
 -- names that are spelled stand behind the opened root
 pub below_of-spelled : {names : List ℕ} (root b : List ℕ)
@@ -75,7 +78,7 @@ below_of-spelled root b h = ap (λ s. opened root ++ s) h.is
 
 -- ---- values
 
-values-names : (root : List ℕ) (vs : List Value) → AreNames vs → AllOne vs
+values-names : (root : List ℕ) (vs : List Value) → AreNames vs → ReadsAsItself vs
     → values (below_of root vs) ≡ values root ++ vs
 unfolding below_of
 values-names root [] h k = sym (append-nil (values root))
@@ -89,7 +92,7 @@ values-names root (v ∷ vs) h k = absurd h
 pub values-below : (root b : List ℕ)
     → values (below_of root (names_below (values b))) ≡ values root ++ names_below (values b)
 values-below root b = values-names root (names_below (values b))
-    (AreNames-names_below (values b)) (AllOne-names_below b)
+    (AreNames-names_below (values b)) (ReadsAsItself-names_below b)
 
 -- without the root the names are left
 pub values-stripped_below : (root b : List ℕ)

@@ -8,7 +8,7 @@ use Rattle.unix_path.specs.CommonDir.{inner_values}
 use Rattle.unix_path.specs.Joins.{is_open, join_of}
 use Rattle.unix_path.specs.Parts.{Value, RootDir, CurDir, ParentDir, Normal, slash}
 use Rattle.unix_path.specs.Parts.{is_rooted, value_bytes, values}
-use Rattle.unix_bytes.proofs.lemmas.lists.CaseLemmas.{by_test}
+use Rattle.unix_bytes.proofs.lemmas.lists.ListLemmas.{by_test}
 use Rattle.unix_path.proofs.lemmas.edits.JoinLemmas.{join_of_rooted, length-join_of_open}
 use Rattle.unix_path.proofs.lemmas.edits.JoinLemmas.{length-join_of_closed}
 use Rattle.path_runs.specs.JoinLaws.{drop_dot}

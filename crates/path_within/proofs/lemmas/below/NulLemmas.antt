@@ -10,7 +10,7 @@ use Rattle.std.proofs.lemmas.List.Sums.{sum_by-cons}
 use Rattle.std.proofs.lemmas.Slice.Eq.{bytes_eq-Decides}
 use Rattle.unix_path.specs.Parts.{Value, RootDir, is_slash, cur_dir, counts, slash, value_bytes}
 use Rattle.unix_path.specs.Parts.{values}
-use Rattle.unix_bytes.proofs.lemmas.lists.CaseLemmas.{by_test}
+use Rattle.unix_bytes.proofs.lemmas.lists.ListLemmas.{by_test}
 use Rattle.unix_path.proofs.lemmas.parts.ValueLemmas.{value_bytes-piece}
 use Rattle.path_runs.specs.JoinLaws.{drop_lead}
 use Rattle.path_runs.proofs.lemmas.joins.LeadLemmas.{drop_lead-values}
@@ -32,8 +32,8 @@ nul_pieces (p ∷ q ∷ ps) =
     ∙ ap (λ b. has_nul p || b) (nul_pieces (q ∷ ps))
 
 -- a piece that doesn't count has no NUL
-no_nul_idle : (p : List ℕ) → counts p ≡ false → has_nul p ≡ false
-no_nul_idle p h = by_test (bytes_eq p [])
+no_nul_filler : (p : List ℕ) → counts p ≡ false → has_nul p ≡ false
+no_nul_filler p h = by_test (bytes_eq p [])
     (λ e. ap has_nul ((bytes_eq-Decides p []).0 e))
     (λ e. by_test (bytes_eq p cur_dir)
     (λ f. ap has_nul ((bytes_eq-Decides p cur_dir).0 f))
@@ -44,7 +44,7 @@ nul_names : (ps : List (List ℕ)) → list_any has_nul ps ≡ list_any nul_in (
 nul_names [] = refl
 nul_names (p ∷ ps) = by_test (counts p)
     (λ e. rw e (ap₂ ◌||◌ (ap has_nul (sym (value_bytes-piece p))) (nul_names ps)))
-    (λ e. rw (e, no_nul_idle p e) (nul_names ps))
+    (λ e. rw (e, no_nul_filler p e) (nul_names ps))
 
 -- neither the root nor a dot has a NUL
 nul_lead : (vs : List Value) → list_any nul_in (drop_lead vs) ≡ list_any nul_in vs

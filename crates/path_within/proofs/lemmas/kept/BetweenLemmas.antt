@@ -7,7 +7,7 @@ use Rattle.std.proofs.lemmas.Grind.{common_steps, reverse_onto}
 use Rattle.std.proofs.lemmas.List.Folds.{list_all-append, list_any-append}
 use Rattle.unix_path.specs.Order.{same_value}
 use Rattle.unix_path.specs.Parts.{Value, ParentDir}
-use Rattle.unix_bytes.proofs.lemmas.lists.CaseLemmas.{take-suc_cons}
+use Rattle.unix_bytes.proofs.lemmas.lists.ListLemmas.{take-suc_cons}
 use Rattle.unix_path.proofs.lemmas.rests.RootLemmas.{NoRoot}
 use Rattle.unix_path.proofs.lemmas.callers.CallerLemmas.{same_value-Decides}
 use Rattle.path_within.specs.Climbs.{is_name}

@@ -7,7 +7,7 @@ use Rattle.std.specs.List.{AllByRecursion, count_by}
 use Rattle.std.proofs.lemmas.Bool.{false_from_ne_true}
 use Rattle.std.proofs.lemmas.List.Sums.{sum_by-cons}
 use Rattle.unix_path.specs.Parts.{Value, RootDir, CurDir, ParentDir, Normal, is_rooted, values}
-use Rattle.unix_bytes.proofs.lemmas.lists.CaseLemmas.{by_test}
+use Rattle.unix_bytes.proofs.lemmas.lists.ListLemmas.{by_test}
 use Rattle.unix_path.specs.Prefixes.{Begins}
 use Rattle.unix_path.proofs.lemmas.parts.PartLemmas.{root_first, root_first-values}
 use Rattle.unix_path.proofs.lemmas.rests.RootLemmas.{NoRoot, rooted-Begins}

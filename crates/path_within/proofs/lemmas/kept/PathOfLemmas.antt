@@ -23,25 +23,25 @@ use Rattle.path_runs.proofs.lemmas.spelling.PieceValueLemmas.{values-hold, value
 use Rattle.path_runs.proofs.lemmas.spelling.PieceValueLemmas.{values-rootless}
 use Rattle.path_runs.proofs.lemmas.joins.ValueLemmas.{append_values, values-join_of_rootless}
 use Rattle.path_within.specs.Resolved.{up_from, keep, kept_of}
-use Rattle.path_within.specs.Steps.{AllOne, IsKept, IsOne, path_of}
+use Rattle.path_within.specs.Steps.{ReadsAsItself, IsKept, ValueReadsAsItself, path_of}
 use Rattle.path_within.proofs.lemmas.kept.KeepLemmas.{IsKept-ups}
 
-pub IsOne-root : IsOne RootDir
-IsOne-root = values-rooted []
+pub ValueReadsAsItself-root : ValueReadsAsItself RootDir
+ValueReadsAsItself-root = values-rooted []
 
-IsOne-dot : IsOne CurDir
-IsOne-dot = values-rootless (dot ∷ []) ((dot ∷ []) ∷ []) refl refl
+ValueReadsAsItself-dot : ValueReadsAsItself CurDir
+ValueReadsAsItself-dot = values-rootless (dot ∷ []) ((dot ∷ []) ∷ []) refl refl
 
-pub IsOne-up : IsOne ParentDir
-IsOne-up = values-rootless (dot ∷ dot ∷ []) ((dot ∷ dot ∷ []) ∷ []) refl refl
+pub ValueReadsAsItself-up : ValueReadsAsItself ParentDir
+ValueReadsAsItself-up = values-rootless (dot ∷ dot ∷ []) ((dot ∷ dot ∷ []) ∷ []) refl refl
 
 piece_rootless : (p : List ℕ) → NoSlash p → is_rooted p ≡ false
 piece_rootless [] h = refl
 piece_rootless (x ∷ p) h = h.0
 
 -- a piece that counts is spelled as a path of that piece alone
-IsOne-piece : HoldsOfPieces IsOne
-IsOne-piece p h e f =
+ValueReadsAsItself-piece : HoldsOfPieces ValueReadsAsItself
+ValueReadsAsItself-piece p h e f =
     let alone : slice_split is_slash p ≡ p ∷ [] =
     slice_split_none is_slash p (All-from_recursion (λ b. is_slash b ≡ false) p h) in
     let single : names_of (p ∷ []) ≡ value_of_piece p ∷ [] = rw (e, f) refl in
@@ -49,28 +49,32 @@ IsOne-piece p h e f =
     ∙ ap (λ c. cond c (CurDir ∷ []) [] ++ names_of (p ∷ [])) f ∙ single
 
 -- each value of a path is spelled as a path of that value alone
-pub AllOne-values : (s : List ℕ) → AllOne (values s)
-AllOne-values s = values-hold IsOne IsOne-root IsOne-dot IsOne-piece s
+pub ReadsAsItself-values : (s : List ℕ) → ReadsAsItself (values s)
+ReadsAsItself-values s = values-hold ValueReadsAsItself ValueReadsAsItself-root
+    ValueReadsAsItself-dot ValueReadsAsItself-piece s
 
 -- after one more `..`, each kept value is still spelled as a path of that value alone
-AllOne-up_from : (ks : List Value) → AllOne ks → AllOne (up_from ks)
-AllOne-up_from [] h = (IsOne-up, tt)
-AllOne-up_from (RootDir ∷ ks) h = h
-AllOne-up_from (CurDir ∷ ks) h = (IsOne-up, h)
-AllOne-up_from (ParentDir ∷ ks) h = (IsOne-up, h)
-AllOne-up_from (Normal name ∷ ks) h = h.1
+ReadsAsItself-up_from : (ks : List Value) → ReadsAsItself ks → ReadsAsItself (up_from ks)
+ReadsAsItself-up_from [] h = (ValueReadsAsItself-up, tt)
+ReadsAsItself-up_from (RootDir ∷ ks) h = h
+ReadsAsItself-up_from (CurDir ∷ ks) h = (ValueReadsAsItself-up, h)
+ReadsAsItself-up_from (ParentDir ∷ ks) h = (ValueReadsAsItself-up, h)
+ReadsAsItself-up_from (Normal name ∷ ks) h = h.1
 
 -- after one more value, each kept value is still spelled as a path of that value alone
-pub AllOne-keep : (ks : List Value) (v : Value) → AllOne ks → IsOne v → AllOne (keep ks v)
-AllOne-keep ks RootDir h k = (IsOne-root, tt)
-AllOne-keep ks CurDir h k = h
-AllOne-keep ks ParentDir h k = AllOne-up_from ks h
-AllOne-keep ks (Normal name) h k = (k, h)
+pub ReadsAsItself-keep : (ks : List Value) (v : Value) → ReadsAsItself ks → ValueReadsAsItself v
+    → ReadsAsItself (keep ks v)
+ReadsAsItself-keep ks RootDir h k = (ValueReadsAsItself-root, tt)
+ReadsAsItself-keep ks CurDir h k = h
+ReadsAsItself-keep ks ParentDir h k = ReadsAsItself-up_from ks h
+ReadsAsItself-keep ks (Normal name) h k = (k, h)
 
 -- after more values, each kept value is still spelled as a path of that value alone
-pub AllOne-kept_of : (ks vs : List Value) → AllOne ks → AllOne vs → AllOne (kept_of ks vs)
-AllOne-kept_of ks [] h k = h
-AllOne-kept_of ks (v ∷ vs) h k = AllOne-kept_of (keep ks v) vs (AllOne-keep ks v h k.0) k.1
+pub ReadsAsItself-kept_of : (ks vs : List Value) → ReadsAsItself ks → ReadsAsItself vs
+    → ReadsAsItself (kept_of ks vs)
+ReadsAsItself-kept_of ks [] h k = h
+ReadsAsItself-kept_of ks (v ∷ vs) h k = ReadsAsItself-kept_of (keep ks v) vs
+    (ReadsAsItself-keep ks v h k.0) k.1
 
 -- bytes with one value, which is an inner value, add that value behind any others
 append_inner : (vs : List Value) (b : List ℕ) (v : Value) → values b ≡ v ∷ []
@@ -79,7 +83,7 @@ append_inner [] b v e f = e
 append_inner (w ∷ vs) b v e f = ap (λ ws. w ∷ vs ++ ws) f
 
 -- a join with the bytes of an inner value adds that value
-values-join_of_value : (s : List ℕ) (v : Value) → IsInner v → IsOne v
+values-join_of_value : (s : List ℕ) (v : Value) → IsInner v → ValueReadsAsItself v
     → values (join_of s (value_bytes v)) ≡ values s ++ v ∷ []
 values-join_of_value s v i e =
     let b = value_bytes v in
@@ -90,16 +94,17 @@ values-join_of_value s v i e =
     ∙ append_inner (values s) b v e (sym (drop_lead-values b) ∙ ap drop_lead e ∙ inner.no_lead)
 
 -- an inner value, joined to kept values, is read behind them
-push_value : (ks : List Value) (v : Value) → IsInner v → IsOne v
+push_value : (ks : List Value) (v : Value) → IsInner v → ValueReadsAsItself v
     → values (path_of ks) ≡ reverse ks → values (path_of (v ∷ ks)) ≡ reverse (v ∷ ks)
 push_value ks v i e h = values-join_of_value (path_of ks) v i e
     ∙ ap (λ vs. vs ++ v ∷ []) h ∙ sym (reverse_onto ks v [])
 
 -- kept values, joined one by one, are read back in the order of the path
-pub values-path_of : (ks : List Value) → IsKept ks → AllOne ks → values (path_of ks) ≡ reverse ks
+pub values-path_of : (ks : List Value) → IsKept ks → ReadsAsItself ks
+    → values (path_of ks) ≡ reverse ks
 values-path_of [] h k = values-nil
 values-path_of (RootDir ∷ ks) h k =
-    rw h (ap values (join_of_rooted [] (value_bytes RootDir) refl) ∙ IsOne-root)
+    rw h (ap values (join_of_rooted [] (value_bytes RootDir) refl) ∙ ValueReadsAsItself-root)
 values-path_of (CurDir ∷ ks) h k = absurd h
 values-path_of (ParentDir ∷ ks) h k =
     push_value ks ParentDir tt k.0 (values-path_of ks (IsKept-ups ks h) k.1)
@@ -117,7 +122,7 @@ join_all_of-reverse (v ∷ ks) =
     ∙ ap (λ a. join_of a (value_bytes v)) (join_all_of-reverse ks)
 
 -- kept values, joined one by one, are their canonical spelling
-pub path_of-spelled : (ks : List Value) → IsKept ks → AllOne ks
+pub path_of-spelled : (ks : List Value) → IsKept ks → ReadsAsItself ks
     → path_of ks ≡ spelling_of (reverse ks)
 path_of-spelled ks h k =
     let all = values-path_of ks h k in

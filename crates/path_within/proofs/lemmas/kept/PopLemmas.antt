@@ -18,13 +18,15 @@ use Rattle.path_runs.proofs.lemmas.spelling.LeanLemmas.{spelling_of-shortest}
 use Rattle.path_runs.proofs.lemmas.joins.SiblingLemmas.{parent_of-name, rest-join_of_one}
 use Rattle.path_runs.proofs.lemmas.joins.SiblingLemmas.{values-join_of_one}
 use Rattle.path_within.specs.Resolved.{AreNames, kept_of, up_from}
-use Rattle.path_within.specs.Steps.{below_names, AllOne, AreUps, IsKept, IsOne, path_of}
+use Rattle.path_within.specs.Steps.{below_names, ReadsAsItself, AreUps, IsKept, ValueReadsAsItself}
+use Rattle.path_within.specs.Steps.{path_of}
 use Rattle.path_within.specs.Steps.{Keeps, Spells}
 use Rattle.path_within.proofs.lemmas.kept.KeepLemmas.{ups_reverse}
-use Rattle.path_within.proofs.lemmas.kept.PathOfLemmas.{path_of-spelled, values-path_of, IsOne-up}
+use Rattle.path_within.proofs.lemmas.kept.PathOfLemmas.{path_of-spelled, values-path_of}
+use Rattle.path_within.proofs.lemmas.kept.PathOfLemmas.{ValueReadsAsItself-up}
 
 -- the bytes of kept values have no filler behind their last part
-rest-path_of : (ks : List Value) → IsKept ks → AllOne ks → rest (path_of ks) 0 0 ≡ path_of ks
+rest-path_of : (ks : List Value) → IsKept ks → ReadsAsItself ks → rest (path_of ks) 0 0 ≡ path_of ks
 rest-path_of ks h k =
     let s = path_of ks in
     let own : s ≡ spelling_of (values s) =
@@ -34,7 +36,8 @@ rest-path_of ks h k =
     (spelling_of-shortest s (rest s 0 0) (values-whole s (rest s 0 0) refl))
 
 -- a pop after a name gives back what was kept before it
-popped_of-name : (ks : List Value) (name : List ℕ) → IsKept ks → AllOne ks → IsOne (Normal name)
+popped_of-name : (ks : List Value) (name : List ℕ) → IsKept ks → ReadsAsItself ks
+    → ValueReadsAsItself (Normal name)
     → popped_of (path_of (Normal name ∷ ks)) ≡ path_of ks
 unfolding popped_of
 popped_of-name ks name h k e =
@@ -49,7 +52,8 @@ ends_in_name [] = false
 ends_in_name (v ∷ ks) = is_some (name_of v)
 
 -- a join with a name is longer than what it is joined to
-join_longer : (x name : List ℕ) → IsOne (Normal name) → length x < length (join_of x name)
+join_longer : (x name : List ℕ) → ValueReadsAsItself (Normal name)
+    → length x < length (join_of x name)
 join_longer x name one = omega (
   arith,
   ap length (join_of-separator x name (sym (root_first-values name) ∙ ap root_first one)),
@@ -63,7 +67,7 @@ join_longer x name one = omega (
     some (b ∷ name) e = omega arith
 
 -- what stands below the names is no longer than all, and shorter if a name is last
-below_shorter : (ks : List Value) → AllOne ks
+below_shorter : (ks : List Value) → ReadsAsItself ks
     → length (path_of (below_names ks)) ≤ length (path_of ks)
 below_shorter [] one = omega arith
 below_shorter (RootDir ∷ ks) one = omega arith
@@ -78,7 +82,7 @@ pub over_floor : {s : List ℕ} {floor : ℕ} {ks : List Value} → Keeps s floo
 over_floor {s} {floor} {ks} h =
     ap₂ ltb h.floor_is (ap length h.spells.is) ∙ by ks h.spells.one
   where
-    by : (ks : List Value) → AllOne ks
+    by : (ks : List Value) → ReadsAsItself ks
         → ltb (length (path_of (below_names ks))) (length (path_of ks)) ≡ ends_in_name ks
     by [] one = refl
     by (RootDir ∷ ks) one = le-ltb _ _ (omega arith)
@@ -124,7 +128,7 @@ ups-root_first (CurDir ∷ vs) h = absurd h
 ups-root_first (Normal name ∷ vs) h = absurd h
 
 -- the bytes of kept values are rooted exactly if the first of these is the root
-is_rooted-path_of : (ks : List Value) → IsKept ks → AllOne ks
+is_rooted-path_of : (ks : List Value) → IsKept ks → ReadsAsItself ks
     → is_rooted (path_of ks) ≡ root_first (reverse ks)
 is_rooted-path_of ks h k =
     sym (root_first-values (path_of ks)) ∙ ap root_first (values-path_of ks h k)
@@ -157,7 +161,7 @@ keeps_up {s} {t} {ks} h nameless rootless e = by ks h nameless
     with_up ks h ups =
         let is : t ≡ path_of (ParentDir ∷ ks) = e ∙ ap (λ s. join_of s parent_dir) h.is in
         record {
-          spells = record { kept = ups; one = (IsOne-up, h.one); is = is };
+          spells = record { kept = ups; one = (ValueReadsAsItself-up, h.one); is = is };
           floor_is = ap length is;
         }
 

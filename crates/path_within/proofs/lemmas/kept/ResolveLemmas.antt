@@ -2,7 +2,7 @@
 use Rattle.std.proofs.Common.{◌≡◌, ℕ, List, [], ◌∷◌, ◌++◌, true, reverse, refl, sym, ap, ◌∙◌}
 use Rattle.unix_path.specs.Joins.{join_of}
 use Rattle.unix_path.specs.Parts.{Value, RootDir, CurDir, ParentDir, Normal, is_rooted, values}
-use Rattle.unix_bytes.proofs.lemmas.lists.CaseLemmas.{by_test}
+use Rattle.unix_bytes.proofs.lemmas.lists.ListLemmas.{by_test}
 use Rattle.unix_path.proofs.lemmas.edits.JoinLemmas.{join_of_rooted}
 use Rattle.path_runs.specs.JoinLaws.{drop_dot, values_added}
 use Rattle.path_runs.specs.Spelling.{spelling_of}
@@ -11,7 +11,7 @@ use Rattle.path_runs.proofs.lemmas.spelling.PieceValueLemmas.{is_rooted-slash, v
 use Rattle.path_within.specs.Resolved.{kept_of, resolved_of, resolved_bytes_of}
 use Rattle.path_within.proofs.lemmas.kept.KeepLemmas.{IsKept-kept_of, kept_of-append}
 use Rattle.path_within.proofs.lemmas.kept.KeepLemmas.{resolved_of-append}
-use Rattle.path_within.proofs.lemmas.kept.PathOfLemmas.{AllOne-kept_of, AllOne-values}
+use Rattle.path_within.proofs.lemmas.kept.PathOfLemmas.{ReadsAsItself-kept_of, ReadsAsItself-values}
 use Rattle.path_within.proofs.lemmas.kept.PathOfLemmas.{path_of-spelled, values-path_of}
 
 -- a resolved path has the resolved values
@@ -20,7 +20,7 @@ unfolding resolved_of
 values-resolved s =
     let ks = kept_of [] (values s) in
     let kept = IsKept-kept_of [] (values s) tt in
-    let one = AllOne-kept_of [] (values s) tt (AllOne-values s) in
+    let one = ReadsAsItself-kept_of [] (values s) tt (ReadsAsItself-values s) in
     ap values (sym (path_of-spelled ks kept one)) ∙ values-path_of ks kept one
 
 -- a leading dot changes nothing of what is kept

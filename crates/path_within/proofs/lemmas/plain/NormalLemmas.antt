@@ -4,7 +4,7 @@ use Rattle.std.proofs.Common.{sym, ap, subst, ◌∙◌, arith, not}
 use Rattle.std.proofs.lemmas.List.{append-nil, reverse-reverse}
 use Rattle.std.specs.List.{list_all}
 use Rattle.unix_path.specs.Parts.{Value, RootDir, CurDir, ParentDir, Normal, is_rooted, values}
-use Rattle.unix_bytes.proofs.lemmas.lists.CaseLemmas.{by_test}
+use Rattle.unix_bytes.proofs.lemmas.lists.ListLemmas.{by_test}
 use Rattle.path_runs.proofs.lemmas.spelling.PieceValueLemmas.{is_rooted-slash, values-rooted}
 use Rattle.path_within.specs.PlainPieces.{is_plain}
 use Rattle.path_runs.specs.Spelling.{spelling_of}

@@ -7,8 +7,8 @@ use Rattle.std.specs.List.{list_all, onto_first, slice_split}
 use Rattle.std.specs.Str.{bytes_eq}
 use Rattle.std.proofs.lemmas.List.Splits.{slice_split-cons_yes, slice_split-cons_no}
 use Rattle.unix_path.specs.Parts.{is_slash, parent_dir}
-use Rattle.unix_bytes.proofs.lemmas.lists.CaseLemmas.{by_test}
-use Rattle.unix_path.proofs.lemmas.filler.IdleLemmas.{first_piece_empty, first_piece_dot}
+use Rattle.unix_bytes.proofs.lemmas.lists.ListLemmas.{by_test}
+use Rattle.unix_path.proofs.lemmas.filler.FillerLemmas.{first_piece_empty, first_piece_dot}
 use Rattle.unix_path.proofs.lemmas.parts.PieceLemmas.{first_piece, first_piece-slash}
 use Rattle.unix_path.proofs.lemmas.parts.PieceLemmas.{first_piece-other}
 use Rattle.unix_path.proofs.lemmas.parts.PieceLemmas.{slice_split-first}

@@ -6,9 +6,9 @@ use Rattle.std.proofs.Common.{refl, sym, ap, ap₂, ◌∙◌, arith, length-tak
 use Rattle.std.specs.Int.{from_bool}
 use Rattle.std.proofs.lemmas.Bool.{and_parts, both_ways, ltb-true, ltb-false}
 use Rattle.std.proofs.lemmas.List.{get_or-take, get_or_past, get_or_default}
-use Rattle.unix_path.specs.Scan.{begins_with_parent, is_break, is_idle}
+use Rattle.unix_path.specs.Scan.{begins_with_parent, is_break, is_filler}
 use Rattle.unix_path.specs.Parts.{is_rooted}
-use Rattle.unix_bytes.proofs.lemmas.lists.CaseLemmas.{by_test}
+use Rattle.unix_bytes.proofs.lemmas.lists.ListLemmas.{by_test}
 use Rattle.path_within.specs.PlainPieces.{has_plain_pieces, is_end, begins_plain, goes_on_plain}
 use Rattle.path_within.specs.PlainPieces.{is_plain}
 use Rattle.path_within.proofs.lemmas.plain.PlainStartLemmas.{plain_pieces}
@@ -74,7 +74,7 @@ begins_by false true false z f = refl
 
 -- a plain piece begins where neither filler nor `..` does
 pub begins_plain-scan : (s : List ℕ) (i : ℕ) → i < length s
-    → begins_plain s i ≡ (not (is_idle s i) && not (begins_with_parent (drop i s)))
+    → begins_plain s i ≡ (not (is_filler s i) && not (begins_with_parent (drop i s)))
 begins_plain-scan s i l =
     let byte : (j k d : ℕ) → k ≡ i + j → get_or (drop i s) j d ≡ get_or s k d =
     λ j k d e. get_or-drop i s j d ∙ ap (λ k. get_or s k d) (sym e) in
@@ -83,7 +83,7 @@ begins_plain-scan s i l =
     || (eqb (get_or s (i + 1) 0) 46 && is_end s (i + 2)))))) here
     ∙ begins_by (eqb (get_or s i 0) 47) (eqb (get_or s i 0) 46) (is_end s (i + 1))
     (eqb (get_or s (i + 1) 0) 46) (is_end s (i + 2))
-    ∙ ap (λ t. not (is_idle s i) && not t)
+    ∙ ap (λ t. not (is_filler s i) && not t)
     (sym (ap₂ ◌&&◌ (ap (λ x. eqb x 46) (byte 0 i 0 (omega arith)))
     (ap₂ ◌&&◌ (ap (λ x. eqb x 46) (byte 1 (i + 1) 0 (omega arith)))
     (ap (λ x. eqb x 47) (byte 2 (i + 2) 47 (omega arith))))))

@@ -13,11 +13,12 @@ use Rattle.std.proofs.lemmas.List.{append-nil, drop_all, get_or_default, get_or_
 use Rattle.unix_path.specs.CommonDir.{inner_values}
 use Rattle.unix_path.specs.Parts.{slash, is_slash, is_rooted, inner_parts, Part}
 use Rattle.unix_path.specs.Parts.{RootDir, values}
-use Rattle.unix_path.specs.Scan.{begins_with_parent, is_idle}
-use Rattle.unix_bytes.proofs.lemmas.lists.CaseLemmas.{by_test}
+use Rattle.unix_path.specs.Scan.{begins_with_parent, is_filler}
+use Rattle.unix_bytes.proofs.lemmas.lists.ListLemmas.{by_test}
 use Rattle.unix_path.proofs.lemmas.order.CommonPrefixLemmas.{inner_values-nil, values-slash}
-use Rattle.unix_path.proofs.lemmas.filler.IdleLemmas.{idle_slash, inner_parts_idle_at, is_idle-drop}
-use Rattle.unix_path.proofs.lemmas.filler.IdleLemmas.{values-busy}
+use Rattle.unix_path.proofs.lemmas.filler.FillerLemmas.{filler_slash, inner_parts_filler_at}
+use Rattle.unix_path.proofs.lemmas.filler.FillerLemmas.{is_filler-drop}
+use Rattle.unix_path.proofs.lemmas.filler.FillerLemmas.{values-busy}
 use Rattle.unix_path.proofs.lemmas.steps.LeadLemmas.{busy_no_slash}
 use Rattle.unix_path.proofs.lemmas.parts.PieceLemmas.{position_or_len-other, position_or_len-slash}
 use Rattle.unix_path.proofs.lemmas.parts.PieceLemmas.{slice_split-first}
@@ -30,11 +31,11 @@ use Rattle.path_within.proofs.lemmas.plain.PlainLemmas.{plain_has_names}
 use Rattle.path_within.proofs.lemmas.plain.PlainStretchLemmas.{begins_plain-scan, names_stretch}
 use Rattle.path_within.proofs.lemmas.plain.PlainStretchLemmas.{Stretch}
 
--- an idle byte adds no value
-pub inner_values-idle : (s : List ℕ) (n : ℕ) → n < length s → is_idle s n ≡ true
+-- a byte of filler adds no value
+pub inner_values-filler : (s : List ℕ) (n : ℕ) → n < length s → is_filler s n ≡ true
     → inner_values (drop n s) ≡ inner_values (drop (n + 1) s)
-inner_values-idle s n l idle = sym (values-inner_parts (0 + n) (drop n s))
-    ∙ ap (map (λ (p : Part). p.value)) (inner_parts_idle_at 0 s n l idle)
+inner_values-filler s n l filler = sym (values-inner_parts (0 + n) (drop n s))
+    ∙ ap (map (λ (p : Part). p.value)) (inner_parts_filler_at 0 s n l filler)
     ∙ values-inner_parts (0 + (n + 1)) (drop (n + 1) s)
 
 -- nor does a slash, or the end
@@ -42,7 +43,7 @@ pub inner_values-end : (s : List ℕ) (n : ℕ) → is_end s n ≡ true
     → inner_values (drop n s) ≡ inner_values (drop (n + 1) s)
 inner_values-end s n e = by_test (ltb n (length s))
     (λ t. let l = ltb-true n (length s) t in
-    inner_values-idle s n l (idle_slash s n (get_or_default s n 0 47 l ∙ eqb-true _ 47 e)))
+    inner_values-filler s n l (filler_slash s n (get_or_default s n 0 47 l ∙ eqb-true _ 47 e)))
     (λ t. let l = ltb-false n (length s) t in
     ap inner_values (drop_all n s l ∙ sym (drop_all (n + 1) s (omega arith))))
 
@@ -75,7 +76,7 @@ values-cut s n some in_range e = by_test (ltb n (length s))
     ∙ ap values (take_all n s l)))
 
 -- a beginning of a string that begins with no slash has no root
-rootless_take : (s : List ℕ) (n : ℕ) → is_idle s 0 ≡ false → is_rooted (take n s) ≡ false
+rootless_take : (s : List ℕ) (n : ℕ) → is_filler s 0 ≡ false → is_rooted (take n s) ≡ false
 rootless_take [] n busy = by_nothing n
   where
     by_nothing : (n : ℕ) → is_rooted (take n []) ≡ false
@@ -90,18 +91,18 @@ values-root s r = values-lead s
     ∙ ap (λ c. lead_by c (dot_first (slice_split is_slash s)) ++ inner_values s) r
 
 -- what is left behind all filler begins with none
-pub busy_left : (s : List ℕ) (n : ℕ) → (n < length s → is_idle s n ≡ false)
-    → is_idle (drop n s) 0 ≡ false
-busy_left s n busy = is_idle-drop s n ∙ by_test (ltb n (length s))
+pub busy_left : (s : List ℕ) (n : ℕ) → (n < length s → is_filler s n ≡ false)
+    → is_filler (drop n s) 0 ≡ false
+busy_left s n busy = is_filler-drop s n ∙ by_test (ltb n (length s))
     (λ t. busy (ltb-true n (length s) t))
     (λ t. ap (λ x. eqb x 47 || (eqb x 46 && eqb (get_or s (n + 1) 47) 47))
     (get_or_past s n 0 (ltb-false n (length s) t)))
 
 -- behind all filler a string has its inner values
-pub values_left : (s : List ℕ) (n : ℕ) → (n < length s → is_idle s n ≡ false)
+pub values_left : (s : List ℕ) (n : ℕ) → (n < length s → is_filler s n ≡ false)
     → inner_parts 0 s ≡ inner_parts (0 + n) (drop n s) → values (drop n s) ≡ inner_values s
-values_left s n busy idle = values-busy (drop n s) (busy_left s n busy)
-    ∙ sym (ap (map (λ (p : Part). p.value)) idle ∙ values-inner_parts (0 + n) (drop n s))
+values_left s n busy filler = values-busy (drop n s) (busy_left s n busy)
+    ∙ sym (ap (map (λ (p : Part). p.value)) filler ∙ values-inner_parts (0 + n) (drop n s))
 
 -- plain bytes up to a slash or the end, taken as a path, have names, and behind them are the
 -- values of what is left
@@ -109,7 +110,7 @@ pub record TakesNames (s names t : List ℕ) : Type 0 where
   pub split : values s ≡ values names ++ values t
   pub spelled : AreSpelledNames names
 
-pub takes_names : (s t names : List ℕ) (n : ℕ) → is_idle s 0 ≡ false → Stretch s n
+pub takes_names : (s t names : List ℕ) (n : ℕ) → is_filler s 0 ≡ false → Stretch s n
     → n ≤ length s → names ≡ take n s → values t ≡ inner_values (drop n s) → TakesNames s names t
 takes_names s t names n busy h l is left =
     let rootless : is_rooted names ≡ false = ap is_rooted is ∙ rootless_take s n busy in
@@ -171,17 +172,17 @@ goes_on_from s n end e next goes k l = by_test (ltb k n)
     by_next false h = refl
 
 -- where neither filler nor `..` begins, a plain piece does
-pub plain_here : (s : List ℕ) → 0 < length s → is_idle s 0 ≡ false
+pub plain_here : (s : List ℕ) → 0 < length s → is_filler s 0 ≡ false
     → begins_with_parent s ≡ false → begins_plain s 0 ≡ true
 plain_here s some busy no_up = begins_plain-scan s 0 some
     ∙ ap₂ (λ x y. not x && not y) busy no_up
 
 -- where neither filler nor a dot begins, a plain piece does
 pub plain_behind : (s rest : List ℕ) (n : ℕ) → rest ≡ drop n s → n < length s
-    → is_idle rest 0 ≡ false → (get_or rest 0 0 ≡ 46 → ⊥) → begins_plain s n ≡ true
+    → is_filler rest 0 ≡ false → (get_or rest 0 0 ≡ 46 → ⊥) → begins_plain s n ≡ true
 plain_behind s rest n e l busy other = begins_plain-scan s n l
     ∙ ap₂ (λ x y. not x && not y)
-    (sym (is_idle-drop s n) ∙ ap (λ t. is_idle t 0) (sym e) ∙ busy)
+    (sym (is_filler-drop s n) ∙ ap (λ t. is_filler t 0) (sym e) ∙ busy)
     (ap begins_with_parent (sym e) ∙ ap (λ c. c && (eqb (get_or rest 1 0) 46
     && eqb (get_or rest 2 47) 47)) (ne_eqb _ 46 other))
 
@@ -191,7 +192,7 @@ pub record TakesName (s name t : List ℕ) : Type 0 where
   pub spelled : AreSpelledNames name
   pub one : length (values name) ≡ 1
 
-pub one_name : (s t name : List ℕ) (n : ℕ) → is_idle s 0 ≡ false → begins_plain s 0 ≡ true
+pub one_name : (s t name : List ℕ) (n : ℕ) → is_filler s 0 ≡ false → begins_plain s 0 ≡ true
     → n ≡ position_or_len is_slash s → n ≤ length s → name ≡ take n s
     → values t ≡ inner_values (drop (n + 1) s) → TakesName s name t
 one_name s t name n busy first e l is left =

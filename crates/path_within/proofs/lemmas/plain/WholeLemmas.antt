@@ -4,7 +4,7 @@ use Rattle.std.proofs.Common.{refl, sym, ap, ◌∙◌}
 use Rattle.unix_path.specs.Joins.{join_of, join_all_of}
 use Rattle.unix_path.specs.Parts.{Value, RootDir, CurDir, ParentDir, Normal, value_bytes}
 use Rattle.unix_path.specs.Parts.{is_rooted, values}
-use Rattle.unix_bytes.proofs.lemmas.lists.CaseLemmas.{by_test}
+use Rattle.unix_bytes.proofs.lemmas.lists.ListLemmas.{by_test}
 use Rattle.unix_path.proofs.lemmas.edits.JoinLemmas.{join_of_rooted}
 use Rattle.path_runs.specs.Spelling.{spelling_of}
 use Rattle.path_runs.proofs.lemmas.joins.AssociativeLemmas.{join_of-nil, join_of-join_of}
@@ -13,9 +13,9 @@ use Rattle.path_runs.proofs.lemmas.spelling.SpellLemmas.{spelling_of-nil}
 use Rattle.path_within.specs.Resolved.{AreNames, kept_of, resolved_of, resolved_bytes_of}
 use Rattle.path_within.specs.Climbs.{Climbs, has_root_or_up}
 use Rattle.path_within.specs.PlainPieces.{is_plain}
-use Rattle.path_within.specs.Steps.{AllOne, IsKept, path_of, Spells}
+use Rattle.path_within.specs.Steps.{ReadsAsItself, IsKept, path_of, Spells}
 use Rattle.path_within.proofs.lemmas.kept.KeepLemmas.{IsKept-kept_of}
-use Rattle.path_within.proofs.lemmas.kept.PathOfLemmas.{AllOne-kept_of, AllOne-values}
+use Rattle.path_within.proofs.lemmas.kept.PathOfLemmas.{ReadsAsItself-kept_of, ReadsAsItself-values}
 use Rattle.path_within.proofs.lemmas.kept.PathOfLemmas.{path_of-spelled}
 use Rattle.path_within.proofs.lemmas.plain.PlainLemmas.{HasNames, plain_has_names, resolved-plain}
 use Rattle.path_within.proofs.lemmas.plain.RequestLemmas.{request_stays}
@@ -51,7 +51,7 @@ spells_kept : {s t : List ℕ} {ks : List Value} (b : List ℕ) → Spells s ks
     → t ≡ path_of (kept_of ks (values b)) → Spells t (kept_of ks (values b))
 spells_kept {s} {t} {ks} b h e = record {
   kept = IsKept-kept_of ks (values b) h.kept;
-  one = AllOne-kept_of ks (values b) h.one (AllOne-values b);
+  one = ReadsAsItself-kept_of ks (values b) h.one (ReadsAsItself-values b);
   is = e;
 }
 
@@ -71,14 +71,14 @@ whole_rootless ks b h = by (values b) refl h.names
         ∙ sym (path_of-names ks (v ∷ vs) names) ∙ ap (λ vs. path_of (kept_of ks vs)) (sym e)
 
 -- a plain path with a root is the bytes that its parts, joined one by one, give
-whole_rooted : (ks : List Value) (b : List ℕ) → IsKept ks → AllOne ks → is_plain b ≡ true
+whole_rooted : (ks : List Value) (b : List ℕ) → IsKept ks → ReadsAsItself ks → is_plain b ≡ true
     → is_rooted b ≡ true → b ≡ path_of (kept_of ks (values b))
 unfolding resolved_of
 whole_rooted ks b h k plain rooted =
     sym (resolved-plain b plain)
     ∙ ap (λ ks. spelling_of (reverse ks)) (kept_of-rooted ks b rooted)
     ∙ sym (path_of-spelled (kept_of ks (values b)) (IsKept-kept_of ks (values b) h)
-    (AllOne-kept_of ks (values b) k (AllOne-values b)))
+    (ReadsAsItself-kept_of ks (values b) k (ReadsAsItself-values b)))
 
 -- bytes that spell kept values, joined with a plain path, spell what is kept after its values
 pub spells_whole : {s t : List ℕ} {ks : List Value} (b : List ℕ) → Spells s ks

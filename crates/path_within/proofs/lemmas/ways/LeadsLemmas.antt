@@ -10,26 +10,27 @@ use Rattle.path_runs.proofs.lemmas.lists.AllLemmas.{AllByRecursion-end}
 use Rattle.path_within.specs.Resolved.{AreUpsThenNames, IsNormal, kept_of}
 use Rattle.path_within.specs.Resolved.{resolved_of, resolved_bytes_of}
 use Rattle.path_within.specs.Way.{way_of}
-use Rattle.path_within.specs.Steps.{AllOne, IsKept, IsOne}
+use Rattle.path_within.specs.Steps.{ReadsAsItself, IsKept, ValueReadsAsItself}
 use Rattle.path_within.proofs.lemmas.kept.KeepLemmas.{IsKept-kept_of, IsKept-tail, kept_of-append}
 use Rattle.path_within.proofs.lemmas.kept.KeepLemmas.{kept_of-kept}
 use Rattle.path_within.proofs.lemmas.kept.KeepLemmas.{names_reverse, resolved_normal}
 use Rattle.path_within.proofs.lemmas.kept.ResolveLemmas.{kept_of-join, values-resolved}
 use Rattle.path_within.proofs.lemmas.kept.BetweenLemmas.{shared_count, steps_between-is}
 use Rattle.path_within.proofs.lemmas.kept.BetweenLemmas.{take-shared, ups_of}
-use Rattle.path_within.proofs.lemmas.kept.PathOfLemmas.{IsOne-up, AllOne-kept_of, AllOne-values}
+use Rattle.path_within.proofs.lemmas.kept.PathOfLemmas.{ValueReadsAsItself-up}
+use Rattle.path_within.proofs.lemmas.kept.PathOfLemmas.{ReadsAsItself-kept_of, ReadsAsItself-values}
 use Rattle.path_within.proofs.lemmas.kept.PathOfLemmas.{path_of-spelled, values-path_of}
 use Rattle.path_within.proofs.lemmas.kept.WayLemmas.{kept_of-straight, kept_of-ups, list_all-names}
 use Rattle.path_within.proofs.lemmas.kept.WayLemmas.{names_all}
 use Rattle.path_within.proofs.lemmas.kept.WayLemmas.{normal_end, ups_straight}
 
 -- `..` and then names are read back from their spelling
-pub values-spelling_of_straight : (vs : List Value) → AreUpsThenNames vs → AllOne vs
+pub values-spelling_of_straight : (vs : List Value) → AreUpsThenNames vs → ReadsAsItself vs
     → values (spelling_of vs) ≡ vs
 values-spelling_of_straight vs h k =
     let ks = kept_of [] vs in
     let kept = IsKept-kept_of [] vs tt in
-    let one = AllOne-kept_of [] vs tt k in
+    let one = ReadsAsItself-kept_of [] vs tt k in
     let is : reverse ks ≡ vs =
     ap reverse (kept_of-straight [] vs tt h ∙ append-nil (reverse vs)) ∙ reverse-reverse vs in
     ap (λ ws. values (spelling_of ws)) (sym is) ∙ ap values (sym (path_of-spelled ks kept one))
@@ -54,12 +55,12 @@ kept_of-rest ks start rest h e =
 -- the steps lead from the kept values ks to the kept values js, both with the last first
 record IsWay (ks js steps : List Value) : Type 0 where
   pub straight : AreUpsThenNames steps
-  pub one : AllOne steps
+  pub one : ReadsAsItself steps
   pub leads : kept_of ks steps ≡ js
 
-AllOne-ups : (xs vs : List Value) → AllOne vs → AllOne (ups_of xs ++ vs)
-AllOne-ups [] vs h = h
-AllOne-ups (x ∷ xs) vs h = (IsOne-up, AllOne-ups xs vs h)
+ReadsAsItself-ups : (xs vs : List Value) → ReadsAsItself vs → ReadsAsItself (ups_of xs ++ vs)
+ReadsAsItself-ups [] vs h = h
+ReadsAsItself-ups (x ∷ xs) vs h = (ValueReadsAsItself-up, ReadsAsItself-ups xs vs h)
 
 -- the way between two paths leads from the kept values of one to those of the other
 way_is : (from to : List ℕ) (steps : List Value) → way_of (values from) (values to) ≡ Some steps
@@ -78,13 +79,14 @@ way_is from to steps e =
     let are = steps_between-is x y steps e in
     let straight = normal_end f y (subst IsNormal (sym second) (resolved_normal (values to)))
     are.no_root in
-    let one = subst AllOne (values-resolved to ∙ sym second)
-    (AllOne-values (resolved_bytes_of to)) in
+    let one = subst ReadsAsItself (values-resolved to ∙ sym second)
+    (ReadsAsItself-values (resolved_bytes_of to)) in
     let split : ks ≡ reverse x ++ reverse f =
     sym (reverse-reverse ks) ∙ ap reverse (sym (take-append-drop n v)) ∙ reverse-append f x in
     record {
       straight = subst AreUpsThenNames are.steps_are (ups_straight x y straight);
-      one = subst AllOne are.steps_are (AllOne-ups x y (AllByRecursion-end IsOne f y one));
+      one = subst ReadsAsItself are.steps_are
+          (ReadsAsItself-ups x y (AllByRecursion-end ValueReadsAsItself f y one));
       leads = ap (kept_of ks) (sym are.steps_are) ∙ kept_of-append ks (ups_of x) y
           ∙ ap (λ zs. kept_of (kept_of zs (ups_of x)) y) split
           ∙ ap (λ zs. kept_of zs y) (kept_of-ups (reverse x) (reverse f) x

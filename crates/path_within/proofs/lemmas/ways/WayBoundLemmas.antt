@@ -5,7 +5,7 @@ use Rattle.std.proofs.Common.{arith, take, take-append-drop}
 use Rattle.std.specs.List.{list_all, list_any}
 use Rattle.std.proofs.lemmas.List.Sums.{sum_by-append, sum_by-take-drop}
 use Rattle.unix_path.specs.Parts.{Value, RootDir, ParentDir, is_rooted, value_bytes, values}
-use Rattle.unix_bytes.proofs.lemmas.lists.CaseLemmas.{by_test}
+use Rattle.unix_bytes.proofs.lemmas.lists.ListLemmas.{by_test}
 use Rattle.unix_path.proofs.lemmas.parts.PartLemmas.{values-nil}
 use Rattle.path_runs.specs.Spelling.{spelling_of}
 use Rattle.path_runs.proofs.lemmas.lists.AllLemmas.{AllByRecursion-end}
@@ -13,7 +13,7 @@ use Rattle.path_runs.proofs.lemmas.spelling.PieceValueLemmas.{is_rooted-slash}
 use Rattle.path_within.specs.Below.{names_below}
 use Rattle.path_within.specs.Climbs.{is_name}
 use Rattle.path_within.specs.Resolved.{resolved_of, resolved_bytes_of}
-use Rattle.path_within.specs.Steps.{AllOne, IsOne}
+use Rattle.path_within.specs.Steps.{ReadsAsItself, ValueReadsAsItself}
 use Rattle.path_within.specs.Way.{is_root, way_of}
 use Rattle.path_within.specs.Written.{slashed_len}
 use Rattle.path_within.proofs.lemmas.kept.BetweenLemmas.{shared_count, steps_between-is, ups_of}
@@ -21,12 +21,12 @@ use Rattle.path_within.proofs.lemmas.below.BoundLemmas.{length-spelling, slashed
 use Rattle.path_within.proofs.lemmas.below.BoundLemmas.{slashed_len-names}
 use Rattle.path_within.proofs.lemmas.below.BoundLemmas.{slashed_len-rootless}
 use Rattle.path_within.proofs.lemmas.below.NamesBelowLemmas.{resolved_of-slash}
-use Rattle.path_within.proofs.lemmas.kept.PathOfLemmas.{AllOne-values}
+use Rattle.path_within.proofs.lemmas.kept.PathOfLemmas.{ReadsAsItself-values}
 use Rattle.path_within.proofs.lemmas.kept.ResolveLemmas.{values-resolved}
-use Rattle.path_within.proofs.lemmas.ways.FloorLemmas.{names_rootless}
+use Rattle.path_within.proofs.lemmas.ways.NoWayLemmas.{names_rootless}
 
 -- the bytes of a value that are a path of it alone are some
-one_has_bytes : (v : Value) → IsOne v → 0 < length (value_bytes v)
+one_has_bytes : (v : Value) → ValueReadsAsItself v → 0 < length (value_bytes v)
 one_has_bytes v one = some (value_bytes v) refl
   where
     some : (b : List ℕ) → value_bytes v ≡ b → 0 < length (value_bytes v)
@@ -35,7 +35,7 @@ one_has_bytes v one = some (value_bytes v) refl
     some (x ∷ b) is = omega (arith, ap length is)
 
 -- such values have two bytes each at least, with a slash for each
-ones_long : (vs : List Value) → AllOne vs → 2 * length vs ≤ slashed_len vs
+ones_long : (vs : List Value) → ReadsAsItself vs → 2 * length vs ≤ slashed_len vs
 ones_long [] ones = omega arith
 ones_long (v ∷ vs) ones =
     omega (arith, slashed_len-cons v vs, one_has_bytes v ones.0, ones_long vs ones.1)
@@ -84,9 +84,10 @@ length-way from to steps e =
     let x = drop n v in
     let y = drop n w in
     let are = steps_between-is x y steps e in
-    let ones : AllOne x =
-    AllByRecursion-end IsOne (take n v) x (subst AllOne (sym (take-append-drop n v))
-    (subst AllOne (values-resolved from) (AllOne-values (resolved_bytes_of from)))) in
+    let ones : ReadsAsItself x =
+    AllByRecursion-end ValueReadsAsItself (take n v) x
+    (subst ReadsAsItself (sym (take-append-drop n v))
+    (subst ReadsAsItself (values-resolved from) (ReadsAsItself-values (resolved_bytes_of from)))) in
     omega (
       arith,
       length-spelling steps,

@@ -10,7 +10,7 @@ use Rattle.unix_path.specs.Joins.{is_open, join_of}
 use Rattle.unix_path.specs.Parts.{Value, RootDir, CurDir, ParentDir, Normal, dot, slash}
 use Rattle.unix_path.specs.Parts.{is_rooted, value_bytes, values}
 use Rattle.unix_path.specs.Scan.{begins_with_parent}
-use Rattle.unix_bytes.proofs.lemmas.lists.CaseLemmas.{by_test}
+use Rattle.unix_bytes.proofs.lemmas.lists.ListLemmas.{by_test}
 use Rattle.unix_path.proofs.lemmas.edits.JoinLemmas.{join_of_closed}
 use Rattle.unix_path.proofs.lemmas.parts.PartLemmas.{values-nil}
 use Rattle.unix_path.proofs.lemmas.callers.CallerLemmas.{same_value-Decides}
@@ -21,16 +21,16 @@ use Rattle.path_runs.proofs.lemmas.spelling.PieceValueLemmas.{is_rooted-slash, v
 use Rattle.path_runs.proofs.lemmas.gaps.StretchLemmas.{slash_each, slashed_bytes-cons}
 use Rattle.path_within.specs.Climbs.{is_name}
 use Rattle.path_within.specs.Resolved.{AreUpsThenNames, resolved_of, resolved_bytes_of}
-use Rattle.path_within.specs.Steps.{AllOne, IsOne}
+use Rattle.path_within.specs.Steps.{ReadsAsItself, ValueReadsAsItself}
 use Rattle.path_within.specs.Way.{way_of}
 use Rattle.path_within.proofs.lemmas.kept.BetweenLemmas.{shared_count, steps_from, ups_of}
 use Rattle.path_within.proofs.lemmas.kept.KeepLemmas.{resolved_of-resolved_of}
 use Rattle.path_within.proofs.lemmas.ways.LeadsLemmas.{values-spelling_of_straight}
-use Rattle.path_within.proofs.lemmas.kept.PathOfLemmas.{AllOne-values}
+use Rattle.path_within.proofs.lemmas.kept.PathOfLemmas.{ReadsAsItself-values}
 use Rattle.path_within.proofs.lemmas.kept.ResolveLemmas.{values-resolved}
 use Rattle.unix_path.proofs.lemmas.steps.LeadLemmas.{values-parent_first}
-use Rattle.path_within.proofs.lemmas.ways.UnsharedLemmas.{HasSteps, are_left, has_steps, left_of}
-use Rattle.path_within.proofs.lemmas.ways.UnsharedLemmas.{onward_of}
+use Rattle.path_within.proofs.lemmas.ways.RemainderLemmas.{HasSteps, are_left, has_steps, left_of}
+use Rattle.path_within.proofs.lemmas.ways.RemainderLemmas.{onward_of}
 use Rattle.path_within.proofs.lemmas.kept.WayLemmas.{list_all-names, spelling_of-straight}
 use Rattle.path_within.proofs.lemmas.kept.WayLemmas.{straight_rootless}
 use Rattle.path_within.proofs.lemmas.kept.WayLemmas.{ups_straight}
@@ -85,12 +85,13 @@ no_way-roots from to s t h differ =
     ap (option_map spelling_of) (none ∙ sym h.way_is)
 
 -- `..` and then names are read back from their spelling
-read_back : (vs : List Value) → AreUpsThenNames vs → AllOne vs → values (slashed_bytes vs) ≡ vs
+read_back : (vs : List Value) → AreUpsThenNames vs → ReadsAsItself vs
+    → values (slashed_bytes vs) ≡ vs
 read_back vs h k =
     ap values (sym (spelling_of-straight vs h)) ∙ values-spelling_of_straight vs h k
 
 -- their spelling begins with `..` exactly if they aren't names alone
-up_told : (vs : List Value) → AreUpsThenNames vs → AllOne vs
+up_told : (vs : List Value) → AreUpsThenNames vs → ReadsAsItself vs
     → begins_with_parent (slashed_bytes vs) ≡ not (list_all is_name vs)
 up_told [] h k = refl
 up_told (RootDir ∷ vs) h k = absurd h
@@ -104,7 +105,7 @@ up_told (Normal name ∷ vs) h k =
     sym (values-parent_first s e) ∙ read_back (Normal name ∷ vs) h k in cc))
     (λ e. e ∙ sym (ap not (list_all-names vs h)))
 
-slashed_rootless : (vs : List Value) → AreUpsThenNames vs → AllOne vs
+slashed_rootless : (vs : List Value) → AreUpsThenNames vs → ReadsAsItself vs
     → is_rooted (slashed_bytes vs) ≡ false
 slashed_rootless vs h k = by_test (is_rooted (slashed_bytes vs))
     (λ r. let t = is_rooted-slash (slashed_bytes vs) r in
@@ -116,10 +117,10 @@ ups_of-is : (vs : List Value) → ups_of vs ≡ replicate (length vs) ParentDir
 ups_of-is [] = refl
 ups_of-is (v ∷ vs) = ap (λ us. ParentDir ∷ us) (ups_of-is vs)
 
-one_drop : (n : ℕ) (s : List ℕ) → AllOne (drop n (values s))
+one_drop : (n : ℕ) (s : List ℕ) → ReadsAsItself (drop n (values s))
 one_drop n s = let vs = values s in
-    AllByRecursion-end IsOne (take n vs) (drop n vs)
-    (subst AllOne (sym (take-append-drop n vs)) (AllOne-values s))
+    AllByRecursion-end ValueReadsAsItself (take n vs) (drop n vs)
+    (subst ReadsAsItself (sym (take-append-drop n vs)) (ReadsAsItself-values s))
 
 -- `..` for each part of `left`, and then what is left of t
 abbrev pub way_bytes : List ℕ → List ℕ → List ℕ → List ℕ
@@ -173,7 +174,7 @@ join_of-ups (suc n) v vs r =
 abbrev pub joined : List ℕ → List ℕ → List ℕ
 joined ups onward = cond (eqb (length onward) 0) ups (join_of ups onward)
 
-joined-ups : (n : ℕ) (vs : List Value) → AreUpsThenNames vs → AllOne vs
+joined-ups : (n : ℕ) (vs : List Value) → AreUpsThenNames vs → ReadsAsItself vs
     → joined (slashed_bytes (replicate n ParentDir)) (slashed_bytes vs)
     ≡ slashed_bytes (replicate n ParentDir ++ vs)
 joined-ups n [] h k = ap slashed_bytes (sym (append-nil (replicate n ParentDir)))

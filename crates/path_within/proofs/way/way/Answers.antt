@@ -21,12 +21,12 @@ use Rattle.path_within.proofs.way.way.Goals.{
   else-not-is_empty-via-then-not-is_empty+else-begins_with_parent,
 }
 
-pub unshared-requires-clause-first : goal.unshared-requires-clause-first
-unshared-requires-clause-first c =
+pub remainders-requires-clause-first : goal.remainders-requires-clause-first
+remainders-requires-clause-first c =
     resolved_again c.args.from.bytes.now _ (c.as_path-first.ensures ∙ c.in_ok-from.ensures.bytes)
 
-pub unshared-requires-clause-second : goal.unshared-requires-clause-second
-unshared-requires-clause-second c =
+pub remainders-requires-clause-second : goal.remainders-requires-clause-second
+remainders-requires-clause-second c =
     resolved_again c.args.to.bytes.now _ (c.as_path-second.ensures ∙ c.in_ok-to.ensures.bytes)
 
 pub returns-then-has_root : goal.returns-then-has_root
@@ -44,7 +44,7 @@ pub returns-then-begins_with_parent-clause-bytes : goal.returns-then-begins_with
 returns-then-begins_with_parent-clause-bytes c = way_told c.args.from.bytes.now c.args.to.bytes.now _ _ _ true
     (are_resolved _ _ _ _ (c.as_path-first.ensures ∙ c.in_ok-from.ensures.bytes)
     (c.as_path-second.ensures ∙ c.in_ok-to.ensures.bytes)) (search (rules, tests))
-    c.unshared.ensures.first (sym c.begins_with_parent.ensures ∙ c.if-begins_with_parent.true)
+    c.remainders.ensures.first (sym c.begins_with_parent.ensures ∙ c.if-begins_with_parent.true)
 
 pub loop-up-preserved : goal.loop-up-preserved
 loop-up-preserved c = c.in_ok-push.ensures.ok
@@ -56,8 +56,8 @@ pub returns-clause-bytes : goal.returns-clause-bytes
 returns-clause-bytes c =
     let from = c.args.from.bytes.now in
     let to = c.args.to.bytes.now in
-    let left = c.unshared.result.0.bytes.now in
-    let onward = c.unshared.result.1.bytes.now in
+    let left = c.remainders.result.0.bytes.now in
+    let onward = c.remainders.result.1.bytes.now in
     let ups = path_bytes c.loop-up.way in
     let resolved = are_resolved from to _ _ (c.as_path-first.ensures ∙ c.in_ok-from.ensures.bytes)
     (c.as_path-second.ensures ∙ c.in_ok-to.ensures.bytes) in
@@ -77,9 +77,9 @@ returns-clause-bytes c =
     ] in
     let count : c.loop-up._up ≡ c.part_count-ups.result = omega arith in
     ap Some (way_is ∙ joined-way from to _ _ left onward ups resolved (search (rules, tests))
-    c.unshared.ensures.second
+    c.remainders.ensures.second
     (c.loop-up.invariant ∙ ap (λ k. slashed_bytes (replicate k ParentDir)) (count ∙ c.part_count-ups.ensures)))
-    ∙ way_told from to _ _ left false resolved (search (rules, tests)) c.unshared.ensures.first
+    ∙ way_told from to _ _ left false resolved (search (rules, tests)) c.remainders.ensures.first
     no_up
 
 pub returns-then-eq-clause-bytes : goal.returns-then-eq-clause-bytes

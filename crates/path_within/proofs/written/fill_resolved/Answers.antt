@@ -13,8 +13,8 @@ loop-name-init c = record {
   few = c.components-left.ensures.len;
 }
 
-pub place_before-end-requires-clause-room : goal.place_before-end-requires-clause-room
-place_before-end-requires-clause-room c = omega (
+pub write_before-end-requires-clause-room : goal.write_before-end-requires-clause-room
+write_before-end-requires-clause-room c = omega (
   arith,
   c.loop-name.invariant.writes.end_is,
   ap slashed_len c.in-Some.ensures.some,
@@ -24,9 +24,9 @@ place_before-end-requires-clause-room c = omega (
 pub loop-name-preserved : goal.loop-name-preserved
 loop-name-preserved c = record {
   writes = back_name c.in-Some.name.bytes.now c.loop-name.invariant.writes
-      c.in-Some.ensures.some c.place_before-end.ensures.start
-      c.place_before-end.ensures.bytes;
-  in_range = omega (arith, c.place_before-end.auto.out);
+      c.in-Some.ensures.some c.write_before-end.ensures.start
+      c.write_before-end.ensures.bytes;
+  in_range = omega (arith, c.write_before-end.auto.out);
   few = omega (arith, c.in-Some.ensures.len);
 }
 

@@ -20,12 +20,12 @@ returns-then-len-out c =
     let names = slashed_bytes (names_below (values c.args.path.bytes.now)) in
     let some = some_names (names_below (values c.args.path.bytes.now))
     c.resolved_len-names_len.ensures.len (omega (arith, c.if-names_len-eq0.false)) in
-    subst (λ s. IsWritten s c.args.out.now c.place_resolved.new.out
+    subst (λ s. IsWritten s c.args.out.now c.write_resolved_names.new.out
     (c.opened_len-start.result + (c.resolved_len-names_len.result - 1)))
     (below_of-spelled c.args.root.now c.args.path.bytes.now some.0)
     (written_behind c.args.root.now names c.args.out.now c.opened_len-start.ensures.len
-    (omega (arith, some.1)) (omega (arith, c.if-len-out.true)) (c.place_resolved.ensures
-    ∙ ap (overlay c.opened_len-start.result names) c.place_opened.ensures))
+    (omega (arith, some.1)) (omega (arith, c.if-len-out.true)) (c.write_resolved_names.ensures
+    ∙ ap (overlay c.opened_len-start.result names) c.write_opened.ensures))
 
 pub returns-else-len-out : goal.returns-else-len-out
 returns-else-len-out c =

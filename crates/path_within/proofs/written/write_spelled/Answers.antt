@@ -5,8 +5,8 @@ use Rattle.path_within.proofs.written.write_spelled.Goals as goal
 
 pub returns-then-len-out : goal.returns-then-len-out
 returns-then-len-out c = written_behind c.args.root.now c.args.names.now c.args.out.now
-    c.opened_len-start.ensures.len refl (omega (arith, c.if-len-out.true)) (c.place.ensures
-    ∙ ap (overlay c.opened_len-start.result c.args.names.now) c.place_opened.ensures)
+    c.opened_len-start.ensures.len refl (omega (arith, c.if-len-out.true)) (c.write_at.ensures
+    ∙ ap (overlay c.opened_len-start.result c.args.names.now) c.write_opened.ensures)
 
 pub returns-else-len-out : goal.returns-else-len-out
 returns-else-len-out c = not_written c.args.root.now c.args.names.now c.args.out.now

@@ -6,7 +6,7 @@ use Rattle.std.proofs.Common.{Bool, true, false, ◌&&◌, if◌then◌else◌}
 use Rattle.std.specs.List.{cons_option, filter_map, list_all}
 use Rattle.std.proofs.Common.{append-nil, append_assoc}
 use Rattle.std.proofs.lemmas.List.{at_drop_more, at_drop_all, length_push, map-append}
-use Rattle.unix_bytes.proofs.lemmas.lists.CaseLemmas.{by_test}
+use Rattle.unix_bytes.proofs.lemmas.lists.ListLemmas.{by_test}
 use Rattle.path_runs.specs.EditLists.{EditValue}
 use Rattle.path_runs.specs.EditViews.{edit_value}
 use Rattle.path_runs.specs.declared.edits.Edit.{Edit}

@@ -5,7 +5,7 @@ use Rattle.json.specs.Print.{quoted}
 use Rattle.unix_bytes.specs.Lossy.{is_text}
 use Rattle.unix_bytes.specs.Utf8.{IsText}
 use Rattle.unix_bytes.proofs.lemmas.lossy.LossyLemmas.{is_text-from_IsText, IsText-from_is_text}
-use Rattle.unix_bytes.proofs.lemmas.lists.CaseLemmas.{by_test}
+use Rattle.unix_bytes.proofs.lemmas.lists.ListLemmas.{by_test}
 use Rattle.pathtool.specs.Quoted.{json_of}
 
 -- a path that is text is quoted

@@ -5,7 +5,7 @@ use Rattle.unix_path.specs.Cursor.{name_bytes}
 use Rattle.unix_path.specs.Ancestors.{ancestors_left}
 use Rattle.unix_path.specs.Parents.{ancestors_of}
 use Rattle.pathtool.proofs.lemmas.answers.AddLemmas.{adds}
-use Rattle.pathtool.proofs.lemmas.answers.ListLemmas.{adds_list}
+use Rattle.pathtool.proofs.lemmas.answers.TabbedLemmas.{adds_list}
 use Rattle.pathtool.specs.Fields.{tabs}
 use Rattle.pathtool.proofs.lists.push_ancestors.Goals as goal
 

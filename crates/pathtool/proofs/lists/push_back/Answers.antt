@@ -2,7 +2,7 @@ use Rattle.std.proofs.Common.{ap, map, reverse}
 use Rattle.unix_path.proofs.lemmas.walks.CursorLemmas.{Iter-yields_back}
 use Rattle.unix_path.specs.Parts.{value_bytes}
 use Rattle.pathtool.proofs.lemmas.answers.AddLemmas.{adds}
-use Rattle.pathtool.proofs.lemmas.answers.ListLemmas.{adds_list}
+use Rattle.pathtool.proofs.lemmas.answers.TabbedLemmas.{adds_list}
 use Rattle.unix_path.proofs.lemmas.names.ParentLemmas.{values-whole}
 use Rattle.pathtool.specs.Fields.{tabs}
 use Rattle.pathtool.proofs.lists.push_back.Goals as goal

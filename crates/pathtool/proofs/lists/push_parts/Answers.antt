@@ -5,7 +5,7 @@ use Rattle.unix_path.proofs.lemmas.walks.CursorLemmas.{Components-yields}
 use Rattle.unix_path.specs.Cursor.{name_bytes}
 use Rattle.unix_path.specs.Parts.{value_bytes}
 use Rattle.pathtool.proofs.lemmas.answers.AddLemmas.{adds}
-use Rattle.pathtool.proofs.lemmas.answers.ListLemmas.{adds_list}
+use Rattle.pathtool.proofs.lemmas.answers.TabbedLemmas.{adds_list}
 use Rattle.unix_path.proofs.lemmas.names.ParentLemmas.{values-whole}
 use Rattle.pathtool.specs.Fields.{tabs}
 use Rattle.pathtool.proofs.lists.push_parts.Goals as goal

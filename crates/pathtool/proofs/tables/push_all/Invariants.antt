@@ -1,7 +1,7 @@
 use Rattle.std.proofs.Common.{◌≡◌, ◌++◌, map, take}
 use Rattle.pathtool.specs.Fields.{tabs}
 use Rattle.pathtool.specs.Steps.{row_spelling}
-use Rattle.pathtool.proofs.lemmas.answers.ListLemmas.{has_none}
+use Rattle.pathtool.proofs.lemmas.answers.TabbedLemmas.{has_none}
 use Rattle.pathtool.proofs.tables.push_all.Given as goal
 
 -- the paths so far were added

@@ -5,7 +5,7 @@ use Rattle.unix_path.specs.Parts.{value_bytes}
 use Rattle.unix_path.specs.Views.{value_of}
 use Rattle.unix_path.specs.Cursor.{name_bytes}
 use Rattle.pathtool.proofs.lemmas.answers.AddLemmas.{adds_behind}
-use Rattle.pathtool.proofs.lemmas.answers.ListLemmas.{adds_list, once_yields}
+use Rattle.pathtool.proofs.lemmas.answers.TabbedLemmas.{adds_list, once_yields}
 use Rattle.pathtool.proofs.lemmas.answers.TakeLemmas.{tabs-counted}
 use Rattle.pathtool.proofs.walks.push_walked.Goals as goal
 

@@ -1,6 +1,6 @@
 -- What proofs of other crates cite of narrower subjects: values that are the same, ancestors, the
 -- order behind a common directory, and where a name and its stem end.
-pub use Rattle.unix_path.proofs.lemmas.order.TieLemmas.{same_value-Decides}
+pub use Rattle.unix_path.proofs.lemmas.order.EqualValueLemmas.{same_value-Decides}
 pub use Rattle.unix_path.proofs.lemmas.names.AncestorLemmas.{ancestors_of-alone, ancestors_of-above}
 pub use Rattle.unix_path.proofs.lemmas.order.CommonDirLemmas.{values_cmp-common_dir}
 pub use Rattle.unix_path.proofs.lemmas.names.NamedLemmas.{name_end_of-ended, name_end_of-unnamed}

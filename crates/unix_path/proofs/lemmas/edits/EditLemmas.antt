@@ -35,13 +35,13 @@ unfolding with_extension_of
 with_extension_of-none s extension e = ap (with_extension_at s extension) (sym e)
 
 -- an extension is put behind the stem, with the dot if it is not empty
-pub with_extension_of-some : (s extension gap : List ℕ) (end : ℕ) → Some end ≡ stem_end_of s
-    → gap ≡ dot_before extension
-    → with_extension_of s extension ≡ (take end s ++ gap) ++ extension
+pub with_extension_of-some : (s extension separator : List ℕ) (end : ℕ) → Some end ≡ stem_end_of s
+    → separator ≡ dot_before extension
+    → with_extension_of s extension ≡ (take end s ++ separator) ++ extension
 unfolding with_extension_of
-with_extension_of-some s extension gap end e d =
+with_extension_of-some s extension separator end e d =
     ap (with_extension_at s extension) (sym e)
-    ∙ ap (λ gap. (take end s ++ gap) ++ extension) (sym d)
+    ∙ ap (λ separator. (take end s ++ separator) ++ extension) (sym d)
 
 -- a map over an option changes nothing of whether it is `Some`
 pub is_some-option_map : {A B : Type 0} (f : A → B) (o : Option A)

@@ -6,7 +6,7 @@ use Rattle.std.proofs.Common.{append_assoc, get_or-drop, length-drop, ltb-true, 
 use Rattle.std.proofs.Common.{length-take-le}
 use Rattle.std.proofs.lemmas.Bool.{or_cases, and_parts}
 use Rattle.std.proofs.lemmas.List.{take_more, get_or-take}
-use Rattle.unix_bytes.proofs.lemmas.lists.CaseLemmas.{by_test}
+use Rattle.unix_bytes.proofs.lemmas.lists.ListLemmas.{by_test}
 use Rattle.unix_path.proofs.lemmas.parts.CutLemmas.{inner_parts-append, leading_part-append}
 use Rattle.unix_path.proofs.lemmas.parts.PieceLemmas.{inner_parts-dot, inner_parts-nil}
 use Rattle.unix_path.specs.Parts.{inner_parts, leading_part, parts}

@@ -14,7 +14,7 @@ use Rattle.unix_path.proofs.lemmas.rests.RootLemmas.{root_count}
 use Rattle.unix_path.proofs.lemmas.names.DepthLemmas.{depth_of-values, depth_of-none, depth_of-root}
 use Rattle.unix_path.proofs.lemmas.names.DepthLemmas.{depth_of-push}
 use Rattle.unix_path.proofs.lemmas.names.ParentLemmas.{parent_of-alone, parent_of-deep}
-use Rattle.unix_bytes.proofs.lemmas.lists.CaseLemmas.{Snoc, Empty, Push, snoc}
+use Rattle.unix_bytes.proofs.lemmas.lists.ListLemmas.{Snoc, Empty, Push, snoc}
 
 -- the ancestors of a parent, if there is one
 abbrev pub ancestors_by : Option (List ℕ) → List (List ℕ)

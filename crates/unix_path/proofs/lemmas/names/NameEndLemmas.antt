@@ -9,7 +9,7 @@ use Rattle.unix_path.specs.Rest.{rest}
 use Rattle.unix_path.specs.Names.{file_name_of}
 use Rattle.unix_path.specs.Edits.{last_start_of}
 use Rattle.unix_path.specs.Extensions.{name_end_of, added_extension_of}
-use Rattle.unix_bytes.proofs.lemmas.lists.CaseLemmas.{by_test}
+use Rattle.unix_bytes.proofs.lemmas.lists.ListLemmas.{by_test}
 use Rattle.unix_path.proofs.lemmas.edits.EditLemmas.{is_some-option_map}
 use Rattle.unix_path.proofs.lemmas.names.StemLemmas.{last_start_of-name}
 

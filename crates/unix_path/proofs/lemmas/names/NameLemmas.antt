@@ -8,7 +8,7 @@ use Rattle.std.proofs.Math.Seq.{take-length}
 use Rattle.std.proofs.lemmas.List.Sums.{fails_before_first, suffix_len_is}
 use Rattle.unix_path.specs.Parts.{dot}
 use Rattle.unix_path.specs.Names.{past_last, split_name}
-use Rattle.unix_bytes.proofs.lemmas.lists.CaseLemmas.{by_test, take-take_front}
+use Rattle.unix_bytes.proofs.lemmas.lists.ListLemmas.{by_test, take-take_front}
 
 abbrev pub is_dot : ℕ → Bool
 is_dot b = b == dot

@@ -11,7 +11,7 @@ use Rattle.unix_path.specs.Parents.{depth_of, parent_of}
 use Rattle.unix_path.specs.Names.{name_of, file_name_of}
 use Rattle.unix_path.specs.Edits.{before_name_of}
 use Rattle.unix_path.proofs.lemmas.rests.RestLemmas.{values-rest, rest-rest}
-use Rattle.unix_bytes.proofs.lemmas.lists.CaseLemmas.{last_or-push}
+use Rattle.unix_bytes.proofs.lemmas.lists.ListLemmas.{last_or-push}
 use Rattle.unix_path.proofs.lemmas.names.DepthLemmas.{depth_of-none, depth_of-root, depth_of-push}
 
 -- the rest after no part is taken has all values of the path

@@ -14,7 +14,7 @@ use Rattle.unix_path.specs.Names.{file_name_of, past_last, split_name, stem_of}
 use Rattle.unix_path.specs.Edits.{last_start_of, stem_end_of}
 use Rattle.unix_path.specs.Extensions.{name_end_of}
 use Rattle.unix_path.proofs.lemmas.steps.LastLemmas.{IsLastStart}
-use Rattle.unix_bytes.proofs.lemmas.lists.CaseLemmas.{by_test}
+use Rattle.unix_bytes.proofs.lemmas.lists.ListLemmas.{by_test}
 use Rattle.unix_path.proofs.lemmas.names.NameEndLemmas.{name_end_of-some}
 use Rattle.unix_path.proofs.lemmas.names.NameLemmas.{is_dot, past_last-is, split_name-cut}
 use Rattle.unix_path.proofs.lemmas.names.NameLemmas.{split_name-stem}
@@ -26,9 +26,9 @@ use Rattle.unix_path.proofs.lemmas.names.StemLemmas.{length-name, length-rest_wh
 use Rattle.unix_path.proofs.lemmas.names.StemLemmas.{stem_end_of-none}
 use Rattle.unix_path.proofs.lemmas.names.StemLemmas.{stem_end_of-some}
 
--- no byte of s from n on is a dot or a slash
-abbrev pub PlainFrom : List ℕ → ℕ → Type 0
-PlainFrom s n = (i : ℕ) → n ≤ i → i < length s
+-- each byte of s from n on is ordinary: neither a dot nor a slash
+abbrev pub OrdinaryFrom : List ℕ → ℕ → Type 0
+OrdinaryFrom s n = (i : ℕ) → n ≤ i → i < length s
     → (eqb (get_or s i 0) 46 || eqb (get_or s i 0) 47) ≡ false
 
 -- no byte of s from n on is a dot
@@ -44,24 +44,25 @@ no_slash : (b : ℕ) → (eqb b 46 || eqb b 47) ≡ false → eqb b 47 ≡ false
 no_slash b e = by_test (eqb b 46) (λ t. absurd (true≢false (rw t at e))) (λ f. rw f at e)
 
 -- from a place on without dots and slashes there are no dots
-Dotless-plain : (s : List ℕ) (n m : ℕ) → PlainFrom s n → n ≤ m → DotlessFrom s m
-Dotless-plain s n m plain l i from to = no_dot (get_or s i 0) (plain i (omega arith) to)
+Dotless-ordinary : (s : List ℕ) (n m : ℕ) → OrdinaryFrom s n → n ≤ m → DotlessFrom s m
+Dotless-ordinary s n m ordinary l i from to = no_dot (get_or s i 0) (ordinary i (omega arith) to)
 
--- what is plain behind the first n bytes is so in the whole string
-pub plain_behind : (s : List ℕ) (n past : ℕ) → n ≤ length s → PlainFrom (drop n s) past
-    → PlainFrom s (n + past)
-plain_behind s n past l plain i from to =
+-- what is ordinary behind the first n bytes is so in the whole string
+pub ordinary_behind : (s : List ℕ) (n past : ℕ) → n ≤ length s → OrdinaryFrom (drop n s) past
+    → OrdinaryFrom s (n + past)
+ordinary_behind s n past l ordinary i from to =
     let here : get_or s i 0 ≡ get_or (drop n s) (i - n) 0 =
     ap (λ k. get_or s k 0) {x = i} {y = n + (i - n)} (omega arith)
     ∙ sym (get_or-drop n s (i - n) 0) in
     ap (λ b. eqb b 46 || eqb b 47) here
-    ∙ plain (i - n) (omega arith) (omega (arith, length-drop n s))
+    ∙ ordinary (i - n) (omega arith) (omega (arith, length-drop n s))
 
--- what is plain from a place on in t, which follows the first n bytes, is so in the whole string
-pub plain_from : (s t : List ℕ) (n past place : ℕ) → n ≤ length s → t ≡ drop n s → PlainFrom t past
-    → place ≡ n + past → PlainFrom s place
-plain_from s t n past place l is plain e i from to =
-    plain_behind s n past l (subst (λ t. PlainFrom t past) is plain) i (omega arith) to
+-- what is ordinary from a place on in t, which follows the first n bytes, is so in the whole string
+pub ordinary_from : (s t : List ℕ) (n past place : ℕ) → n ≤ length s → t ≡ drop n s
+    → OrdinaryFrom t past
+    → place ≡ n + past → OrdinaryFrom s place
+ordinary_from s t n past place l is ordinary e i from to =
+    ordinary_behind s n past l (subst (λ t. OrdinaryFrom t past) is ordinary) i (omega arith) to
 
 -- if the byte before a place in t, which follows the first n bytes, is a dot or a slash, and it is
 -- no slash in the whole string, it is a dot there
@@ -87,9 +88,9 @@ stem_end-named s h =
     sym (stem_end_of-some s y (length s) h.name h.end refl) ∙ ap Some (sym to)
 
 -- behind a dot that isn't the name's first byte, with no dot and slash behind it, the stem ends
-pub stem_end-cut : (s : List ℕ) (d : ℕ) → EndsInName s → d < length s → PlainFrom s (d + 1)
+pub stem_end-cut : (s : List ℕ) (d : ℕ) → EndsInName s → d < length s → OrdinaryFrom s (d + 1)
     → get_or s d 0 ≡ 46 → 0 < d → eqb (get_or s (d - 1) 0) 47 ≡ false → stem_end_of s ≡ Some d
-stem_end-cut s d h l plain dot some before =
+stem_end-cut s d h l ordinary dot some before =
     let k = h.start in
     let y = drop k s in
     let in_name : k < d = by_test (ltb k d) (λ t. ltb-true _ _ t)
@@ -100,7 +101,8 @@ stem_end-cut s d h l plain dot some before =
     let slash = h.last.after_slash some_k in
     by_test (ltb d (k - 1))
     (λ t. absurd (true≢false (sym (ap (λ b. eqb b 47) slash)
-    ∙ no_slash (get_or s (k - 1) 0) (plain (k - 1) (omega (arith, ltb-true _ _ t)) (omega arith)))))
+    ∙ no_slash (get_or s (k - 1) 0)
+    (ordinary (k - 1) (omega (arith, ltb-true _ _ t)) (omega arith)))))
     (λ u.
     by_test (ltb d k)
     (λ t.
@@ -114,7 +116,7 @@ stem_end-cut s d h l plain dot some before =
     let size = length-drop k s in
     let past : n ≡ past_last is_dot y = past_last-is is_dot y n (omega arith)
     (λ i from to. ap not (ap (λ b. eqb b 46) (get_or-drop k s i 0)
-    ∙ no_dot (get_or s (k + i) 0) (plain (k + i) (omega arith) (omega arith))))
+    ∙ no_dot (get_or s (k + i) 0) (ordinary (k + i) (omega arith) (omega arith))))
     (λ l. ap not (ap (λ b. eqb b 46) (get_or-drop k s (n - 1) 0
     ∙ ap (λ i. get_or s i 0) {x = k + (n - 1)} {y = d} (omega arith) ∙ dot))) in
     let cut = split_name-cut y n past (omega arith) in
@@ -243,8 +245,8 @@ ends_in_stem s e = ends_in_stem_by s (file_name_of (values s)) refl e
 
 -- if the first n bytes end in a stem, and neither dot nor slash stands behind them, all end in one
 pub stem_end-longer : (s : List ℕ) (n : ℕ) → n ≤ length s → EndsInName s
-    → stem_end_of (take n s) ≡ Some n → PlainFrom s n → stem_end_of s ≡ Some (length s)
-stem_end-longer s n l h known plain =
+    → stem_end_of (take n s) ≡ Some n → OrdinaryFrom s n → stem_end_of s ≡ Some (length s)
+stem_end-longer s n l h known ordinary =
     let t = take n s in
     let size : length t ≡ n = length-take-le n s l in
     let stem = ends_in_stem t (known ∙ ap Some (sym size)) in
@@ -263,7 +265,7 @@ stem_end-longer s n l h known plain =
           (λ b. ap (λ b. eqb b 47) (sym (here (k + i) (ltb-true _ _ b)))
           ∙ piece_slash t k (k + i) last (omega arith) (omega (arith, ltb-true _ _ b)))
           (λ b. no_slash (get_or s (k + i) 0)
-          (plain (k + i) (omega (arith, ltb-false _ _ b)) (omega arith))))
+          (ordinary (k + i) (omega (arith, ltb-false _ _ b)) (omega arith))))
           (λ to. absurd (omega arith));
     } in
     let same : h.start ≡ k = omega (
@@ -275,40 +277,42 @@ stem_end-longer s n l h known plain =
     (λ i from to. by_test (ltb i n)
     (λ b. ap (λ b. eqb b 46) (sym (here i (ltb-true _ _ b)))
     ∙ stem.dotless i (omega arith) (omega (arith, ltb-true _ _ b)))
-    (λ b. no_dot (get_or s i 0) (plain i (omega (arith, ltb-false _ _ b)) to)))
+    (λ b. no_dot (get_or s i 0) (ordinary i (omega (arith, ltb-false _ _ b)) to)))
 
 -- without a dot and a slash, all of the name is stem
-pub stem_end-plain : (s : List ℕ) → EndsInName s → PlainFrom s 0 → stem_end_of s ≡ Some (length s)
-stem_end-plain s h plain = stem_end-whole s h (Dotless-plain s 0 (h.start + 1) plain (omega arith))
+pub stem_end-ordinary : (s : List ℕ) → EndsInName s → OrdinaryFrom s 0
+    → stem_end_of s ≡ Some (length s)
+stem_end-ordinary s h ordinary = stem_end-whole s h
+    (Dotless-ordinary s 0 (h.start + 1) ordinary (omega arith))
 
 -- if neither dot nor slash stands behind what is known to end in a stem, all ends in one
 pub stem_end-known : (s : List ℕ) (n : ℕ) → EndsInName s → n ≤ length s
-    → (0 < n → stem_end_of (take n s) ≡ Some n) → PlainFrom s n
+    → (0 < n → stem_end_of (take n s) ≡ Some n) → OrdinaryFrom s n
     → stem_end_of s ≡ Some (length s)
-stem_end-known s n h l known plain = by_test (ltb 0 n)
-    (λ t. stem_end-longer s n l h (known (ltb-true _ _ t)) plain)
-    (λ f. stem_end-plain s h (λ i from to. plain i (omega (arith, ltb-false _ _ f)) to))
+stem_end-known s n h l known ordinary = by_test (ltb 0 n)
+    (λ t. stem_end-longer s n l h (known (ltb-true _ _ t)) ordinary)
+    (λ f. stem_end-ordinary s h (λ i from to. ordinary i (omega (arith, ltb-false _ _ f)) to))
 
 -- behind a slash, with no dot and slash behind it, all of the name is stem
-pub stem_end-slash : (s : List ℕ) (d : ℕ) → EndsInName s → d < length s → PlainFrom s (d + 1)
+pub stem_end-slash : (s : List ℕ) (d : ℕ) → EndsInName s → d < length s → OrdinaryFrom s (d + 1)
     → get_or s d 0 ≡ 47 → stem_end_of s ≡ Some (length s)
-stem_end-slash s d h l plain slash =
+stem_end-slash s d h l ordinary slash =
     let behind : d < h.start = by_test (ltb d h.start) (λ t. ltb-true _ _ t)
     (λ f. absurd (true≢false (sym (ap (λ b. eqb b 47) slash)
     ∙ piece_slash s h.start d h.last (ltb-false _ _ f) l))) in
-    stem_end-whole s h (Dotless-plain s (d + 1) (h.start + 1) plain (omega arith))
+    stem_end-whole s h (Dotless-ordinary s (d + 1) (h.start + 1) ordinary (omega arith))
 
 -- if the last dot is the name's first byte, all of the name is stem
-pub stem_end-lead : (s : List ℕ) (d : ℕ) → EndsInName s → d < length s → PlainFrom s (d + 1)
+pub stem_end-lead : (s : List ℕ) (d : ℕ) → EndsInName s → d < length s → OrdinaryFrom s (d + 1)
     → (0 < d → eqb (get_or s (d - 1) 0) 47 ≡ true) → stem_end_of s ≡ Some (length s)
-stem_end-lead s d h l plain before =
+stem_end-lead s d h l ordinary before =
     let behind : d ≤ h.start = by_test (ltb h.start d)
     (λ t.
     let less = ltb-true _ _ t in
     absurd (true≢false (sym (before (omega arith))
     ∙ piece_slash s h.start (d - 1) h.last (omega arith) (omega arith))))
     (λ f. ltb-false _ _ f) in
-    stem_end-whole s h (Dotless-plain s (d + 1) (h.start + 1) plain (omega arith))
+    stem_end-whole s h (Dotless-ordinary s (d + 1) (h.start + 1) ordinary (omega arith))
 
 -- up to the end of its file name, a path has the stem that it has
 pub stem_end_of-take : (s : List ℕ) (end : ℕ) → name_end_of s ≡ Some end

@@ -15,8 +15,8 @@ use Rattle.unix_path.specs.Rest.{rest}
 use Rattle.unix_path.proofs.lemmas.parts.PlaceLemmas.{parts_end}
 use Rattle.unix_path.specs.Names.{name_of, file_name_of, split_name}
 use Rattle.unix_path.specs.Edits.{last_start_of, stem_end_of}
-use Rattle.unix_bytes.proofs.lemmas.lists.CaseLemmas.{by_test, Snoc, Empty, Push, snoc}
-use Rattle.unix_bytes.proofs.lemmas.lists.CaseLemmas.{last_or-push}
+use Rattle.unix_bytes.proofs.lemmas.lists.ListLemmas.{by_test, Snoc, Empty, Push, snoc}
+use Rattle.unix_bytes.proofs.lemmas.lists.ListLemmas.{last_or-push}
 use Rattle.unix_path.proofs.lemmas.names.ParentLemmas.{file_name_of-last}
 use Rattle.unix_path.proofs.lemmas.rests.RestLemmas.{take-rest}
 use Rattle.unix_path.proofs.lemmas.steps.SpanLemmas.{length-rest_whole, parts_end-append}

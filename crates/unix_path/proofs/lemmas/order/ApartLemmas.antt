@@ -15,7 +15,7 @@ use Rattle.unix_path.specs.Order.{value_cmp}
 use Rattle.unix_path.specs.OrderLaws.{value_cmp-total}
 use Rattle.unix_path.specs.Parts.{Part, Value, cur_dir, inner_parts, is_slash, value_of_piece}
 use Rattle.unix_path.specs.Parts.{values}
-use Rattle.unix_path.specs.Scan.{is_idle}
+use Rattle.unix_path.specs.Scan.{is_filler}
 use Rattle.unix_path.specs.Steps.{begins_piece, piece_rank, AreApart}
 use Rattle.unix_path.proofs.lemmas.order.BehindLemmas.{begins_past}
 use Rattle.unix_path.proofs.lemmas.order.CommonPrefixLemmas.{take-common}
@@ -23,9 +23,9 @@ use Rattle.unix_path.proofs.lemmas.order.CommonPrefixLemmas.{take-past_slash, va
 use Rattle.unix_path.proofs.lemmas.order.CommonPrefixLemmas.{values-past_slash}
 use Rattle.unix_path.proofs.lemmas.order.DifferLemmas.{Counts, counts_from, head_rank-drop}
 use Rattle.unix_path.proofs.lemmas.order.DifferLemmas.{value_cmp-pieces}
-use Rattle.unix_path.proofs.lemmas.filler.IdleLemmas.{first_piece_dot, first_piece_empty}
-use Rattle.unix_path.proofs.lemmas.filler.IdleLemmas.{inner_parts_busy}
-use Rattle.unix_path.proofs.lemmas.filler.IdleLemmas.{parts-busy}
+use Rattle.unix_path.proofs.lemmas.filler.FillerLemmas.{first_piece_dot, first_piece_empty}
+use Rattle.unix_path.proofs.lemmas.filler.FillerLemmas.{inner_parts_busy}
+use Rattle.unix_path.proofs.lemmas.filler.FillerLemmas.{parts-busy}
 use Rattle.unix_path.proofs.lemmas.steps.LastLemmas.{last_start, IsLastStart}
 use Rattle.unix_path.proofs.lemmas.parts.PartLemmas.{values-nil}
 use Rattle.unix_path.proofs.lemmas.parts.PieceLemmas.{first_piece, first_piece-other}
@@ -69,7 +69,7 @@ values-first : (s p : List ℕ) → first_piece s ≡ p → (bytes_eq p [] || by
 unfolding values
 values-first [] p is h = absurd (grind arith)
 values-first (b ∷ s) p is h =
-    let busy : is_idle (b ∷ s) 0 ≡ false =
+    let busy : is_filler (b ∷ s) 0 ≡ false =
     grind (arith, first_piece_empty (b ∷ s), first_piece_dot (b ∷ s)) in
     let whole = ap (map (λ (p : Part). p.value)) (parts-busy (b ∷ s) (λ _. busy)) in (
       whole ∙ ap (map (λ (p : Part). p.value)) (inner_parts_busy 0 (b ∷ s) (omega arith) busy)

@@ -5,7 +5,7 @@ use Rattle.std.proofs.Common.{append-nil, append_assoc, drop-drop, drop_at, leng
 use Rattle.std.proofs.lemmas.List.{length-map, map-append}
 use Rattle.unix_path.proofs.lemmas.order.CommonPrefixLemmas.{inner_values-nil, values_cmp-common}
 use Rattle.unix_path.proofs.lemmas.order.ComparisonLemmas.{some_value}
-use Rattle.unix_path.proofs.lemmas.filler.IdleLemmas.{parts-busy, values-busy}
+use Rattle.unix_path.proofs.lemmas.filler.FillerLemmas.{parts-busy, values-busy}
 use Rattle.unix_path.proofs.lemmas.rests.MiddleLemmas.{rest-middle}
 use Rattle.unix_path.proofs.lemmas.parts.PieceLemmas.{inner_parts-nil}
 use Rattle.unix_path.proofs.lemmas.parts.PlaceLemmas.{inner_parts-add, part_at, values-inner_parts}
@@ -16,8 +16,8 @@ use Rattle.unix_path.specs.Order.{values_cmp}
 use Rattle.unix_path.specs.Parts.{Part, Value, inner_parts, parts, values}
 use Rattle.unix_path.specs.Prefixes.{Begins}
 use Rattle.unix_path.specs.Rest.{rest}
-use Rattle.unix_path.specs.Scan.{is_idle, EndsInPart}
-use Rattle.unix_path.specs.Steps.{AreApart, HasMore, PastFiller, SharesFront}
+use Rattle.unix_path.specs.Scan.{is_filler, EndsInPart}
+use Rattle.unix_path.specs.Steps.{AreApart, HasMore, PastFiller, SharesFirst}
 
 -- the values of parts
 abbrev values_of : List Part → List Value
@@ -29,30 +29,30 @@ values-past s t h =
     ap values_of (h.filler 0) ∙ values-inner_parts (0 + h.len) t ∙ sym (values-busy t h.busy)
 
 -- the values of the first string are those in front, and those behind
-values-first : {a b x y : List ℕ} (h : SharesFront a b x y)
-    → values a ≡ values_of h.front ++ inner_values x
+values-first : {a b x y : List ℕ} (h : SharesFirst a b x y)
+    → values a ≡ values_of h.shared ++ inner_values x
 unfolding values
 values-first {x = x} h =
-    ap values_of h.first ∙ map-append (λ (p : Part). p.value) h.front (inner_parts h.at x)
-    ∙ ap (λ vs. values_of h.front ++ vs) (values-inner_parts h.at x)
+    ap values_of h.first ∙ map-append (λ (p : Part). p.value) h.shared (inner_parts h.at x)
+    ∙ ap (λ vs. values_of h.shared ++ vs) (values-inner_parts h.at x)
 
 -- what stands behind is in the order of both
-pub values_cmp-shared : {a b x y : List ℕ} → SharesFront a b x y
+pub values_cmp-shared : {a b x y : List ℕ} → SharesFirst a b x y
     → values_cmp (inner_values x) (inner_values y) ≡ values_cmp (values a) (values b)
 values_cmp-shared {x = x} {y = y} h =
     sym (ap₂ values_cmp (values-first h) h.second
-    ∙ values_cmp-common (values_of h.front) (inner_values x) (inner_values y))
+    ∙ values_cmp-common (values_of h.shared) (inner_values x) (inner_values y))
 
 -- filler in front of it may go
-pub shares-past : {a b x y t u : List ℕ} → SharesFront a b x y → PastFiller x t → PastFiller y u
-    → SharesFront a b t u
+pub shares-past : {a b x y t u : List ℕ} → SharesFirst a b x y → PastFiller x t → PastFiller y u
+    → SharesFirst a b t u
 shares-past {a} {y = y} {t = t} {u = u} h past_x past_y = record {
-  front = h.front;
+  shared = h.shared;
   at = h.at + past_x.len;
   is = past_x.is ∙ ap (drop past_x.len) h.is ∙ drop-drop past_x.len h.at a;
-  first = h.first ∙ ap (λ ps. h.front ++ ps) (past_x.filler h.at);
+  first = h.first ∙ ap (λ ps. h.shared ++ ps) (past_x.filler h.at);
   second = h.second
-      ∙ ap (λ vs. values_of h.front ++ vs) (values-past y u past_y ∙ values-busy u past_y.busy);
+      ∙ ap (λ vs. values_of h.shared ++ vs) (values-past y u past_y ∙ values-busy u past_y.busy);
 }
 
 -- nothing is left of nothing
@@ -65,29 +65,30 @@ past-nil = record {
 }
 
 -- what stands behind the same values there stands behind the same values in both strings
-pub shares-onward : {a b t u x y : List ℕ} → SharesFront a b t u → is_idle t 0 ≡ false
-    → is_idle u 0 ≡ false → SharesFront t u x y → SharesFront a b x y
+pub shares-onward : {a b t u x y : List ℕ} → SharesFirst a b t u → is_filler t 0 ≡ false
+    → is_filler u 0 ≡ false → SharesFirst t u x y → SharesFirst a b x y
 shares-onward {a} {t = t} {u = u} {x = x} {y = y} h busy_t busy_u g =
-    let more = map (part_at h.at) g.front in
+    let more = map (part_at h.at) g.shared in
     let moved : inner_parts (0 + h.at) t ≡ more ++ inner_parts (g.at + h.at) x =
     inner_parts-add 0 h.at t
     ∙ ap (map (part_at h.at)) (sym (parts-busy t (λ _. busy_t)) ∙ g.first)
-    ∙ map-append (part_at h.at) g.front (inner_parts g.at x)
+    ∙ map-append (part_at h.at) g.shared (inner_parts g.at x)
     ∙ ap (λ ps. more ++ ps) (sym (inner_parts-add g.at h.at x)) in
     record {
-      front = h.front ++ more;
+      shared = h.shared ++ more;
       at = g.at + h.at;
       is = g.is ∙ ap (drop g.at) h.is ∙ drop-drop g.at h.at a
           ∙ ap (λ n. drop n a) {x = h.at + g.at} {y = g.at + h.at} (omega arith);
       first = h.first
-          ∙ ap (λ n. h.front ++ inner_parts n t) {x = h.at} {y = 0 + h.at} (omega arith)
-          ∙ ap (λ ps. h.front ++ ps) moved ∙ sym (append_assoc h.front more (inner_parts (g.at + h.at) x));
+          ∙ ap (λ n. h.shared ++ inner_parts n t) {x = h.at} {y = 0 + h.at} (omega arith)
+          ∙ ap (λ ps. h.shared ++ ps) moved
+          ∙ sym (append_assoc h.shared more (inner_parts (g.at + h.at) x));
       second = h.second
-          ∙ ap (λ vs. values_of h.front ++ vs) (sym (values-busy u busy_u) ∙ g.second
-          ∙ ap (λ vs. vs ++ inner_values y) (sym (values-part_at h.at g.front)))
-          ∙ sym (append_assoc (values_of h.front) (values_of more) (inner_values y))
+          ∙ ap (λ vs. values_of h.shared ++ vs) (sym (values-busy u busy_u) ∙ g.second
+          ∙ ap (λ vs. vs ++ inner_values y) (sym (values-part_at h.at g.shared)))
+          ∙ sym (append_assoc (values_of h.shared) (values_of more) (inner_values y))
           ∙ ap (λ vs. vs ++ inner_values y)
-          (sym (map-append (λ (p : Part). p.value) h.front more));
+          (sym (map-append (λ (p : Part). p.value) h.shared more));
     }
 
 -- if a list begins another, it still does without values that both begin with
@@ -96,47 +97,48 @@ begins_past [] w x h = h
 begins_past (y ∷ v) w x h = begins_past v w x (begins_tail y y (v ++ w) (v ++ x) h).1
 
 -- strings are apart if what they have behind the same values is
-pub apart-shared : {a b t u : List ℕ} {order : Ordering} → SharesFront a b t u
-    → is_idle t 0 ≡ false → is_idle u 0 ≡ false → AreApart t u order → AreApart a b order
+pub apart-shared : {a b t u : List ℕ} {order : Ordering} → SharesFirst a b t u
+    → is_filler t 0 ≡ false → is_filler u 0 ≡ false → AreApart t u order → AreApart a b order
 apart-shared {a} {b} {t} {u} h busy_t busy_u apart = record {
   order_is = apart.order_is
       ∙ ap₂ values_cmp (values-busy t busy_t) (values-busy u busy_u) ∙ values_cmp-shared h;
   no_prefix = λ begins. apart.no_prefix
       (subst (Begins (values u)) (sym (values-busy t busy_t))
       (subst (λ vs. Begins vs (inner_values t)) (sym (values-busy u busy_u))
-      (begins_past (values_of h.front) (inner_values u) (inner_values t)
-      (subst (Begins (values_of h.front ++ inner_values u)) (values-first h)
+      (begins_past (values_of h.shared) (inner_values u) (inner_values t)
+      (subst (Begins (values_of h.shared ++ inner_values u)) (values-first h)
       (subst (λ vs. Begins vs (values a)) h.second begins)))));
 }
 
 -- if nothing is left of the second, the values in front are its values
-front_is : {s base left : List ℕ} (h : SharesFront s base left [])
-    → values base ≡ values_of h.front
-front_is h =
-    h.second ∙ ap (λ vs. values_of h.front ++ vs) inner_values-nil ∙ append-nil (values_of h.front)
+shared_is : {s base left : List ℕ} (h : SharesFirst s base left [])
+    → values base ≡ values_of h.shared
+shared_is h =
+    h.second ∙ ap (λ vs. values_of h.shared ++ vs) inner_values-nil
+    ∙ append-nil (values_of h.shared)
 
 -- so it begins the first
-pub begins-left : {s base left : List ℕ} → SharesFront s base left []
+pub begins-left : {s base left : List ℕ} → SharesFirst s base left []
     → Begins (values base) (values s)
 begins-left {left = left} h =
-    (inner_values left, ap (λ vs. vs ++ inner_values left) (front_is h) ∙ sym (values-first h))
+    (inner_values left, ap (λ vs. vs ++ inner_values left) (shared_is h) ∙ sym (values-first h))
 
 -- and what follows is the rest of the first behind as many parts, if it ends in a part
-pub rest-left : {s base left : List ℕ} (h : SharesFront s base left []) → is_idle left 0 ≡ false
+pub rest-left : {s base left : List ℕ} (h : SharesFirst s base left []) → is_filler left 0 ≡ false
     → EndsInPart left → rest s (length (values base)) 0 ≡ left
 rest-left {s} {base} {left} h busy ends =
     let k = length (values base) in
-    let count : length h.front ≡ k =
-    sym (ap length (front_is h) ∙ length-map h.front (λ p. p.value)) in
+    let count : length h.shared ≡ k =
+    sym (ap length (shared_is h) ∙ length-map h.shared (λ p. p.value)) in
     let after = inner_parts h.at left in
     let size : length (parts s) - (k + 0) ≡ length after =
-    omega (arith, ap length h.first, length-append h.front after, count) in
+    omega (arith, ap length h.first, length-append h.shared after, count) in
     rest-middle s k 0 (record {
       at = h.at;
       left = left;
       stands = ap (take (length left)) (sym h.is) ∙ take_all (length left) left (omega arith);
       is = ap₂ (λ n ps. take n (drop k ps)) size h.first
-          ∙ ap (take (length after)) (drop_at h.front after k count)
+          ∙ ap (take (length after)) (drop_at h.shared after k count)
           ∙ take_all (length after) after (omega arith)
           ∙ ap (λ n. inner_parts n left) {x = h.at} {y = 0 + h.at} (omega arith)
           ∙ inner_parts-add 0 h.at left
@@ -145,17 +147,17 @@ rest-left {s} {base} {left} h busy ends =
     })
 
 -- if nothing is left of the first, the second has more values
-pub more-left : {a b u : List ℕ} → SharesFront a b [] u → is_idle u 0 ≡ false → 0 < length u
+pub more-left : {a b u : List ℕ} → SharesFirst a b [] u → is_filler u 0 ≡ false → 0 < length u
     → HasMore a b
 more-left {a} {b} {u} h busy some =
-    let front : values_of h.front ≡ values a =
-    sym (values-first h ∙ ap (λ vs. values_of h.front ++ vs) inner_values-nil
-    ∙ append-nil (values_of h.front)) in
+    let shared : values_of h.shared ≡ values a =
+    sym (values-first h ∙ ap (λ vs. values_of h.shared ++ vs) inner_values-nil
+    ∙ append-nil (values_of h.shared)) in
     let value = some_value u some in
     record {
       more = values u;
       some = omega (arith, ap length value.is);
-      is = h.second ∙ ap₂ (λ vs ws. vs ++ ws) front (sym (values-busy u busy));
+      is = h.second ∙ ap₂ (λ vs ws. vs ++ ws) shared (sym (values-busy u busy));
     }
 
 -- so the second comes behind the first, and doesn't begin it

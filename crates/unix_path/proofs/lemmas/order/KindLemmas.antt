@@ -11,7 +11,7 @@ use Rattle.unix_path.specs.Pairs.{first_rank}
 use Rattle.unix_path.specs.Parts.{Part, Value}
 use Rattle.unix_path.specs.Parts.{value_bytes, values}
 use Rattle.unix_path.specs.Prefixes.{Begins}
-use Rattle.unix_path.specs.Scan.{begins_with_parent, is_idle}
+use Rattle.unix_path.specs.Scan.{begins_with_parent, is_filler}
 use Rattle.unix_path.specs.Steps.{piece_rank, AreApart, DiffersAtStart}
 use Rattle.unix_path.proofs.lemmas.order.ApartLemmas.{apart-values, ranks_end}
 use Rattle.unix_path.proofs.lemmas.order.DifferLemmas.{head_rank-drop, slice_cmp-heads}
@@ -25,7 +25,7 @@ use Rattle.unix_path.proofs.lemmas.parts.ValueLemmas.{first_value, value_bytes-f
 
 -- the kind of the first value, told by three bytes
 pub first_rank_of : (s : List ℕ) → first_rank (values s) ≡ cond (eqb (length s) 0) 0
-    (cond (eqb (get_or s 0 0) 47) 1 (cond (is_idle s 0) 2 (cond (begins_with_parent s) 3 4)))
+    (cond (eqb (get_or s 0 0) 47) 1 (cond (is_filler s 0) 2 (cond (begins_with_parent s) 3 4)))
 unfolding values
 first_rank_of [] = ap first_rank values-nil
 first_rank_of (b ∷ s) =

@@ -11,7 +11,7 @@ use Rattle.std.proofs.lemmas.List.Sums.{common_prefix_len-le}
 use Rattle.unix_bytes.proofs.lemmas.vectors.CommonLemmas.{common_prefix_len-same}
 use Rattle.unix_path.proofs.lemmas.order.ApartLemmas.{ranks_end}
 use Rattle.unix_path.proofs.lemmas.order.BehindLemmas.{more-apart}
-use Rattle.unix_bytes.proofs.lemmas.lists.CaseLemmas.{by_test}
+use Rattle.unix_bytes.proofs.lemmas.lists.ListLemmas.{by_test}
 use Rattle.unix_path.proofs.lemmas.order.CommonPrefixLemmas.{parts-past_slash, take-common}
 use Rattle.unix_path.proofs.lemmas.order.CommonPrefixLemmas.{take-past_slash}
 use Rattle.unix_path.proofs.lemmas.order.DifferLemmas.{rank_end}
@@ -22,7 +22,7 @@ use Rattle.unix_path.proofs.lemmas.filler.TrimLemmas.{parts-append, parts-slash}
 use Rattle.unix_path.specs.Pairs.{Compared, Tells, kind_rank}
 use Rattle.unix_path.specs.Parts.{Part, inner_parts, parts, slash, values}
 use Rattle.unix_path.specs.Prefixes.{Begins}
-use Rattle.unix_path.specs.Steps.{begins_piece, piece_rank, IsAlike, SharesFront}
+use Rattle.unix_path.specs.Steps.{begins_piece, piece_rank, IsAlike, SharesFirst}
 use Rattle.unix_path.specs.contracts.pair.KindOrd.TheImpl as the_order
 use Rattle.unix_path.specs.declared.pair.Comparison.{Comparison}
 use Rattle.unix_path.specs.declared.pair.Comparison.TheVariants.{Differ, StartsWith, IsPrefix}
@@ -83,7 +83,7 @@ parts-cut s n some inside = ⊎_elim
 pub record CutsAt (a b : List ℕ) (k : ℕ) : Type 0 where
   pub in_first : k ≤ length a
   pub in_second : k ≤ length b
-  pub shares : 0 < k → SharesFront a b (drop k a) (drop k b)
+  pub shares : 0 < k → SharesFirst a b (drop k a) (drop k b)
 
 -- so it is if both can be cut there, and are alike before it
 pub cuts : (a b : List ℕ) (n k : ℕ) → IsAlike a b n → k ≤ n → CanCut a k → CanCut b k
@@ -97,7 +97,7 @@ cuts a b n k alike l first second =
       in_first = in_first;
       in_second = in_second;
       shares = λ some. record {
-        front = parts (take k a);
+        shared = parts (take k a);
         at = k;
         is = refl;
         first = parts-cut a k some in_first first;
@@ -129,10 +129,10 @@ cuts-begins a b n k alike l begins = cuts a b n k alike l (inl begins) (inl (by_
 
 -- if all bytes of b begin a, which can be cut there, what follows them is left of it
 pub shares-written : (a b : List ℕ) (n : ℕ) → IsAlike a b n → 0 < length b → length b ≤ n
-    → CanCut a (length b) → SharesFront a b (drop (length b) a) []
+    → CanCut a (length b) → SharesFirst a b (drop (length b) a) []
 shares-written a b n alike some all first =
     let ends : CanCut b (length b) = inr (rw (get_or_past b (length b) 47 (omega arith)) refl) in
-    subst (SharesFront a b (drop (length b) a)) (drop-length b)
+    subst (SharesFirst a b (drop (length b) a)) (drop-length b)
     ((cuts a b n (length b) alike all first ends).shares some)
 
 -- where the first difference gives no cut, the second doesn't begin the first
@@ -146,7 +146,7 @@ apart-unless a b n (Behind x y) alike h other some = absurd (other x y refl)
 
 -- a comparison tells whether the second begins the first
 pub no_prefix-unless : (s t : List ℕ) (a : Bor (List ℕ)) (b : List ℕ) (said : Comparison)
-    → Compared a b said → SharesFront s t a.now b
+    → Compared a b said → SharesFirst s t a.now b
     → ((left : Bor (List ℕ)) → said ≡ StartsWith left → ⊥)
     → Begins (values t) (values s) → ⊥
 no_prefix-unless s t a b (Differ order) h cut other = (h s t cut).no_prefix

@@ -7,8 +7,8 @@ use Rattle.unix_path.specs.Parts.{Part, parts, values}
 use Rattle.unix_path.specs.Places.{EndsAt, IsTail}
 use Rattle.unix_path.specs.Prefixes.{Begins, stripped_of}
 use Rattle.unix_path.specs.Rest.{rest}
-use Rattle.unix_path.specs.Scan.{is_idle, is_trailing, EndsInPart}
-use Rattle.unix_path.specs.Steps.{SharesFront}
+use Rattle.unix_path.specs.Scan.{is_filler, is_trailing, EndsInPart}
+use Rattle.unix_path.specs.Steps.{SharesFirst}
 use Rattle.unix_path.proofs.lemmas.order.BehindLemmas.{rest-left}
 use Rattle.unix_path.proofs.lemmas.parts.PartLemmas.{values-nil}
 use Rattle.unix_path.proofs.lemmas.rests.RestLemmas.{rest-rest}
@@ -49,8 +49,8 @@ stripped-whole s base n h none =
 
 -- what they have behind the values of the base is what is stripped of s
 pub stripped-is : (s base : List ℕ) (n : ℕ) (left whole : Bor (List ℕ)) → Trims s n
-    → whole.now ≡ take n s → IsTail left whole → SharesFront whole.now base left.now []
-    → is_idle left.now 0 ≡ false → left.now ≡ stripped_of s base
+    → whole.now ≡ take n s → IsTail left whole → SharesFirst whole.now base left.now []
+    → is_filler left.now 0 ≡ false → left.now ≡ stripped_of s base
 stripped-is s base n left whole h is tail shares busy =
     let k = length (values base) in
     let trimmed = rest-trims s n h in

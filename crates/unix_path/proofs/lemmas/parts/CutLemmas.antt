@@ -5,7 +5,7 @@ use Rattle.std.specs.List.{slice_split, onto_first}
 use Rattle.std.specs.Str.{bytes_eq}
 use Rattle.std.proofs.lemmas.List.Splits.{slice_split-cons_yes, slice_split-cons_no}
 use Rattle.std.proofs.lemmas.List.Splits.{length-slice_split}
-use Rattle.unix_bytes.proofs.lemmas.lists.CaseLemmas.{by_test}
+use Rattle.unix_bytes.proofs.lemmas.lists.ListLemmas.{by_test}
 use Rattle.unix_path.proofs.lemmas.parts.PieceLemmas.{parts_of_piece, first_piece}
 use Rattle.unix_path.proofs.lemmas.parts.PieceLemmas.{slice_split-first}
 use Rattle.unix_path.specs.Parts.{CurDir, RootDir, inner_parts, cur_dir, is_slash, leading_part}

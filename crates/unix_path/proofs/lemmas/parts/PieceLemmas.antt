@@ -4,7 +4,7 @@ use Rattle.std.proofs.Common.{take, drop, refl, sym, ap, ap₂, subst, ◌∙◌
 use Rattle.std.proofs.Common.{eqb-true}
 use Rattle.std.specs.List.{before_first, slice_split, onto_first, position_or_len}
 use Rattle.std.proofs.lemmas.List.Splits.{slice_split-cons_yes, slice_split-cons_no}
-use Rattle.unix_bytes.proofs.lemmas.lists.CaseLemmas.{by_test, drop-suc_cons, take-suc_cons}
+use Rattle.unix_bytes.proofs.lemmas.lists.ListLemmas.{by_test, drop-suc_cons, take-suc_cons}
 use Rattle.unix_path.specs.Parts.{Part, inner_parts, counts, is_slash, parts_of_pieces}
 use Rattle.unix_path.specs.Parts.{value_of_piece}
 

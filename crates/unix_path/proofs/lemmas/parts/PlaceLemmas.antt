@@ -2,7 +2,7 @@
 use Rattle.std.proofs.Common.{◌≡◌, ℕ, ◌+◌, List, [], ◌∷◌, length, map, refl}
 use Rattle.std.proofs.Common.{ap, ap₂, ◌∙◌, arith}
 use Rattle.std.specs.List.{slice_split}
-use Rattle.unix_bytes.proofs.lemmas.lists.CaseLemmas.{by_test}
+use Rattle.unix_bytes.proofs.lemmas.lists.ListLemmas.{by_test}
 use Rattle.unix_path.specs.Parts.{Part, inner_parts, counts, is_slash, parts_of_pieces}
 use Rattle.unix_path.specs.Parts.{value_of_piece}
 use Rattle.unix_path.specs.Rest.{last_end}

@@ -4,7 +4,7 @@ use Rattle.std.proofs.Common.{ap, ap₂, ◌∙◌, arith, take_all, length-drop
 use Rattle.std.proofs.Common.{ltb-false, length-take-le, ◌++◌, length-append}
 use Rattle.std.proofs.lemmas.List.{drop_all, drop-map, take-map, drop-take, length-map, length-take}
 use Rattle.std.proofs.lemmas.List.{take-take, take-append-le}
-use Rattle.unix_bytes.proofs.lemmas.lists.CaseLemmas.{by_test}
+use Rattle.unix_bytes.proofs.lemmas.lists.ListLemmas.{by_test}
 use Rattle.unix_path.proofs.lemmas.parts.PlaceLemmas.{part_at}
 use Rattle.unix_path.proofs.lemmas.steps.SpanLemmas.{StandsAt, span_at, trims_end}
 use Rattle.unix_path.proofs.lemmas.rests.SplitLemmas.{drops_to, takes_to}

@@ -2,7 +2,7 @@
 use Rattle.std.proofs.Common.{◌≡◌, ℕ, zero, suc, ◌+◌, ◌-◌, ◌≤◌, ltb, List, [], length, take, drop}
 use Rattle.std.proofs.Common.{map, refl, sym, ap, ◌∙◌, arith, length-drop, ltb-true, ltb-false}
 use Rattle.std.proofs.lemmas.List.{length-map}
-use Rattle.unix_bytes.proofs.lemmas.lists.CaseLemmas.{by_test}
+use Rattle.unix_bytes.proofs.lemmas.lists.ListLemmas.{by_test}
 use Rattle.unix_path.proofs.lemmas.rests.MiddleLemmas.{Middle, map-middle, middle, middle-middle}
 use Rattle.unix_path.proofs.lemmas.rests.MiddleLemmas.{middle_of}
 use Rattle.unix_path.proofs.lemmas.rests.MiddleLemmas.{rest-middle, stands_in}

@@ -10,7 +10,7 @@ use Rattle.unix_path.specs.Parts.{parent_dir, counts, parts_of_pieces, value_of_
 use Rattle.unix_path.specs.Parts.{inner_parts, values, is_rooted}
 use Rattle.unix_path.specs.Prefixes.{Begins}
 use Rattle.unix_path.proofs.lemmas.parts.ValueLemmas.{first_value}
-use Rattle.unix_bytes.proofs.lemmas.lists.CaseLemmas.{by_test}
+use Rattle.unix_bytes.proofs.lemmas.lists.ListLemmas.{by_test}
 use Rattle.unix_path.proofs.lemmas.parts.PieceLemmas.{first_piece}
 use Rattle.unix_path.proofs.lemmas.parts.PartLemmas.{values-nil, parts-root, parts-name, root_first}
 use Rattle.unix_path.proofs.lemmas.parts.PartLemmas.{root_first-values}

@@ -6,8 +6,8 @@ use Rattle.std.proofs.Common.{length-append, length-take-le}
 use Rattle.std.specs.List.{position_or_len}
 use Rattle.std.proofs.lemmas.List.{take-append-le, drop-map, length-take}
 use Rattle.std.proofs.lemmas.List.{take-take}
-use Rattle.unix_bytes.proofs.lemmas.lists.CaseLemmas.{by_test}
-use Rattle.unix_path.proofs.lemmas.filler.IdleLemmas.{parts-busy, skips_idle}
+use Rattle.unix_bytes.proofs.lemmas.lists.ListLemmas.{by_test}
+use Rattle.unix_path.proofs.lemmas.filler.FillerLemmas.{parts-busy, skips_filler}
 use Rattle.unix_path.proofs.lemmas.steps.LastLemmas.{last_part, last_start, root_alone}
 use Rattle.unix_path.proofs.lemmas.parts.PartLemmas.{parts-name, parts-nil, parts-none, parts-root}
 use Rattle.unix_path.proofs.lemmas.parts.PieceLemmas.{length-first_piece, position_or_len-other}
@@ -30,18 +30,18 @@ pub record SplitsFirst (t : List ℕ) : Type 0 where
 splits_at : (t : List ℕ) (e : ℕ) (v : Value) → 0 < e → e ≤ length t
     → parts t ≡ record { start = 0; end = e; value = v } ∷ inner_parts e (drop e t) → SplitsFirst t
 splits_at t e v some l is =
-    let idle = skips_idle (drop e t) in
-    let d = idle.len in
+    let filler = skips_filler (drop e t) in
+    let d = filler.len in
     let u : drop d (drop e t) ≡ drop (e + d) t = drop-drop d e t in
     record {
       first = record { start = 0; end = e; value = v };
       len = e + d;
       some = omega arith;
-      in_range = omega (arith, idle.in_range, length-drop e t);
+      in_range = omega (arith, filler.in_range, length-drop e t);
       is = is ∙ ap (λ ps. record { start = 0; end = e; value = v } ∷ ps)
-          (idle.same e ∙ ap (λ n. inner_parts n (drop d (drop e t))) {x = e + d} {y = 0 + (e + d)}
+          (filler.same e ∙ ap (λ n. inner_parts n (drop d (drop e t))) {x = e + d} {y = 0 + (e + d)}
           (omega arith) ∙ inner_parts-add 0 (e + d) (drop d (drop e t))
-          ∙ ap (map (part_at (e + d))) (sym (parts-busy (drop d (drop e t)) idle.busy))
+          ∙ ap (map (part_at (e + d))) (sym (parts-busy (drop d (drop e t)) filler.busy))
           ∙ ap (λ u. map (part_at (e + d)) (parts u)) u);
     }
 

@@ -9,7 +9,7 @@ use Rattle.std.proofs.lemmas.List.{drop_all, drop_more}
 use Rattle.std.proofs.lemmas.Slice.Eq.{bytes_eq-Decides}
 use Rattle.unix_path.proofs.lemmas.steps.LastLemmas.{last_counts}
 pub use Rattle.unix_path.proofs.lemmas.steps.LastLemmas.{IsLastStart}
-use Rattle.unix_bytes.proofs.lemmas.lists.CaseLemmas.{by_test}
+use Rattle.unix_bytes.proofs.lemmas.lists.ListLemmas.{by_test}
 use Rattle.unix_path.specs.Parts.{CurDir, ParentDir, Normal, cur_dir, parent_dir, parts}
 use Rattle.unix_path.specs.Scan.{ends_with_parent, EndsInPart, is_trailing}
 use Rattle.unix_path.specs.Steps.{TakesLast}

@@ -6,10 +6,10 @@ use Rattle.std.proofs.Common.{length-drop, map}
 use Rattle.std.specs.List.{position_or_len}
 use Rattle.std.specs.Str.{bytes_eq}
 use Rattle.std.proofs.lemmas.Bool.{or_parts, and_parts, both_ways}
-use Rattle.unix_bytes.proofs.lemmas.lists.CaseLemmas.{by_test}
-use Rattle.unix_path.proofs.lemmas.filler.IdleLemmas.{busy_parts, first_piece_dot, idle_from}
-use Rattle.unix_path.proofs.lemmas.filler.IdleLemmas.{is_idle-drop}
-use Rattle.unix_path.proofs.lemmas.filler.IdleLemmas.{parts-busy}
+use Rattle.unix_bytes.proofs.lemmas.lists.ListLemmas.{by_test}
+use Rattle.unix_path.proofs.lemmas.filler.FillerLemmas.{busy_parts, first_piece_dot, filler_from}
+use Rattle.unix_path.proofs.lemmas.filler.FillerLemmas.{is_filler-drop}
+use Rattle.unix_path.proofs.lemmas.filler.FillerLemmas.{parts-busy}
 use Rattle.unix_path.proofs.lemmas.parts.PartLemmas.{parts-name}
 use Rattle.unix_path.proofs.lemmas.parts.PieceLemmas.{first_piece, first_piece-other}
 use Rattle.unix_path.proofs.lemmas.parts.PieceLemmas.{position_or_len-other}
@@ -18,7 +18,7 @@ use Rattle.unix_path.proofs.lemmas.steps.StepLemmas.{takes_first}
 use Rattle.unix_path.specs.Parts.{Value, CurDir, ParentDir, Normal, parent_dir, Part}
 use Rattle.unix_path.specs.Parts.{inner_parts, is_slash, parts, values}
 use Rattle.unix_path.proofs.lemmas.parts.PlaceLemmas.{values-inner_parts}
-use Rattle.unix_path.specs.Scan.{begins_with_parent, is_idle}
+use Rattle.unix_path.specs.Scan.{begins_with_parent, is_filler}
 use Rattle.unix_path.specs.CommonDir.{inner_values}
 use Rattle.unix_path.specs.Steps.{StepsFirst}
 use Rattle.unix_path.proofs.lemmas.parts.ValueLemmas.{first_value}
@@ -51,13 +51,13 @@ parts-two_dots s e =
     ∷ inner_parts n (drop n (46 ∷ 46 ∷ s))) two
 
 -- a string that begins with a `.` that counts has it as its first part
-pub parts-dot_first : (s : List ℕ) → 0 < length s → is_idle s 0 ≡ true
+pub parts-dot_first : (s : List ℕ) → 0 < length s → is_filler s 0 ≡ true
     → eqb (get_or s 0 0) 47 ≡ false
     → parts s ≡ record { start = 0; end = 1; value = CurDir } ∷ inner_parts 1 (drop 1 s)
 parts-dot_first [] l e differs = absurd (omega arith)
 parts-dot_first (b ∷ s) l e differs =
     ⊎_elim (λ is. absurd (slash_or_not b is differs))
-    (λ is. ap (λ b. parts (b ∷ s)) is.0 ∙ parts-leading_dot s is.1) (idle_from b s e)
+    (λ is. ap (λ b. parts (b ∷ s)) is.0 ∙ parts-leading_dot s is.1) (filler_from b s e)
   where
     slash_or_not : (b : ℕ) → b ≡ 47 → eqb b 47 ≡ false → ⊥
     slash_or_not b is e = cc
@@ -91,8 +91,8 @@ length-parent_first [] e = cc
 length-parent_first (b ∷ []) e = absurd (one_byte_no_parent b e)
 length-parent_first (b ∷ c ∷ s) e = omega arith
 
--- a string that begins with no idle byte doesn't begin with a slash
-pub busy_no_slash : (s : List ℕ) → is_idle s 0 ≡ false → eqb (get_or s 0 0) 47 ≡ false
+-- a string that begins with no filler doesn't begin with a slash
+pub busy_no_slash : (s : List ℕ) → is_filler s 0 ≡ false → eqb (get_or s 0 0) 47 ≡ false
 busy_no_slash s e = (or_parts (eqb (get_or s 0 0) 47) _ e).0
 
 -- whether the first piece is `..`, by its first three bytes
@@ -104,7 +104,7 @@ first_piece_parent (b ∷ s) e =
     ∙ ap (λ t. eqb b 46 && t) (first_piece_dot s)
 
 -- a first piece that counts and isn't `..` is a name
-pub first_value-name : (s : List ℕ) → 0 < length s → is_idle s 0 ≡ false
+pub first_value-name : (s : List ℕ) → 0 < length s → is_filler s 0 ≡ false
     → begins_with_parent s ≡ false → first_value (first_piece s) ≡ Normal (first_piece s)
 first_value-name s l busy e =
     let is = busy_parts s l busy in
@@ -116,23 +116,23 @@ first_value-name s l busy e =
 pub record IsFirst (t : List ℕ) (e n : ℕ) (v : Value) : Type 0 where
   pub in_range : n ≤ length t
   pub parts_are : parts t ≡ record { start = 0; end = e; value = v } ∷ inner_parts n (drop n t)
-  pub busy : n < length t → is_idle t n ≡ false
+  pub busy : n < length t → is_filler t n ≡ false
 
 -- so it is if filler of d bytes stands behind it
 pub is_first : (t : List ℕ) (e d : ℕ) (v : Value) → e ≤ length t
     → parts t ≡ record { start = 0; end = e; value = v } ∷ inner_parts e (drop e t)
     → d ≤ length (drop e t)
     → inner_parts e (drop e t) ≡ inner_parts (e + d) (drop d (drop e t))
-    → (d < length (drop e t) → is_idle (drop e t) d ≡ false) → IsFirst t e (e + d) v
-is_first t e d v l first m idle busy =
+    → (d < length (drop e t) → is_filler (drop e t) d ≡ false) → IsFirst t e (e + d) v
+is_first t e d v l first m filler busy =
     let is = drop-drop d e t in
     let size = length-drop e t in
     record {
       in_range = omega arith;
       parts_are = first ∙ ap (λ ps. record { start = 0; end = e; value = v } ∷ ps)
-          (idle ∙ ap (inner_parts (e + d)) is);
-      busy = λ more. sym (is_idle-drop t (e + d)) ∙ ap (λ u. is_idle u 0) (sym is)
-          ∙ is_idle-drop (drop e t) d ∙ busy (omega arith);
+          (filler ∙ ap (inner_parts (e + d)) is);
+      busy = λ more. sym (is_filler-drop t (e + d)) ∙ ap (λ u. is_filler u 0) (sym is)
+          ∙ is_filler-drop (drop e t) d ∙ busy (omega arith);
     }
 
 -- a step over it takes that part
@@ -140,8 +140,8 @@ pub steps_first : (t : List ℕ) (e n : ℕ) (v : Value) → IsFirst t e n v →
 unfolding values
 steps_first t e n v h =
     let u = drop n t in
-    let next : 0 < length u → is_idle u 0 ≡ false =
-    λ some. is_idle-drop t n ∙ h.busy (omega (arith, length-drop n t)) in
+    let next : 0 < length u → is_filler u 0 ≡ false =
+    λ some. is_filler-drop t n ∙ h.busy (omega (arith, length-drop n t)) in
     record {
       in_range = h.in_range;
       value = ap (map (λ p. p.value)) h.parts_are

@@ -3,7 +3,7 @@ use Rattle.std.proofs.Common.{◌≡◌, ℕ, ◌-◌, ◌≤◌, ◌<◌, false
 use Rattle.std.proofs.Common.{get_or, take, drop, map, refl, sym, ap, ◌∙◌, arith, take_all}
 use Rattle.std.proofs.Common.{length-drop, length-take-le}
 use Rattle.std.proofs.lemmas.List.{map-append}
-use Rattle.unix_path.proofs.lemmas.filler.IdleLemmas.{inner_parts_busy, parts-busy}
+use Rattle.unix_path.proofs.lemmas.filler.FillerLemmas.{inner_parts_busy, parts-busy}
 use Rattle.unix_path.proofs.lemmas.steps.LastLemmas.{last_part, root_alone, IsLastStart}
 use Rattle.unix_path.proofs.lemmas.parts.PartLemmas.{parts-nil}
 use Rattle.unix_path.proofs.lemmas.parts.PieceLemmas.{inner_parts-nil}
@@ -13,7 +13,7 @@ use Rattle.unix_path.proofs.lemmas.filler.TrimLemmas.{EndsInPart-drop, EndsInPar
 use Rattle.unix_path.proofs.lemmas.parts.ValueLemmas.{first_value}
 use Rattle.unix_path.specs.Parts.{Part, RootDir, Value, inner_parts, parts, values}
 use Rattle.unix_path.specs.Rest.{rest, span_of}
-use Rattle.unix_path.specs.Scan.{is_idle, is_trailing, EndsInPart}
+use Rattle.unix_path.specs.Scan.{is_filler, is_trailing, EndsInPart}
 use Rattle.unix_path.specs.Steps.{TakesFirst, TakesLast}
 
 -- after the first part the others are left
@@ -24,7 +24,8 @@ rest-first s p ps e = rw e (ap (span_of s) (take_all (length (p ∷ ps) - 1) ps 
 
 -- the parts of u, which is t from place i on, span all of u
 span_busy : (t u : List ℕ) (i : ℕ) → drop i t ≡ u → i ≤ length t
-    → (0 < length u → is_idle u 0 ≡ false) → (0 < length u → parts_end (inner_parts i u) ≡ length t)
+    → (0 < length u → is_filler u 0 ≡ false)
+    → (0 < length u → parts_end (inner_parts i u) ≡ length t)
     → span_of t (inner_parts i u) ≡ u
 span_busy t [] i is l busy end = ap (span_of t) (inner_parts-nil i)
 span_busy t (b ∷ u) i is l busy end =
@@ -37,7 +38,7 @@ span_busy t (b ∷ u) i is l busy end =
 -- the first part is taken, which ends at e, and the filler behind it, which ends at n
 pub takes_first : (t : List ℕ) (e n : ℕ) (v : Value) → EndsInPart t → n ≤ length t
     → parts t ≡ record { start = 0; end = e; value = v } ∷ inner_parts n (drop n t)
-    → (0 < length (drop n t) → is_idle (drop n t) 0 ≡ false) → TakesFirst t (drop n t) v
+    → (0 < length (drop n t) → is_filler (drop n t) 0 ≡ false) → TakesFirst t (drop n t) v
 unfolding values
 takes_first t e n v ends l all busy =
     let u = drop n t in
@@ -52,7 +53,7 @@ takes_first t e n v ends l all busy =
       ends = EndsInPart-drop t n l ends;
     }
   where
-    end_of : (i : ℕ) (u : List ℕ) → 0 < length u → is_idle u 0 ≡ false → (e : ℕ) (v : Value)
+    end_of : (i : ℕ) (u : List ℕ) → 0 < length u → is_filler u 0 ≡ false → (e : ℕ) (v : Value)
         → parts_end (inner_parts i u) ≡ parts_end
         (record { start = 0; end = e; value = v } ∷ inner_parts i u)
     end_of i u some busy e v = let first = inner_parts_busy i u some busy in rw first refl

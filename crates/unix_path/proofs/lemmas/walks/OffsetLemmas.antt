@@ -10,11 +10,11 @@ use Rattle.unix_path.specs.Cursor.{cursor_rest}
 use Rattle.unix_path.specs.declared.cursor.walk.Components.{Components}
 use Rattle.unix_path.specs.Parts.{Value, RootDir, CurDir, ParentDir, Normal, parts, values}
 use Rattle.unix_path.specs.Parts.{cur_dir, parent_dir}
-use Rattle.unix_path.specs.Scan.{is_idle, EndsInPart}
+use Rattle.unix_path.specs.Scan.{is_filler, EndsInPart}
 use Rattle.unix_path.specs.Rest.{rest}
 use Rattle.unix_path.specs.Steps.{HasLast, IsWalk, TakesFirst, StepsFirst, TakesLast}
-use Rattle.unix_bytes.proofs.lemmas.lists.CaseLemmas.{by_test, length-range}
-use Rattle.unix_path.proofs.lemmas.filler.IdleLemmas.{first_piece_dot}
+use Rattle.unix_bytes.proofs.lemmas.lists.ListLemmas.{by_test, length-range}
+use Rattle.unix_path.proofs.lemmas.filler.FillerLemmas.{first_piece_dot}
 use Rattle.unix_path.proofs.lemmas.names.ParentLemmas.{rest-whole_last, values-whole}
 use Rattle.unix_path.proofs.lemmas.parts.PartLemmas.{parts-nil, parts-root, parts-name}
 use Rattle.unix_path.proofs.lemmas.parts.PieceLemmas.{first_piece}
@@ -46,10 +46,10 @@ lead_first (RootDir ∷ vs) = true
 lead_first (CurDir ∷ vs) = true
 lead_first _ = false
 
-is_idle-first : (s : List ℕ) → is_idle s 0 ≡ lead_first (values s)
+is_filler-first : (s : List ℕ) → is_filler s 0 ≡ lead_first (values s)
 unfolding values
-is_idle-first [] = ap (λ ps. lead_first (map (λ p. p.value) ps)) (sym parts-nil)
-is_idle-first (b ∷ s) = by_test (eqb b 47)
+is_filler-first [] = ap (λ ps. lead_first (map (λ p. p.value) ps)) (sym parts-nil)
+is_filler-first (b ∷ s) = by_test (eqb b 47)
     (λ e. rw (parts-root (b ∷ s) (eqb-true b 47 e), e) refl)
     (λ e. ap (λ t. t || (eqb b 46 && eqb (get_or s 0 47) 47)) e ∙ sym (first_piece_dot (b ∷ s))
     ∙ of_piece (first_piece (b ∷ s)) _
@@ -62,20 +62,20 @@ is_idle-first (b ∷ s) = by_test (eqb b 47)
         (λ e. by_test (bytes_eq p parent_dir) (λ f. rw (e, f) refl) (λ f. rw (e, f) refl))
 
 -- strings with the same parts begin alike
-pub is_idle-same : (s t : List ℕ) → parts s ≡ parts t → is_idle s 0 ≡ is_idle t 0
+pub is_filler-same : (s t : List ℕ) → parts s ≡ parts t → is_filler s 0 ≡ is_filler t 0
 unfolding values
-is_idle-same s t e = is_idle-first s ∙ ap (λ ps. lead_first (map (λ p. p.value) ps)) e
-    ∙ sym (is_idle-first t)
+is_filler-same s t e = is_filler-first s ∙ ap (λ ps. lead_first (map (λ p. p.value) ps)) e
+    ∙ sym (is_filler-first t)
 
-pub not_idle : (u : List ℕ) → (0 < length u → is_idle u 0 ≡ false) → false ≡ is_idle u 0
-not_idle [] h = refl
-not_idle (b ∷ u) h = sym (h (omega arith))
+pub not_filler : (u : List ℕ) → (0 < length u → is_filler u 0 ≡ false) → false ≡ is_filler u 0
+not_filler [] h = refl
+not_filler (b ∷ u) h = sym (h (omega arith))
 
 -- the first part is taken: what is left begins n bytes further
 pub record StepsForward (s : List ℕ) (a b n : ℕ) (v : Value) : Type 0 where
   pub in_order : a + n ≤ b
   pub takes : TakesFirst (slice_range s a b) (slice_range s (a + n) b) v
-  pub lead : false ≡ is_idle (slice_range s (a + n) b) 0
+  pub lead : false ≡ is_filler (slice_range s (a + n) b) 0
 
 -- a step over the first part of what stands from a to b moves a by n
 pub steps_forward : (s : List ℕ) (a b n : ℕ) (v : Value) → a ≤ b → b ≤ length s
@@ -87,8 +87,8 @@ steps_forward s a b n v in_order in_range ends step =
     record {
       in_order = omega arith;
       takes = subst (λ u. TakesFirst (slice_range s a b) u v) is (step.takes ends);
-      lead = not_idle (slice_range s (a + n) b)
-          (subst (λ u. 0 < length u → is_idle u 0 ≡ false) is step.busy);
+      lead = not_filler (slice_range s (a + n) b)
+          (subst (λ u. 0 < length u → is_filler u 0 ≡ false) is step.busy);
     }
 
 -- a step over the first part of what is left of a walk moves the first of its places by n
@@ -103,7 +103,7 @@ walks_forward c n v e step =
 pub record StepsBack (s : List ℕ) (a b n : ℕ) (v : Value) : Type 0 where
   pub in_order : a + n ≤ b
   pub takes : TakesLast (slice_range s a b) (slice_range s a (a + n)) v
-  pub lead : (is_idle (slice_range s a b) 0 && ltb 0 n) ≡ is_idle (slice_range s a (a + n)) 0
+  pub lead : (is_filler (slice_range s a b) 0 && ltb 0 n) ≡ is_filler (slice_range s a (a + n)) 0
 
 -- a string that ends in a part and has none is empty
 no_values : (u : List ℕ) → EndsInPart u → values u ≡ [] → length u ≡ 0
@@ -124,16 +124,16 @@ lead_first-push (Normal name ∷ vs) v some = refl
 -- what is left before the last part begins with a root or a `.` that counts if all of it did,
 -- unless nothing is left
 lead_before_last : (t u : List ℕ) (v : Value) (n : ℕ) → TakesLast t u v → length u ≡ n
-    → (is_idle t 0 && ltb 0 n) ≡ is_idle u 0
+    → (is_filler t 0 && ltb 0 n) ≡ is_filler u 0
 lead_before_last t u v n h size = by_test (ltb 0 n)
     (λ e.
     let some : 0 < n = ltb-true _ _ e in
-    rw e (and_true (is_idle t 0) ∙ is_idle-first t ∙ ap lead_first h.value
+    rw e (and_true (is_filler t 0) ∙ is_filler-first t ∙ ap lead_first h.value
     ∙ lead_first-push (values u) v
     (λ none. let z = no_values u h.ends none in absurd (omega arith))
-    ∙ sym (is_idle-first u)))
-    (λ e. rw e (and_false (is_idle t 0)
-    ∙ sym (ap (λ u. is_idle u 0) (nil_from_length u (omega (arith, ltb-false _ _ e))))))
+    ∙ sym (is_filler-first u)))
+    (λ e. rw e (and_false (is_filler t 0)
+    ∙ sym (ap (λ u. is_filler u 0) (nil_from_length u (omega (arith, ltb-false _ _ e))))))
   where
     and_true : (b : Bool) → (b && true) ≡ b
     and_true true = refl

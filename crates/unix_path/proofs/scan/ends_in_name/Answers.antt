@@ -1,7 +1,7 @@
 use Rattle.std.proofs.Common.{◌-◌, length, get_or, eqb, not, sym, ap, ◌∙◌, arith, ne_eqb, eqb-true}
 use Rattle.std.proofs.lemmas.Bool.{true≢false, eqb-false}
 use Rattle.unix_path.specs.Scan.{ends_with_parent}
-use Rattle.unix_bytes.proofs.lemmas.lists.CaseLemmas.{by_test}
+use Rattle.unix_bytes.proofs.lemmas.lists.ListLemmas.{by_test}
 use Rattle.unix_path.proofs.lemmas.names.NamedLemmas.{named-dot, named-other, nameless-behind}
 use Rattle.unix_path.proofs.lemmas.names.NamedLemmas.{nameless-nil}
 use Rattle.unix_path.proofs.lemmas.names.NamedLemmas.{nameless-one, nameless-parent, nameless-slash}

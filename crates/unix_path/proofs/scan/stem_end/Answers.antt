@@ -2,7 +2,7 @@ use Rattle.std.proofs.Common.{◌≡◌, ℕ, ◌+◌, ◌-◌, ◌≤◌, ◌<�
 use Rattle.std.proofs.Common.{eq-eqb, length-drop, ne_eqb}
 use Rattle.std.proofs.lemmas.List.{take_rest}
 use Rattle.unix_path.proofs.lemmas.names.NamedLemmas.{ends_in_name}
-use Rattle.unix_path.proofs.lemmas.names.StemCutLemmas.{dot_at, plain_from, stem_end-cut}
+use Rattle.unix_path.proofs.lemmas.names.StemCutLemmas.{dot_at, ordinary_from, stem_end-cut}
 use Rattle.unix_path.proofs.lemmas.names.StemCutLemmas.{stem_end-known}
 use Rattle.unix_path.proofs.lemmas.names.StemCutLemmas.{stem_end-lead, stem_end-slash}
 use Rattle.unix_path.proofs.scan.stem_end.Goals.{then-place-eq0-via-then-place-eq0}
@@ -16,7 +16,7 @@ returns-then-past-eq0-clause-value c =
     let past = c.past_last_of_two-past in
     stem_end-known s c.args.known (ends_in_name s c.requires.name) c.requires.in_range
     c.requires.stem
-    (plain_from s _ c.args.known past.result c.args.known c.requires.in_range
+    (ordinary_from s _ c.args.known past.result c.args.known c.requires.in_range
     (take_rest s c.args.known) past.ensures.none_behind (omega (arith, c.if-past-eq0.true)))
 
 -- the place is in the string
@@ -35,15 +35,15 @@ returns-then-place-eq0-clause-value c =
     let some = c.if-past-eq0.false in
     let h = ends_in_name s c.requires.name in
     let l = fits s known past.result c.requires.in_range past.ensures.in_range some in
-    let plain = plain_from s _ known past.result (place + 1) c.requires.in_range
+    let ordinary = ordinary_from s _ known past.result (place + 1) c.requires.in_range
     (take_rest s known) past.ensures.none_behind (omega arith) in
     elim c.then-place-eq0.branch [
       | then-place-eq0-via-then-place-eq0 w ↦
-          stem_end-lead s place h l plain (λ some. absurd (omega (arith, w.if-place-eq0.true)))
+          stem_end-lead s place h l ordinary (λ some. absurd (omega (arith, w.if-place-eq0.true)))
       | then-place-eq0-via-else-place-eq0+then-bytes-place-eq47 w ↦
-          stem_end-slash s place h l plain w.if-bytes-place-eq47.true
+          stem_end-slash s place h l ordinary w.if-bytes-place-eq47.true
       | then-place-eq0-via-else-place-eq0+else-bytes-place-eq47+then-bytes-place-eq47-2 w ↦
-          stem_end-lead s place h l plain (λ _. eq-eqb _ 47 w.if-bytes-place-eq47-2.true)
+          stem_end-lead s place h l ordinary (λ _. eq-eqb _ 47 w.if-bytes-place-eq47-2.true)
     ]
 
 pub returns-clause-value : goal.returns-clause-value
@@ -55,9 +55,9 @@ returns-clause-value c =
     let some = c.if-past-eq0.false in
     let h = ends_in_name s c.requires.name in
     let l = fits s known past.result c.requires.in_range past.ensures.in_range some in
-    let plain = plain_from s _ known past.result (place + 1) c.requires.in_range
+    let ordinary = ordinary_from s _ known past.result (place + 1) c.requires.in_range
     (take_rest s known) past.ensures.none_behind (omega arith) in
-    stem_end-cut s place h l plain
+    stem_end-cut s place h l ordinary
     (dot_at s _ known past.result place (take_rest s known) (omega arith) (omega arith)
     (past.ensures.after (omega arith)) c.if-bytes-place-eq47.false)
     (omega (arith, c.if-place-eq0.false)) (ne_eqb _ 47 c.if-bytes-place-eq47-2.false)

@@ -1,5 +1,5 @@
 use Rattle.std.proofs.Common.{sym, ◌∙◌}
-use Rattle.unix_path.specs.Scan.{gap_bytes}
+use Rattle.unix_path.specs.Scan.{separator_bytes}
 use Rattle.unix_path.proofs.lemmas.edits.EditLemmas.{with_extension_of-none, with_extension_of-some}
 use Rattle.unix_path_c.proofs.joins.extension_layout.Goals as goal
 
@@ -11,4 +11,5 @@ returns-in_default c = c.whole_layout.ensures
 pub returns : goal.returns
 returns c =
     sym (with_extension_of-some c.args.path.bytes.now c.args.extension.now
-    (gap_bytes c.dot_before.result) c.in-Some.end c.in-Some.ensures.value c.dot_before.ensures)
+    (separator_bytes c.dot_before.result) c.in-Some.end c.in-Some.ensures.value
+    c.dot_before.ensures)

@@ -11,7 +11,7 @@ use Rattle.unix_path.specs.Names.{file_name_of}
 use Rattle.unix_path.specs.Joins.{is_open}
 use Rattle.unix_path.specs.Parts.{Value, slash, values}
 use Rattle.unix_path.specs.Rest.{rest}
-use Rattle.unix_bytes.proofs.lemmas.lists.CaseLemmas.{by_test}
+use Rattle.unix_bytes.proofs.lemmas.lists.ListLemmas.{by_test}
 use Rattle.unix_path.proofs.lemmas.names.NameEndLemmas.{added_extension_at}
 use Rattle.unix_path.proofs.lemmas.rests.RestLemmas.{take-rest}
 pub use Rattle.path_keys.proofs.lemmas.values.LengthLemmas.{length-key_of}

@@ -7,17 +7,17 @@ use Rattle.path_runs.proofs.lemmas.lists.OverlayLemmas.{overlay-bytes_over, over
 use Rattle.path_runs.proofs.lemmas.lists.OverlayLemmas.{buffer_after-fits}
 
 -- three stretches, put one behind the other into a buffer that has room for all of them
-pub buffer_after-three : {one two three : List ℕ} (old start gap end : List ℕ) (n : ℕ)
-    → n ≡ length start + length gap → n + length end ≤ length old
-    → one ≡ overlay 0 start old → two ≡ overlay (length start) gap one
-    → three ≡ overlay n end two → three ≡ buffer_after ((start ++ gap) ++ end) old
-buffer_after-three old start gap end n at fits first second third =
-    let both : n ≡ length (start ++ gap) = omega (arith, at, length-append start gap) in
-    let all : length ((start ++ gap) ++ end) ≤ length old =
-    omega (arith, both, fits, length-append (start ++ gap) end) in
+pub buffer_after-three : {one two three : List ℕ} (old start separator end : List ℕ) (n : ℕ)
+    → n ≡ length start + length separator → n + length end ≤ length old
+    → one ≡ overlay 0 start old → two ≡ overlay (length start) separator one
+    → three ≡ overlay n end two → three ≡ buffer_after ((start ++ separator) ++ end) old
+buffer_after-three old start separator end n at fits first second third =
+    let both : n ≡ length (start ++ separator) = omega (arith, at, length-append start separator) in
+    let all : length ((start ++ separator) ++ end) ≤ length old =
+    omega (arith, both, fits, length-append (start ++ separator) end) in
     third
     ∙ ap₂ (λ n two. overlay n end two) both (second
-    ∙ ap (overlay (length start) gap) (first ∙ overlay-first start old)
-    ∙ overlay-bytes_over start gap old)
-    ∙ overlay-bytes_over (start ++ gap) end old
-    ∙ sym (buffer_after-fits ((start ++ gap) ++ end) old all)
+    ∙ ap (overlay (length start) separator) (first ∙ overlay-first start old)
+    ∙ overlay-bytes_over start separator old)
+    ∙ overlay-bytes_over (start ++ separator) end old
+    ∙ sym (buffer_after-fits ((start ++ separator) ++ end) old all)

@@ -5,7 +5,7 @@ use Rattle.std.proofs.Common.{take_all, ltb-true, ltb-false}
 use Rattle.std.proofs.lemmas.List.{nil_from_length}
 use Rattle.unix_path.specs.Parts.{Part, Value, parts, value_bytes, values}
 use Rattle.unix_path.specs.Rest.{last_end, rest}
-use Rattle.unix_bytes.proofs.lemmas.lists.CaseLemmas.{by_test}
+use Rattle.unix_bytes.proofs.lemmas.lists.ListLemmas.{by_test}
 use Rattle.unix_path.proofs.lemmas.rests.MiddleLemmas.{Middle, middle, middle_of, rest-middle}
 use Rattle.unix_path.proofs.lemmas.parts.PartLemmas.{parts-none, values-nil}
 use Rattle.unix_path.proofs.lemmas.parts.PlaceLemmas.{last_end-part_at, part_at, parts_end}
@@ -42,9 +42,9 @@ behind_first s b h =
     sym (middle-first p b.more) ∙ ap (middle 1 0) (sym b.is) ∙ h.is
 
 -- where parts that stand behind another one end
-end_behind : (p : Part) (at : ℕ) (w : List ℕ) (b : BeginsWith w)
+last_end-behind_first : (p : Part) (at : ℕ) (w : List ℕ) (b : BeginsWith w)
     → last_end p (map (part_at at) (parts w)) ≡ parts_end (parts w) + at
-end_behind p at w b =
+last_end-behind_first p at w b =
     let q : Part =
     record { start = 0; end = length (value_bytes b.value); value = b.value } in
     ap (λ ps. last_end p (map (part_at at) ps)) b.is ∙ last_end-part_at at q b.more
@@ -88,7 +88,7 @@ takes_more s b h l =
     let size : m ≡ length h.left = ap length w in
     let more = behind_first s b h in
     let end : n ≡ length h.left + h.at = length-rest_whole s ∙ ap parts_end b.is
-    ∙ ap (last_end p) more ∙ end_behind p h.at h.left c
+    ∙ ap (last_end p) more ∙ last_end-behind_first p h.at h.left c
     ∙ ap (λ k. k + h.at) (parts_end-whole h.left h.ends) in
     let from : h.at ≡ n - m = omega (arith, size, end) in
     let follow : Follow (length (value_bytes b.value)) (map (part_at h.at) (parts h.left)) =

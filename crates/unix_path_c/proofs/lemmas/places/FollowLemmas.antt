@@ -8,7 +8,7 @@ use Rattle.std.proofs.lemmas.Slice.Eq.{bytes_eq-Decides}
 use Rattle.unix_path.specs.Parts.{Part, Value, RootDir, counts, cur_dir, inner_parts, is_slash}
 use Rattle.unix_path.specs.Parts.{parts, parts_of_pieces, value_bytes}
 use Rattle.unix_path.proofs.lemmas.parts.PlaceLemmas.{parts_end}
-use Rattle.unix_bytes.proofs.lemmas.lists.CaseLemmas.{by_test}
+use Rattle.unix_bytes.proofs.lemmas.lists.ListLemmas.{by_test}
 use Rattle.unix_path.proofs.lemmas.parts.PartLemmas.{parts-name, parts-none, parts-root}
 use Rattle.unix_path.proofs.lemmas.parts.PieceLemmas.{first_piece, length-first_piece}
 use Rattle.unix_path.proofs.lemmas.parts.ValueLemmas.{first_value, value_bytes-piece}

@@ -9,8 +9,8 @@ use Rattle.std.proofs.lemmas.Option.{same_Some}
 use Rattle.unix_path.specs.Parts.{Part, Value, parts, value_bytes, values}
 use Rattle.unix_path.specs.Rest.{rest}
 use Rattle.unix_path.specs.Scan.{EndsInPart}
-use Rattle.unix_bytes.proofs.lemmas.lists.CaseLemmas.{by_test, Snoc, Empty, Push, snoc}
-use Rattle.unix_bytes.proofs.lemmas.lists.CaseLemmas.{last_or-push}
+use Rattle.unix_bytes.proofs.lemmas.lists.ListLemmas.{by_test, Snoc, Empty, Push, snoc}
+use Rattle.unix_bytes.proofs.lemmas.lists.ListLemmas.{last_or-push}
 use Rattle.unix_path.proofs.lemmas.rests.MiddleLemmas.{middle, middle_of, rest-middle, stands_in}
 use Rattle.unix_path.proofs.lemmas.rests.MiddleLemmas.{middle-push}
 use Rattle.unix_path.proofs.lemmas.parts.PartLemmas.{parts-none}

@@ -4,11 +4,11 @@ use Rattle.std.proofs.Common.{length, take, drop, refl, sym, ap, ap₂}
 use Rattle.std.proofs.Common.{subst, ◌∙◌, arith, length-drop, ltb-true, ltb-false}
 use Rattle.std.proofs.Math.Seq.{take-length}
 use Rattle.std.proofs.lemmas.List.{length-take}
-use Rattle.unix_bytes.proofs.lemmas.lists.CaseLemmas.{by_test, take-beginning, take-take_front}
+use Rattle.unix_bytes.proofs.lemmas.lists.ListLemmas.{by_test, take-beginning, take-take_front}
 use Rattle.unix_path.proofs.lemmas.rests.MiddleLemmas.{stands_in}
 use Rattle.unix_path.proofs.lemmas.steps.SpanLemmas.{StandsAt}
-use Rattle.unix_path_c.specs.Places.{place_end, place_bytes}
-use Rattle.unix_path_c.specs.declared.places.Place.{Place}
+use Rattle.unix_path_c.specs.Places.{span_end, span_bytes}
+use Rattle.unix_path_c.specs.declared.places.Span.{Span}
 
 -- w stands in s from i on, and s doesn't end before it does
 pub record Stands (s : List ℕ) (i : ℕ) (w : List ℕ) : Type 0 where
@@ -49,19 +49,19 @@ pub record EndsAt (s : List ℕ) (end : ℕ) (w : List ℕ) : Type 0 where
   pub fits : length w ≤ end
   pub stands : Stands s (end - length w) w
 
--- the place has the bytes w and ends at `end`
-pub record IsPlaceOf (s : List ℕ) (end : ℕ) (w : List ℕ) (place : Place) : Type 0 where
-  pub bytes : place_bytes s place ≡ w
-  pub end_is : place_end place ≡ end
-  pub inside : place_end place ≤ length s
+-- the span has the bytes w and ends at `end`
+pub record IsSpanOf (s : List ℕ) (end : ℕ) (w : List ℕ) (span : Span) : Type 0 where
+  pub bytes : span_bytes s span ≡ w
+  pub end_is : span_end span ≡ end
+  pub inside : span_end span ≤ length s
 
--- a place made of an end and a length
-pub place_of : (s w : List ℕ) (end : ℕ) (place : Place) → EndsAt s end w
-    → place ≡ record { start = end - length w; length = length w } → IsPlaceOf s end w place
-place_of s w end place h e =
-    let to : place_end place ≡ end - length w + length w = ap place_end e in
+-- a span made of an end and a length
+pub is_span_of : (s w : List ℕ) (end : ℕ) (span : Span) → EndsAt s end w
+    → span ≡ record { start = end - length w; length = length w } → IsSpanOf s end w span
+is_span_of s w end span h e =
+    let to : span_end span ≡ end - length w + length w = ap span_end e in
     record {
-      bytes = ap (place_bytes s) e ∙ h.stands.bytes;
+      bytes = ap (span_bytes s) e ∙ h.stands.bytes;
       end_is = omega (arith, h.fits);
       inside = omega (arith, h.stands.inside);
     }

@@ -5,7 +5,7 @@ use Rattle.std.proofs.lemmas.Bool.{le-leb, leb-true}
 use Rattle.std.proofs.lemmas.List.{take-take}
 use Rattle.unix_path.specs.Parents.{ancestors_of, parent_of}
 use Rattle.unix_path.proofs.lemmas.callers.CallerLemmas.{ancestors_of-alone, ancestors_of-above}
-use Rattle.unix_bytes.proofs.lemmas.lists.CaseLemmas.{by_test}
+use Rattle.unix_bytes.proofs.lemmas.lists.ListLemmas.{by_test}
 use Rattle.unix_path_c.specs.Ancestors.{ancestors_left}
 use Rattle.unix_path_c.proofs.lemmas.places.PlaceLemmas.{parent_stands}
 

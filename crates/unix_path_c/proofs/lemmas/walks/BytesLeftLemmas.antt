@@ -10,17 +10,17 @@ use Rattle.std.proofs.lemmas.List.{drop-take, nil_from_length}
 use Rattle.unix_path.specs.Parts.{RootDir, CurDir, ParentDir, Normal, Value, parts, value_bytes}
 use Rattle.unix_path.specs.Parts.{values}
 use Rattle.unix_path.specs.Rest.{rest}
-use Rattle.unix_bytes.proofs.lemmas.lists.CaseLemmas.{by_test, length-range}
+use Rattle.unix_bytes.proofs.lemmas.lists.ListLemmas.{by_test, length-range}
 use Rattle.unix_path.proofs.lemmas.rests.MiddleLemmas.{middle_of, rest-middle}
 use Rattle.unix_path.proofs.lemmas.names.ParentLemmas.{values-whole}
 use Rattle.unix_path.proofs.lemmas.parts.PartLemmas.{rest-nil}
 use Rattle.unix_path.proofs.lemmas.parts.PlaceLemmas.{part_at, part_at-zero}
 use Rattle.unix_path.proofs.lemmas.rests.RestLemmas.{middle_of-at, take-rest}
 use Rattle.unix_path.proofs.lemmas.names.StemLemmas.{length-rest_whole-le}
-use Rattle.unix_path_c.specs.Places.{place_bytes, place_end}
+use Rattle.unix_path_c.specs.Places.{span_bytes, span_end}
 use Rattle.unix_path_c.specs.Walks.{kind_of, bytes_left, part_bytes, part_value, parts_left}
 use Rattle.unix_path_c.specs.Walks.{value_of_kind}
-use Rattle.unix_path_c.specs.declared.places.Place.{Place}
+use Rattle.unix_path_c.specs.declared.places.Span.{Span}
 use Rattle.unix_path_c.specs.declared.walks.Part.{Part}
 use Rattle.unix_path_c.specs.declared.walks.Walk.{Walk}
 
@@ -151,39 +151,39 @@ is_fresh path walk front back =
     }
 
 -- the place of what is left, without the filler at its end
-pub record HoldsLeft (path : List ℕ) (walk : Walk) (place : Place) : Type 0 where
-  pub bytes : place_bytes path place ≡ rest (bytes_left path walk) 0 0
-  pub same : values (place_bytes path place) ≡ values (bytes_left path walk)
-  pub in_range : place_end place ≤ length path
+pub record HoldsLeft (path : List ℕ) (walk : Walk) (span : Span) : Type 0 where
+  pub bytes : span_bytes path span ≡ rest (bytes_left path walk) 0 0
+  pub same : values (span_bytes path span) ≡ values (bytes_left path walk)
+  pub in_range : span_end span ≤ length path
 
-holds_left-at : (path : List ℕ) (walk : Walk) (place : Place)
-    → place_bytes path place ≡ rest (bytes_left path walk) 0 0 → place_end place ≤ length path
-    → HoldsLeft path walk place
-holds_left-at path walk place bytes in_range = record {
+holds_left-at : (path : List ℕ) (walk : Walk) (span : Span)
+    → span_bytes path span ≡ rest (bytes_left path walk) 0 0 → span_end span ≤ length path
+    → HoldsLeft path walk span
+holds_left-at path walk span bytes in_range = record {
   bytes = bytes;
-  same = values-whole (bytes_left path walk) (place_bytes path place) bytes;
+  same = values-whole (bytes_left path walk) (span_bytes path span) bytes;
   in_range = in_range;
 }
 
-pub holds_left : (path : List ℕ) (walk : Walk) (place : Place)
-    → place.start ≡ min walk.front (length path)
-    → place.length ≡ length (rest (bytes_left path walk) 0 0) → HoldsLeft path walk place
-holds_left path walk place start size =
+pub holds_left : (path : List ℕ) (walk : Walk) (span : Span)
+    → span.start ≡ min walk.front (length path)
+    → span.length ≡ length (rest (bytes_left path walk) 0 0) → HoldsLeft path walk span
+holds_left path walk span start size =
     let s = bytes_left path walk in
     let n = length (rest s 0 0) in
     by_test (ltb 0 (length s))
     (λ e.
     let h = stands_between path walk (ltb-true _ _ e) in
     let l = length-rest_whole-le s in
-    let here : place.start ≡ walk.front + 0 = omega (arith, start, h.in_order, h.in_range) in
-    holds_left-at path walk place
-    (ap (λ k. take k (drop place.start path)) size
-    ∙ take-bytes_left path walk s place.start 0 n h (omega (arith, l)) here ∙ take-rest s 0)
+    let here : span.start ≡ walk.front + 0 = omega (arith, start, h.in_order, h.in_range) in
+    holds_left-at path walk span
+    (ap (λ k. take k (drop span.start path)) size
+    ∙ take-bytes_left path walk s span.start 0 n h (omega (arith, l)) here ∙ take-rest s 0)
     (omega (arith, here, size, l, h.size, h.in_order, h.in_range)))
     (λ e.
     let nothing : s ≡ [] = nil_from_length s (omega (arith, ltb-false _ _ e)) in
     let none : rest s 0 0 ≡ [] = ap (λ s. rest s 0 0) nothing ∙ rest-nil 0 0 in
-    let zero_long : place.length ≡ 0 = size ∙ ap length none in
-    holds_left-at path walk place
-    (ap (λ k. take k (drop place.start path)) zero_long ∙ sym none)
+    let zero_long : span.length ≡ 0 = size ∙ ap length none in
+    holds_left-at path walk span
+    (ap (λ k. take k (drop span.start path)) zero_long ∙ sym none)
     (omega (arith, size, ap length none, start, min-le_right walk.front (length path))))

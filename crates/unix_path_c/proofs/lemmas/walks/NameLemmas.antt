@@ -7,26 +7,26 @@ use Rattle.std.proofs.lemmas.Bool.{both_ways}
 use Rattle.std.proofs.lemmas.Slice.Eq.{bytes_eq-Decides}
 use Rattle.unix_path.specs.Parts.{Value, cur_dir, parts}
 use Rattle.unix_path.specs.Scan.{ends_with_parent, is_trailing, EndsInPart}
-use Rattle.unix_bytes.proofs.lemmas.lists.CaseLemmas.{by_test}
+use Rattle.unix_bytes.proofs.lemmas.lists.ListLemmas.{by_test}
 use Rattle.unix_path.proofs.lemmas.filler.TrimLemmas.{parts_shorter}
 use Rattle.unix_path.proofs.lemmas.steps.LastPieceLemmas.{takes_last_name, IsLastStart}
 use Rattle.unix_path_c.specs.Steps.{EndsInName}
 
--- the byte at i is neither a slash nor a dot
-pub record IsPlain (s : List ℕ) (i : ℕ) : Type 0 where
+-- the byte at i is ordinary: neither a slash nor a dot
+pub record IsOrdinary (s : List ℕ) (i : ℕ) : Type 0 where
   pub no_slash : eqb (get_or s i 0) 47 ≡ false
   pub no_dot : eqb (get_or s i 0) 46 ≡ false
 
-pub is_trailing-plain : (s : List ℕ) (i : ℕ) → IsPlain s i → is_trailing s i ≡ false
-is_trailing-plain s i h = by_test (ltb 0 i)
+pub is_trailing-ordinary : (s : List ℕ) (i : ℕ) → IsOrdinary s i → is_trailing s i ≡ false
+is_trailing-ordinary s i h = by_test (ltb 0 i)
     (λ e. rw (e, h.no_slash, h.no_dot) refl)
     (λ e. rw e refl)
 
 -- what ends in a byte that is neither a slash nor a dot ends in a part
-pub ends_plain : (s : List ℕ) → IsPlain s (length s - 1) → EndsInPart s
-ends_plain s h = λ _. is_trailing-plain s (length s - 1) h
+pub ends_ordinary : (s : List ℕ) → IsOrdinary s (length s - 1) → EndsInPart s
+ends_ordinary s h = λ _. is_trailing-ordinary s (length s - 1) h
 
-module _ (s : List ℕ) (start : ℕ) (some : 0 < length s) (last : IsPlain s (length s - 1))
+module _ (s : List ℕ) (start : ℕ) (some : 0 < length s) (last : IsOrdinary s (length s - 1))
     (is : IsLastStart s start) where
   -- the last piece isn't empty
   begins_in : start < length s
@@ -51,7 +51,7 @@ module _ (s : List ℕ) (start : ℕ) (some : 0 < length s) (last : IsPlain s (l
   pub name_behind : (before : ℕ) → before ≤ start → parts (take before s) ≡ parts (take start s)
       → (0 < before → is_trailing s (before - 1) ≡ false) → EndsInName s before start
   name_behind before l same trimmed =
-      let ends = ends_plain s last in
+      let ends = ends_ordinary s last in
       let taken = takes_last_name s start before is begins_in ends no_cur_dir no_parent_dir l same
       trimmed in
       record {
@@ -68,12 +68,12 @@ module _ (s : List ℕ) (start : ℕ) (some : 0 < length s) (last : IsPlain s (l
       (λ l. ap (is_trailing s) {x = start - 1} {y = 0} (omega arith))
 
   -- a name before which a slash stands, and another name before that slash
-  pub name_after : 2 ≤ start → IsPlain s (start - 2) → EndsInName s (start - 1) start
-  name_after enough plain =
+  pub name_after : 2 ≤ start → IsOrdinary s (start - 2) → EndsInName s (start - 1) start
+  name_after enough ordinary =
       let slash : eqb (get_or s (start - 1) 0) 47 ≡ true =
       ap (λ b. eqb b 47) (is.after_slash (omega arith)) in
       let some = lt-ltb 0 (start - 1) (omega arith) in
       name_behind (start - 1) (omega arith)
       (parts_shorter s start (omega arith) is.in_range (rw (some, slash) refl))
       (λ _. ap (is_trailing s) {x = start - 1 - 1} {y = start - 2} (omega arith)
-      ∙ is_trailing-plain s (start - 2) plain)
+      ∙ is_trailing-ordinary s (start - 2) ordinary)

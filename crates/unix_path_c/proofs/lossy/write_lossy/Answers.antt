@@ -29,7 +29,7 @@ loop-chunk-preserved c =
       tt,
       tt,
       writes_next c.as_bytes.result.now c.replacement_for-shown.result.now more
-          c.loop-chunk.invariant.2 cut c.place_both-at.ensures.out c.place_both-at.ensures.end,
+          c.loop-chunk.invariant.2 cut c.write_both-at.ensures.out c.write_both-at.ensures.end,
     )
 
 pub returns : goal.returns

@@ -1,6 +1,6 @@
 use Rattle.std.proofs.Common.{◌-◌, length, refl}
 use Rattle.unix_path.proofs.lemmas.steps.LastPieceLemmas.{IsLastStart}
-use Rattle.unix_path_c.proofs.lemmas.walks.NameLemmas.{IsPlain, name_after, name_first}
+use Rattle.unix_path_c.proofs.lemmas.walks.NameLemmas.{IsOrdinary, name_after, name_first}
 use Rattle.unix_path_c.proofs.names.last_name.Goals as goal
 use Rattle.unix_path_c.proofs.names.last_name.Goals.{After-past_last-start}
 
@@ -12,23 +12,23 @@ is_last_start c = record {
   no_slash = c.past_last-start.ensures.none_behind;
 }
 
-ends_plain : (c : After-past_last-start)
-    → IsPlain c.args.bytes.now (length c.args.bytes.now - 1)
-ends_plain c = record {
-  no_slash = c.if-not-is_plain.ensures.no_slash refl;
-  no_dot = c.if-not-is_plain.ensures.no_dot refl;
+ends_ordinary : (c : After-past_last-start)
+    → IsOrdinary c.args.bytes.now (length c.args.bytes.now - 1)
+ends_ordinary c = record {
+  no_slash = c.if-not-is_ordinary.ensures.no_slash refl;
+  no_dot = c.if-not-is_ordinary.ensures.no_dot refl;
 }
 
 pub returns-then-start-lt2 : goal.returns-then-start-lt2
 returns-then-start-lt2 c =
     let d = (goal.at.returns-then-start-lt2 c).After-past_last-start in
-    name_first c.args.bytes.now c.past_last-start.result c.requires (ends_plain d)
+    name_first c.args.bytes.now c.past_last-start.result c.requires (ends_ordinary d)
     (is_last_start d) c.if-start-lt2.true
 
-pub returns-then-is_plain : goal.returns-then-is_plain
-returns-then-is_plain c =
-    let d = (goal.at.returns-then-is_plain c).After-past_last-start in
-    let before = c.if-is_plain.ensures in
-    name_after c.args.bytes.now c.past_last-start.result c.requires (ends_plain d)
+pub returns-then-is_ordinary : goal.returns-then-is_ordinary
+returns-then-is_ordinary c =
+    let d = (goal.at.returns-then-is_ordinary c).After-past_last-start in
+    let before = c.if-is_ordinary.ensures in
+    name_after c.args.bytes.now c.past_last-start.result c.requires (ends_ordinary d)
     (is_last_start d) c.if-start-lt2.false
     (record { no_slash = before.no_slash refl; no_dot = before.no_dot refl })

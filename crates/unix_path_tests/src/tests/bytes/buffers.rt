@@ -1,5 +1,5 @@
 //! Rows of bytes put into a buffer.
-use unix_bytes::buffers::place;
+use unix_bytes::buffers::write_at;
 
 // What a buffer holds, a place, the bytes that are put there, and what it holds then.
 static PLACED: [(&[u8; 4], usize, &[u8], &[u8; 4]); 5] = [
@@ -15,7 +15,7 @@ fn is_placed(old: &[u8; 4], at: usize, bytes: &[u8], new: &[u8; 4]) -> bool {
     if at > 4 || bytes.len() > 4 - at {
         return false;
     }
-    place(&mut out, at, bytes);
+    write_at(&mut out, at, bytes);
     out == *new
 }
 

@@ -6,8 +6,8 @@ use Rattle.path_runs.proofs.lemmas.lists.WritingLemmas.{writes_first, writes_str
 use Rattle.path_runs.proofs.lemmas.lists.WritingLemmas.{writes_last, writes_end}
 use Rattle.path_runs.proofs.canonical.written.write_stretches.Goals as goal
 
-pub place-requires : goal.place-requires
-place-requires c =
+pub write_at-requires : goal.write_at-requires
+write_at-requires c =
     let s = c.args.bytes.now in
     let gap = c.args.gap in
     omega (arith, c.requires.room, length-append (take gap s) (slashed_parts (drop gap s)))
@@ -22,12 +22,12 @@ loop-start-init c =
       part = left.part;
       written = writes_stretch (take gap s) (slashed_parts (drop c.past_gap-start.result s))
           (writes_first (take gap s ++ slashed_parts (drop gap s)) c.args.out.now refl)
-          (ap (λ u. take gap s ++ u) left.same) c.place.ensures
+          (ap (λ u. take gap s ++ u) left.same) c.write_at.ensures
           (omega (arith, length-take-le gap s c.requires.in_range));
     }
 
-pub place-requires-in-loop-start : goal.place-requires-in-loop-start
-place-requires-in-loop-start c =
+pub write_at-requires-in-loop-start : goal.write_at-requires-in-loop-start
+write_at-requires-in-loop-start c =
     let stretch = c.stretch_at-stretch.result.now in
     let end = c.loop-start.start - 1 + length stretch in
     omega (
@@ -47,7 +47,7 @@ loop-start-preserved c =
           (slashed_parts (drop c.past_gap-start-in-loop-start.result c.args.bytes.now))
           c.loop-start.invariant.written
           (c.stretch_at-stretch.ensures.same ∙ ap (λ u. stretch ++ u) left.same)
-          c.place-in-loop-start.ensures refl;
+          c.write_at-in-loop-start.ensures refl;
     }
 
 pub returns-clause-out : goal.returns-clause-out

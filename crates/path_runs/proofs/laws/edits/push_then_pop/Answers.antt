@@ -3,7 +3,7 @@ use Rattle.unix_path.specs.Parts.{Normal, values}
 use Rattle.std.specs.List.{last_or}
 use Rattle.unix_path.specs.Edits.{with_name_of}
 use Rattle.unix_path.specs.Rest.{rest}
-use Rattle.unix_bytes.proofs.lemmas.lists.CaseLemmas.{last_or-push}
+use Rattle.unix_bytes.proofs.lemmas.lists.ListLemmas.{last_or-push}
 use Rattle.path_runs.specs.declared.edits.Answer.TheVariants.{Plain, Flag}
 use Rattle.unix_path.proofs.lemmas.names.NameCutLemmas.{name_cut}
 use Rattle.path_runs.proofs.lemmas.joins.SiblingLemmas.{pop-answer, values-popped_of}

@@ -1,6 +1,6 @@
 use Rattle.std.proofs.Common.{[], sym, ◌∙◌, append-nil}
 use Rattle.path_runs.proofs.lemmas.order.OrderLemmas.{begins_both_ways}
-use Rattle.path_runs.proofs.lemmas.order.TellLemmas.{bytes_fed-Begins}
+use Rattle.path_runs.proofs.lemmas.order.HashInjectiveLemmas.{bytes_fed-Begins}
 use Rattle.path_runs.proofs.laws.hashes.hash_inputs_tell.Goals as goal
 
 pub returns-clause-equal : goal.returns-clause-equal

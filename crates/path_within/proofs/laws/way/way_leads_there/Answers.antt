@@ -1,5 +1,5 @@
 use Rattle.path_within.proofs.lemmas.ways.LeadsLemmas.{values-way, way_leads}
-use Rattle.path_within.proofs.lemmas.ways.FloorLemmas.{no_way}
+use Rattle.path_within.proofs.lemmas.ways.NoWayLemmas.{no_way}
 use Rattle.path_within.proofs.laws.way.way_leads_there.Goals as goal
 
 pub returns-clause-values : goal.returns-clause-values

@@ -7,5 +7,6 @@ use Rattle.path_within.proofs.runs.Runs.new.Goals as goal
 pub returns-clause-values : goal.returns-clause-values
 returns-clause-values c =
     let s = c.args.bytes.now in
-    let n = c.idle_len.result in
-    ap values (take_rest s n) ∙ values_left s n c.idle_len.ensures.busy (c.idle_len.ensures.idle 0)
+    let n = c.filler_len.result in
+    ap values (take_rest s n)
+    ∙ values_left s n c.filler_len.ensures.busy (c.filler_len.ensures.filler 0)

@@ -3,14 +3,14 @@ use Rattle.std.proofs.Common.{arith, length-drop}
 use Rattle.std.proofs.lemmas.List.{take_rest}
 use Rattle.unix_path.specs.CommonDir.{inner_values}
 use Rattle.unix_path.specs.Parts.{ParentDir, values}
-use Rattle.unix_path.specs.Scan.{is_idle}
+use Rattle.unix_path.specs.Scan.{is_filler}
 use Rattle.unix_path.proofs.lemmas.steps.LeadLemmas.{length-parent_first, values-parent_first}
 use Rattle.path_within.specs.PlainPieces.{begins_plain}
 use Rattle.path_within.proofs.lemmas.plain.PlainStretchLemmas.{names_stretch}
 use Rattle.path_within.proofs.lemmas.plain.RunLemmas.{goes_on_from, one_name, plain_behind}
 use Rattle.path_within.proofs.lemmas.plain.RunLemmas.{plain_here, some_byte, takes_names}
 use Rattle.path_within.proofs.lemmas.plain.RunLemmas.{values_left}
-use Rattle.path_within.proofs.lemmas.ways.UnsharedLemmas.{behind_place}
+use Rattle.path_within.proofs.lemmas.ways.RemainderLemmas.{behind_place}
 use Rattle.path_within.proofs.runs.Runs.next.Goals as goal
 use Rattle.path_within.proofs.runs.Runs.next.Goals.{Else-begins_with_parent}
 
@@ -46,11 +46,11 @@ returns-then-is_empty-2-clause-some c =
     let n = c.first_place-name_len in
     let rest = take (length s - c.min.result) (drop c.min.result s) in
     let rest_is = behind_place s (n.result + 1) c.min.result c.min.ensures in
-    let filler = c.idle_len-filler in
+    let filler = c.filler_len-filler in
     let left : values (take (length rest - filler.result) (drop filler.result rest))
     ≡ inner_values (drop (n.result + 1) s) =
     ap values (take_rest rest filler.result)
-    ∙ values_left rest filler.result filler.ensures.busy (filler.ensures.idle 0)
+    ∙ values_left rest filler.result filler.ensures.busy (filler.ensures.filler 0)
     ∙ ap inner_values rest_is in
     let name = one_name s _ c.from_bytes.result.bytes.now n.result c.args.self.now.busy
     (begins place.Else-begins_with_parent) n.ensures.value n.ensures.in_range
@@ -82,8 +82,8 @@ returns-clause-some c =
     omega (arith, some_left, ap length rest_is, length-drop (n.result + 1) s) in
     let next : begins_plain s (n.result + 1) ≡ true =
     plain_behind s rest (n.result + 1) rest_is behind
-    (ap (is_idle rest) {x = 0} {y = c.idle_len-filler.result} (omega arith)
-    ∙ c.idle_len-filler.ensures.busy (omega (arith, c.if-filler-gt0.false, some_left)))
+    (ap (is_filler rest) {x = 0} {y = c.filler_len-filler.result} (omega arith)
+    ∙ c.filler_len-filler.ensures.busy (omega (arith, c.if-filler-gt0.false, some_left)))
     c.if-rest-eq46.false in
     let stretch = names_stretch s end.result (begins place.Else-begins_with_parent)
     (goes_on_from s n.result end.result n.ensures.value next end.ensures.plain)

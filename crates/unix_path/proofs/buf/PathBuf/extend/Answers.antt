@@ -2,7 +2,7 @@ use Rattle.std.proofs.Common.{ap, arith, length}
 use Rattle.std.proofs.lemmas.Bool.{false≢true}
 use Rattle.unix_path.specs.Buffers.{path_bytes, room, capacity}
 use Rattle.unix_path.specs.Joins.{join_of}
-use Rattle.unix_path.proofs.lemmas.edits.GapLemmas.{JoinsFit-next, JoinsFit-room}
+use Rattle.unix_path.proofs.lemmas.edits.SeparatorLemmas.{JoinsFit-next, JoinsFit-room}
 use Rattle.unix_path.proofs.buf.PathBuf.extend.Goals as goal
 
 pub returns-in_err-push-clause-succeeds_in_room : goal.returns-in_err-push-clause-succeeds_in_room

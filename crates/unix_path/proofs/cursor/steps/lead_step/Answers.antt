@@ -6,6 +6,7 @@ use Rattle.unix_path.proofs.cursor.steps.lead_step.Goals as goal
 pub returns : goal.returns
 returns c =
     let path = c.args.path.now in
-    let idle = simp take_rest at c.idle_len.ensures in
-    steps_first path 1 (1 + c.idle_len.result) _ (is_first path 1 c.idle_len.result _ (omega arith)
-    c.lead.ensures idle.in_range (idle.idle 1) idle.busy)
+    let filler = simp take_rest at c.filler_len.ensures in
+    steps_first path 1 (1 + c.filler_len.result) _
+    (is_first path 1 c.filler_len.result _ (omega arith)
+    c.lead.ensures filler.in_range (filler.filler 1) filler.busy)

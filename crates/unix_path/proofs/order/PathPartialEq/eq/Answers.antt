@@ -1,6 +1,6 @@
 use Rattle.std.proofs.Common.{sym, ◌∙◌}
 use Rattle.unix_path.specs.OrderLaws.{is_eq-values_cmp}
-use Rattle.unix_path.proofs.lemmas.order.TieLemmas.{values_cmp-same}
+use Rattle.unix_path.proofs.lemmas.order.EqualValueLemmas.{values_cmp-same}
 use Rattle.unix_path.proofs.order.PathPartialEq.eq.Goals as goal
 
 pub returns-clause-same : goal.returns-clause-same

@@ -1,7 +1,7 @@
 use Rattle.std.proofs.Common.{◌≡◌, List, ℕ, [], sym, subst, ◌∙◌, arith, eqb-true}
 use Rattle.std.proofs.lemmas.Bool.{eqb-false}
 use Rattle.std.proofs.lemmas.List.{nil_from_length}
-use Rattle.unix_path.specs.Steps.{SharesFront}
+use Rattle.unix_path.specs.Steps.{SharesFirst}
 use Rattle.unix_path.proofs.lemmas.order.KindLemmas.{first_parts-apart}
 use Rattle.unix_path.proofs.lemmas.order.BehindLemmas.{apart-shared, more-left, shares-onward}
 use Rattle.unix_path.proofs.lemmas.order.BehindLemmas.{shares-past}
@@ -13,15 +13,15 @@ pub loop-second-init : goal.loop-second-init
 loop-second-init c = record { shares = λ s t h. h; tail = IsTail-itself c.args.a }
 
 -- what follows the filler is left of the paths
-shares : (c : After-past_filler-second) (s t : List ℕ) → SharesFront s t c.args.a.now c.args.b.now
-    → SharesFront s t c.past_filler-first.result.now c.past_filler-second.result.now
+shares : (c : After-past_filler-second) (s t : List ℕ) → SharesFirst s t c.args.a.now c.args.b.now
+    → SharesFirst s t c.past_filler-first.result.now c.past_filler-second.result.now
 shares c s t h = shares-past (c.loop-second.invariant.shares s t h)
     c.past_filler-first.ensures.behind c.past_filler-second.ensures.behind
 
 pub returns-then-is_empty : goal.returns-then-is_empty
 returns-then-is_empty c = (
   record {
-    shares = λ s t h. subst (SharesFront s t c.past_filler-first.result.now)
+    shares = λ s t h. subst (SharesFirst s t c.past_filler-first.result.now)
         (nil_from_length _ (eqb-true _ 0 (sym c.is_empty.ensures ∙ c.if-is_empty.true)))
         (shares (goal.at.returns-then-is_empty c).After-past_filler-second s t h);
     tail = IsTail-trans _ _ _ c.past_filler-first.ensures.tail c.loop-second.invariant.tail;
@@ -39,7 +39,7 @@ returns-in-InFirstParts c = λ s t h.
     let second = c.past_filler-second.result.now in
     let none : c.past_filler-first.result.now ≡ [] =
     nil_from_length _ (eqb-true _ 0 (sym c.if-is_empty-2.ensures)) in
-    more-left (subst (λ x. SharesFront s t x second) none
+    more-left (subst (λ x. SharesFirst s t x second) none
     (shares (goal.at.returns-in-InFirstParts c).After-past_filler-second s t h))
     c.past_filler-second.ensures.lead
     (omega (arith, eqb-false _ 0 (sym c.is_empty.ensures ∙ c.if-is_empty.false)))

@@ -1,11 +1,11 @@
 use Rattle.std.proofs.Common.{List, ℕ, length}
 use Rattle.unix_path.specs.Places.{IsTail}
-use Rattle.unix_path.specs.Steps.{SharesFront}
+use Rattle.unix_path.specs.Steps.{SharesFirst}
 use Rattle.unix_path.proofs.pair.Comparison.behind_cut.Given as goal
 
 abbrev pub invariant-loop-second : goal.invariant-loop-second
 invariant-loop-second l = record {
-  shares : (s t : List ℕ) → SharesFront s t l.a l.b → SharesFront s t l.rests.0.now l.rests.1.now;
+  shares : (s t : List ℕ) → SharesFirst s t l.a l.b → SharesFirst s t l.rests.0.now l.rests.1.now;
   tail : IsTail l.rests.0 l.initial.rests.0;
 }
 

@@ -5,7 +5,7 @@ use Rattle.unix_path.proofs.lemmas.order.ComparisonLemmas.{values_cmp-end}
 use Rattle.unix_path.proofs.lemmas.order.CommonPrefixLemmas.{inner_values-nil}
 use Rattle.unix_path.proofs.lemmas.parts.PartLemmas.{values-nil}
 use Rattle.unix_path.proofs.pair.Comparison.order_behind_cut.Goals as goal
-use Rattle.unix_path.proofs.lemmas.filler.IdleLemmas.{values-busy}
+use Rattle.unix_path.proofs.lemmas.filler.FillerLemmas.{values-busy}
 
 pub returns-in-StartsWith : goal.returns-in-StartsWith
 returns-in-StartsWith c = λ s t h.

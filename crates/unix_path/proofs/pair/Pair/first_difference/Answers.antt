@@ -4,7 +4,7 @@ use Rattle.std.specs.Ordering.{nat_cmp}
 use Rattle.std.proofs.lemmas.Bool.{false≢true}
 use Rattle.std.proofs.lemmas.List.{take_rest}
 use Rattle.std.proofs.lemmas.List.Sums.{common_prefix_len-le}
-use Rattle.unix_path.specs.Steps.{begins_piece, piece_rank, AreApart, SharesFront}
+use Rattle.unix_path.specs.Steps.{begins_piece, piece_rank, AreApart, SharesFirst}
 use Rattle.unix_path.proofs.lemmas.order.ApartLemmas.{apart-here, apart-inside}
 use Rattle.unix_path.proofs.lemmas.order.PairLemmas.{CutsAt, cuts-begins, cuts-ends, inside_piece}
 use Rattle.unix_path.proofs.lemmas.rests.SourceLemmas.{IsTail-from}
@@ -117,8 +117,8 @@ returns c =
     let here = cut (goal.at.returns c).Joined-begins_piece in
     let some : 0 < k = omega (arith, c.if-place-eq0.false) in
     record {
-      shares = subst (λ x. SharesFront a b x (take (length b - k) (drop k b))) (sym (take_rest a k))
-          (subst (SharesFront a b (drop k a)) (sym (take_rest b k)) (here.shares some));
+      shares = subst (λ x. SharesFirst a b x (take (length b - k) (drop k b))) (sym (take_rest a k))
+          (subst (SharesFirst a b (drop k a)) (sym (take_rest b k)) (here.shares some));
       shorter = omega (arith, some, here.in_first, ap length (take_rest a k), length-drop k a);
       tail = IsTail-from _ c.args.self.first k here.in_first refl refl (search rules);
     }

@@ -1,7 +1,7 @@
 use Rattle.std.proofs.Common.{[], length, refl, sym, subst, ◌∙◌, inl, inr}
 use Rattle.std.proofs.lemmas.Bool.{false≢true}
 use Rattle.std.proofs.lemmas.List.{take_rest}
-use Rattle.unix_path.specs.Steps.{SharesFront}
+use Rattle.unix_path.specs.Steps.{SharesFirst}
 use Rattle.unix_path.proofs.lemmas.order.BehindLemmas.{begins-left}
 use Rattle.unix_path.proofs.lemmas.order.PairLemmas.{CanCut, apart-unless, shares-written}
 use Rattle.unix_path.proofs.pair.Pair.left.Goals.{then-piece_rank-eq0, else-piece_rank-eq0}
@@ -16,7 +16,7 @@ returns-then-begins_piece-clause-left c =
       | else-piece_rank-eq0 w ↦
           inl (sym w.begins_piece.ensures ∙ sym w.value-is ∙ c.if-begins_piece.true)
     ] in
-    subst (λ x. SharesFront a b x []) (sym (take_rest a (length b)))
+    subst (λ x. SharesFirst a b x []) (sym (take_rest a (length b)))
     (shares-written a b c.common_len-common.result c.common_len-common.ensures.value c.requires
     c.if-len-common.true cut)
 

@@ -3,7 +3,7 @@ use Rattle.std.specs.Ordering.{is_eq}
 use Rattle.unix_path.specs.Order.{values_cmp}
 use Rattle.unix_path.specs.Parts.{values}
 use Rattle.unix_path.specs.OrderLaws.{is_eq-values_cmp}
-use Rattle.unix_path.proofs.lemmas.order.TieLemmas.{values_cmp-same}
+use Rattle.unix_path.proofs.lemmas.order.EqualValueLemmas.{values_cmp-same}
 use Rattle.unix_path.proofs.cursor.order.ComponentsPartialEq.eq.Goals as goal
 
 pub returns-clause-same : goal.returns-clause-same

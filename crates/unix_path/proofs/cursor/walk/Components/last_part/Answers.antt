@@ -6,7 +6,7 @@ use Rattle.unix_path.specs.Views.{value_of}
 use Rattle.unix_path.proofs.lemmas.walks.OffsetLemmas.{has_last, range-zero}
 use Rattle.unix_path.proofs.lemmas.names.ParentLemmas.{values-whole}
 use Rattle.unix_path.proofs.cursor.walk.Components.last_part.Goals as goal
-use Rattle.unix_bytes.proofs.lemmas.lists.CaseLemmas.{length-range}
+use Rattle.unix_bytes.proofs.lemmas.lists.ListLemmas.{length-range}
 
 pub returns-in_default-clause-none : goal.returns-in_default-clause-none
 returns-in_default-clause-none c none =

@@ -3,7 +3,7 @@ use Rattle.std.proofs.Common.{◌≡◌, ◌+◌, ◌&&◌, ltb, refl, ap, ◌�
 use Rattle.std.proofs.lemmas.List.{nil_from_length}
 use Rattle.unix_path.specs.Steps.{IsWalk}
 use Rattle.unix_path.specs.Cursor.{cursor_rest, cursor_source}
-use Rattle.unix_path.specs.Scan.{is_idle}
+use Rattle.unix_path.specs.Scan.{is_filler}
 use Rattle.unix_path.proofs.lemmas.walks.CursorLemmas.{GivesLast-none}
 use Rattle.unix_path.proofs.lemmas.walks.OffsetLemmas.{walks_back}
 use Rattle.unix_path.proofs.lemmas.rests.SourceLemmas.{LiesIn-itself}
@@ -23,7 +23,7 @@ invariant_of-self c =
     let step = c.last_step-len.ensures in
     let back = walks_back s len _ c.as_path.ensures.bytes step.in_range step.takes in
     let was = sym s.fields.lead_left_is in
-    let left : c.if-self.self ≡ is_idle (slice_range s.source.now s.start (s.start + len)) 0 =
+    let left : c.if-self.self ≡ is_filler (slice_range s.source.now s.start (s.start + len)) 0 =
     elim c.if-self.branch [
       | then-self w ↦ w.self-is ∙ sym (ap (λ t. t && ltb 0 len) (was ∙ w.if-self.true)) ∙ back.lead
       | else-self w ↦ w.self-is ∙ w.if-self.false

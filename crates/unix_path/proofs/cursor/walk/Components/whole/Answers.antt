@@ -3,7 +3,7 @@ use Rattle.unix_path.specs.Steps.{IsWalk}
 use Rattle.unix_path.specs.Cursor.{cursor_rest}
 use Rattle.unix_path.specs.Parts.{parts}
 use Rattle.unix_path.specs.Scan.{EndsInPart}
-use Rattle.unix_path.proofs.lemmas.walks.OffsetLemmas.{is_idle-same, range-zero}
+use Rattle.unix_path.proofs.lemmas.walks.OffsetLemmas.{is_filler-same, range-zero}
 use Rattle.unix_path.proofs.lemmas.steps.SpanLemmas.{rest-trimmed}
 use Rattle.unix_path.proofs.lemmas.filler.TrimLemmas.{EndsInPart-take}
 use Rattle.unix_path.proofs.cursor.walk.Components.whole.Goals as goal
@@ -23,7 +23,7 @@ invariant_of-result c =
         ends = subst EndsInPart (sym same_bytes)
             (EndsInPart-take path end.result end.ensures.in_range end.ensures.ends);
         has_lead_is = c.has_lead-lead.ensures;
-        lead_left_is = c.has_lead-lead.ensures ∙ sym (is_idle-same _ path same);
+        lead_left_is = c.has_lead-lead.ensures ∙ sym (is_filler-same _ path same);
       };
     }
 

@@ -6,7 +6,7 @@ use Rattle.unix_path.proofs.lemmas.walks.CursorLemmas.{GivesFirst-none}
 use Rattle.unix_path.proofs.lemmas.walks.OffsetLemmas.{walks_forward}
 use Rattle.unix_path.proofs.lemmas.rests.SourceLemmas.{LiesIn-itself}
 use Rattle.unix_path.proofs.cursor.walk.ComponentsIterator.next.Goals as goal
-use Rattle.unix_bytes.proofs.lemmas.lists.CaseLemmas.{length-range}
+use Rattle.unix_bytes.proofs.lemmas.lists.ListLemmas.{length-range}
 
 pub returns-then-is_empty-clause-steps : goal.returns-then-is_empty-clause-steps
 returns-then-is_empty-clause-steps c =

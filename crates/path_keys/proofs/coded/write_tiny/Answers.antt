@@ -1,0 +1,22 @@
+use Rattle.std.proofs.Common.{◌≡◌, map, take, ◌+◌, ◌-◌, length, arith, ap, ◌∙◌}
+use Rattle.std.specs.Simd.Lanes.{put_chunk}
+use Rattle.path_keys.specs.Stretches.{coded}
+use Rattle.path_keys.proofs.lemmas.lanes.PutLemmas.{put_none, put_fewer, put_many, put_all}
+use Rattle.path_keys.proofs.coded.write_tiny.Goals as goal
+
+pub returns : goal.returns
+returns c =
+    let bytes = c.args.bytes.now in
+    let out = c.args.out.now in
+    let at = c.args.at in
+    let last = length bytes - 4 in
+    let here : at ≡ at + 0 = omega arith in
+    let none = put_none coded bytes out at in
+    let front = put_many 4 coded bytes out at 0 out c.write_quarter.new.out none (omega arith)
+    c.requires.room
+    (c.write_quarter.ensures ∙ ap (λ n. put_chunk n out (map coded (take 4 bytes))) here) in
+    let fewer = put_fewer coded bytes out at 4 last c.write_quarter.new.out front (omega arith)
+    (omega arith) c.requires.room in
+    put_all coded bytes out at (last + 4) _
+    (put_many 4 coded bytes out at last c.write_quarter.new.out _ fewer (omega arith)
+    c.requires.room c.write_quarter-2.ensures) (omega arith)

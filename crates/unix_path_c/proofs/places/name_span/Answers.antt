@@ -1,0 +1,47 @@
+use Rattle.std.proofs.Common.{Some, ap, ◌∙◌}
+use Rattle.unix_path.proofs.lemmas.names.NameEndLemmas.{name_end_of-none, name_end_of-some}
+use Rattle.unix_path_c.proofs.lemmas.places.PlaceLemmas.{name_ends, name_start_of-none}
+use Rattle.unix_path_c.proofs.lemmas.places.PlaceLemmas.{name_start_of-some}
+use Rattle.unix_path_c.proofs.lemmas.places.StretchLemmas.{IsSpanOf, is_span_of}
+use Rattle.unix_path_c.specs.declared.places.Span.{Span}
+use Rattle.unix_path_c.proofs.places.name_span.Goals as goal
+use Rattle.unix_path_c.proofs.places.name_span.Goals.{After-span_at_end}
+
+is_span : (c : After-span_at_end) → IsSpanOf c.args.path.bytes.now c.last_end.result
+    c.in-Some.name.bytes.now c.span_at_end.result
+is_span c =
+    let s = c.args.path.bytes.now in
+    let name = c.in-Some.name.bytes.now in
+    let end = c.last_end.result in
+    is_span_of s name end c.span_at_end.result
+    (name_ends s name end c.in-Some.ensures c.last_end.ensures) c.span_at_end.ensures
+
+pub returns-in_default-clause-start : goal.returns-in_default-clause-start
+returns-in_default-clause-start c =
+    name_start_of-none c.args.path.bytes.now c.in_default.ensures
+
+pub returns-in_default-clause-end : goal.returns-in_default-clause-end
+returns-in_default-clause-end c = name_end_of-none c.args.path.bytes.now c.in_default.ensures
+
+pub span_at_end-requires : goal.span_at_end-requires
+span_at_end-requires c =
+    (name_ends c.args.path.bytes.now c.in-Some.name.bytes.now c.last_end.result c.in-Some.ensures
+    c.last_end.ensures).fits
+
+pub returns-clause-bytes : goal.returns-clause-bytes
+returns-clause-bytes c = ap Some (is_span c).bytes ∙ c.in-Some.ensures
+
+pub returns-clause-start : goal.returns-clause-start
+returns-clause-start c =
+    ap (λ (span : Span). Some span.start) c.span_at_end.ensures
+    ∙ name_start_of-some c.args.path.bytes.now c.in-Some.name.bytes.now c.last_end.result
+    c.in-Some.ensures c.last_end.ensures
+
+pub returns-clause-end : goal.returns-clause-end
+returns-clause-end c =
+    ap Some (is_span c).end_is
+    ∙ name_end_of-some c.args.path.bytes.now c.in-Some.name.bytes.now c.last_end.result
+    c.in-Some.ensures c.last_end.ensures
+
+pub returns-clause-inside : goal.returns-clause-inside
+returns-clause-inside c = (is_span c).inside
