@@ -17,7 +17,7 @@ help:
 	@echo 'make test          the gate: every proof, test, wrong body and vector, from nothing;'
 	@echo '                   some forty minutes; tools/gate_times.txt has its parts'
 	@echo 'make bench         times the calls and pathtool beside Rust, some three minutes.'
-	@echo '                   Proves and builds first; needs rustc. tools/bench/run lists its'
+	@echo '                   Proves and builds first; needs rustc. bench/calls/run lists its'
 	@echo '                   options, as in  make bench only=parts,eq corpus=deep reps=15'
 	@echo 'make count         counts the instructions of the jobs, of pathtool and of the calls from'
 	@echo '                   C, a quarter of a minute, and compares them with bench/counts.txt.'
@@ -58,14 +58,14 @@ check:
 test:
 	@tools/test
 
-# The options of tools/bench/run that were given.
+# The options of bench/calls/run that were given.
 BENCH = $(foreach name,part only corpus reps folder,$(if $($(name)),'$(name)=$($(name))'))
 
 bench_tools:
-	@tools/bench/run --tools
+	@bench/calls/run --tools
 
 bench: bench_tools $(if $(filter face,$(part)),$(if $(UNIX_PATH_LIB),,lib),$(PROGRAM))
-	@tools/bench/run $(BENCH)
+	@bench/calls/run $(BENCH)
 
 $(JOBS): $(SOURCES)
 	@tools/build path_jobs >&2
