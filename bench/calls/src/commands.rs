@@ -1,6 +1,6 @@
 //! The commands of `pathtool`, by the table that the other tools read too.
 
-const TABLE: &str = include_str!("../../commands.txt");
+const TABLE: &str = include_str!("../../../tools/commands.txt");
 
 /// A command of the program.
 pub struct Command {

@@ -9,7 +9,7 @@ use std::cell::RefCell;
 use std::ffi::OsStr;
 use std::os::unix::ffi::OsStrExt;
 use std::path::{Path, PathBuf};
-use unix_path_rattle::{self as paths, owned, Component};
+use unix_path_rattle::{self as paths, edits, owned, Component};
 use unix_path_typed::{self as typed, UnixStr};
 
 /// What a side does; the number stands for its answer.
@@ -71,6 +71,15 @@ fn some(found: Option<&[u8]>) -> u64 {
 /// The number of a new path, or that there is none.
 fn digest_of_path(path: Result<impl AsRef<[u8]>, paths::Error>) -> u64 {
     path.map_or(u64::MAX, |path| digest(path.as_ref()))
+}
+
+/// The parts of a path, pushed one after the other.
+fn pushed(path: &[u8]) -> Result<Vec<u8>, paths::Error> {
+    let mut joined = vec![];
+    for part in paths::components(path) {
+        edits::push(&mut joined, part.as_bytes())?;
+    }
+    Ok(joined)
 }
 
 /// What a C function answers to a path.
@@ -204,12 +213,27 @@ pub const ROWS: &[Row] = &[
         other: Other::Nothing,
         ours: |path, _| digest_of_path(owned::canonical(path)),
         std: |path, _| digest(bytes(&std_path(path).components().collect::<PathBuf>())),
+        typed: Some(|path, _| digest(typed_bytes(&typed_path(path).canonical()))),
+        own: Some(|path, _| one(ours_canonical, path)),
+        called: None,
+        alone: |path, _| {
+            digest(static_calls::canonical(
+                path,
+                &mut Vec::with_capacity(path.len()),
+            ))
+        },
+    },
+    Row {
+        name: "parts, pushed",
+        other: Other::Nothing,
+        ours: |path, _| digest_of_path(pushed(path)),
+        std: |path, _| digest(bytes(&std_path(path).components().collect::<PathBuf>())),
         typed: Some(|path, _| {
             digest(typed_bytes(
                 &typed_path(path).components().collect::<typed::PathBuf>(),
             ))
         }),
-        own: Some(|path, _| one(ours_canonical, path)),
+        own: None,
         called: None,
         alone: |path, _| {
             digest(static_calls::canonical(

@@ -119,14 +119,14 @@ impl AsRef<UnixStr> for Components<'_> {
 /// ```
 #[derive(Clone)]
 pub struct Iter<'a> {
-    parts: Components<'a>,
+    parts: calls::Components<'a>,
 }
 
 impl<'a> Iter<'a> {
     #[inline]
     pub(crate) fn new(path: &'a Path) -> Iter<'a> {
         Iter {
-            parts: Components::new(path),
+            parts: calls::components(path.bytes()),
         }
     }
 
@@ -143,8 +143,14 @@ impl<'a> Iter<'a> {
     #[must_use]
     #[inline]
     pub fn as_path(&self) -> &'a Path {
-        self.parts.as_path()
+        Path::of(self.parts.as_path())
     }
+}
+
+/// The part as text.
+#[inline]
+fn text_of(part: calls::Component<'_>) -> &UnixStr {
+    UnixStr::of(part.as_bytes())
 }
 
 impl<'a> Iterator for Iter<'a> {
@@ -152,14 +158,14 @@ impl<'a> Iterator for Iter<'a> {
 
     #[inline]
     fn next(&mut self) -> Option<&'a UnixStr> {
-        self.parts.next().map(Component::as_unix_str)
+        self.parts.next().map(text_of)
     }
 }
 
 impl DoubleEndedIterator for Iter<'_> {
     #[inline]
     fn next_back(&mut self) -> Option<Self::Item> {
-        self.parts.next_back().map(Component::as_unix_str)
+        self.parts.next_back().map(text_of)
     }
 }
 

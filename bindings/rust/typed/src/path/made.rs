@@ -19,6 +19,25 @@ impl Path {
         PathBuf::of(self.bytes().to_vec())
     }
 
+    /// The shortest path with the parts of this one: its canonical form, which all equal paths
+    /// share.
+    ///
+    /// As collecting [`components`](Path::components), but in one call, and allocated once. Not in
+    /// Rust's std.
+    ///
+    /// ```
+    /// use unix_path_typed::{Path, PathBuf};
+    /// let path = Path::new(".//a/./b/");
+    /// assert_eq!(path.canonical().as_unix_str(), "./a/b");
+    /// assert_eq!(path.canonical(), path.components().collect::<PathBuf>());
+    /// ```
+    #[must_use]
+    #[inline]
+    pub fn canonical(&self) -> PathBuf {
+        let path = self.bytes();
+        PathBuf::of(made(owned::canonical(path), path.len()))
+    }
+
     /// `path` joined to this path: `path` alone if it has a root; else both, with a slash between
     /// them if one is missing.
     ///
