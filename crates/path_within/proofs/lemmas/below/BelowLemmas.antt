@@ -6,14 +6,13 @@ use Rattle.std.specs.List.{AllByRecursion, list_any}
 use Rattle.unix_path.specs.Joins.{join_of, join_all_of}
 use Rattle.unix_path.specs.Parts.{Value, RootDir, Normal, is_rooted, slash, value_bytes, values}
 use Rattle.unix_path.specs.Prefixes.{Begins, stripped_of}
-use Rattle.path_runs.specs.Spelling.{slashed_bytes, spelling_of}
+use Rattle.path_runs.specs.Spelling.{slashed_bytes}
 use Rattle.path_runs.proofs.lemmas.joins.AssociativeLemmas.{separator}
 use Rattle.path_runs.proofs.lemmas.spelling.JoinAllLemmas.{join_all_of-some, unslashed_bytes}
 use Rattle.path_runs.proofs.lemmas.spelling.UnslashedLemmas.{IsUnslashedValue, Shape, Rooted}
 use Rattle.path_runs.proofs.lemmas.spelling.UnslashedLemmas.{Rootless}
 use Rattle.path_runs.proofs.lemmas.spelling.UnslashedLemmas.{values-shape}
 use Rattle.path_runs.proofs.lemmas.joins.SiblingLemmas.{values-join_of_one}
-use Rattle.path_runs.proofs.lemmas.spelling.SpellLemmas.{spelling_of-cons, spelling_of-nil}
 use Rattle.path_runs.proofs.lemmas.joins.StripLemmas.{values-stripped_of}
 use Rattle.path_within.specs.Below.{below_of, has_nul, names_below, IsBelow}
 use Rattle.path_within.specs.Climbs.{has_root_or_up}
@@ -26,7 +25,9 @@ use Rattle.path_within.proofs.lemmas.below.NamesBelowLemmas.{AreNames-names_belo
 use Rattle.path_within.proofs.lemmas.below.NamesBelowLemmas.{names_below-names}
 use Rattle.path_within.proofs.lemmas.below.NamesBelowLemmas.{resolved_of-slash}
 use Rattle.path_within.proofs.lemmas.below.NulLemmas.{has_nul-values, no_nul-below, nul_in}
+use Rattle.path_within.proofs.lemmas.kept.KeepLemmas.{names_straight}
 use Rattle.path_within.proofs.lemmas.kept.PathOfLemmas.{ReadsAsItself-values}
+use Rattle.path_within.proofs.lemmas.kept.WayLemmas.{spelling_of-straight}
 use Rattle.path_within.proofs.lemmas.plain.PlainLemmas.{plain_has_names}
 use Rattle.path_within.proofs.lemmas.kept.ResolveLemmas.{values-resolved}
 use Rattle.path_within.proofs.lemmas.plain.WholeLemmas.{names_down}
@@ -163,12 +164,6 @@ length-below root b e = let h = behind root b in omega (
 
 -- ---- a path that is its names as it is spelled
 
--- names are spelled with slashes between them
-spelling_of-names : (vs : List Value) → AreNames vs → spelling_of vs ≡ slashed_bytes vs
-spelling_of-names [] h = spelling_of-nil
-spelling_of-names (v ∷ vs) h =
-    spelling_of-cons v vs (λ e. subst AreNames (ap (λ v. v ∷ vs) e) h)
-
 -- a plain path without a root is its names as they are spelled, and has some
 pub plain_spelled : (b : List ℕ) → is_plain b ≡ true → is_rooted b ≡ false
     → AreSpelled b (names_below (values b))
@@ -176,7 +171,7 @@ plain_spelled b plain r = record { some = by (names_below (values b)) same; is =
   where
     same : b ≡ slashed_bytes (names_below (values b))
     same = let h = plain_has_names b plain r in
-        sym h.own ∙ spelling_of-names (values b) h.names
+        sym h.own ∙ spelling_of-straight (values b) (names_straight (values b) h.names)
         ∙ ap slashed_bytes (sym (names_below-names (values b) h.names))
 
     by : (vs : List Value) → b ≡ slashed_bytes vs → 0 < length vs

@@ -5,13 +5,11 @@ use Rattle.std.specs.List.{sum_by}
 use Rattle.std.proofs.lemmas.List.Sorted.{IsPermutation-reverse, sum_by-IsPermutation}
 use Rattle.std.proofs.lemmas.List.Sums.{sum_by-append, sum_by-cons}
 use Rattle.unix_path.specs.CommonDir.{inner_values}
-use Rattle.unix_path.specs.Joins.{is_open, join_of}
+use Rattle.unix_path.specs.Joins.{join_of}
 use Rattle.unix_path.specs.Parts.{Value, RootDir, CurDir, ParentDir, Normal, slash}
 use Rattle.unix_path.specs.Parts.{is_rooted, value_bytes, values}
 use Rattle.unix_bytes.proofs.lemmas.lists.ListLemmas.{by_test}
-use Rattle.unix_path.proofs.lemmas.edits.JoinLemmas.{join_of_rooted, length-join_of_open}
-use Rattle.unix_path.proofs.lemmas.edits.JoinLemmas.{length-join_of_closed}
-use Rattle.path_runs.specs.JoinLaws.{drop_dot}
+use Rattle.unix_path.proofs.lemmas.edits.JoinLemmas.{push_cases}
 use Rattle.path_runs.specs.Spelling.{slashed_bytes, spelling_of}
 use Rattle.path_runs.proofs.lemmas.joins.LeadLemmas.{drop_dot-values}
 use Rattle.path_runs.proofs.lemmas.spelling.LeanLemmas.{slashed_bytes-lean}
@@ -20,6 +18,7 @@ use Rattle.path_runs.proofs.lemmas.spelling.SpellLemmas.{spelling_of-root}
 use Rattle.path_within.specs.Below.{names_below}
 use Rattle.path_within.specs.Resolved.{keep, kept_of, resolved_of, resolved_bytes_of}
 use Rattle.path_within.specs.Written.{slashed_len}
+use Rattle.path_within.proofs.lemmas.kept.ResolveLemmas.{kept_of-drop_dot}
 use Rattle.path_within.proofs.lemmas.below.NamesBelowLemmas.{names_kept, names_below-inner}
 use Rattle.path_within.proofs.lemmas.below.NamesBelowLemmas.{names_below-kept, resolved_of-slash}
 
@@ -111,11 +110,6 @@ spelling_of-fit (v ∷ vs) n l = omega (arith, length-slashed_bytes (v ∷ vs))
 pub length-spelling : (vs : List Value) → length (spelling_of vs) ≤ slashed_len vs - 1
 length-spelling vs = spelling_of-fit vs (slashed_len vs - 1) (omega arith)
 
--- a leading dot is dropped
-kept_of-drop_dot : (vs : List Value) → kept_of [] (drop_dot vs) ≡ kept_of [] vs
-kept_of-drop_dot (CurDir ∷ vs) = refl
-kept_of-drop_dot vs = refl
-
 -- a path without a root and a slash have room for its resolved values and a slash for each
 pub slashed_len-rootless : (s : List ℕ) → is_rooted s ≡ false
     → slashed_len (resolved_of (values s)) ≤ 1 + length s
@@ -123,7 +117,7 @@ unfolding resolved_of
 slashed_len-rootless s r = omega (
   arith,
   sum_by-reverse (λ v. 1 + length (value_bytes v)) (kept_of [] (values s)),
-  ap slashed_len (ap (kept_of []) (sym (drop_dot-values s r)) ∙ kept_of-drop_dot (values s)),
+  ap slashed_len (ap (kept_of []) (sym (drop_dot-values s r)) ∙ kept_of-drop_dot [] (values s)),
   sum_by-kept_of (λ v. 1 + length (value_bytes v)) [] (inner_values s),
   slashed_len-inner s,
 )
@@ -149,10 +143,7 @@ length-resolved s = by_test (is_rooted s)
 
 -- a join has one byte more than both at most
 pub length-join_of : (a b : List ℕ) → length (join_of a b) ≤ length a + 1 + length b
-length-join_of a b = by_test (is_rooted b)
-    (λ r. omega (arith, ap length (join_of_rooted a b r)))
-    (λ r. by_test (is_open a) (λ o. omega (arith, length-join_of_open a b r o))
-    (λ o. omega (arith, length-join_of_closed a b r o)))
+length-join_of a b = grind (arith, push_cases)
 
 -- a join, resolved, has one byte more than both at most
 pub length-resolved_join : (a b : List ℕ)

@@ -1,9 +1,10 @@
 -- The names that are left of values that are resolved behind a root.
-use Rattle.std.proofs.Common.{◌≡◌, ℕ, suc, ◌+◌, Bool, false, not, ltb, List, [], ◌∷◌}
+use Rattle.std.proofs.Common.{◌≡◌, ℕ, suc, Bool, false, not, ltb, List, [], ◌∷◌}
 use Rattle.std.proofs.Common.{◌++◌, length, drop, reverse}
-use Rattle.std.proofs.Common.{refl, sym, ap, subst, ◌∙◌, arith, rules, tests, eqb-true}
+use Rattle.std.proofs.Common.{refl, sym, ap, subst, ◌∙◌, arith, eqb-true}
 use Rattle.std.specs.List.{list_any, position_or_len}
 use Rattle.std.proofs.lemmas.Bool.Decides.{nat_tests}
+use Rattle.std.proofs.lemmas.Grind.{reverse_onto}
 use Rattle.std.proofs.lemmas.List.{reverse-append, reverse-reverse}
 use Rattle.unix_path.specs.CommonDir.{inner_values}
 use Rattle.unix_path.specs.Parts.{Value, RootDir, CurDir, ParentDir, Normal, is_slash, slash}
@@ -63,8 +64,8 @@ AreNames-names_below vs =
 
 -- names are what is left of them
 pub names_below-names : (vs : List Value) → AreNames vs → names_below vs ≡ vs
-names_below-names vs h = names_below-kept vs (reverse vs) (kept_of-names (RootDir ∷ []) vs h)
-    ∙ reverse-reverse vs
+names_below-names vs h = names_below-kept vs (reverse vs)
+    (kept_of-names (RootDir ∷ []) vs h ∙ reverse_onto vs RootDir []) ∙ reverse-reverse vs
 
 -- of a path that doesn't climb they are what it resolves to
 pub names_below-resolved : (b : List ℕ) → (Climbs (values b) → ⊥)
@@ -143,9 +144,4 @@ dotted-stands {t} {s} e = record {
 pub list_any-place : (p : ℕ → Bool) (s : List ℕ)
     → ltb (position_or_len p s) (length s) ≡ list_any p s
 list_any-place p [] = refl
-list_any-place p (x ∷ s) = by_test (p x)
-    (λ e. rw e (search (rules, tests)))
-    (λ e. rw e (ltb-suc (position_or_len p s) (length s) ∙ list_any-place p s))
-  where
-    ltb-suc : (m n : ℕ) → ltb (1 + m) (suc n) ≡ ltb m n
-    ltb-suc m n = grind (arith, nat_tests)
+list_any-place p (x ∷ s) = grind (arith, nat_tests, list_any-place p s)

@@ -1,9 +1,8 @@
 -- A NUL stands in a path exactly if one stands in a name of the path.
-use Rattle.std.proofs.Common.{◌≡◌, ℕ, ◌<◌, ◌≤◌, Bool, true, false, cond, eqb, ltb, ◌||◌, List, []}
+use Rattle.std.proofs.Common.{◌≡◌, ℕ, Bool, true, false, cond, eqb, ltb, ◌||◌, List, []}
 use Rattle.std.proofs.Common.{◌∷◌, refl, sym, ap, ap₂, ◌∙◌, arith}
 use Rattle.std.specs.List.{count_by, join_with_byte, list_any, slice_split}
 use Rattle.std.specs.Str.{bytes_eq}
-use Rattle.std.proofs.lemmas.Bool.{lt-ltb}
 use Rattle.std.proofs.lemmas.Bool.Decides.{nat_tests}
 use Rattle.std.proofs.lemmas.List.Folds.{list_any-append}
 use Rattle.std.proofs.lemmas.List.Sums.{sum_by-cons}
@@ -62,13 +61,12 @@ has_nul-values s =
 -- some value passes exactly if more than none do
 list_any-count : (p : Value → Bool) (vs : List Value) → list_any p vs ≡ ltb 0 (count_by p vs)
 list_any-count p [] = refl
-list_any-count p (v ∷ vs) =
-    let more = sum_by-cons (λ v. cond (p v) 1 0) v vs in
-    by_test (p v)
-    (λ e. ap (λ b. b || list_any p vs) e ∙ sym (lt-ltb 0 (count_by p (v ∷ vs))
-    (let one : 0 < cond (p v) 1 0 = rw e (omega arith) in omega (arith, more, one))))
-    (λ e. ap (λ b. b || list_any p vs) e ∙ list_any-count p vs ∙ ap (ltb 0)
-    (let none : cond (p v) 1 0 ≤ 0 = rw e (omega arith) in omega (arith, more, none)))
+list_any-count p (v ∷ vs) = grind (
+  arith,
+  nat_tests,
+  sum_by-cons (λ v. cond (p v) 1 0) v vs,
+  list_any-count p vs,
+)
 
 -- without a NUL in values there is none in the names that are left of them
 pub no_nul-below : (vs : List Value) → list_any nul_in vs ≡ false

@@ -22,7 +22,7 @@ resolved_of-within a b h =
 -- a request that doesn't climb resolves to names
 pub names-within : (b : List ℕ) → (Climbs (values b) → ⊥) → AreNames (resolved_of (values b))
 unfolding resolved_of
-names-within b h = names_reverse (kept_of [] (values b)) (stays_within [] b h).names
+names-within b h = names_reverse (kept_of [] (values b)) (stays_within [] b h).are_names
 
 -- the resolved join with a request that doesn't climb has the values of both, resolved
 pub values-within : (a b : List ℕ) → (Climbs (values b) → ⊥)

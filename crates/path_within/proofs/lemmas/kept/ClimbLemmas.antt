@@ -29,22 +29,18 @@ abbrev pub GoesAboveFrom : ℕ → List Value → Type 0
 GoesAboveFrom n vs =
     (k : ℕ) × (n + count_by is_name (take k vs) < count_by is_parent (take k vs))
 
--- a first value adds one name if it is one
-name_count : (v : Value) (vs : List Value)
-    → count_by is_name (v ∷ vs) ≡ cond (is_name v) 1 0 + count_by is_name vs
-name_count v vs = sum_by-cons (λ v. cond (is_name v) 1 0) v vs
-
--- a first value adds one `..` if it is one
-parent_count : (v : Value) (vs : List Value)
-    → count_by is_parent (v ∷ vs) ≡ cond (is_parent v) 1 0 + count_by is_parent vs
-parent_count v vs = sum_by-cons (λ v. cond (is_parent v) 1 0) v vs
+-- a first value adds one if it passes
+count_by-cons : (p : Value → Bool) (v : Value) (vs : List Value)
+    → count_by p (v ∷ vs) ≡ cond (p v) 1 0 + count_by p vs
+count_by-cons p v vs = sum_by-cons (λ v. cond (p v) 1 0) v vs
 
 -- if v moves the depth from n to m, values that go above from m go above from n with v in front
 one_more : (n m : ℕ) (v : Value) (vs : List Value)
     → n + cond (is_name v) 1 0 ≡ m + cond (is_parent v) 1 0
     → GoesAboveFrom m vs → GoesAboveFrom n (v ∷ vs)
 one_more n m v vs e (k, h) =
-    (suc k, omega (arith, name_count v (take k vs), parent_count v (take k vs)))
+    let names = count_by-cons is_name v (take k vs) in
+    let ups = count_by-cons is_parent v (take k vs) in (suc k, omega arith)
 
 -- values without a root that climb by the depth have some first values with more `..`
 climbs_from-goes : (n : ℕ) (vs : List Value) → NoRoot vs → climbs_from n vs ≡ true
@@ -56,7 +52,7 @@ climbs_from-goes n (CurDir ∷ vs) r e =
 climbs_from-goes n (Normal name ∷ vs) r e =
     one_more n (suc n) (Normal name) vs (omega arith) (climbs_from-goes (suc n) vs r e)
 climbs_from-goes zero (ParentDir ∷ vs) r e =
-    (1, omega (arith, name_count ParentDir [], parent_count ParentDir []))
+    (1, omega (arith, count_by-cons is_name ParentDir [], count_by-cons is_parent ParentDir []))
 climbs_from-goes (suc n) (ParentDir ∷ vs) r e =
     one_more (suc n) n ParentDir vs (omega arith) (climbs_from-goes n vs r e)
 
@@ -66,7 +62,7 @@ one_less : (n m k : ℕ) (v : Value) (vs : List Value)
     → n + count_by is_name (v ∷ take k vs) < count_by is_parent (v ∷ take k vs)
     → m + count_by is_name (take k vs) < count_by is_parent (take k vs)
 one_less n m k v vs e h =
-    omega (arith, name_count v (take k vs), parent_count v (take k vs))
+    omega (arith, count_by-cons is_name v (take k vs), count_by-cons is_parent v (take k vs))
 
 -- values of which some first ones have more `..` climb by the depth
 goes-climbs_from : (n k : ℕ) (vs : List Value)
@@ -86,9 +82,7 @@ goes-climbs_from (suc n) (suc k) (ParentDir ∷ vs) h =
 pub inner-no_roots : (vs : List Value) → AllByRecursion IsInner vs → NoRoot vs
 inner-no_roots [] h = tt
 inner-no_roots (RootDir ∷ vs) h = absurd h.0
-inner-no_roots (CurDir ∷ vs) h = absurd h.0
-inner-no_roots (ParentDir ∷ vs) h = inner-no_roots vs h.1
-inner-no_roots (Normal name ∷ vs) h = inner-no_roots vs h.1
+inner-no_roots (v ∷ vs) h = inner-no_roots vs h.1
 
 -- no value of a rootless path is the root
 pub rootless-no_roots : (s : List ℕ) → is_rooted s ≡ false → NoRoot (values s)
@@ -98,9 +92,7 @@ rootless-no_roots s r = by (values s) refl
     by [] e = tt
     by (RootDir ∷ vs) e =
         absurd (let no : true ≡ false = sym (ap root_first e) ∙ root_first-values s ∙ r in cc)
-    by (CurDir ∷ vs) e = inner-no_roots vs (inner-behind s CurDir vs e)
-    by (ParentDir ∷ vs) e = inner-no_roots vs (inner-behind s ParentDir vs e)
-    by (Normal name ∷ vs) e = inner-no_roots vs (inner-behind s (Normal name) vs e)
+    by (v ∷ vs) e = inner-no_roots vs (inner-behind s v vs e)
 
 -- a path climbs exactly if it does by the depth, counted from 0
 pub climbs_by_depth : (s : List ℕ) → Climbs (values s) ↔ (climbs_from 0 (values s) ≡ true)
@@ -116,31 +108,23 @@ climbs_by_depth s =
     begins : (vs : List Value) → Begins (RootDir ∷ []) vs → climbs_from 0 vs ≡ true
     begins vs (ws, e) = ap (climbs_from 0) (sym e)
 
--- read behind ks and then the names ns, the values vs leave ks as it is, and only names behind it
-pub record Stays (ks ns vs : List Value) : Type 0 where
-  pub kept : kept_of (ns ++ ks) vs ≡ kept_of ns vs ++ ks
-  pub names : AreNames (kept_of ns vs)
+-- all that is kept are names, and ks before them
+pub record Stays (ks all names : List Value) : Type 0 where
+  pub kept : all ≡ names ++ ks
+  pub are_names : AreNames names
 
 -- values that don't climb from the names ns leave what is kept before ns as it is
 stays : (ks ns vs : List Value) → AreNames ns → climbs_from (length ns) vs ≡ false
-    → Stays ks ns vs
-stays ks ns [] h e = record { kept = refl; names = h }
-stays ks ns (RootDir ∷ vs) h e = absurd (let no : true ≡ false = e in cc)
-stays ks ns (CurDir ∷ vs) h e =
-    let more = stays ks ns vs h e in record { kept = more.kept; names = more.names }
-stays ks ns (Normal name ∷ vs) h e =
-    let more = stays ks (Normal name ∷ ns) vs h e in
-    record { kept = more.kept; names = more.names }
-stays ks [] (ParentDir ∷ vs) h e = absurd (let no : true ≡ false = e in cc)
-stays ks (Normal name ∷ ns) (ParentDir ∷ vs) h e =
-    let more = stays ks ns vs h e in
-    record { kept = more.kept; names = more.names }
-stays ks (RootDir ∷ ns) (ParentDir ∷ vs) h e = absurd h
-stays ks (CurDir ∷ ns) (ParentDir ∷ vs) h e = absurd h
-stays ks (ParentDir ∷ ns) (ParentDir ∷ vs) h e = absurd h
+    → Stays ks (kept_of (ns ++ ks) vs) (kept_of ns vs)
+stays ks ns [] h e = record { kept = refl; are_names = h }
+stays ks ns (CurDir ∷ vs) h e = stays ks ns vs h e
+stays ks ns (Normal name ∷ vs) h e = stays ks (Normal name ∷ ns) vs h e
+stays ks (Normal name ∷ ns) (ParentDir ∷ vs) h e = stays ks ns vs h e
+stays ks (n ∷ ns) (ParentDir ∷ vs) h e = absurd h
+stays ks ns (v ∷ vs) h e = absurd (let no : true ≡ false = e in cc)
 
 -- a path that doesn't climb leaves what was kept as it is, and adds names
 pub stays_within : (ks : List Value) (b : List ℕ) → (Climbs (values b) → ⊥)
-    → Stays ks [] (values b)
+    → Stays ks (kept_of ks (values b)) (kept_of [] (values b))
 stays_within ks b h = stays ks [] (values b) tt
     (false_from_ne_true (climbs_from 0 (values b)) (λ e. h ((climbs_by_depth b).1 e)))

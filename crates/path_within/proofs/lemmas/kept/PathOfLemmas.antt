@@ -1,9 +1,9 @@
 -- The values that are kept, spelled: each joined to those before it.
 use Rattle.std.proofs.Common.{◌≡◌, ℕ, false, cond, List, [], ◌∷◌, ◌++◌, map}
 use Rattle.std.proofs.Common.{reverse, refl, sym, ap, ◌∙◌}
+use mathlib.Core.List.{reverse_aux}
 use Rattle.std.specs.List.{slice_split}
 use Rattle.std.proofs.lemmas.Grind.{reverse_onto}
-use Rattle.std.proofs.lemmas.List.{map-append}
 use Rattle.std.proofs.lemmas.List.Elements.{All-from_recursion}
 use Rattle.std.proofs.lemmas.List.Splits.{slice_split_none}
 use Rattle.unix_path.specs.CommonDir.{inner_values}
@@ -15,21 +15,20 @@ use Rattle.unix_path.proofs.lemmas.parts.PartLemmas.{root_first, root_first-valu
 use Rattle.unix_path.proofs.lemmas.parts.ValueLemmas.{value_bytes-piece}
 use Rattle.path_runs.specs.JoinLaws.{drop_lead}
 use Rattle.path_runs.specs.Spelling.{spelling_of}
-use Rattle.path_runs.proofs.lemmas.joins.ExtendLemmas.{join_all_of-append}
 use Rattle.path_runs.proofs.lemmas.spelling.JoinAllLemmas.{join_all_of-values}
 use Rattle.path_runs.proofs.lemmas.joins.LeadLemmas.{IsInner, inner-no_lead, drop_lead-values}
 use Rattle.path_runs.proofs.lemmas.spelling.PieceValueLemmas.{HoldsOfPieces, names_of, NoSlash}
 use Rattle.path_runs.proofs.lemmas.spelling.PieceValueLemmas.{values-hold, values-rooted}
 use Rattle.path_runs.proofs.lemmas.spelling.PieceValueLemmas.{values-rootless}
 use Rattle.path_runs.proofs.lemmas.joins.ValueLemmas.{append_values, values-join_of_rootless}
-use Rattle.path_within.specs.Resolved.{up_from, keep, kept_of}
+use Rattle.path_within.specs.Resolved.{keep, kept_of}
 use Rattle.path_within.specs.Steps.{ReadsAsItself, IsKept, ValueReadsAsItself, path_of}
 use Rattle.path_within.proofs.lemmas.kept.KeepLemmas.{IsKept-ups}
 
 pub ValueReadsAsItself-root : ValueReadsAsItself RootDir
 ValueReadsAsItself-root = values-rooted []
 
-ValueReadsAsItself-dot : ValueReadsAsItself CurDir
+pub ValueReadsAsItself-dot : ValueReadsAsItself CurDir
 ValueReadsAsItself-dot = values-rootless (dot ∷ []) ((dot ∷ []) ∷ []) refl refl
 
 pub ValueReadsAsItself-up : ValueReadsAsItself ParentDir
@@ -40,7 +39,7 @@ piece_rootless [] h = refl
 piece_rootless (x ∷ p) h = h.0
 
 -- a piece that counts is spelled as a path of that piece alone
-ValueReadsAsItself-piece : HoldsOfPieces ValueReadsAsItself
+pub ValueReadsAsItself-piece : HoldsOfPieces ValueReadsAsItself
 ValueReadsAsItself-piece p h e f =
     let alone : slice_split is_slash p ≡ p ∷ [] =
     slice_split_none is_slash p (All-from_recursion (λ b. is_slash b ≡ false) p h) in
@@ -53,21 +52,14 @@ pub ReadsAsItself-values : (s : List ℕ) → ReadsAsItself (values s)
 ReadsAsItself-values s = values-hold ValueReadsAsItself ValueReadsAsItself-root
     ValueReadsAsItself-dot ValueReadsAsItself-piece s
 
--- after one more `..`, each kept value is still spelled as a path of that value alone
-ReadsAsItself-up_from : (ks : List Value) → ReadsAsItself ks → ReadsAsItself (up_from ks)
-ReadsAsItself-up_from [] h = (ValueReadsAsItself-up, tt)
-ReadsAsItself-up_from (RootDir ∷ ks) h = h
-ReadsAsItself-up_from (CurDir ∷ ks) h = (ValueReadsAsItself-up, h)
-ReadsAsItself-up_from (ParentDir ∷ ks) h = (ValueReadsAsItself-up, h)
-ReadsAsItself-up_from (Normal name ∷ ks) h = h.1
-
 -- after one more value, each kept value is still spelled as a path of that value alone
 pub ReadsAsItself-keep : (ks : List Value) (v : Value) → ReadsAsItself ks → ValueReadsAsItself v
     → ReadsAsItself (keep ks v)
 ReadsAsItself-keep ks RootDir h k = (ValueReadsAsItself-root, tt)
 ReadsAsItself-keep ks CurDir h k = h
-ReadsAsItself-keep ks ParentDir h k = ReadsAsItself-up_from ks h
-ReadsAsItself-keep ks (Normal name) h k = (k, h)
+ReadsAsItself-keep (RootDir ∷ ks) ParentDir h k = h
+ReadsAsItself-keep (Normal name ∷ ks) ParentDir h k = h.1
+ReadsAsItself-keep ks v h k = (k, h)
 
 -- after more values, each kept value is still spelled as a path of that value alone
 pub ReadsAsItself-kept_of : (ks vs : List Value) → ReadsAsItself ks → ReadsAsItself vs
@@ -111,20 +103,17 @@ values-path_of (ParentDir ∷ ks) h k =
 values-path_of (Normal name ∷ ks) h k =
     push_value ks (Normal name) tt k.0 (values-path_of ks h k.1)
 
--- `path_of` joins the bytes of the kept values in the order of the path
-join_all_of-reverse : (ks : List Value)
-    → join_all_of [] (map value_bytes (reverse ks)) ≡ path_of ks
-join_all_of-reverse [] = refl
-join_all_of-reverse (v ∷ ks) =
-    ap (λ vs. join_all_of [] (map value_bytes vs)) (reverse_onto ks v [])
-    ∙ ap (join_all_of []) (map-append value_bytes (reverse ks) (v ∷ []))
-    ∙ join_all_of-append [] (map value_bytes (reverse ks)) (value_bytes v ∷ [])
-    ∙ ap (λ a. join_of a (value_bytes v)) (join_all_of-reverse ks)
+-- `path_of` joins the bytes of the kept values in the order of the path, and before what follows
+join_all_of-reverse : (ks vs : List Value)
+    → join_all_of [] (map value_bytes (reverse_aux ks vs))
+    ≡ join_all_of (path_of ks) (map value_bytes vs)
+join_all_of-reverse [] vs = refl
+join_all_of-reverse (k ∷ ks) vs = join_all_of-reverse ks (k ∷ vs)
 
 -- kept values, joined one by one, are their canonical spelling
 pub path_of-spelled : (ks : List Value) → IsKept ks → ReadsAsItself ks
     → path_of ks ≡ spelling_of (reverse ks)
 path_of-spelled ks h k =
     let all = values-path_of ks h k in
-    sym (join_all_of-reverse ks) ∙ ap (λ vs. join_all_of [] (map value_bytes vs)) (sym all)
+    sym (join_all_of-reverse ks []) ∙ ap (λ vs. join_all_of [] (map value_bytes vs)) (sym all)
     ∙ join_all_of-values (path_of ks) ∙ ap spelling_of all

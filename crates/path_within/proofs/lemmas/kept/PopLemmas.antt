@@ -2,11 +2,12 @@
 use Rattle.std.proofs.Common.{◌≡◌, ℕ, ◌<◌, ◌≤◌, Bool, true, false, ltb, List, [], ◌∷◌, ◌++◌}
 use Rattle.std.proofs.Common.{length, reverse, refl, sym, ap, ap₂, ◌∙◌, ⊎_elim, arith}
 use Rattle.std.proofs.Common.{is_some, length-append, lt-ltb, unwrap_or}
+use mathlib.Core.List.{reverse_aux}
 use Rattle.std.proofs.lemmas.Bool.{both_ways, le-ltb}
 use Rattle.unix_path.specs.Edits.{popped_of}
 use Rattle.unix_path.specs.Joins.{join_of}
 use Rattle.unix_path.specs.Names.{name_of}
-use Rattle.unix_path.specs.Parts.{Value, RootDir, CurDir, ParentDir, Normal, is_rooted}
+use Rattle.unix_path.specs.Parts.{Value, RootDir, ParentDir, Normal, is_rooted}
 use Rattle.unix_path.specs.Parts.{parent_dir, values}
 use Rattle.unix_path.specs.Rest.{rest}
 use Rattle.unix_path.proofs.lemmas.names.ParentLemmas.{values-whole}
@@ -21,7 +22,6 @@ use Rattle.path_within.specs.Resolved.{AreNames, kept_of, up_from}
 use Rattle.path_within.specs.Steps.{below_names, ReadsAsItself, AreUps, IsKept, ValueReadsAsItself}
 use Rattle.path_within.specs.Steps.{path_of}
 use Rattle.path_within.specs.Steps.{Keeps, Spells}
-use Rattle.path_within.proofs.lemmas.kept.KeepLemmas.{ups_reverse}
 use Rattle.path_within.proofs.lemmas.kept.PathOfLemmas.{path_of-spelled, values-path_of}
 use Rattle.path_within.proofs.lemmas.kept.PathOfLemmas.{ValueReadsAsItself-up}
 
@@ -69,12 +69,9 @@ join_longer x name one = omega (
 -- what stands below the names is no longer than all, and shorter if a name is last
 below_shorter : (ks : List Value) → ReadsAsItself ks
     → length (path_of (below_names ks)) ≤ length (path_of ks)
-below_shorter [] one = omega arith
-below_shorter (RootDir ∷ ks) one = omega arith
-below_shorter (CurDir ∷ ks) one = omega arith
-below_shorter (ParentDir ∷ ks) one = omega arith
 below_shorter (Normal name ∷ ks) one =
     omega (arith, below_shorter ks one.1, join_longer (path_of ks) name one.0)
+below_shorter ks one = omega arith
 
 -- kept bytes end in a name exactly if they are longer than the floor
 pub over_floor : {s : List ℕ} {floor : ℕ} {ks : List Value} → Keeps s floor ks
@@ -84,20 +81,15 @@ over_floor {s} {floor} {ks} h =
   where
     by : (ks : List Value) → ReadsAsItself ks
         → ltb (length (path_of (below_names ks))) (length (path_of ks)) ≡ ends_in_name ks
-    by [] one = refl
-    by (RootDir ∷ ks) one = le-ltb _ _ (omega arith)
-    by (CurDir ∷ ks) one = le-ltb _ _ (omega arith)
-    by (ParentDir ∷ ks) one = le-ltb _ _ (omega arith)
     by (Normal name ∷ ks) one = lt-ltb _ _
         (omega (arith, below_shorter ks one.1, join_longer (path_of ks) name one.0))
+    by ks one = le-ltb (length (path_of (below_names ks))) (length (path_of ks)) (omega arith)
 
 -- what is kept below the names stays with more names
 pub below_more : (ks vs : List Value) → AreNames vs → below_names (kept_of ks vs) ≡ below_names ks
 below_more ks [] h = refl
 below_more ks (Normal name ∷ vs) h = below_more (Normal name ∷ ks) vs h
-below_more ks (RootDir ∷ vs) h = absurd h
-below_more ks (CurDir ∷ vs) h = absurd h
-below_more ks (ParentDir ∷ vs) h = absurd h
+below_more ks (v ∷ vs) h = absurd h
 
 -- kept bytes that end in a name keep, after a pop, what `..` leaves
 pub keeps_pop : {s t : List ℕ} {floor : ℕ} {ks : List Value} → Keeps s floor ks
@@ -106,10 +98,6 @@ keeps_pop {s} {t} {floor} {ks} h last e = by ks h.spells h.floor_is last
   where
     by : (ks : List Value) → Spells s ks → floor ≡ length (path_of (below_names ks))
         → ends_in_name ks ≡ true → Keeps t floor (up_from ks)
-    by [] h f last = absurd (let no : false ≡ true = last in cc)
-    by (RootDir ∷ ks) h f last = absurd (let no : false ≡ true = last in cc)
-    by (CurDir ∷ ks) h f last = absurd (let no : false ≡ true = last in cc)
-    by (ParentDir ∷ ks) h f last = absurd (let no : false ≡ true = last in cc)
     by (Normal name ∷ ks) h f last = record {
       spells = record {
         kept = h.kept;
@@ -118,14 +106,7 @@ keeps_pop {s} {t} {floor} {ks} h last e = by ks h.spells h.floor_is last
       };
       floor_is = f;
     }
-
--- values that are all `..` have no root in front
-ups-root_first : (vs : List Value) → AreUps vs → root_first vs ≡ false
-ups-root_first [] h = refl
-ups-root_first (ParentDir ∷ vs) h = refl
-ups-root_first (RootDir ∷ vs) h = absurd h
-ups-root_first (CurDir ∷ vs) h = absurd h
-ups-root_first (Normal name ∷ vs) h = absurd h
+    by ks h f last = absurd (let no : false ≡ true = last in cc)
 
 -- the bytes of kept values are rooted exactly if the first of these is the root
 is_rooted-path_of : (ks : List Value) → IsKept ks → ReadsAsItself ks
@@ -133,9 +114,12 @@ is_rooted-path_of : (ks : List Value) → IsKept ks → ReadsAsItself ks
 is_rooted-path_of ks h k =
     sym (root_first-values (path_of ks)) ∙ ap root_first (values-path_of ks h k)
 
--- kept values that are all `..` have no root in front
-root_first-ups : (ks : List Value) → AreUps ks → root_first (reverse ks) ≡ false
-root_first-ups ks h = ups-root_first (reverse ks) (ups_reverse ks h)
+-- values that are all `..` put no root in front
+root_first-ups : (us vs : List Value) → AreUps us → root_first vs ≡ false
+    → root_first (reverse_aux us vs) ≡ false
+root_first-ups [] vs h k = k
+root_first-ups (ParentDir ∷ us) vs h k = root_first-ups us (ParentDir ∷ vs) h refl
+root_first-ups (u ∷ us) vs h k = absurd h
 
 -- rooted bytes without a name at the end keep the same after `..`
 pub keeps_root : {s : List ℕ} {floor : ℕ} {ks : List Value} → Keeps s floor ks
@@ -144,32 +128,25 @@ keeps_root {s} {floor} {ks} h nameless rooted = by ks h nameless
   where
     by : (ks : List Value) → Keeps s floor ks → ends_in_name ks ≡ false
         → Keeps s floor (up_from ks)
-    by [] h last = absurd (both_ways (is_rooted s) (ap is_rooted h.spells.is) rooted)
     by (RootDir ∷ ks) h last = h
-    by (CurDir ∷ ks) h last = absurd h.spells.kept
-    by (ParentDir ∷ ks) h last = absurd (both_ways (is_rooted s) (ap is_rooted h.spells.is
-        ∙ is_rooted-path_of (ParentDir ∷ ks) h.spells.kept h.spells.one
-        ∙ root_first-ups (ParentDir ∷ ks) h.spells.kept) rooted)
     by (Normal name ∷ ks) h last = absurd (let no : true ≡ false = last in cc)
+    by ks h last = absurd (both_ways (is_rooted s) (ap is_rooted h.spells.is
+        ∙ is_rooted-path_of ks h.spells.kept h.spells.one
+        ∙ root_first-ups ks [] h.spells.kept refl) rooted)
 
 -- rootless bytes without a name at the end, joined with `..`, keep that `..`, all of it below names
 pub keeps_up : {s t : List ℕ} {ks : List Value} → Spells s ks → ends_in_name ks ≡ false
     → is_rooted s ≡ false → t ≡ join_of s parent_dir → Keeps t (length t) (up_from ks)
 keeps_up {s} {t} {ks} h nameless rootless e = by ks h nameless
   where
-    with_up : (ks : List Value) → Spells s ks → AreUps ks → Keeps t (length t) (ParentDir ∷ ks)
-    with_up ks h ups =
-        let is : t ≡ path_of (ParentDir ∷ ks) = e ∙ ap (λ s. join_of s parent_dir) h.is in
-        record {
-          spells = record { kept = ups; one = (ValueReadsAsItself-up, h.one); is = is };
-          floor_is = ap length is;
-        }
-
     by : (ks : List Value) → Spells s ks → ends_in_name ks ≡ false → Keeps t (length t) (up_from ks)
-    by [] h last = with_up [] h tt
     by (RootDir ∷ ks) h last = absurd (both_ways (is_rooted s) rootless (ap is_rooted h.is
         ∙ is_rooted-path_of (RootDir ∷ ks) h.kept h.one
         ∙ ap (λ ks. root_first (reverse (RootDir ∷ ks))) h.kept))
-    by (CurDir ∷ ks) h last = absurd h.kept
-    by (ParentDir ∷ ks) h last = with_up (ParentDir ∷ ks) h h.kept
     by (Normal name ∷ ks) h last = absurd (let no : true ≡ false = last in cc)
+    by ks h last =
+        let is : t ≡ path_of (ParentDir ∷ ks) = e ∙ ap (λ s. join_of s parent_dir) h.is in
+        record {
+          spells = record { kept = h.kept; one = (ValueReadsAsItself-up, h.one); is = is };
+          floor_is = ap length is;
+        }

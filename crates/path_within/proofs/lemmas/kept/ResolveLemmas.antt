@@ -1,35 +1,56 @@
 -- A resolved path read back, and a join resolved.
 use Rattle.std.proofs.Common.{◌≡◌, ℕ, List, [], ◌∷◌, ◌++◌, true, reverse, refl, sym, ap, ◌∙◌}
+use Rattle.std.proofs.Common.{drop, subst, take, take-append-drop}
 use Rattle.unix_path.specs.Joins.{join_of}
-use Rattle.unix_path.specs.Parts.{Value, RootDir, CurDir, ParentDir, Normal, is_rooted, values}
+use Rattle.unix_path.specs.Parts.{Value, CurDir, is_rooted, values}
 use Rattle.unix_bytes.proofs.lemmas.lists.ListLemmas.{by_test}
 use Rattle.unix_path.proofs.lemmas.edits.JoinLemmas.{join_of_rooted}
 use Rattle.path_runs.specs.JoinLaws.{drop_dot, values_added}
 use Rattle.path_runs.specs.Spelling.{spelling_of}
 use Rattle.path_runs.proofs.lemmas.joins.LeadLemmas.{values-join_of_values_added}
 use Rattle.path_runs.proofs.lemmas.spelling.PieceValueLemmas.{is_rooted-slash, values-rooted}
+use Rattle.path_runs.proofs.lemmas.lists.AllLemmas.{AllByRecursion-end}
 use Rattle.path_within.specs.Resolved.{kept_of, resolved_of, resolved_bytes_of}
+use Rattle.path_within.specs.Steps.{ReadsAsItself, ValueReadsAsItself}
 use Rattle.path_within.proofs.lemmas.kept.KeepLemmas.{IsKept-kept_of, kept_of-append}
-use Rattle.path_within.proofs.lemmas.kept.KeepLemmas.{resolved_of-append}
+use Rattle.path_within.proofs.lemmas.kept.KeepLemmas.{resolved_of-append, resolved_of-resolved_of}
 use Rattle.path_within.proofs.lemmas.kept.PathOfLemmas.{ReadsAsItself-kept_of, ReadsAsItself-values}
 use Rattle.path_within.proofs.lemmas.kept.PathOfLemmas.{path_of-spelled, values-path_of}
 
+-- resolved values are read back from their spelling
+pub values-spelling_of_resolved : (vs : List Value) → ReadsAsItself vs
+    → values (spelling_of (resolved_of vs)) ≡ resolved_of vs
+unfolding resolved_of
+values-spelling_of_resolved vs h =
+    let ks = kept_of [] vs in
+    let kept = IsKept-kept_of [] vs tt in
+    let one = ReadsAsItself-kept_of [] vs tt h in
+    ap values (sym (path_of-spelled ks kept one)) ∙ values-path_of ks kept one
+
 -- a resolved path has the resolved values
 pub values-resolved : (s : List ℕ) → values (resolved_bytes_of s) ≡ resolved_of (values s)
-unfolding resolved_of
-values-resolved s =
-    let ks = kept_of [] (values s) in
-    let kept = IsKept-kept_of [] (values s) tt in
-    let one = ReadsAsItself-kept_of [] (values s) tt (ReadsAsItself-values s) in
-    ap values (sym (path_of-spelled ks kept one)) ∙ values-path_of ks kept one
+values-resolved s = values-spelling_of_resolved (values s) (ReadsAsItself-values s)
+
+-- resolving again changes nothing
+pub resolved_bytes_of-again : (s : List ℕ)
+    → resolved_bytes_of (resolved_bytes_of s) ≡ resolved_bytes_of s
+resolved_bytes_of-again s =
+    ap spelling_of (ap resolved_of (values-resolved s) ∙ resolved_of-resolved_of (values s))
+
+-- each value of a path's rest is spelled as a path of that value alone
+pub ReadsAsItself-drop : (n : ℕ) (s : List ℕ) → ReadsAsItself (drop n (values s))
+ReadsAsItself-drop n s = AllByRecursion-end ValueReadsAsItself (take n (values s)) _
+    (subst ReadsAsItself (sym (take-append-drop n (values s))) (ReadsAsItself-values s))
+
+-- and so is each of the rest of what it resolves to
+pub ReadsAsItself-resolved : (n : ℕ) (s : List ℕ) → ReadsAsItself (drop n (resolved_of (values s)))
+ReadsAsItself-resolved n s = subst (λ vs. ReadsAsItself (drop n vs)) (values-resolved s)
+    (ReadsAsItself-drop n (resolved_bytes_of s))
 
 -- a leading dot changes nothing of what is kept
 pub kept_of-drop_dot : (ks vs : List Value) → kept_of ks (drop_dot vs) ≡ kept_of ks vs
-kept_of-drop_dot ks [] = refl
-kept_of-drop_dot ks (RootDir ∷ vs) = refl
 kept_of-drop_dot ks (CurDir ∷ vs) = refl
-kept_of-drop_dot ks (ParentDir ∷ vs) = refl
-kept_of-drop_dot ks (Normal name ∷ vs) = refl
+kept_of-drop_dot ks vs = refl
 
 -- the values that b adds to a join change what is kept as those of b do
 kept_of-added : (ks : List Value) (a b : List ℕ)

@@ -1,15 +1,17 @@
 -- Names, and values that are `..` and then names: what is kept of them, and what they end with.
-use Rattle.std.proofs.Common.{◌≡◌, ℕ, true, false, List, [], ◌∷◌, ◌++◌, reverse, length, take, drop}
-use Rattle.std.proofs.Common.{arith, refl, sym, subst, take-append-drop}
+use Rattle.std.proofs.Common.{◌≡◌, ℕ, zero, suc, true, false, List, [], ◌∷◌, ◌++◌, reverse, drop}
+use Rattle.std.proofs.Common.{arith, refl, ap, ◌∙◌}
+use mathlib.Core.List.{reverse_aux}
 use Rattle.std.specs.List.{list_all, list_any}
-use Rattle.std.proofs.lemmas.Grind.{common_steps, reverse_onto}
-use Rattle.unix_path.specs.Parts.{Value, ParentDir}
+use Rattle.std.proofs.lemmas.List.{reverse-reverse}
+use Rattle.unix_path.specs.Parts.{Value, RootDir, ParentDir, Normal}
 use Rattle.path_runs.specs.Spelling.{slashed_bytes, spelling_of}
 use Rattle.path_within.specs.Climbs.{is_name}
-use Rattle.path_within.specs.Resolved.{AreNames, AreUpsThenNames, IsNormal, kept_of}
+use Rattle.path_within.specs.Resolved.{AreNames, AreUpsThenNames, IsNormal, kept_of, resolved_of}
+use Rattle.path_within.specs.Resolved.{up_from}
 use Rattle.path_within.specs.Steps.{AreUps}
 use Rattle.path_within.specs.Way.{is_root}
-use Rattle.path_within.proofs.lemmas.kept.KeepLemmas.{up_behind}
+use Rattle.path_within.proofs.lemmas.kept.KeepLemmas.{kept_of-append, names_straight, up_behind}
 use Rattle.path_within.proofs.lemmas.kept.BetweenLemmas.{ups_of}
 
 -- the test for names answers true on names
@@ -23,54 +25,54 @@ names_all [] e = tt
 names_all (v ∷ vs) e = grind (arith, names_all vs)
 
 -- behind what is kept, names are kept as they stand
-pub kept_of-names : (ks vs : List Value) → AreNames vs → kept_of ks vs ≡ reverse vs ++ ks
+pub kept_of-names : (ks vs : List Value) → AreNames vs → kept_of ks vs ≡ reverse_aux vs ks
 kept_of-names ks [] h = refl
-kept_of-names ks (v ∷ vs) h =
-    grind (arith, common_steps, kept_of-names (v ∷ ks) vs, reverse_onto vs v [])
+kept_of-names ks (Normal name ∷ vs) h = kept_of-names (Normal name ∷ ks) vs h
+kept_of-names ks (v ∷ vs) h = absurd h
 
 -- behind `..`, more of them and then names are kept as they stand
-pub kept_of-straight : (us vs : List Value) → AreUps us → AreUpsThenNames vs
-    → kept_of us vs ≡ reverse vs ++ us
+kept_of-straight : (us vs : List Value) → AreUps us → AreUpsThenNames vs
+    → kept_of us vs ≡ reverse_aux vs us
 kept_of-straight us [] h k = refl
-kept_of-straight us (v ∷ vs) h k = grind (
-  arith,
-  common_steps,
-  kept_of-straight (ParentDir ∷ us) vs,
-  kept_of-names us (v ∷ vs),
-  up_behind us h,
-  reverse_onto vs v [],
-)
+kept_of-straight us (ParentDir ∷ vs) h k =
+    ap (λ ks. kept_of ks vs) (up_behind us h) ∙ kept_of-straight (ParentDir ∷ us) vs h k
+kept_of-straight us (Normal name ∷ vs) h k = kept_of-names (Normal name ∷ us) vs k
+kept_of-straight us (v ∷ vs) h k = absurd k
+
+-- normal values resolve to themselves
+pub resolved_of-normal : (vs : List Value) → IsNormal vs → resolved_of vs ≡ vs
+unfolding resolved_of
+resolved_of-normal (RootDir ∷ vs) h =
+    ap reverse (kept_of-names (RootDir ∷ []) vs h) ∙ reverse-reverse (RootDir ∷ vs)
+resolved_of-normal vs h = ap reverse (kept_of-straight [] vs tt h) ∙ reverse-reverse vs
+
+-- one more `..` makes no difference whether it stands first or last
+ups_turn : (vs : List Value) → ParentDir ∷ ups_of vs ≡ ups_of vs ++ ParentDir ∷ []
+ups_turn [] = refl
+ups_turn (v ∷ vs) = ap (λ us. ParentDir ∷ us) (ups_turn vs)
 
 -- as many `..` as there are names take these away
-pub kept_of-ups : (ns ks vs : List Value) → list_all is_name ns ≡ true → length ns ≡ length vs
-    → kept_of (ns ++ ks) (ups_of vs) ≡ ks
-kept_of-ups [] ks [] h e = refl
-kept_of-ups [] ks (v ∷ vs) h e = grind arith
-kept_of-ups (n ∷ ns) ks [] h e = grind arith
-kept_of-ups (n ∷ ns) ks (v ∷ vs) h e = grind (arith, kept_of-ups ns ks vs)
-
--- names are `..` no times, and then names
-pub names_straight : (vs : List Value) → AreNames vs → AreUpsThenNames vs
-names_straight [] h = tt
-names_straight (v ∷ vs) h = grind arith
+pub kept_of-ups : (ks vs : List Value) → AreNames vs → kept_of (kept_of ks vs) (ups_of vs) ≡ ks
+kept_of-ups ks [] h = refl
+kept_of-ups ks (Normal name ∷ vs) h =
+    let all = kept_of (Normal name ∷ ks) vs in
+    ap (kept_of all) (ups_turn vs) ∙ kept_of-append all (ups_of vs) (ParentDir ∷ [])
+    ∙ ap up_from (kept_of-ups (Normal name ∷ ks) vs h)
+kept_of-ups ks (v ∷ vs) h = absurd h
 
 -- the rest of `..` and then names is `..` and then names
-straight_end : (start rest : List Value) → AreUpsThenNames (start ++ rest) → AreUpsThenNames rest
-straight_end [] rest h = h
-straight_end (v ∷ start) rest h =
-    grind (arith, straight_end start rest, names_straight (start ++ rest))
-
 pub straight_drop : (n : ℕ) (vs : List Value) → AreUpsThenNames vs → AreUpsThenNames (drop n vs)
-straight_drop n vs h =
-    straight_end (take n vs) (drop n vs) (subst AreUpsThenNames (sym (take-append-drop n vs)) h)
+straight_drop zero vs h = h
+straight_drop (suc n) [] h = h
+straight_drop (suc n) (v ∷ vs) h = straight_drop n vs (grind (arith, names_straight vs))
 
--- the rest of normal values without a root is `..` and then names
-pub normal_end : (start rest : List Value) → IsNormal (start ++ rest)
-    → list_any is_root rest ≡ false → AreUpsThenNames rest
-normal_end [] [] h k = tt
-normal_end [] (v ∷ rest) h k = grind arith
-normal_end (v ∷ start) rest h k =
-    grind (arith, straight_end start rest, names_straight (start ++ rest))
+-- and so is the rest of normal values if no root is left
+pub normal_drop : (n : ℕ) (vs : List Value) → IsNormal vs → list_any is_root (drop n vs) ≡ false
+    → AreUpsThenNames (drop n vs)
+normal_drop zero [] h k = h
+normal_drop zero (v ∷ vs) h k = grind arith
+normal_drop (suc n) [] h k = h
+normal_drop (suc n) (v ∷ vs) h k = straight_drop n vs (grind (arith, names_straight vs))
 
 -- `..` before `..` and then names are `..` and then names
 pub ups_straight : (xs vs : List Value) → AreUpsThenNames vs → AreUpsThenNames (ups_of xs ++ vs)

@@ -2,7 +2,7 @@
 use Rattle.std.proofs.Common.{◌≡◌, ℕ, ◌+◌, suc, List, [], ◌∷◌, ◌++◌, length, refl, sym, ap}
 use Rattle.std.proofs.Common.{subst, ◌∙◌, arith}
 use Rattle.unix_path.specs.Joins.{join_of}
-use Rattle.unix_path.specs.Parts.{Value, RootDir, CurDir, ParentDir, Normal, slash, values}
+use Rattle.unix_path.specs.Parts.{Value, RootDir, CurDir, Normal, slash, values}
 use Rattle.path_runs.specs.JoinLaws.{drop_dot, drop_lead}
 use Rattle.path_runs.proofs.lemmas.joins.LeadLemmas.{drop_lead-values}
 use Rattle.unix_path.specs.CommonDir.{inner_values}
@@ -23,16 +23,15 @@ inner_same s t e = sym (drop_lead-values s) ∙ ap drop_lead e ∙ drop_lead-val
 
 -- if a run is kept behind what is kept so far, what is left behind it is still to be kept
 pub keeps_run : {ks all : List Value} {s t u v : List ℕ} {floor end : ℕ} {run : Run}
-    → TakesRun s run t → {is : Run} → run ≡ is
-    → ((ks : List Value) → IsSpelled is → Keeps u floor ks
-    → Keeps v end (kept_of ks (run_values is)))
+    → TakesRun s run t
+    → ((ks : List Value) → IsSpelled run → Keeps u floor ks
+    → Keeps v end (kept_of ks (run_values run)))
     → KeepsOn ks u floor (values s) all → KeepsOn ks v end (values t) all
-keeps_run {t = t} taken {is = run} e keeps k = record {
+keeps_run {t = t} {run = run} taken keeps k = record {
   so_far = kept_of k.so_far (run_values run);
-  keeps = keeps k.so_far (subst IsSpelled e taken.spelled) k.keeps;
+  keeps = keeps k.so_far taken.spelled k.keeps;
   onward = sym (kept_of-append k.so_far (run_values run) (values t))
-      ∙ ap (kept_of k.so_far) (sym (taken.split ∙ ap (λ run. run_values run ++ values t) e))
-      ∙ k.onward;
+      ∙ ap (kept_of k.so_far) (sym taken.split) ∙ k.onward;
 }
 
 -- if nothing is left, all is kept
@@ -58,11 +57,8 @@ keeps_root_alone s t e = record { spells = spells_root_alone s t e; floor_is = r
 
 -- a `.` that leads takes no depth
 pub climbs_from-dot : (vs : List Value) → climbs_from 0 (drop_dot vs) ≡ climbs_from 0 vs
-climbs_from-dot [] = refl
-climbs_from-dot (RootDir ∷ vs) = refl
 climbs_from-dot (CurDir ∷ vs) = refl
-climbs_from-dot (ParentDir ∷ vs) = refl
-climbs_from-dot (Normal name ∷ vs) = refl
+climbs_from-dot vs = refl
 
 -- each name is one step down
 climbs_from-names : (n : ℕ) (vs ws : List Value) → AreNames vs
@@ -70,9 +66,7 @@ climbs_from-names : (n : ℕ) (vs ws : List Value) → AreNames vs
 climbs_from-names n [] ws h = ap (λ n. climbs_from n ws) {x = n} {y = n + 0} (omega arith)
 climbs_from-names n (Normal name ∷ vs) ws h = climbs_from-names (suc n) vs ws h
     ∙ ap (λ n. climbs_from n ws) {x = suc n + length vs} {y = n + suc (length vs)} (omega arith)
-climbs_from-names n (RootDir ∷ vs) ws h = absurd h
-climbs_from-names n (CurDir ∷ vs) ws h = absurd h
-climbs_from-names n (ParentDir ∷ vs) ws h = absurd h
+climbs_from-names n (v ∷ vs) ws h = absurd h
 
 -- so is each of plain names
 pub climbs_from-plain_names : (n : ℕ) (names : List ℕ) (ws : List Value)

@@ -1,14 +1,11 @@
 -- A plain path is resolved as it stands: names alone, or the root and then names.
-use Rattle.std.proofs.Common.{◌≡◌, ℕ, Bool, true, false, cond}
-use Rattle.std.proofs.Common.{List, [], ◌∷◌, ◌++◌, suc, drop, length, reverse, refl, sym, ap}
-use Rattle.std.proofs.Common.{◌∙◌}
-use Rattle.std.specs.Cmp.{first_so, second_so}
+use Rattle.std.proofs.Common.{◌≡◌, ℕ, true, false, cond, not, List, [], ◌∷◌, ◌++◌, suc}
+use Rattle.std.proofs.Common.{drop, length, refl, sym, ap, subst, ◌∙◌}
 use Rattle.std.specs.List.{list_all, slice_split}
 use Rattle.std.specs.Str.{bytes_eq}
-use Rattle.std.proofs.lemmas.Grind.{reverse_onto}
-use Rattle.std.proofs.lemmas.List.{append-nil, reverse-reverse}
+use Rattle.std.proofs.lemmas.Bool.{and_parts, not-true, or_parts}
 use Rattle.unix_path.specs.Parts.{is_slash, cur_dir, parent_dir, counts, is_rooted}
-use Rattle.unix_path.specs.Parts.{Value, RootDir, CurDir, values}
+use Rattle.unix_path.specs.Parts.{RootDir, CurDir, values}
 use Rattle.unix_bytes.proofs.lemmas.lists.ListLemmas.{by_test}
 use Rattle.unix_path.proofs.lemmas.parts.PartLemmas.{values-nil}
 use Rattle.path_runs.specs.Spelling.{spelling_of}
@@ -17,9 +14,12 @@ use Rattle.path_runs.proofs.lemmas.spelling.OwnSpellingLemmas.{spelling_of-own_r
 use Rattle.path_runs.proofs.lemmas.spelling.OwnSpellingLemmas.{spelling_of-own_rootless}
 use Rattle.path_runs.proofs.lemmas.spelling.PieceValueLemmas.{is_rooted-slash, names_of}
 use Rattle.path_runs.proofs.lemmas.spelling.PieceValueLemmas.{values-rooted, values-rootless}
-use Rattle.path_within.specs.Resolved.{AreNames, resolved_of, resolved_bytes_of}
+use Rattle.path_within.specs.Climbs.{is_name}
+use Rattle.path_within.specs.Resolved.{AreNames, IsNormal, resolved_of, resolved_bytes_of}
 use Rattle.path_within.specs.PlainPieces.{is_plain_piece, has_plain_pieces, is_plain}
-use Rattle.path_within.proofs.lemmas.kept.WayLemmas.{kept_of-names}
+use Rattle.path_within.proofs.lemmas.kept.KeepLemmas.{names_normal}
+use Rattle.path_within.proofs.lemmas.kept.WayLemmas.{list_all-names}
+use Rattle.path_within.proofs.lemmas.plain.NormalLemmas.{resolved_if_normal}
 
 -- a plain piece counts, and is neither `.` nor `..`
 record IsPlainPiece (p : List ℕ) : Type 0 where
@@ -28,23 +28,20 @@ record IsPlainPiece (p : List ℕ) : Type 0 where
   pub no_up : bytes_eq p parent_dir ≡ false
 
 plain_piece : (p : List ℕ) → is_plain_piece p ≡ true → IsPlainPiece p
-plain_piece p h = by (bytes_eq p []) (bytes_eq p cur_dir) (bytes_eq p parent_dir) refl refl refl
-  where
-    by : (a b c : Bool) → bytes_eq p [] ≡ a → bytes_eq p cur_dir ≡ b → bytes_eq p parent_dir ≡ c
-        → IsPlainPiece p
-    by false false false e f g =
-        record { counts_is = rw (e, f) refl; no_dot = f; no_up = g }
-    by true b c e f g = absurd (let no : false ≡ true = rw e at h in cc)
-    by false true c e f g = absurd (let no : false ≡ true = rw (e, f) at h in cc)
-    by false false true e f g = absurd (let no : false ≡ true = rw (e, f, g) at h in cc)
+plain_piece p h =
+    let parts = and_parts (counts p) (not (bytes_eq p parent_dir)) h in
+    record {
+      counts_is = parts.0;
+      no_dot = (or_parts (bytes_eq p []) (bytes_eq p cur_dir) (not-true _ parts.0)).1;
+      no_up = not-true _ parts.1;
+    }
 
 -- the first of plain pieces is plain, and so are the others
 plain_first : (p : List ℕ) (ps : List (List ℕ)) → list_all is_plain_piece (p ∷ ps) ≡ true
     → IsPlainPiece p × (list_all is_plain_piece ps ≡ true)
-plain_first p ps h = (
-  plain_piece p (first_so (is_plain_piece p) (list_all is_plain_piece ps) h),
-  second_so (is_plain_piece p) (list_all is_plain_piece ps) h,
-)
+plain_first p ps h =
+    let parts = and_parts (is_plain_piece p) (list_all is_plain_piece ps) h in
+    (plain_piece p parts.0, parts.1)
 
 -- plain pieces count
 plain_counts : (ps : List (List ℕ)) → list_all is_plain_piece ps ≡ true
@@ -65,19 +62,6 @@ plain_dot : (ps : List (List ℕ)) → list_all is_plain_piece ps ≡ true → d
 plain_dot [] h = refl
 plain_dot (p ∷ ps) h = (plain_first p ps h).0.no_dot
 
--- names resolve to themselves
-resolved_of-names : (vs : List Value) → AreNames vs → resolved_of vs ≡ vs
-unfolding resolved_of
-resolved_of-names vs h =
-    ap reverse (kept_of-names [] vs h ∙ append-nil (reverse vs)) ∙ reverse-reverse vs
-
--- the root and then names resolve to themselves
-pub resolved_of-root : (vs : List Value) → AreNames vs → resolved_of (RootDir ∷ vs) ≡ RootDir ∷ vs
-unfolding resolved_of
-resolved_of-root vs h =
-    ap reverse (kept_of-names (RootDir ∷ []) vs h ∙ sym (reverse_onto vs RootDir []))
-    ∙ reverse-reverse (RootDir ∷ vs)
-
 -- a rooted path is resolved as it stands if all pieces of t, which follows the root, are plain
 plain_rooted : (s t : List ℕ) → has_plain_pieces t ≡ true → is_rooted s ≡ true
     → t ≡ drop 1 s → resolved_bytes_of s ≡ s
@@ -87,8 +71,8 @@ plain_rooted s t h r e =
     let all : values s ≡ RootDir ∷ names_of ps =
     ap values u.1 ∙ values-rooted u.0
     ∙ ap (λ t. RootDir ∷ names_of (slice_split is_slash t)) (sym (e ∙ ap (drop 1) u.1)) in
-    ap spelling_of (ap resolved_of all ∙ resolved_of-root (names_of ps) (plain_names ps h)
-    ∙ sym all) ∙ spelling_of-own_rooted s t (plain_counts ps h) r e
+    resolved_if_normal s (subst IsNormal (sym all) (plain_names ps h))
+    (sym (spelling_of-own_rooted s t (plain_counts ps h) r e))
 
 -- the values of a rootless path of plain pieces are those of its pieces
 values-plain : (s : List ℕ) → has_plain_pieces s ≡ true → is_rooted s ≡ false
@@ -118,9 +102,8 @@ resolved-plain s h = by_test (is_rooted s)
     (λ r. plain_rooted s (drop 1 s) (is_plain-rooted s h r) r refl)
     (λ r. let plain = is_plain-rootless s h r in
     let ps = slice_split is_slash s in
-    let all = values-plain s plain r in
-    ap spelling_of (ap resolved_of all ∙ resolved_of-names (names_of ps) (plain_names ps plain)
-    ∙ sym all) ∙ own_plain s plain r)
+    resolved_if_normal s (subst IsNormal (sym (values-plain s plain r))
+    (names_normal (names_of ps) (plain_names ps plain))) (sym (own_plain s plain r)))
 
 -- the empty path is resolved as it stands
 pub resolved_empty : (s : List ℕ) → s ≡ [] → resolved_bytes_of s ≡ s
@@ -139,8 +122,8 @@ length-names_of : (ps : List (List ℕ)) → list_all counts ps ≡ true
     → length (names_of ps) ≡ length ps
 length-names_of [] h = refl
 length-names_of (p ∷ ps) h =
-    rw (first_so (counts p) (list_all counts ps) h)
-    (ap suc (length-names_of ps (second_so (counts p) (list_all counts ps) h)))
+    let parts = and_parts (counts p) (list_all counts ps) h in
+    rw parts.0 (ap suc (length-names_of ps parts.1))
 
 pub plain_has_names : (s : List ℕ) → is_plain s ≡ true → is_rooted s ≡ false → HasNames s
 plain_has_names s h r =
@@ -151,3 +134,11 @@ plain_has_names s h r =
       own = own_plain s plain r;
       count = ap length (values-plain s plain r) ∙ length-names_of ps (plain_counts ps plain);
     }
+
+-- the values of a plain path are names exactly if it isn't rooted
+pub all_names : (s : List ℕ) → is_plain s ≡ true
+    → not (is_rooted s) ≡ list_all is_name (values s)
+all_names s plain = by_test (is_rooted s)
+    (λ r. let t = is_rooted-slash s r in
+    ap not r ∙ sym (ap (list_all is_name) (ap values t.1 ∙ values-rooted t.0)))
+    (λ r. ap not r ∙ sym (list_all-names (values s) (plain_has_names s plain r).names))

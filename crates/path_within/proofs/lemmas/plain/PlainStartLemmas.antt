@@ -1,5 +1,5 @@
 -- All pieces are plain if each begins with plain bytes.
-use Rattle.std.proofs.Common.{◌≡◌, ℕ, suc, ◌<◌, Bool, true, false, eqb, ◌&&◌, ◌||◌, not}
+use Rattle.std.proofs.Common.{◌≡◌, ℕ, suc, ◌<◌, Bool, true, eqb, ◌&&◌, ◌||◌, not}
 use Rattle.std.proofs.Common.{List, [], ◌∷◌, length, get_or, refl, sym, ap, ap₂, ◌∙◌}
 use native.Mathlib.Numerals.{unary_clauses}
 use Rattle.std.proofs.Common.{arith, eqb-true}
@@ -30,10 +30,7 @@ first_piece_up (b ∷ s) = by_test (eqb b 47)
 -- a piece that begins neither at an end nor at dots is neither empty, nor `.`, nor `..`
 no_dots : (end dot one up : Bool) → not (end || (dot && (one || up))) ≡ true
     → (not (end || (dot && one)) && not (dot && up)) ≡ true
-no_dots true dot one up h = absurd (let no : false ≡ true = h in cc)
-no_dots false false one up h = refl
-no_dots false true true up h = absurd (let no : false ≡ true = h in cc)
-no_dots false true false up h = h
+no_dots end dot one up h = grind arith
 
 -- a string that begins with plain bytes has a plain first piece
 first_plain : (s : List ℕ) → begins_plain s 0 ≡ true → is_plain_piece (first_piece s) ≡ true

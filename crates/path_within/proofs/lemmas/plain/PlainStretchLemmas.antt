@@ -2,12 +2,12 @@
 -- and follow their slashes.
 use Rattle.std.proofs.Common.{◌≡◌, ℕ, ◌+◌, ◌<◌, ◌≤◌, true, false, eqb, ltb, cond}
 use Rattle.std.proofs.Common.{◌&&◌, ◌||◌, not, Bool, List, take, drop, get_or, length, get_or-drop}
-use Rattle.std.proofs.Common.{refl, sym, ap, ap₂, ◌∙◌, arith, length-take}
+use Rattle.std.proofs.Common.{refl, sym, ap, ap₂, subst, ◌∙◌, arith, length-take}
 use Rattle.std.specs.Int.{from_bool}
-use Rattle.std.proofs.lemmas.Bool.{and_parts, both_ways, ltb-true, ltb-false}
+use Rattle.std.proofs.lemmas.Bool.{and_parts, both_ways, ltb-true, ltb-false, or_right}
 use Rattle.std.proofs.lemmas.List.{get_or-take, get_or_past, get_or_default}
 use Rattle.unix_path.specs.Scan.{begins_with_parent, is_break, is_filler}
-use Rattle.unix_path.specs.Parts.{is_rooted}
+use Rattle.unix_path.specs.Parts.{is_rooted, is_slash}
 use Rattle.unix_bytes.proofs.lemmas.lists.ListLemmas.{by_test}
 use Rattle.path_within.specs.PlainPieces.{has_plain_pieces, is_end, begins_plain, goes_on_plain}
 use Rattle.path_within.specs.PlainPieces.{is_plain}
@@ -67,10 +67,7 @@ plain_stretch s n first onward e = plain_pieces (take n s)
 -- the byte at i, told from the end and from a dot
 begins_by : (x y e z f : Bool) → not (x || (y && (e || (z && f))))
     ≡ (not (x || (y && e)) && not (y && (z && f)))
-begins_by true y e z f = refl
-begins_by false false e z f = refl
-begins_by false true true z f = refl
-begins_by false true false z f = refl
+begins_by x y e z f = grind arith
 
 -- a plain piece begins where neither filler nor `..` does
 pub begins_plain-scan : (s : List ℕ) (i : ℕ) → i < length s
@@ -101,13 +98,26 @@ unbroken_plain s k h = by_test (eqb (get_or s k 0) 47)
     rw (e, f, past) refl)))
     (λ e. rw e refl)
 
--- a break is a slash
-pub break_ends : (s : List ℕ) (i : ℕ) → is_break s i ≡ true → is_end s i ≡ true
-break_ends s i h = by_test (ltb i (length s))
-    (λ t. let l = ltb-true i (length s) t in
-    ap (λ x. eqb x 47) (sym (get_or_default s i 0 47 l))
-    ∙ (and_parts (eqb (get_or s i 0) 47) _ h).0)
-    (λ t. ap (λ x. eqb x 47) (get_or_past s i 47 (ltb-false i (length s) t)))
+-- a slash or the length ends a piece
+pub ends_at : (s : List ℕ) (n : ℕ) → (n < length s → is_slash (get_or s n 0) ≡ true)
+    → is_end s n ≡ true
+ends_at s n slash = by_test (ltb n (length s))
+    (λ t. let l = ltb-true n (length s) t in
+    ap (λ x. eqb x 47) (sym (get_or_default s n 0 47 l)) ∙ slash l)
+    (λ t. ap (λ x. eqb x 47) (get_or_past s n 47 (ltb-false n (length s) t)))
+
+-- plain pieces that go on up to place n, over it and behind it go on all the way
+pub goes_on_over : (s : List ℕ) (start n end : ℕ) → begins_plain s (n + 1) ≡ true
+    → ((k : ℕ) → start ≤ k → k < n → goes_on_plain s k ≡ true)
+    → ((k : ℕ) → n + 1 ≤ k → k < end → goes_on_plain s k ≡ true)
+    → (k : ℕ) → start ≤ k → k < end → goes_on_plain s k ≡ true
+goes_on_over s start n end next before behind k from l = by_test (ltb k n)
+    (λ t. before k from (ltb-true k n t))
+    (λ t. by_test (ltb k (n + 1))
+    (λ u. subst (λ j. goes_on_plain s j ≡ true) {x = n} {y = k}
+    (omega (arith, ltb-false k n t, ltb-true k (n + 1) u))
+    (or_right (not (is_slash (get_or s n 0))) _ next))
+    (λ u. behind k (ltb-false k (n + 1) u) l))
 
 -- up to place n, which ends a piece, s has plain pieces
 pub record Stretch (s : List ℕ) (n : ℕ) : Type 0 where
@@ -129,15 +139,14 @@ names_stretch s n first onward ends = record {
 -- a break or the length ends a piece
 pub break_or_end : (s : List ℕ) (n : ℕ) → (n < length s → is_break s n ≡ true)
     → is_end s n ≡ true
-break_or_end s n found = by_test (ltb n (length s))
-    (λ t. break_ends s n (found (ltb-true n (length s) t)))
-    (λ t. ap (λ x. eqb x 47) (get_or_past s n 47 (ltb-false n (length s) t)))
+break_or_end s n found = ends_at s n (λ l. (and_parts (eqb (get_or s n 0) 47) _ (found l)).0)
 
 -- all pieces of a path are plain, but for the one before the root, if they are without that root
 pub plain_without_root : (s : List ℕ) (n : ℕ) → n ≡ from_bool (is_rooted s)
     → has_plain_pieces (drop n s) ≡ true → is_plain s ≡ true
-plain_without_root s n e h = by_test (is_rooted s)
-    (λ r. ap (λ c. has_plain_pieces (cond c (drop 1 s) s)) r
-    ∙ ap (λ k. has_plain_pieces (drop k s)) (sym (e ∙ ap from_bool r)) ∙ h)
-    (λ r. ap (λ c. has_plain_pieces (cond c (drop 1 s) s)) r
-    ∙ ap (λ k. has_plain_pieces (drop k s)) (sym (e ∙ ap from_bool r)) ∙ h)
+plain_without_root s n e h = by (is_rooted s) (subst (λ n. has_plain_pieces (drop n s) ≡ true) e h)
+  where
+    by : (r : Bool) → has_plain_pieces (drop (from_bool r) s) ≡ true
+        → has_plain_pieces (cond r (drop 1 s) s) ≡ true
+    by true h = h
+    by false h = h

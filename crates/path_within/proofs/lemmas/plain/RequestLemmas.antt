@@ -12,11 +12,8 @@ use Rattle.path_within.proofs.lemmas.kept.ClimbLemmas.{climbs_from, climbs_by_de
 
 -- values without a root or a `..` have no root in front
 no_root_first : (vs : List Value) → has_root_or_up vs ≡ false → root_first vs ≡ false
-no_root_first [] e = refl
 no_root_first (RootDir ∷ vs) e = absurd (let no : true ≡ false = e in cc)
-no_root_first (CurDir ∷ vs) e = refl
-no_root_first (ParentDir ∷ vs) e = refl
-no_root_first (Normal name ∷ vs) e = refl
+no_root_first vs e = refl
 
 -- a request without a root or a `..` is rootless
 pub request_rootless : (b : List ℕ) → has_root_or_up (values b) ≡ false → is_rooted b ≡ false
@@ -26,10 +23,9 @@ request_rootless b e = sym (root_first-values b) ∙ no_root_first (values b) e
 climbs_from-plain : (n : ℕ) (vs : List Value) → has_root_or_up vs ≡ false
     → climbs_from n vs ≡ false
 climbs_from-plain n [] e = refl
-climbs_from-plain n (RootDir ∷ vs) e = absurd (let no : true ≡ false = e in cc)
 climbs_from-plain n (CurDir ∷ vs) e = climbs_from-plain n vs e
-climbs_from-plain n (ParentDir ∷ vs) e = absurd (let no : true ≡ false = e in cc)
 climbs_from-plain n (Normal name ∷ vs) e = climbs_from-plain (suc n) vs e
+climbs_from-plain n (v ∷ vs) e = absurd (let no : true ≡ false = e in cc)
 
 -- a request without a root or a `..` doesn't climb
 pub request_stays : (b : List ℕ) → has_root_or_up (values b) ≡ false → Climbs (values b) → ⊥
@@ -40,10 +36,9 @@ request_stays b e h = both_ways (climbs_from 0 (values b)) (climbs_from-plain 0 
 inner_names : (vs : List Value) → AllByRecursion IsInner vs → has_root_or_up vs ≡ false
     → AreNames vs
 inner_names [] h e = tt
-inner_names (RootDir ∷ vs) h e = absurd h.0
-inner_names (CurDir ∷ vs) h e = absurd h.0
-inner_names (ParentDir ∷ vs) h e = absurd (let no : true ≡ false = e in cc)
 inner_names (Normal name ∷ vs) h e = inner_names vs h.1 e
+inner_names (ParentDir ∷ vs) h e = absurd (let no : true ≡ false = e in cc)
+inner_names (v ∷ vs) h e = absurd h.0
 
 -- a request without a root or a `..` has names alone behind a leading dot
 pub request_names : (b : List ℕ) → has_root_or_up (values b) ≡ false
@@ -52,7 +47,6 @@ request_names b plain = by (values b) refl plain
   where
     by : (vs : List Value) → values b ≡ vs → has_root_or_up vs ≡ false → AreNames (drop_dot vs)
     by [] e h = tt
-    by (RootDir ∷ vs) e h = absurd (let no : true ≡ false = h in cc)
     by (CurDir ∷ vs) e h = inner_names vs (inner-behind b CurDir vs e) h
-    by (ParentDir ∷ vs) e h = absurd (let no : true ≡ false = h in cc)
     by (Normal name ∷ vs) e h = inner_names vs (inner-behind b (Normal name) vs e) h
+    by (v ∷ vs) e h = absurd (let no : true ≡ false = h in cc)

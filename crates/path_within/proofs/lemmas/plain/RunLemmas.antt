@@ -4,11 +4,11 @@ use Rattle.std.proofs.Common.{List, [], ◌∷◌, ◌++◌, length, take, drop,
 use Rattle.std.proofs.Common.{◌∙◌, arith, eqb-true, take_all, take-append-drop, drop-cons}
 use Rattle.std.proofs.Common.{length-take-le, ne_eqb, ◌&&◌, ◌||◌}
 use Rattle.std.specs.List.{AllByRecursion, position_or_len, slice_split}
-use Rattle.std.proofs.Common.{Bool, not, subst, ap₂}
-use Rattle.std.proofs.lemmas.Bool.{ltb-true, ltb-false}
+use Rattle.std.proofs.Common.{not, subst, ap₂}
+use Rattle.std.proofs.lemmas.Bool.{eqb-false, ltb-true, ltb-false}
 use Rattle.std.proofs.lemmas.List.Elements.{All-from_recursion}
 use Rattle.std.proofs.lemmas.List.Splits.{slice_split_none}
-use Rattle.std.proofs.lemmas.List.Sums.{fails_before_first}
+use Rattle.std.proofs.lemmas.List.Sums.{fails_before_first, passes_at_first}
 use Rattle.std.proofs.lemmas.List.{append-nil, drop_all, get_or_default, get_or_past}
 use Rattle.unix_path.specs.CommonDir.{inner_values}
 use Rattle.unix_path.specs.Parts.{slash, is_slash, is_rooted, inner_parts, Part}
@@ -20,7 +20,6 @@ use Rattle.unix_path.proofs.lemmas.filler.FillerLemmas.{filler_slash, inner_part
 use Rattle.unix_path.proofs.lemmas.filler.FillerLemmas.{is_filler-drop}
 use Rattle.unix_path.proofs.lemmas.filler.FillerLemmas.{values-busy}
 use Rattle.unix_path.proofs.lemmas.steps.LeadLemmas.{busy_no_slash}
-use Rattle.unix_path.proofs.lemmas.parts.PieceLemmas.{position_or_len-other, position_or_len-slash}
 use Rattle.unix_path.proofs.lemmas.parts.PieceLemmas.{slice_split-first}
 use Rattle.unix_path.proofs.lemmas.parts.PlaceLemmas.{values-inner_parts}
 use Rattle.path_runs.proofs.lemmas.joins.LeadLemmas.{dot_first, lead_by, values-lead}
@@ -28,8 +27,8 @@ use Rattle.path_runs.proofs.lemmas.spelling.PieceValueLemmas.{slice_split-no_sla
 use Rattle.path_within.specs.PlainPieces.{begins_plain, goes_on_plain, has_plain_pieces, is_end}
 use Rattle.path_within.specs.Runs.{AreSpelledNames}
 use Rattle.path_within.proofs.lemmas.plain.PlainLemmas.{plain_has_names}
-use Rattle.path_within.proofs.lemmas.plain.PlainStretchLemmas.{begins_plain-scan, names_stretch}
-use Rattle.path_within.proofs.lemmas.plain.PlainStretchLemmas.{Stretch}
+use Rattle.path_within.proofs.lemmas.plain.PlainStretchLemmas.{begins_plain-scan, ends_at}
+use Rattle.path_within.proofs.lemmas.plain.PlainStretchLemmas.{names_stretch, Stretch}
 
 -- a byte of filler adds no value
 pub inner_values-filler : (s : List ℕ) (n : ℕ) → n < length s → is_filler s n ≡ true
@@ -47,15 +46,9 @@ inner_values-end s n e = by_test (ltb n (length s))
     (λ t. let l = ltb-false n (length s) t in
     ap inner_values (drop_all n s l ∙ sym (drop_all (n + 1) s (omega arith))))
 
--- a string whose length is 0 is empty
-pub no_byte : (s : List ℕ) → eqb (length s) 0 ≡ true → s ≡ []
-no_byte [] e = refl
-no_byte (b ∷ s) e = absurd (omega (arith, eqb-true (length (b ∷ s)) 0 e))
-
 -- a string whose length isn't 0 has a byte
 pub some_byte : (s : List ℕ) → eqb (length s) 0 ≡ false → 0 < length s
-some_byte [] e = absurd (let no : true ≡ false = e in cc)
-some_byte (b ∷ s) e = omega arith
+some_byte s e = let some = eqb-false (length s) 0 e in omega arith
 
 -- up to a slash or the end, and then behind it
 values-cut : (s : List ℕ) (n : ℕ) → 0 < n → n ≤ length s → is_end s n ≡ true
@@ -77,12 +70,8 @@ values-cut s n some in_range e = by_test (ltb n (length s))
 
 -- a beginning of a string that begins with no slash has no root
 rootless_take : (s : List ℕ) (n : ℕ) → is_filler s 0 ≡ false → is_rooted (take n s) ≡ false
-rootless_take [] n busy = by_nothing n
-  where
-    by_nothing : (n : ℕ) → is_rooted (take n []) ≡ false
-    by_nothing zero = refl
-    by_nothing (suc n) = refl
-rootless_take (b ∷ s) zero busy = refl
+rootless_take s zero busy = refl
+rootless_take [] (suc n) busy = refl
 rootless_take (b ∷ s) (suc n) busy = busy_no_slash (b ∷ s) busy
 
 -- a rooted string has the root, and then its inner values
@@ -125,15 +114,6 @@ takes_names s t names n busy h l is left =
       };
     }
 
--- the first slash ends a piece, or else the string does
-is_end-first : (s : List ℕ) → is_end s (position_or_len is_slash s) ≡ true
-is_end-first [] = refl
-is_end-first (b ∷ s) = by_test (eqb b 47)
-    (λ e. ap (is_end (b ∷ s)) (position_or_len-slash b s e) ∙ e)
-    (λ e. let n = position_or_len is_slash s in
-    ap (is_end (b ∷ s)) {x = position_or_len is_slash (b ∷ s)} {y = suc n}
-    (omega (arith, position_or_len-other b s e)) ∙ is_end-first s)
-
 -- before the first slash a plain piece goes on
 pub first_goes_on : (s : List ℕ) (n : ℕ) → n ≡ position_or_len is_slash s
     → (k : ℕ) → k < n → goes_on_plain s k ≡ true
@@ -144,7 +124,8 @@ first_goes_on s n e k l =
 pub first_stretch : (s : List ℕ) (n : ℕ) → begins_plain s 0 ≡ true
     → n ≡ position_or_len is_slash s → Stretch s n
 first_stretch s n first e =
-    names_stretch s n first (first_goes_on s n e) (ap (is_end s) e ∙ is_end-first s)
+    names_stretch s n first (first_goes_on s n e) (ap (is_end s) e
+    ∙ ends_at s (position_or_len is_slash s) (passes_at_first is_slash s 0))
 
 -- up to the first slash there is one piece
 pub one_piece : (s name : List ℕ) (n : ℕ) → n ≡ position_or_len is_slash s → name ≡ take n s
@@ -153,23 +134,6 @@ one_piece s name n e is =
     let no_slash = (subst (AllByRecursion NoSlash) (slice_split-first s) (slice_split-no_slash s)).0
     in subst (λ p. slice_split is_slash p ≡ p ∷ []) (ap (λ k. take k s) (sym e) ∙ sym is)
     (slice_split_none is_slash _ (All-from_recursion (λ b. is_slash b ≡ false) _ no_slash))
-
--- before the first slash, and over one behind which a plain piece begins, plain pieces go on
-pub goes_on_from : (s : List ℕ) (n end : ℕ) → n ≡ position_or_len is_slash s
-    → begins_plain s (n + 1) ≡ true
-    → ((k : ℕ) → n + 1 ≤ k → k < end → goes_on_plain s k ≡ true)
-    → (k : ℕ) → k < end → goes_on_plain s k ≡ true
-goes_on_from s n end e next goes k l = by_test (ltb k n)
-    (λ t. first_goes_on s n e k (ltb-true k n t))
-    (λ t. let from = ltb-false k n t in by_test (ltb k (n + 1))
-    (λ u. subst (λ j. goes_on_plain s j ≡ true) {x = n} {y = k}
-    (omega (arith, ltb-true k (n + 1) u)) (by_next (is_slash (get_or s n 0)) next))
-    (λ u. goes k (ltb-false k (n + 1) u) l))
-  where
-    by_next : (c : Bool) → begins_plain s (n + 1) ≡ true
-        → (not c || begins_plain s (n + 1)) ≡ true
-    by_next true h = h
-    by_next false h = refl
 
 -- where neither filler nor `..` begins, a plain piece does
 pub plain_here : (s : List ℕ) → 0 < length s → is_filler s 0 ≡ false

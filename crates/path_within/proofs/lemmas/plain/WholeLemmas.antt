@@ -2,8 +2,7 @@
 use Rattle.std.proofs.Common.{◌≡◌, ℕ, true, false, List, [], ◌∷◌, map, reverse}
 use Rattle.std.proofs.Common.{refl, sym, ap, ◌∙◌}
 use Rattle.unix_path.specs.Joins.{join_of, join_all_of}
-use Rattle.unix_path.specs.Parts.{Value, RootDir, CurDir, ParentDir, Normal, value_bytes}
-use Rattle.unix_path.specs.Parts.{is_rooted, values}
+use Rattle.unix_path.specs.Parts.{Value, Normal, is_rooted, value_bytes, values}
 use Rattle.unix_bytes.proofs.lemmas.lists.ListLemmas.{by_test}
 use Rattle.unix_path.proofs.lemmas.edits.JoinLemmas.{join_of_rooted}
 use Rattle.path_runs.specs.Spelling.{spelling_of}
@@ -34,9 +33,7 @@ path_of-names : (ks vs : List Value) → AreNames vs
     → path_of (kept_of ks vs) ≡ join_all_of (path_of ks) (map value_bytes vs)
 path_of-names ks [] h = refl
 path_of-names ks (Normal name ∷ vs) h = path_of-names (Normal name ∷ ks) vs h
-path_of-names ks (RootDir ∷ vs) h = absurd h
-path_of-names ks (CurDir ∷ vs) h = absurd h
-path_of-names ks (ParentDir ∷ vs) h = absurd h
+path_of-names ks (v ∷ vs) h = absurd h
 
 -- a join with the join of one name or more is a join with one after the other
 join_of-names : (a : List ℕ) (v : Value) (vs : List Value)
@@ -97,9 +94,7 @@ resolved-plain_join a b h k = spells_join a b refl refl
 pub names_down : (vs : List Value) → AreNames vs → has_root_or_up vs ≡ false
 names_down [] h = refl
 names_down (Normal name ∷ vs) h = names_down vs h
-names_down (RootDir ∷ vs) h = absurd h
-names_down (CurDir ∷ vs) h = absurd h
-names_down (ParentDir ∷ vs) h = absurd h
+names_down (v ∷ vs) h = absurd h
 
 -- a plain path without a root has neither a root nor a `..`
 pub plain_down : (b : List ℕ) → is_plain b ≡ true → is_rooted b ≡ false

@@ -1,21 +1,21 @@
 -- If there is no way, no path without a root leads there.
 use Rattle.std.proofs.Common.{◌≡◌, ◌⊎◌, ℕ, true, false, List, [], ◌∷◌, ◌++◌, reverse, None, refl}
-use Rattle.std.proofs.Common.{sym, ap, ap₂, subst, ◌∙◌, inl, inr, ⊎_elim, arith}
-use Rattle.std.specs.List.{list_all, list_any}
+use Rattle.std.proofs.Common.{sym, ap, ap₂, subst, ◌∙◌, inl, inr, ⊎_elim}
+use Rattle.std.specs.List.{list_any}
 use Rattle.std.proofs.lemmas.List.{reverse-append}
 use Rattle.unix_path.specs.Joins.{join_of}
 use Rattle.unix_path.specs.Parts.{Value, RootDir, CurDir, ParentDir, Normal, is_rooted, values}
 use Rattle.unix_path.proofs.lemmas.rests.RootLemmas.{NoRoot}
-use Rattle.path_within.specs.Climbs.{is_name}
-use Rattle.path_within.specs.Resolved.{kept_of, up_from, resolved_of, resolved_bytes_of}
+use Rattle.path_within.specs.Resolved.{AreNames, kept_of, up_from, resolved_of, resolved_bytes_of}
 use Rattle.path_within.specs.Steps.{IsKept}
 use Rattle.path_within.specs.Way.{is_root, way_of}
 use Rattle.path_within.proofs.lemmas.kept.BetweenLemmas.{list_any-reverse, some_steps}
 use Rattle.path_within.proofs.lemmas.kept.BetweenLemmas.{steps_from}
 use Rattle.path_within.proofs.lemmas.kept.ClimbLemmas.{rootless-no_roots}
 use Rattle.path_within.proofs.lemmas.kept.KeepLemmas.{IsKept-kept_of, names_reverse}
+use Rattle.path_within.proofs.lemmas.kept.KeepLemmas.{names_straight}
 use Rattle.path_within.proofs.lemmas.kept.ResolveLemmas.{kept_of-join, values-resolved}
-use Rattle.path_within.proofs.lemmas.kept.WayLemmas.{list_all-names, names_all}
+use Rattle.path_within.proofs.lemmas.kept.WayLemmas.{list_all-names, straight_rootless}
 
 -- a `..` takes nothing away from the kept values ks
 abbrev IsFloor : List Value → Type 0
@@ -25,18 +25,14 @@ IsFloor ks = (up_from ks ≡ ks) ⊎ (up_from ks ≡ ParentDir ∷ ks)
 record OnFloor (ks : List Value) : Type 0 where
   pub top : List Value
   pub floor : List Value
-  pub names : list_all is_name top ≡ true
+  pub names : AreNames top
   pub is_floor : IsFloor floor
   pub is : ks ≡ top ++ floor
 
 -- kept values stand on a floor
 on_floor : (ks : List Value) → IsKept ks → OnFloor ks
-on_floor [] h = record { top = []; floor = []; names = refl; is_floor = inr refl; is = refl }
 on_floor (RootDir ∷ ks) h =
-    record { top = []; floor = RootDir ∷ ks; names = refl; is_floor = inl refl; is = refl }
-on_floor (CurDir ∷ ks) h = absurd h
-on_floor (ParentDir ∷ ks) h =
-    record { top = []; floor = ParentDir ∷ ks; names = refl; is_floor = inr refl; is = refl }
+    record { top = []; floor = RootDir ∷ ks; names = tt; is_floor = inl refl; is = refl }
 on_floor (Normal name ∷ ks) h = let more = on_floor ks h in record {
   top = Normal name ∷ more.top;
   floor = more.floor;
@@ -44,6 +40,7 @@ on_floor (Normal name ∷ ks) h = let more = on_floor ks h in record {
   is_floor = more.is_floor;
   is = ap (λ zs. Normal name ∷ zs) more.is;
 }
+on_floor ks h = record { top = []; floor = ks; names = tt; is_floor = inr refl; is = refl }
 
 -- the kept values ks are a floor, with no root behind it
 record KeepsFloor (ks floor : List Value) : Type 0 where
@@ -58,11 +55,8 @@ up_on [] floor h k = ⊎_elim
     (λ e. record { top = []; no_root = refl; is = e })
     (λ e. record { top = ParentDir ∷ []; no_root = refl; is = e }) h
 up_on (RootDir ∷ top) floor h k = absurd (let no : true ≡ false = k in cc)
-up_on (CurDir ∷ top) floor h k =
-    record { top = ParentDir ∷ CurDir ∷ top; no_root = k; is = refl }
-up_on (ParentDir ∷ top) floor h k =
-    record { top = ParentDir ∷ ParentDir ∷ top; no_root = k; is = refl }
 up_on (Normal name ∷ top) floor h k = record { top = top; no_root = k; is = refl }
+up_on top floor h k = record { top = ParentDir ∷ top; no_root = k; is = refl }
 
 -- values without a root keep the floor
 keeps_floor : (top floor vs : List Value) → IsFloor floor → list_any is_root top ≡ false
@@ -76,22 +70,18 @@ keeps_floor top floor (ParentDir ∷ vs) h k r =
     subst (λ ks. KeepsFloor (kept_of ks vs) floor) (sym up.is)
     (keeps_floor up.top floor vs h up.no_root r)
 
--- no name is the root
-pub names_rootless : (vs : List Value) → list_all is_name vs ≡ true → list_any is_root vs ≡ false
-names_rootless [] h = refl
-names_rootless (v ∷ vs) h = grind (arith, names_rootless vs)
-
 -- if values without a root lead from one list to another, there is a way
 some_way : (ks vs : List Value) → IsKept ks → NoRoot vs
     → steps_from (reverse ks) (reverse (kept_of ks vs)) ≡ None → ⊥
 some_way ks vs h r none =
     let on = on_floor ks h in
-    let keeps = keeps_floor on.top on.floor vs on.is_floor (names_rootless on.top on.names) r in
+    let no_root = straight_rootless on.top (names_straight on.top on.names) in
+    let keeps = keeps_floor on.top on.floor vs on.is_floor no_root r in
     let v = ap reverse on.is ∙ reverse-append on.top on.floor in
     let w = ap (λ zs. reverse (kept_of zs vs)) on.is ∙ ap reverse keeps.is
     ∙ reverse-append keeps.top on.floor in
     some_steps (reverse on.floor) (reverse on.top) (reverse keeps.top)
-    (list_all-names (reverse on.top) (names_reverse on.top (names_all on.top on.names)))
+    (list_all-names (reverse on.top) (names_reverse on.top on.names))
     (list_any-reverse keeps.top ∙ keeps.no_root)
     (sym (ap₂ steps_from v w) ∙ none)
 

@@ -27,13 +27,14 @@ use Rattle.path_runs.proofs.lemmas.spelling.SpellLemmas.{spelling_of-root}
 use Rattle.path_runs.proofs.lemmas.gaps.StretchLemmas.{slash_each, slashed_bytes-cons}
 use Rattle.path_within.specs.PlainPieces.{is_end}
 use Rattle.path_within.specs.Resolved.{AreUpsThenNames, IsNormal, resolved_bytes_of}
-use Rattle.path_within.specs.Steps.{ReadsAsItself, ValueReadsAsItself}
+use Rattle.path_within.specs.Steps.{ValueReadsAsItself}
 use Rattle.path_within.proofs.lemmas.kept.BetweenLemmas.{no_roots_any, shared_count}
 use Rattle.path_within.proofs.lemmas.kept.ClimbLemmas.{rootless-no_roots}
 use Rattle.path_within.proofs.lemmas.plain.NormalLemmas.{normal_if_resolved, own_if_resolved}
-use Rattle.path_within.proofs.lemmas.kept.PathOfLemmas.{ReadsAsItself-values}
-use Rattle.path_within.proofs.lemmas.kept.WayLemmas.{names_straight, normal_end}
-use Rattle.path_within.proofs.lemmas.kept.WayLemmas.{spelling_of-straight}
+use Rattle.path_within.proofs.lemmas.kept.PathOfLemmas.{ValueReadsAsItself-dot}
+use Rattle.path_within.proofs.lemmas.kept.PathOfLemmas.{ValueReadsAsItself-piece}
+use Rattle.path_within.proofs.lemmas.kept.KeepLemmas.{names_straight}
+use Rattle.path_within.proofs.lemmas.kept.WayLemmas.{normal_drop, spelling_of-straight}
 use Rattle.path_within.proofs.lemmas.kept.WayLemmas.{straight_drop}
 
 -- a place k, counted from one byte x before: a slash alone keeps it from being 0
@@ -173,37 +174,32 @@ pub record HasSteps (s : List ℕ) : Type 0 where
   pub values_are : values s ≡ cond (is_rooted s) (RootDir ∷ steps) steps
   pub is : s ≡ cond (is_rooted s) (slash ∷ slashed_bytes steps) (slashed_bytes steps)
 
--- no byte of the value is a slash
-abbrev HasNoSlash : Value → Type 0
-HasNoSlash v = NoSlash (value_bytes v)
-
-no_slash_pieces : HoldsOfPieces HasNoSlash
-no_slash_pieces p h e f = rw (value_bytes-piece p) h
-
-all_pieces : (vs : List Value) → AllByRecursion HasNoSlash vs → ReadsAsItself vs
-    → AllByRecursion IsPiece vs
-all_pieces [] h k = tt
-all_pieces (v ∷ vs) h k = (record { no_slash = h.0; one = k.0 }, all_pieces vs h.1 k.1)
+-- the value of a piece that counts is such a value
+is_piece : HoldsOfPieces IsPiece
+is_piece p h e f = record {
+  no_slash = rw (value_bytes-piece p) h;
+  one = ValueReadsAsItself-piece p h e f;
+}
 
 pub has_steps : (s : List ℕ) → resolved_bytes_of s ≡ s → HasSteps s
 has_steps s e =
     let own = own_if_resolved s e in
     let normal = normal_if_resolved s e in
     by_test (is_rooted s)
-    (λ r. let behind = values-hold_rooted HasNoSlash no_slash_pieces s r in
+    (λ r. let behind = values-hold_rooted IsPiece is_piece s r in
     let is : values s ≡ RootDir ∷ behind.0 = behind.1 in record {
       steps = behind.0;
       straight = names_straight behind.0 (subst IsNormal is normal);
-      pieces = all_pieces behind.0 behind.2 (subst ReadsAsItself is (ReadsAsItself-values s)).1;
+      pieces = behind.2;
       values_are = rw r is;
       is = rw r (own ∙ ap spelling_of is ∙ spelling_of-root behind.0);
     })
-    (λ r. let straight = normal_end [] (values s) normal
+    (λ r. let straight = normal_drop 0 (values s) normal
     (no_roots_any (values s) (rootless-no_roots s r)) in record {
       steps = values s;
       straight = straight;
-      pieces = all_pieces (values s)
-          (values-hold_rootless HasNoSlash (refl, tt) no_slash_pieces s r) (ReadsAsItself-values s);
+      pieces = values-hold_rootless IsPiece
+          (record { no_slash = (refl, tt); one = ValueReadsAsItself-dot }) is_piece s r;
       values_are = rw r refl;
       is = rw r (own ∙ spelling_of-straight (values s) straight);
     })

@@ -1,18 +1,15 @@
 -- A way has at most three bytes for each two of the first path, and those of the other.
-use Rattle.std.proofs.Common.{◌≡◌, ℕ, zero, suc, ◌+◌, ◌*◌, ◌<◌, ◌≤◌, true, false, List, []}
-use Rattle.std.proofs.Common.{◌∷◌, length, drop, Some, refl, sym, ap, subst, ◌∙◌}
-use Rattle.std.proofs.Common.{arith, take, take-append-drop}
-use Rattle.std.specs.List.{list_all, list_any}
+use Rattle.std.proofs.Common.{◌≡◌, ℕ, zero, suc, ◌+◌, ◌*◌, ◌<◌, ◌≤◌, false, List, []}
+use Rattle.std.proofs.Common.{◌∷◌, length, drop, Some, refl, sym, ap, ◌∙◌, arith}
+use Rattle.std.specs.List.{list_any}
 use Rattle.std.proofs.lemmas.List.Sums.{sum_by-append, sum_by-take-drop}
 use Rattle.unix_path.specs.Parts.{Value, RootDir, ParentDir, is_rooted, value_bytes, values}
 use Rattle.unix_bytes.proofs.lemmas.lists.ListLemmas.{by_test}
 use Rattle.unix_path.proofs.lemmas.parts.PartLemmas.{values-nil}
 use Rattle.path_runs.specs.Spelling.{spelling_of}
-use Rattle.path_runs.proofs.lemmas.lists.AllLemmas.{AllByRecursion-end}
 use Rattle.path_runs.proofs.lemmas.spelling.PieceValueLemmas.{is_rooted-slash}
 use Rattle.path_within.specs.Below.{names_below}
-use Rattle.path_within.specs.Climbs.{is_name}
-use Rattle.path_within.specs.Resolved.{resolved_of, resolved_bytes_of}
+use Rattle.path_within.specs.Resolved.{resolved_of}
 use Rattle.path_within.specs.Steps.{ReadsAsItself, ValueReadsAsItself}
 use Rattle.path_within.specs.Way.{is_root, way_of}
 use Rattle.path_within.specs.Written.{slashed_len}
@@ -21,9 +18,9 @@ use Rattle.path_within.proofs.lemmas.below.BoundLemmas.{length-spelling, slashed
 use Rattle.path_within.proofs.lemmas.below.BoundLemmas.{slashed_len-names}
 use Rattle.path_within.proofs.lemmas.below.BoundLemmas.{slashed_len-rootless}
 use Rattle.path_within.proofs.lemmas.below.NamesBelowLemmas.{resolved_of-slash}
-use Rattle.path_within.proofs.lemmas.kept.PathOfLemmas.{ReadsAsItself-values}
-use Rattle.path_within.proofs.lemmas.kept.ResolveLemmas.{values-resolved}
-use Rattle.path_within.proofs.lemmas.ways.NoWayLemmas.{names_rootless}
+use Rattle.path_within.proofs.lemmas.kept.ResolveLemmas.{ReadsAsItself-resolved}
+use Rattle.path_within.proofs.lemmas.kept.KeepLemmas.{names_straight}
+use Rattle.path_within.proofs.lemmas.kept.WayLemmas.{names_all, straight_rootless}
 
 -- the bytes of a value that are a path of it alone are some
 one_has_bytes : (v : Value) → ValueReadsAsItself v → 0 < length (value_bytes v)
@@ -84,17 +81,13 @@ length-way from to steps e =
     let x = drop n v in
     let y = drop n w in
     let are = steps_between-is x y steps e in
-    let ones : ReadsAsItself x =
-    AllByRecursion-end ValueReadsAsItself (take n v) x
-    (subst ReadsAsItself (sym (take-append-drop n v))
-    (subst ReadsAsItself (values-resolved from) (ReadsAsItself-values (resolved_bytes_of from)))) in
     omega (
       arith,
       length-spelling steps,
       ap slashed_len (sym are.steps_are),
       sum_by-append (λ v. 1 + length (value_bytes v)) (ups_of x) y,
       ups_len x,
-      ones_long x ones,
-      rest_fits from n (names_rootless x are.names),
+      ones_long x (ReadsAsItself-resolved n from),
+      rest_fits from n (straight_rootless x (names_straight x (names_all x are.names))),
       rest_fits to n are.no_root,
     )

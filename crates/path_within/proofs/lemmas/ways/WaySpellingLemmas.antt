@@ -1,13 +1,13 @@
 -- How a way is spelled, and when there is none.
 use Rattle.std.proofs.Common.{◌≡◌, ℕ, zero, suc, Bool, false, not, cond, eqb, List, [], ◌∷◌, ◌++◌}
-use Rattle.std.proofs.Common.{length, take, drop, Some, None, option_map, refl, sym, ap, ap₂, subst}
-use Rattle.std.proofs.Common.{◌∙◌, arith, append_assoc, append-nil, take-append-drop, eqb-true}
+use Rattle.std.proofs.Common.{length, drop, Some, None, option_map, refl, sym, ap, ap₂, subst, ◌∙◌}
+use Rattle.std.proofs.Common.{arith, append_assoc, append-nil, eqb-true}
 use Rattle.std.specs.List.{list_all}
 use Rattle.std.proofs.Math.ListN.{replicate}
 use Rattle.std.proofs.lemmas.Grind.{flat_map-append}
 use Rattle.std.proofs.lemmas.List.{drop_all, nil_from_length}
 use Rattle.unix_path.specs.Joins.{is_open, join_of}
-use Rattle.unix_path.specs.Parts.{Value, RootDir, CurDir, ParentDir, Normal, dot, slash}
+use Rattle.unix_path.specs.Parts.{Value, RootDir, ParentDir, Normal, dot, slash}
 use Rattle.unix_path.specs.Parts.{is_rooted, value_bytes, values}
 use Rattle.unix_path.specs.Scan.{begins_with_parent}
 use Rattle.unix_bytes.proofs.lemmas.lists.ListLemmas.{by_test}
@@ -15,19 +15,18 @@ use Rattle.unix_path.proofs.lemmas.edits.JoinLemmas.{join_of_closed}
 use Rattle.unix_path.proofs.lemmas.parts.PartLemmas.{values-nil}
 use Rattle.unix_path.proofs.lemmas.callers.CallerLemmas.{same_value-Decides}
 use Rattle.path_runs.specs.Spelling.{slashed_bytes, spelling_of}
-use Rattle.path_runs.proofs.lemmas.lists.AllLemmas.{AllByRecursion-end}
 use Rattle.path_runs.proofs.lemmas.joins.AssociativeLemmas.{join_of-nil}
 use Rattle.path_runs.proofs.lemmas.spelling.PieceValueLemmas.{is_rooted-slash, values-rooted}
 use Rattle.path_runs.proofs.lemmas.gaps.StretchLemmas.{slash_each, slashed_bytes-cons}
 use Rattle.path_within.specs.Climbs.{is_name}
 use Rattle.path_within.specs.Resolved.{AreUpsThenNames, resolved_of, resolved_bytes_of}
-use Rattle.path_within.specs.Steps.{ReadsAsItself, ValueReadsAsItself}
+use Rattle.path_within.specs.Steps.{ReadsAsItself}
 use Rattle.path_within.specs.Way.{way_of}
 use Rattle.path_within.proofs.lemmas.kept.BetweenLemmas.{shared_count, steps_from, ups_of}
-use Rattle.path_within.proofs.lemmas.kept.KeepLemmas.{resolved_of-resolved_of}
-use Rattle.path_within.proofs.lemmas.ways.LeadsLemmas.{values-spelling_of_straight}
-use Rattle.path_within.proofs.lemmas.kept.PathOfLemmas.{ReadsAsItself-values}
-use Rattle.path_within.proofs.lemmas.kept.ResolveLemmas.{values-resolved}
+use Rattle.path_within.proofs.lemmas.kept.KeepLemmas.{straight_normal}
+use Rattle.path_within.proofs.lemmas.ways.LeadsLemmas.{values-spelling_of_normal}
+use Rattle.path_within.proofs.lemmas.kept.ResolveLemmas.{ReadsAsItself-drop, values-resolved}
+use Rattle.path_within.proofs.lemmas.kept.ResolveLemmas.{resolved_bytes_of-again}
 use Rattle.unix_path.proofs.lemmas.steps.LeadLemmas.{values-parent_first}
 use Rattle.path_within.proofs.lemmas.ways.RemainderLemmas.{HasSteps, are_left, has_steps, left_of}
 use Rattle.path_within.proofs.lemmas.ways.RemainderLemmas.{onward_of}
@@ -37,9 +36,7 @@ use Rattle.path_within.proofs.lemmas.kept.WayLemmas.{ups_straight}
 
 -- a resolved path is resolved as it stands
 pub resolved_again : (s t : List ℕ) → t ≡ resolved_bytes_of s → resolved_bytes_of t ≡ t
-resolved_again s t e =
-    ap resolved_bytes_of e ∙ ap spelling_of (ap resolved_of (values-resolved s)
-    ∙ resolved_of-resolved_of (values s)) ∙ sym e
+resolved_again s t e = subst (λ t. resolved_bytes_of t ≡ t) (sym e) (resolved_bytes_of-again s)
 
 -- s and t are the two paths resolved
 pub record AreResolved (from to s t : List ℕ) : Type 0 where
@@ -88,14 +85,13 @@ no_way-roots from to s t h differ =
 read_back : (vs : List Value) → AreUpsThenNames vs → ReadsAsItself vs
     → values (slashed_bytes vs) ≡ vs
 read_back vs h k =
-    ap values (sym (spelling_of-straight vs h)) ∙ values-spelling_of_straight vs h k
+    ap values (sym (spelling_of-straight vs h))
+    ∙ values-spelling_of_normal vs (straight_normal vs h) k
 
 -- their spelling begins with `..` exactly if they aren't names alone
 up_told : (vs : List Value) → AreUpsThenNames vs → ReadsAsItself vs
     → begins_with_parent (slashed_bytes vs) ≡ not (list_all is_name vs)
 up_told [] h k = refl
-up_told (RootDir ∷ vs) h k = absurd h
-up_told (CurDir ∷ vs) h k = absurd h
 up_told (ParentDir ∷ []) h k = refl
 up_told (ParentDir ∷ v ∷ vs) h k = refl
 up_told (Normal name ∷ vs) h k =
@@ -104,6 +100,7 @@ up_told (Normal name ∷ vs) h k =
     (λ e. absurd (let no : ParentDir ∷ _ ≡ Normal name ∷ vs =
     sym (values-parent_first s e) ∙ read_back (Normal name ∷ vs) h k in cc))
     (λ e. e ∙ sym (ap not (list_all-names vs h)))
+up_told (v ∷ vs) h k = absurd h
 
 slashed_rootless : (vs : List Value) → AreUpsThenNames vs → ReadsAsItself vs
     → is_rooted (slashed_bytes vs) ≡ false
@@ -116,11 +113,6 @@ slashed_rootless vs h k = by_test (is_rooted (slashed_bytes vs))
 ups_of-is : (vs : List Value) → ups_of vs ≡ replicate (length vs) ParentDir
 ups_of-is [] = refl
 ups_of-is (v ∷ vs) = ap (λ us. ParentDir ∷ us) (ups_of-is vs)
-
-one_drop : (n : ℕ) (s : List ℕ) → ReadsAsItself (drop n (values s))
-one_drop n s = let vs = values s in
-    AllByRecursion-end ValueReadsAsItself (take n vs) (drop n vs)
-    (subst ReadsAsItself (sym (take-append-drop n vs)) (ReadsAsItself-values s))
 
 -- `..` for each part of `left`, and then what is left of t
 abbrev pub way_bytes : List ℕ → List ℕ → List ℕ → List ℕ
@@ -135,7 +127,7 @@ way_told from to s t left up h same is e =
     let x = left_of s t in
     let y = onward_of s t in
     let are = are_left s t h.first h.second same in
-    let ones = one_drop _ s in
+    let ones = ReadsAsItself-drop _ s in
     let told = sym e ∙ ap begins_with_parent is ∙ up_told x are.first ones in
     let rootless = straight_rootless y are.second in
     let count : length (values left) ≡ length x =
@@ -192,7 +184,7 @@ pub joined-way : (from to s t left onward ups : List ℕ) → AreResolved from t
     → joined ups onward ≡ way_bytes left s t
 joined-way from to s t left onward ups h same e f = ap₂ joined f e ∙ joined-ups
     (length (values left)) (onward_of s t) (are_left s t h.first h.second same).second
-    (one_drop _ t)
+    (ReadsAsItself-drop _ t)
 
 -- equal lists share all their values
 same_count : (vs : List Value) → shared_count vs vs ≡ length vs

@@ -4,7 +4,7 @@ use Rattle.unix_path.specs.Parts.{values}
 use Rattle.std.proofs.lemmas.Iterator.Search.{all_from_yields_List}
 use Rattle.unix_path.proofs.lemmas.walks.CursorLemmas.{Components-yields}
 use Rattle.path_within.specs.Climbs.{is_name}
-use Rattle.path_within.proofs.lemmas.plain.NormalLemmas.{all_names}
+use Rattle.path_within.proofs.lemmas.plain.PlainLemmas.{all_names}
 use Rattle.path_within.proofs.normal.are_names.Goals as goal
 
 pub returns-then-is_plain : goal.returns-then-is_plain

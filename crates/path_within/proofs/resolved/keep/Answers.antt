@@ -4,7 +4,6 @@ use Rattle.unix_path.specs.Joins.{join_of}
 use Rattle.unix_path.specs.Parts.{RootDir, values}
 use Rattle.unix_path.proofs.lemmas.parts.PartLemmas.{values-nil}
 use Rattle.path_runs.proofs.lemmas.joins.LeadLemmas.{drop_dot-values}
-use Rattle.path_within.specs.declared.runs.Run.TheVariants.{Name, Names}
 use Rattle.path_within.specs.Resolved.{kept_of}
 use Rattle.path_within.proofs.lemmas.plain.KeepRunLemmas.{keeps_all, keeps_names, keeps_root_alone}
 use Rattle.path_within.proofs.lemmas.plain.KeepRunLemmas.{keeps_run}
@@ -44,18 +43,16 @@ loop-run-init c = λ ks h.
     ]
 
 pub loop-run-preserved-in-Continue-branch-3 : goal.loop-run-preserved-in-Continue-branch-3
-loop-run-preserved-in-Continue-branch-3 c = λ ks h. keeps_run c.in-Some.ensures.some
-    {is = Name c.in-Name.name} c.in-Name.is
+loop-run-preserved-in-Continue-branch-3 c = λ ks h.
+    keeps_run (rw c.in-Name.is at c.in-Some.ensures.some)
     (λ ks spelled k. keeps_names c.in-Name.name.bytes.now spelled.0 k
-    c.in_ok-push-in-Name.ensures.ok)
-    (c.loop-run.invariant ks h)
+    c.in_ok-push-in-Name.ensures.ok) (c.loop-run.invariant ks h)
 
 pub loop-run-preserved : goal.loop-run-preserved
-loop-run-preserved c = λ ks h. keeps_run c.in-Some.ensures.some {is = Names c.in-Names.names}
-    c.in-Names.is
+loop-run-preserved c = λ ks h.
+    keeps_run (rw c.in-Names.is at c.in-Some.ensures.some)
     (λ ks spelled k. keeps_names c.in-Names.names.bytes.now spelled k
-    c.in_ok-push-in-Names.ensures.ok)
-    (c.loop-run.invariant ks h)
+    c.in_ok-push-in-Names.ensures.ok) (c.loop-run.invariant ks h)
 
 pub returns : goal.returns
 returns c = record {

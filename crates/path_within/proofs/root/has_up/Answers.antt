@@ -1,12 +1,11 @@
-use Rattle.std.proofs.Common.{◌≡◌, ◌||◌, ◌++◌, ℕ, List, ◌∷◌, refl, sym, ap, subst, ◌∙◌}
+use Rattle.std.proofs.Common.{◌≡◌, ◌||◌, ◌++◌, ℕ, List, ◌∷◌, refl, sym, ap, ◌∙◌}
 use Rattle.std.proofs.lemmas.List.Folds.{list_any-append}
 use Rattle.unix_path.specs.Parts.{Value, CurDir, values}
 use Rattle.unix_path.proofs.lemmas.parts.PartLemmas.{values-nil}
 use Rattle.path_runs.specs.JoinLaws.{drop_dot}
 use Rattle.path_runs.proofs.lemmas.joins.LeadLemmas.{drop_dot-values}
-use Rattle.path_within.specs.declared.runs.Run.TheVariants.{Name, Names}
 use Rattle.path_within.specs.Climbs.{has_root_or_up, is_root_or_up}
-use Rattle.path_within.specs.Runs.{run_values, AreSpelledNames, IsSpelled}
+use Rattle.path_within.specs.Runs.{AreSpelledNames}
 use Rattle.path_within.proofs.lemmas.plain.WholeLemmas.{plain_down}
 use Rattle.path_within.proofs.root.has_up.Goals as goal
 
@@ -29,29 +28,20 @@ loop-run-init c =
     ∙ has_up-drop_dot (values s)
 
 pub returns-in-Up : goal.returns-in-Up
-returns-in-Up c =
-    let left = values c.next.new.self.left.now in
-    sym (ap has_root_or_up (c.in-Some.ensures.some.split
-    ∙ ap (λ run. run_values run ++ left) c.in-Up.is)) ∙ c.loop-run.invariant
+returns-in-Up c = let run = rw c.in-Up.is at c.in-Some.ensures.some in
+    sym (ap has_root_or_up run.split) ∙ c.loop-run.invariant
 
 pub loop-run-preserved-in-Name : goal.loop-run-preserved-in-Name
 loop-run-preserved-in-Name c =
-    let name = c.in-Name.field-0 in
-    let left = values c.next.new.self.left.now in
-    let spelled = subst IsSpelled {y = Name name} c.in-Name.is c.in-Some.ensures.some.spelled in
-    has_up-behind c.loop-run.runs.left.now c.next.new.self.left.now name.bytes.now spelled.0
-    (c.in-Some.ensures.some.split ∙ ap (λ run. run_values run ++ left) c.in-Name.is)
-    ∙ c.loop-run.invariant
+    let run = rw c.in-Name.is at c.in-Some.ensures.some in
+    has_up-behind c.loop-run.runs.left.now c.next.new.self.left.now c.in-Name.field-0.bytes.now
+    run.spelled.0 run.split ∙ c.loop-run.invariant
 
 pub loop-run-preserved : goal.loop-run-preserved
 loop-run-preserved c =
-    let names = c.in-Names.field-0 in
-    let left = values c.next.new.self.left.now in
-    let spelled = subst IsSpelled {y = Names names} c.in-Names.is
-    c.in-Some.ensures.some.spelled in
-    has_up-behind c.loop-run.runs.left.now c.next.new.self.left.now names.bytes.now spelled
-    (c.in-Some.ensures.some.split ∙ ap (λ run. run_values run ++ left) c.in-Names.is)
-    ∙ c.loop-run.invariant
+    let run = rw c.in-Names.is at c.in-Some.ensures.some in
+    has_up-behind c.loop-run.runs.left.now c.next.new.self.left.now c.in-Names.field-0.bytes.now
+    run.spelled run.split ∙ c.loop-run.invariant
 
 pub returns : goal.returns
 returns c = sym (ap (λ s. has_root_or_up (values s)) (c.in_default.ensures.none refl)
