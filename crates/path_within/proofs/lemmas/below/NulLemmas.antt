@@ -1,15 +1,13 @@
 -- A NUL stands in a path exactly if one stands in a name of the path.
-use Rattle.std.proofs.Common.{◌≡◌, ℕ, Bool, true, false, cond, eqb, ltb, ◌||◌, List, []}
-use Rattle.std.proofs.Common.{◌∷◌, refl, sym, ap, ap₂, ◌∙◌, arith}
+use Rattle.std.proofs.Common.{◌≡◌, ℕ, Bool, false, cond, eqb, ltb, ◌||◌, List, []}
+use Rattle.std.proofs.Common.{◌∷◌, refl, sym, ap, ◌∙◌, arith}
 use Rattle.std.specs.List.{count_by, join_with_byte, list_any, slice_split}
-use Rattle.std.specs.Str.{bytes_eq}
 use Rattle.std.proofs.lemmas.Bool.Decides.{nat_tests}
 use Rattle.std.proofs.lemmas.List.Folds.{list_any-append}
 use Rattle.std.proofs.lemmas.List.Sums.{sum_by-cons}
 use Rattle.std.proofs.lemmas.Slice.Eq.{bytes_eq-Decides}
 use Rattle.unix_path.specs.Parts.{Value, RootDir, is_slash, cur_dir, counts, slash, value_bytes}
 use Rattle.unix_path.specs.Parts.{values}
-use Rattle.unix_bytes.proofs.lemmas.lists.ListLemmas.{by_test}
 use Rattle.unix_path.proofs.lemmas.parts.ValueLemmas.{value_bytes-piece}
 use Rattle.path_runs.specs.JoinLaws.{drop_lead}
 use Rattle.path_runs.proofs.lemmas.joins.LeadLemmas.{drop_lead-values}
@@ -25,25 +23,19 @@ nul_in v = has_nul (value_bytes v)
 -- a NUL stands in a piece
 nul_pieces : (ps : List (List ℕ)) → has_nul (join_with_byte slash ps) ≡ list_any has_nul ps
 nul_pieces [] = refl
-nul_pieces (p ∷ []) = by_test (has_nul p) (λ e. rw e refl) (λ e. rw e refl)
+nul_pieces (p ∷ []) = grind arith
 nul_pieces (p ∷ q ∷ ps) =
     list_any-append (λ b. eqb b 0) p (slash ∷ join_with_byte slash (q ∷ ps))
     ∙ ap (λ b. has_nul p || b) (nul_pieces (q ∷ ps))
 
 -- a piece that doesn't count has no NUL
 no_nul_filler : (p : List ℕ) → counts p ≡ false → has_nul p ≡ false
-no_nul_filler p h = by_test (bytes_eq p [])
-    (λ e. ap has_nul ((bytes_eq-Decides p []).0 e))
-    (λ e. by_test (bytes_eq p cur_dir)
-    (λ f. ap has_nul ((bytes_eq-Decides p cur_dir).0 f))
-    (λ f. absurd (let no : true ≡ false = rw (e, f) at h in cc)))
+no_nul_filler p h = grind (arith, bytes_eq-Decides p [], bytes_eq-Decides p cur_dir)
 
 -- a NUL stands in the value of a piece that counts
 nul_names : (ps : List (List ℕ)) → list_any has_nul ps ≡ list_any nul_in (names_of ps)
 nul_names [] = refl
-nul_names (p ∷ ps) = by_test (counts p)
-    (λ e. rw e (ap₂ ◌||◌ (ap has_nul (sym (value_bytes-piece p))) (nul_names ps)))
-    (λ e. rw (e, no_nul_filler p e) (nul_names ps))
+nul_names (p ∷ ps) = grind (arith, no_nul_filler p, value_bytes-piece p, nul_names ps)
 
 -- neither the root nor a dot has a NUL
 nul_lead : (vs : List Value) → list_any nul_in (drop_lead vs) ≡ list_any nul_in vs

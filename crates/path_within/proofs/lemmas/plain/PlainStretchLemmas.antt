@@ -1,57 +1,41 @@
 -- The first bytes of a string, up to a slash or the end: they are plain if plain pieces begin them
 -- and follow their slashes.
-use Rattle.std.proofs.Common.{◌≡◌, ℕ, ◌+◌, ◌<◌, ◌≤◌, true, false, eqb, ltb, cond}
+use Rattle.std.proofs.Common.{◌≡◌, ℕ, ◌+◌, ◌<◌, ◌≤◌, true, false, eqb, cond}
 use Rattle.std.proofs.Common.{◌&&◌, ◌||◌, not, Bool, List, take, drop, get_or, length, get_or-drop}
 use Rattle.std.proofs.Common.{refl, sym, ap, ap₂, subst, ◌∙◌, arith, length-take}
 use Rattle.std.specs.Int.{from_bool}
-use Rattle.std.proofs.lemmas.Bool.{and_parts, both_ways, ltb-true, ltb-false, or_right}
+use Rattle.std.proofs.lemmas.Bool.{and_parts}
 use Rattle.std.proofs.lemmas.List.{get_or-take, get_or_past, get_or_default}
 use Rattle.unix_path.specs.Scan.{begins_with_parent, is_break, is_filler}
 use Rattle.unix_path.specs.Parts.{is_rooted, is_slash}
-use Rattle.unix_bytes.proofs.lemmas.lists.ListLemmas.{by_test}
 use Rattle.path_within.specs.PlainPieces.{has_plain_pieces, is_end, begins_plain, goes_on_plain}
 use Rattle.path_within.specs.PlainPieces.{is_plain}
 use Rattle.path_within.proofs.lemmas.plain.PlainStartLemmas.{plain_pieces}
 
 -- cut at a slash or the end, a string has the same ends of pieces up to there
 is_end-take : (s : List ℕ) (n i : ℕ) → i ≤ n → is_end s n ≡ true → is_end (take n s) i ≡ is_end s i
-is_end-take s n i l e = by_test (ltb i n)
-    (λ t. let less = ltb-true i n t in ap (λ b. eqb b 47) (get_or-take n s i 47 less))
-    (λ t. let least = ltb-false i n t in
-    ap (λ b. eqb b 47) (get_or_past (take n s) i 47 (omega (arith, length-take n s)))
-    ∙ sym (ap (is_end s) {x = i} {y = n} (omega arith) ∙ e))
+is_end-take s n i l e = grind (
+  arith,
+  get_or-take n s i 47,
+  get_or_past (take n s) i 47,
+  length-take n s,
+)
 
 -- behind an end stands no plain piece
 pub begins_plain-end : (s : List ℕ) (i : ℕ) → is_end s i ≡ true → begins_plain s i ≡ false
 begins_plain-end s i e = rw e refl
 
--- cut at a slash or the end, a string has a piece's end, or one more dot before it, at the same
--- places
-more-take : (s : List ℕ) (n i j : ℕ) → i ≤ n → j ≡ i + 1 → is_end s n ≡ true
-    → (is_end (take n s) i || (eqb (get_or (take n s) i 0) 46 && is_end (take n s) j))
-    ≡ (is_end s i || (eqb (get_or s i 0) 46 && is_end s j))
-more-take s n i j l next e = by_test (ltb i n)
-    (λ t. let less = ltb-true i n t in
-    ap₂ ◌||◌ (is_end-take s n i l e) (ap₂ (λ b c. eqb b 46 && c) (get_or-take n s i 0 less)
-    (is_end-take s n j (omega arith) e)))
-    (λ t. let least = ltb-false i n t in
-    let here : is_end s i ≡ true = ap (is_end s) {x = i} {y = n} (omega arith) ∙ e in
-    ap (λ c. c || (eqb (get_or (take n s) i 0) 46 && is_end (take n s) j))
-    (is_end-take s n i l e ∙ here)
-    ∙ sym (ap (λ c. c || (eqb (get_or s i 0) 46 && is_end s j)) here))
-
 -- cut at a slash or the end, a string has the same plain pieces up to there
 begins_plain-take : (s : List ℕ) (n i : ℕ) → i ≤ n → is_end s n ≡ true
     → begins_plain (take n s) i ≡ begins_plain s i
-begins_plain-take s n i l e = by_test (ltb i n)
-    (λ t. let less = ltb-true i n t in
-    ap₂ (λ c d. not (c || d)) (is_end-take s n i l e)
-    (ap₂ (λ b c. eqb b 46 && c) (get_or-take n s i 0 less)
-    (more-take s n (i + 1) (i + 2) (omega arith) (omega arith) e)))
-    (λ t. let least = ltb-false i n t in
-    let here : is_end s i ≡ true = ap (is_end s) {x = i} {y = n} (omega arith) ∙ e in
-    begins_plain-end (take n s) i (is_end-take s n i l e ∙ here)
-    ∙ sym (begins_plain-end s i here))
+begins_plain-take s n i l e = grind (
+  arith,
+  is_end-take s n i,
+  is_end-take s n (i + 1),
+  is_end-take s n (i + 2),
+  get_or-take n s i 0,
+  get_or-take n s (i + 1) 0,
+)
 
 -- if a plain piece begins the string, and one behind each slash before place n, the pieces up to n
 -- are plain
@@ -64,11 +48,6 @@ plain_stretch s n first onward e = plain_pieces (take n s)
     ap₂ (λ b c. not (eqb b 47) || c) (get_or-take n s k 0 less)
     (begins_plain-take s n (k + 1) (omega arith) e) ∙ onward k less)
 
--- the byte at i, told from the end and from a dot
-begins_by : (x y e z f : Bool) → not (x || (y && (e || (z && f))))
-    ≡ (not (x || (y && e)) && not (y && (z && f)))
-begins_by x y e z f = grind arith
-
 -- a plain piece begins where neither filler nor `..` does
 pub begins_plain-scan : (s : List ℕ) (i : ℕ) → i < length s
     → begins_plain s i ≡ (not (is_filler s i) && not (begins_with_parent (drop i s)))
@@ -76,48 +55,30 @@ begins_plain-scan s i l =
     let byte : (j k d : ℕ) → k ≡ i + j → get_or (drop i s) j d ≡ get_or s k d =
     λ j k d e. get_or-drop i s j d ∙ ap (λ k. get_or s k d) (sym e) in
     let here : get_or s i 47 ≡ get_or s i 0 = sym (get_or_default s i 0 47 l) in
-    ap (λ x. not (eqb x 47 || (eqb (get_or s i 0) 46 && (is_end s (i + 1)
-    || (eqb (get_or s (i + 1) 0) 46 && is_end s (i + 2)))))) here
-    ∙ begins_by (eqb (get_or s i 0) 47) (eqb (get_or s i 0) 46) (is_end s (i + 1))
-    (eqb (get_or s (i + 1) 0) 46) (is_end s (i + 2))
-    ∙ ap (λ t. not (is_filler s i) && not t)
-    (sym (ap₂ ◌&&◌ (ap (λ x. eqb x 46) (byte 0 i 0 (omega arith)))
-    (ap₂ ◌&&◌ (ap (λ x. eqb x 46) (byte 1 (i + 1) 0 (omega arith)))
-    (ap (λ x. eqb x 47) (byte 2 (i + 2) 47 (omega arith))))))
+    grind (
+      arith,
+      here,
+      byte 0 i 0 (omega arith),
+      byte 1 (i + 1) 0 (omega arith),
+      byte 2 (i + 2) 47 (omega arith),
+    )
 
 -- behind a slash that no slash, no dot and no end follows, a plain piece begins
 pub unbroken_plain : (s : List ℕ) (k : ℕ) → is_break s k ≡ false → goes_on_plain s k ≡ true
-unbroken_plain s k h = by_test (eqb (get_or s k 0) 47)
-    (λ e. by_test (eqb (get_or s (k + 1) 47) 47)
-    (λ f. let no : true ≡ false = rw (e, f) at h in cc)
-    (λ f. by_test (ltb (k + 1) (length s))
-    (λ t. let next = get_or_default s (k + 1) 0 47 (ltb-true (k + 1) (length s) t) in
-    let no_dot : eqb (get_or s (k + 1) 47) 46 ≡ false = rw (e, f) at h in
-    rw (e, f, next, no_dot) refl)
-    (λ t. let past = get_or_past s (k + 1) 0 (ltb-false (k + 1) (length s) t) in
-    rw (e, f, past) refl)))
-    (λ e. rw e refl)
+unbroken_plain s k h =
+    grind (arith, get_or_default s (k + 1) 0 47, get_or_past s (k + 1) 0)
 
 -- a slash or the length ends a piece
 pub ends_at : (s : List ℕ) (n : ℕ) → (n < length s → is_slash (get_or s n 0) ≡ true)
     → is_end s n ≡ true
-ends_at s n slash = by_test (ltb n (length s))
-    (λ t. let l = ltb-true n (length s) t in
-    ap (λ x. eqb x 47) (sym (get_or_default s n 0 47 l)) ∙ slash l)
-    (λ t. ap (λ x. eqb x 47) (get_or_past s n 47 (ltb-false n (length s) t)))
+ends_at s n slash = grind (arith, get_or_default s n 0 47, get_or_past s n 47)
 
 -- plain pieces that go on up to place n, over it and behind it go on all the way
 pub goes_on_over : (s : List ℕ) (start n end : ℕ) → begins_plain s (n + 1) ≡ true
     → ((k : ℕ) → start ≤ k → k < n → goes_on_plain s k ≡ true)
     → ((k : ℕ) → n + 1 ≤ k → k < end → goes_on_plain s k ≡ true)
     → (k : ℕ) → start ≤ k → k < end → goes_on_plain s k ≡ true
-goes_on_over s start n end next before behind k from l = by_test (ltb k n)
-    (λ t. before k from (ltb-true k n t))
-    (λ t. by_test (ltb k (n + 1))
-    (λ u. subst (λ j. goes_on_plain s j ≡ true) {x = n} {y = k}
-    (omega (arith, ltb-false k n t, ltb-true k (n + 1) u))
-    (or_right (not (is_slash (get_or s n 0))) _ next))
-    (λ u. behind k (ltb-false k (n + 1) u) l))
+goes_on_over s start n end next before behind k from l = grind (arith, before k, behind k)
 
 -- up to place n, which ends a piece, s has plain pieces
 pub record Stretch (s : List ℕ) (n : ℕ) : Type 0 where
@@ -128,10 +89,7 @@ pub record Stretch (s : List ℕ) (n : ℕ) : Type 0 where
 pub names_stretch : (s : List ℕ) (n : ℕ) → begins_plain s 0 ≡ true
     → ((k : ℕ) → k < n → goes_on_plain s k ≡ true) → is_end s n ≡ true → Stretch s n
 names_stretch s n first onward ends = record {
-  some = by_test (ltb 0 n) (λ t. ltb-true 0 n t)
-      (λ t. absurd (both_ways (begins_plain s 0)
-      (begins_plain-end s 0 (ap (is_end s) {x = 0} {y = n}
-      (omega (arith, ltb-false 0 n t)) ∙ ends)) first));
+  some = grind arith;
   plain = plain_stretch s n first onward ends;
   ends = ends;
 }

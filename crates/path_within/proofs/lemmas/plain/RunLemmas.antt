@@ -2,7 +2,7 @@
 use Rattle.std.proofs.Common.{◌≡◌, ℕ, zero, suc, ◌+◌, ◌<◌, ◌≤◌, true, false, eqb, ltb, cond}
 use Rattle.std.proofs.Common.{List, [], ◌∷◌, ◌++◌, length, take, drop, get_or, map, refl, sym, ap}
 use Rattle.std.proofs.Common.{◌∙◌, arith, eqb-true, take_all, take-append-drop, drop-cons}
-use Rattle.std.proofs.Common.{length-take-le, ne_eqb, ◌&&◌, ◌||◌}
+use Rattle.std.proofs.Common.{length-take-le, ne_eqb, ◌&&◌}
 use Rattle.std.specs.List.{AllByRecursion, position_or_len, slice_split}
 use Rattle.std.proofs.Common.{not, subst, ap₂}
 use Rattle.std.proofs.lemmas.Bool.{eqb-false, ltb-true, ltb-false}
@@ -40,11 +40,14 @@ inner_values-filler s n l filler = sym (values-inner_parts (0 + n) (drop n s))
 -- nor does a slash, or the end
 pub inner_values-end : (s : List ℕ) (n : ℕ) → is_end s n ≡ true
     → inner_values (drop n s) ≡ inner_values (drop (n + 1) s)
-inner_values-end s n e = by_test (ltb n (length s))
-    (λ t. let l = ltb-true n (length s) t in
-    inner_values-filler s n l (filler_slash s n (get_or_default s n 0 47 l ∙ eqb-true _ 47 e)))
-    (λ t. let l = ltb-false n (length s) t in
-    ap inner_values (drop_all n s l ∙ sym (drop_all (n + 1) s (omega arith))))
+inner_values-end s n e = grind (
+  arith,
+  get_or_default s n 0 47,
+  filler_slash s n,
+  inner_values-filler s n,
+  drop_all n s,
+  drop_all (n + 1) s,
+)
 
 -- a string whose length isn't 0 has a byte
 pub some_byte : (s : List ℕ) → eqb (length s) 0 ≡ false → 0 < length s
@@ -82,10 +85,7 @@ values-root s r = values-lead s
 -- what is left behind all filler begins with none
 pub busy_left : (s : List ℕ) (n : ℕ) → (n < length s → is_filler s n ≡ false)
     → is_filler (drop n s) 0 ≡ false
-busy_left s n busy = is_filler-drop s n ∙ by_test (ltb n (length s))
-    (λ t. busy (ltb-true n (length s) t))
-    (λ t. ap (λ x. eqb x 47 || (eqb x 46 && eqb (get_or s (n + 1) 47) 47))
-    (get_or_past s n 0 (ltb-false n (length s) t)))
+busy_left s n busy = grind (arith, is_filler-drop s n, get_or_past s n 0, get_or_past s (n + 1) 47)
 
 -- behind all filler a string has its inner values
 pub values_left : (s : List ℕ) (n : ℕ) → (n < length s → is_filler s n ≡ false)
@@ -138,8 +138,7 @@ one_piece s name n e is =
 -- where neither filler nor `..` begins, a plain piece does
 pub plain_here : (s : List ℕ) → 0 < length s → is_filler s 0 ≡ false
     → begins_with_parent s ≡ false → begins_plain s 0 ≡ true
-plain_here s some busy no_up = begins_plain-scan s 0 some
-    ∙ ap₂ (λ x y. not x && not y) busy no_up
+plain_here s some busy no_up = grind (arith, begins_plain-scan s 0 some)
 
 -- where neither filler nor a dot begins, a plain piece does
 pub plain_behind : (s rest : List ℕ) (n : ℕ) → rest ≡ drop n s → n < length s
