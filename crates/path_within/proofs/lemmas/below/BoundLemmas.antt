@@ -6,7 +6,7 @@ use Rattle.std.proofs.lemmas.List.Sorted.{IsPermutation-reverse, sum_by-IsPermut
 use Rattle.std.proofs.lemmas.List.Sums.{sum_by-append, sum_by-cons}
 use Rattle.unix_path.specs.CommonDir.{inner_values}
 use Rattle.unix_path.specs.Joins.{join_of}
-use Rattle.unix_path.specs.Parts.{Value, RootDir, CurDir, ParentDir, Normal, slash}
+use Rattle.unix_path.specs.Parts.{Value, RootDir, slash}
 use Rattle.unix_path.specs.Parts.{is_rooted, value_bytes, values}
 use Rattle.unix_bytes.proofs.lemmas.lists.ListLemmas.{by_test}
 use Rattle.unix_path.proofs.lemmas.edits.JoinLemmas.{push_cases}
@@ -25,13 +25,9 @@ use Rattle.path_within.proofs.lemmas.below.NamesBelowLemmas.{names_below-kept, r
 -- one more value adds no more than it has
 sum_by-keep : (f : Value → ℕ) (ks : List Value) (v : Value)
     → sum_by f (keep ks v) ≤ sum_by f ks + f v
-sum_by-keep f ks RootDir = omega (arith, sum_by-cons f RootDir [])
-sum_by-keep f ks CurDir = omega arith
-sum_by-keep f ks (Normal name) = omega (arith, sum_by-cons f (Normal name) ks)
-sum_by-keep f [] ParentDir = omega (arith, sum_by-cons f ParentDir [])
-sum_by-keep f (RootDir ∷ ks) ParentDir = omega arith
-sum_by-keep f (Normal name ∷ ks) ParentDir = omega (arith, sum_by-cons f (Normal name) ks)
-sum_by-keep f (k ∷ ks) ParentDir = omega (arith, sum_by-cons f ParentDir (k ∷ ks))
+sum_by-keep f [] v = grind (arith, sum_by-cons f v [])
+sum_by-keep f (k ∷ ks) v =
+    grind (arith, sum_by-cons f v [], sum_by-cons f v (k ∷ ks), sum_by-cons f k ks)
 
 -- what is kept of values adds up to no more than they do
 sum_by-kept_of : (f : Value → ℕ) (ks vs : List Value)

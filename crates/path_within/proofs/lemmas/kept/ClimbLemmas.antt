@@ -1,6 +1,6 @@
 -- Values that climb, told by a depth that is counted from the left, and what is kept behind values
 -- that don't climb.
-use Rattle.std.proofs.Common.{◌≡◌, ℕ, suc, zero, ◌+◌, ◌<◌, Bool, true, false, cond}
+use Rattle.std.proofs.Common.{◌≡◌, ℕ, suc, zero, ◌+◌, ◌-◌, ◌<◌, Bool, true, false, cond}
 use Rattle.std.proofs.Common.{List, [], ◌∷◌, ◌++◌, length, take, refl, sym, ap, ◌∙◌, arith}
 use Rattle.std.proofs.Common.{inl, inr, ⊎_elim, ◌↔◌}
 use Rattle.std.specs.List.{AllByRecursion, count_by}
@@ -56,27 +56,19 @@ climbs_from-goes zero (ParentDir ∷ vs) r e =
 climbs_from-goes (suc n) (ParentDir ∷ vs) r e =
     one_more (suc n) n ParentDir vs (omega arith) (climbs_from-goes n vs r e)
 
--- if v moves the depth from n to m, first values that go above from n with v do so from m without
-one_less : (n m k : ℕ) (v : Value) (vs : List Value)
-    → n + cond (is_name v) 1 0 ≡ m + cond (is_parent v) 1 0
-    → n + count_by is_name (v ∷ take k vs) < count_by is_parent (v ∷ take k vs)
-    → m + count_by is_name (take k vs) < count_by is_parent (take k vs)
-one_less n m k v vs e h =
-    omega (arith, count_by-cons is_name v (take k vs), count_by-cons is_parent v (take k vs))
-
 -- values of which some first ones have more `..` climb by the depth
 goes-climbs_from : (n k : ℕ) (vs : List Value)
     → n + count_by is_name (take k vs) < count_by is_parent (take k vs) → climbs_from n vs ≡ true
 goes-climbs_from n zero vs h = absurd (omega arith)
 goes-climbs_from n (suc k) [] h = absurd (omega arith)
-goes-climbs_from n (suc k) (RootDir ∷ vs) h = refl
-goes-climbs_from n (suc k) (CurDir ∷ vs) h =
-    goes-climbs_from n k vs (one_less n n k CurDir vs refl h)
-goes-climbs_from n (suc k) (Normal name ∷ vs) h =
-    goes-climbs_from (suc n) k vs (one_less n (suc n) k (Normal name) vs (omega arith) h)
-goes-climbs_from zero (suc k) (ParentDir ∷ vs) h = refl
-goes-climbs_from (suc n) (suc k) (ParentDir ∷ vs) h =
-    goes-climbs_from n k vs (one_less (suc n) n k ParentDir vs (omega arith) h)
+goes-climbs_from n (suc k) (v ∷ vs) h = grind (
+  arith,
+  count_by-cons is_name v (take k vs),
+  count_by-cons is_parent v (take k vs),
+  goes-climbs_from n k vs,
+  goes-climbs_from (suc n) k vs,
+  goes-climbs_from (n - 1) k vs,
+)
 
 -- no inner value is the root
 pub inner-no_roots : (vs : List Value) → AllByRecursion IsInner vs → NoRoot vs

@@ -88,8 +88,7 @@ over_floor {s} {floor} {ks} h =
 -- what is kept below the names stays with more names
 pub below_more : (ks vs : List Value) → AreNames vs → below_names (kept_of ks vs) ≡ below_names ks
 below_more ks [] h = refl
-below_more ks (Normal name ∷ vs) h = below_more (Normal name ∷ ks) vs h
-below_more ks (v ∷ vs) h = absurd h
+below_more ks (v ∷ vs) h = grind (arith, below_more (v ∷ ks) vs)
 
 -- kept bytes that end in a name keep, after a pop, what `..` leaves
 pub keeps_pop : {s t : List ℕ} {floor : ℕ} {ks : List Value} → Keeps s floor ks

@@ -2,7 +2,7 @@
 use Rattle.std.proofs.Common.{◌≡◌, ℕ, ◌+◌, suc, List, [], ◌∷◌, ◌++◌, length, refl, sym, ap}
 use Rattle.std.proofs.Common.{subst, ◌∙◌, arith}
 use Rattle.unix_path.specs.Joins.{join_of}
-use Rattle.unix_path.specs.Parts.{Value, RootDir, CurDir, Normal, slash, values}
+use Rattle.unix_path.specs.Parts.{Value, RootDir, CurDir, slash, values}
 use Rattle.path_runs.specs.JoinLaws.{drop_dot, drop_lead}
 use Rattle.path_runs.proofs.lemmas.joins.LeadLemmas.{drop_lead-values}
 use Rattle.unix_path.specs.CommonDir.{inner_values}
@@ -64,9 +64,7 @@ climbs_from-dot vs = refl
 climbs_from-names : (n : ℕ) (vs ws : List Value) → AreNames vs
     → climbs_from n (vs ++ ws) ≡ climbs_from (n + length vs) ws
 climbs_from-names n [] ws h = ap (λ n. climbs_from n ws) {x = n} {y = n + 0} (omega arith)
-climbs_from-names n (Normal name ∷ vs) ws h = climbs_from-names (suc n) vs ws h
-    ∙ ap (λ n. climbs_from n ws) {x = suc n + length vs} {y = n + suc (length vs)} (omega arith)
-climbs_from-names n (v ∷ vs) ws h = absurd h
+climbs_from-names n (v ∷ vs) ws h = grind (arith, climbs_from-names (suc n) vs ws)
 
 -- so is each of plain names
 pub climbs_from-plain_names : (n : ℕ) (names : List ℕ) (ws : List Value)

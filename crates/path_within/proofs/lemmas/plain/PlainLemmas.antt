@@ -1,10 +1,8 @@
 -- A plain path is resolved as it stands: names alone, or the root and then names.
-use Rattle.std.proofs.Common.{◌≡◌, ℕ, true, false, cond, not, List, [], ◌∷◌, ◌++◌, suc}
-use Rattle.std.proofs.Common.{drop, length, refl, sym, ap, subst, ◌∙◌}
+use Rattle.std.proofs.Common.{◌≡◌, ℕ, true, false, cond, not, List, [], ◌∷◌, ◌++◌}
+use Rattle.std.proofs.Common.{drop, length, refl, sym, ap, subst, ◌∙◌, arith}
 use Rattle.std.specs.List.{list_all, slice_split}
-use Rattle.std.specs.Str.{bytes_eq}
-use Rattle.std.proofs.lemmas.Bool.{and_parts, not-true, or_parts}
-use Rattle.unix_path.specs.Parts.{is_slash, cur_dir, parent_dir, counts, is_rooted}
+use Rattle.unix_path.specs.Parts.{is_slash, counts, is_rooted}
 use Rattle.unix_path.specs.Parts.{RootDir, CurDir, values}
 use Rattle.unix_bytes.proofs.lemmas.lists.ListLemmas.{by_test}
 use Rattle.unix_path.proofs.lemmas.parts.PartLemmas.{values-nil}
@@ -21,46 +19,21 @@ use Rattle.path_within.proofs.lemmas.kept.KeepLemmas.{names_normal}
 use Rattle.path_within.proofs.lemmas.kept.WayLemmas.{list_all-names}
 use Rattle.path_within.proofs.lemmas.plain.NormalLemmas.{resolved_if_normal}
 
--- a plain piece counts, and is neither `.` nor `..`
-record IsPlainPiece (p : List ℕ) : Type 0 where
-  pub counts_is : counts p ≡ true
-  pub no_dot : bytes_eq p cur_dir ≡ false
-  pub no_up : bytes_eq p parent_dir ≡ false
-
-plain_piece : (p : List ℕ) → is_plain_piece p ≡ true → IsPlainPiece p
-plain_piece p h =
-    let parts = and_parts (counts p) (not (bytes_eq p parent_dir)) h in
-    record {
-      counts_is = parts.0;
-      no_dot = (or_parts (bytes_eq p []) (bytes_eq p cur_dir) (not-true _ parts.0)).1;
-      no_up = not-true _ parts.1;
-    }
-
--- the first of plain pieces is plain, and so are the others
-plain_first : (p : List ℕ) (ps : List (List ℕ)) → list_all is_plain_piece (p ∷ ps) ≡ true
-    → IsPlainPiece p × (list_all is_plain_piece ps ≡ true)
-plain_first p ps h =
-    let parts = and_parts (is_plain_piece p) (list_all is_plain_piece ps) h in
-    (plain_piece p parts.0, parts.1)
-
 -- plain pieces count
 plain_counts : (ps : List (List ℕ)) → list_all is_plain_piece ps ≡ true
     → list_all counts ps ≡ true
 plain_counts [] h = refl
-plain_counts (p ∷ ps) h =
-    let both = plain_first p ps h in rw both.0.counts_is (plain_counts ps both.1)
+plain_counts (p ∷ ps) h = grind (arith, plain_counts ps)
 
 -- plain pieces are names
 plain_names : (ps : List (List ℕ)) → list_all is_plain_piece ps ≡ true → AreNames (names_of ps)
 plain_names [] h = tt
-plain_names (p ∷ ps) h =
-    let both = plain_first p ps h in
-    rw (both.0.counts_is, both.0.no_up) (plain_names ps both.1)
+plain_names (p ∷ ps) h = grind (arith, plain_names ps)
 
 -- the first of plain pieces is no `.`
 plain_dot : (ps : List (List ℕ)) → list_all is_plain_piece ps ≡ true → dot_first ps ≡ false
 plain_dot [] h = refl
-plain_dot (p ∷ ps) h = (plain_first p ps h).0.no_dot
+plain_dot (p ∷ ps) h = grind arith
 
 -- a rooted path is resolved as it stands if all pieces of t, which follows the root, are plain
 plain_rooted : (s t : List ℕ) → has_plain_pieces t ≡ true → is_rooted s ≡ true
@@ -121,9 +94,7 @@ pub record HasNames (s : List ℕ) : Type 0 where
 length-names_of : (ps : List (List ℕ)) → list_all counts ps ≡ true
     → length (names_of ps) ≡ length ps
 length-names_of [] h = refl
-length-names_of (p ∷ ps) h =
-    let parts = and_parts (counts p) (list_all counts ps) h in
-    rw parts.0 (ap suc (length-names_of ps parts.1))
+length-names_of (p ∷ ps) h = grind (arith, length-names_of ps)
 
 pub plain_has_names : (s : List ℕ) → is_plain s ≡ true → is_rooted s ≡ false → HasNames s
 plain_has_names s h r =

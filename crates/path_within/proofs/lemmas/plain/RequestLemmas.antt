@@ -1,8 +1,8 @@
 -- Requests with neither a root nor a `..`.
-use Rattle.std.proofs.Common.{◌≡◌, ℕ, suc, true, false, List, [], ◌∷◌, refl, sym, ◌∙◌}
+use Rattle.std.proofs.Common.{◌≡◌, ℕ, suc, true, false, List, [], ◌∷◌, refl, sym, ◌∙◌, arith}
 use Rattle.std.proofs.lemmas.Bool.{both_ways}
 use Rattle.std.specs.List.{AllByRecursion}
-use Rattle.unix_path.specs.Parts.{Value, RootDir, CurDir, ParentDir, Normal, is_rooted, values}
+use Rattle.unix_path.specs.Parts.{Value, RootDir, is_rooted, values}
 use Rattle.unix_path.proofs.lemmas.parts.PartLemmas.{root_first, root_first-values}
 use Rattle.path_runs.specs.JoinLaws.{drop_dot}
 use Rattle.path_runs.proofs.lemmas.joins.LeadLemmas.{IsInner, inner-behind}
@@ -23,9 +23,8 @@ request_rootless b e = sym (root_first-values b) ∙ no_root_first (values b) e
 climbs_from-plain : (n : ℕ) (vs : List Value) → has_root_or_up vs ≡ false
     → climbs_from n vs ≡ false
 climbs_from-plain n [] e = refl
-climbs_from-plain n (CurDir ∷ vs) e = climbs_from-plain n vs e
-climbs_from-plain n (Normal name ∷ vs) e = climbs_from-plain (suc n) vs e
-climbs_from-plain n (v ∷ vs) e = absurd (let no : true ≡ false = e in cc)
+climbs_from-plain n (v ∷ vs) e =
+    grind (arith, climbs_from-plain n vs, climbs_from-plain (suc n) vs)
 
 -- a request without a root or a `..` doesn't climb
 pub request_stays : (b : List ℕ) → has_root_or_up (values b) ≡ false → Climbs (values b) → ⊥
@@ -36,9 +35,7 @@ request_stays b e h = both_ways (climbs_from 0 (values b)) (climbs_from-plain 0 
 inner_names : (vs : List Value) → AllByRecursion IsInner vs → has_root_or_up vs ≡ false
     → AreNames vs
 inner_names [] h e = tt
-inner_names (Normal name ∷ vs) h e = inner_names vs h.1 e
-inner_names (ParentDir ∷ vs) h e = absurd (let no : true ≡ false = e in cc)
-inner_names (v ∷ vs) h e = absurd h.0
+inner_names (v ∷ vs) h e = grind (arith, inner_names vs)
 
 -- a request without a root or a `..` has names alone behind a leading dot
 pub request_names : (b : List ℕ) → has_root_or_up (values b) ≡ false
@@ -47,6 +44,4 @@ request_names b plain = by (values b) refl plain
   where
     by : (vs : List Value) → values b ≡ vs → has_root_or_up vs ≡ false → AreNames (drop_dot vs)
     by [] e h = tt
-    by (CurDir ∷ vs) e h = inner_names vs (inner-behind b CurDir vs e) h
-    by (Normal name ∷ vs) e h = inner_names vs (inner-behind b (Normal name) vs e) h
-    by (v ∷ vs) e h = absurd (let no : true ≡ false = h in cc)
+    by (v ∷ vs) e h = grind (arith, inner_names vs (inner-behind b v vs e))

@@ -1,11 +1,11 @@
 -- The runs of a string, from the left: what each of them is, and what is left behind it.
-use Rattle.std.proofs.Common.{◌≡◌, ℕ, zero, suc, ◌+◌, ◌<◌, ◌≤◌, true, false, eqb, ltb, cond}
+use Rattle.std.proofs.Common.{◌≡◌, ℕ, zero, suc, ◌+◌, ◌<◌, ◌≤◌, true, false, eqb, ltb}
 use Rattle.std.proofs.Common.{List, [], ◌∷◌, ◌++◌, length, take, drop, get_or, map, refl, sym, ap}
 use Rattle.std.proofs.Common.{◌∙◌, arith, eqb-true, take_all, take-append-drop, drop-cons}
-use Rattle.std.proofs.Common.{length-take-le, ne_eqb, ◌&&◌}
+use Rattle.std.proofs.Common.{length-take-le}
 use Rattle.std.specs.List.{AllByRecursion, position_or_len, slice_split}
-use Rattle.std.proofs.Common.{not, subst, ap₂}
-use Rattle.std.proofs.lemmas.Bool.{eqb-false, ltb-true, ltb-false}
+use Rattle.std.proofs.Common.{subst}
+use Rattle.std.proofs.lemmas.Bool.{eqb-false, ltb-true}
 use Rattle.std.proofs.lemmas.List.Elements.{All-from_recursion}
 use Rattle.std.proofs.lemmas.List.Splits.{slice_split_none}
 use Rattle.std.proofs.lemmas.List.Sums.{fails_before_first, passes_at_first}
@@ -24,7 +24,7 @@ use Rattle.unix_path.proofs.lemmas.parts.PieceLemmas.{slice_split-first}
 use Rattle.unix_path.proofs.lemmas.parts.PlaceLemmas.{values-inner_parts}
 use Rattle.path_runs.proofs.lemmas.joins.LeadLemmas.{dot_first, lead_by, values-lead}
 use Rattle.path_runs.proofs.lemmas.spelling.PieceValueLemmas.{slice_split-no_slash, NoSlash}
-use Rattle.path_within.specs.PlainPieces.{begins_plain, goes_on_plain, has_plain_pieces, is_end}
+use Rattle.path_within.specs.PlainPieces.{begins_plain, goes_on_plain, is_end}
 use Rattle.path_within.specs.Runs.{AreSpelledNames}
 use Rattle.path_within.proofs.lemmas.plain.PlainLemmas.{plain_has_names}
 use Rattle.path_within.proofs.lemmas.plain.PlainStretchLemmas.{begins_plain-scan, ends_at}
@@ -65,11 +65,13 @@ values-cut s n some in_range e = by_test (ltb n (length s))
     ∙ ap (λ k. slash ∷ drop k s) {x = suc n} {y = n + 1} (omega arith) in
     ap values (sym (take-append-drop n s) ∙ ap (λ t. take n s ++ t) cons)
     ∙ values-slash (take n s) (drop (n + 1) s) (omega (arith, length-take-le n s in_range)))
-    (λ t.
-    let l = ltb-false n (length s) t in
-    sym (ap (λ t. values (take n s) ++ inner_values t) (drop_all (n + 1) s (omega arith))
-    ∙ ap (λ vs. values (take n s) ++ vs) inner_values-nil ∙ append-nil (values (take n s))
-    ∙ ap values (take_all n s l)))
+    (λ t. grind (
+      arith,
+      drop_all (n + 1) s,
+      take_all n s,
+      append-nil (values (take n s)),
+      inner_values-nil,
+    ))
 
 -- a beginning of a string that begins with no slash has no root
 rootless_take : (s : List ℕ) (n : ℕ) → is_filler s 0 ≡ false → is_rooted (take n s) ≡ false
@@ -104,12 +106,9 @@ pub takes_names : (s t names : List ℕ) (n : ℕ) → is_filler s 0 ≡ false �
 takes_names s t names n busy h l is left =
     let rootless : is_rooted names ≡ false = ap is_rooted is ∙ rootless_take s n busy in
     record {
-      split = values-cut s n h.some l h.ends
-          ∙ ap (λ vs. values (take n s) ++ vs) (sym (inner_values-end s n h.ends) ∙ sym left)
-          ∙ ap (λ names. values names ++ values t) (sym is);
+      split = grind (arith, values-cut s n h.some l h.ends, inner_values-end s n h.ends);
       spelled = record {
-        plain = ap (λ c. has_plain_pieces (cond c (drop 1 names) names)) rootless
-            ∙ ap has_plain_pieces is ∙ h.plain;
+        plain = grind (arith, h.plain);
         rootless = rootless;
       };
     }
@@ -143,11 +142,8 @@ plain_here s some busy no_up = grind (arith, begins_plain-scan s 0 some)
 -- where neither filler nor a dot begins, a plain piece does
 pub plain_behind : (s rest : List ℕ) (n : ℕ) → rest ≡ drop n s → n < length s
     → is_filler rest 0 ≡ false → (get_or rest 0 0 ≡ 46 → ⊥) → begins_plain s n ≡ true
-plain_behind s rest n e l busy other = begins_plain-scan s n l
-    ∙ ap₂ (λ x y. not x && not y)
-    (sym (is_filler-drop s n) ∙ ap (λ t. is_filler t 0) (sym e) ∙ busy)
-    (ap begins_with_parent (sym e) ∙ ap (λ c. c && (eqb (get_or rest 1 0) 46
-    && eqb (get_or rest 2 47) 47)) (ne_eqb _ 46 other))
+plain_behind s rest n e l busy other =
+    grind (arith, begins_plain-scan s n l, is_filler-drop s n)
 
 -- up to the first slash stands one name, and behind that are the values of what is left
 pub record TakesName (s name t : List ℕ) : Type 0 where

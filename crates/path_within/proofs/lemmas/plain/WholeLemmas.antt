@@ -1,8 +1,8 @@
 -- A plain path, kept whole: one join with all its bytes in place of one for each part.
 use Rattle.std.proofs.Common.{◌≡◌, ℕ, true, false, List, [], ◌∷◌, map, reverse}
-use Rattle.std.proofs.Common.{refl, sym, ap, ◌∙◌}
+use Rattle.std.proofs.Common.{refl, sym, ap, ◌∙◌, arith}
 use Rattle.unix_path.specs.Joins.{join_of, join_all_of}
-use Rattle.unix_path.specs.Parts.{Value, Normal, is_rooted, value_bytes, values}
+use Rattle.unix_path.specs.Parts.{Value, is_rooted, value_bytes, values}
 use Rattle.unix_bytes.proofs.lemmas.lists.ListLemmas.{by_test}
 use Rattle.unix_path.proofs.lemmas.edits.JoinLemmas.{join_of_rooted}
 use Rattle.path_runs.specs.Spelling.{spelling_of}
@@ -32,8 +32,7 @@ join_of-all a b (c ∷ bs) = join_of-all a (join_of b c) bs
 path_of-names : (ks vs : List Value) → AreNames vs
     → path_of (kept_of ks vs) ≡ join_all_of (path_of ks) (map value_bytes vs)
 path_of-names ks [] h = refl
-path_of-names ks (Normal name ∷ vs) h = path_of-names (Normal name ∷ ks) vs h
-path_of-names ks (v ∷ vs) h = absurd h
+path_of-names ks (v ∷ vs) h = grind (arith, path_of-names (v ∷ ks) vs)
 
 -- a join with the join of one name or more is a join with one after the other
 join_of-names : (a : List ℕ) (v : Value) (vs : List Value)
@@ -42,15 +41,6 @@ join_of-names : (a : List ℕ) (v : Value) (vs : List Value)
 join_of-names a v vs =
     ap (λ b. join_of a (join_all_of b (map value_bytes vs))) (join_of-nil (value_bytes v))
     ∙ join_of-all a (value_bytes v) (map value_bytes vs)
-
--- if bytes are those of what is kept, they spell it
-spells_kept : {s t : List ℕ} {ks : List Value} (b : List ℕ) → Spells s ks
-    → t ≡ path_of (kept_of ks (values b)) → Spells t (kept_of ks (values b))
-spells_kept {s} {t} {ks} b h e = record {
-  kept = IsKept-kept_of ks (values b) h.kept;
-  one = ReadsAsItself-kept_of ks (values b) h.one (ReadsAsItself-values b);
-  is = e;
-}
 
 -- a plain path without a root, joined whole, gives the bytes that its parts, joined one by one,
 -- give
@@ -80,9 +70,13 @@ whole_rooted ks b h k plain rooted =
 -- bytes that spell kept values, joined with a plain path, spell what is kept after its values
 pub spells_whole : {s t : List ℕ} {ks : List Value} (b : List ℕ) → Spells s ks
     → is_plain b ≡ true → t ≡ join_of s b → Spells t (kept_of ks (values b))
-spells_whole {s} {t} {ks} b h plain e = spells_kept b h (by_test (is_rooted b)
-    (λ r. e ∙ join_of_rooted s b r ∙ whole_rooted ks b h.kept h.one plain r)
-    (λ r. e ∙ ap (λ s. join_of s b) h.is ∙ whole_rootless ks b (plain_has_names b plain r)))
+spells_whole {s} {t} {ks} b h plain e = record {
+  kept = IsKept-kept_of ks (values b) h.kept;
+  one = ReadsAsItself-kept_of ks (values b) h.one (ReadsAsItself-values b);
+  is = by_test (is_rooted b)
+      (λ r. e ∙ join_of_rooted s b r ∙ whole_rooted ks b h.kept h.one plain r)
+      (λ r. e ∙ ap (λ s. join_of s b) h.is ∙ whole_rootless ks b (plain_has_names b plain r));
+}
 
 -- the join of two plain paths is resolved as it stands
 pub resolved-plain_join : (a b : List ℕ) → is_plain a ≡ true → is_plain b ≡ true
@@ -93,8 +87,7 @@ resolved-plain_join a b h k = spells_join a b refl refl
 -- names are neither the root nor `..`
 pub names_down : (vs : List Value) → AreNames vs → has_root_or_up vs ≡ false
 names_down [] h = refl
-names_down (Normal name ∷ vs) h = names_down vs h
-names_down (v ∷ vs) h = absurd h
+names_down (v ∷ vs) h = grind (arith, names_down vs)
 
 -- a plain path without a root has neither a root nor a `..`
 pub plain_down : (b : List ℕ) → is_plain b ≡ true → is_rooted b ≡ false
