@@ -1,6 +1,6 @@
 -- The values that are kept, spelled: each joined to those before it.
 use Rattle.std.proofs.Common.{◌≡◌, ℕ, false, cond, List, [], ◌∷◌, ◌++◌, map}
-use Rattle.std.proofs.Common.{reverse, refl, sym, ap, ◌∙◌}
+use Rattle.std.proofs.Common.{reverse, length, refl, sym, ap, ◌∙◌, ◌<◌, arith}
 use mathlib.Core.List.{reverse_aux}
 use Rattle.std.specs.List.{slice_split}
 use Rattle.std.proofs.lemmas.Grind.{reverse_onto}
@@ -33,6 +33,14 @@ ValueReadsAsItself-dot = values-rootless (dot ∷ []) ((dot ∷ []) ∷ []) refl
 
 pub ValueReadsAsItself-up : ValueReadsAsItself ParentDir
 ValueReadsAsItself-up = values-rootless (dot ∷ dot ∷ []) ((dot ∷ dot ∷ []) ∷ []) refl refl
+
+-- the bytes of a value that are a path of it alone are some
+pub one_has_bytes : (v : Value) → ValueReadsAsItself v → 0 < length (value_bytes v)
+one_has_bytes v one = by (value_bytes v) one
+  where
+    by : (b : List ℕ) → values b ≡ v ∷ [] → 0 < length b
+    by [] e = absurd (let no : [] ≡ v ∷ [] = sym values-nil ∙ e in cc)
+    by (x ∷ b) e = omega arith
 
 piece_rootless : (p : List ℕ) → NoSlash p → is_rooted p ≡ false
 piece_rootless [] h = refl

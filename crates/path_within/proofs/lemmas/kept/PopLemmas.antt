@@ -22,7 +22,7 @@ use Rattle.path_within.specs.Resolved.{AreNames, kept_of, up_from}
 use Rattle.path_within.specs.Steps.{below_names, ReadsAsItself, AreUps, IsKept, ValueReadsAsItself}
 use Rattle.path_within.specs.Steps.{path_of}
 use Rattle.path_within.specs.Steps.{Keeps, Spells}
-use Rattle.path_within.proofs.lemmas.kept.PathOfLemmas.{path_of-spelled, values-path_of}
+use Rattle.path_within.proofs.lemmas.kept.PathOfLemmas.{one_has_bytes, path_of-spelled, values-path_of}
 use Rattle.path_within.proofs.lemmas.kept.PathOfLemmas.{ValueReadsAsItself-up}
 
 -- the bytes of kept values have no filler behind their last part
@@ -59,12 +59,8 @@ join_longer x name one = omega (
   ap length (join_of-separator x name (sym (root_first-values name) ∙ ap root_first one)),
   length-append (x ++ separator x) name,
   length-append x (separator x),
-  some name one,
+  one_has_bytes (Normal name) one,
 )
-  where
-    some : (name : List ℕ) → values name ≡ Normal name ∷ [] → 0 < length name
-    some [] e = absurd (let no : [] ≡ Normal [] ∷ [] = sym values-nil ∙ e in cc)
-    some (b ∷ name) e = omega arith
 
 -- what stands below the names is no longer than all, and shorter if a name is last
 below_shorter : (ks : List Value) → ReadsAsItself ks
@@ -74,16 +70,17 @@ below_shorter (Normal name ∷ ks) one =
 below_shorter ks one = omega arith
 
 -- kept bytes end in a name exactly if they are longer than the floor
-pub over_floor : {s : List ℕ} {floor : ℕ} {ks : List Value} → Keeps s floor ks
+pub over_floor : {s : List ℕ} {floor : ℕ} (ks : List Value) → Keeps s floor ks
     → ltb floor (length s) ≡ ends_in_name ks
-over_floor {s} {floor} {ks} h =
-    ap₂ ltb h.floor_is (ap length h.spells.is) ∙ by ks h.spells.one
-  where
-    by : (ks : List Value) → ReadsAsItself ks
-        → ltb (length (path_of (below_names ks))) (length (path_of ks)) ≡ ends_in_name ks
-    by (Normal name ∷ ks) one = lt-ltb _ _
-        (omega (arith, below_shorter ks one.1, join_longer (path_of ks) name one.0))
-    by ks one = le-ltb (length (path_of (below_names ks))) (length (path_of ks)) (omega arith)
+over_floor {s} {floor} (Normal name ∷ ks) h = lt-ltb floor (length s) (omega (
+  arith,
+  h.floor_is,
+  ap length h.spells.is,
+  below_shorter ks h.spells.one.1,
+  join_longer (path_of ks) name h.spells.one.0,
+))
+over_floor {s} {floor} ks h =
+    le-ltb floor (length s) (omega (arith, h.floor_is, ap length h.spells.is))
 
 -- what is kept below the names stays with more names
 pub below_more : (ks vs : List Value) → AreNames vs → below_names (kept_of ks vs) ≡ below_names ks
@@ -91,21 +88,19 @@ below_more ks [] h = refl
 below_more ks (v ∷ vs) h = grind (arith, below_more (v ∷ ks) vs)
 
 -- kept bytes that end in a name keep, after a pop, what `..` leaves
-pub keeps_pop : {s t : List ℕ} {floor : ℕ} {ks : List Value} → Keeps s floor ks
+pub keeps_pop : {s t : List ℕ} {floor : ℕ} (ks : List Value) → Keeps s floor ks
     → ends_in_name ks ≡ true → t ≡ popped_of s → Keeps t floor (up_from ks)
-keeps_pop {s} {t} {floor} {ks} h last e = by ks h.spells h.floor_is last
-  where
-    by : (ks : List Value) → Spells s ks → floor ≡ length (path_of (below_names ks))
-        → ends_in_name ks ≡ true → Keeps t floor (up_from ks)
-    by (Normal name ∷ ks) h f last = record {
+keeps_pop (Normal name ∷ ks) h last e =
+    let k = h.spells in
+    record {
       spells = record {
-        kept = h.kept;
-        one = h.one.1;
-        is = e ∙ ap popped_of h.is ∙ popped_of-name ks name h.kept h.one.1 h.one.0;
+        kept = k.kept;
+        one = k.one.1;
+        is = e ∙ ap popped_of k.is ∙ popped_of-name ks name k.kept k.one.1 k.one.0;
       };
-      floor_is = f;
+      floor_is = h.floor_is;
     }
-    by ks h f last = absurd (let no : false ≡ true = last in cc)
+keeps_pop ks h last e = absurd (let no : false ≡ true = last in cc)
 
 -- the bytes of kept values are rooted exactly if the first of these is the root
 is_rooted-path_of : (ks : List Value) → IsKept ks → ReadsAsItself ks
@@ -121,31 +116,26 @@ root_first-ups (ParentDir ∷ us) vs h k = root_first-ups us (ParentDir ∷ vs) 
 root_first-ups (u ∷ us) vs h k = absurd h
 
 -- rooted bytes without a name at the end keep the same after `..`
-pub keeps_root : {s : List ℕ} {floor : ℕ} {ks : List Value} → Keeps s floor ks
+pub keeps_root : {s : List ℕ} {floor : ℕ} (ks : List Value) → Keeps s floor ks
     → ends_in_name ks ≡ false → is_rooted s ≡ true → Keeps s floor (up_from ks)
-keeps_root {s} {floor} {ks} h nameless rooted = by ks h nameless
-  where
-    by : (ks : List Value) → Keeps s floor ks → ends_in_name ks ≡ false
-        → Keeps s floor (up_from ks)
-    by (RootDir ∷ ks) h last = h
-    by (Normal name ∷ ks) h last = absurd (let no : true ≡ false = last in cc)
-    by ks h last = absurd (both_ways (is_rooted s) (ap is_rooted h.spells.is
-        ∙ is_rooted-path_of ks h.spells.kept h.spells.one
-        ∙ root_first-ups ks [] h.spells.kept refl) rooted)
+keeps_root (RootDir ∷ ks) h nameless rooted = h
+keeps_root (Normal name ∷ ks) h nameless rooted = absurd (let no : true ≡ false = nameless in cc)
+keeps_root {s} ks h nameless rooted = absurd (both_ways (is_rooted s) (ap is_rooted h.spells.is
+    ∙ is_rooted-path_of ks h.spells.kept h.spells.one
+    ∙ root_first-ups ks [] h.spells.kept refl) rooted)
 
 -- rootless bytes without a name at the end, joined with `..`, keep that `..`, all of it below names
-pub keeps_up : {s t : List ℕ} {ks : List Value} → Spells s ks → ends_in_name ks ≡ false
+pub keeps_up : {s t : List ℕ} (ks : List Value) → Spells s ks → ends_in_name ks ≡ false
     → is_rooted s ≡ false → t ≡ join_of s parent_dir → Keeps t (length t) (up_from ks)
-keeps_up {s} {t} {ks} h nameless rootless e = by ks h nameless
-  where
-    by : (ks : List Value) → Spells s ks → ends_in_name ks ≡ false → Keeps t (length t) (up_from ks)
-    by (RootDir ∷ ks) h last = absurd (both_ways (is_rooted s) rootless (ap is_rooted h.is
-        ∙ is_rooted-path_of (RootDir ∷ ks) h.kept h.one
-        ∙ ap (λ ks. root_first (reverse (RootDir ∷ ks))) h.kept))
-    by (Normal name ∷ ks) h last = absurd (let no : true ≡ false = last in cc)
-    by ks h last =
-        let is : t ≡ path_of (ParentDir ∷ ks) = e ∙ ap (λ s. join_of s parent_dir) h.is in
-        record {
-          spells = record { kept = h.kept; one = (ValueReadsAsItself-up, h.one); is = is };
-          floor_is = ap length is;
-        }
+keeps_up {s} (RootDir ∷ ks) h nameless rootless e =
+    absurd (both_ways (is_rooted s) rootless (ap is_rooted h.is
+    ∙ is_rooted-path_of (RootDir ∷ ks) h.kept h.one
+    ∙ ap (λ ks. root_first (reverse (RootDir ∷ ks))) h.kept))
+keeps_up (Normal name ∷ ks) h nameless rootless e =
+    absurd (let no : true ≡ false = nameless in cc)
+keeps_up {s} {t} ks h nameless rootless e =
+    let is : t ≡ path_of (ParentDir ∷ ks) = e ∙ ap (λ s. join_of s parent_dir) h.is in
+    record {
+      spells = record { kept = h.kept; one = (ValueReadsAsItself-up, h.one); is = is };
+      floor_is = ap length is;
+    }

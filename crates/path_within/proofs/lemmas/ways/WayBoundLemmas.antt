@@ -18,20 +18,12 @@ use Rattle.path_within.proofs.lemmas.below.BoundLemmas.{length-spelling, slashed
 use Rattle.path_within.proofs.lemmas.below.BoundLemmas.{slashed_len-names}
 use Rattle.path_within.proofs.lemmas.below.BoundLemmas.{slashed_len-rootless}
 use Rattle.path_within.proofs.lemmas.below.NamesBelowLemmas.{resolved_of-slash}
+use Rattle.path_within.proofs.lemmas.kept.PathOfLemmas.{one_has_bytes}
 use Rattle.path_within.proofs.lemmas.kept.ResolveLemmas.{ReadsAsItself-resolved}
 use Rattle.path_within.proofs.lemmas.kept.KeepLemmas.{names_straight}
 use Rattle.path_within.proofs.lemmas.kept.WayLemmas.{names_all, straight_rootless}
 
--- the bytes of a value that are a path of it alone are some
-one_has_bytes : (v : Value) → ValueReadsAsItself v → 0 < length (value_bytes v)
-one_has_bytes v one = some (value_bytes v) refl
-  where
-    some : (b : List ℕ) → value_bytes v ≡ b → 0 < length (value_bytes v)
-    some [] is =
-        absurd (let no : [] ≡ v ∷ [] = sym values-nil ∙ ap values (sym is) ∙ one in cc)
-    some (x ∷ b) is = omega (arith, ap length is)
-
--- such values have two bytes each at least, with a slash for each
+-- values that read as themselves have two bytes each at least, with a slash for each
 ones_long : (vs : List Value) → ReadsAsItself vs → 2 * length vs ≤ slashed_len vs
 ones_long [] ones = omega arith
 ones_long (v ∷ vs) ones =

@@ -16,14 +16,14 @@ tested c = sym (c.len.ensures ∙ ap length (c.as_unix_str.ensures.bytes ∙ c.a
 pub returns-then-len-floor : goal.returns-then-len-floor
 returns-then-len-floor c =
     let size = tested (goal.at.returns-then-len-floor c).After-len in record {
-      ok = λ ks h. keeps_pop h (sym (over_floor h) ∙ ap (ltb c.args.floor) size
+      ok = λ ks h. keeps_pop ks h (sym (over_floor ks h) ∙ ap (ltb c.args.floor) size
           ∙ lt-ltb _ _ c.if-len-floor.true) c.pop.ensures.bytes;
     }
 
 pub returns-then-has_root : goal.returns-then-has_root
 returns-then-has_root c =
     let size = tested (goal.at.returns-then-has_root c).After-len in record {
-      ok = λ ks h. keeps_root h (sym (over_floor h) ∙ ap (ltb c.args.floor) size
+      ok = λ ks h. keeps_root ks h (sym (over_floor ks h) ∙ ap (ltb c.args.floor) size
           ∙ le-ltb _ _ c.if-len-floor.false)
           (ap is_rooted (sym c.as_path-path.ensures) ∙ sym c.has_root.ensures.value
           ∙ c.if-has_root.true);
@@ -34,7 +34,7 @@ returns c =
     let size = tested (goal.at.returns c).After-len in record {
       ok = λ ks h. subst (λ end. Keeps (path_bytes c.push.new.self) end (up_from ks))
           (sym (c.len-2.ensures ∙ ap length (c.as_unix_str-2.ensures.bytes ∙ c.as_path-2.ensures)))
-          (keeps_up h.spells (sym (over_floor h) ∙ ap (ltb c.args.floor) size
+          (keeps_up ks h.spells (sym (over_floor ks h) ∙ ap (ltb c.args.floor) size
           ∙ le-ltb _ _ c.if-len-floor.false)
           (ap is_rooted (sym c.as_path-path.ensures) ∙ sym c.has_root.ensures.value
           ∙ c.if-has_root.false)
