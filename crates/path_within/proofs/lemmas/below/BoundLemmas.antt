@@ -97,10 +97,8 @@ slashed_bytes-names s =
 spelling_of-fit : (vs : List Value) (n : ℕ) → slashed_len vs ≤ 1 + n → length (spelling_of vs) ≤ n
 unfolding spelling_of
 spelling_of-fit [] n l = omega arith
-spelling_of-fit (RootDir ∷ []) n l = omega (arith, slashed_len-cons RootDir [])
-spelling_of-fit (RootDir ∷ v ∷ vs) n l =
-    omega (arith, slashed_len-cons RootDir (v ∷ vs), length-slashed_bytes (v ∷ vs))
-spelling_of-fit (v ∷ vs) n l = omega (arith, length-slashed_bytes (v ∷ vs))
+spelling_of-fit (v ∷ vs) n l =
+    grind (arith, slashed_len-cons v vs, length-slashed_bytes (v ∷ vs), length-slashed_bytes vs)
 
 -- so they have no more bytes than with a slash for each
 pub length-spelling : (vs : List Value) → length (spelling_of vs) ≤ slashed_len vs - 1

@@ -1,7 +1,7 @@
 -- The names that are left of values that are resolved behind a root.
-use Rattle.std.proofs.Common.{◌≡◌, ℕ, suc, Bool, false, not, ltb, List, [], ◌∷◌}
+use Rattle.std.proofs.Common.{◌≡◌, ℕ, Bool, cond, false, not, ltb, List, [], ◌∷◌}
 use Rattle.std.proofs.Common.{◌++◌, length, drop, reverse}
-use Rattle.std.proofs.Common.{refl, sym, ap, subst, ◌∙◌, arith, eqb-true}
+use Rattle.std.proofs.Common.{refl, sym, ap, ◌∙◌, arith}
 use Rattle.std.specs.List.{list_any, position_or_len}
 use Rattle.std.proofs.lemmas.Bool.Decides.{nat_tests}
 use Rattle.std.proofs.lemmas.Grind.{reverse_onto}
@@ -9,7 +9,7 @@ use Rattle.std.proofs.lemmas.List.{reverse-append, reverse-reverse}
 use Rattle.unix_path.specs.CommonDir.{inner_values}
 use Rattle.unix_path.specs.Parts.{Value, RootDir, CurDir, ParentDir, Normal, is_slash, slash}
 use Rattle.unix_path.specs.Parts.{is_rooted, values}
-use Rattle.unix_bytes.proofs.lemmas.lists.ListLemmas.{by_test}
+use Rattle.unix_bytes.proofs.lemmas.lists.ListLemmas.{drop-suc_cons}
 use Rattle.path_runs.specs.JoinLaws.{drop_dot, drop_lead}
 use Rattle.unix_path.proofs.lemmas.parts.PartLemmas.{root_first, root_first-values}
 use Rattle.path_runs.proofs.lemmas.joins.LeadLemmas.{drop_lead-values, inner-behind, inner-no_lead}
@@ -106,23 +106,25 @@ resolved_of-slash t =
     ap resolved_of (values-slash t) ∙ resolved_of-below (inner_values t)
     ∙ ap (λ vs. RootDir ∷ vs) (names_below-inner t)
 
+-- leading slashes are dropped one by one
+behind_slashes-cons : (x : ℕ) (s : List ℕ)
+    → behind_slashes (x ∷ s) ≡ cond (is_slash x) (behind_slashes s) (x ∷ s)
+behind_slashes-cons x s =
+    grind (arith, drop-suc_cons (position_or_len (λ b. not (is_slash b)) s) x s)
+
 -- the bytes behind the leading slashes stand for the path, and have no NUL if the path has none
 pub behind_slashes-stands : (s : List ℕ)
     → StandsFor (behind_slashes s) s × (has_nul s ≡ false → has_nul (behind_slashes s) ≡ false)
 behind_slashes-stands [] = (record { rootless = refl; names = refl }, λ h. h)
-behind_slashes-stands (x ∷ s) = by_test (is_slash x)
-    (λ e. subst (λ x. StandsFor (behind_slashes (x ∷ s)) (x ∷ s)
-    × (has_nul (x ∷ s) ≡ false → has_nul (behind_slashes (x ∷ s)) ≡ false)) (sym (eqb-true x 47 e))
-    (subst (λ t. StandsFor t (slash ∷ s) × (has_nul s ≡ false → has_nul t ≡ false)) (sym one_less)
-    (let more = behind_slashes-stands s in (
-      record { rootless = more.0.rootless; names = more.0.names ∙ sym (names_below-slash s) },
-      more.1,
-    ))))
-    (λ e. rw e (record { rootless = e; names = refl }, λ h. h))
-  where
-    one_less : behind_slashes (slash ∷ s) ≡ behind_slashes s
-    one_less = ap (λ k. drop k (slash ∷ s))
-        {y = suc (position_or_len (λ b. not (is_slash b)) s)} (omega arith)
+behind_slashes-stands (x ∷ s) =
+    let more = behind_slashes-stands s in
+    let is = behind_slashes-cons x s in (
+      record {
+        rootless = grind (arith, more.0.rootless);
+        names = grind (arith, more.0.names, names_below-slash s);
+      },
+      λ h. grind (arith, more.1),
+    )
 
 -- a path with the values of one without a root stands for it
 pub same_values-stands : {t s : List ℕ} → is_rooted s ≡ false → values t ≡ values s → StandsFor t s

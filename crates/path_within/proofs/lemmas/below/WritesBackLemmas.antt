@@ -5,25 +5,15 @@ use Rattle.std.proofs.lemmas.List.Sums.{sum_by-append}
 use Rattle.std.proofs.Math.Seq.{drop-length}
 use Rattle.unix_path.specs.Parts.{Value, Normal, slash, value_bytes}
 use Rattle.path_runs.specs.Spelling.{slashed_bytes}
+use Rattle.path_runs.proofs.lemmas.gaps.StretchLemmas.{slash_each, slashed_bytes-cons}
 use Rattle.path_within.specs.Written.{slashed_len}
-
--- these values' bytes, with a slash before each
-abbrev pub with_slashes : List Value → List ℕ
-with_slashes [] = []
-with_slashes (v ∷ vs) = slash ∷ value_bytes v ++ with_slashes vs
-
-with_slashes-some : (v : Value) (vs : List Value)
-    → with_slashes (v ∷ vs) ≡ slash ∷ slashed_bytes (v ∷ vs)
-with_slashes-some v [] = ap (λ s. slash ∷ s) (append-nil (value_bytes v))
-with_slashes-some v (w ∷ vs) =
-    ap (λ s. slash ∷ value_bytes v ++ s) (with_slashes-some w vs)
 
 -- behind a slash, `out` ends from `end` on with the last of all values, and those that are left
 -- have room before it
 pub record WritesBack (all left : List Value) (end : ℕ) (out : List ℕ) : Type 0 where
   pub written : List Value
   pub all_is : all ≡ left ++ written
-  pub bytes : drop end (slash ∷ out) ≡ with_slashes written
+  pub bytes : drop end (slash ∷ out) ≡ slash_each written
   pub end_is : end ≡ slashed_len left
 
 -- a name that stands last has its bytes and a slash
@@ -63,6 +53,6 @@ back_last {all} {left} {end} {out} h e =
     by h.written (sym (ap (λ n. drop n (slash ∷ out)) (h.end_is ∙ ap slashed_len e)) ∙ h.bytes)
     ∙ ap slashed_bytes (sym (h.all_is ∙ ap (λ vs. vs ++ h.written) e))
   where
-    by : (vs : List Value) → slash ∷ out ≡ with_slashes vs → out ≡ slashed_bytes vs
+    by : (vs : List Value) → slash ∷ out ≡ slash_each vs → out ≡ slashed_bytes vs
     by [] f = absurd (cc)
-    by (v ∷ vs) f = let whole = f ∙ with_slashes-some v vs in cc
+    by (v ∷ vs) f = let whole = f ∙ ap (λ s. slash ∷ s) (sym (slashed_bytes-cons v vs)) in cc

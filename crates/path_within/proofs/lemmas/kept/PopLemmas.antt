@@ -1,6 +1,6 @@
 -- What is spelled after one more `..`: a push of it, or a pop of the last name.
 use Rattle.std.proofs.Common.{◌≡◌, ℕ, ◌<◌, ◌≤◌, Bool, true, false, ltb, List, [], ◌∷◌, ◌++◌}
-use Rattle.std.proofs.Common.{length, reverse, refl, sym, ap, ap₂, ◌∙◌, ⊎_elim, arith}
+use Rattle.std.proofs.Common.{length, reverse, refl, sym, ap, ◌∙◌, ⊎_elim, arith}
 use Rattle.std.proofs.Common.{is_some, length-append, lt-ltb, unwrap_or}
 use mathlib.Core.List.{reverse_aux}
 use Rattle.std.proofs.lemmas.Bool.{both_ways, le-ltb}
@@ -11,7 +11,7 @@ use Rattle.unix_path.specs.Parts.{Value, RootDir, ParentDir, Normal, is_rooted}
 use Rattle.unix_path.specs.Parts.{parent_dir, values}
 use Rattle.unix_path.specs.Rest.{rest}
 use Rattle.unix_path.proofs.lemmas.names.ParentLemmas.{values-whole}
-use Rattle.unix_path.proofs.lemmas.parts.PartLemmas.{root_first, root_first-values, values-nil}
+use Rattle.unix_path.proofs.lemmas.parts.PartLemmas.{root_first, root_first-values}
 use Rattle.unix_path.proofs.lemmas.names.StemLemmas.{length-rest_whole-le}
 use Rattle.path_runs.specs.Spelling.{spelling_of}
 use Rattle.path_runs.proofs.lemmas.joins.AssociativeLemmas.{join_of-separator, separator}

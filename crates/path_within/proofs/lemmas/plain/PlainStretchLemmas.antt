@@ -1,8 +1,8 @@
 -- The first bytes of a string, up to a slash or the end: they are plain if plain pieces begin them
 -- and follow their slashes.
 use Rattle.std.proofs.Common.{◌≡◌, ℕ, ◌+◌, ◌<◌, ◌≤◌, true, false, eqb, cond}
-use Rattle.std.proofs.Common.{◌&&◌, ◌||◌, not, Bool, List, take, drop, get_or, length, get_or-drop}
-use Rattle.std.proofs.Common.{refl, sym, ap, ap₂, subst, ◌∙◌, arith, length-take}
+use Rattle.std.proofs.Common.{◌&&◌, not, Bool, List, take, drop, get_or, length, get_or-drop}
+use Rattle.std.proofs.Common.{sym, ap, subst, ◌∙◌, arith, length-take}
 use Rattle.std.specs.Int.{from_bool}
 use Rattle.std.proofs.lemmas.Bool.{and_parts}
 use Rattle.std.proofs.lemmas.List.{get_or-take, get_or_past, get_or_default}
@@ -20,10 +20,6 @@ is_end-take s n i l e = grind (
   get_or_past (take n s) i 47,
   length-take n s,
 )
-
--- behind an end stands no plain piece
-pub begins_plain-end : (s : List ℕ) (i : ℕ) → is_end s i ≡ true → begins_plain s i ≡ false
-begins_plain-end s i e = rw e refl
 
 -- cut at a slash or the end, a string has the same plain pieces up to there
 begins_plain-take : (s : List ℕ) (n i : ℕ) → i ≤ n → is_end s n ≡ true
@@ -44,9 +40,7 @@ pub plain_stretch : (s : List ℕ) (n : ℕ) → begins_plain s 0 ≡ true
     → has_plain_pieces (take n s) ≡ true
 plain_stretch s n first onward e = plain_pieces (take n s)
     (begins_plain-take s n 0 (omega arith) e ∙ first)
-    (λ k l. let less : k < n = omega (arith, length-take n s) in
-    ap₂ (λ b c. not (eqb b 47) || c) (get_or-take n s k 0 less)
-    (begins_plain-take s n (k + 1) (omega arith) e) ∙ onward k less)
+    (λ k l. grind (arith, length-take n s, get_or-take n s k 0, begins_plain-take s n (k + 1), onward k))
 
 -- a plain piece begins where neither filler nor `..` does
 pub begins_plain-scan : (s : List ℕ) (i : ℕ) → i < length s

@@ -3,12 +3,12 @@ use Rattle.std.proofs.Common.{◌≡◌, ℕ, suc, ◌+◌, ◌-◌, ◌<◌, Bo
 use Rattle.std.proofs.Common.{min}
 use Rattle.std.proofs.Common.{List, [], ◌∷◌, ◌++◌, length, take, drop, reverse, refl, sym, ap}
 use Rattle.std.proofs.Common.{subst}
-use Rattle.std.proofs.Common.{◌∙◌, arith, length-drop}
+use Rattle.std.proofs.Common.{◌∙◌, arith}
 use Rattle.std.specs.List.{AllByRecursion, common_prefix_len, prefix_len}
 use Rattle.std.specs.Str.{bytes_eq}
-use Rattle.std.proofs.Math.Seq.{drop-append-add, take-length}
+use Rattle.std.proofs.Math.Seq.{drop-append-add}
 use Rattle.std.proofs.lemmas.Grind.{reverse_onto}
-use Rattle.std.proofs.lemmas.List.{drop_all, length-reverse}
+use Rattle.std.proofs.lemmas.List.{drop_min, length-reverse, take_rest}
 use Rattle.std.proofs.lemmas.List.Folds.{prefix_len-append}
 use Rattle.std.proofs.lemmas.List.Sums.{prefix_len-le-length}
 use Rattle.std.proofs.lemmas.Slice.Eq.{bytes_eq-Decides}
@@ -249,5 +249,4 @@ are_left s t h k same =
 -- what stands from the place k on, if that isn't behind the end
 pub behind_place : (s : List ℕ) (k m : ℕ) → m ≡ min k (length s)
     → take (length s - m) (drop m s) ≡ drop k s
-behind_place s k m e = ap (λ n. take n (drop m s)) (sym (length-drop m s)) ∙ take-length (drop m s)
-    ∙ grind (arith, drop_all m s, drop_all k s, e)
+behind_place s k m e = take_rest s m ∙ ap (λ m. drop m s) e ∙ drop_min k s

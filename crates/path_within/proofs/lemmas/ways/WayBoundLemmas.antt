@@ -1,16 +1,15 @@
 -- A way has at most three bytes for each two of the first path, and those of the other.
-use Rattle.std.proofs.Common.{◌≡◌, ℕ, zero, suc, ◌+◌, ◌*◌, ◌<◌, ◌≤◌, false, List, []}
+use Rattle.std.proofs.Common.{◌≡◌, ℕ, zero, suc, ◌+◌, ◌*◌, ◌≤◌, false, List, []}
 use Rattle.std.proofs.Common.{◌∷◌, length, drop, Some, refl, sym, ap, ◌∙◌, arith}
 use Rattle.std.specs.List.{list_any}
 use Rattle.std.proofs.lemmas.List.Sums.{sum_by-append, sum_by-take-drop}
 use Rattle.unix_path.specs.Parts.{Value, RootDir, ParentDir, is_rooted, value_bytes, values}
 use Rattle.unix_bytes.proofs.lemmas.lists.ListLemmas.{by_test}
-use Rattle.unix_path.proofs.lemmas.parts.PartLemmas.{values-nil}
 use Rattle.path_runs.specs.Spelling.{spelling_of}
 use Rattle.path_runs.proofs.lemmas.spelling.PieceValueLemmas.{is_rooted-slash}
 use Rattle.path_within.specs.Below.{names_below}
 use Rattle.path_within.specs.Resolved.{resolved_of}
-use Rattle.path_within.specs.Steps.{ReadsAsItself, ValueReadsAsItself}
+use Rattle.path_within.specs.Steps.{ReadsAsItself}
 use Rattle.path_within.specs.Way.{is_root, way_of}
 use Rattle.path_within.specs.Written.{slashed_len}
 use Rattle.path_within.proofs.lemmas.kept.BetweenLemmas.{shared_count, steps_between-is, ups_of}
