@@ -1,12 +1,11 @@
 -- What is spelled after one more `..`: a push of it, or a pop of the last name.
-use Rattle.std.proofs.Common.{◌≡◌, ℕ, ◌<◌, ◌≤◌, Bool, true, false, ltb, List, [], ◌∷◌, ◌++◌}
+use Rattle.std.proofs.Common.{◌≡◌, ℕ, ◌<◌, ◌≤◌, true, false, List, [], ◌∷◌, ◌++◌}
 use Rattle.std.proofs.Common.{length, reverse, refl, sym, ap, ◌∙◌, ⊎_elim, arith}
-use Rattle.std.proofs.Common.{is_some, length-append, lt-ltb, unwrap_or}
+use Rattle.std.proofs.Common.{length-append, unwrap_or}
 use mathlib.Core.List.{reverse_aux}
-use Rattle.std.proofs.lemmas.Bool.{both_ways, le-ltb}
+use Rattle.std.proofs.lemmas.Bool.{both_ways}
 use Rattle.unix_path.specs.Edits.{popped_of}
 use Rattle.unix_path.specs.Joins.{join_of}
-use Rattle.unix_path.specs.Names.{name_of}
 use Rattle.unix_path.specs.Parts.{Value, RootDir, ParentDir, Normal, is_rooted}
 use Rattle.unix_path.specs.Parts.{parent_dir, values}
 use Rattle.unix_path.specs.Rest.{rest}
@@ -21,7 +20,7 @@ use Rattle.path_runs.proofs.lemmas.joins.SiblingLemmas.{values-join_of_one}
 use Rattle.path_within.specs.Resolved.{AreNames, kept_of, up_from}
 use Rattle.path_within.specs.Steps.{below_names, ReadsAsItself, AreUps, IsKept, ValueReadsAsItself}
 use Rattle.path_within.specs.Steps.{path_of}
-use Rattle.path_within.specs.Steps.{Keeps, Spells}
+use Rattle.path_within.specs.Steps.{Keeps}
 use Rattle.path_within.proofs.lemmas.kept.PathOfLemmas.{one_has_bytes, path_of-spelled, values-path_of}
 use Rattle.path_within.proofs.lemmas.kept.PathOfLemmas.{ValueReadsAsItself-up}
 
@@ -46,11 +45,6 @@ popped_of-name ks name h k e =
     ap (λ o. unwrap_or o t) (parent_of-name t name (values s) (values-join_of_one s name name e))
     ∙ rest-join_of_one s name name e ∙ rest-path_of ks h k
 
--- the last of what is kept is a name
-abbrev pub ends_in_name : List Value → Bool
-ends_in_name [] = false
-ends_in_name (v ∷ ks) = is_some (name_of v)
-
 -- a join with a name is longer than what it is joined to
 join_longer : (x name : List ℕ) → ValueReadsAsItself (Normal name)
     → length x < length (join_of x name)
@@ -69,28 +63,26 @@ below_shorter (Normal name ∷ ks) one =
     omega (arith, below_shorter ks one.1, join_longer (path_of ks) name one.0)
 below_shorter ks one = omega arith
 
--- kept bytes end in a name exactly if they are longer than the floor
-pub over_floor : {s : List ℕ} {floor : ℕ} (ks : List Value) → Keeps s floor ks
-    → ltb floor (length s) ≡ ends_in_name ks
-over_floor {s} {floor} (Normal name ∷ ks) h = lt-ltb floor (length s) (omega (
+-- kept bytes that end in a name are longer than the floor
+over_floor : {s : List ℕ} {floor : ℕ} (name : List ℕ) (ks : List Value)
+    → Keeps s floor (Normal name ∷ ks) → floor < length s
+over_floor name ks h = omega (
   arith,
   h.floor_is,
   ap length h.spells.is,
   below_shorter ks h.spells.one.1,
   join_longer (path_of ks) name h.spells.one.0,
-))
-over_floor {s} {floor} ks h =
-    le-ltb floor (length s) (omega (arith, h.floor_is, ap length h.spells.is))
+)
 
 -- what is kept below the names stays with more names
 pub below_more : (ks vs : List Value) → AreNames vs → below_names (kept_of ks vs) ≡ below_names ks
 below_more ks [] h = refl
 below_more ks (v ∷ vs) h = grind (arith, below_more (v ∷ ks) vs)
 
--- kept bytes that end in a name keep, after a pop, what `..` leaves
+-- kept bytes that are longer than the floor keep, after a pop, what `..` leaves
 pub keeps_pop : {s t : List ℕ} {floor : ℕ} (ks : List Value) → Keeps s floor ks
-    → ends_in_name ks ≡ true → t ≡ popped_of s → Keeps t floor (up_from ks)
-keeps_pop (Normal name ∷ ks) h last e =
+    → floor < length s → t ≡ popped_of s → Keeps t floor (up_from ks)
+keeps_pop (Normal name ∷ ks) h more e =
     let k = h.spells in
     record {
       spells = record {
@@ -100,7 +92,7 @@ keeps_pop (Normal name ∷ ks) h last e =
       };
       floor_is = h.floor_is;
     }
-keeps_pop ks h last e = absurd (let no : false ≡ true = last in cc)
+keeps_pop ks h more e = absurd (omega (arith, more, h.floor_is, ap length h.spells.is))
 
 -- the bytes of kept values are rooted exactly if the first of these is the root
 is_rooted-path_of : (ks : List Value) → IsKept ks → ReadsAsItself ks
@@ -115,27 +107,29 @@ root_first-ups [] vs h k = k
 root_first-ups (ParentDir ∷ us) vs h k = root_first-ups us (ParentDir ∷ vs) h refl
 root_first-ups (u ∷ us) vs h k = absurd h
 
--- rooted bytes without a name at the end keep the same after `..`
+-- rooted bytes that aren't longer than the floor keep the same after `..`
 pub keeps_root : {s : List ℕ} {floor : ℕ} (ks : List Value) → Keeps s floor ks
-    → ends_in_name ks ≡ false → is_rooted s ≡ true → Keeps s floor (up_from ks)
-keeps_root (RootDir ∷ ks) h nameless rooted = h
-keeps_root (Normal name ∷ ks) h nameless rooted = absurd (let no : true ≡ false = nameless in cc)
-keeps_root {s} ks h nameless rooted = absurd (both_ways (is_rooted s) (ap is_rooted h.spells.is
+    → length s ≤ floor → is_rooted s ≡ true → Keeps s floor (up_from ks)
+keeps_root (RootDir ∷ ks) h short rooted = h
+keeps_root (Normal name ∷ ks) h short rooted = absurd (omega (arith, over_floor name ks h))
+keeps_root {s} ks h short rooted = absurd (both_ways (is_rooted s) (ap is_rooted h.spells.is
     ∙ is_rooted-path_of ks h.spells.kept h.spells.one
     ∙ root_first-ups ks [] h.spells.kept refl) rooted)
 
--- rootless bytes without a name at the end, joined with `..`, keep that `..`, all of it below names
-pub keeps_up : {s t : List ℕ} (ks : List Value) → Spells s ks → ends_in_name ks ≡ false
-    → is_rooted s ≡ false → t ≡ join_of s parent_dir → Keeps t (length t) (up_from ks)
-keeps_up {s} (RootDir ∷ ks) h nameless rootless e =
-    absurd (both_ways (is_rooted s) rootless (ap is_rooted h.is
-    ∙ is_rooted-path_of (RootDir ∷ ks) h.kept h.one
-    ∙ ap (λ ks. root_first (reverse (RootDir ∷ ks))) h.kept))
-keeps_up (Normal name ∷ ks) h nameless rootless e =
-    absurd (let no : true ≡ false = nameless in cc)
-keeps_up {s} {t} ks h nameless rootless e =
-    let is : t ≡ path_of (ParentDir ∷ ks) = e ∙ ap (λ s. join_of s parent_dir) h.is in
+-- rootless bytes that aren't longer than the floor, joined with `..`, keep that `..`, all of it
+-- below names
+pub keeps_up : {s t : List ℕ} {floor : ℕ} (ks : List Value) → Keeps s floor ks
+    → length s ≤ floor → is_rooted s ≡ false → t ≡ join_of s parent_dir
+    → Keeps t (length t) (up_from ks)
+keeps_up {s} (RootDir ∷ ks) h short rootless e = let k = h.spells in
+    absurd (both_ways (is_rooted s) rootless (ap is_rooted k.is
+    ∙ is_rooted-path_of (RootDir ∷ ks) k.kept k.one
+    ∙ ap (λ ks. root_first (reverse (RootDir ∷ ks))) k.kept))
+keeps_up (Normal name ∷ ks) h short rootless e = absurd (omega (arith, over_floor name ks h))
+keeps_up {s} {t} ks h short rootless e =
+    let k = h.spells in
+    let is : t ≡ path_of (ParentDir ∷ ks) = e ∙ ap (λ s. join_of s parent_dir) k.is in
     record {
-      spells = record { kept = h.kept; one = (ValueReadsAsItself-up, h.one); is = is };
+      spells = record { kept = k.kept; one = (ValueReadsAsItself-up, k.one); is = is };
       floor_is = ap length is;
     }

@@ -1,6 +1,5 @@
-use Rattle.std.proofs.Common.{rules, tests, not, ap, ◌∙◌}
-use Rattle.std.specs.List.{list_all}
-use Rattle.unix_path.specs.Parts.{values}
+use Rattle.std.proofs.Common.{arith}
+use Rattle.std.proofs.Common.{rules, tests}
 use Rattle.std.proofs.lemmas.Iterator.Search.{all_from_yields_List}
 use Rattle.unix_path.proofs.lemmas.walks.CursorLemmas.{Components-yields}
 use Rattle.path_within.specs.Climbs.{is_name}
@@ -8,10 +7,7 @@ use Rattle.path_within.proofs.lemmas.plain.PlainLemmas.{all_names}
 use Rattle.path_within.proofs.normal.are_names.Goals as goal
 
 pub returns-then-is_plain : goal.returns-then-is_plain
-returns-then-is_plain c =
-    ap not c.has_root.ensures.value ∙ all_names c.as_path-left.result.bytes.now
-    (c.is_plain.ensures c.if-is_plain.true)
-    ∙ ap (λ s. list_all is_name (values s)) c.as_path-left.ensures.bytes
+returns-then-is_plain c = grind (arith, all_names)
 
 pub returns : goal.returns
 returns c = all_from_yields_List is_name _ _ c.all.result c.all.ensures.ran

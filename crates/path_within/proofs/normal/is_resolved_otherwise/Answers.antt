@@ -1,6 +1,6 @@
+use Rattle.std.proofs.Common.{arith}
 use Rattle.path_within.proofs.lemmas.plain.PlainLemmas.{resolved_empty}
 use Rattle.path_within.proofs.normal.is_resolved_otherwise.Goals as goal
 
 pub returns-then-not-begins_plain-clause-empty : goal.returns-then-not-begins_plain-clause-empty
-returns-then-not-begins_plain-clause-empty c = λ e.
-    c.is_resolved.ensures.1 (resolved_empty c.args.path.bytes.now e)
+returns-then-not-begins_plain-clause-empty c = grind (arith, resolved_empty)

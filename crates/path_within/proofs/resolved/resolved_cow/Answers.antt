@@ -1,4 +1,5 @@
-use Rattle.std.proofs.Common.{[], refl, sym}
+use Rattle.std.proofs.Common.{arith}
+use Rattle.std.proofs.Common.{[], refl}
 use Rattle.path_within.proofs.lemmas.plain.PlainLemmas.{resolved-plain}
 use Rattle.path_within.proofs.lemmas.kept.StepLemmas.{keeps_nothing, spells_resolved}
 use Rattle.path_within.proofs.resolved.resolved_cow.Goals as goal
@@ -8,12 +9,7 @@ use Rattle.path_within.proofs.resolved.resolved_cow.Goals.{
 }
 
 pub returns-then-is_plain-clause-bytes : goal.returns-then-is_plain-clause-bytes
-returns-then-is_plain-clause-bytes c = elim c.then-is_plain.branch [
-  | then-is_plain-via-then-is_plain w ↦
-      sym (resolved-plain c.args.path.bytes.now (c.is_plain.ensures w.if-is_plain.true))
-  | then-is_plain-via-else-is_plain+then-is_resolved_otherwise w ↦
-      sym (w.is_resolved_otherwise.ensures.resolved w.if-is_resolved_otherwise.true)
-]
+returns-then-is_plain-clause-bytes c = grind (arith, resolved-plain)
 
 pub returns-clause-bytes : goal.returns-clause-bytes
 returns-clause-bytes c = spells_resolved c.args.path.bytes.now refl

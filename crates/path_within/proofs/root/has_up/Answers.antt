@@ -1,4 +1,4 @@
-use Rattle.std.proofs.Common.{◌≡◌, ◌||◌, ◌++◌, ℕ, List, ◌∷◌, refl, sym, ap, ◌∙◌}
+use Rattle.std.proofs.Common.{arith, ◌≡◌, ◌||◌, ◌++◌, ℕ, List, ◌∷◌, refl, sym, ap, ◌∙◌}
 use Rattle.std.proofs.lemmas.List.Folds.{list_any-append}
 use Rattle.unix_path.specs.Parts.{Value, CurDir, values}
 use Rattle.unix_path.proofs.lemmas.parts.PartLemmas.{values-nil}
@@ -24,12 +24,7 @@ has_up-behind s t names h split =
 pub loop-run-init : goal.loop-run-init
 loop-run-init c =
     let s = c.args.path.bytes.now in
-    ap has_root_or_up (c.new-runs.ensures.values ∙ sym (drop_dot-values s c.requires))
-    ∙ has_up-drop_dot (values s)
-
-pub returns-in-Up : goal.returns-in-Up
-returns-in-Up c = let run = rw c.in-Up.is at c.in-Some.ensures.some in
-    sym (ap has_root_or_up run.split) ∙ c.loop-run.invariant
+    grind (arith, drop_dot-values s c.requires, has_up-drop_dot (values s))
 
 pub loop-run-preserved-in-Name : goal.loop-run-preserved-in-Name
 loop-run-preserved-in-Name c =
@@ -44,5 +39,4 @@ loop-run-preserved c =
     run.spelled run.split ∙ c.loop-run.invariant
 
 pub returns : goal.returns
-returns c = sym (ap (λ s. has_root_or_up (values s)) (c.in_default.ensures.none refl)
-    ∙ ap has_root_or_up values-nil) ∙ c.loop-run.invariant
+returns c = grind (arith, values-nil)

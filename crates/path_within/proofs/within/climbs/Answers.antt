@@ -1,4 +1,4 @@
-use Rattle.std.proofs.Common.{◌≡◌, ◌++◌, ◌+◌, ℕ, List, [], length, refl, sym, ap, ap₂, ◌∙◌, arith}
+use Rattle.std.proofs.Common.{◌≡◌, ◌++◌, ◌+◌, ℕ, List, [], length, refl, sym, ap, ◌∙◌, arith}
 use Rattle.std.proofs.Common.{eqb-true, length-append, false, true}
 use Rattle.std.proofs.lemmas.List.{nil_from_length}
 use Rattle.unix_path.specs.Parts.{values}
@@ -28,11 +28,8 @@ loop-run-init c =
 
 pub returns-in-Up : goal.returns-in-Up
 returns-in-Up c =
-    let run = rw c.in-Up.is at c.in-Some.ensures.some in (
-      λ h. (climbs_by_depth c.args.path.bytes.now).1 (sym c.loop-run.invariant.same
-          ∙ ap₂ climbs_from c.if-depth-eq0.true run.split),
-      λ h. refl,
-    )
+    let run = rw c.in-Up.is at c.in-Some.ensures.some in
+    grind (arith, run.split, climbs_by_depth c.args.path.bytes.now)
 
 -- names move the depth by their number
 deeper : (n : ℕ) (s t : List ℕ) {m : ℕ} {names : List ℕ} → AreSpelledNames names
@@ -55,11 +52,7 @@ pub loop-run-preserved-in-Name : goal.loop-run-preserved-in-Name
 loop-run-preserved-in-Name c =
     let run = rw c.in-Name.is at c.in-Some.ensures.some in
     let more = deeper c.loop-run.depth c.loop-run.runs.left.now c.next.new.self.left.now
-    run.spelled.0 (sym run.spelled.1) run.split in
-    record {
-      same = more.0 ∙ c.loop-run.invariant.same;
-      fits = omega (arith, more.1, c.loop-run.invariant.fits);
-    }
+    run.spelled.0 (sym run.spelled.1) run.split in grind (arith, more)
 
 pub returns-in-Names : goal.returns-in-Names
 returns-in-Names c =
@@ -87,11 +80,7 @@ pub loop-run-preserved : goal.loop-run-preserved
 loop-run-preserved c =
     let run = rw c.in-Names-2.is at c.in-Some.ensures.some in
     let more = deeper c.loop-run.depth c.loop-run.runs.left.now c.next.new.self.left.now
-    run.spelled c.part_count-depth.ensures run.split in
-    record {
-      same = more.0 ∙ c.loop-run.invariant.same;
-      fits = omega (arith, more.1, c.loop-run.invariant.fits);
-    }
+    run.spelled c.part_count-depth.ensures run.split in grind (arith, more)
 
 pub returns : goal.returns
 returns c = (

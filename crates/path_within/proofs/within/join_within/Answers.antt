@@ -1,4 +1,4 @@
-use Rattle.std.proofs.Common.{◌≡◌, [], refl, ◌∙◌, Some, None}
+use Rattle.std.proofs.Common.{[], refl, ◌∙◌}
 use Rattle.unix_path.specs.Parts.{values}
 use Rattle.path_within.specs.Resolved.{kept_of}
 use Rattle.path_within.proofs.lemmas.kept.StepLemmas.{keeps_nothing, spells_join}
@@ -14,8 +14,7 @@ returns-then-is_plain-clause-bytes c = c.in_ok-join.ensures.bytes
 pub returns-then-is_plain-clause-within : goal.returns-then-is_plain-clause-within
 returns-then-is_plain-clause-within c =
     begins-within c.args.root.bytes.now c.args.request.bytes.now _
-    (λ climbs. absurd (let no : Some c.in-Some.is_spelled ≡ None =
-    c.in-Some.ensures.none.1 climbs in cc))
+    (λ climbs. cc (c.in-Some.ensures.none.1 climbs))
     (returns-then-is_plain-clause-bytes c)
 
 pub returns-clause-bytes : goal.returns-clause-bytes
@@ -26,6 +25,5 @@ returns-clause-bytes c = spells_join c.args.root.bytes.now c.args.request.bytes.
 pub returns-clause-within : goal.returns-clause-within
 returns-clause-within c =
     begins-within c.args.root.bytes.now c.args.request.bytes.now _
-    (λ climbs. absurd (let no : Some c.in-Some.is_spelled ≡ None =
-    c.in-Some.ensures.none.1 climbs in cc))
+    (λ climbs. cc (c.in-Some.ensures.none.1 climbs))
     (returns-clause-bytes c)

@@ -1,5 +1,6 @@
+use Rattle.std.proofs.Common.{arith}
 use Rattle.std.proofs.Common.{◌≡◌, ℕ, List, [], ◌∷◌, ◌++◌, Option, Some, None, IfSome}
-use Rattle.std.proofs.Common.{option_map, refl, sym, ap, ◌∙◌}
+use Rattle.std.proofs.Common.{option_map, ap, ◌∙◌}
 use Rattle.unix_path.specs.Cursor.{cursor_values}
 use Rattle.unix_path.specs.Names.{file_name_of}
 use Rattle.unix_path.specs.Parts.{Value, Normal}
@@ -12,9 +13,9 @@ last_is : {A : Type 0} (bytes : A → List ℕ) (o : Option A) (vs ws : List Val
     → (o ≡ None → vs ≡ []) → IfSome o (λ name. vs ≡ ws ++ Normal (bytes name) ∷ [])
     → option_map bytes o ≡ file_name_of vs
 unfolding file_name_of
-last_is bytes None vs ws none some = sym (ap file_name_of (none refl))
+last_is bytes None vs ws none some = grind (arith, none)
 last_is bytes (Some name) vs ws none some =
-    sym (ap file_name_of some ∙ file_name_of-last ws (Normal (bytes name)))
+    grind (arith, some, file_name_of-last ws (Normal (bytes name)))
 
 pub returns : goal.returns
 returns c = last_is (λ name. name.bytes.now) c.take_name.result _

@@ -1,3 +1,4 @@
+use Rattle.std.proofs.Common.{rules}
 use Rattle.std.proofs.Common.{refl}
 use Rattle.path_within.specs.Requests.{request_bytes}
 use Rattle.path_within.proofs.lemmas.below.BelowLemmas.{begins, is_below}
@@ -7,5 +8,4 @@ pub returns-clause-begins : goal.returns-clause-begins
 returns-clause-begins c = begins c.args.root.bytes.now (request_bytes c.args.self) refl
 
 pub returns-clause-below : goal.returns-clause-below
-returns-clause-below c =
-    is_below c.args.root.bytes.now (request_bytes c.args.self) c.args.self.no_nul refl
+returns-clause-below c = search (rules, is_below)
