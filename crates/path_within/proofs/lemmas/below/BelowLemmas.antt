@@ -10,8 +10,7 @@ use Rattle.path_runs.specs.Spelling.{slashed_bytes}
 use Rattle.path_runs.proofs.lemmas.joins.AssociativeLemmas.{separator}
 use Rattle.path_runs.proofs.lemmas.spelling.JoinAllLemmas.{join_all_of-some, unslashed_bytes}
 use Rattle.path_runs.proofs.lemmas.spelling.UnslashedLemmas.{IsUnslashedValue, Shape, Rooted}
-use Rattle.path_runs.proofs.lemmas.spelling.UnslashedLemmas.{Rootless}
-use Rattle.path_runs.proofs.lemmas.spelling.UnslashedLemmas.{values-shape}
+use Rattle.path_runs.proofs.lemmas.spelling.UnslashedLemmas.{Rootless, values-shape}
 use Rattle.path_runs.proofs.lemmas.joins.SiblingLemmas.{values-join_of_one}
 use Rattle.path_runs.proofs.lemmas.joins.StripLemmas.{values-stripped_of}
 use Rattle.path_within.specs.Below.{below_of, has_nul, names_below, IsBelow}
@@ -22,8 +21,7 @@ use Rattle.path_within.specs.Steps.{ReadsAsItself}
 use Rattle.path_within.specs.Written.{opened, AreSpelled}
 use Rattle.path_within.proofs.lemmas.below.BoundLemmas.{slashed_bytes-names}
 use Rattle.path_within.proofs.lemmas.below.NamesBelowLemmas.{AreNames-names_below}
-use Rattle.path_within.proofs.lemmas.below.NamesBelowLemmas.{names_below-names}
-use Rattle.path_within.proofs.lemmas.below.NamesBelowLemmas.{resolved_of-slash}
+use Rattle.path_within.proofs.lemmas.below.NamesBelowLemmas.{names_below-names, resolved_of-slash}
 use Rattle.path_within.proofs.lemmas.below.NulLemmas.{has_nul-values, no_nul-below, nul_in}
 use Rattle.path_within.proofs.lemmas.kept.KeepLemmas.{names_straight}
 use Rattle.path_within.proofs.lemmas.kept.PathOfLemmas.{ReadsAsItself-values}

@@ -1,13 +1,12 @@
 -- A resolved path has no more bytes than the path.
-use Rattle.std.proofs.Common.{◌≡◌, ℕ, ◌+◌, ◌-◌, ◌≤◌, false, List, [], ◌∷◌, length}
-use Rattle.std.proofs.Common.{reverse, refl, sym, ap, subst, ◌∙◌, arith, length-append}
+use Rattle.std.proofs.Common.{◌≡◌, ℕ, ◌+◌, ◌-◌, ◌≤◌, false, List, [], ◌∷◌, length, reverse, refl}
+use Rattle.std.proofs.Common.{sym, ap, subst, ◌∙◌, arith, length-append}
 use Rattle.std.specs.List.{sum_by}
 use Rattle.std.proofs.lemmas.List.Sorted.{IsPermutation-reverse, sum_by-IsPermutation}
 use Rattle.std.proofs.lemmas.List.Sums.{sum_by-append, sum_by-cons}
 use Rattle.unix_path.specs.CommonDir.{inner_values}
 use Rattle.unix_path.specs.Joins.{join_of}
-use Rattle.unix_path.specs.Parts.{Value, RootDir, slash}
-use Rattle.unix_path.specs.Parts.{is_rooted, value_bytes, values}
+use Rattle.unix_path.specs.Parts.{Value, RootDir, slash, is_rooted, value_bytes, values}
 use Rattle.unix_bytes.proofs.lemmas.lists.ListLemmas.{by_test}
 use Rattle.unix_path.proofs.lemmas.edits.JoinLemmas.{push_cases}
 use Rattle.path_runs.specs.Spelling.{slashed_bytes, spelling_of}

@@ -1,7 +1,6 @@
 -- The names that are left of values that are resolved behind a root.
-use Rattle.std.proofs.Common.{◌≡◌, ℕ, Bool, cond, false, not, ltb, List, [], ◌∷◌}
-use Rattle.std.proofs.Common.{◌++◌, length, drop, reverse}
-use Rattle.std.proofs.Common.{refl, sym, ap, ◌∙◌, arith}
+use Rattle.std.proofs.Common.{◌≡◌, ℕ, Bool, cond, false, not, ltb, List, [], ◌∷◌, ◌++◌, length}
+use Rattle.std.proofs.Common.{drop, reverse, refl, sym, ap, ◌∙◌, arith}
 use Rattle.std.specs.List.{list_any, position_or_len}
 use Rattle.std.proofs.lemmas.Bool.Decides.{nat_tests}
 use Rattle.std.proofs.lemmas.Grind.{reverse_onto}
@@ -11,8 +10,9 @@ use Rattle.unix_path.specs.Parts.{Value, RootDir, CurDir, ParentDir, Normal, is_
 use Rattle.unix_path.specs.Parts.{is_rooted, values}
 use Rattle.unix_bytes.proofs.lemmas.lists.ListLemmas.{drop-suc_cons}
 use Rattle.path_runs.specs.JoinLaws.{drop_dot, drop_lead}
-use Rattle.unix_path.proofs.lemmas.parts.PartLemmas.{root_first, root_first-values}
+use Rattle.unix_path.proofs.lemmas.parts.PartLemmas.{root_first-values}
 use Rattle.path_runs.proofs.lemmas.joins.LeadLemmas.{drop_lead-values, inner-behind, inner-no_lead}
+use Rattle.path_runs.proofs.lemmas.joins.LeadLemmas.{roots_same}
 use Rattle.path_runs.proofs.lemmas.spelling.PieceValueLemmas.{inner_values-pieces, values-rooted}
 use Rattle.path_within.specs.Resolved.{AreNames, kept_of, resolved_of}
 use Rattle.path_within.specs.Below.{names_below, has_nul, behind_slashes}
@@ -129,7 +129,7 @@ behind_slashes-stands (x ∷ s) =
 -- a path with the values of one without a root stands for it
 pub same_values-stands : {t s : List ℕ} → is_rooted s ≡ false → values t ≡ values s → StandsFor t s
 same_values-stands {t} {s} r e = record {
-  rootless = sym (root_first-values t) ∙ ap root_first e ∙ root_first-values s ∙ r;
+  rootless = roots_same t s e ∙ r;
   names = ap names_below e;
 }
 

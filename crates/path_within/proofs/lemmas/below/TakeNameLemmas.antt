@@ -1,6 +1,6 @@
 -- The last name of values that are resolved behind a root, taken from behind.
-use Rattle.std.proofs.Common.{◌≡◌, ℕ, suc, zero, ◌+◌, ◌≤◌, List, [], ◌∷◌, ◌++◌, length}
-use Rattle.std.proofs.Common.{refl, sym, ap, ap₂, ◌∙◌, arith, length-append}
+use Rattle.std.proofs.Common.{◌≡◌, ℕ, suc, zero, ◌+◌, ◌≤◌, List, [], ◌∷◌, ◌++◌, length, refl, sym}
+use Rattle.std.proofs.Common.{ap, ap₂, ◌∙◌, arith, length-append}
 use Rattle.std.proofs.lemmas.Grind.{reverse_onto}
 use Rattle.unix_path.specs.Parts.{Value, RootDir, CurDir, ParentDir, Normal}
 use Rattle.path_within.specs.Below.{names_below}

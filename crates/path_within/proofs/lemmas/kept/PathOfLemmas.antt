@@ -1,6 +1,6 @@
 -- The values that are kept, spelled: each joined to those before it.
-use Rattle.std.proofs.Common.{◌≡◌, ℕ, false, cond, List, [], ◌∷◌, ◌++◌, map}
-use Rattle.std.proofs.Common.{reverse, length, refl, sym, ap, ◌∙◌, ◌<◌, arith}
+use Rattle.std.proofs.Common.{◌≡◌, ℕ, false, cond, List, [], ◌∷◌, ◌++◌, map, reverse, length, refl}
+use Rattle.std.proofs.Common.{sym, ap, ◌∙◌, ◌<◌, arith}
 use mathlib.Core.List.{reverse_aux}
 use Rattle.std.specs.List.{slice_split}
 use Rattle.std.proofs.lemmas.Grind.{reverse_onto}
@@ -8,8 +8,8 @@ use Rattle.std.proofs.lemmas.List.Elements.{All-from_recursion}
 use Rattle.std.proofs.lemmas.List.Splits.{slice_split_none}
 use Rattle.unix_path.specs.CommonDir.{inner_values}
 use Rattle.unix_path.specs.Joins.{join_of, join_all_of}
-use Rattle.unix_path.specs.Parts.{is_slash, dot, is_rooted, value_of_piece}
-use Rattle.unix_path.specs.Parts.{Value, RootDir, CurDir, ParentDir, Normal, value_bytes, values}
+use Rattle.unix_path.specs.Parts.{is_slash, dot, is_rooted, value_of_piece, Value, RootDir, CurDir}
+use Rattle.unix_path.specs.Parts.{ParentDir, Normal, value_bytes, values}
 use Rattle.unix_path.proofs.lemmas.edits.JoinLemmas.{join_of_rooted}
 use Rattle.unix_path.proofs.lemmas.parts.PartLemmas.{root_first, root_first-values, values-nil}
 use Rattle.unix_path.proofs.lemmas.parts.ValueLemmas.{value_bytes-piece}

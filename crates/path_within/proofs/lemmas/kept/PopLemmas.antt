@@ -1,13 +1,11 @@
 -- What is spelled after one more `..`: a push of it, or a pop of the last name.
-use Rattle.std.proofs.Common.{◌≡◌, ℕ, ◌<◌, ◌≤◌, true, false, List, [], ◌∷◌, ◌++◌}
-use Rattle.std.proofs.Common.{length, reverse, refl, sym, ap, ◌∙◌, ⊎_elim, arith}
-use Rattle.std.proofs.Common.{length-append, unwrap_or}
+use Rattle.std.proofs.Common.{◌≡◌, ℕ, ◌<◌, ◌≤◌, true, false, List, [], ◌∷◌, ◌++◌, length, reverse}
+use Rattle.std.proofs.Common.{refl, sym, ap, ◌∙◌, ⊎_elim, arith, length-append, unwrap_or}
 use mathlib.Core.List.{reverse_aux}
 use Rattle.std.proofs.lemmas.Bool.{both_ways}
 use Rattle.unix_path.specs.Edits.{popped_of}
 use Rattle.unix_path.specs.Joins.{join_of}
-use Rattle.unix_path.specs.Parts.{Value, RootDir, ParentDir, Normal, is_rooted}
-use Rattle.unix_path.specs.Parts.{parent_dir, values}
+use Rattle.unix_path.specs.Parts.{Value, RootDir, ParentDir, Normal, is_rooted, parent_dir, values}
 use Rattle.unix_path.specs.Rest.{rest}
 use Rattle.unix_path.proofs.lemmas.names.ParentLemmas.{values-whole}
 use Rattle.unix_path.proofs.lemmas.parts.PartLemmas.{root_first, root_first-values}
@@ -19,10 +17,9 @@ use Rattle.path_runs.proofs.lemmas.joins.SiblingLemmas.{parent_of-name, rest-joi
 use Rattle.path_runs.proofs.lemmas.joins.SiblingLemmas.{values-join_of_one}
 use Rattle.path_within.specs.Resolved.{AreNames, kept_of, up_from}
 use Rattle.path_within.specs.Steps.{below_names, ReadsAsItself, AreUps, IsKept, ValueReadsAsItself}
-use Rattle.path_within.specs.Steps.{path_of}
-use Rattle.path_within.specs.Steps.{Keeps}
-use Rattle.path_within.proofs.lemmas.kept.PathOfLemmas.{one_has_bytes, path_of-spelled, values-path_of}
-use Rattle.path_within.proofs.lemmas.kept.PathOfLemmas.{ValueReadsAsItself-up}
+use Rattle.path_within.specs.Steps.{path_of, Keeps}
+use Rattle.path_within.proofs.lemmas.kept.PathOfLemmas.{one_has_bytes, path_of-spelled}
+use Rattle.path_within.proofs.lemmas.kept.PathOfLemmas.{values-path_of, ValueReadsAsItself-up}
 
 -- the bytes of kept values have no filler behind their last part
 rest-path_of : (ks : List Value) → IsKept ks → ReadsAsItself ks → rest (path_of ks) 0 0 ≡ path_of ks

@@ -1,6 +1,6 @@
 -- A resolved path read back, and a join resolved.
-use Rattle.std.proofs.Common.{◌≡◌, ℕ, List, [], ◌∷◌, ◌++◌, true, reverse, refl, sym, ap, ◌∙◌}
-use Rattle.std.proofs.Common.{drop, subst, take, take-append-drop}
+use Rattle.std.proofs.Common.{◌≡◌, ℕ, List, [], ◌∷◌, ◌++◌, true, reverse, refl, sym, ap, ◌∙◌, drop}
+use Rattle.std.proofs.Common.{subst, take, take-append-drop}
 use Rattle.unix_path.specs.Joins.{join_of}
 use Rattle.unix_path.specs.Parts.{Value, CurDir, is_rooted, values}
 use Rattle.unix_bytes.proofs.lemmas.lists.ListLemmas.{by_test}

@@ -1,12 +1,12 @@
 -- Normal values resolve to themselves, and which paths are resolved as they stand.
-use Rattle.std.proofs.Common.{◌≡◌, ◌↔◌, ℕ, true, false, ◌&&◌, IsTrue, List, ◌∷◌}
-use Rattle.std.proofs.Common.{sym, ap, subst, ◌∙◌}
+use Rattle.std.proofs.Common.{◌≡◌, ◌↔◌, ℕ, true, false, ◌&&◌, IsTrue, List, ◌∷◌, sym, ap, subst}
+use Rattle.std.proofs.Common.{◌∙◌}
 use Rattle.std.specs.List.{list_all}
 use Rattle.unix_path.specs.Parts.{Value, ParentDir, Normal, values}
 use Rattle.path_runs.specs.Spelling.{spelling_of}
 use Rattle.path_within.specs.Climbs.{is_name, is_parent}
-use Rattle.path_within.specs.Resolved.{resolved_of, resolved_bytes_of}
-use Rattle.path_within.specs.Resolved.{AreNames, AreUpsThenNames, IsNormal}
+use Rattle.path_within.specs.Resolved.{resolved_of, resolved_bytes_of, AreNames, AreUpsThenNames}
+use Rattle.path_within.specs.Resolved.{IsNormal}
 use Rattle.path_within.proofs.lemmas.kept.KeepLemmas.{resolved_normal}
 use Rattle.path_within.proofs.lemmas.kept.ResolveLemmas.{values-resolved}
 use Rattle.path_within.proofs.lemmas.kept.WayLemmas.{list_all-names, names_all, resolved_of-normal}

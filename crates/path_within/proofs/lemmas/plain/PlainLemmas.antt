@@ -1,9 +1,8 @@
 -- A plain path is resolved as it stands: names alone, or the root and then names.
-use Rattle.std.proofs.Common.{◌≡◌, ℕ, true, false, cond, not, List, [], ◌∷◌, ◌++◌}
-use Rattle.std.proofs.Common.{drop, length, refl, sym, ap, subst, ◌∙◌, arith}
+use Rattle.std.proofs.Common.{◌≡◌, ℕ, true, false, cond, not, List, [], ◌∷◌, ◌++◌, drop, length}
+use Rattle.std.proofs.Common.{refl, sym, ap, subst, ◌∙◌, arith}
 use Rattle.std.specs.List.{list_all, slice_split}
-use Rattle.unix_path.specs.Parts.{is_slash, counts, is_rooted}
-use Rattle.unix_path.specs.Parts.{RootDir, CurDir, values}
+use Rattle.unix_path.specs.Parts.{is_slash, counts, is_rooted, RootDir, CurDir, values}
 use Rattle.unix_bytes.proofs.lemmas.lists.ListLemmas.{by_test}
 use Rattle.unix_path.proofs.lemmas.parts.PartLemmas.{values-nil}
 use Rattle.path_runs.specs.Spelling.{spelling_of}

@@ -1,8 +1,7 @@
 -- All pieces are plain if each begins with plain bytes.
-use Rattle.std.proofs.Common.{◌≡◌, ℕ, suc, ◌<◌, true, eqb, ◌&&◌}
-use Rattle.std.proofs.Common.{List, [], ◌∷◌, length, get_or, refl, ap, ◌∙◌}
+use Rattle.std.proofs.Common.{◌≡◌, ℕ, suc, ◌<◌, true, eqb, ◌&&◌, List, [], ◌∷◌, length, get_or}
+use Rattle.std.proofs.Common.{refl, ap, ◌∙◌, arith}
 use native.Mathlib.Numerals.{unary_clauses}
-use Rattle.std.proofs.Common.{arith}
 use Rattle.std.specs.List.{list_all, onto_first, slice_split}
 use Rattle.std.specs.Str.{bytes_eq}
 use Rattle.std.proofs.lemmas.Bool.{and_from}
@@ -11,10 +10,9 @@ use Rattle.unix_path.specs.Parts.{is_slash, parent_dir}
 use Rattle.unix_bytes.proofs.lemmas.lists.ListLemmas.{by_test}
 use Rattle.unix_path.proofs.lemmas.filler.FillerLemmas.{first_piece_empty, first_piece_dot}
 use Rattle.unix_path.proofs.lemmas.parts.PieceLemmas.{first_piece, first_piece-slash}
-use Rattle.unix_path.proofs.lemmas.parts.PieceLemmas.{first_piece-other}
-use Rattle.unix_path.proofs.lemmas.parts.PieceLemmas.{slice_split-first}
-use Rattle.path_within.specs.PlainPieces.{is_plain_piece, has_plain_pieces}
-use Rattle.path_within.specs.PlainPieces.{begins_plain, goes_on_plain}
+use Rattle.unix_path.proofs.lemmas.parts.PieceLemmas.{first_piece-other, slice_split-first}
+use Rattle.path_within.specs.PlainPieces.{is_plain_piece, has_plain_pieces, begins_plain}
+use Rattle.path_within.specs.PlainPieces.{goes_on_plain}
 
 -- whether the first piece is `..`, by its first three bytes
 first_piece_up : (s : List ℕ)

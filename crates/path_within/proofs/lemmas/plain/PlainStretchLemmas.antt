@@ -1,10 +1,9 @@
 -- The first bytes of a string, up to a slash or the end: they are plain if plain pieces begin them
 -- and follow their slashes.
-use Rattle.std.proofs.Common.{◌≡◌, ℕ, ◌+◌, ◌<◌, ◌≤◌, true, false, eqb, cond}
-use Rattle.std.proofs.Common.{◌&&◌, not, Bool, List, take, drop, get_or, length, get_or-drop}
-use Rattle.std.proofs.Common.{sym, ap, subst, ◌∙◌, arith, length-take}
+use Rattle.std.proofs.Common.{◌≡◌, ℕ, ◌+◌, ◌<◌, ◌≤◌, true, false, cond, ◌&&◌, not, Bool, List}
+use Rattle.std.proofs.Common.{take, drop, get_or, length, get_or-drop, sym, ap, subst, ◌∙◌, arith}
+use Rattle.std.proofs.Common.{length-take}
 use Rattle.std.specs.Int.{from_bool}
-use Rattle.std.proofs.lemmas.Bool.{and_parts}
 use Rattle.std.proofs.lemmas.List.{get_or-take, get_or_past, get_or_default}
 use Rattle.unix_path.specs.Scan.{begins_with_parent, is_break, is_filler}
 use Rattle.unix_path.specs.Parts.{is_rooted, is_slash}
@@ -40,7 +39,13 @@ pub plain_stretch : (s : List ℕ) (n : ℕ) → begins_plain s 0 ≡ true
     → has_plain_pieces (take n s) ≡ true
 plain_stretch s n first onward e = plain_pieces (take n s)
     (begins_plain-take s n 0 (omega arith) e ∙ first)
-    (λ k l. grind (arith, length-take n s, get_or-take n s k 0, begins_plain-take s n (k + 1), onward k))
+    (λ k l. grind (
+      arith,
+      length-take n s,
+      get_or-take n s k 0,
+      begins_plain-take s n (k + 1),
+      onward k,
+    ))
 
 -- a plain piece begins where neither filler nor `..` does
 pub begins_plain-scan : (s : List ℕ) (i : ℕ) → i < length s
@@ -67,13 +72,6 @@ pub ends_at : (s : List ℕ) (n : ℕ) → (n < length s → is_slash (get_or s 
     → is_end s n ≡ true
 ends_at s n slash = grind (arith, get_or_default s n 0 47, get_or_past s n 47)
 
--- plain pieces that go on up to place n, over it and behind it go on all the way
-pub goes_on_over : (s : List ℕ) (start n end : ℕ) → begins_plain s (n + 1) ≡ true
-    → ((k : ℕ) → start ≤ k → k < n → goes_on_plain s k ≡ true)
-    → ((k : ℕ) → n + 1 ≤ k → k < end → goes_on_plain s k ≡ true)
-    → (k : ℕ) → start ≤ k → k < end → goes_on_plain s k ≡ true
-goes_on_over s start n end next before behind k from l = grind (arith, before k, behind k)
-
 -- up to place n, which ends a piece, s has plain pieces
 pub record Stretch (s : List ℕ) (n : ℕ) : Type 0 where
   pub some : 0 < n
@@ -87,11 +85,6 @@ names_stretch s n first onward ends = record {
   plain = plain_stretch s n first onward ends;
   ends = ends;
 }
-
--- a break or the length ends a piece
-pub break_or_end : (s : List ℕ) (n : ℕ) → (n < length s → is_break s n ≡ true)
-    → is_end s n ≡ true
-break_or_end s n found = ends_at s n (λ l. (and_parts (eqb (get_or s n 0) 47) _ (found l)).0)
 
 -- all pieces of a path are plain, but for the one before the root, if they are without that root
 pub plain_without_root : (s : List ℕ) (n : ℕ) → n ≡ from_bool (is_rooted s)

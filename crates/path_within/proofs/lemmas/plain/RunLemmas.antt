@@ -1,24 +1,21 @@
 -- The runs of a string, from the left: what each of them is, and what is left behind it.
-use Rattle.std.proofs.Common.{◌≡◌, ℕ, zero, suc, ◌+◌, ◌<◌, ◌≤◌, true, false, eqb, ltb}
-use Rattle.std.proofs.Common.{List, [], ◌∷◌, ◌++◌, length, take, drop, get_or, map, refl, sym, ap}
-use Rattle.std.proofs.Common.{◌∙◌, arith, eqb-true, take_all, take-append-drop, drop-cons}
-use Rattle.std.proofs.Common.{length-take-le}
-use Rattle.std.specs.List.{AllByRecursion, position_or_len, slice_split}
+use Rattle.std.proofs.Common.{◌≡◌, ℕ, zero, suc, ◌+◌, ◌<◌, ◌≤◌, true, false, eqb, ltb, List, []}
+use Rattle.std.proofs.Common.{◌∷◌, ◌++◌, length, take, drop, get_or, map, refl, sym, ap, ◌∙◌, arith}
+use Rattle.std.proofs.Common.{eqb-true, take_all, take-append-drop, drop-cons, length-take-le}
 use Rattle.std.proofs.Common.{subst}
+use Rattle.std.specs.List.{AllByRecursion, position_or_len, slice_split}
 use Rattle.std.proofs.lemmas.Bool.{eqb-false, ltb-true}
 use Rattle.std.proofs.lemmas.List.Elements.{All-from_recursion}
 use Rattle.std.proofs.lemmas.List.Splits.{slice_split_none}
 use Rattle.std.proofs.lemmas.List.Sums.{fails_before_first, passes_at_first}
 use Rattle.std.proofs.lemmas.List.{append-nil, drop_all, get_or_default, get_or_past}
 use Rattle.unix_path.specs.CommonDir.{inner_values}
-use Rattle.unix_path.specs.Parts.{slash, is_slash, is_rooted, inner_parts, Part}
-use Rattle.unix_path.specs.Parts.{RootDir, values}
+use Rattle.unix_path.specs.Parts.{slash, is_slash, is_rooted, inner_parts, Part, RootDir, values}
 use Rattle.unix_path.specs.Scan.{begins_with_parent, is_filler}
 use Rattle.unix_bytes.proofs.lemmas.lists.ListLemmas.{by_test}
 use Rattle.unix_path.proofs.lemmas.order.CommonPrefixLemmas.{inner_values-nil, values-slash}
 use Rattle.unix_path.proofs.lemmas.filler.FillerLemmas.{filler_slash, inner_parts_filler_at}
-use Rattle.unix_path.proofs.lemmas.filler.FillerLemmas.{is_filler-drop}
-use Rattle.unix_path.proofs.lemmas.filler.FillerLemmas.{values-busy}
+use Rattle.unix_path.proofs.lemmas.filler.FillerLemmas.{is_filler-drop, values-busy}
 use Rattle.unix_path.proofs.lemmas.steps.LeadLemmas.{busy_no_slash}
 use Rattle.unix_path.proofs.lemmas.parts.PieceLemmas.{slice_split-first}
 use Rattle.unix_path.proofs.lemmas.parts.PlaceLemmas.{values-inner_parts}
@@ -85,7 +82,7 @@ values-root s r = values-lead s
     ∙ ap (λ c. lead_by c (dot_first (slice_split is_slash s)) ++ inner_values s) r
 
 -- what is left behind all filler begins with none
-pub busy_left : (s : List ℕ) (n : ℕ) → (n < length s → is_filler s n ≡ false)
+busy_left : (s : List ℕ) (n : ℕ) → (n < length s → is_filler s n ≡ false)
     → is_filler (drop n s) 0 ≡ false
 busy_left s n busy = grind (arith, is_filler-drop s n, get_or_past s n 0, get_or_past s (n + 1) 47)
 
@@ -114,20 +111,28 @@ takes_names s t names n busy h l is left =
     }
 
 -- before the first slash a plain piece goes on
-pub first_goes_on : (s : List ℕ) (n : ℕ) → n ≡ position_or_len is_slash s
+first_goes_on : (s : List ℕ) (n : ℕ) → n ≡ position_or_len is_slash s
     → (k : ℕ) → k < n → goes_on_plain s k ≡ true
 first_goes_on s n e k l =
     let no = fails_before_first is_slash s k 0 (subst (λ n. k < n) e l) in rw no refl
 
 -- up to the first slash a plain piece stands
-pub first_stretch : (s : List ℕ) (n : ℕ) → begins_plain s 0 ≡ true
+first_stretch : (s : List ℕ) (n : ℕ) → begins_plain s 0 ≡ true
     → n ≡ position_or_len is_slash s → Stretch s n
 first_stretch s n first e =
     names_stretch s n first (first_goes_on s n e) (ap (is_end s) e
     ∙ ends_at s (position_or_len is_slash s) (passes_at_first is_slash s 0))
 
+-- and over it, if plain pieces go on behind it
+pub long_stretch : (s : List ℕ) (n end : ℕ) → begins_plain s 0 ≡ true
+    → n ≡ position_or_len is_slash s → begins_plain s (n + 1) ≡ true
+    → ((k : ℕ) → n + 1 ≤ k → k < end → goes_on_plain s k ≡ true) → is_end s end ≡ true
+    → Stretch s end
+long_stretch s n end first e next goes ends =
+    names_stretch s end first (λ k l. grind (arith, first_goes_on s n e k, goes k)) ends
+
 -- up to the first slash there is one piece
-pub one_piece : (s name : List ℕ) (n : ℕ) → n ≡ position_or_len is_slash s → name ≡ take n s
+one_piece : (s name : List ℕ) (n : ℕ) → n ≡ position_or_len is_slash s → name ≡ take n s
     → slice_split is_slash name ≡ name ∷ []
 one_piece s name n e is =
     let no_slash = (subst (AllByRecursion NoSlash) (slice_split-first s) (slice_split-no_slash s)).0

@@ -1,6 +1,6 @@
 -- A plain path, kept whole: one join with all its bytes in place of one for each part.
-use Rattle.std.proofs.Common.{◌≡◌, ℕ, true, false, List, [], ◌∷◌, map, reverse}
-use Rattle.std.proofs.Common.{refl, sym, ap, ◌∙◌, arith}
+use Rattle.std.proofs.Common.{◌≡◌, ℕ, true, false, List, [], ◌∷◌, map, reverse, refl, sym, ap, ◌∙◌}
+use Rattle.std.proofs.Common.{arith}
 use Rattle.unix_path.specs.Joins.{join_of, join_all_of}
 use Rattle.unix_path.specs.Parts.{Value, is_rooted, value_bytes, values}
 use Rattle.unix_bytes.proofs.lemmas.lists.ListLemmas.{by_test}

@@ -4,8 +4,8 @@ use Rattle.std.proofs.Common.{subst, ◌∙◌, take-append-drop}
 use Rattle.unix_path.specs.Joins.{join_of}
 use Rattle.unix_path.specs.Parts.{Value, values}
 use Rattle.path_runs.specs.Spelling.{spelling_of}
-use Rattle.path_within.specs.Resolved.{AreUpsThenNames, IsNormal, kept_of}
-use Rattle.path_within.specs.Resolved.{resolved_of, resolved_bytes_of}
+use Rattle.path_within.specs.Resolved.{AreUpsThenNames, IsNormal, kept_of, resolved_of}
+use Rattle.path_within.specs.Resolved.{resolved_bytes_of}
 use Rattle.path_within.specs.Way.{way_of}
 use Rattle.path_within.specs.Steps.{ReadsAsItself, IsKept}
 use Rattle.path_within.proofs.lemmas.kept.KeepLemmas.{IsKept-kept_of, kept_of-append, kept_of-kept}

@@ -9,11 +9,9 @@ use Rattle.unix_path.proofs.lemmas.rests.RootLemmas.{NoRoot}
 use Rattle.path_within.specs.Resolved.{AreNames, kept_of, up_from, resolved_of, resolved_bytes_of}
 use Rattle.path_within.specs.Steps.{IsKept}
 use Rattle.path_within.specs.Way.{is_root, way_of}
-use Rattle.path_within.proofs.lemmas.kept.BetweenLemmas.{list_any-reverse, some_steps}
-use Rattle.path_within.proofs.lemmas.kept.BetweenLemmas.{steps_from}
+use Rattle.path_within.proofs.lemmas.kept.BetweenLemmas.{list_any-reverse, some_steps, steps_from}
 use Rattle.path_within.proofs.lemmas.kept.ClimbLemmas.{rootless-no_roots}
-use Rattle.path_within.proofs.lemmas.kept.KeepLemmas.{IsKept-kept_of, names_reverse}
-use Rattle.path_within.proofs.lemmas.kept.KeepLemmas.{names_straight}
+use Rattle.path_within.proofs.lemmas.kept.KeepLemmas.{IsKept-kept_of, names_reverse, names_straight}
 use Rattle.path_within.proofs.lemmas.kept.ResolveLemmas.{kept_of-join, values-resolved}
 use Rattle.path_within.proofs.lemmas.kept.WayLemmas.{list_all-names, straight_rootless}
 

@@ -1,6 +1,6 @@
 -- A way has at most three bytes for each two of the first path, and those of the other.
-use Rattle.std.proofs.Common.{◌≡◌, ℕ, zero, suc, ◌+◌, ◌*◌, ◌≤◌, false, List, []}
-use Rattle.std.proofs.Common.{◌∷◌, length, drop, Some, refl, sym, ap, ◌∙◌, arith}
+use Rattle.std.proofs.Common.{◌≡◌, ℕ, zero, suc, ◌+◌, ◌*◌, ◌≤◌, false, List, [], ◌∷◌, length, drop}
+use Rattle.std.proofs.Common.{Some, refl, sym, ap, ◌∙◌, arith}
 use Rattle.std.specs.List.{list_any}
 use Rattle.std.proofs.lemmas.List.Sums.{sum_by-append, sum_by-take-drop}
 use Rattle.unix_path.specs.Parts.{Value, RootDir, ParentDir, is_rooted, value_bytes, values}
@@ -14,8 +14,7 @@ use Rattle.path_within.specs.Way.{is_root, way_of}
 use Rattle.path_within.specs.Written.{slashed_len}
 use Rattle.path_within.proofs.lemmas.kept.BetweenLemmas.{shared_count, steps_between-is, ups_of}
 use Rattle.path_within.proofs.lemmas.below.BoundLemmas.{length-spelling, slashed_len-cons}
-use Rattle.path_within.proofs.lemmas.below.BoundLemmas.{slashed_len-names}
-use Rattle.path_within.proofs.lemmas.below.BoundLemmas.{slashed_len-rootless}
+use Rattle.path_within.proofs.lemmas.below.BoundLemmas.{slashed_len-names, slashed_len-rootless}
 use Rattle.path_within.proofs.lemmas.below.NamesBelowLemmas.{resolved_of-slash}
 use Rattle.path_within.proofs.lemmas.kept.PathOfLemmas.{one_has_bytes}
 use Rattle.path_within.proofs.lemmas.kept.ResolveLemmas.{ReadsAsItself-resolved}

@@ -7,8 +7,8 @@ use Rattle.std.proofs.Math.ListN.{replicate}
 use Rattle.std.proofs.lemmas.Grind.{flat_map-append}
 use Rattle.std.proofs.lemmas.List.{drop_all, nil_from_length}
 use Rattle.unix_path.specs.Joins.{is_open, join_of}
-use Rattle.unix_path.specs.Parts.{Value, RootDir, ParentDir, Normal, dot, slash}
-use Rattle.unix_path.specs.Parts.{is_rooted, value_bytes, values}
+use Rattle.unix_path.specs.Parts.{Value, RootDir, ParentDir, Normal, dot, slash, is_rooted}
+use Rattle.unix_path.specs.Parts.{value_bytes, values}
 use Rattle.unix_path.specs.Scan.{begins_with_parent}
 use Rattle.unix_bytes.proofs.lemmas.lists.ListLemmas.{by_test}
 use Rattle.unix_path.proofs.lemmas.edits.JoinLemmas.{join_of_closed}
@@ -31,8 +31,7 @@ use Rattle.unix_path.proofs.lemmas.steps.LeadLemmas.{values-parent_first}
 use Rattle.path_within.proofs.lemmas.ways.RemainderLemmas.{HasSteps, are_left, has_steps, left_of}
 use Rattle.path_within.proofs.lemmas.ways.RemainderLemmas.{onward_of}
 use Rattle.path_within.proofs.lemmas.kept.WayLemmas.{list_all-names, spelling_of-straight}
-use Rattle.path_within.proofs.lemmas.kept.WayLemmas.{straight_rootless}
-use Rattle.path_within.proofs.lemmas.kept.WayLemmas.{ups_straight}
+use Rattle.path_within.proofs.lemmas.kept.WayLemmas.{straight_rootless, ups_straight}
 
 -- a resolved path is resolved as it stands
 pub resolved_again : (s t : List ℕ) → t ≡ resolved_bytes_of s → resolved_bytes_of t ≡ t

@@ -1,5 +1,4 @@
-use Rattle.std.proofs.Common.{arith}
-use Rattle.std.proofs.Common.{◌≡◌, ◌∷◌}
+use Rattle.std.proofs.Common.{arith, ◌≡◌, ◌∷◌}
 use Rattle.unix_path.specs.Cursor.{cursor_values}
 use Rattle.unix_path.specs.Views.{value_of}
 use Rattle.path_within.proofs.lemmas.plain.NormalLemmas.{straight_told}

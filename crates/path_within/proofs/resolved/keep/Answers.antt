@@ -6,13 +6,12 @@ use Rattle.unix_path.proofs.lemmas.parts.PartLemmas.{values-nil}
 use Rattle.path_runs.proofs.lemmas.joins.LeadLemmas.{drop_dot-values}
 use Rattle.path_within.specs.Resolved.{kept_of}
 use Rattle.path_within.proofs.lemmas.plain.KeepRunLemmas.{keeps_all, keeps_names, keeps_root_alone}
-use Rattle.path_within.proofs.lemmas.plain.KeepRunLemmas.{keeps_run}
+use Rattle.path_within.proofs.lemmas.plain.KeepRunLemmas.{keeps_run, inner_same}
 use Rattle.path_within.proofs.lemmas.kept.ResolveLemmas.{kept_of-drop_dot}
 use Rattle.path_within.proofs.resolved.keep.Goals as goal
 use Rattle.path_within.proofs.resolved.keep.Goals.{then-has_root+in_ok-push, else-has_root}
 use Rattle.unix_path.specs.CommonDir.{inner_values}
 use Rattle.path_within.specs.Steps.{Keeps}
-use Rattle.path_within.proofs.lemmas.plain.KeepRunLemmas.{inner_same}
 use Rattle.path_within.proofs.lemmas.plain.RunLemmas.{values-root}
 
 pub loop-run-init : goal.loop-run-init

@@ -1,5 +1,4 @@
-use Rattle.std.proofs.Common.{arith}
-use Rattle.std.proofs.Common.{[], refl}
+use Rattle.std.proofs.Common.{arith, [], refl}
 use Rattle.path_within.proofs.lemmas.plain.PlainLemmas.{resolved-plain}
 use Rattle.path_within.proofs.lemmas.kept.StepLemmas.{keeps_nothing, spells_resolved}
 use Rattle.path_within.proofs.resolved.resolved_cow.Goals as goal

@@ -6,7 +6,8 @@ use Rattle.path_within.proofs.runs.is_plain.Goals as goal
 use Rattle.path_within.proofs.runs.is_plain.Goals.{After-from}
 
 pub returns-then-place-bytes : goal.returns-then-place-bytes
-returns-then-place-bytes c = grind (arith, plain_pieces, unbroken_plain, plain_without_root, take_rest)
+returns-then-place-bytes c =
+    grind (arith, plain_pieces, unbroken_plain, plain_without_root, take_rest)
 
 pub returns-then-begins_plain : goal.returns-then-begins_plain
 returns-then-begins_plain c = λ e.

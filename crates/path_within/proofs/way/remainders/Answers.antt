@@ -3,8 +3,7 @@ use Rattle.unix_path.specs.Names.{past_last}
 use Rattle.unix_path.specs.Parts.{is_slash, slash}
 use Rattle.unix_path.proofs.lemmas.names.NameLemmas.{past_last-byte}
 use Rattle.path_within.proofs.lemmas.ways.RemainderLemmas.{AreLeft, are_left, behind_place}
-use Rattle.path_within.proofs.lemmas.ways.RemainderLemmas.{has_steps}
-use Rattle.path_within.proofs.lemmas.ways.RemainderLemmas.{shared_len, shared_len-is}
+use Rattle.path_within.proofs.lemmas.ways.RemainderLemmas.{has_steps, shared_len, shared_len-is}
 use Rattle.path_within.proofs.way.remainders.Goals as goal
 use Rattle.path_within.proofs.way.remainders.Goals.{then-is_end, else-is_end}
 

@@ -9,10 +9,9 @@ use Rattle.unix_path.specs.Joins.{join_of}
 use Rattle.unix_path.specs.Parts.{ParentDir}
 use Rattle.unix_path.specs.Scan.{begins_with_parent}
 use Rattle.path_runs.specs.Spelling.{slashed_bytes}
-use Rattle.path_within.proofs.lemmas.ways.WaySpellingLemmas.{are_resolved, AreResolved, join_of-ups, joined}
-use Rattle.path_within.proofs.lemmas.ways.WaySpellingLemmas.{joined-way}
-use Rattle.path_within.proofs.lemmas.ways.WaySpellingLemmas.{no_way-roots, resolved_again}
-use Rattle.path_within.proofs.lemmas.ways.WaySpellingLemmas.{way_to_itself}
+use Rattle.path_within.proofs.lemmas.ways.WaySpellingLemmas.{are_resolved, AreResolved, join_of-ups}
+use Rattle.path_within.proofs.lemmas.ways.WaySpellingLemmas.{joined, joined-way, no_way-roots}
+use Rattle.path_within.proofs.lemmas.ways.WaySpellingLemmas.{resolved_again, way_to_itself}
 use Rattle.path_within.proofs.lemmas.ways.WaySpellingLemmas.{way_told}
 use Rattle.path_within.proofs.way.way.Goals as goal
 use Rattle.path_within.proofs.way.way.Goals.{then-not-is_empty-2+in_ok-push-2, else-not-is_empty-2}

@@ -1,5 +1,4 @@
-use Rattle.std.proofs.Common.{rules}
-use Rattle.std.proofs.Common.{refl}
+use Rattle.std.proofs.Common.{rules, refl}
 use Rattle.path_within.specs.Requests.{request_bytes}
 use Rattle.path_within.proofs.lemmas.below.BelowLemmas.{begins, is_below}
 use Rattle.path_within.proofs.request.Request.write_below.Goals as goal

@@ -6,8 +6,7 @@ use Rattle.unix_path.specs.Parts.{ParentDir, values}
 use Rattle.unix_path.specs.Scan.{is_filler}
 use Rattle.unix_path.proofs.lemmas.steps.LeadLemmas.{length-parent_first, values-parent_first}
 use Rattle.path_within.specs.PlainPieces.{begins_plain}
-use Rattle.path_within.proofs.lemmas.plain.PlainStretchLemmas.{goes_on_over, names_stretch}
-use Rattle.path_within.proofs.lemmas.plain.RunLemmas.{first_goes_on, one_name, plain_behind}
+use Rattle.path_within.proofs.lemmas.plain.RunLemmas.{long_stretch, one_name, plain_behind}
 use Rattle.path_within.proofs.lemmas.plain.RunLemmas.{plain_here, some_byte, takes_names}
 use Rattle.path_within.proofs.lemmas.plain.RunLemmas.{values_left}
 use Rattle.path_within.proofs.lemmas.ways.RemainderLemmas.{behind_place}
@@ -85,10 +84,8 @@ returns-clause-some c =
     (ap (is_filler rest) {x = 0} {y = c.filler_len-filler.result} (omega arith)
     ∙ c.filler_len-filler.ensures.busy (omega (arith, c.if-filler-gt0.false, some_left)))
     c.if-rest-eq46.false in
-    let stretch = names_stretch s end.result (begins place.Else-begins_with_parent)
-    (λ k l. goes_on_over s 0 n.result end.result next
-    (λ j from less. first_goes_on s n.result n.ensures.value j less) end.ensures.plain k
-    (omega arith) l) end.ensures.ends in
+    let stretch = long_stretch s n.result end.result (begins place.Else-begins_with_parent)
+    n.ensures.value next end.ensures.plain end.ensures.ends in
     let names = takes_names s c.new-2.result.left.now c.from_bytes-2.result.bytes.now
     end.result c.args.self.now.busy stretch end.ensures.in_range c.from_bytes-2.ensures.bytes
     (c.new-2.ensures.values ∙ ap inner_values (take_rest s end.result)) in
