@@ -18,6 +18,14 @@ use unix_path::bytes::UnixStr;
 use unix_path::scan::has_slash;
 use unix_path::{ExtensionError, Path, PathBuf};
 
+// The bytes of the path.
+#[inline]
+fn bytes_of(path: &PathBuf) -> &[u8]
+    ensures { result.now ≡ path_bytes path.now }
+{
+    path.as_path().as_unix_str().as_bytes()
+}
+
 // Joins the other path to the path. Always inlined, as `PathBuf::push` is.
 #[inline(always)]
 #[tactic(auto, using(crate::proofs::lemmas::edits::EditStepLemmas::IsKnown_join))]
@@ -42,11 +50,11 @@ pub(super) fn pop(path: &mut PathBuf, known: &mut Known) -> bool
     ensures value { result ≡ is_some (parent_of (path_bytes path.old)) }
     ensures bytes { path_bytes path.new ≡ popped_of (path_bytes path.old) }
 {
-    if known.is_bare(path.as_path().as_unix_str().as_bytes()) {
+    if known.is_bare(bytes_of(path)) {
         return false;
     }
     let is_popped = path.pop();
-    known.cut(path.as_path().as_unix_str().len());
+    known.cut(bytes_of(path).len());
     is_popped
 }
 
@@ -64,12 +72,12 @@ pub(super) fn set_file_name(
         (path_bytes path.new ≡ with_name_of (path_bytes path.old) name.entry.bytes.now) }
     ensures err { OnErr result (path_bytes path.new ≡ path_bytes path.old) }
 {
-    if known.is_nameless(path.as_path().as_unix_str().as_bytes()) {
+    if known.is_nameless(bytes_of(path)) {
         return push(path, known, Path::new(name));
     }
     path.set_file_name(name)?;
     // Behind what stays of the path stand a slash, perhaps, and the name.
-    let len = path.as_path().as_unix_str().len();
+    let len = bytes_of(path).len();
     known.cut(len.saturating_sub(name.len() + 1));
     Ok(())
 }
@@ -84,7 +92,7 @@ fn make_room(path: &mut PathBuf, len: usize) -> Result<(), AllocError>
     if len <= path.capacity() {
         return Ok(());
     }
-    path.reserve(len - path.as_path().as_unix_str().len())
+    path.reserve(len - bytes_of(path).len())
 }
 
 // Drops all bytes behind the first `len`, and keeps the memory.
@@ -136,7 +144,7 @@ pub(super) fn set_extension(
     if has_slash(new) {
         return Err(ExtensionError::Separator);
     }
-    let bytes = path.as_path().as_unix_str().as_bytes();
+    let bytes = bytes_of(path);
     let Some(end) = known.name_end(bytes) else {
         return Ok(false);
     };
@@ -175,7 +183,7 @@ pub(super) fn add_extension(
     if has_slash(more) {
         return Err(ExtensionError::Separator);
     }
-    let bytes = path.as_path().as_unix_str().as_bytes();
+    let bytes = bytes_of(path);
     let Some(end) = known.name_end(bytes) else {
         return Ok(false);
     };

@@ -1,6 +1,5 @@
 -- What is known of a path's first bytes, as long as these stay.
-use Rattle.std.proofs.Common.{◌≡◌, ℕ, ◌≤◌, List, length, take, refl}
-use Rattle.std.proofs.Common.{sym, ap, ◌∙◌, arith, subst, take_all}
+use Rattle.std.proofs.Common.{◌≡◌, ℕ, ◌≤◌, List, length, take, sym, ap, ◌∙◌, arith, subst, take_all}
 use Rattle.std.proofs.lemmas.List.{take-take}
 use Rattle.unix_path.specs.Parts.{parts}
 use Rattle.unix_path.specs.Edits.{stem_end_of}
@@ -10,15 +9,6 @@ use Rattle.path_runs.specs.Known.{KnowsEnd, KnowsStem}
 -- fewer bytes than two strings share are the same in both
 shared : (s t : List ℕ) (k n : ℕ) → k ≤ n → take n s ≡ take n t → take k s ≡ take k t
 shared s t k n l e = sym (take-take k n s l) ∙ ap (take k) e ∙ take-take k n t l
-
--- of no bytes it is known that they have no part
-pub KnowsEnd-none : (s : List ℕ) → KnowsEnd s 0 0
-KnowsEnd-none s = record {
-  in_order = omega arith;
-  in_range = omega arith;
-  same = refl;
-  ends = λ l. absurd (omega arith);
-}
 
 -- where the last part ends is known of each string that begins with the same bytes
 pub KnowsEnd-kept : (s t : List ℕ) (n end len : ℕ) → KnowsEnd s end len → n ≤ length t
@@ -31,10 +21,6 @@ KnowsEnd-kept s t n end len h l e few =
           ∙ ap parts (shared s t len n few e);
       ends = subst EndsInPart (shared s t end n (omega arith) e) h.ends;
     }
-
--- nothing is known of the stem that no bytes end in
-pub KnowsStem-none : (s : List ℕ) → KnowsStem s 0
-KnowsStem-none s = record { in_range = omega arith; ends = λ l. absurd (omega arith) }
 
 -- where a stem ends is known of each string that begins with the same bytes
 pub KnowsStem-kept : (s t : List ℕ) (n stem : ℕ) → KnowsStem s stem → n ≤ length t
