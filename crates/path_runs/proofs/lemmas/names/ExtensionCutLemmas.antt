@@ -1,19 +1,20 @@
 -- The bytes and the values of a path with an extension set or added.
-use Rattle.std.proofs.Common.{◌≡◌, ℕ, ◌+◌, false, eqb, List, [], ◌∷◌, ◌++◌}
-use Rattle.std.proofs.Common.{length, take, Some, None}
-use Rattle.std.proofs.Common.{sym, ap, ◌∙◌, append_assoc, length-append}
+use Rattle.std.proofs.Common.{◌≡◌, ℕ, ◌+◌, false, eqb, List, [], ◌∷◌, ◌++◌, length, take, Option}
+use Rattle.std.proofs.Common.{Some, None, refl, sym, ap, ◌∙◌, append_assoc, length-append}
+use Rattle.std.specs.Option.{option_map_or}
 use Rattle.std.proofs.lemmas.Bool.{cond-false}
 use Rattle.std.proofs.lemmas.List.{take_at}
-use Rattle.unix_path.specs.Parts.{parts, values}
+use Rattle.unix_path.specs.Parts.{Value, Normal, parts, values}
 use Rattle.unix_path.specs.Names.{file_name_of, split_name}
-use Rattle.unix_path.specs.Edits.{last_start_of}
-use Rattle.unix_path.specs.Edits.{stem_end_of, dot_before, with_extension_of}
+use Rattle.unix_path.specs.Edits.{last_start_of, stem_end_of, dot_before, with_extension_of}
 use Rattle.unix_path.specs.Extensions.{name_end_of, added_extension_of}
 use Rattle.unix_path.proofs.lemmas.edits.EditLemmas.{with_extension_at}
-use Rattle.unix_path.proofs.lemmas.names.NameEndLemmas.{name_end_by, added_extension_at}
+use Rattle.unix_path.proofs.lemmas.names.NameEndLemmas.{name_end_by, name_end_of-none}
+use Rattle.unix_path.proofs.lemmas.names.NameEndLemmas.{added_extension_at, added_extension_of-none}
+use Rattle.unix_path.proofs.lemmas.rests.MiddleLemmas.{middle, middle-push}
 use Rattle.unix_path.proofs.lemmas.names.StemLemmas.{stem_end_by}
 use Rattle.path_runs.proofs.lemmas.names.DotLemmas.{stem_prefix}
-use Rattle.unix_path.proofs.lemmas.names.NameCutLemmas.{NameCut}
+use Rattle.unix_path.proofs.lemmas.names.NameCutLemmas.{NameCut, name_cut}
 use Rattle.path_runs.proofs.lemmas.joins.ValueLemmas.{append_values, values-append_open}
 
 -- what stands up to the stem's end is the prefix and the stem
@@ -46,17 +47,8 @@ with_extension_of-cut s name x e c =
     regroup : (f a b c : List ℕ) → ((f ++ a) ++ b) ++ c ≡ f ++ (a ++ (b ++ c))
     regroup f a b c = simp append_assoc
 
--- with an extension set a path has the prefix's values, and what the new name adds
-pub values-with_extension_of : (s name x : List ℕ) → file_name_of (values s) ≡ Some name
-    → (c : NameCut s name)
-    → values (with_extension_of s x)
-    ≡ append_values (values c.prefix) ((split_name name).0 ++ (dot_before x ++ x))
-values-with_extension_of s name x e c =
-    ap values (with_extension_of-cut s name x e c)
-    ∙ values-append_open c.prefix ((split_name name).0 ++ (dot_before x ++ x)) c.ends
-
 -- setting an extension leaves a path without a file name as it is
-pub with_extension_of-none : (s x : List ℕ) → file_name_of (values s) ≡ None
+with_extension_of-none : (s x : List ℕ) → file_name_of (values s) ≡ None
     → with_extension_of s x ≡ s
 unfolding with_extension_of stem_end_of
 with_extension_of-none s x e = ap (λ o. with_extension_at s x (stem_end_by s o)) e
@@ -71,7 +63,7 @@ take-name_end s name c =
     ap (take n) c.whole ∙ take_at (c.prefix ++ name) c.back n size
 
 -- with an extension added a path is the prefix, the name, a dot and the extension
-pub added_extension_of-cut : (s name x : List ℕ) → eqb (length x) 0 ≡ false
+added_extension_of-cut : (s name x : List ℕ) → eqb (length x) 0 ≡ false
     → file_name_of (values s) ≡ Some name → (c : NameCut s name)
     → added_extension_of s x ≡ c.prefix ++ (name ++ 46 ∷ x)
 unfolding added_extension_of name_end_of
@@ -84,10 +76,42 @@ added_extension_of-cut s name x some e c =
     regroup : (f a b : List ℕ) → ((f ++ a) ++ 46 ∷ []) ++ b ≡ f ++ (a ++ 46 ∷ b)
     regroup f a b = append_assoc (f ++ a) (46 ∷ []) b ∙ append_assoc f a (46 ∷ b)
 
--- with an extension added a path has the prefix's values, and what the new name adds
-pub values-added_extension_of : (s name x : List ℕ) → eqb (length x) 0 ≡ false
-    → file_name_of (values s) ≡ Some name → (c : NameCut s name)
-    → values (added_extension_of s x) ≡ append_values (values c.prefix) (name ++ 46 ∷ x)
-values-added_extension_of s name x some e c =
-    ap values (added_extension_of-cut s name x some e c)
-    ∙ values-append_open c.prefix (name ++ 46 ∷ x) c.ends
+-- the values, and in place of a file name what n of it adds
+abbrev pub renamed : (List ℕ → List ℕ) → List Value → List Value
+renamed n vs =
+    option_map_or (λ name. append_values (middle 0 1 vs) (n name)) (file_name_of vs) vs
+
+-- if f changes nothing but a file name, to n of it, it depends on the path's values alone
+values-renamed : (f n : List ℕ → List ℕ) (s : List ℕ)
+    → (file_name_of (values s) ≡ None → f s ≡ s)
+    → ((name : List ℕ) → file_name_of (values s) ≡ Some name → (c : NameCut s name)
+    → f s ≡ c.prefix ++ n name)
+    → values (f s) ≡ renamed n (values s)
+values-renamed f n s none some = by (file_name_of (values s)) refl
+  where
+    by : (o : Option (List ℕ)) → file_name_of (values s) ≡ o → values (f s)
+        ≡ option_map_or (λ name. append_values (middle 0 1 (values s)) (n name)) o (values s)
+    by None e = ap values (none e)
+    by (Some name) e =
+        let c = name_cut s name e in
+        ap values (some name e c) ∙ values-append_open c.prefix (n name) c.ends
+        ∙ ap (λ vs. append_values vs (n name))
+        (sym (ap (middle 0 1) c.before ∙ middle-push (values c.prefix) (Normal name)))
+
+-- a name with the extension x set
+abbrev pub name_with : List ℕ → List ℕ → List ℕ
+name_with x name = (split_name name).0 ++ (dot_before x ++ x)
+
+-- the values of a path with an extension set depend on the path's values alone
+pub values-with_extension_of : (s x : List ℕ)
+    → values (with_extension_of s x) ≡ renamed (name_with x) (values s)
+values-with_extension_of s x = values-renamed (λ s. with_extension_of s x) (name_with x) s
+    (with_extension_of-none s x) (λ name e c. with_extension_of-cut s name x e c)
+
+-- and so do those of a path with an extension added
+pub values-added_extension_of : (s x : List ℕ) → eqb (length x) 0 ≡ false
+    → values (added_extension_of s x) ≡ renamed (λ name. name ++ 46 ∷ x) (values s)
+values-added_extension_of s x some =
+    values-renamed (λ s. added_extension_of s x) (λ name. name ++ 46 ∷ x) s
+    (λ none. added_extension_of-none s x (name_end_of-none s (sym none)))
+    (λ name e c. added_extension_of-cut s name x some e c)
