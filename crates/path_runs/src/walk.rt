@@ -59,7 +59,6 @@ fn push_some<'a>(
 ///
 /// For `/a/./b/../c` and the turns front, back, front, back it takes `/` and `a` in front, leaves
 /// `b`, and takes `c` and `..` behind. With no turn it leaves `foo` of `foo/`.
-#[tactic(auto, using(crate::proofs::lemmas::walks::WalkLemmas::whole_walk))]
 pub fn walk<'a>(alloc: Global, path: Path<'a>, turns: &[Turn]) -> Result<Walked<'a>, AllocError>
     ensures front { let all = values path.entry.bytes.now in
         IfOk result (λ w. map value_of w.front.items ≡

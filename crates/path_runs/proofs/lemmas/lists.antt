@@ -2,5 +2,3 @@
 pub mod AllLemmas
 pub mod OverlayLemmas
 pub mod WritingLemmas
--- Of this crate alone.
-pub mod TogetherLemmas
