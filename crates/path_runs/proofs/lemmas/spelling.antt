@@ -2,8 +2,8 @@
 pub mod PieceValueLemmas
 pub mod SpellLemmas
 pub mod LeanLemmas
-pub mod OwnSpellingLemmas
 pub mod ReadBackLemmas
+pub mod OwnSpellingLemmas
 pub mod UnslashedLemmas
 pub mod JoinAllLemmas
 -- Of this crate alone.

@@ -1,7 +1,7 @@
 -- What is copied of a path to make its spelling: the bytes before its first gap, and stretches.
-use Rattle.std.proofs.Common.{◌≡◌, ℕ, zero, suc, ◌+◌, ◌-◌, ◌<◌, ◌≤◌, true, false, eqb, List}
-use Rattle.std.proofs.Common.{◌++◌, length, take, drop, get_or, sym, ap, ap₂, ◌∙◌}
-use Rattle.std.proofs.Common.{eqb-true, arith, drop-drop, length-drop, length-take-le, take_all}
+use Rattle.std.proofs.Common.{◌≡◌, ℕ, zero, suc, ◌+◌, ◌-◌, ◌<◌, ◌≤◌, true, false, eqb, List, ◌++◌}
+use Rattle.std.proofs.Common.{length, take, drop, get_or, sym, ap, ap₂, ◌∙◌, eqb-true, arith}
+use Rattle.std.proofs.Common.{drop-drop, length-drop, length-take-le, take_all}
 use Rattle.std.specs.Prelude.{slice_range}
 use Rattle.std.proofs.lemmas.Bool.{and_parts}
 use Rattle.std.proofs.lemmas.List.{get_or-drop}

@@ -4,8 +4,8 @@ use Rattle.std.proofs.Common.{ap₂, subst, arith}
 use Rattle.std.specs.Simd.Lanes.{chunk}
 use Rattle.std.proofs.lemmas.Simd.{length-chunk}
 use Rattle.unix_bytes.proofs.lemmas.vectors.TestLaneLemmas.{hits, both, either, Tells, Tells-hits}
-use Rattle.unix_bytes.proofs.lemmas.vectors.TestLaneLemmas.{Tells-both}
-use Rattle.unix_bytes.proofs.lemmas.vectors.TestLaneLemmas.{Tells-either, lane_at, TellFrom}
+use Rattle.unix_bytes.proofs.lemmas.vectors.TestLaneLemmas.{Tells-both, Tells-either, lane_at}
+use Rattle.unix_bytes.proofs.lemmas.vectors.TestLaneLemmas.{TellFrom}
 use Rattle.path_runs.specs.Gaps.{is_gap}
 
 -- a gap begins at byte x, which y and z follow

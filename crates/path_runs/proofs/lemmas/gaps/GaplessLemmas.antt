@@ -1,36 +1,21 @@
 -- A path is its own spelling exactly if it has no gap and ends in a part, or has one byte at most.
-use Rattle.std.proofs.Common.{◌≡◌, ℕ, zero, suc, ◌+◌, ◌<◌, ◌≤◌, true, nat_eq, eqb, List}
-use Rattle.std.proofs.Common.{[], ◌∷◌, length, take, drop, sym, ap, ◌∙◌, arith}
-use Rattle.std.proofs.Common.{eqb-true, eq-eqb, ltb-true, ltb-false, length-append, length-take-le}
-use Rattle.std.proofs.Common.{take_all, ◌⊎◌, inl, inr}
+use Rattle.std.proofs.Common.{◌≡◌, ℕ, zero, suc, ◌+◌, ◌<◌, ◌≤◌, true, nat_eq, eqb, List, [], ◌∷◌}
+use Rattle.std.proofs.Common.{length, take, drop, sym, ap, ◌∙◌, arith, eqb-true, eq-eqb, ltb-true}
+use Rattle.std.proofs.Common.{ltb-false, length-append, length-take-le, take_all, ◌⊎◌, inl, inr}
 use Rattle.std.proofs.lemmas.Bool.{and_parts}
 use Rattle.std.proofs.Math.Dec.{ltb}
 use Rattle.std.specs.Prelude.{IsTrue}
-use Rattle.unix_path.specs.Parts.{Value, values}
-use Rattle.unix_path.specs.CommonDir.{inner_values}
+use Rattle.unix_path.specs.Parts.{values}
 use Rattle.unix_path.specs.Rest.{rest}
 use Rattle.unix_path.specs.Scan.{EndsInPart}
 use Rattle.unix_bytes.proofs.lemmas.lists.ListLemmas.{by_test}
 use Rattle.unix_path.proofs.lemmas.steps.SpanLemmas.{rest-trimmed, trims_end}
 use Rattle.path_runs.specs.Gaps.{is_gap, slashed_parts, FirstGap}
-use Rattle.path_runs.specs.Spelling.{slashed_bytes, spelling_of}
+use Rattle.path_runs.specs.Spelling.{spelling_of}
 use Rattle.path_runs.proofs.lemmas.gaps.KeptLemmas.{is_gap-behind, nothing_left}
-use Rattle.path_runs.proofs.lemmas.gaps.KeptLemmas.{slashed_parts-filler}
-use Rattle.path_runs.proofs.lemmas.gaps.KeptLemmas.{slashed_parts-slash}
-use Rattle.path_runs.proofs.lemmas.spelling.LeanLemmas.{slashed_bytes-lean, spelling_of-shortest}
-use Rattle.path_runs.proofs.lemmas.gaps.StretchLemmas.{slash_each, slashed_bytes-cons}
-use Rattle.path_runs.proofs.lemmas.gaps.StretchLemmas.{spelling_of-stretch}
-use Rattle.path_runs.proofs.lemmas.gaps.StretchLemmas.{spelling_of-whole}
-
--- a slash before each value takes at most one byte more than slashes between
-slash_each-length : (vs : List Value) → length (slash_each vs) ≤ length (slashed_bytes vs) + 1
-slash_each-length [] = omega arith
-slash_each-length (v ∷ vs) = omega (arith, ap length (slashed_bytes-cons v vs))
-
--- the parts of a string, each behind a slash, take at most one byte more than the string
-slashed_parts-length : (s : List ℕ) → length (slashed_parts s) ≤ length s + 1
-unfolding slashed_parts
-slashed_parts-length s = omega (arith, slash_each-length (inner_values s), slashed_bytes-lean s)
+use Rattle.path_runs.proofs.lemmas.gaps.KeptLemmas.{slashed_parts-filler, slashed_parts-slash}
+use Rattle.path_runs.proofs.lemmas.spelling.LeanLemmas.{slashed_parts-length, spelling_of-shortest}
+use Rattle.path_runs.proofs.lemmas.gaps.StretchLemmas.{spelling_of-stretch, spelling_of-whole}
 
 -- the parts of a string that begins with a gap, each behind a slash, take fewer bytes than it
 first_gap-longer : (s : List ℕ) → 0 < length s → is_gap s 0 ≡ true

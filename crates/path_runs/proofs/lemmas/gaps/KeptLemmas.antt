@@ -13,8 +13,8 @@ use Rattle.unix_bytes.proofs.lemmas.lists.ListLemmas.{by_test, drop-suc_cons}
 use Rattle.unix_path.proofs.lemmas.filler.FillerLemmas.{inner_parts_busy, inner_parts_filler_at}
 use Rattle.unix_path.proofs.lemmas.filler.FillerLemmas.{is_filler-drop}
 use Rattle.unix_path.proofs.lemmas.parts.PieceLemmas.{first_piece, first_piece-slash}
-use Rattle.unix_path.proofs.lemmas.parts.PieceLemmas.{first_piece-other}
-use Rattle.unix_path.proofs.lemmas.parts.PieceLemmas.{position_or_len-slash, position_or_len-other}
+use Rattle.unix_path.proofs.lemmas.parts.PieceLemmas.{first_piece-other, position_or_len-slash}
+use Rattle.unix_path.proofs.lemmas.parts.PieceLemmas.{position_or_len-other}
 use Rattle.unix_path.proofs.lemmas.parts.PlaceLemmas.{values-inner_parts}
 use Rattle.unix_path.proofs.lemmas.parts.ValueLemmas.{value_bytes-piece}
 use Rattle.path_runs.specs.Gaps.{is_gap, slashed_parts, FirstGap, IsPart}

@@ -3,8 +3,8 @@ use Rattle.std.proofs.Common.{◌≡◌, ℕ, ◌<◌, ◌≤◌, true, false, e
 use Rattle.std.proofs.Common.{drop, map, get_or, refl, sym, ap, ap₂, subst, ◌∙◌, append-nil}
 use Rattle.std.proofs.Common.{eqb-true, arith, take_all, ◌⊎◌, inl, inr}
 use Rattle.std.specs.List.{flat_map, position_or_len}
-use Rattle.unix_path.specs.Parts.{Part, Value, RootDir, is_slash, slash}
-use Rattle.unix_path.specs.Parts.{inner_parts, value_bytes, values}
+use Rattle.unix_path.specs.Parts.{Part, Value, RootDir, is_slash, slash, inner_parts, value_bytes}
+use Rattle.unix_path.specs.Parts.{values}
 use Rattle.unix_path.specs.Rest.{rest}
 use Rattle.unix_path.specs.Scan.{EndsInPart}
 use Rattle.unix_bytes.proofs.lemmas.lists.ListLemmas.{by_test}
@@ -12,15 +12,13 @@ use Rattle.unix_path.proofs.lemmas.parts.PartLemmas.{parts-name, parts-root, val
 use Rattle.unix_path.proofs.lemmas.parts.PieceLemmas.{first_piece}
 use Rattle.unix_path.proofs.lemmas.parts.PlaceLemmas.{values-inner_parts, parts_end}
 use Rattle.unix_path.proofs.lemmas.steps.SpanLemmas.{parts_end-whole, rest-trimmed, trims_end}
-use Rattle.unix_path.proofs.lemmas.parts.ValueLemmas.{first_value}
-use Rattle.unix_path.proofs.lemmas.parts.ValueLemmas.{value_bytes-first, no_root_first}
+use Rattle.unix_path.proofs.lemmas.parts.ValueLemmas.{first_value, value_bytes-first, no_root_first}
 use Rattle.path_runs.specs.Gaps.{slashed_parts, FirstGap}
 use Rattle.path_runs.specs.Spelling.{slashed_bytes, spelling_of}
 use Rattle.path_runs.proofs.lemmas.gaps.KeptLemmas.{first_slash, kept_stretch, nothing_left}
 use Rattle.path_runs.proofs.lemmas.gaps.KeptLemmas.{slashed_parts-slash}
 use Rattle.path_runs.proofs.lemmas.spelling.SpellLemmas.{spelling_of-cons, spelling_of-nil}
-use Rattle.path_runs.proofs.lemmas.spelling.SpellLemmas.{spelling_of-root}
-use Rattle.path_runs.proofs.lemmas.spelling.SpellLemmas.{spelling_of-rooted}
+use Rattle.path_runs.proofs.lemmas.spelling.SpellLemmas.{spelling_of-root, spelling_of-rooted}
 
 -- the values' bytes, each behind a slash
 abbrev pub slash_each : List Value → List ℕ
@@ -33,7 +31,7 @@ slashed_bytes-cons v [] = sym (append-nil (value_bytes v))
 slashed_bytes-cons v (w ∷ vs) = ap (λ u. value_bytes v ++ slash ∷ u) (slashed_bytes-cons w vs)
 
 -- a rootless path is spelled as its first piece, and then its parts, each behind a slash
-spelling_of-name : (s : List ℕ) → 0 < length s → eqb (get_or s 0 0) 47 ≡ false
+pub spelling_of-name : (s : List ℕ) → 0 < length s → eqb (get_or s 0 0) 47 ≡ false
     → spelling_of (values s)
     ≡ first_piece s ++ slashed_parts (drop (position_or_len is_slash s) s)
 unfolding values slashed_parts

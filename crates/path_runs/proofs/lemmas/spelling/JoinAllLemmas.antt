@@ -9,9 +9,7 @@ use Rattle.path_runs.specs.Spelling.{slashed_bytes, spelling_of}
 use Rattle.path_runs.proofs.lemmas.joins.AssociativeLemmas.{separator, join_of-separator}
 use Rattle.path_runs.proofs.lemmas.spelling.SpellLemmas.{spelling_of-root}
 use Rattle.path_runs.proofs.lemmas.spelling.UnslashedLemmas.{IsUnslashed, IsUnslashedValue, Shape}
-use Rattle.path_runs.proofs.lemmas.spelling.UnslashedLemmas.{Rooted}
-use Rattle.path_runs.proofs.lemmas.spelling.UnslashedLemmas.{Rootless}
-use Rattle.path_runs.proofs.lemmas.spelling.UnslashedLemmas.{values-shape}
+use Rattle.path_runs.proofs.lemmas.spelling.UnslashedLemmas.{Rooted, Rootless, values-shape}
 
 -- what is put before the first of some strings stands before their join
 join_with_byte-onto : (x b : List ℕ) (bs : List (List ℕ))

@@ -1,18 +1,23 @@
 -- No path is shorter than the spelling of its values.
-use Rattle.std.proofs.Common.{◌≡◌, ℕ, ◌<◌, ◌≤◌, Bool, true, false, cond, List, [], ◌∷◌}
-use Rattle.std.proofs.Common.{◌++◌, length, filter, refl, sym, ap, subst, ◌∙◌, ◌⊎◌, inl, inr, arith}
-use Rattle.std.proofs.Common.{append_assoc, length-append}
-use Rattle.std.specs.List.{slice_split, join_with_byte}
-use Rattle.std.specs.Str.{bytes_eq}
+use Rattle.std.proofs.Common.{◌≡◌, ℕ, ◌+◌, ◌<◌, ◌≤◌, eqb, List, [], ◌∷◌, ◌++◌, length, drop, sym}
+use Rattle.std.proofs.Common.{refl, ap, subst, ◌∙◌, ◌⊎◌, inl, inr, arith, append-nil, length-append}
+use Rattle.std.proofs.Common.{eqb-true}
+use Rattle.std.specs.List.{flat_map, slice_split, join_with_byte, position_or_len}
 use Rattle.std.proofs.lemmas.List.Splits.{join_with_byte-slice_split}
-use Rattle.std.proofs.lemmas.Slice.Eq.{bytes_eq-Decides}
 use Rattle.unix_path.specs.CommonDir.{inner_values}
-use Rattle.unix_path.specs.Parts.{is_slash, slash, cur_dir, counts, is_rooted, values}
-use Rattle.unix_bytes.proofs.lemmas.lists.ListLemmas.{by_test}
+use Rattle.unix_path.specs.Parts.{is_slash, slash, counts, Value, RootDir, values}
+use Rattle.unix_bytes.proofs.lemmas.lists.ListLemmas.{by_test, drop-suc_cons}
+use Rattle.unix_path.proofs.lemmas.parts.PieceLemmas.{first_piece, first_piece-other}
+use Rattle.unix_path.proofs.lemmas.parts.PieceLemmas.{position_or_len-other, slice_split-first}
+use Rattle.unix_path.proofs.lemmas.parts.ValueLemmas.{value_bytes-piece}
+use Rattle.path_runs.specs.Gaps.{slashed_parts}
 use Rattle.path_runs.specs.Spelling.{slashed_bytes, spelling_of}
-use Rattle.path_runs.proofs.lemmas.spelling.PieceValueLemmas.{inner_values-pieces, is_rooted-slash}
-use Rattle.path_runs.proofs.lemmas.spelling.SpellLemmas.{lean_pieces, slashed_bytes-names}
-use Rattle.path_runs.proofs.lemmas.spelling.SpellLemmas.{spelling_of-rooted, spelling_of-rootless}
+use Rattle.path_runs.proofs.lemmas.spelling.PieceValueLemmas.{inner_values-pieces, names_of}
+use Rattle.path_runs.proofs.lemmas.spelling.PieceValueLemmas.{values-rooted}
+use Rattle.path_runs.proofs.lemmas.spelling.SpellLemmas.{spelling_of-root}
+use Rattle.path_runs.proofs.lemmas.gaps.KeptLemmas.{first_slash, nothing_left, slashed_parts-slash}
+use Rattle.path_runs.proofs.lemmas.gaps.StretchLemmas.{slash_each, slashed_bytes-cons}
+use Rattle.path_runs.proofs.lemmas.gaps.StretchLemmas.{spelling_of-name, spelling_of-short}
 
 -- the same bytes, or fewer
 abbrev Leaner : List ℕ → List ℕ → Type 0
@@ -26,104 +31,93 @@ Leaner-longer : (u s t : List ℕ) → Leaner u s → length s < length t → Le
 Leaner-longer u s t (inl e) l = inr (omega (arith, ap length e))
 Leaner-longer u s t (inr h) l = inr (omega arith)
 
--- without the second of them, joined pieces have fewer bytes
-join_with_byte-less : (p q : List ℕ) (qs : List (List ℕ))
-    → length (join_with_byte slash (p ∷ qs)) < length (join_with_byte slash (p ∷ q ∷ qs))
-join_with_byte-less p q [] = omega (arith, length-append p (slash ∷ q))
-join_with_byte-less p q (r ∷ qs) =
-    let u = join_with_byte slash (r ∷ qs) in
-    omega (
-      arith,
-      length-append p (slash ∷ u),
-      length-append p (slash ∷ (q ++ slash ∷ u)),
-      length-append q (slash ∷ u),
-    )
+-- the pieces, each behind a slash
+abbrev each_piece : List (List ℕ) → List ℕ
+each_piece ps = flat_map (λ p. slash ∷ p) ps
 
--- behind a first piece, dropping the pieces that don't count leaves the same bytes or fewer
-Leaner-behind : (p : List ℕ) (qs : List (List ℕ))
-    → Leaner (join_with_byte slash (p ∷ filter counts qs)) (join_with_byte slash (p ∷ qs))
-Leaner-behind p [] = inl refl
-Leaner-behind p (q ∷ qs) = by_test (counts q)
-    (λ e. rw e (subst (λ z. Leaner z (p ++ slash ∷ join_with_byte slash (q ∷ qs)))
-    (append_assoc p (slash ∷ []) (join_with_byte slash (q ∷ filter counts qs)))
-    (subst (Leaner ((p ++ slash ∷ []) ++ join_with_byte slash (q ∷ filter counts qs)))
-    (append_assoc p (slash ∷ []) (join_with_byte slash (q ∷ qs)))
-    (Leaner-append (p ++ slash ∷ []) (join_with_byte slash (q ∷ filter counts qs))
-    (join_with_byte slash (q ∷ qs)) (Leaner-behind q qs)))))
-    (λ e. rw e (Leaner-longer (join_with_byte slash (p ∷ filter counts qs))
-    (join_with_byte slash (p ∷ qs)) (join_with_byte slash (p ∷ q ∷ qs)) (Leaner-behind p qs)
-    (join_with_byte-less p q qs)))
+-- without the pieces that don't count that is the same, or fewer bytes
+Leaner-names : (ps : List (List ℕ)) → Leaner (slash_each (names_of ps)) (each_piece ps)
+Leaner-names [] = inl refl
+Leaner-names (p ∷ ps) = by_test (counts p)
+    (λ e. rw (e, value_bytes-piece p)
+    (Leaner-append (slash ∷ p) (slash_each (names_of ps)) (each_piece ps) (Leaner-names ps)))
+    (λ e. rw e (Leaner-longer (slash_each (names_of ps)) (each_piece ps) (each_piece (p ∷ ps))
+    (Leaner-names ps) (omega (arith, length-append p (each_piece ps)))))
 
--- what is leaner than joined pieces is leaner than these with one more piece before them
-Leaner-cons : (q : List ℕ) (qs : List (List ℕ))
-    → Leaner (join_with_byte slash (filter counts qs)) (join_with_byte slash qs)
-    → Leaner (join_with_byte slash (filter counts qs)) (join_with_byte slash (q ∷ qs))
-Leaner-cons [] [] h = inl refl
-Leaner-cons (x ∷ q) [] h = inr (omega arith)
-Leaner-cons q (r ∷ qs) h =
-    Leaner-longer (join_with_byte slash (filter counts (r ∷ qs))) (join_with_byte slash (r ∷ qs))
-    (q ++ slash ∷ join_with_byte slash (r ∷ qs)) h
-    (omega (arith, length-append q (slash ∷ join_with_byte slash (r ∷ qs))))
-
--- dropping the pieces that don't count leaves the same bytes or fewer
-Leaner-pieces : (qs : List (List ℕ))
-    → Leaner (join_with_byte slash (filter counts qs)) (join_with_byte slash qs)
-Leaner-pieces [] = inl refl
-Leaner-pieces (q ∷ qs) = by_test (counts q) (λ e. rw e (Leaner-behind q qs))
-    (λ e. rw e (Leaner-cons q qs (Leaner-pieces qs)))
+-- each behind a slash, pieces are a slash and the joined pieces
+each_piece-join : (p : List ℕ) (ps : List (List ℕ))
+    → each_piece (p ∷ ps) ≡ slash ∷ join_with_byte slash (p ∷ ps)
+each_piece-join p [] = ap (λ u. slash ∷ u) (append-nil p)
+each_piece-join p (q ∷ ps) = ap (λ u. slash ∷ (p ++ u)) (each_piece-join q ps)
 
 -- a string is its pieces, joined
 pub join_with_byte-pieces : (s : List ℕ) → join_with_byte slash (slice_split is_slash s) ≡ s
 join_with_byte-pieces s = join_with_byte-slice_split 47 s
 
+each_piece-whole : (s : List ℕ) → each_piece (slice_split is_slash s) ≡ slash ∷ s
+each_piece-whole s =
+    let first = slice_split-first s in
+    ap each_piece first ∙ each_piece-join (first_piece s) _
+    ∙ ap (λ ps. slash ∷ join_with_byte slash ps) (sym first)
+    ∙ ap (λ u. slash ∷ u) (join_with_byte-pieces s)
+
+-- the parts of a string, each behind a slash, are the string behind one, or fewer bytes
+slashed_parts-lean : (s : List ℕ) → Leaner (slashed_parts s) (slash ∷ s)
+unfolding slashed_parts
+slashed_parts-lean s =
+    subst (λ vs. Leaner (slash_each vs) (slash ∷ s)) (sym (inner_values-pieces s))
+    (subst (Leaner (slash_each (names_of (slice_split is_slash s)))) (each_piece-whole s)
+    (Leaner-names (slice_split is_slash s)))
+
 Leaner-length : (u s : List ℕ) → Leaner u s → length u ≤ length s
 Leaner-length u s (inl e) = omega (arith, ap length e)
 Leaner-length u s (inr h) = omega arith
 
+-- the parts of a string, each behind a slash, take at most one byte more than the string
+pub slashed_parts-length : (s : List ℕ) → length (slashed_parts s) ≤ length s + 1
+slashed_parts-length s =
+    omega (arith, Leaner-length (slashed_parts s) (slash ∷ s) (slashed_parts-lean s))
+
 -- the names between a string's slashes are spelled as no more bytes than the string has
 pub slashed_bytes-lean : (s : List ℕ) → length (slashed_bytes (inner_values s)) ≤ length s
-slashed_bytes-lean s =
-    let ps = slice_split is_slash s in
-    let u = join_with_byte slash (filter counts ps) in
-    omega (
-      arith,
-      ap length (ap slashed_bytes (inner_values-pieces s) ∙ slashed_bytes-names ps),
-      Leaner-length u (join_with_byte slash ps) (Leaner-pieces ps),
-      ap length (join_with_byte-pieces s),
-    )
-
--- the spelling of a rooted path is the path itself, or has fewer bytes
-spelling_of-lean_rooted : (t : List ℕ) → Leaner (spelling_of (values (slash ∷ t))) (slash ∷ t)
-spelling_of-lean_rooted t =
-    let ps = slice_split is_slash t in
-    subst (λ u. Leaner u (slash ∷ t)) (sym (spelling_of-rooted t))
-    (Leaner-append (slash ∷ []) (join_with_byte slash (filter counts ps)) t
-    (subst (Leaner (join_with_byte slash (filter counts ps))) (join_with_byte-pieces t)
-    (Leaner-pieces ps)))
-
--- what the spelling keeps of a rootless path's pieces has the same bytes or fewer
-Leaner-lean_pieces : (ps : List (List ℕ))
-    → Leaner (join_with_byte slash (lean_pieces ps)) (join_with_byte slash ps)
-Leaner-lean_pieces [] = inl refl
-Leaner-lean_pieces (p ∷ qs) = by (bytes_eq p cur_dir) refl
+unfolding slashed_parts
+slashed_bytes-lean s = by (inner_values s) (slashed_parts-length s)
   where
-    by : (c : Bool) → bytes_eq p cur_dir ≡ c
-        → Leaner (join_with_byte slash (lean_pieces (p ∷ qs))) (join_with_byte slash (p ∷ qs))
-    by true d = subst (λ p. Leaner (join_with_byte slash (lean_pieces (p ∷ qs)))
-        (join_with_byte slash (p ∷ qs))) (sym ((bytes_eq-Decides p cur_dir).0 d))
-        (Leaner-behind cur_dir qs)
-    by false d = subst (λ c. Leaner
-        (join_with_byte slash (cond c (cur_dir ∷ filter counts qs) (filter counts (p ∷ qs))))
-        (join_with_byte slash (p ∷ qs))) (sym d) (Leaner-pieces (p ∷ qs))
+    by : (vs : List Value) → length (slash_each vs) ≤ length s + 1
+        → length (slashed_bytes vs) ≤ length s
+    by [] l = omega arith
+    by (v ∷ vs) l = omega (arith, ap length (slashed_bytes-cons v vs))
+
+-- behind the root, too, values with slashes between are as many bytes as those behind it, or fewer
+Leaner-root : (vs : List Value) (s : List ℕ) → Leaner (slash_each vs) (slash ∷ s)
+    → Leaner (slash ∷ slashed_bytes vs) (slash ∷ s)
+Leaner-root [] [] h = inl refl
+Leaner-root [] (x ∷ s) h = inr (omega arith)
+Leaner-root (v ∷ vs) s h = rw (slashed_bytes-cons v vs) h
+
+-- the first piece, and then the parts, each behind a slash, are the string, or fewer bytes
+Leaner-first : (s : List ℕ)
+    → Leaner (first_piece s ++ slashed_parts (drop (position_or_len is_slash s) s)) s
+Leaner-first [] = inl (nothing_left [] [] 0 (omega arith))
+Leaner-first (x ∷ s) = by_test (eqb x 47)
+    (λ e. rw (first_slash x s e, slashed_parts-slash x s e, eqb-true x 47 e) (slashed_parts-lean s))
+    (λ e. rw (
+      first_piece-other x s e,
+      position_or_len-other x s e,
+      drop-suc_cons (position_or_len is_slash s) x s,
+    )
+    (Leaner-append (x ∷ []) _ s (Leaner-first s)))
 
 -- the spelling of a path is the path itself, or has fewer bytes
 spelling_of-lean : (s : List ℕ) → Leaner (spelling_of (values s)) s
-spelling_of-lean s = by_test (is_rooted s)
-    (λ r. let t = is_rooted-slash s r in
-    subst (λ s. Leaner (spelling_of (values s)) s) (sym t.1) (spelling_of-lean_rooted t.0))
-    (λ r. subst (λ u. Leaner u s) (sym (spelling_of-rootless s (slice_split is_slash s) r refl))
-    (subst (Leaner (join_with_byte slash (lean_pieces (slice_split is_slash s))))
-    (join_with_byte-pieces s) (Leaner-lean_pieces (slice_split is_slash s))))
+unfolding slashed_parts
+spelling_of-lean [] = inl (spelling_of-short [] (omega arith))
+spelling_of-lean (x ∷ s) = by_test (eqb x 47)
+    (λ e. rw (eqb-true x 47 e) (subst (λ u. Leaner u (slash ∷ s))
+    (sym (ap spelling_of (values-rooted s ∙ ap (λ vs. RootDir ∷ vs) (sym (inner_values-pieces s)))
+    ∙ spelling_of-root (inner_values s)))
+    (Leaner-root (inner_values s) s (slashed_parts-lean s))))
+    (λ e. rw (spelling_of-name (x ∷ s) (omega arith) e) (Leaner-first (x ∷ s)))
 
 -- each path with the values of s is the spelling of these, or longer
 pub spelling_of-shortest : (s t : List ℕ) → values t ≡ values s

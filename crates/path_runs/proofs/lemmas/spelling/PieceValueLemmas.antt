@@ -1,12 +1,12 @@
 -- The values of a path by the pieces between its slashes, and what holds of all of them.
-use Rattle.std.proofs.Common.{◌≡◌, ℕ, ◌+◌, Bool, true, false, cond, eqb, List, [], ◌∷◌}
-use Rattle.std.proofs.Common.{◌++◌, length, map, filter, refl, sym, ap, subst, ◌∙◌, eqb-true}
+use Rattle.std.proofs.Common.{◌≡◌, ℕ, ◌+◌, Bool, true, false, cond, eqb, List, [], ◌∷◌, ◌++◌}
+use Rattle.std.proofs.Common.{length, map, filter, refl, sym, ap, subst, ◌∙◌, eqb-true}
 use Rattle.std.specs.List.{AllByRecursion, slice_split, onto_first}
 use Rattle.std.specs.Str.{bytes_eq}
 use Rattle.std.proofs.lemmas.List.Splits.{slice_split-cons_yes, slice_split-cons_no}
 use Rattle.unix_path.specs.Parts.{is_slash, slash, cur_dir, Part, Value, RootDir, CurDir}
-use Rattle.unix_path.specs.Parts.{parts_of_pieces}
-use Rattle.unix_path.specs.Parts.{counts, value_of_piece, inner_parts, is_rooted, values}
+use Rattle.unix_path.specs.Parts.{parts_of_pieces, counts, value_of_piece, inner_parts, is_rooted}
+use Rattle.unix_path.specs.Parts.{values}
 use Rattle.unix_bytes.proofs.lemmas.lists.ListLemmas.{by_test}
 use Rattle.path_runs.proofs.lemmas.joins.LeadLemmas.{dot_first, lead_by, values-lead}
 use Rattle.unix_path.specs.CommonDir.{inner_values}

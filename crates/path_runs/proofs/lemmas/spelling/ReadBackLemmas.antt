@@ -5,18 +5,16 @@ use Rattle.std.specs.List.{AllByRecursion, slice_split, join_with_byte}
 use Rattle.std.specs.Str.{bytes_eq}
 use Rattle.std.proofs.lemmas.List.Elements.{All-from_recursion}
 use Rattle.std.proofs.lemmas.List.Splits.{slice_split_none, slice_split_at}
-use Rattle.std.proofs.lemmas.Slice.Eq.{bytes_eq-Decides}
 use Rattle.unix_path.specs.Parts.{is_slash, slash, cur_dir, RootDir, CurDir, value_of_piece}
 use Rattle.unix_path.specs.Parts.{is_rooted, counts, values}
 use Rattle.unix_bytes.proofs.lemmas.lists.ListLemmas.{by_test}
 use Rattle.path_runs.specs.Spelling.{spelling_of}
 use Rattle.path_runs.proofs.lemmas.joins.LeadLemmas.{dot_first}
 use Rattle.path_runs.proofs.lemmas.spelling.PieceValueLemmas.{AllCount, names_of, values-rooted}
-use Rattle.path_runs.proofs.lemmas.spelling.PieceValueLemmas.{values-rootless}
-use Rattle.path_runs.proofs.lemmas.spelling.PieceValueLemmas.{is_rooted-slash, NoSlash}
-use Rattle.path_runs.proofs.lemmas.spelling.PieceValueLemmas.{slice_split-no_slash}
-use Rattle.path_runs.proofs.lemmas.spelling.SpellLemmas.{lean_pieces, spelling_of-rooted}
-use Rattle.path_runs.proofs.lemmas.spelling.SpellLemmas.{spelling_of-rootless}
+use Rattle.path_runs.proofs.lemmas.spelling.PieceValueLemmas.{values-rootless, is_rooted-slash}
+use Rattle.path_runs.proofs.lemmas.spelling.PieceValueLemmas.{NoSlash, slice_split-no_slash}
+use Rattle.path_runs.proofs.lemmas.spelling.SpellLemmas.{bytes_of_pieces, spelling_of-dot}
+use Rattle.path_runs.proofs.lemmas.spelling.SpellLemmas.{spelling_of-pieces, spelling_of-rooted}
 
 -- joined pieces without a slash are cut into these pieces again
 slice_split-join_with_byte : (p : List ℕ) (ps : List (List ℕ)) → AllByRecursion NoSlash (p ∷ ps)
@@ -101,23 +99,21 @@ values-join_with_byte_dot ps h k =
     (slice_split-join_with_byte cur_dir ps ((refl, (tt)), h))
     ∙ ap (λ vs. CurDir ∷ vs) (names_of-counts ps k)
 
--- what the spelling keeps of a rootless path's pieces has the path's values
-values-lean_pieces : (ps : List (List ℕ)) → AllByRecursion NoSlash ps
-    → values (join_with_byte slash (lean_pieces ps)) ≡ cond (dot_first ps)
-    (CurDir ∷ []) [] ++ names_of ps
-values-lean_pieces [] h = values-rootless [] ([] ∷ []) refl refl
-values-lean_pieces (p ∷ qs) h = by (bytes_eq p cur_dir) refl
-  where
-    by : (c : Bool) → bytes_eq p cur_dir ≡ c
-        → values (join_with_byte slash (lean_pieces (p ∷ qs))) ≡ cond (bytes_eq p cur_dir)
-        (CurDir ∷ []) [] ++ names_of (p ∷ qs)
-    by true d = rw ((bytes_eq-Decides p cur_dir).0 d)
-        (values-join_with_byte_dot (filter counts qs) (filter-no_slash qs h.1) (filter-counts qs))
-    by false d = subst (λ c. values
-        (join_with_byte slash (cond c (cur_dir ∷ filter counts qs) (filter counts (p ∷ qs))))
-        ≡ cond c (CurDir ∷ []) [] ++ names_of (p ∷ qs)) (sym d)
-        (values-join_with_byte (filter counts (p ∷ qs)) (filter-no_slash (p ∷ qs) h)
-        (filter-counts (p ∷ qs)))
+-- the spelling of a rootless path's values has these values
+values-spelling_rootless : (s : List ℕ) → is_rooted s ≡ false
+    → values (spelling_of (values s)) ≡ values s
+values-spelling_rootless s r =
+    let ps = slice_split is_slash s in
+    let kept = filter counts ps in
+    let no_slash = filter-no_slash ps (slice_split-no_slash s) in
+    let is : (c : Bool) → dot_first ps ≡ c → values s ≡ cond c (CurDir ∷ []) [] ++ names_of ps =
+    λ c e. values-rootless s ps r refl ∙ ap (λ c. cond c (CurDir ∷ []) [] ++ names_of ps) e in
+    by_test (dot_first ps)
+    (λ e. ap (λ vs. values (spelling_of vs)) (is true e) ∙ ap values (spelling_of-dot (names_of ps)
+    ∙ ap (λ qs. join_with_byte slash (cur_dir ∷ qs)) (bytes_of_pieces kept))
+    ∙ values-join_with_byte_dot kept no_slash (filter-counts ps) ∙ sym (is true e))
+    (λ e. ap (λ vs. values (spelling_of vs)) (is false e) ∙ ap values (spelling_of-pieces kept)
+    ∙ values-join_with_byte kept no_slash (filter-counts ps) ∙ sym (is false e))
 
 -- the spelling of a path's values has these values
 pub values-spelling_of : (s : List ℕ) → values (spelling_of (values s)) ≡ values s
@@ -125,9 +121,7 @@ values-spelling_of s = by_test (is_rooted s)
     (λ r. let t = is_rooted-slash s r in
     subst (λ s. values (spelling_of (values s)) ≡ values s) (sym t.1)
     (values-spelling_rooted t.0))
-    (λ r. ap values (spelling_of-rootless s (slice_split is_slash s) r refl)
-    ∙ values-lean_pieces (slice_split is_slash s) (slice_split-no_slash s)
-    ∙ sym (values-rootless s (slice_split is_slash s) r refl))
+    (values-spelling_rootless s)
 
 -- equal spellings come from equal values
 pub spelling_of-same : (s t : List ℕ) → spelling_of (values s) ≡ spelling_of (values t)

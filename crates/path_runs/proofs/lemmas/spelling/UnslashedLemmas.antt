@@ -2,9 +2,8 @@
 use Rattle.std.proofs.Common.{◌≡◌, ℕ, true, false, List, [], ◌∷◌, refl}
 use Rattle.std.specs.List.{AllByRecursion}
 use Rattle.std.specs.Str.{bytes_eq}
-use Rattle.unix_path.specs.Parts.{parent_dir, Value, RootDir}
-use Rattle.unix_path.specs.Parts.{value_of_piece, value_bytes, is_rooted}
-use Rattle.unix_path.specs.Parts.{values}
+use Rattle.unix_path.specs.Parts.{parent_dir, Value, RootDir, value_of_piece, value_bytes}
+use Rattle.unix_path.specs.Parts.{is_rooted, values}
 use Rattle.unix_path.specs.Joins.{is_open}
 use Rattle.unix_bytes.proofs.lemmas.lists.ListLemmas.{by_test}
 use Rattle.path_runs.proofs.lemmas.spelling.PieceValueLemmas.{HoldsOfPieces, NoSlash}
