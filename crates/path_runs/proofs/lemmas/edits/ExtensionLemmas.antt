@@ -1,9 +1,9 @@
 -- A path with a simple extension set.
-use Rattle.std.proofs.Common.{◌≡◌, ℕ, ◌<◌, true, List, [], ◌∷◌, ◌++◌, length, Option}
-use Rattle.std.proofs.Common.{Some, None, is_some, option_map, refl, sym, ap, subst, ◌∙◌, arith}
-use Rattle.std.proofs.Common.{append_assoc, length-append}
+use Rattle.std.proofs.Common.{◌≡◌, ℕ, ◌<◌, true, List, [], ◌∷◌, ◌++◌, length, Option, Some, None}
+use Rattle.std.proofs.Common.{is_some, option_map, refl, sym, ap, subst, ◌∙◌, arith, append_assoc}
+use Rattle.std.proofs.Common.{length-append}
 use Rattle.std.specs.Option.{option_and_then}
-use Rattle.unix_path.specs.Parts.{Value, Normal, values}
+use Rattle.unix_path.specs.Parts.{Normal, values}
 use Rattle.unix_path.specs.Rest.{rest}
 use Rattle.unix_path.specs.Parents.{parent_of}
 use Rattle.unix_path.specs.Names.{file_name_of, split_name, stem_of, extension_of}
@@ -13,22 +13,19 @@ use Rattle.unix_path.specs.Joins.{is_open}
 use Rattle.unix_path.proofs.lemmas.edits.EditLemmas.{dot_before-some}
 use Rattle.path_runs.specs.declared.edits.Answer.TheVariants.{Flag, Separator}
 use Rattle.path_runs.specs.EditLists.{SetExtension, edit_of}
-use Rattle.path_runs.specs.JoinLaws.{drop_lead}
 use Rattle.path_runs.specs.EditLaws.{HasNone, IsSimpleExtension, TakesExtension}
 use Rattle.unix_bytes.proofs.lemmas.lists.ListLemmas.{by_test}
 use Rattle.path_runs.proofs.lemmas.joins.BehindLemmas.{rest-behind}
 use Rattle.path_runs.proofs.lemmas.edits.CongruenceLemmas.{unless_slash}
 use Rattle.path_runs.proofs.lemmas.names.ExtensionCutLemmas.{with_extension_of-cut}
 use Rattle.path_runs.proofs.lemmas.names.DotLemmas.{SplitCase, Whole, Cut, split_case}
-use Rattle.path_runs.proofs.lemmas.names.DotLemmas.{split_name-dot}
-use Rattle.path_runs.proofs.lemmas.names.DotLemmas.{stem_prefix}
-use Rattle.path_runs.proofs.lemmas.joins.LeadLemmas.{drop_lead-values}
+use Rattle.path_runs.proofs.lemmas.names.DotLemmas.{split_name-dot, stem_prefix}
+use Rattle.path_runs.proofs.lemmas.joins.LeadLemmas.{append_values, append_values-inner}
+use Rattle.path_runs.proofs.lemmas.joins.LeadLemmas.{values-append_open}
 use Rattle.unix_path.proofs.lemmas.names.NameCutLemmas.{IsName, NameCut, name_cut, values-name}
 use Rattle.path_runs.proofs.lemmas.names.PieceNameLemmas.{IsPiece, piece-prefix, piece-append}
-use Rattle.path_runs.proofs.lemmas.names.PieceNameLemmas.{piece-none}
-use Rattle.path_runs.proofs.lemmas.names.PieceNameLemmas.{long-name}
+use Rattle.path_runs.proofs.lemmas.names.PieceNameLemmas.{piece-none, long-name}
 use Rattle.path_runs.proofs.lemmas.joins.SiblingLemmas.{parent_of-name, file_name_of-name}
-use Rattle.path_runs.proofs.lemmas.joins.ValueLemmas.{append_values, values-append_open}
 
 -- the stem of a name has a byte
 some_stem : (name : List ℕ) → 0 < length name → 0 < length (split_name name).0
@@ -61,16 +58,6 @@ new_name name b x h k =
     (piece-append stem (46 ∷ b ∷ x) (stem_piece name h.no_slash)
     (piece-append (46 ∷ []) (b ∷ x) refl (piece-none (b ∷ x) k)))
 
--- a name adds itself behind any values
-values-open_name : (u name : List ℕ) → values name ≡ Normal name ∷ []
-    → append_values (values u) name ≡ values u ++ Normal name ∷ []
-values-open_name u name e = by (values u)
-  where
-    by : (vs : List Value) → append_values vs name ≡ vs ++ Normal name ∷ []
-    by [] = e
-    by (v ∷ vs) = ap (λ ws. v ∷ vs ++ ws)
-        (sym (drop_lead-values name) ∙ ap drop_lead e)
-
 -- a path of an open prefix and one name has that prefix's rest as its parent
 parent_of-open : (s u b name : List ℕ) → s ≡ u ++ b → is_open u ≡ true
     → values s ≡ values u ++ Normal name ∷ [] → parent_of s ≡ Some (rest u 0 0)
@@ -91,7 +78,8 @@ new_extension-cut s name b x e c dot slash =
     ∙ ap (λ gap. c.prefix ++ (stem ++ (gap ++ b ∷ x))) (dot_before-some b x) in
     let all : values t ≡ values c.prefix ++ Normal new ∷ [] =
     ap values is ∙ values-append_open c.prefix new c.ends
-    ∙ values-open_name c.prefix new (values-name new (new_name name b x c.is_name slash)) in
+    ∙ ap (append_values (values c.prefix)) (values-name new (new_name name b x c.is_name slash))
+    ∙ append_values-inner (values c.prefix) (Normal new ∷ []) (tt, tt) in
     record {
       name = new;
       file_name = file_name_of-name t new (values c.prefix) all;

@@ -1,22 +1,22 @@
 -- A leading root or dot, and the values behind it.
-use Rattle.std.proofs.Common.{◌≡◌, ℕ, ◌+◌, Bool, true, false, cond, List, [], ◌∷◌, ◌++◌}
-use Rattle.std.proofs.Common.{length, map, refl, sym, ap, subst, ◌∙◌, arith, append-nil}
+use Rattle.std.proofs.Common.{◌≡◌, ℕ, ◌+◌, Bool, true, false, cond, List, [], ◌∷◌, ◌++◌, ◌<◌}
+use Rattle.std.proofs.Common.{length, map, refl, sym, ap, ap₂, subst, ◌∙◌, arith, append-nil}
 use Rattle.std.specs.List.{AllByRecursion, slice_split}
 use Rattle.std.specs.Str.{bytes_eq}
 use Rattle.unix_path.specs.Parts.{Part, Value, RootDir, CurDir, ParentDir, Normal, is_slash}
 use Rattle.unix_path.specs.Parts.{cur_dir, parent_dir, is_rooted, counts, parts_of_pieces}
 use Rattle.unix_path.specs.Parts.{inner_parts, leading_part, values}
-use Rattle.unix_path.specs.Joins.{join_of}
+use Rattle.unix_path.specs.Joins.{is_open, join_of}
 use Rattle.unix_bytes.proofs.lemmas.lists.ListLemmas.{by_test}
 use Rattle.unix_path.proofs.lemmas.edits.JoinLemmas.{join_of_rooted}
 use Rattle.unix_path.proofs.lemmas.parts.PartLemmas.{root_first, root_first-values, values-nil}
+use Rattle.unix_path.proofs.lemmas.parts.PartLemmas.{some_values}
 use Rattle.unix_path.proofs.lemmas.parts.PieceLemmas.{first_piece, slice_split-first}
 use Rattle.path_runs.specs.JoinLaws.{drop_dot, drop_lead, values_added}
 use Rattle.path_runs.proofs.lemmas.joins.AssociativeLemmas.{join_of-nil}
 use Rattle.unix_path.specs.CommonDir.{inner_values}
-use Rattle.unix_path.proofs.lemmas.order.CommonPrefixLemmas.{inner_values-nil, values-leading}
-use Rattle.path_runs.proofs.lemmas.joins.ValueLemmas.{append_values}
-use Rattle.path_runs.proofs.lemmas.joins.ValueLemmas.{values-join_of, values-join_of_rootless}
+use Rattle.unix_path.proofs.lemmas.order.CommonPrefixLemmas.{values-leading}
+use Rattle.path_runs.proofs.lemmas.joins.ValueLemmas.{values-open, values-join_of}
 
 -- a value that can stand behind another
 abbrev pub IsInner : Value → Type 0
@@ -126,6 +126,38 @@ drop_dot-values s r =
     ∙ drop_dot-lead_by (dot_first (slice_split is_slash s)) (inner_values s)
     (inner_values-no_lead s)
 
+-- these values, and behind them those of ws, without a leading root or dot unless they are first
+abbrev pub append_values : List Value → List Value → List Value
+append_values [] ws = ws
+append_values (v ∷ vs) ws = (v ∷ vs) ++ drop_lead ws
+
+-- values that can stand behind others all stand there
+pub append_values-inner : (vs ws : List Value) → AllByRecursion IsInner ws
+    → append_values vs ws ≡ vs ++ ws
+append_values-inner [] ws h = refl
+append_values-inner (v ∷ vs) ws h = ap (λ us. v ∷ vs ++ us) (inner-no_lead ws h).no_lead
+
+-- behind a path of a byte or more, b adds its inner values
+append_values-some : (s b : List ℕ) → 0 < length s
+    → values s ++ inner_values b ≡ append_values (values s) (values b)
+append_values-some s b l =
+    let some = some_values s l in
+    rw (some.2, drop_lead-values b) refl
+
+-- behind an open path, bytes add their values as in a join
+pub values-append_open : (u b : List ℕ) → is_open u ≡ true
+    → values (u ++ b) ≡ append_values (values u) (values b)
+values-append_open [] b o = rw values-nil refl
+values-append_open (x ∷ u) b o =
+    values-open (x ∷ u) b o (omega arith) ∙ append_values-some (x ∷ u) b (omega arith)
+
+-- the values of a join with a rootless path
+pub values-join_of_rootless : (a b : List ℕ) → is_rooted b ≡ false
+    → values (join_of a b) ≡ append_values (values a) (values b)
+values-join_of_rootless [] b r = rw (join_of-nil b, values-nil) refl
+values-join_of_rootless (x ∷ a) b r =
+    values-join_of (x ∷ a) b (omega arith) r ∙ append_values-some (x ∷ a) b (omega arith)
+
 -- a join with a rootless path has the values of the first path, and then the values added
 pub values-join_of_values_added : (a b : List ℕ) → is_rooted b ≡ false
     → values (join_of a b) ≡ values a ++ values_added a b
@@ -144,23 +176,14 @@ pub joins_same : (a b c d : List ℕ) → values a ≡ values b → values c ≡
 joins_same a b c d e f = by_test (is_rooted c)
     (λ r. ap values (join_of_rooted a c r) ∙ f
     ∙ ap values (sym (join_of_rooted b d (sym root ∙ r))))
-    (λ r. values-join_of_rootless a c r ∙ ap (λ vs. append_values vs c) e ∙ append_same (values b)
+    (λ r. values-join_of_rootless a c r ∙ ap₂ append_values e f
     ∙ sym (values-join_of_rootless b d (sym root ∙ r)))
   where
     root : is_rooted c ≡ is_rooted d
     root = roots_same c d f
 
-    bodies : inner_values c ≡ inner_values d
-    bodies = sym (drop_lead-values c) ∙ ap drop_lead f ∙ drop_lead-values d
-
-    append_same : (vs : List Value) → append_values vs c ≡ append_values vs d
-    append_same [] = f
-    append_same (v ∷ vs) = ap (λ z. (v ∷ vs) ++ z) bodies
-
 -- a join with the empty path adds no value
 pub values-join_of_nil : (a : List ℕ) → values (join_of a []) ≡ values a
-values-join_of_nil a = values-join_of_rootless a [] refl ∙ append_values-nil (values a)
-  where
-    append_values-nil : (vs : List Value) → append_values vs [] ≡ vs
-    append_values-nil [] = values-nil
-    append_values-nil (v ∷ vs) = ap (λ b. (v ∷ vs) ++ b) inner_values-nil ∙ append-nil (v ∷ vs)
+values-join_of_nil a = values-join_of_rootless a [] refl
+    ∙ ap (append_values (values a)) values-nil
+    ∙ append_values-inner (values a) [] tt ∙ append-nil (values a)

@@ -12,15 +12,13 @@ use Rattle.unix_path.proofs.lemmas.names.ParentLemmas.{before_name_of-some, pare
 use Rattle.unix_path.proofs.lemmas.names.ParentLemmas.{file_name_of-last}
 use Rattle.unix_path.proofs.lemmas.parts.PartLemmas.{root_first, root_first-values}
 use Rattle.unix_path.proofs.lemmas.rests.RestLemmas.{rest-rest, values-rest}
-use Rattle.path_runs.specs.JoinLaws.{drop_lead}
 use Rattle.path_runs.specs.EditLaws.{IsOneName}
 use Rattle.path_runs.proofs.lemmas.joins.AssociativeLemmas.{separator, is_open-separator}
 use Rattle.path_runs.proofs.lemmas.joins.AssociativeLemmas.{join_of-separator}
 use Rattle.path_runs.proofs.lemmas.joins.BehindLemmas.{rest-behind, rest-separator}
 use Rattle.path_runs.proofs.lemmas.joins.BehindLemmas.{values-separator}
-use Rattle.path_runs.proofs.lemmas.joins.LeadLemmas.{drop_lead-values}
-use Rattle.unix_path.specs.CommonDir.{inner_values}
-use Rattle.path_runs.proofs.lemmas.joins.ValueLemmas.{append_values, values-join_of_rootless}
+use Rattle.path_runs.proofs.lemmas.joins.LeadLemmas.{append_values, append_values-inner}
+use Rattle.path_runs.proofs.lemmas.joins.LeadLemmas.{values-join_of_rootless}
 
 -- a path whose last value is a name has a parent
 pub parent_of-name : (s name : List ℕ) (vs : List Value) → values s ≡ vs ++ Normal name ∷ []
@@ -46,14 +44,8 @@ one_rootless n name e = sym (root_first-values n) ∙ ap root_first e
 pub values-join_of_one : (s n name : List ℕ) → IsOneName n name
     → values (join_of s n) ≡ values s ++ Normal name ∷ []
 values-join_of_one s n name e =
-    values-join_of_rootless s n (one_rootless n name e) ∙ append_one (values s)
-  where
-    bodies : inner_values n ≡ Normal name ∷ []
-    bodies = sym (drop_lead-values n) ∙ ap drop_lead e
-
-    append_one : (vs : List Value) → append_values vs n ≡ vs ++ Normal name ∷ []
-    append_one [] = e
-    append_one (v ∷ vs) = ap (λ ws. v ∷ vs ++ ws) bodies
+    values-join_of_rootless s n (one_rootless n name e) ∙ ap (append_values (values s)) e
+    ∙ append_values-inner (values s) (Normal name ∷ []) (tt, tt)
 
 -- ---- a push of one name, and a pop
 

@@ -1,6 +1,6 @@
 -- What was stripped of its base, joined to that base.
-use Rattle.std.proofs.Common.{◌≡◌, ℕ, ◌+◌, ◌-◌, false, List, [], ◌∷◌, ◌++◌, length, take, refl}
-use Rattle.std.proofs.Common.{sym, ap, ap₂, ◌∙◌, arith, take_all, length-append}
+use Rattle.std.proofs.Common.{◌≡◌, ℕ, ◌+◌, ◌-◌, false, List, [], ◌∷◌, ◌++◌, length, take, refl, sym}
+use Rattle.std.proofs.Common.{ap, ap₂, ◌∙◌, arith, take_all, length-append}
 use Rattle.std.proofs.lemmas.List.{drop_at}
 use Rattle.unix_path.specs.Parts.{Value, is_rooted, values}
 use Rattle.unix_path.specs.Joins.{join_of}
@@ -9,13 +9,11 @@ use Rattle.unix_path.proofs.lemmas.rests.MiddleLemmas.{middle}
 use Rattle.unix_path.proofs.lemmas.parts.PartLemmas.{root_first, root_first-values, values-nil}
 use Rattle.unix_path.proofs.lemmas.parts.PartLemmas.{some_values}
 use Rattle.unix_path.proofs.lemmas.rests.RestLemmas.{values-rest}
-use Rattle.path_runs.specs.JoinLaws.{drop_lead}
 use Rattle.path_runs.proofs.lemmas.lists.AllLemmas.{AllByRecursion-end}
 use Rattle.path_runs.proofs.lemmas.joins.AssociativeLemmas.{join_of-nil}
 use Rattle.path_runs.proofs.lemmas.joins.LeadLemmas.{IsInner, inner-no_lead, inner-behind}
-use Rattle.path_runs.proofs.lemmas.joins.LeadLemmas.{drop_lead-values}
-use Rattle.unix_path.specs.CommonDir.{inner_values}
-use Rattle.path_runs.proofs.lemmas.joins.ValueLemmas.{append_values, values-join_of_rootless}
+use Rattle.path_runs.proofs.lemmas.joins.LeadLemmas.{append_values, append_values-inner}
+use Rattle.path_runs.proofs.lemmas.joins.LeadLemmas.{values-join_of_rootless}
 
 -- of vs and then ws, ws is left behind vs
 middle-append : (vs ws : List Value) → middle (length vs) 0 (vs ++ ws) ≡ ws
@@ -36,14 +34,11 @@ join_behind : (s base r : List ℕ) (v : Value) (vs more : List Value)
     → values base ≡ v ∷ vs → values r ≡ more → v ∷ vs ++ more ≡ values s
     → values (join_of base r) ≡ values s
 join_behind s base r v vs more is left all =
-    let inner = inner-no_lead more
-    (AllByRecursion-end IsInner vs more (inner-behind s v (vs ++ more) (sym all))) in
+    let inner = AllByRecursion-end IsInner vs more (inner-behind s v (vs ++ more) (sym all)) in
     let rootless : is_rooted r ≡ false =
-    sym (root_first-values r) ∙ ap root_first left ∙ inner.no_root in
-    let bodies : inner_values r ≡ more =
-    sym (drop_lead-values r) ∙ ap drop_lead left ∙ inner.no_lead in
-    values-join_of_rootless base r rootless ∙ ap (λ ws. append_values ws r) is
-    ∙ ap (λ ws. v ∷ vs ++ ws) bodies ∙ all
+    sym (root_first-values r) ∙ ap root_first left ∙ (inner-no_lead more inner).no_root in
+    values-join_of_rootless base r rootless ∙ ap₂ append_values is left
+    ∙ append_values-inner (v ∷ vs) more inner ∙ all
 
 -- a path without its base, joined to that base, has the values of base and what follows them
 strip_join : (s base : List ℕ) (more : List Value) → values base ++ more ≡ values s

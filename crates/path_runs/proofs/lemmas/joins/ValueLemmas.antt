@@ -1,15 +1,12 @@
--- The values of what stands behind an open string, and of a join.
-use Rattle.std.proofs.Common.{◌≡◌, ℕ, ◌<◌, true, false, List, [], ◌∷◌, ◌++◌, length}
-use Rattle.std.proofs.Common.{refl, sym, ap, ◌∙◌, arith, append_assoc}
-use Rattle.std.proofs.Common.{eqb-true}
-use Rattle.unix_path.specs.Parts.{slash, is_rooted, Value}
-use Rattle.unix_path.specs.Parts.{values}
+-- The values of what stands behind an open string, and of a join with a path that has a byte.
+use Rattle.std.proofs.Common.{◌≡◌, ℕ, ◌<◌, true, false, List, [], ◌∷◌, ◌++◌, length, sym, ap, ◌∙◌}
+use Rattle.std.proofs.Common.{arith, append_assoc, eqb-true}
+use Rattle.unix_path.specs.Parts.{slash, is_rooted, values}
 use Rattle.unix_path.specs.Joins.{is_open, join_of}
 use Rattle.unix_bytes.proofs.lemmas.lists.ListLemmas.{by_test}
 use Rattle.unix_path.proofs.lemmas.order.CommonPrefixLemmas.{values-past_slash, values-slash}
 use Rattle.unix_path.specs.CommonDir.{inner_values}
 use Rattle.unix_path.proofs.lemmas.edits.JoinLemmas.{join_of_open, join_of_closed}
-use Rattle.unix_path.proofs.lemmas.parts.PartLemmas.{values-nil, some_values}
 
 -- an open path of a byte or more ends in a slash
 pub ends_open : (u : List ℕ) → is_open u ≡ true → 0 < length u
@@ -21,7 +18,7 @@ ends_open (x ∷ y ∷ u) o l =
     (x ∷ more.0, ap (λ z. x ∷ z) more.1)
 
 -- behind an open path of a byte or more, bytes add their inner values
-values-open : (u b : List ℕ) → is_open u ≡ true → 0 < length u
+pub values-open : (u b : List ℕ) → is_open u ≡ true → 0 < length u
     → values (u ++ b) ≡ values u ++ inner_values b
 values-open u b o l =
     let cut = ends_open u o l in
@@ -40,31 +37,3 @@ values-join_of a b l r = by_test (is_open a)
     (λ o. ap values (join_of_open a b r o) ∙ values-open a b o l)
     (λ o. ap values (join_of_closed a b r o ∙ append_assoc a (slash ∷ []) b)
     ∙ values-slash a b l)
-
--- the values of a join with b: behind a value b adds its inner values, and behind none all of its
--- values
-abbrev pub append_values : List Value → List ℕ → List Value
-append_values [] b = values b
-append_values (v ∷ vs) b = (v ∷ vs) ++ inner_values b
-
--- behind a path of a byte or more, b adds its inner values
-append_values-some : (s b : List ℕ) → 0 < length s
-    → values s ++ inner_values b ≡ append_values (values s) b
-append_values-some s b l =
-    let some = some_values s l in
-    ap (λ vs. vs ++ inner_values b) some.2 ∙ sym (ap (λ vs. append_values vs b) some.2)
-
--- behind an open path, bytes add values as in a join
-pub values-append_open : (u b : List ℕ) → is_open u ≡ true
-    → values (u ++ b) ≡ append_values (values u) b
-values-append_open [] b o = sym (ap (λ vs. append_values vs b) values-nil)
-values-append_open (x ∷ u) b o =
-    values-open (x ∷ u) b o (omega arith) ∙ append_values-some (x ∷ u) b (omega arith)
-
--- the values of a join with a rootless path
-pub values-join_of_rootless : (a b : List ℕ) → is_rooted b ≡ false
-    → values (join_of a b) ≡ append_values (values a) b
-values-join_of_rootless [] b r = ap values (join_of_open [] b r refl)
-    ∙ sym (ap (λ vs. append_values vs b) values-nil)
-values-join_of_rootless (x ∷ a) b r =
-    values-join_of (x ∷ a) b (omega arith) r ∙ append_values-some (x ∷ a) b (omega arith)

@@ -1,8 +1,7 @@
 -- A name cut at its last dot.
 use Rattle.std.proofs.Common.{◌≡◌, ◌≢◌, ℕ, suc, ◌+◌, ◌-◌, ◌≤◌, ◌<◌, true, false, not, eqb, List, []}
-use Rattle.std.proofs.Common.{◌∷◌, ◌++◌}
-use Rattle.std.proofs.Common.{length, get_or, drop, Some, None, refl, sym, ap, ap₂, ◌∙◌, arith}
-use Rattle.std.proofs.Common.{eqb-true, eq-eqb, length-append, append_assoc}
+use Rattle.std.proofs.Common.{◌∷◌, ◌++◌, length, get_or, drop, Some, None, refl, sym, ap, ap₂, ◌∙◌}
+use Rattle.std.proofs.Common.{arith, eqb-true, eq-eqb, length-append, append_assoc}
 use Rattle.std.proofs.Math.Seq.{get_or-append_seam}
 use Rattle.std.proofs.lemmas.Bool.{both_ways}
 use Rattle.std.proofs.lemmas.List.{get_or-append_right, take_at, drop_at, take-append-drop}
@@ -10,8 +9,7 @@ use Rattle.std.proofs.lemmas.List.Elements.{All-nil, All-cons}
 use Rattle.unix_path.specs.Names.{past_last, split_name}
 use Rattle.unix_bytes.proofs.lemmas.lists.ListLemmas.{by_test}
 use Rattle.unix_path.proofs.lemmas.names.NameLemmas.{is_dot, past_last-is, split_name-whole}
-use Rattle.unix_path.proofs.lemmas.names.NameLemmas.{split_name-cut}
-use Rattle.unix_path.proofs.lemmas.names.NameLemmas.{split_name-stem}
+use Rattle.unix_path.proofs.lemmas.names.NameLemmas.{split_name-cut, split_name-stem}
 use Rattle.path_runs.specs.EditLaws.{HasNone}
 
 -- if no byte is b, the byte at k isn't b

@@ -15,7 +15,7 @@ use Rattle.unix_path.proofs.lemmas.rests.MiddleLemmas.{middle, middle-push}
 use Rattle.unix_path.proofs.lemmas.names.StemLemmas.{stem_end_by}
 use Rattle.path_runs.proofs.lemmas.names.DotLemmas.{stem_prefix}
 use Rattle.unix_path.proofs.lemmas.names.NameCutLemmas.{NameCut, name_cut}
-use Rattle.path_runs.proofs.lemmas.joins.ValueLemmas.{append_values, values-append_open}
+use Rattle.path_runs.proofs.lemmas.joins.LeadLemmas.{append_values, values-append_open}
 
 -- what stands up to the stem's end is the prefix and the stem
 take-stem_end : (s name : List ℕ) (c : NameCut s name)
@@ -79,7 +79,7 @@ added_extension_of-cut s name x some e c =
 -- the values, and in place of a file name what n of it adds
 abbrev pub renamed : (List ℕ → List ℕ) → List Value → List Value
 renamed n vs =
-    option_map_or (λ name. append_values (middle 0 1 vs) (n name)) (file_name_of vs) vs
+    option_map_or (λ name. append_values (middle 0 1 vs) (values (n name))) (file_name_of vs) vs
 
 -- if f changes nothing but a file name, to n of it, it depends on the path's values alone
 values-renamed : (f n : List ℕ → List ℕ) (s : List ℕ)
@@ -90,12 +90,12 @@ values-renamed : (f n : List ℕ → List ℕ) (s : List ℕ)
 values-renamed f n s none some = by (file_name_of (values s)) refl
   where
     by : (o : Option (List ℕ)) → file_name_of (values s) ≡ o → values (f s)
-        ≡ option_map_or (λ name. append_values (middle 0 1 (values s)) (n name)) o (values s)
+        ≡ option_map_or (λ name. append_values (middle 0 1 (values s)) (values (n name))) o (values s)
     by None e = ap values (none e)
     by (Some name) e =
         let c = name_cut s name e in
         ap values (some name e c) ∙ values-append_open c.prefix (n name) c.ends
-        ∙ ap (λ vs. append_values vs (n name))
+        ∙ ap (λ vs. append_values vs (values (n name)))
         (sym (ap (middle 0 1) c.before ∙ middle-push (values c.prefix) (Normal name)))
 
 -- a name with the extension x set

@@ -6,21 +6,19 @@ use Rattle.std.specs.List.{slice_split}
 use Rattle.std.proofs.lemmas.Grind.{reverse_onto}
 use Rattle.std.proofs.lemmas.List.Elements.{All-from_recursion}
 use Rattle.std.proofs.lemmas.List.Splits.{slice_split_none}
-use Rattle.unix_path.specs.CommonDir.{inner_values}
 use Rattle.unix_path.specs.Joins.{join_of, join_all_of}
 use Rattle.unix_path.specs.Parts.{is_slash, dot, is_rooted, value_of_piece, Value, RootDir, CurDir}
 use Rattle.unix_path.specs.Parts.{ParentDir, Normal, value_bytes, values}
 use Rattle.unix_path.proofs.lemmas.edits.JoinLemmas.{join_of_rooted}
 use Rattle.unix_path.proofs.lemmas.parts.PartLemmas.{root_first, root_first-values, values-nil}
 use Rattle.unix_path.proofs.lemmas.parts.ValueLemmas.{value_bytes-piece}
-use Rattle.path_runs.specs.JoinLaws.{drop_lead}
 use Rattle.path_runs.specs.Spelling.{spelling_of}
 use Rattle.path_runs.proofs.lemmas.spelling.JoinAllLemmas.{join_all_of-values}
-use Rattle.path_runs.proofs.lemmas.joins.LeadLemmas.{IsInner, inner-no_lead, drop_lead-values}
+use Rattle.path_runs.proofs.lemmas.joins.LeadLemmas.{IsInner, inner-no_lead, append_values}
+use Rattle.path_runs.proofs.lemmas.joins.LeadLemmas.{append_values-inner, values-join_of_rootless}
 use Rattle.path_runs.proofs.lemmas.spelling.PieceValueLemmas.{HoldsOfPieces, names_of, NoSlash}
 use Rattle.path_runs.proofs.lemmas.spelling.PieceValueLemmas.{values-hold, values-rooted}
 use Rattle.path_runs.proofs.lemmas.spelling.PieceValueLemmas.{values-rootless}
-use Rattle.path_runs.proofs.lemmas.joins.ValueLemmas.{append_values, values-join_of_rootless}
 use Rattle.path_within.specs.Resolved.{keep, kept_of}
 use Rattle.path_within.specs.Steps.{ReadsAsItself, IsKept, ValueReadsAsItself, path_of}
 use Rattle.path_within.proofs.lemmas.kept.KeepLemmas.{IsKept-ups}
@@ -76,22 +74,15 @@ ReadsAsItself-kept_of ks [] h k = h
 ReadsAsItself-kept_of ks (v ∷ vs) h k = ReadsAsItself-kept_of (keep ks v) vs
     (ReadsAsItself-keep ks v h k.0) k.1
 
--- bytes with one value, which is an inner value, add that value behind any others
-append_inner : (vs : List Value) (b : List ℕ) (v : Value) → values b ≡ v ∷ []
-    → inner_values b ≡ v ∷ [] → append_values vs b ≡ vs ++ v ∷ []
-append_inner [] b v e f = e
-append_inner (w ∷ vs) b v e f = ap (λ ws. w ∷ vs ++ ws) f
-
 -- a join with the bytes of an inner value adds that value
 values-join_of_value : (s : List ℕ) (v : Value) → IsInner v → ValueReadsAsItself v
     → values (join_of s (value_bytes v)) ≡ values s ++ v ∷ []
 values-join_of_value s v i e =
     let b = value_bytes v in
-    let inner = inner-no_lead (v ∷ []) (i, tt) in
     let rootless : is_rooted b ≡ false =
-    sym (root_first-values b) ∙ ap root_first e ∙ inner.no_root in
-    values-join_of_rootless s b rootless
-    ∙ append_inner (values s) b v e (sym (drop_lead-values b) ∙ ap drop_lead e ∙ inner.no_lead)
+    sym (root_first-values b) ∙ ap root_first e ∙ (inner-no_lead (v ∷ []) (i, tt)).no_root in
+    values-join_of_rootless s b rootless ∙ ap (append_values (values s)) e
+    ∙ append_values-inner (values s) (v ∷ []) (i, tt)
 
 -- an inner value, joined to kept values, is read behind them
 push_value : (ks : List Value) (v : Value) → IsInner v → ValueReadsAsItself v
