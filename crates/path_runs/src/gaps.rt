@@ -22,7 +22,8 @@ fn is_gap(bytes: &[u8], at: usize) -> bool
 fn gapless_in_lanes(bytes: &[u8], at: usize) -> usize
     requires { at + 18 ≤ length bytes.now }
     ensures in_range { result ≤ 16 }
-    ensures none_before { (i : ℕ) → at ≤ i → i < at + result → is_gap bytes.now i ≡ false }
+    ensures none_before { ((i : ℕ) → i < at → is_gap bytes.now i ≡ false)
+        → (i : ℕ) → i < at + result → is_gap bytes.now i ≡ false }
 {
     let slash = u8x16::splat(b'/');
     let here = u8x16::from_slice(&bytes[at..]);

@@ -1,24 +1,13 @@
-use Rattle.std.proofs.Common.{◌<◌, ◌≤◌, ⊎_elim, arith}
-use Rattle.std.proofs.lemmas.Bool.{cases_lt}
+use Rattle.std.proofs.Common.{arith}
 use Rattle.path_runs.proofs.gaps.gapless_len.Goals as goal
-
-pub returns-then-len-lt16-clause-none_before : goal.returns-then-len-lt16-clause-none_before
-returns-then-len-lt16-clause-none_before c = λ i l.
-    ⊎_elim (λ (less : i < c.loop-at.at). c.loop-at.invariant.none_before i less)
-    (λ (more : c.loop-at.at ≤ i). c.gapless_in_lanes-len.ensures.none_before i more l)
-    (cases_lt i c.loop-at.at)
 
 pub loop-at-preserved : goal.loop-at-preserved
 loop-at-preserved c = record {
   in_range = omega arith;
-  none_before = λ i l.
-      ⊎_elim (λ (less : i < c.loop-at.at). c.loop-at.invariant.none_before i less)
-      (λ (more : c.loop-at.at ≤ i). c.gapless_in_lanes-len.ensures.none_before i more (omega arith))
-      (cases_lt i c.loop-at.at);
+  none_before = λ i l. c.gapless_in_lanes-len.ensures.none_before c.loop-at.invariant.none_before i
+      (omega arith);
 }
 
 pub returns-clause-none_before : goal.returns-clause-none_before
-returns-clause-none_before c = λ i l.
-    ⊎_elim (λ (less : i < c.loop-at.at). c.loop-at.invariant.none_before i less)
-    (λ (more : c.loop-at.at ≤ i). c.gapless_in_lanes.ensures.none_before i (omega arith) l)
-    (cases_lt i c.loop-at.at)
+returns-clause-none_before c = c.gapless_in_lanes.ensures.none_before
+    (λ i l. c.loop-at.invariant.none_before i (omega arith))

@@ -1,6 +1,7 @@
 -- Sixteen bytes at once, searched for a gap.
 use Rattle.std.proofs.Common.{◌≡◌, ℕ, ◌+◌, ◌<◌, ◌≤◌, Bool, eqb, ◌&&◌, ◌||◌, List, length, get_or}
-use Rattle.std.proofs.Common.{ap₂, subst, arith}
+use Rattle.std.proofs.Common.{ap₂, subst, arith, false, ⊎_elim}
+use Rattle.std.proofs.lemmas.Bool.{cases_lt}
 use Rattle.std.specs.Simd.Lanes.{chunk}
 use Rattle.std.proofs.lemmas.Simd.{length-chunk}
 use Rattle.unix_bytes.proofs.lemmas.vectors.TestLaneLemmas.{hits, both, either, Tells, Tells-hits}
@@ -45,3 +46,10 @@ gaps_told s at l = record {
       (length-chunk at 16 s (omega arith)) (length-chunk (at + 1) 16 s (omega arith))
       (length-chunk (at + 2) 16 s (omega arith)) few);
 }
+
+-- if no gap begins before `at`, nor from there up to `end`, none begins before `end`
+pub none_to : (s : List ℕ) (at end : ℕ) → ((i : ℕ) → i < at → is_gap s i ≡ false)
+    → ((i : ℕ) → at ≤ i → i < end → is_gap s i ≡ false) → (i : ℕ) → i < end
+    → is_gap s i ≡ false
+none_to s at end before behind i l = ⊎_elim (λ (less : i < at). before i less)
+    (λ (more : at ≤ i). behind i more l) (cases_lt i at)
