@@ -14,6 +14,7 @@ use crate::gaps::{first_gap, past_gap};
 use std::alloc::{AllocError, Global};
 use unix_bytes::bytes::{UnixStr, UnixString};
 use unix_path::{Components, Path, PathBuf};
+use written::stretch_at;
 pub use written::write_canonical;
 
 // Appends the parts behind the gap at `gap`, each with a slash before it. Parts with no gap between
@@ -26,9 +27,9 @@ fn push_parts(text: &mut UnixString, bytes: &[u8], gap: usize) -> Result<(), All
 {
     let mut start = past_gap(bytes, gap);
     while start < bytes.len() {
-        let end = start + first_gap(&bytes[start..]);
-        text.push(UnixStr::from_bytes(&bytes[start - 1..end]))?;
-        start = past_gap(bytes, end);
+        let stretch = stretch_at(bytes, start);
+        text.push(UnixStr::from_bytes(stretch))?;
+        start = past_gap(bytes, start - 1 + stretch.len());
     }
     Ok(())
 }

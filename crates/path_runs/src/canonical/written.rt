@@ -31,7 +31,7 @@ fn kept_len(bytes: &[u8]) -> usize
 // The bytes from the slash before the part at `start` up to the next gap or the end. The spelling
 // has them as they are.
 #[inline]
-fn stretch_at(bytes: &[u8], start: usize) -> &[u8]
+pub(super) fn stretch_at(bytes: &[u8], start: usize) -> &[u8]
     requires in_range { start < length bytes.now }
     requires part { IsPart bytes.now start }
     ensures { IsCopied bytes.now start result.now }

@@ -1,22 +1,21 @@
-use Rattle.std.proofs.Common.{drop, sym, subst, ◌∙◌, arith}
-use Rattle.path_runs.specs.Gaps.{FirstGap}
-use Rattle.path_runs.proofs.lemmas.gaps.KeptLemmas.{append_stretch, nothing_left, slice_range-from}
+use Rattle.std.proofs.Common.{◌+◌, ◌-◌, ◌++◌, length, drop, sym, ap, ◌∙◌, arith, append_assoc}
+use Rattle.path_runs.specs.Gaps.{slashed_parts}
+use Rattle.path_runs.proofs.lemmas.gaps.KeptLemmas.{nothing_left}
 use Rattle.path_runs.proofs.canonical.push_parts.Goals as goal
 
 pub loop-start-preserved : goal.loop-start-preserved
 loop-start-preserved c =
-    let s = c.args.bytes.now in
-    let start = c.loop-start.start in
-    let n = c.first_gap.result in
+    let items = c.loop-start.text.bytes.items in
+    let stretch = c.stretch_at-stretch.result.now in
+    let end = c.loop-start.start - 1 + length stretch in
     let left = c.past_gap-start-in-loop-start.ensures in
-    let gap : FirstGap (drop start s) n =
-    subst (λ u. FirstGap u n) (slice_range-from s start) c.first_gap.ensures in
     record {
       in_range = left.in_range;
       part = left.part;
       same = rw (c.in_ok-push.ensures.ok, c.from_bytes.ensures.bytes, sym left.same)
-          (append_stretch c.loop-start.text.bytes.items s start n c.loop-start-test.true
-          (c.loop-start.invariant.part c.loop-start-test.true) gap ∙ c.loop-start.invariant.same);
+          (append_assoc items stretch (slashed_parts (drop end c.args.bytes.now))
+          ∙ ap (λ u. items ++ u) (sym c.stretch_at-stretch.ensures.same)
+          ∙ c.loop-start.invariant.same);
     }
 
 pub returns : goal.returns

@@ -1,8 +1,8 @@
 -- Up to its first gap, a string is its first piece and the parts behind it, each behind a slash.
 use Rattle.std.proofs.Common.{◌≡◌, ℕ, zero, suc, ◌+◌, ◌-◌, ◌<◌, ◌≤◌, true, false, eqb, ◌&&◌, ◌||◌}
 use Rattle.std.proofs.Common.{List, [], ◌∷◌, ◌++◌, length, take, drop, map, get_or, refl, sym, ap}
-use Rattle.std.proofs.Common.{ap₂, ◌∙◌, eqb-true, arith, append_assoc, append-nil, drop-cons}
-use Rattle.std.proofs.Common.{drop-drop, length-drop, take_all}
+use Rattle.std.proofs.Common.{ap₂, ◌∙◌, eqb-true, arith, append-nil, drop-cons, length-drop}
+use Rattle.std.proofs.Common.{take_all}
 use Rattle.std.specs.Prelude.{slice_range}
 use Rattle.std.specs.List.{flat_map, position_or_len}
 use Rattle.std.proofs.lemmas.Bool.{and_parts}
@@ -11,7 +11,6 @@ use Rattle.unix_path.specs.Parts.{Part, inner_parts, is_slash, slash, value_byte
 use Rattle.unix_path.specs.Scan.{is_filler}
 use Rattle.unix_bytes.proofs.lemmas.lists.ListLemmas.{by_test, drop-suc_cons}
 use Rattle.unix_path.proofs.lemmas.filler.FillerLemmas.{inner_parts_busy, inner_parts_filler_at}
-use Rattle.unix_path.proofs.lemmas.filler.FillerLemmas.{is_filler-drop}
 use Rattle.unix_path.proofs.lemmas.parts.PieceLemmas.{first_piece, first_piece-slash}
 use Rattle.unix_path.proofs.lemmas.parts.PieceLemmas.{first_piece-other, position_or_len-slash}
 use Rattle.unix_path.proofs.lemmas.parts.PieceLemmas.{position_or_len-other}
@@ -115,19 +114,6 @@ slashed_stretch s start n l part =
     let next : suc (start - 1) ≡ start = omega arith in
     ap₂ take count (drop-cons s (start - 1) 0 (omega arith)
     ∙ ap₂ (λ b k. b ∷ drop k s) part.after_slash next)
-
--- of the parts that are left, those before the next gap may be appended first, as they stand
-pub append_stretch : (a s : List ℕ) (start n : ℕ) → start < length s → IsPart s start
-    → FirstGap (drop start s) n
-    → (a ++ slice_range s (start - 1) (start + n)) ++ slashed_parts (drop (start + n) s)
-    ≡ a ++ slashed_parts (drop start s)
-append_stretch a s start n l part h =
-    append_assoc a (slice_range s (start - 1) (start + n)) (slashed_parts (drop (start + n) s))
-    ∙ ap (λ u. a ++ u)
-    (ap₂ (λ u v. u ++ slashed_parts v) (slashed_stretch s start n l part)
-    (sym (drop-drop n start s))
-    ∙ sym (part_stretch (drop start s) n (omega (arith, length-drop start s))
-    (is_filler-drop s start ∙ part.begins) h))
 
 pub slice_range-from : (s : List ℕ) (i : ℕ) → slice_range s i (length s) ≡ drop i s
 slice_range-from s i = take_all (length s - i) (drop i s) (omega (arith, length-drop i s))
