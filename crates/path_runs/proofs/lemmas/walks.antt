@@ -2,5 +2,4 @@
 pub mod WalkLemmas
 -- Of this crate alone.
 pub mod WalkStepLemmas
-pub mod InOrderLemmas
 pub mod MixedLemmas

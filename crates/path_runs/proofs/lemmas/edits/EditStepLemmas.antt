@@ -3,7 +3,6 @@ use Rattle.std.proofs.Common.{◌≡◌, ℕ, zero, suc, ◌+◌, ◌-◌, ◌�
 use Rattle.std.proofs.Common.{◌++◌, ◌<◌, length, get_or, take, map, Some, None, is_some, refl, sym}
 use Rattle.std.proofs.Common.{ap, ◌∙◌, arith, length-append, length-take-le, append-nil}
 use Rattle.std.proofs.Math.Seq.{take-length}
-use Rattle.std.proofs.lemmas.Bool.{true≢false}
 use Rattle.std.proofs.lemmas.List.{take-append-le, take-take, nil_from_length, append_assoc}
 use Rattle.std.specs.Prelude.{Result, Ok, Err, OnOk, OnErr}
 use Rattle.unix_path.specs.Parts.{Part, RootDir, is_rooted, parts, values}
@@ -15,8 +14,7 @@ use Rattle.unix_path.specs.Edits.{before_name_of, popped_of, stem_end_of, with_n
 use Rattle.unix_path.specs.Edits.{with_extension_of}
 use Rattle.unix_path.specs.Extensions.{name_end_of}
 use Rattle.unix_bytes.proofs.lemmas.lists.ListLemmas.{by_test}
-use Rattle.unix_path.proofs.lemmas.edits.EditLemmas.{dot_before-some, with_extension_of-none}
-use Rattle.unix_path.proofs.lemmas.edits.EditLemmas.{with_extension_of-some}
+use Rattle.unix_path.proofs.lemmas.edits.EditLemmas.{with_extension_of-none, with_extension_of-some}
 use Rattle.unix_path.proofs.lemmas.edits.JoinLemmas.{join_of_closed, join_of_open, join_of_rooted}
 use Rattle.unix_path.proofs.lemmas.edits.JoinLemmas.{length-join_of_closed, length-join_of_open}
 use Rattle.unix_path.proofs.lemmas.names.NameEndLemmas.{added_extension_of-nil}
@@ -174,9 +172,8 @@ with_extension_of-nil s x end e none =
 -- an extension that has a byte is put behind the stem with a dot
 pub with_extension_of-dotted : (s x : List ℕ) (end : ℕ) → stem_end_of s ≡ Some end
     → eqb (length x) 0 ≡ false → with_extension_of s x ≡ (take end s ++ 46 ∷ []) ++ x
-with_extension_of-dotted s [] end stem some = absurd (true≢false some)
-with_extension_of-dotted s (b ∷ x) end stem some =
-    with_extension_of-some s (b ∷ x) (46 ∷ []) end (sym stem) (sym (dot_before-some b x))
+with_extension_of-dotted s x end stem some =
+    with_extension_of-some s x (46 ∷ []) end (sym stem) (rw some refl)
 
 pub ruleset name_cases = (with_name_of-nameless)
 

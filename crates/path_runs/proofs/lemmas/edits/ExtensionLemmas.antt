@@ -16,7 +16,6 @@ use Rattle.path_runs.specs.EditLists.{SetExtension, edit_of}
 use Rattle.path_runs.specs.EditLaws.{HasNone, IsSimpleExtension, TakesExtension}
 use Rattle.unix_bytes.proofs.lemmas.lists.ListLemmas.{by_test}
 use Rattle.path_runs.proofs.lemmas.joins.BehindLemmas.{rest-behind}
-use Rattle.path_runs.proofs.lemmas.edits.CongruenceLemmas.{unless_slash}
 use Rattle.path_runs.proofs.lemmas.names.ExtensionCutLemmas.{with_extension_of-cut}
 use Rattle.path_runs.proofs.lemmas.names.DotLemmas.{SplitCase, Whole, Cut, split_case}
 use Rattle.path_runs.proofs.lemmas.names.DotLemmas.{split_name-dot, stem_prefix}
@@ -110,12 +109,9 @@ some_name s e = by (file_name_of (values s)) refl e
 -- if setting an extension answers true, it has no slash, and the edit is `with_extension_of`
 edit_of-set_extension : (s x t : List ℕ) → edit_of s (SetExtension x) ≡ (t, Flag true)
     → (with_extension_of s x ≡ t) × (Flag (is_some (file_name_of (values s))) ≡ Flag true)
-edit_of-set_extension s x t e =
-    let left : (unless_slash s x (with_extension_of s x)).0 ≡ t = ap (λ p. p.0) e in
-    let said : (unless_slash s x (with_extension_of s x)).1 ≡ Flag true = ap (λ p. p.1) e in
-    by_test (has_slash x)
-    (λ y. absurd (let no : Separator ≡ Flag true = rw y at said in cc))
-    (λ n. (rw n at left, rw n at said))
+edit_of-set_extension s x t e = by_test (has_slash x)
+    (λ y. absurd (let no : Separator ≡ Flag true = ap (λ p. p.1) (rw y at e) in cc))
+    (λ n. let is = rw n at e in (ap (λ p. p.0) is, ap (λ p. p.1) is))
 
 -- a path that takes an extension has a file name, and then a new one with that extension
 new_extension : (s x t : List ℕ) → TakesExtension s x t

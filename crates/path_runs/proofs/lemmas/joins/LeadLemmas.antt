@@ -112,19 +112,16 @@ inner-behind s x xs e =
     inner_lead (is_rooted s) _ (inner_values s) x xs (inner_values-inner s)
     (sym (values-lead s) ∙ e)
 
--- without the dot that stands first, only what follows it is left
-drop_dot-lead_by : (d : Bool) (vs : List Value) → HasNoLead vs
-    → drop_dot (lead_by false d ++ vs) ≡ vs
-drop_dot-lead_by true vs h = refl
-drop_dot-lead_by false vs h = h.no_dot
+-- of values of which the first is no root a leading dot is all that can be dropped
+drop_dot-rootless : (vs : List Value) → root_first vs ≡ false → drop_dot vs ≡ drop_lead vs
+drop_dot-rootless [] h = refl
+drop_dot-rootless (RootDir ∷ vs) h = absurd (let d : true ≡ false = h in cc)
+drop_dot-rootless (v ∷ vs) h = refl
 
 -- without a leading dot a rootless path's values are its inner values
 pub drop_dot-values : (s : List ℕ) → is_rooted s ≡ false → drop_dot (values s) ≡ inner_values s
 drop_dot-values s r =
-    ap drop_dot (values-lead s
-    ∙ ap (λ c. lead_by c (dot_first (slice_split is_slash s)) ++ inner_values s) r)
-    ∙ drop_dot-lead_by (dot_first (slice_split is_slash s)) (inner_values s)
-    (inner_values-no_lead s)
+    drop_dot-rootless (values s) (root_first-values s ∙ r) ∙ drop_lead-values s
 
 -- these values, and behind them those of ws, without a leading root or dot unless they are first
 abbrev pub append_values : List Value → List Value → List Value

@@ -1,8 +1,9 @@
 -- The parts of a path have no more bytes than the path.
-use Rattle.std.proofs.Common.{◌≡◌, ◌≤◌, ℕ, List, [], ◌∷◌, length, map, ⊎_elim, refl, ap, arith}
+use Rattle.std.proofs.Common.{◌≤◌, ℕ, List, [], ◌∷◌, length, map, ⊎_elim, refl, ap, arith}
 use Rattle.std.proofs.Common.{length-append}
-use Rattle.std.specs.List.{sum_by}
-use Rattle.std.proofs.lemmas.List.Sums.{sum_by-cons}
+use Rattle.std.specs.List.{sum, sum_by}
+use Rattle.std.proofs.lemmas.Simd.{map-map}
+use Rattle.std.proofs.lemmas.List.Sums.{sum_by-cons, sum-map}
 use Rattle.unix_path.specs.Parts.{Value, RootDir, value_bytes, values}
 use Rattle.path_runs.specs.Spelling.{slashed_bytes, spelling_of}
 use Rattle.path_runs.proofs.lemmas.spelling.LeanLemmas.{spelling_of-shortest}
@@ -40,15 +41,14 @@ byte_count-values s =
     ⊎_elim (λ same. omega (arith, spelled, ap length same)) (λ longer. omega (arith, spelled))
     (spelling_of-shortest s s refl)
 
-sum_by-map : (vs : List Value) → sum_by length (map value_bytes vs) ≡ byte_count vs
-sum_by-map [] = refl
-sum_by-map (v ∷ vs) = omega (
-  arith,
-  sum_by-cons length (value_bytes v) (map value_bytes vs),
-  sum_by-cons (λ v. length (value_bytes v)) v vs,
-  sum_by-map vs,
-)
-
 -- the bytes of a path's parts, as a list of strings, are no more than the path's
 pub sum_by-items : (s : List ℕ) → sum_by length (map value_bytes (values s)) ≤ length s
-sum_by-items s = omega (arith, sum_by-map (values s), byte_count-values s)
+sum_by-items s =
+    let vs = values s in
+    omega (
+      arith,
+      sum-map length (map value_bytes vs),
+      ap sum (map-map length value_bytes vs),
+      sum-map (λ v. length (value_bytes v)) vs,
+      byte_count-values s,
+    )

@@ -1,11 +1,11 @@
 -- A path whose pieces all count is its own spelling.
-use Rattle.std.proofs.Common.{◌≡◌, ℕ, true, false, List, [], ◌∷◌, drop, filter, sym, refl, ap, ◌∙◌}
+use Rattle.std.proofs.Common.{◌≡◌, ℕ, true, false, List, [], ◌∷◌, drop, filter, sym, ap, ◌∙◌}
 use Rattle.std.specs.Cmp.{first_so, second_so}
 use Rattle.std.specs.List.{list_all, slice_split, join_with_byte}
 use Rattle.unix_path.specs.Parts.{is_slash, slash, counts, is_rooted, values}
 use Rattle.path_runs.specs.Spelling.{spelling_of}
 use Rattle.path_runs.proofs.lemmas.spelling.LeanLemmas.{join_with_byte-pieces}
-use Rattle.path_runs.proofs.lemmas.spelling.PieceValueLemmas.{AllCount, is_rooted-slash}
+use Rattle.path_runs.proofs.lemmas.spelling.PieceValueLemmas.{AllCount, filter-all, is_rooted-slash}
 use Rattle.path_runs.proofs.lemmas.spelling.PieceValueLemmas.{slice_split-no_slash}
 use Rattle.path_runs.proofs.lemmas.spelling.ReadBackLemmas.{values-join_with_byte}
 use Rattle.path_runs.proofs.lemmas.spelling.SpellLemmas.{spelling_of-pieces, spelling_of-rooted}
@@ -17,10 +17,6 @@ AllCount-list_all (p ∷ ps) h = (
   first_so (counts p) (list_all counts ps) h,
   AllCount-list_all ps (second_so (counts p) (list_all counts ps) h),
 )
-
-filter-all : (ps : List (List ℕ)) → AllCount ps → filter counts ps ≡ ps
-filter-all [] h = refl
-filter-all (p ∷ ps) h = rw h.0 (ap (λ qs. p ∷ qs) (filter-all ps h.1))
 
 -- a rooted path is its own spelling if all pieces of t, which follows the root, count
 pub spelling_of-own_rooted : (s t : List ℕ) → list_all counts (slice_split is_slash t) ≡ true

@@ -19,6 +19,11 @@ names_of ps = map value_of_piece (filter counts ps)
 abbrev pub AllCount : List (List ℕ) → Type 0
 AllCount ps = AllByRecursion (λ p. counts p ≡ true) ps
 
+-- if all pieces count, they are those that count
+pub filter-all : (ps : List (List ℕ)) → AllCount ps → filter counts ps ≡ ps
+filter-all [] h = refl
+filter-all (p ∷ ps) h = rw h.0 (ap (λ qs. p ∷ qs) (filter-all ps h.1))
+
 -- the parts of the pieces have the values of the pieces that count
 names_of-parts : (at : ℕ) (ps : List (List ℕ))
     → map (λ (p : Part). p.value) (parts_of_pieces at ps) ≡ names_of ps

@@ -1,6 +1,6 @@
 -- The spelling of a path's values has these values.
-use Rattle.std.proofs.Common.{◌≡◌, ℕ, Bool, true, false, cond, not, ◌||◌, List, [], ◌∷◌, ◌++◌, map}
-use Rattle.std.proofs.Common.{filter, refl, sym, ap, subst, ◌∙◌}
+use Rattle.std.proofs.Common.{◌≡◌, ℕ, Bool, true, false, cond, List, [], ◌∷◌, ◌++◌, map, filter}
+use Rattle.std.proofs.Common.{refl, sym, ap, subst, ◌∙◌}
 use Rattle.std.specs.List.{AllByRecursion, slice_split, join_with_byte}
 use Rattle.std.specs.Str.{bytes_eq}
 use Rattle.std.proofs.lemmas.List.Elements.{All-from_recursion}
@@ -10,9 +10,10 @@ use Rattle.unix_path.specs.Parts.{is_rooted, counts, values}
 use Rattle.unix_bytes.proofs.lemmas.lists.ListLemmas.{by_test}
 use Rattle.path_runs.specs.Spelling.{spelling_of}
 use Rattle.path_runs.proofs.lemmas.joins.LeadLemmas.{dot_first}
-use Rattle.path_runs.proofs.lemmas.spelling.PieceValueLemmas.{AllCount, names_of, values-rooted}
-use Rattle.path_runs.proofs.lemmas.spelling.PieceValueLemmas.{values-rootless, is_rooted-slash}
-use Rattle.path_runs.proofs.lemmas.spelling.PieceValueLemmas.{NoSlash, slice_split-no_slash}
+use Rattle.path_runs.proofs.lemmas.spelling.PieceValueLemmas.{AllCount, filter-all, names_of}
+use Rattle.path_runs.proofs.lemmas.spelling.PieceValueLemmas.{values-rooted, values-rootless}
+use Rattle.path_runs.proofs.lemmas.spelling.PieceValueLemmas.{is_rooted-slash, NoSlash}
+use Rattle.path_runs.proofs.lemmas.spelling.PieceValueLemmas.{slice_split-no_slash}
 use Rattle.path_runs.proofs.lemmas.spelling.SpellLemmas.{bytes_of_pieces, spelling_of-dot}
 use Rattle.path_runs.proofs.lemmas.spelling.SpellLemmas.{spelling_of-pieces, spelling_of-rooted}
 
@@ -40,8 +41,7 @@ filter-counts (p ∷ ps) =
     by_test (counts p) (λ e. rw e (e, filter-counts ps)) (λ e. rw e (filter-counts ps))
 
 names_of-counts : (ps : List (List ℕ)) → AllCount ps → names_of ps ≡ map value_of_piece ps
-names_of-counts [] h = refl
-names_of-counts (p ∷ ps) h = rw h.0 (ap (λ vs. value_of_piece p ∷ vs) (names_of-counts ps h.1))
+names_of-counts ps h = ap (map value_of_piece) (filter-all ps h)
 
 -- joined pieces that count are cut into pieces that have their values
 pub names_of-join_with_byte : (ps : List (List ℕ)) → AllByRecursion NoSlash ps → AllCount ps
@@ -50,21 +50,15 @@ names_of-join_with_byte [] h k = refl
 names_of-join_with_byte (p ∷ ps) h k =
     ap names_of (slice_split-join_with_byte p ps h) ∙ names_of-counts (p ∷ ps) k
 
--- joined pieces of which the first counts have no root
-is_rooted-join_with_byte : (p : List ℕ) (ps : List (List ℕ)) → NoSlash p → counts p ≡ true
-    → is_rooted (join_with_byte slash (p ∷ ps)) ≡ false
-is_rooted-join_with_byte [] ps h e = absurd (let d : false ≡ true = e in cc)
-is_rooted-join_with_byte (x ∷ p) [] h e = h.0
-is_rooted-join_with_byte (x ∷ p) (q ∷ ps) h e = h.0
+-- joined pieces that begin with another byte than a slash have no root
+is_rooted-join_with_byte : (x : ℕ) (p : List ℕ) (ps : List (List ℕ)) → is_slash x ≡ false
+    → is_rooted (join_with_byte slash ((x ∷ p) ∷ ps)) ≡ false
+is_rooted-join_with_byte x p [] h = h
+is_rooted-join_with_byte x p (q ∷ ps) h = h
 
-counts-no_dot : (p : List ℕ) → counts p ≡ true → bytes_eq p cur_dir ≡ false
-counts-no_dot p e = by (bytes_eq p []) (bytes_eq p cur_dir) refl refl e
-  where
-    by : (c d : Bool) → bytes_eq p [] ≡ c → bytes_eq p cur_dir ≡ d
-        → not (bytes_eq p [] || bytes_eq p cur_dir) ≡ true → bytes_eq p cur_dir ≡ false
-    by c false f g h = g
-    by true true f g h = absurd (let k : false ≡ true = rw f at h in cc)
-    by false true f g h = absurd (let k : false ≡ true = rw (f, g) at h in cc)
+counts-no_dot : (x : ℕ) (p : List ℕ) → counts (x ∷ p) ≡ true → bytes_eq (x ∷ p) cur_dir ≡ false
+counts-no_dot x p e = by_test (bytes_eq (x ∷ p) cur_dir)
+    (λ d. absurd (let k : false ≡ true = rw d at e in cc)) (λ d. d)
 
 -- the spelling of a rooted path's values has these values
 values-spelling_rooted : (t : List ℕ)
@@ -81,21 +75,20 @@ values-spelling_rooted t =
 pub values-join_with_byte : (ps : List (List ℕ)) → AllByRecursion NoSlash ps → AllCount ps
     → values (join_with_byte slash ps) ≡ map value_of_piece ps
 values-join_with_byte [] h k = values-rootless [] ([] ∷ []) refl refl
-values-join_with_byte (p ∷ ps) h k =
-    values-rootless (join_with_byte slash (p ∷ ps)) (p ∷ ps) (is_rooted-join_with_byte p ps h.0 k.0)
-    (slice_split-join_with_byte p ps h)
-    ∙ ap (λ c. cond c (CurDir ∷ []) [] ++ names_of (p ∷ ps)) (counts-no_dot p k.0)
-    ∙ names_of-counts (p ∷ ps) k
-
-dot_rootless : (ps : List (List ℕ)) → is_rooted (join_with_byte slash (cur_dir ∷ ps)) ≡ false
-dot_rootless [] = refl
-dot_rootless (p ∷ ps) = refl
+values-join_with_byte ([] ∷ ps) h k = absurd (let d : false ≡ true = k.0 in cc)
+values-join_with_byte ((x ∷ p) ∷ ps) h k =
+    let all = (x ∷ p) ∷ ps in
+    values-rootless (join_with_byte slash all) all (is_rooted-join_with_byte x p ps h.0.0)
+    (slice_split-join_with_byte (x ∷ p) ps h)
+    ∙ ap (λ c. cond c (CurDir ∷ []) [] ++ names_of all) (counts-no_dot x p k.0)
+    ∙ names_of-counts all k
 
 -- a first `.`, joined with pieces that count, has that `.` and their values
 pub values-join_with_byte_dot : (ps : List (List ℕ)) → AllByRecursion NoSlash ps → AllCount ps
     → values (join_with_byte slash (cur_dir ∷ ps)) ≡ CurDir ∷ map value_of_piece ps
 values-join_with_byte_dot ps h k =
-    values-rootless (join_with_byte slash (cur_dir ∷ ps)) (cur_dir ∷ ps) (dot_rootless ps)
+    values-rootless (join_with_byte slash (cur_dir ∷ ps)) (cur_dir ∷ ps)
+    (is_rooted-join_with_byte 46 [] ps refl)
     (slice_split-join_with_byte cur_dir ps ((refl, (tt)), h))
     ∙ ap (λ vs. CurDir ∷ vs) (names_of-counts ps k)
 

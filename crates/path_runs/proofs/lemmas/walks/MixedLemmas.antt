@@ -1,14 +1,14 @@
 -- What calls at both ends of a walk, mixed in any order, give and leave.
-use Rattle.std.proofs.Common.{◌≡◌, ℕ, ◌+◌, List, [], ◌∷◌, ◌++◌, length, map, reverse, Option}
-use Rattle.std.proofs.Common.{None, Some, sym, ap, ap₂, ◌∙◌, arith, append-nil}
-use Rattle.std.proofs.Common.{append_assoc, length-append}
+use Rattle.std.proofs.Common.{◌≡◌, ℕ, ◌+◌, List, [], ◌∷◌, ◌++◌, length, map, reverse, Option, None}
+use Rattle.std.proofs.Common.{Some, sym, ap, ap₂, ◌∙◌, arith, append-nil, append_assoc}
+use Rattle.std.proofs.Common.{length-append}
 use Rattle.std.proofs.lemmas.List.{map-append, reverse-append}
 use Rattle.std.specs.Iterator.{YieldsFirstBy, YieldsLastBy}
 use Rattle.std.specs.Option.{option_to_list}
 use Rattle.unix_path.specs.Cursor.{cursor_rest, cursor_values}
 use Rattle.unix_path.specs.Rest.{rest}
 use Rattle.unix_path.specs.declared.cursor.walk.Components.{Components}
-use Rattle.unix_path.proofs.lemmas.parts.PartLemmas.{rest-nil, values-none}
+use Rattle.unix_path.proofs.lemmas.parts.PartLemmas.{values-none}
 use Rattle.unix_path.proofs.lemmas.rests.RestLemmas.{rest-rest}
 use Rattle.path_runs.specs.CallsMixed.{GivesMixed}
 
@@ -69,9 +69,8 @@ module _ {S A V : Type 0} (shows : A → V) (left : S → List V) (bytes : S →
         → bytes s ≡ rest u (length xs) m → next s item t
         → bytes t ≡ rest u (length (xs ++ option_to_list item)) m
     after_first u m xs s t None so_far call =
-        let nothing = none s (first s t None call).0 in
-        first_rest s t None call ∙ ap (λ b. rest b 1 0) nothing ∙ rest-nil 1 0 ∙ sym nothing
-        ∙ so_far ∙ ap (λ l. rest u (length l) m) (sym (append-nil xs))
+        let nothing = first s t None call in
+        rw (append-nil xs) (none t nothing.1 ∙ sym (none s nothing.0) ∙ so_far)
     after_first u m xs s t (Some x) so_far call =
         first_rest s t (Some x) call ∙ ap (λ b. rest b 1 0) so_far ∙ rest-rest u (length xs) m 1 0
         ∙ ap₂ (rest u) (sym (length-append xs (x ∷ [])))
@@ -82,9 +81,8 @@ module _ {S A V : Type 0} (shows : A → V) (left : S → List V) (bytes : S →
         → bytes s ≡ rest u k (length ys) → next_back s item t
         → bytes t ≡ rest u k (length (ys ++ option_to_list item))
     after_last u k ys s t None so_far call =
-        let nothing = none s (last s t None call).0 in
-        last_rest s t None call ∙ ap (λ b. rest b 0 1) nothing ∙ rest-nil 0 1 ∙ sym nothing ∙ so_far
-        ∙ ap (λ l. rest u k (length l)) (sym (append-nil ys))
+        let nothing = last s t None call in
+        rw (append-nil ys) (none t nothing.1 ∙ sym (none s nothing.0) ∙ so_far)
     after_last u k ys s t (Some x) so_far call =
         last_rest s t (Some x) call ∙ ap (λ b. rest b 0 1) so_far ∙ rest-rest u k (length ys) 0 1
         ∙ ap₂ (rest u) (let zero : k + 0 ≡ k = omega arith in zero)
