@@ -4,7 +4,9 @@ ghost use Rattle.std.specs.Prelude.{IfOk, OnOk, IsOk, IsTrue};
 ghost use Rattle.unix_bytes.specs.Owned.{owned_bytes};
 ghost use Rattle.unix_path.specs.Buffers.{path_bytes};
 ghost use Rattle.unix_path.specs.Cursor.{cursor_values};
-ghost use Rattle.unix_path.specs.Parts.{values};
+ghost use Rattle.unix_path.specs.Parts.{values, SameValues};
+ghost use Rattle.unix_path.specs.Rest.{rest};
+ghost use Rattle.unix_path.specs.Scan.{EndsInPart};
 ghost use Rattle.path_runs.specs.Gaps.{is_gap, slashed_parts};
 ghost use Rattle.path_runs.specs.Spelling.{spelling_of};
 
@@ -16,6 +18,17 @@ use unix_bytes::bytes::{UnixStr, UnixString};
 use unix_path::{Components, Path, PathBuf};
 use written::stretch_at;
 pub use written::write_canonical;
+
+// The bytes of the path without the filler behind its last part.
+#[inline]
+fn trimmed(path: Path<'_>) -> &[u8]
+    ensures rest { result.now ≡ rest path.entry.bytes.now 0 0 }
+    ensures same { SameValues result.now path.entry.bytes.now }
+    ensures ends { EndsInPart result.now }
+    ensures empty { path.entry.bytes.now ≡ [] → result.now ≡ [] }
+{
+    path.components().as_path().as_unix_str().as_bytes()
+}
 
 // Appends the parts behind the gap at `gap`, each with a slash before it. Parts with no gap between
 // them already stand in the path like that, and are copied together.
@@ -47,12 +60,11 @@ pub fn canonical(alloc: Global, path: Path<'_>) -> Result<PathBuf, AllocError>
     ensures bytes { IfOk result (λ p. path_bytes p ≡ spelling_of (values path.entry.bytes.now)) }
     ensures succeeds { path.entry.bytes.now ≡ [] → IsOk result }
 {
-    let whole = path.components().as_path();
-    let bytes = whole.as_unix_str().as_bytes();
+    let bytes = trimmed(path);
     let gap = first_gap(bytes);
     // Bytes without a gap are their own spelling, and so is a single byte such as the root.
     if bytes.len() < 2 || gap == bytes.len() {
-        return whole.to_path_buf(alloc);
+        return Path::from_bytes(bytes).to_path_buf(alloc);
     }
     let mut spelling = UnixString::with_capacity(alloc, bytes.len())?;
     spelling.push(UnixStr::from_bytes(&bytes[..gap]))?;
@@ -85,9 +97,7 @@ pub fn is_canonical(path: Path<'_>) -> bool
     ensures { IsTrue result
         ↔ (path.entry.bytes.now ≡ spelling_of (values path.entry.bytes.now)) }
 {
-    let whole = path.components().as_path();
-    let bytes = whole.as_unix_str().as_bytes();
-    // The filler behind the last part is left out of `whole`.
+    let bytes = trimmed(path);
     if bytes.len() < path.as_unix_str().len() {
         return false;
     }

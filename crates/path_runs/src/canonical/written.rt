@@ -7,6 +7,7 @@ ghost use Rattle.path_runs.specs.Gaps.{is_gap, slashed_parts, IsCopied, IsPart};
 ghost use Rattle.path_runs.specs.Overlay.{overlay};
 ghost use Rattle.path_runs.specs.Spelling.{spelling_of};
 
+use crate::canonical::trimmed;
 use crate::gaps::{first_gap, past_gap};
 use unix_bytes::buffers::write_at;
 use unix_path::Path;
@@ -92,8 +93,7 @@ pub fn write_canonical(path: Path<'_>, out: &mut [u8]) -> usize
     ensures out { out.new ≡ buffer_after (spelling_of (values path.entry.bytes.now)) out.old }
     ensures length { result ≡ length (spelling_of (values path.entry.bytes.now)) }
 {
-    let whole = path.components().as_path();
-    let bytes = whole.as_unix_str().as_bytes();
+    let bytes = trimmed(path);
     let gap = kept_len(bytes);
     // The spelling is never longer than these bytes: if they would fit, it needn't be counted
     // first.

@@ -44,16 +44,15 @@ inner_values-inner s = inner_pieces 0 (slice_split is_slash s)
 -- neither the root nor a dot stands first
 pub record HasNoLead (vs : List Value) : Type 0 where
   pub no_lead : drop_lead vs ≡ vs
-  pub no_dot : drop_dot vs ≡ vs
   pub no_root : root_first vs ≡ false
 
 -- of inner values neither the root nor a dot stands first
 pub inner-no_lead : (vs : List Value) → AllByRecursion IsInner vs → HasNoLead vs
-inner-no_lead [] h = record { no_lead = refl; no_dot = refl; no_root = refl }
+inner-no_lead [] h = record { no_lead = refl; no_root = refl }
 inner-no_lead (RootDir ∷ vs) h = absurd h.0
 inner-no_lead (CurDir ∷ vs) h = absurd h.0
-inner-no_lead (ParentDir ∷ vs) h = record { no_lead = refl; no_dot = refl; no_root = refl }
-inner-no_lead (Normal name ∷ vs) h = record { no_lead = refl; no_dot = refl; no_root = refl }
+inner-no_lead (ParentDir ∷ vs) h = record { no_lead = refl; no_root = refl }
+inner-no_lead (Normal name ∷ vs) h = record { no_lead = refl; no_root = refl }
 
 inner_values-no_lead : (s : List ℕ) → HasNoLead (inner_values s)
 inner_values-no_lead s = inner-no_lead (inner_values s) (inner_values-inner s)

@@ -1,29 +1,22 @@
-use Rattle.std.proofs.Common.{take, drop, ◌∙◌, arith, length-append, length-take-le}
+use Rattle.std.proofs.Common.{take, drop, arith, length-append, length-take-le}
 use Rattle.path_runs.specs.Gaps.{slashed_parts}
 use Rattle.path_runs.proofs.lemmas.gaps.GaplessLemmas.{kept-length}
-use Rattle.path_runs.proofs.lemmas.gaps.StretchLemmas.{rest-ends}
 use Rattle.path_runs.proofs.canonical.written.write_canonical.Goals as goal
 use Rattle.path_runs.proofs.canonical.written.write_canonical.Goals.{else-bytes-out}
 use Rattle.path_runs.proofs.canonical.written.write_canonical.Goals.{then-bytes-out+else-len-out}
-
-pub kept_len-gap-requires : goal.kept_len-gap-requires
-kept_len-gap-requires c =
-    rest-ends c.args.path.bytes.now c.as_bytes-bytes.result.now
-    (c.as_bytes-bytes.ensures.bytes ∙ c.as_unix_str.ensures.bytes ∙ c.as_path-whole.ensures.bytes
-    ∙ c.components.ensures.rest)
 
 pub overflow_add-len : goal.overflow_add-len
 overflow_add-len c =
     omega (
       arith,
-      kept-length c.as_bytes-bytes.result.now c.kept_len-gap.result c.kept_len-gap.ensures.in_range
+      kept-length c.trimmed-bytes.result.now c.kept_len-gap.result c.kept_len-gap.ensures.in_range
           c.kept_len-gap.ensures.gap,
       c.parts_len.ensures,
     )
 
 pub write_stretches-requires-clause-room : goal.write_stretches-requires-clause-room
 write_stretches-requires-clause-room c =
-    let bytes = c.as_bytes-bytes.result.now in
+    let bytes = c.trimmed-bytes.result.now in
     let gap = c.kept_len-gap.result in
     let kept = c.kept_len-gap.ensures in
     let both = length-append (take gap bytes) (slashed_parts (drop gap bytes)) in
