@@ -4,7 +4,6 @@ use Rattle.std.proofs.Common.{◌++◌, ◌<◌, length, get_or, take, map, Some
 use Rattle.std.proofs.Common.{ap, ◌∙◌, arith, length-append, length-take-le, append-nil}
 use Rattle.std.proofs.Math.Seq.{take-length}
 use Rattle.std.proofs.lemmas.List.{take-append-le, take-take, nil_from_length, append_assoc}
-use Rattle.std.specs.Prelude.{Result, Ok, Err, OnOk, OnErr}
 use Rattle.unix_path.specs.Parts.{Part, RootDir, is_rooted, parts, values}
 use Rattle.unix_path.specs.Rest.{rest}
 use Rattle.unix_path.specs.Parents.{depth_of, parent_of}
@@ -59,18 +58,6 @@ IsKnown-keeps s t k h keeps = record {
       (h.stems i l).in_range;
 }
 
--- what a cut to n bytes leaves of what is known is known of a string that keeps these
-pub IsKnown-cut : (s t : List ℕ) (n : ℕ) (k l : Known)
-    → ((s t : List ℕ) → IsKnown s k → n ≤ length t → take n s ≡ take n t → IsKnown t l)
-    → IsKnown s k → Keeps s t n → IsKnown t l
-IsKnown-cut s t n k l cuts h keeps = cuts s t h keeps.in_range keeps.same
-
--- what holds whether a call answered `Ok` or `Err`
-pub either_way : {T E P Q G : Type 0} (r : Result T E) → (P → G) → (Q → G) → OnOk r P → OnErr r Q
-    → G
-either_way (Ok x) f g p q = f p
-either_way (Err e) f g p q = g q
-
 -- a join with a path that has no root keeps all bytes
 keeps-join : (s b : List ℕ) → is_rooted b ≡ false → Keeps s (join_of s b) (length s)
 keeps-join s b r = by_test (is_open s)
@@ -85,14 +72,12 @@ pub IsKnown_join : (s b : List ℕ) (k : Known) → IsKnown s k → is_rooted b 
     → IsKnown (join_of s b) k
 IsKnown_join s b k h r = IsKnown-keeps s (join_of s b) k h (keeps-join s b r)
 
--- if t has a dot and x behind the first n bytes of s, what is left of what is known is known of t
-pub IsKnown-replaced : (s t u v x : List ℕ) (n : ℕ) (k l : Known)
-    → ((s t : List ℕ) → IsKnown s k → n ≤ length t → take n s ≡ take n t → IsKnown t l)
-    → IsKnown v k → v ≡ s → n ≤ length v → u ≡ s → t ≡ (take n u ++ 46 ∷ []) ++ x → IsKnown t l
-IsKnown-replaced s t u v x n k l cuts h view few room made =
-    IsKnown-cut v t n k l cuts h (keeps-front v (46 ∷ x) t n few
+-- a path in which a dot and x stand behind the first n bytes keeps these, if it has as many
+pub keeps-replaced : (s t u v x : List ℕ) (n : ℕ) → v ≡ s → n ≤ length v → u ≡ s
+    → t ≡ (take n u ++ 46 ∷ []) ++ x → Keeps v t n
+keeps-replaced s t u v x n view few room made = keeps-front v (46 ∷ x) t n few
     (made ∙ ap (λ s. (take n s ++ 46 ∷ []) ++ x) (room ∙ sym view)
-    ∙ append_assoc (take n v) (46 ∷ []) x))
+    ∙ append_assoc (take n v) (46 ∷ []) x)
 
 -- a path keeps all its bytes
 keeps-self : (s : List ℕ) → Keeps s s (length s)

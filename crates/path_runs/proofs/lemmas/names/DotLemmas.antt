@@ -1,14 +1,16 @@
 -- A name cut at its last dot.
-use Rattle.std.proofs.Common.{◌≡◌, ◌≢◌, ℕ, suc, ◌+◌, ◌-◌, ◌≤◌, ◌<◌, true, false, not, eqb, List, []}
-use Rattle.std.proofs.Common.{◌∷◌, ◌++◌, length, get_or, drop, Some, None, refl, sym, ap, ap₂, ◌∙◌}
-use Rattle.std.proofs.Common.{arith, eqb-true, eq-eqb, length-append, append_assoc}
+use Rattle.std.proofs.Common.{◌≡◌, ◌≢◌, ℕ, ◌+◌, ◌-◌, ◌<◌, false, eqb, List, [], ◌∷◌, ◌++◌, length}
+use Rattle.std.proofs.Common.{get_or, drop, Some, None, sym, ap, ap₂, ◌∙◌, arith, eqb-true, eq-eqb}
+use Rattle.std.proofs.Common.{length-append, append_assoc}
 use Rattle.std.proofs.Math.Seq.{get_or-append_seam}
 use Rattle.std.proofs.lemmas.Bool.{both_ways}
-use Rattle.std.proofs.lemmas.List.{get_or-append_right, take_at, drop_at, take-append-drop}
+use Rattle.std.proofs.lemmas.List.{take_at, drop_at, take-append-drop}
 use Rattle.std.proofs.lemmas.List.Elements.{All-nil, All-cons}
+use Rattle.std.specs.List.{position_or_len}
+use Rattle.std.proofs.lemmas.List.Sums.{position_or_len_is}
 use Rattle.unix_path.specs.Names.{past_last, split_name}
 use Rattle.unix_bytes.proofs.lemmas.lists.ListLemmas.{by_test}
-use Rattle.unix_path.proofs.lemmas.names.NameLemmas.{is_dot, past_last-is, split_name-whole}
+use Rattle.unix_path.proofs.lemmas.names.NameLemmas.{is_dot, past_last-byte, split_name-whole}
 use Rattle.unix_path.proofs.lemmas.names.NameLemmas.{split_name-cut, split_name-stem}
 use Rattle.path_runs.specs.EditLaws.{HasNone}
 
@@ -17,27 +19,27 @@ none_at : (s : List ℕ) (b k : ℕ) → HasNone b s → k < length s → eqb (g
 none_at s b k h l =
     by_test (eqb (get_or s k 0) b) (λ e. absurd (h k 0 l (eqb-true _ _ e))) (λ e. e)
 
+-- bytes of which none is b have no first place of b
+pub none_found : (s : List ℕ) (b : ℕ) → HasNone b s → position_or_len (λ c. eqb c b) s ≡ length s
+none_found s b h = position_or_len_is (λ c. eqb c b) s (length s) 0 (omega arith)
+    (λ k l. none_at s b k h l) (λ l. absurd (omega arith))
+
 past_last-none : (s : List ℕ) → HasNone 46 s → 0 ≡ past_last is_dot s
-past_last-none s h = past_last-is is_dot s 0 (omega arith)
-    (λ k a b. ap not (none_at s 46 k h b)) (λ l. absurd (omega arith))
+past_last-none s h =
+    past_last-byte 46 s 0 (omega arith) (λ l. absurd (omega arith)) (none_found s 46 h)
+
+drop-past_dot : (f x : List ℕ) → drop (length f + 1) (f ++ 46 ∷ x) ≡ x
+drop-past_dot f x = ap (drop (length f + 1)) (sym (append_assoc f (46 ∷ []) x))
+    ∙ drop_at (f ++ 46 ∷ []) x (length f + 1) (length-append f (46 ∷ []))
 
 -- the last dot is the one behind which no dot stands
 past_last-dot : (f x : List ℕ) → HasNone 46 x → length f + 1 ≡ past_last is_dot (f ++ 46 ∷ x)
 past_last-dot f x h =
     let s = f ++ 46 ∷ x in
-    let n = length-append f (46 ∷ x) in
-    past_last-is is_dot s (length f + 1) (omega arith) (λ k a b. after k a (omega arith))
-    (λ l. ap (λ i. not (is_dot (get_or s i 0))) {x = length f + 1 - 1} {y = length f} (omega arith)
-    ∙ ap (λ c. not (is_dot c)) (get_or-append_seam f 46 x 0))
-  where
-    after : (k : ℕ) → length f + 1 ≤ k → k < length f + suc (length x)
-        → not (is_dot (get_or (f ++ 46 ∷ x) k 0)) ≡ true
-    after k a b =
-        ap (λ c. not (is_dot c))
-        (get_or-append_right f (46 ∷ x) (length f) k 0 refl (omega arith)
-        ∙ ap (λ i. get_or (46 ∷ x) i 0) {x = k - length f} {y = suc (k - (length f + 1))}
-        (omega arith))
-        ∙ ap not (none_at x 46 (k - (length f + 1)) h (omega arith))
+    past_last-byte 46 s (length f + 1) (omega (arith, length-append f (46 ∷ x)))
+    (λ l. ap (λ i. get_or s i 0) {x = length f + 1 - 1} {y = length f} (omega arith)
+    ∙ get_or-append_seam f 46 x 0)
+    (rw (drop-past_dot f x) (none_found x 46 h))
 
 -- a string has no dot, or is cut at its last dot into f and x
 data LastDot (s : List ℕ) : Type 0 where
@@ -60,11 +62,7 @@ pub split_name-dot : (f x : List ℕ) → 0 < length f → HasNone 46 x
 split_name-dot f x l h =
     let n = length f + 1 in
     split_name-cut (f ++ 46 ∷ x) n (past_last-dot f x h) (omega arith)
-    ∙ ap₂ (λ a b. (a, Some b)) (take_at f (46 ∷ x) (n - 1) (omega arith)) after
-  where
-    after : drop (length f + 1) (f ++ 46 ∷ x) ≡ x
-    after = ap (drop (length f + 1)) (sym (append_assoc f (46 ∷ []) x))
-        ∙ drop_at (f ++ 46 ∷ []) x (length f + 1) (length-append f (46 ∷ []))
+    ∙ ap₂ (λ a b. (a, Some b)) (take_at f (46 ∷ x) (n - 1) (omega arith)) (drop-past_dot f x)
 
 -- a name is its stem, or its stem with a dot and its extension behind
 pub data SplitCase (name : List ℕ) : Type 0 where

@@ -1,6 +1,7 @@
 -- The bytes and the values of a path with an extension set or added.
 use Rattle.std.proofs.Common.{◌≡◌, ℕ, ◌+◌, false, eqb, List, [], ◌∷◌, ◌++◌, length, take, Option}
-use Rattle.std.proofs.Common.{Some, None, refl, sym, ap, ◌∙◌, append_assoc, length-append}
+use Rattle.std.proofs.Common.{Some, None, refl, sym, ap, ◌∙◌, append_assoc, append-nil}
+use Rattle.std.proofs.Common.{length-append}
 use Rattle.std.specs.Option.{option_map_or}
 use Rattle.std.proofs.lemmas.Bool.{cond-false}
 use Rattle.std.proofs.lemmas.List.{take_at}
@@ -17,22 +18,20 @@ use Rattle.path_runs.proofs.lemmas.names.DotLemmas.{stem_prefix}
 use Rattle.unix_path.proofs.lemmas.names.NameCutLemmas.{NameCut, name_cut}
 use Rattle.path_runs.proofs.lemmas.joins.LeadLemmas.{append_values, values-append_open}
 
--- what stands up to the stem's end is the prefix and the stem
-take-stem_end : (s name : List ℕ) (c : NameCut s name)
-    → take (last_start_of (parts s) + length (split_name name).0) s
-    ≡ c.prefix ++ (split_name name).0
-take-stem_end s name c =
-    let stem = (split_name name).0 in
-    let k = stem_prefix name in
-    let n = last_start_of (parts s) + length stem in
-    let size : length (c.prefix ++ stem) ≡ n =
-    length-append c.prefix stem ∙ ap (λ z. z + length stem) (sym c.start) in
-    ap (take n) (c.whole ∙ ap (λ z. (c.prefix ++ z) ++ c.back) k.1
-    ∙ regroup c.prefix stem k.0 c.back)
-    ∙ take_at (c.prefix ++ stem) (k.0 ++ c.back) n size
-  where
-    regroup : (f a b c : List ℕ) → (f ++ (a ++ b)) ++ c ≡ (f ++ a) ++ (b ++ c)
-    regroup f a b c = simp append_assoc
+regroup : (f a b c : List ℕ) → ((f ++ a) ++ b) ++ c ≡ f ++ (a ++ (b ++ c))
+regroup f a b c = simp append_assoc
+
+-- what stands up to the end of a beginning of the file name is the prefix and that beginning
+take-name : (s name a r : List ℕ) (c : NameCut s name) → name ≡ a ++ r
+    → take (last_start_of (parts s) + length a) s ≡ c.prefix ++ a
+take-name s name a r c e =
+    let n = last_start_of (parts s) + length a in
+    let size : length (c.prefix ++ a) ≡ n =
+    length-append c.prefix a ∙ ap (λ z. z + length a) (sym c.start) in
+    ap (take n) (c.whole ∙ ap (λ z. (c.prefix ++ z) ++ c.back) e
+    ∙ ap (λ z. z ++ c.back) (sym (append_assoc c.prefix a r))
+    ∙ append_assoc (c.prefix ++ a) r c.back)
+    ∙ take_at (c.prefix ++ a) (r ++ c.back) n size
 
 -- with an extension set a path is the prefix, the stem, the dot if there is one, and the extension
 pub with_extension_of-cut : (s name x : List ℕ) → file_name_of (values s) ≡ Some name
@@ -40,27 +39,16 @@ pub with_extension_of-cut : (s name x : List ℕ) → file_name_of (values s) �
     → with_extension_of s x ≡ c.prefix ++ ((split_name name).0 ++ (dot_before x ++ x))
 unfolding with_extension_of stem_end_of
 with_extension_of-cut s name x e c =
+    let stem = stem_prefix name in
     ap (λ o. with_extension_at s x (stem_end_by s o)) e
-    ∙ ap (λ z. (z ++ dot_before x) ++ x) (take-stem_end s name c)
+    ∙ ap (λ z. (z ++ dot_before x) ++ x) (take-name s name (split_name name).0 stem.0 c stem.1)
     ∙ regroup c.prefix (split_name name).0 (dot_before x) x
-  where
-    regroup : (f a b c : List ℕ) → ((f ++ a) ++ b) ++ c ≡ f ++ (a ++ (b ++ c))
-    regroup f a b c = simp append_assoc
 
 -- setting an extension leaves a path without a file name as it is
 with_extension_of-none : (s x : List ℕ) → file_name_of (values s) ≡ None
     → with_extension_of s x ≡ s
 unfolding with_extension_of stem_end_of
 with_extension_of-none s x e = ap (λ o. with_extension_at s x (stem_end_by s o)) e
-
--- what stands up to the file name's end is the prefix and the name
-take-name_end : (s name : List ℕ) (c : NameCut s name)
-    → take (last_start_of (parts s) + length name) s ≡ c.prefix ++ name
-take-name_end s name c =
-    let n = last_start_of (parts s) + length name in
-    let size : length (c.prefix ++ name) ≡ n =
-    length-append c.prefix name ∙ ap (λ z. z + length name) (sym c.start) in
-    ap (take n) c.whole ∙ take_at (c.prefix ++ name) c.back n size
 
 -- with an extension added a path is the prefix, the name, a dot and the extension
 added_extension_of-cut : (s name x : List ℕ) → eqb (length x) 0 ≡ false
@@ -70,11 +58,8 @@ unfolding added_extension_of name_end_of
 added_extension_of-cut s name x some e c =
     ap (λ o. added_extension_at s x (name_end_by s o)) e
     ∙ cond-false _ _ _ some
-    ∙ ap (λ z. (z ++ 46 ∷ []) ++ x) (take-name_end s name c)
-    ∙ regroup c.prefix name x
-  where
-    regroup : (f a b : List ℕ) → ((f ++ a) ++ 46 ∷ []) ++ b ≡ f ++ (a ++ 46 ∷ b)
-    regroup f a b = append_assoc (f ++ a) (46 ∷ []) b ∙ append_assoc f a (46 ∷ b)
+    ∙ ap (λ z. (z ++ 46 ∷ []) ++ x) (take-name s name name [] c (sym (append-nil name)))
+    ∙ regroup c.prefix name (46 ∷ []) x
 
 -- the values, and in place of a file name what n of it adds
 abbrev pub renamed : (List ℕ → List ℕ) → List Value → List Value

@@ -1,6 +1,5 @@
 -- A string without a slash that is the name of its one part.
-use Rattle.std.proofs.Common.{◌≡◌, ℕ, suc, ◌<◌, false, eqb, List, [], ◌∷◌, ◌++◌, length, refl, ap}
-use Rattle.std.proofs.Common.{arith, eqb-true}
+use Rattle.std.proofs.Common.{◌≡◌, ℕ, ◌<◌, false, eqb, List, [], ◌∷◌, ◌++◌, length, refl, ap, arith}
 use Rattle.std.specs.List.{position_or_len}
 use Rattle.std.specs.Str.{bytes_eq}
 use Rattle.std.proofs.lemmas.Slice.Eq.{bytes_eq-Decides}
@@ -8,6 +7,7 @@ use Rattle.unix_path.specs.Parts.{is_slash, cur_dir, parent_dir}
 use Rattle.unix_bytes.proofs.lemmas.lists.ListLemmas.{by_test}
 use Rattle.unix_path.proofs.lemmas.parts.PieceLemmas.{position_or_len-other, position_or_len-slash}
 use Rattle.path_runs.specs.EditLaws.{HasNone}
+use Rattle.path_runs.proofs.lemmas.names.DotLemmas.{none_found}
 use Rattle.unix_path.proofs.lemmas.names.NameCutLemmas.{IsName}
 
 -- no byte is a slash
@@ -38,11 +38,7 @@ piece-append (x ∷ a) b h k = piece_cons x (a ++ b) (piece_head x a h)
 
 -- bytes of which none is a slash are a piece
 pub piece-none : (s : List ℕ) → HasNone 47 s → IsPiece s
-piece-none [] h = refl
-piece-none (x ∷ s) h = piece_cons x s other (piece-none s (λ k d l. h (suc k) d (omega arith)))
-  where
-    other : eqb x 47 ≡ false
-    other = by_test (eqb x 47) (λ e. absurd (h 0 0 (omega arith) (eqb-true x 47 e))) (λ e. e)
+piece-none s h = none_found s 47 h
 
 -- a piece longer than `..` is a name
 pub long-name : (s : List ℕ) → 2 < length s → IsPiece s → IsName s

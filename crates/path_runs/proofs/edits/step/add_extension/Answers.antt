@@ -2,14 +2,15 @@ use Rattle.std.proofs.Common.{◌∷◌, ◌++◌, [], length, take, eqb, sym, a
 use Rattle.unix_path.specs.Buffers.{path_bytes}
 use Rattle.unix_path.specs.Extensions.{name_end_of}
 use Rattle.unix_path.proofs.lemmas.names.NameEndLemmas.{added_extension_of-some}
-use Rattle.path_runs.proofs.lemmas.edits.EditStepLemmas.{IsKnown-replaced, named}
+use Rattle.path_runs.proofs.lemmas.edits.EditStepLemmas.{keeps-replaced, named}
 use Rattle.path_runs.proofs.edits.step.add_extension.Goals as goal
 
 pub returns-clause-known : goal.returns-clause-known
 returns-clause-known c =
-    IsKnown-replaced _ _ _ _ c.args.extension.bytes.now c.in-Some.end _ _ c.cut.ensures
-    c.in-Some.ensures.known c.bytes_of-bytes.ensures c.in-Some.ensures.in_range
-    c.in_ok-make_room.ensures.bytes c.replace_end.ensures
+    let kept = keeps-replaced _ _ _ _ c.args.extension.bytes.now c.in-Some.end
+    c.bytes_of-bytes.ensures c.in-Some.ensures.in_range c.in_ok-make_room.ensures.bytes
+    c.replace_end.ensures in
+    c.cut.ensures _ _ c.in-Some.ensures.known kept.in_range kept.same
 
 pub returns-clause-ok : goal.returns-clause-ok
 returns-clause-ok c =

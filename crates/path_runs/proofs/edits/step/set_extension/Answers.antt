@@ -5,7 +5,7 @@ use Rattle.unix_path.specs.Edits.{stem_end_of}
 use Rattle.unix_path.specs.Extensions.{name_end_of}
 use Rattle.unix_path.proofs.lemmas.edits.EditLemmas.{with_extension_of-none}
 use Rattle.unix_path.proofs.lemmas.callers.CallerLemmas.{stem_end_of-nameless}
-use Rattle.path_runs.proofs.lemmas.edits.EditStepLemmas.{IsKnown-cut, IsKnown-replaced, keeps-front}
+use Rattle.path_runs.proofs.lemmas.edits.EditStepLemmas.{keeps-front, keeps-replaced}
 use Rattle.path_runs.proofs.lemmas.edits.EditStepLemmas.{with_extension_of-nil}
 use Rattle.path_runs.proofs.lemmas.edits.EditStepLemmas.{with_extension_of-dotted, named}
 use Rattle.path_runs.proofs.edits.step.set_extension.Goals as goal
@@ -20,13 +20,12 @@ returns-in_default-clause-ok c =
 pub returns-then-is_empty-clause-known : goal.returns-then-is_empty-clause-known
 returns-then-is_empty-clause-known c =
     let v = c.bytes_of-bytes.result.now in
-    let is = c.bytes_of-bytes.ensures in
     let stem = c.stem_end-stem in
-    let t = path_bytes c.truncate.new.path in
-    IsKnown-cut v t stem.result _ _ c.cut.ensures stem.ensures.known
-    (keeps-front v [] t stem.result
+    let kept = keeps-front v [] (path_bytes c.truncate.new.path) stem.result
     (omega (arith, stem.ensures.in_range, c.in-Some.ensures.in_range))
-    (c.truncate.ensures ∙ ap (take stem.result) (sym is) ∙ sym (append-nil (take stem.result v))))
+    (c.truncate.ensures ∙ ap (take stem.result) (sym c.bytes_of-bytes.ensures)
+    ∙ sym (append-nil (take stem.result v))) in
+    c.cut.ensures _ _ stem.ensures.known kept.in_range kept.same
 
 pub returns-then-is_empty-clause-ok : goal.returns-then-is_empty-clause-ok
 returns-then-is_empty-clause-ok c =
@@ -40,10 +39,10 @@ returns-then-is_empty-clause-ok c =
 pub returns-clause-known : goal.returns-clause-known
 returns-clause-known c =
     let stem = c.stem_end-stem in
-    IsKnown-replaced _ _ _ _ c.args.extension.bytes.now stem.result _ _ c.cut.ensures
-    stem.ensures.known c.bytes_of-bytes.ensures
-    (omega (arith, stem.ensures.in_range, c.in-Some.ensures.in_range))
-    c.in_ok-make_room.ensures.bytes c.replace_end.ensures
+    let kept = keeps-replaced _ _ _ _ c.args.extension.bytes.now stem.result
+    c.bytes_of-bytes.ensures (omega (arith, stem.ensures.in_range, c.in-Some.ensures.in_range))
+    c.in_ok-make_room.ensures.bytes c.replace_end.ensures in
+    c.cut.ensures _ _ stem.ensures.known kept.in_range kept.same
 
 pub returns-clause-ok : goal.returns-clause-ok
 returns-clause-ok c =

@@ -1,7 +1,7 @@
 use Rattle.std.proofs.Common.{◌≡◌, length, sym, ap, ◌∙◌, arith}
 use Rattle.unix_path.specs.Buffers.{path_bytes}
 use Rattle.unix_path.specs.Edits.{with_name_of}
-use Rattle.path_runs.proofs.lemmas.edits.EditStepLemmas.{IsKnown-cut, keeps-name}
+use Rattle.path_runs.proofs.lemmas.edits.EditStepLemmas.{keeps-name}
 use Rattle.path_runs.proofs.edits.step.set_file_name.Goals as goal
 
 pub returns-clause-known : goal.returns-clause-known
@@ -12,6 +12,6 @@ returns-clause-known c =
     let n = c.saturating_sub.result in
     let made : t ≡ with_name_of v name = c.in_ok-set_file_name.ensures.ok
     ∙ ap (λ s. with_name_of s name) (sym c.bytes_of.ensures) in
-    IsKnown-cut v t n _ _ c.cut.ensures c.is_nameless.ensures.known
-    (keeps-name v t name n made
-    (omega (arith, c.saturating_sub.ensures, ap length c.bytes_of-len.ensures, c.len.ensures)))
+    let kept = keeps-name v t name n made
+    (omega (arith, c.saturating_sub.ensures, ap length c.bytes_of-len.ensures, c.len.ensures)) in
+    c.cut.ensures v t c.is_nameless.ensures.known kept.in_range kept.same
