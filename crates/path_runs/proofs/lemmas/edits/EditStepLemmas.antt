@@ -147,23 +147,26 @@ pub named : (s v : List ℕ) (end : ℕ) → v ≡ s → Some end ≡ name_end_o
 named s v end e some = sym (file_name_of-name_end s end (some ∙ ap name_end_of e))
 
 -- without an extension the path ends where its stem does
-pub with_extension_of-nil : (s x : List ℕ) (end : ℕ) → stem_end_of s ≡ Some end → length x ≡ 0
-    → with_extension_of s x ≡ take end s
-with_extension_of-nil s x end e none =
+pub with_extension_of-nil : (s t v x : List ℕ) (end : ℕ) → v ≡ s → stem_end_of v ≡ Some end
+    → length x ≡ 0 → t ≡ take end s → t ≡ with_extension_of s x
+with_extension_of-nil s t v x end view stem none made =
     let nil = nil_from_length x none in
-    ap (with_extension_of s) nil ∙ with_extension_of-some s [] [] end (sym e) refl
-    ∙ append-nil (take end s ++ []) ∙ append-nil (take end s)
+    made ∙ sym (ap (with_extension_of s) nil
+    ∙ with_extension_of-some s [] [] end (sym stem ∙ ap stem_end_of view) refl
+    ∙ append-nil (take end s ++ []) ∙ append-nil (take end s))
 
 -- an extension that has a byte is put behind the stem with a dot
-pub with_extension_of-dotted : (s x : List ℕ) (end : ℕ) → stem_end_of s ≡ Some end
-    → eqb (length x) 0 ≡ false → with_extension_of s x ≡ (take end s ++ 46 ∷ []) ++ x
-with_extension_of-dotted s x end stem some =
-    with_extension_of-some s x (46 ∷ []) end (sym stem) (rw some refl)
+pub with_extension_of-dotted : (s t u v x : List ℕ) (end : ℕ) → v ≡ s
+    → stem_end_of v ≡ Some end → eqb (length x) 0 ≡ false → u ≡ s
+    → t ≡ (take end u ++ 46 ∷ []) ++ x → t ≡ with_extension_of s x
+with_extension_of-dotted s t u v x end view stem some room made =
+    made ∙ ap (λ s. (take end s ++ 46 ∷ []) ++ x) room
+    ∙ sym (with_extension_of-some s x (46 ∷ []) end (sym stem ∙ ap stem_end_of view) (rw some refl))
 
 pub ruleset name_cases = (with_name_of-nameless)
 
 pub ruleset extension_cases =
-    (with_extension_of-none, with_extension_of-nil, file_name_of-name_end, file_name_of-no_name_end)
+    (with_extension_of-none, file_name_of-name_end, file_name_of-no_name_end)
 
 pub ruleset added_cases = (
   added_extension_of-nil,

@@ -91,13 +91,9 @@ names_of-hold : (P : Value → Type 0) → HoldsOfPieces P → (ps : List (List 
     → AllByRecursion NoSlash ps → AllByRecursion P (names_of ps)
 names_of-hold P of_piece [] h = tt
 names_of-hold P of_piece (p ∷ ps) h =
-    by (bytes_eq p []) (bytes_eq p cur_dir) refl refl (names_of-hold P of_piece ps h.1)
-  where
-    by : (c d : Bool) → bytes_eq p [] ≡ c → bytes_eq p cur_dir ≡ d
-        → AllByRecursion P (names_of ps) → AllByRecursion P (names_of (p ∷ ps))
-    by true d e f more = rw e more
-    by false true e f more = rw (e, f) more
-    by false false e f more = rw (e, f) (of_piece p h.0 e f, more)
+    let more = names_of-hold P of_piece ps h.1 in
+    by_test (bytes_eq p []) (λ e. rw e more) (λ e. by_test (bytes_eq p cur_dir)
+    (λ f. rw (e, f) more) (λ f. rw (e, f) (of_piece p h.0 e f, more)))
 
 -- what holds of `.` and of some values holds of these behind a first `.`, if there is one
 lead-hold : (P : Value → Type 0) → P CurDir → (c : Bool) (vs : List Value)

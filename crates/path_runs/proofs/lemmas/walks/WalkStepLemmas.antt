@@ -1,5 +1,5 @@
 -- One more turn of a walk.
-use Rattle.std.proofs.Common.{◌≡◌, ℕ, ◌+◌, ◌≤◌, ◌<◌, length, List, [], ◌∷◌, ◌++◌, map, Bool}
+use Rattle.std.proofs.Common.{◌≡◌, ℕ, ◌+◌, ◌≤◌, ◌<◌, length, List, [], ◌∷◌, ◌++◌, map, Bool, cond}
 use Rattle.std.proofs.Common.{true, false, take, get_or, reverse, refl, sym, ap, ap₂, ◌∙◌, arith}
 use Rattle.std.proofs.Common.{length-append, append_assoc, take_all, add-zero, append-nil, Option}
 use Rattle.std.proofs.Common.{Some, None, MatchOption}
@@ -21,23 +21,19 @@ use Rattle.path_runs.proofs.lemmas.walks.WalkLemmas.{is_back, HasWalked, length-
 take-take_early : (n i : ℕ) (ts : List Turn) → i ≤ n → take n (take i ts) ≡ take i ts
 take-take_early n i ts l = take_all n (take i ts) (omega (arith, length-take i ts))
 
--- while fewer than n turns have been made, one more that passes the test adds one that passes
-count_by-more_yes : (test : Turn → Bool) (n i : ℕ) (ts : List Turn) → i < n → i < length ts
-    → test (get_or ts i Front) ≡ true
-    → count_by test (take n (take (i + 1) ts)) ≡ count_by test (take n (take i ts)) + 1
-count_by-more_yes test n i ts early l passes =
-    ap (count_by test) (take-take_early n (i + 1) ts (omega arith))
-    ∙ count_by_more_yes test ts i Front l passes
-    ∙ ap (λ us. count_by test us + 1) (sym (take-take_early n i ts (omega arith)))
-
--- while fewer than n turns have been made, one more that fails the test adds none that passes
-count_by-more_no : (test : Turn → Bool) (n i : ℕ) (ts : List Turn) → i < n → i < length ts
-    → test (get_or ts i Front) ≡ false
-    → count_by test (take n (take (i + 1) ts)) ≡ count_by test (take n (take i ts))
-count_by-more_no test n i ts early l fails =
-    ap (count_by test) (take-take_early n (i + 1) ts (omega arith))
-    ∙ count_by_more_no test ts i Front l fails
-    ∙ ap (count_by test) (sym (take-take_early n i ts (omega arith)))
+-- while fewer than n turns have been made, one more adds one that passes the test, or none
+count_by-more : (test : Turn → Bool) (n i : ℕ) (ts : List Turn) (passes : Bool) → i < n
+    → i < length ts → test (get_or ts i Front) ≡ passes
+    → count_by test (take n (take (i + 1) ts))
+    ≡ count_by test (take n (take i ts)) + cond passes 1 0
+count_by-more test n i ts passes early l e =
+    let next = take-take_early n (i + 1) ts (omega arith) in
+    rw (next, take-take_early n i ts (omega arith)) (by passes e)
+  where
+    by : (c : Bool) → test (get_or ts i Front) ≡ c
+        → count_by test (take (i + 1) ts) ≡ count_by test (take i ts) + cond c 1 0
+    by true e = count_by_more_yes test ts i Front l e
+    by false e = count_by_more_no test ts i Front l e ∙ sym (add-zero (count_by test (take i ts)))
 
 -- one more turn at either end takes nothing if no part is left
 HasWalked-none : {s : List ℕ} {ts : List Turn} {i : ℕ} {front behind : List Value} {left : List ℕ}
@@ -87,9 +83,9 @@ HasWalked-front shows s ts i front left behind (Some x) after h l turn gives lea
       left_is = leaves ∙ ap (λ t. rest t 1 0) h.left_is
           ∙ rest-rest s (length front) (length behind) 1 0
           ∙ ap₂ (rest s) (sym size) (add-zero (length behind));
-      fronts = size ∙ ap (λ k. k + 1) h.fronts
-          ∙ sym (count_by-more_yes is_front n i ts early l (ap is_front turn));
-      backs = h.backs ∙ sym (count_by-more_no is_back n i ts early l (ap is_back turn));
+      fronts = omega
+          (arith, size, h.fronts, count_by-more is_front n i ts true early l (ap is_front turn));
+      backs = omega (arith, h.backs, count_by-more is_back n i ts false early l (ap is_back turn));
     }
 
 -- one more turn behind takes the part that a call of `next_back` gave, if it gave one
@@ -116,9 +112,10 @@ HasWalked-back shows s ts i front left behind (Some x) after h l turn gives leav
       left_is = leaves ∙ ap (λ t. rest t 0 1) h.left_is
           ∙ rest-rest s (length front) (length behind) 0 1
           ∙ ap₂ (rest s) (add-zero (length front)) (sym size);
-      fronts = h.fronts ∙ sym (count_by-more_no is_front n i ts early l (ap is_front turn));
-      backs = size ∙ ap (λ k. k + 1) h.backs
-          ∙ sym (count_by-more_yes is_back n i ts early l (ap is_back turn));
+      fronts =
+          omega (arith, h.fronts, count_by-more is_front n i ts false early l (ap is_front turn));
+      backs = omega
+          (arith, size, h.backs, count_by-more is_back n i ts true early l (ap is_back turn));
     }
 
 -- if nothing is left, `next` gives nothing

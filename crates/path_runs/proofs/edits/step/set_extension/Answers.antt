@@ -1,7 +1,5 @@
-use Rattle.std.proofs.Common.{◌∷◌, ◌++◌, [], length, take, eqb, sym, ap, ◌∙◌, arith, append-nil}
-use Rattle.std.proofs.Common.{eqb-true}
+use Rattle.std.proofs.Common.{[], length, take, eqb, sym, ap, ◌∙◌, arith, append-nil, eqb-true}
 use Rattle.unix_path.specs.Buffers.{path_bytes}
-use Rattle.unix_path.specs.Edits.{stem_end_of}
 use Rattle.unix_path.specs.Extensions.{name_end_of}
 use Rattle.unix_path.proofs.lemmas.edits.EditLemmas.{with_extension_of-none}
 use Rattle.unix_path.proofs.lemmas.callers.CallerLemmas.{stem_end_of-nameless}
@@ -28,13 +26,11 @@ returns-then-is_empty-clause-known c =
     c.cut.ensures _ _ stem.ensures.known kept.in_range kept.same
 
 pub returns-then-is_empty-clause-ok : goal.returns-then-is_empty-clause-ok
-returns-then-is_empty-clause-ok c =
-    let is = c.bytes_of-bytes.ensures in
-    c.truncate.ensures
-    ∙ sym (with_extension_of-nil (path_bytes c.args.path.now) c.args.extension.bytes.now
-    c.stem_end-stem.result (ap stem_end_of (sym is) ∙ c.stem_end-stem.ensures.value)
+returns-then-is_empty-clause-ok c = with_extension_of-nil _ _ _ _ c.stem_end-stem.result
+    c.bytes_of-bytes.ensures c.stem_end-stem.ensures.value
     (sym (ap length c.as_bytes-new.ensures.bytes)
-    ∙ eqb-true _ 0 (sym c.is_empty.ensures ∙ c.if-is_empty.true)))
+    ∙ eqb-true _ 0 (sym c.is_empty.ensures ∙ c.if-is_empty.true))
+    c.truncate.ensures
 
 pub returns-clause-known : goal.returns-clause-known
 returns-clause-known c =
@@ -46,16 +42,11 @@ returns-clause-known c =
 
 pub returns-clause-ok : goal.returns-clause-ok
 returns-clause-ok c =
-    let s = path_bytes c.args.path.now in
-    let x = c.args.extension.bytes.now in
-    let stem = c.stem_end-stem in
-    let is = c.bytes_of-bytes.ensures in
-    c.replace_end.ensures
-    ∙ ap (λ s. (take stem.result s ++ 46 ∷ []) ++ x) c.in_ok-make_room.ensures.bytes
-    ∙ sym (with_extension_of-dotted s x stem.result
-    (ap stem_end_of (sym is) ∙ stem.ensures.value)
+    with_extension_of-dotted _ _ _ _ c.args.extension.bytes.now c.stem_end-stem.result
+    c.bytes_of-bytes.ensures c.stem_end-stem.ensures.value
     (ap (λ y. eqb (length y) 0) (sym c.as_bytes-new.ensures.bytes)
-    ∙ sym c.is_empty.ensures ∙ c.if-is_empty.false))
+    ∙ sym c.is_empty.ensures ∙ c.if-is_empty.false)
+    c.in_ok-make_room.ensures.bytes c.replace_end.ensures
 
 pub returns-then-is_empty-clause-value : goal.returns-then-is_empty-clause-value
 returns-then-is_empty-clause-value c =
