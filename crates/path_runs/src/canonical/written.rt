@@ -19,6 +19,7 @@ fn kept_len(bytes: &[u8]) -> usize
     requires { EndsInPart bytes.now }
     ensures in_range { result ≤ length bytes.now }
     ensures gap { result < length bytes.now → is_gap bytes.now result ≡ true }
+    ensures fits { result + length (slashed_parts (drop result bytes.now)) ≤ length bytes.now }
     ensures spelled { spelling_of (values bytes.now)
         ≡ take result bytes.now ++ slashed_parts (drop result bytes.now) }
 {
@@ -64,8 +65,7 @@ fn parts_len(bytes: &[u8], gap: usize) -> usize
 fn write_stretches(bytes: &[u8], gap: usize, out: &mut [u8]) -> usize
     requires in_range { gap ≤ length bytes.now }
     requires gap { gap < length bytes.now → is_gap bytes.now gap ≡ true }
-    requires room { length (take gap bytes.now ++ slashed_parts (drop gap bytes.now))
-        ≤ length out.old }
+    requires room { gap + length (slashed_parts (drop gap bytes.now)) ≤ length out.old }
     ensures out { let whole = take gap bytes.now ++ slashed_parts (drop gap bytes.now) in
         out.new ≡ buffer_after whole out.old }
     ensures len { result ≡ length (take gap bytes.now ++ slashed_parts (drop gap bytes.now)) }

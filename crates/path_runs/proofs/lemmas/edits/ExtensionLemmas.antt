@@ -1,7 +1,7 @@
 -- A path with a simple extension set.
-use Rattle.std.proofs.Common.{◌≡◌, ℕ, ◌<◌, true, List, [], ◌∷◌, ◌++◌, length, Option, Some, None}
-use Rattle.std.proofs.Common.{is_some, option_map, refl, sym, ap, subst, ◌∙◌, arith, append_assoc}
-use Rattle.std.proofs.Common.{length-append}
+use Rattle.std.proofs.Common.{◌≡◌, ◌≢◌, ℕ, ◌<◌, true, List, [], ◌∷◌, ◌++◌, length, Option, Some}
+use Rattle.std.proofs.Common.{None, is_some, option_map, refl, sym, ap, subst, ◌∙◌, arith}
+use Rattle.std.proofs.Common.{append_assoc, length-append}
 use Rattle.std.specs.Option.{option_and_then}
 use Rattle.unix_path.specs.Parts.{Normal, values}
 use Rattle.unix_path.specs.Rest.{rest}
@@ -12,18 +12,18 @@ use Rattle.unix_path.specs.Extensions.{has_slash}
 use Rattle.unix_path.specs.Joins.{is_open}
 use Rattle.unix_path.proofs.lemmas.edits.EditLemmas.{dot_before-some}
 use Rattle.path_runs.specs.declared.edits.Answer.TheVariants.{Flag, Separator}
-use Rattle.path_runs.specs.EditLists.{SetExtension, edit_of}
 use Rattle.path_runs.specs.EditLaws.{HasNone, IsSimpleExtension, TakesExtension}
 use Rattle.unix_bytes.proofs.lemmas.lists.ListLemmas.{by_test}
 use Rattle.path_runs.proofs.lemmas.joins.BehindLemmas.{rest-behind}
 use Rattle.path_runs.proofs.lemmas.names.ExtensionCutLemmas.{with_extension_of-cut}
 use Rattle.path_runs.proofs.lemmas.names.DotLemmas.{SplitCase, Whole, Cut, split_case}
-use Rattle.path_runs.proofs.lemmas.names.DotLemmas.{split_name-dot, stem_prefix}
+use Rattle.path_runs.proofs.lemmas.names.DotLemmas.{split_name-dot}
 use Rattle.path_runs.proofs.lemmas.joins.LeadLemmas.{append_values, append_values-inner}
 use Rattle.path_runs.proofs.lemmas.joins.LeadLemmas.{values-append_open}
 use Rattle.unix_path.proofs.lemmas.names.NameCutLemmas.{IsName, NameCut, name_cut, values-name}
-use Rattle.path_runs.proofs.lemmas.names.PieceNameLemmas.{IsPiece, piece-prefix, piece-append}
-use Rattle.path_runs.proofs.lemmas.names.PieceNameLemmas.{piece-none, long-name}
+use Rattle.path_runs.proofs.lemmas.names.PieceNameLemmas.{no_slash_byte, long-name}
+use Rattle.std.proofs.lemmas.List.Elements.{All-append, All-cons, All-take}
+use Rattle.unix_path.proofs.lemmas.names.NameLemmas.{split_name-stem}
 use Rattle.path_runs.proofs.lemmas.joins.SiblingLemmas.{parent_of-name, file_name_of-name}
 
 -- the stem of a name has a byte
@@ -41,21 +41,17 @@ record NewExtension (s t stem x : List ℕ) : Type 0 where
   pub split : split_name name ≡ (stem, Some x)
   pub parent : parent_of t ≡ parent_of s
 
--- the stem of a piece is a piece
-stem_piece : (name : List ℕ) → IsPiece name → IsPiece (split_name name).0
-stem_piece name h =
-    let stem = stem_prefix name in
-    piece-prefix (split_name name).0 stem.0 (subst IsPiece stem.1 h)
-
 -- a stem with a dot and an extension without a slash is a name
 new_name : (name : List ℕ) (b : ℕ) (x : List ℕ) → IsName name → HasNone 47 (b ∷ x)
     → IsName ((split_name name).0 ++ 46 ∷ b ∷ x)
 new_name name b x h k =
     let stem = (split_name name).0 in
     let some = some_stem name h.some in
+    let stem_bytes = subst (HasNone 47) (split_name-stem name)
+    (All-take (λ c. c ≢ 47) (length stem) name (no_slash_byte name h.no_slash)) in
     long-name (stem ++ 46 ∷ b ∷ x) (omega (arith, length-append stem (46 ∷ b ∷ x)))
-    (piece-append stem (46 ∷ b ∷ x) (stem_piece name h.no_slash)
-    (piece-append (46 ∷ []) (b ∷ x) refl (piece-none (b ∷ x) k)))
+    (All-append (λ c. c ≢ 47) stem (46 ∷ b ∷ x) stem_bytes
+    (All-cons (λ c. c ≢ 47) 46 (b ∷ x) (λ e. absurd (omega arith)) k))
 
 -- a path of an open prefix and one name has that prefix's rest as its parent
 parent_of-open : (s u b name : List ℕ) → s ≡ u ++ b → is_open u ≡ true
@@ -96,34 +92,24 @@ set_extension s name [] e h = absurd (h.some refl)
 set_extension s name (b ∷ x) e h =
     new_extension-cut s name b x e (name_cut s name e) h.no_dot h.no_slash
 
--- if setting an extension answers true, there is a file name
-some_name : (s : List ℕ) → Flag (is_some (file_name_of (values s))) ≡ Flag true
-    → (name : List ℕ) × (file_name_of (values s) ≡ Some name)
-some_name s e = by (file_name_of (values s)) refl e
-  where
-    by : (o : Option (List ℕ)) → file_name_of (values s) ≡ o → Flag (is_some o) ≡ Flag true
-        → (name : List ℕ) × (file_name_of (values s) ≡ Some name)
-    by None is e = absurd (cc)
-    by (Some name) is e = (name, is)
-
--- if setting an extension answers true, it has no slash, and the edit is `with_extension_of`
-edit_of-set_extension : (s x t : List ℕ) → edit_of s (SetExtension x) ≡ (t, Flag true)
-    → (with_extension_of s x ≡ t) × (Flag (is_some (file_name_of (values s))) ≡ Flag true)
-edit_of-set_extension s x t e = by_test (has_slash x)
-    (λ y. absurd (let no : Separator ≡ Flag true = ap (λ p. p.1) (rw y at e) in cc))
-    (λ n. let is = rw n at e in (ap (λ p. p.0) is, ap (λ p. p.1) is))
-
 -- a path that takes an extension has a file name, and then a new one with that extension
 new_extension : (s x t : List ℕ) → TakesExtension s x t
     → (name : List ℕ) × (file_name_of (values s) ≡ Some name)
     × NewExtension s t (split_name name).0 x
-new_extension s x t h =
-    let is = edit_of-set_extension s x t h.1 in
-    let name = some_name s is.1 in (
-      name.0,
-      name.1,
-      subst (λ u. NewExtension s u (split_name name.0).0 x) is.0
-          (set_extension s name.0 x name.1 h.0),
+new_extension s x t h = by_test (has_slash x)
+    (λ y. absurd (let no : Separator ≡ Flag true = ap (λ p. p.1) (rw y at h.1) in cc))
+    (λ n. let is = rw n at h.1 in
+    by (file_name_of (values s)) refl (ap (λ p. p.0) is) (ap (λ p. p.1) is))
+  where
+    by : (o : Option (List ℕ)) → file_name_of (values s) ≡ o → with_extension_of s x ≡ t
+        → Flag (is_some o) ≡ Flag true
+        → (name : List ℕ) × (file_name_of (values s) ≡ Some name)
+        × NewExtension s t (split_name name).0 x
+    by None is e flag = absurd (cc)
+    by (Some name) is e flag = (
+      name,
+      is,
+      subst (λ t. NewExtension s t (split_name name).0 x) e (set_extension s name x is h.0),
     )
 
 -- a path that takes an extension keeps its stem

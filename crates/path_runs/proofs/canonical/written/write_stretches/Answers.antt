@@ -1,16 +1,21 @@
-use Rattle.std.proofs.Common.{[], ◌++◌, ◌-◌, ◌+◌, take, drop, length, refl, ap, ◌∙◌, arith}
-use Rattle.std.proofs.Common.{length-append, length-take-le}
+use Rattle.std.proofs.Common.{List, ℕ, ◌≤◌, [], ◌++◌, ◌-◌, ◌+◌, take, drop, length, refl, ap, ◌∙◌}
+use Rattle.std.proofs.Common.{arith, length-append, length-take-le}
 use Rattle.path_runs.specs.Gaps.{slashed_parts}
 use Rattle.path_runs.proofs.lemmas.gaps.KeptLemmas.{nothing_left}
 use Rattle.path_runs.proofs.lemmas.lists.WritingLemmas.{writes_first, writes_stretch, writes_room}
 use Rattle.path_runs.proofs.lemmas.lists.WritingLemmas.{writes_last, writes_end}
 use Rattle.path_runs.proofs.canonical.written.write_stretches.Goals as goal
 
+-- if there is room for the first bytes and the parts, there is room for all
+room : (s out : List ℕ) (gap : ℕ) → gap ≤ length s
+    → gap + length (slashed_parts (drop gap s)) ≤ length out
+    → length (take gap s ++ slashed_parts (drop gap s)) ≤ length out
+room s out gap l h =
+    omega (arith, length-append (take gap s) (slashed_parts (drop gap s)), length-take-le gap s l)
+
 pub write_at-requires : goal.write_at-requires
 write_at-requires c =
-    let s = c.args.bytes.now in
-    let gap = c.args.gap in
-    omega (arith, c.requires.room, length-append (take gap s) (slashed_parts (drop gap s)))
+    omega (arith, c.requires.room, length-take-le c.args.gap c.args.bytes.now c.requires.in_range)
 
 pub loop-start-init : goal.loop-start-init
 loop-start-init c =
@@ -33,7 +38,8 @@ write_at-requires-in-loop-start c =
     omega (
       arith,
       writes_room stretch (slashed_parts (drop end c.args.bytes.now))
-          c.loop-start.invariant.written c.stretch_at-stretch.ensures.same c.requires.room,
+          c.loop-start.invariant.written c.stretch_at-stretch.ensures.same
+          (room c.args.bytes.now c.args.out.now c.args.gap c.requires.in_range c.requires.room),
     )
 
 pub loop-start-preserved : goal.loop-start-preserved
@@ -53,7 +59,8 @@ loop-start-preserved c =
 pub returns-clause-out : goal.returns-clause-out
 returns-clause-out c =
     writes_last c.loop-start.invariant.written
-    (nothing_left [] c.args.bytes.now c.loop-start.start (omega arith)) c.requires.room
+    (nothing_left [] c.args.bytes.now c.loop-start.start (omega arith))
+    (room c.args.bytes.now c.args.out.now c.args.gap c.requires.in_range c.requires.room)
 
 pub returns-clause-len : goal.returns-clause-len
 returns-clause-len c =
