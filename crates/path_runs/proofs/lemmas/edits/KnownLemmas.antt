@@ -1,5 +1,5 @@
 -- What is known of a path's first bytes, as long as these stay.
-use Rattle.std.proofs.Common.{◌≡◌, ℕ, ◌≤◌, List, length, take, sym, ap, ◌∙◌, arith, subst, take_all}
+use Rattle.std.proofs.Common.{◌≡◌, ℕ, ◌≤◌, List, length, take, sym, ap, ◌∙◌, arith, subst}
 use Rattle.std.proofs.lemmas.List.{take-take}
 use Rattle.unix_path.specs.Parts.{parts}
 use Rattle.unix_path.specs.Edits.{stem_end_of}
@@ -28,14 +28,4 @@ pub KnowsStem-kept : (s t : List ℕ) (n stem : ℕ) → KnowsStem s stem → n 
 KnowsStem-kept s t n stem h l e few = record {
   in_range = omega arith;
   ends = λ some. ap stem_end_of (sym (shared s t stem n few e)) ∙ h.ends some;
-}
-
--- the last part of the whole string ends at `end`
-pub KnowsEnd-all : (s : List ℕ) (end : ℕ) → end ≤ length s → parts (take end s) ≡ parts s
-    → EndsInPart (take end s) → KnowsEnd s end (length s)
-KnowsEnd-all s end l same ends = record {
-  in_order = l;
-  in_range = omega arith;
-  same = same ∙ ap parts (sym (take_all (length s) s (omega arith)));
-  ends = ends;
 }

@@ -1,9 +1,8 @@
 -- What a walk has taken after some of its turns.
-use Rattle.std.proofs.Common.{◌≡◌, ℕ, ◌+◌, ◌≤◌, cond, length, List, [], ◌∷◌, ◌++◌, take, reverse}
-use Rattle.std.proofs.Common.{refl, sym, ap, ap₂, subst, ◌∙◌, arith, take_all, append_assoc}
-use Rattle.std.proofs.Common.{length-append, Bool, not}
+use Rattle.std.proofs.Common.{◌≡◌, ℕ, ◌+◌, cond, length, List, [], ◌∷◌, ◌++◌, take, reverse, refl}
+use Rattle.std.proofs.Common.{ap, arith, length-append, Bool, not}
 use Rattle.std.specs.List.{count_by}
-use Rattle.std.proofs.lemmas.List.{take_at, length-reverse, reverse-append, reverse-reverse}
+use Rattle.std.proofs.lemmas.List.{length-reverse}
 use Rattle.std.proofs.lemmas.List.Sums.{sum_by-cons}
 use Rattle.unix_path.specs.Parts.{Value, values}
 use Rattle.unix_path.specs.Rest.{rest}
@@ -50,26 +49,3 @@ length-left {s} {ts} {i} {front} {behind} {left} h = omega (
   h.backs,
   turns_total (take (length (values s)) (take i ts)),
 )
-
--- after the last turn
-pub record IsWalked (s : List ℕ) (turns : List Turn) (front : List Value) (left : List ℕ)
-    (behind : List Value) : Type 0 where
-  pub front_is : front ≡ take (front_turns (length (values s)) turns) (values s)
-  pub left_is : left ≡ rest s (front_turns (length (values s)) turns)
-      (back_turns (length (values s)) turns)
-  pub behind_is : behind ≡ take (back_turns (length (values s)) turns) (reverse (values s))
-
--- after all turns the parts of s are taken that these name
-pub all_walked : {s : List ℕ} {ts : List Turn} {i : ℕ} {front behind : List Value} {left : List ℕ}
-    → HasWalked s ts i front left behind → length ts ≤ i → IsWalked s ts front left behind
-all_walked {s} {ts} {i} {front} {behind} {left} h l =
-    let back = reverse behind in
-    subst (λ us. IsWalked s us front left behind) (take_all i ts l) (record {
-      front_is = sym (take_at front (values left ++ back) (length front) refl)
-          ∙ ap₂ take h.fronts (sym (append_assoc front (values left) back) ∙ h.whole);
-      left_is = h.left_is ∙ ap₂ (rest s) h.fronts h.backs;
-      behind_is = sym (take_at behind (reverse (front ++ values left)) (length behind) refl)
-          ∙ ap₂ take h.backs (ap (λ b. b ++ reverse (front ++ values left))
-          (sym (reverse-reverse behind)) ∙ sym (reverse-append (front ++ values left) back)
-          ∙ ap reverse h.whole);
-    })

@@ -1,9 +1,7 @@
-use Rattle.std.proofs.Common.{◌∙◌}
 use Rattle.std.proofs.lemmas.Bool.{false≢true}
 use Rattle.std.proofs.lemmas.List.{map-append}
 use Rattle.unix_path.specs.Views.{value_of}
 use Rattle.unix_path.specs.Cursor.{cursor_values}
-use Rattle.path_runs.proofs.lemmas.walks.WalkLemmas.{all_walked}
 use Rattle.path_runs.proofs.lemmas.walks.WalkStepLemmas.{HasWalked-front, HasWalked-back}
 use Rattle.path_runs.proofs.lemmas.walks.WalkStepLemmas.{none_behind, none_in_front, none_of_empty}
 use Rattle.path_runs.proofs.walk.walk.Goals.{in-Front+in_ok-push_some-in-Front}
@@ -48,16 +46,3 @@ returns-in_err-push_some-in-Back-clause-succeeds_empty c = λ empty.
     c.next_back.result c.next_back.ensures.steps.item_is
     (none_of_empty c.loop-turn.invariant empty) in
     absurd (false≢true (c.in_err-push_some-in-Back.ensures.succeeds none))
-
-pub returns-clause-front : goal.returns-clause-front
-returns-clause-front c = (all_walked c.loop-turn.invariant c.loop-turn-test.false).front_is
-
-pub returns-clause-rest : goal.returns-clause-rest
-returns-clause-rest c = c.as_path.ensures.bytes
-    ∙ (all_walked c.loop-turn.invariant c.loop-turn-test.false).left_is
-
-pub returns-clause-behind : goal.returns-clause-behind
-returns-clause-behind c = (all_walked c.loop-turn.invariant c.loop-turn-test.false).behind_is
-
-pub returns-clause-whole : goal.returns-clause-whole
-returns-clause-whole c = rw c.as_path.ensures.bytes c.loop-turn.invariant.whole

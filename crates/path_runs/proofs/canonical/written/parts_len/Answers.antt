@@ -17,24 +17,6 @@ overflow_add-len c =
       kept-length s c.args.gap c.requires.in_range c.requires.gap,
     )
 
-pub loop-start-preserved : goal.loop-start-preserved
-loop-start-preserved c =
-    let s = c.args.bytes.now in
-    let stretch = c.stretch_at-stretch.result.now in
-    let end = c.loop-start.start - 1 + length stretch in
-    let left = c.past_gap-start-in-loop-start.ensures in
-    record {
-      in_range = left.in_range;
-      part = left.part;
-      same = omega (
-        arith,
-        c.loop-start.invariant.same,
-        ap length c.stretch_at-stretch.ensures.same,
-        length-append stretch (slashed_parts (drop end s)),
-        ap length left.same,
-      );
-    }
-
 pub returns : goal.returns
 returns c =
     omega (

@@ -2,8 +2,8 @@ use Rattle.std.proofs.Common.{List, ℕ, ◌≤◌, [], ◌++◌, ◌-◌, ◌+�
 use Rattle.std.proofs.Common.{arith, length-append, length-take-le}
 use Rattle.path_runs.specs.Gaps.{slashed_parts}
 use Rattle.path_runs.proofs.lemmas.gaps.KeptLemmas.{nothing_left}
-use Rattle.path_runs.proofs.lemmas.lists.WritingLemmas.{writes_first, writes_stretch, writes_room}
-use Rattle.path_runs.proofs.lemmas.lists.WritingLemmas.{writes_last, writes_end}
+use Rattle.path_runs.proofs.lemmas.lists.WritingLemmas.{writes_stretch, writes_room, writes_last}
+use Rattle.path_runs.proofs.lemmas.lists.WritingLemmas.{writes_end}
 use Rattle.path_runs.proofs.canonical.written.write_stretches.Goals as goal
 
 -- if there is room for the first bytes and the parts, there is room for all
@@ -12,24 +12,6 @@ room : (s out : List ℕ) (gap : ℕ) → gap ≤ length s
     → length (take gap s ++ slashed_parts (drop gap s)) ≤ length out
 room s out gap l h =
     omega (arith, length-append (take gap s) (slashed_parts (drop gap s)), length-take-le gap s l)
-
-pub write_at-requires : goal.write_at-requires
-write_at-requires c =
-    omega (arith, c.requires.room, length-take-le c.args.gap c.args.bytes.now c.requires.in_range)
-
-pub loop-start-init : goal.loop-start-init
-loop-start-init c =
-    let s = c.args.bytes.now in
-    let gap = c.args.gap in
-    let left = c.past_gap-start.ensures in
-    record {
-      in_range = left.in_range;
-      part = left.part;
-      written = writes_stretch (take gap s) (slashed_parts (drop c.past_gap-start.result s))
-          (writes_first (take gap s ++ slashed_parts (drop gap s)) c.args.out.now refl)
-          (ap (λ u. take gap s ++ u) left.same) c.write_at.ensures
-          (omega (arith, length-take-le gap s c.requires.in_range));
-    }
 
 pub write_at-requires-in-loop-start : goal.write_at-requires-in-loop-start
 write_at-requires-in-loop-start c =
