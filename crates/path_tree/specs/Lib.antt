@@ -1,6 +1,8 @@
 pub mod Read
 pub mod Rows
 pub mod Made
+pub mod Hashed
+pub mod Marks
 pub mod Ahead
 pub mod Tree
 pub mod Lent

@@ -3,6 +3,7 @@
 
 pub mod laws;
 mod made;
+mod marks;
 pub mod tree;
 
 pub use tree::{LookupError, MoveError, PathTree, SortedError};

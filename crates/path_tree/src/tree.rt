@@ -12,6 +12,7 @@ ghost use Rattle.unix_path.specs.Parts.{values};
 ghost use Rattle.path_table.specs.Table.{SameElsewhere, value_at};
 ghost use Rattle.path_keys.specs.Held.{key_bytes};
 ghost use Rattle.path_keys.specs.Keys.{key_of};
+ghost use Rattle.path_tree.specs.Marks.{is_marked};
 ghost use Rattle.path_tree.specs.Read.{is_own, key_values};
 
 mod ahead;
@@ -28,6 +29,7 @@ mod ranges;
 mod sorted;
 
 use crate::made::{MadeKey, bytes_of, owned_key};
+use crate::marks::Marks;
 pub use lookup::LookupError;
 pub use moved::MoveError;
 use path_keys::PathKey;
@@ -42,12 +44,19 @@ use unix_path::Path;
 /// The paths stand in path order. A look-up takes a key that the caller keeps, or a path, and needs
 /// no owned path. A path's spelling isn't kept. Not in Rust's std; as a `BTreeMap<PathBuf, V>`.
 ///
+/// A tree of more than 64 entries also keeps marks of its keys, in one to four bytes for each, which
+/// save `nearest` most of its look-ups. They are made anew when they are full; if that allocation
+/// fails, the tree goes on with those that it has.
+///
 /// A tree with 1 at `a/b` has 1 at `a//b` too.
 #[derive(Drop)]
 pub struct PathTree<V> {
     alloc: Global,
     entries: BTreeMap<Vec<u8>, V>,
+    marks: Marks,
     ghost own: { AllPass (λ k. is_own k.items) (keys_of entries.entries) } by { Prim.hlevel props },
+    ghost marked: { AllPass (λ k. is_marked marks k.items)
+        (keys_of entries.entries) } by { Prim.hlevel props },
 }
 
 impl<V> PathTree<V> {
@@ -63,6 +72,7 @@ impl<V> PathTree<V> {
         PathTree {
             alloc,
             entries: BTreeMap::new(alloc),
+            marks: Marks::none(alloc),
         }
     }
 
@@ -71,8 +81,9 @@ impl<V> PathTree<V> {
     ///
     /// Allocates for the path's key, even if an equal path is there, and for a new place in the
     /// tree; fails if an allocation fails: then the tree stays as it was, and the value is dropped.
-    /// For a path that is there `get_mut` gives the place of its value, and doesn't allocate. As
-    /// Rust's `BTreeMap::insert`.
+    /// It also allocates for marks when those are full, and doesn't fail if that fails. For a path
+    /// that is there `get_mut` gives the place of its value, and doesn't allocate. As Rust's
+    /// `BTreeMap::insert`.
     ///
     /// With 1 at `a/b`, inserting 2 at `a//b/` gives 1 and leaves 2 at `a/b` alone.
     pub fn insert(&mut self, path: Path<'_>, value: V) -> Result<Option<V>, AllocError>

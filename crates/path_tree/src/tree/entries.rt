@@ -9,6 +9,7 @@ ghost use Rattle.path_table.specs.Table.{SameElsewhere, value_at};
 ghost use Rattle.path_tree.specs.Read.{is_own, key_values};
 
 use super::PathTree;
+use crate::marks::Marks;
 use std::alloc::AllocError;
 
 impl<V> PathTree<V> {
@@ -22,6 +23,19 @@ impl<V> PathTree<V> {
         ensures { option_copied result ≡ value_at (key_values key.now) (table_of self.now) }
     {
         self.entries.get(key)
+    }
+
+    // The value at the path of this key, for a key that the tree mostly lacks: no look-up is made
+    // if it isn't marked.
+    #[inline]
+    pub(super) fn find_marked(&self, key: &[u8]) -> Option<&V>
+        requires { is_own key.now ≡ true }
+        ensures { option_copied result ≡ value_at (key_values key.now) (table_of self.now) }
+    {
+        if !self.marks.has(key) {
+            return None;
+        }
+        self.find(key)
     }
 
     // Whether the path of this key is in the tree.
@@ -59,8 +73,21 @@ impl<V> PathTree<V> {
             (SameElsewhere (key_values key.items) (table_of self.old) (table_of self.new)) }
         ensures err { OnErr result (table_of self.new ≡ table_of self.old) }
     {
+        self.marks.mark(key.as_slice());
         let old = self.entries.insert(key, value)?;
+        self.renew_marks();
         Ok(old)
+    }
+
+    // Makes the marks anew if it is time to. If the allocation fails, the old ones stay.
+    pub(super) fn renew_marks(&mut self)
+        ensures { table_of self.new ≡ table_of self.old }
+    {
+        if self.marks.are_full(self.entries.len()) {
+            if let Ok(marks) = Marks::of_keys(self.alloc, &self.entries) {
+                self.marks = marks;
+            }
+        }
     }
 
     // Takes away the value at the path of this key.

@@ -144,7 +144,8 @@ impl<V> PathTree<V> {
     /// from the empty path, which begins every path, and entries only go to the empty path if there
     /// are none. The values stand at both places before the old ones are removed, so they are
     /// copied. Visits every entry. Allocates for a list of what is moved, for each new key and its
-    /// place, and for the end of the target's range. Not in Rust's std; as `std::fs::rename`.
+    /// place, and for the end of the target's range, and for marks as `insert` does. Not in Rust's
+    /// std; as `std::fs::rename`.
     ///
     /// With 1 at `a/b`, 2 at `a` and 3 at `a.b`, from `a` to `c/d` it moves 2, and 1 stands at
     /// `c/d/b`, and 2 at `c/d`.

@@ -54,7 +54,7 @@ impl<V> PathTree<V> {
         let mut parts = path.components();
         let mut end = key.len();
         loop {
-            if let Some(value) = self.find(&key[..end]) {
+            if let Some(value) = self.find_marked(&key[..end]) {
                 return Some((rest_behind(path, parts.as_path()), value));
             }
             let Some(part) = parts.next_back() else {
@@ -67,10 +67,11 @@ impl<V> PathTree<V> {
     /// The entry with the longest path that begins this path: what follows it in this path, as a
     /// slice of the path's bytes, and its value; `None` if no entry's path begins this one.
     ///
-    /// Whole parts count, and an entry at the empty path is an answer for every path. It looks up
-    /// the path, its parent and so on. Does not allocate if the path's key has at most 512 bytes,
-    /// as it has for each path of up to 510; else allocates once, and fails if the allocation
-    /// fails. Not in Rust's std.
+    /// Whole parts count, and an entry at the empty path is an answer for every path. It asks for
+    /// the path, its parent and so on; in a tree of more than 64 entries most of these cost no
+    /// look-up if there is no entry. Does not allocate if the path's key has at most 512 bytes, as
+    /// it has for each path of up to 510; else allocates once, and fails if the allocation fails.
+    /// Not in Rust's std.
     ///
     /// With 1 at `/`, 2 at `/a/b` and 3 at `/a/bc`, for `/a/b//c/d` it is `c/d` with 2.
     pub fn nearest<'a>(&self, path: Path<'a>) -> Result<Option<(Path<'a>, &V)>, AllocError>

@@ -10,6 +10,7 @@ ghost use Rattle.path_tree.specs.Sorted.{ListsAll, StopsRising};
 
 use super::PathTree;
 use crate::made::owned_key;
+use crate::marks::Marks;
 use std::alloc::{AllocError, Global};
 use std::collections::BTreeMap;
 use std::error::Error;
@@ -105,8 +106,8 @@ impl<V> PathTree<V> {
     /// more items behind one that isn't greater. The tree is filled at once, in time linear in the
     /// items and the bytes of their keys, where `from_iter` looks for each one's place. Allocates
     /// for each path's key, for a list of the items twice, and for the tree; fails if an allocation
-    /// fails. If it fails all values are dropped. As `FromIterator` of Rust's `BTreeMap` does for a
-    /// list that is sorted.
+    /// fails. It also allocates for marks, as `insert` does. If it fails all values are dropped. As
+    /// `FromIterator` of Rust's `BTreeMap` does for a list that is sorted.
     ///
     /// Of 1 at `a/b` and 2 at `a.b` it has both; 1 at `b` and 2 at `a` are refused.
     pub fn from_sorted<'a, I: Iterator<Item = (Path<'a>, V)>>(
@@ -129,9 +130,12 @@ impl<V> PathTree<V> {
             }
             put_last(&mut entries, key, value)?;
         }
-        Ok(PathTree {
+        let mut tree = PathTree {
             alloc,
             entries: map_of(alloc, entries)?,
-        })
+            marks: Marks::none(alloc),
+        };
+        tree.renew_marks();
+        Ok(tree)
     }
 }

@@ -1,4 +1,6 @@
 use Rattle.std.proofs.Common.{◌≡◌, ◌∷◌, ◌++◌, ◌∙◌, [], rules, subst, sym, true}
+use Rattle.path_tree.specs.Marks.{is_marked}
+use Rattle.path_tree.proofs.lemmas.keys.PassLemmas.{AllKeys-always}
 use Rattle.path_tree.proofs.lemmas.rows.SortedWalkLemmas.{Listed, listed_more, listed_none}
 use Rattle.path_tree.proofs.lemmas.rows.SortedWalkLemmas.{made_own, made_rows}
 use Rattle.path_tree.proofs.lemmas.rows.SortedWalkLemmas.{rise, stops}
@@ -35,11 +37,14 @@ loop-path-preserved g c =
     (λ front last is. sym (c.rises.ensures.others front last (c.deref.ensures.value ∙ is))
     ∙ rises))
 
-pub invariant_of-result : goal.invariant_of-result
-invariant_of-result g c =
+pub invariant_of-tree : goal.invariant_of-tree
+invariant_of-tree g c =
+    let made = c.in_ok-map_of.field-0 in
     record {
       own = made_own c.loop-path.entries.items c.loop-path.yielded c.loop-path.invariant
-          c.in_ok-map_of.field-0 c.in_ok-map_of.ensures;
+          made c.in_ok-map_of.ensures;
+      marked = AllKeys-always (λ k. k.items) (is_marked c.none.result) c.none.ensures
+          made.entries;
     }
 
 pub returns-clause-ok : goal.returns-clause-ok
@@ -54,6 +59,6 @@ returns-clause-ok g c = record {
     ),
   );
   rise = rise c.loop-path.entries.items c.loop-path.yielded c.loop-path.invariant;
-  rows_are = made_rows c.loop-path.entries.items c.loop-path.yielded c.loop-path.invariant
+  rows_are = c.renew_marks.ensures ∙ made_rows c.loop-path.entries.items c.loop-path.yielded c.loop-path.invariant
       c.in_ok-map_of.field-0 c.in_ok-map_of.ensures;
 }

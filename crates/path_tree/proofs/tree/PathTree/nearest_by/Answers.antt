@@ -14,8 +14,8 @@ pub loop-value-init : goal.loop-value-init
 loop-value-init g c =
     goes_up _ _ _ _ _ c.requires.own c.requires.values refl c.components-parts.ensures.values
 
-pub find-requires : goal.find-requires
-find-requires g c = own-of _ (cursor_rest c.loop-value.parts) c.loop-value.invariant.key_is
+pub find_marked-requires : goal.find_marked-requires
+find_marked-requires g c = own-of _ (cursor_rest c.loop-value.parts) c.loop-value.invariant.key_is
 
 pub returns-in-Some-clause-nearest : goal.returns-in-Some-clause-nearest
 returns-in-Some-clause-nearest g c =

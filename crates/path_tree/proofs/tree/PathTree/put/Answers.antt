@@ -1,6 +1,9 @@
 use Rattle.std.proofs.Common.{ap, sym, ◌∙◌}
 use Rattle.path_table.proofs.UpdateLemmas.{elsewhere-insert_entry}
-use Rattle.path_tree.proofs.lemmas.keys.OwnLemmas.{Own-insert}
+use Rattle.path_table.specs.Table.{value_at}
+use Rattle.path_tree.specs.Marks.{is_marked}
+use Rattle.path_tree.specs.Read.{is_own, key_values}
+use Rattle.path_tree.proofs.lemmas.keys.PassLemmas.{AllKeys-insert, AllKeys-wider}
 use Rattle.path_tree.proofs.lemmas.keys.ReadLemmas.{own-stands}
 use Rattle.path_tree.proofs.lemmas.keys.RowLemmas.{insert-rows_by, lookup-rows_by, rows_by}
 use Rattle.path_tree.proofs.tree.PathTree.put.Goals as goal
@@ -8,16 +11,24 @@ use Rattle.path_tree.proofs.tree.PathTree.put.Goals as goal
 pub invariant_of-self : goal.invariant_of-self
 invariant_of-self g c =
     let tree = c.args.self.now in
+    let marks = c.mark.new.self in
     record {
-      own = Own-insert (λ k. k.items) tree.entries.entries c.insert.new.self.entries tree.own
-          _ c.args.key c.args.value c.requires c.insert.result
-          c.insert.ensures.entries c.insert.ensures.err;
+      own = AllKeys-insert (λ k. k.items) is_own tree.entries.entries
+          c.insert.new.self.entries tree.own _ c.args.key c.args.value c.requires
+          c.insert.result c.insert.ensures.entries c.insert.ensures.err;
+      marked = AllKeys-insert (λ k. k.items) (is_marked marks) tree.entries.entries
+          c.insert.new.self.entries
+          (AllKeys-wider (λ k. k.items) (is_marked tree.marks) (is_marked marks) c.mark.ensures.kept
+          tree.entries.entries tree.marked)
+          _ c.args.key c.args.value
+          (ap (is_marked marks) (sym c.as_slice.ensures.value) ∙ c.mark.ensures.marked)
+          c.insert.result c.insert.ensures.entries c.insert.ensures.err;
     }
 
 pub returns-clause-rows : goal.returns-clause-rows
 returns-clause-rows g c =
     let tree = c.args.self.now in
-    ap (rows_by (λ k. k.items)) c.in_ok-old.ensures.entries
+    c.renew_marks.ensures ∙ ap (rows_by (λ k. k.items)) c.in_ok-old.ensures.entries
     ∙ insert-rows_by (λ k. k.items) c.args.key _ (own-stands c.args.key.items c.requires)
     tree.entries.entries c.args.value tree.own
 
@@ -33,9 +44,10 @@ returns-clause-found g c =
     let tree = c.args.self.now in
     let new = c.insert.new.self.entries in
     let key = c.args.key.items in
-    let own = Own-insert (λ k. k.items) tree.entries.entries new tree.own _ c.args.key
+    let own = AllKeys-insert (λ k. k.items) is_own tree.entries.entries new tree.own _ c.args.key
     c.args.value c.requires c.insert.result c.insert.ensures.entries c.insert.ensures.err in
-    sym (lookup-rows_by (λ k. k.items) key _ (own-stands key c.requires) new own)
+    ap (value_at (key_values key)) c.renew_marks.ensures
+    ∙ sym (lookup-rows_by (λ k. k.items) key _ (own-stands key c.requires) new own)
     ∙ c.in_ok-old.ensures.updates.1
 
 pub returns-clause-others : goal.returns-clause-others

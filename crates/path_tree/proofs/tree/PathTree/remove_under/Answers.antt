@@ -4,11 +4,12 @@ use Rattle.std.proofs.lemmas.Map.Made.{filter_same_pairs}
 use Rattle.std.specs.List.{starts_with}
 use Rattle.path_keys.specs.Held.{key_bytes}
 use Rattle.path_table.specs.Table.{is_under}
-use Rattle.path_tree.specs.Read.{key_values}
+use Rattle.path_tree.specs.Marks.{is_marked}
+use Rattle.path_tree.specs.Read.{is_own, key_values}
 use Rattle.path_tree.specs.Rows.{Key, key_rows, rows_outside}
 use Rattle.path_tree.specs.Tree.{table_of}
 use Rattle.path_tree.proofs.lemmas.rows.ManyLemmas.{length-key_rows, starts_with-under}
-use Rattle.path_tree.proofs.lemmas.keys.OwnLemmas.{Own-filter}
+use Rattle.path_tree.proofs.lemmas.keys.PassLemmas.{AllKeys-filter}
 use Rattle.path_tree.proofs.lemmas.keys.UnderLemmas.{filter-rows_by}
 use Rattle.path_tree.proofs.tree.PathTree.remove_under.Goals as goal
 
@@ -19,8 +20,10 @@ invariant_of-self g c =
     let left = filter_same_pairs _ (λ e. not (starts_with eqb e.0.items base)) _
     (λ k v b w f t. search rules) _ _ c.retain.ensures.filtered in
     record {
-      own = Own-filter (λ k. k.items) tree.entries.entries c.retain.new.self.entries tree.own
-          _ left;
+      own = AllKeys-filter (λ k. k.items) is_own tree.entries.entries
+          c.retain.new.self.entries tree.own _ left;
+      marked = AllKeys-filter (λ k. k.items) (is_marked tree.marks) tree.entries.entries
+          c.retain.new.self.entries tree.marked _ left;
     }
 
 pub returns-clause-rows : goal.returns-clause-rows

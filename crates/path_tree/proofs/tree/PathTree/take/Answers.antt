@@ -1,6 +1,8 @@
 use Rattle.std.proofs.Common.{ap, sym, ◌∙◌}
 use Rattle.path_table.proofs.UpdateLemmas.{elsewhere-remove_entry}
-use Rattle.path_tree.proofs.lemmas.keys.OwnLemmas.{Own-remove}
+use Rattle.path_tree.specs.Marks.{is_marked}
+use Rattle.path_tree.specs.Read.{is_own}
+use Rattle.path_tree.proofs.lemmas.keys.PassLemmas.{AllKeys-remove}
 use Rattle.path_tree.proofs.lemmas.keys.ReadLemmas.{own-stands}
 use Rattle.path_tree.proofs.lemmas.keys.RowLemmas.{lookup-rows_by, remove-rows_by, rows_by}
 use Rattle.path_tree.proofs.tree.PathTree.take.Goals as goal
@@ -9,8 +11,10 @@ pub invariant_of-self : goal.invariant_of-self
 invariant_of-self g c =
     let tree = c.args.self.now in
     record {
-      own = Own-remove (λ k. k.items) tree.entries.entries c.remove.new.self.entries tree.own
-          _ c.remove.ensures.entries;
+      own = AllKeys-remove (λ k. k.items) is_own tree.entries.entries
+          c.remove.new.self.entries tree.own _ c.remove.ensures.entries;
+      marked = AllKeys-remove (λ k. k.items) (is_marked tree.marks) tree.entries.entries
+          c.remove.new.self.entries tree.marked _ c.remove.ensures.entries;
     }
 
 pub returns-clause-value : goal.returns-clause-value
@@ -32,7 +36,7 @@ returns-clause-gone g c =
     let tree = c.args.self.now in
     let key = c.args.key.now in
     let new = c.remove.new.self.entries in
-    let own = Own-remove (λ k. k.items) tree.entries.entries new tree.own _
+    let own = AllKeys-remove (λ k. k.items) is_own tree.entries.entries new tree.own _
     c.remove.ensures.entries in
     sym (lookup-rows_by (λ k. k.items) key _ (own-stands key c.requires) new own)
     ∙ c.remove.ensures.updates.1
