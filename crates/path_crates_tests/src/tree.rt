@@ -2,6 +2,7 @@
 mod beside_list;
 mod callers;
 mod children;
+mod marked;
 mod moved;
 mod nearest;
 mod ranges;
