@@ -40,6 +40,26 @@ fn tree_path_inserted(rt: HostRuntime) -> Result<(), Fail> {
     }
 }
 
+// One path beside 64 makes the tree ask for marks, without which it goes on.
+#[test]
+fn tree_path_marked(rt: HostRuntime) -> Result<(), Fail> {
+    let alloc = rt.alloc();
+    let mut tree = PathTree::new(alloc);
+    for letter in b'@'..=b'\x7f' {
+        tree.insert(Path::from_bytes([letter].as_slice()), u32::from(letter))?;
+    }
+    match tree.insert(path("a/b"), 7) {
+        Ok(before) => {
+            let is_nearest = match tree.nearest(path("a/b/c"))? {
+                Some((rest, value)) => rest == path("c") && *value == 7,
+                None => false,
+            };
+            report(true, before.is_none() && tree.len() == 65 && is_nearest)
+        }
+        Err(AllocError) => report(false, tree.len() == 64),
+    }
+}
+
 #[test]
 fn tree_path_found(rt: HostRuntime) -> Result<(), Fail> {
     let name = long_name(rt.alloc())?;
