@@ -74,8 +74,10 @@ values-renamed : (f n : List ℕ → List ℕ) (s : List ℕ)
     → values (f s) ≡ renamed n (values s)
 values-renamed f n s none some = by (file_name_of (values s)) refl
   where
-    by : (o : Option (List ℕ)) → file_name_of (values s) ≡ o → values (f s)
-        ≡ option_map_or (λ name. append_values (middle 0 1 (values s)) (values (n name))) o (values s)
+    by : (o : Option (List ℕ)) → file_name_of (values s) ≡ o
+        → values (f s)
+        ≡ option_map_or (λ name. append_values (middle 0 1 (values s)) (values (n name))) o
+        (values s)
     by None e = ap values (none e)
     by (Some name) e =
         let c = name_cut s name e in

@@ -16,5 +16,6 @@ returns-clause-known c =
     let t = path_bytes c.pop-is_popped.new.self in
     let made : t ≡ popped_of v =
     c.pop-is_popped.ensures.bytes ∙ ap popped_of (sym c.bytes_of.ensures) in
-    let kept = keeps-pop v t (length c.bytes_of-2.result.now) made (ap length c.bytes_of-2.ensures) in
+    let kept = keeps-pop v t (length c.bytes_of-2.result.now) made
+    (ap length c.bytes_of-2.ensures) in
     c.cut.ensures v t c.is_bare.ensures.known kept.in_range kept.same
