@@ -12,36 +12,32 @@ use unix_path::Path;
 // How many bytes a key on the stack has at most.
 pub(crate) const ROOM: usize = 512;
 
-// A key on the stack: the first `len` bytes of `room`.
+// The key of a path: in a room that the caller has on the stack, or in memory of its own.
 #[derive(Drop)]
-pub(crate) struct ShortKey {
-    room: [u8; ROOM],
-    len: usize,
-    ghost fits: { len ≤ 512 },
-}
-
-// The key of a path.
-#[derive(Drop)]
-pub(crate) enum MadeKey {
-    Short(ShortKey),
+pub(crate) enum MadeKey<'a> {
+    Short(&'a [u8]),
     Long(PathKey),
 }
 
-impl MadeKey {
+impl<'a> MadeKey<'a> {
     ghost use Rattle.path_tree.specs.Made.{made_bytes};
 
-    // The key of the path, on the stack if it has no more than 512 bytes.
+    // The key of the path, in the room if it has no more than 512 bytes. The room is lent, since a
+    // key that holds it would be copied with all of it.
     #[inline]
-    pub(crate) fn of(alloc: Global, path: Path<'_>) -> Result<MadeKey, AllocError>
+    pub(crate) fn of(
+        alloc: Global,
+        path: Path<'_>,
+        room: &'a mut [u8; ROOM],
+    ) -> Result<MadeKey<'a>, AllocError>
         ensures own { IfOk result (λ made. is_own (made_bytes made) ≡ true) }
         ensures values { IfOk result (λ made.
             key_values (made_bytes made) ≡ values path.entry.bytes.now) }
         ensures succeeds { length (key_of (values path.entry.bytes.now)) ≤ 512 → IsOk result }
     {
-        let mut room = [0u8; ROOM];
-        let len = write_key(path, &mut room);
+        let len = write_key(path, room);
         if len <= ROOM {
-            return Ok(MadeKey::Short(ShortKey { room, len }));
+            return Ok(MadeKey::Short(&room[..len]));
         }
         let key = PathKey::of(alloc, path)?;
         Ok(MadeKey::Long(key))
@@ -53,7 +49,7 @@ impl MadeKey {
         ensures { result.now ≡ made_bytes self.now }
     {
         match self {
-            MadeKey::Short(key) => &key.room[..key.len],
+            MadeKey::Short(key) => key,
             MadeKey::Long(key) => key.as_bytes(),
         }
     }

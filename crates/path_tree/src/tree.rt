@@ -28,7 +28,7 @@ mod nearest;
 mod ranges;
 mod sorted;
 
-use crate::made::{MadeKey, bytes_of, owned_key};
+use crate::made::{MadeKey, ROOM, bytes_of, owned_key};
 use crate::marks::Marks;
 pub use lookup::LookupError;
 pub use moved::MoveError;
@@ -125,7 +125,8 @@ impl<V> PathTree<V> {
             ≡ value_at (values path.entry.bytes.now) (table_of self.now)) }
         ensures succeeds { length (key_of (values path.entry.bytes.now)) ≤ 512 → IsOk result }
     {
-        let made = MadeKey::of(self.alloc, path)?;
+        let mut room = [0u8; ROOM];
+        let made = MadeKey::of(self.alloc, path, &mut room)?;
         Ok(self.find(made.as_bytes()))
     }
 
@@ -206,7 +207,8 @@ impl<V> PathTree<V> {
         ensures err { OnErr result (table_of self.new ≡ table_of self.old) }
         ensures succeeds { length (key_of (values path.entry.bytes.now)) ≤ 512 → IsOk result }
     {
-        let made = MadeKey::of(self.alloc, path)?;
+        let mut room = [0u8; ROOM];
+        let made = MadeKey::of(self.alloc, path, &mut room)?;
         Ok(self.take(made.as_bytes()))
     }
 

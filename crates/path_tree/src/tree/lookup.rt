@@ -7,7 +7,7 @@ ghost use Rattle.path_table.specs.Table.{value_at};
 ghost use Rattle.path_keys.specs.Keys.{key_of};
 
 use super::PathTree;
-use crate::made::MadeKey;
+use crate::made::{MadeKey, ROOM};
 use std::alloc::AllocError;
 use std::error::Error;
 use std::fmt;
@@ -79,7 +79,8 @@ impl<V> PathTree<V> {
         ensures succeeds { length (key_of (values path.entry.bytes.now)) ≤ 512
             → IsSome (value_at (values path.entry.bytes.now) (table_of self.old)) → IsOk result }
     {
-        let made = MadeKey::of(self.alloc, path)?;
+        let mut room = [0u8; ROOM];
+        let made = MadeKey::of(self.alloc, path, &mut room)?;
         match self.find_mut(made.as_bytes()) {
             Some(value) => Ok(value),
             None => Err(LookupError::Absent),

@@ -11,7 +11,7 @@ ghost use Rattle.path_tree.specs.Nearest.{IsNearest};
 ghost use Rattle.path_tree.specs.Read.{is_own, key_values};
 
 use super::PathTree;
-use crate::made::MadeKey;
+use crate::made::{MadeKey, ROOM};
 use std::alloc::AllocError;
 use unix_path::{Component, Path};
 
@@ -84,7 +84,8 @@ impl<V> PathTree<V> {
             LiesIn near.0.bytes path.entry.bytes)) }
         ensures succeeds { length (key_of (values path.entry.bytes.now)) ≤ 512 → IsOk result }
     {
-        let made = MadeKey::of(self.alloc, path)?;
+        let mut room = [0u8; ROOM];
+        let made = MadeKey::of(self.alloc, path, &mut room)?;
         Ok(self.nearest_by(path, made.as_bytes()))
     }
 }
