@@ -22,7 +22,9 @@
  *     }
  *
  * It prints `/srv/b`. A server of files gives the path of a URL to unix_path_join_below with true
- * in the place of false, once that is decoded: no call here reads `%2e`.
+ * in the place of false, once that is decoded: no call here reads `%2e`. Then no request climbs,
+ * since a `..` at the root stays there. A server that refuses such a request passes false, and the
+ * path without its leading slashes. unix_path_refusal names a refusal.
  *
  * Link with -lunix_path_c, or with what `pkg-config --libs unix_path` prints.
  *
@@ -148,13 +150,23 @@ typedef struct {
 } unix_path_chunk;
 
 /* Walks. The parts taken in front, those that are left and those taken behind are the path's
- * parts, however the calls are mixed. */
+ * parts, however the calls are mixed. This prints each part:
+ *
+ *     unix_path_walk walk;
+ *     unix_path_part part;
+ *     unix_path_components(path, length, &walk);
+ *     while (unix_path_next(path, length, &walk, &part)) {
+ *         fwrite(path + part.start, 1, part.length, stdout);
+ *         putchar('\n');
+ *     }
+ */
 
 /* Begins a walk over the whole path, from 0 to the end of its last part. A record that holds 0 and
  * the path's length begins one too. */
 void unix_path_components(const void *path, size_t path_length, unix_path_walk *walk);
 
-/* Takes the first part that is left; false if none is. For `/a` it gives the root, then `a`. */
+/* Takes the first part that is left; false if none is. For `/a` it gives the root, which is the
+ * byte `/`, then `a`. */
 bool unix_path_next(const void *path, size_t path_length, unix_path_walk *walk,
                     unix_path_part *part);
 

@@ -216,8 +216,9 @@ struct chunk {
     friend bool operator!=(chunk a, chunk b) noexcept { return !(a == b); }
 };
 
-/// How a request is read: as a path that has to stay below where it starts, or as the decoded path
-/// of a URL, whose leading slashes are dropped, and so is each `..` at the top.
+/// How a request is read: as a path that has to stay below where it starts, and is refused if it
+/// has a root or climbs; or as the decoded path of a URL, whose leading slashes are dropped, and so
+/// is each `..` at the top, so that none is refused for them. No call reads `%2e`.
 enum class reading { as_path, as_url };
 
 /// What a path from outside is as a request that stays below a root by names.
@@ -649,8 +650,9 @@ struct equal_to {
 };
 
 /// The hash of a path: `std::unordered_map<std::string, V, hash, equal_to>` takes equal paths for
-/// one key, and from C++20 on finds a view without a copy. For paths that others choose take a map,
-/// since the hash has no key.
+/// one key, and from C++20 on finds a view without a copy. In C++17 a `std::unordered_map<view, V>`
+/// does, whose paths' bytes live elsewhere and have to outlive it. For paths that others choose
+/// take a map, since the hash has no key.
 struct hash {
     using is_transparent = void;
     std::size_t operator()(view path) const noexcept { return path.hash(); }
@@ -879,7 +881,7 @@ inline result<std::string_view> key_end(std::string_view key, buffer out) noexce
 
 }  // namespace unix_path
 
-/// The hash of unix_path::hash.
+/// The hash of unix_path::hash, for maps whose keys are views.
 template <>
 struct std::hash<unix_path::view> {
     std::size_t operator()(unix_path::view path) const noexcept { return path.hash(); }
