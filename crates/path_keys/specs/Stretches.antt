@@ -46,6 +46,12 @@ is_stop = is_stop_of slash dot
 abbrev pub FirstStop : List ℕ → ℕ → Type 0
 FirstStop = FirstStopOf slash dot
 
+-- in a buffer of n bytes there is room from `at` on for each beginning of s without a stop, and for
+-- a byte more
+abbrev pub HasRoom : List ℕ → ℕ → ℕ → Type 0
+HasRoom s at n =
+    (k : ℕ) → k ≤ length s → ((i : ℕ) → i < k → is_stop s i ≡ false) → at + k < n
+
 -- the byte of a stretch in a key: the end mark of a name where the path has a slash
 abbrev pub coded : ℕ → ℕ
 coded b = if b == slash then 0 else raised b

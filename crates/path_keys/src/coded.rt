@@ -30,7 +30,7 @@ fn write_few(out: &mut [u8], at: usize, bytes: &[u8])
 
 // Overwrites 16 bytes of `out` from `to` on with those of the stretch from `from` on in a key.
 #[inline(always)]
-fn write_lanes(out: &mut [u8], to: usize, bytes: &[u8], from: usize)
+pub(crate) fn write_lanes(out: &mut [u8], to: usize, bytes: &[u8], from: usize)
     requires room { to + 16 ≤ length out.old }
     requires some { from + 16 ≤ length bytes.now }
     ensures { out.new ≡ put_chunk to out.old (map coded (take 16 (drop from bytes.now))) }

@@ -8,6 +8,7 @@ mod fill;
 pub mod key;
 mod last;
 pub mod laws;
+mod names;
 mod parts;
 pub mod read;
 mod runs;

@@ -1,16 +1,16 @@
 //! The key of a path: the codes of its parts, one behind the other.
 ghost use Rattle.std.specs.Prelude.{◌≡◌, ◌+◌, ◌*◌, ◌≤◌, ◌<◌, ◌^◌, ◌∷◌, ◌++◌, [], false, length};
-ghost use Rattle.std.specs.Prelude.{codes, map, take, IsTrue, MatchOption};
+ghost use Rattle.std.specs.Prelude.{codes, take, IsTrue, MatchOption};
 ghost use Rattle.unix_path.specs.CommonDir.{inner_values};
 ghost use Rattle.unix_path.specs.Parts.{values};
 ghost use Rattle.unix_path.specs.Scan.{begins_with_parent, is_filler};
 ghost use Rattle.path_runs.specs.Buffer.{buffer_after};
 ghost use Rattle.path_runs.specs.Overlay.{overlay};
 ghost use Rattle.path_keys.specs.Keys.{key_of};
-ghost use Rattle.path_keys.specs.Stretches.{coded, run_key, AreNamesTo, BeginsKey};
+ghost use Rattle.path_keys.specs.Stretches.{run_key, BeginsKey};
 ghost use Rattle.path_keys.specs.Stretches.{IsRun, IsUp, PutsFirst};
 
-use crate::coded::write_coded;
+use crate::names::write_names;
 use crate::stretch::first_stop;
 use std::simd::prelude::*;
 use unix_path::scan::{begins_with_parent, filler_len, is_filler};
@@ -102,16 +102,6 @@ fn write_up(out: &mut [u8], at: usize)
     write_mark(out, at, 3);
 }
 
-// Overwrites the bytes of `out` from `at` on with those of the names in a key.
-#[inline]
-fn write_names(out: &mut [u8], at: usize, names: &[u8])
-    requires { at + length names.now < length out.old }
-    ensures { out.new ≡ overlay at (map coded names.now ++ 0 ∷ []) out.old }
-{
-    write_coded(out, at, names);
-    out[at + names.len()] = 0;
-}
-
 // Writes the code of the root or the `.` with which a path begins to the beginning of `out`.
 // Returns how many bytes it has.
 #[inline]
@@ -125,17 +115,6 @@ fn write_lead(path: &[u8], out: &mut [u8]) -> usize
     };
     write_mark(out, 0, mark);
     2
-}
-
-// How many bytes stand first that are names with one slash between two of them.
-#[inline(always)]
-fn names_len(bytes: &[u8]) -> usize
-    requires some { 0 < length bytes.now }
-    requires busy { is_filler bytes.now 0 ≡ false }
-    requires no_up { begins_with_parent bytes.now ≡ false }
-    ensures { AreNamesTo bytes.now result }
-{
-    first_stop(bytes, b'/', b'.')
 }
 
 // As `is_up`, byte by byte.
@@ -233,8 +212,7 @@ pub(crate) fn write_path(path: &[u8], out: &mut [u8]) -> usize
             at += 2 + 2 * ups;
             left = past_filler(&left[2 + 3 * ups..]);
         } else {
-            let end = names_len(left);
-            write_names(out, at, &left[..end]);
+            let end = write_names(out, at, left);
             at += end + 1;
             left = past_filler(&left[end..]);
         }

@@ -38,7 +38,7 @@ fn is_stop(bytes: &[u8], at: usize, mark: u8, point: u8) -> bool
 // the point are among these, and names in paths seldom begin with one of them. Else none of the 16
 // is a stop.
 #[inline(always)]
-fn may_break(bytes: &[u8], at: usize, mark: u8, point: u8) -> bool
+pub(crate) fn may_break(bytes: &[u8], at: usize, mark: u8, point: u8) -> bool
     requires room { at + 17 ≤ length bytes.now }
     requires apart { HasFewBits mark point }
     ensures { result ≡ false → (i : ℕ) → at ≤ i → i < at + 16

@@ -4,3 +4,4 @@ pub mod LeadLemmas
 pub mod RunLemmas
 pub mod UpLemmas
 pub mod WrittenLemmas
+pub mod NamesLemmas

@@ -1,14 +1,13 @@
 -- A key written run by run.
 use Rattle.std.proofs.Common.{◌≡◌, ◌≤◌, ◌+◌, ℕ, true, List, []}
-use Rattle.std.proofs.Common.{◌∷◌, ◌++◌, length, take, drop, map, ap, ◌∙◌}
-use Rattle.std.proofs.Common.{arith, sym, refl, append-nil, length-append, length-take-le}
-use Rattle.std.proofs.lemmas.List.{length-map}
+use Rattle.std.proofs.Common.{◌∷◌, ◌++◌, length, drop, ap, ◌∙◌}
+use Rattle.std.proofs.Common.{sym, refl, append-nil}
 use Rattle.unix_path.specs.CommonDir.{inner_values}
 use Rattle.unix_path.specs.Scan.{begins_with_parent}
 use Rattle.path_runs.specs.Overlay.{overlay}
 use Rattle.path_runs.proofs.lemmas.lists.WritingLemmas.{WritesOn, writes_room, writes_stretch}
 use Rattle.path_keys.specs.Keys.{key_of}
-use Rattle.path_keys.specs.Stretches.{coded, AreNamesTo, PutsFirst}
+use Rattle.path_keys.specs.Stretches.{PutsFirst}
 use Rattle.path_keys.proofs.lemmas.writing.UpLemmas.{up_key}
 
 -- there is room for the mark of a `..`
@@ -41,33 +40,3 @@ written_first {whole} {old} {out} {new} {at} {len} {n} {end} s left h puts same 
     writes_stretch puts.lead (key_of (inner_values left)) h
     (puts.split ∙ ap (λ vs. puts.lead ++ key_of vs) same) puts.new_is
     (ends ∙ ap (λ k. at + k) puts.len_is)
-
-names_len : (s : List ℕ) (n : ℕ) → n ≤ length s → length (map coded (take n s) ++ 0 ∷ []) ≡ n + 1
-names_len s n l = omega (
-  arith,
-  length-append (map coded (take n s)) (0 ∷ []),
-  length-map (take n s) coded,
-  length-take-le n s l,
-)
-
--- there is room for the names that stand first, with their end mark
-pub room_names : {whole old out : List ℕ} {at : ℕ} (s : List ℕ) (n : ℕ) → AreNamesTo s n
-    → WritesOn whole old at out (key_of (inner_values s)) → length whole ≤ length old
-    → at + n + 1 ≤ length old
-room_names {whole} {old} {out} {at} s n names h fits = omega (
-  arith,
-  names_len s n names.in_range,
-  writes_room (map coded (take n s) ++ 0 ∷ []) (key_of (inner_values (drop n s))) h names.split
-      fits,
-)
-
--- the names that stand first are written
-pub written_names : {whole old out new : List ℕ} {at end : ℕ} (s left : List ℕ) (n : ℕ)
-    → AreNamesTo s n → WritesOn whole old at out (key_of (inner_values s))
-    → inner_values (drop n s) ≡ inner_values left
-    → new ≡ overlay at (map coded (take n s) ++ 0 ∷ []) out
-    → end ≡ at + n + 1 → WritesOn whole old end new (key_of (inner_values left))
-written_names {whole} {old} {out} {new} {at} {end} s left n names h same is_put ends =
-    writes_stretch (map coded (take n s) ++ 0 ∷ []) (key_of (inner_values left)) h
-    (names.split ∙ ap (λ vs. (map coded (take n s) ++ 0 ∷ []) ++ key_of vs) same)
-    is_put (omega (arith, ends, names_len s n names.in_range))

@@ -1,5 +1,4 @@
 use Rattle.std.proofs.Common.{◌≡◌, ◌+◌, ◌*◌, length, drop, sym, ap, ◌∙◌, arith, subst}
-use Rattle.std.proofs.Common.{length-take-le}
 use Rattle.std.proofs.lemmas.Bool.Decides.{nat_tests}
 use Rattle.std.proofs.lemmas.List.{drop-drop, take_rest}
 use Rattle.unix_path.specs.CommonDir.{inner_values}
@@ -7,8 +6,8 @@ use Rattle.path_runs.proofs.lemmas.lists.WritingLemmas.{writes_last, writes_end}
 use Rattle.path_keys.specs.Keys.{key_of}
 use Rattle.path_keys.specs.Stretches.{PutsFirst}
 use Rattle.path_keys.proofs.lemmas.writing.LeadLemmas.{none_left}
-use Rattle.path_keys.proofs.lemmas.writing.WrittenLemmas.{room_up, room_left, room_names}
-use Rattle.path_keys.proofs.lemmas.writing.WrittenLemmas.{written_up, written_first, written_names}
+use Rattle.path_keys.proofs.lemmas.writing.WrittenLemmas.{room_up, room_left}
+use Rattle.path_keys.proofs.lemmas.writing.WrittenLemmas.{written_up, written_first}
 use Rattle.path_keys.proofs.parts.write_path.Goals as goal
 
 pub write_up-requires : goal.write_up-requires
@@ -48,27 +47,23 @@ loop-left-preserved-then-begins_with_parent c =
           (omega arith);
     }
 
-pub write_names-requires : goal.write_names-requires
-write_names-requires c =
-    let n = c.names_len-end.result in
-    omega (
-      arith,
-      c.loop-left.auto.out,
-      length-take-le n c.loop-left.left.now c.names_len-end.ensures.in_range,
-      room_names c.loop-left.left.now n c.names_len-end.ensures c.loop-left.invariant.written
-          c.requires,
-    )
+pub write_names-end-requires-clause-room : goal.write_names-end-requires-clause-room
+write_names-end-requires-clause-room c = omega (
+  arith,
+  c.loop-left.auto.out,
+  room_left c.loop-left.invariant.written c.requires,
+)
 
 pub loop-left-preserved : goal.loop-left-preserved
 loop-left-preserved c =
-    let n = c.names_len-end.result in
+    let n = c.write_names-end.result in
     let left = c.past_filler-left-else-begins_with_parent in
     record {
       busy = left.ensures.busy;
-      written = written_names c.loop-left.left.now left.result.now n c.names_len-end.ensures
-          c.loop-left.invariant.written
+      written = written_first c.loop-left.left.now left.result.now c.loop-left.invariant.written
+          c.write_names-end.ensures
           (ap inner_values (sym (take_rest c.loop-left.left.now n)) ∙ left.ensures.same)
-          c.write_names.ensures (omega arith);
+          (omega arith);
     }
 
 pub returns-clause-out : goal.returns-clause-out
