@@ -1,11 +1,12 @@
 -- What stands first in a key: a lead, and then each `..`, or names with one end mark between two of
 -- them. No public clause cites these words.
-use Rattle.std.specs.Prelude.{◌≡◌, ◌<◌, ◌≤◌, ℕ, ◌+◌, ◌*◌, ◌==◌, true, false}
+use Rattle.std.specs.Prelude.{◌≡◌, ◌<◌, ◌≤◌, ℕ, ◌+◌, ◌-◌, ◌*◌, ◌==◌, true, false}
 use Rattle.std.specs.Prelude.{List, ◌∷◌, ◌++◌, [], length, drop, map, replicate}
 use Rattle.std.specs.Prelude.{if◌then◌else◌}
 use Rattle.unix_path.specs.Parts.{slash, cur_dir, Value, ParentDir}
 use Rattle.path_keys.specs.Keys.{key_of}
 use Rattle.path_keys.specs.Codes.{lowered, text_of, AllFit}
+use Rattle.path_keys.specs.Stretches.{none_begins, FirstStopOf}
 use Rattle.path_keys.specs.declared.runs.Lead.{Lead}
 use Rattle.path_keys.specs.declared.runs.Lead.TheVariants.{Absent, Root, Dot}
 use Rattle.path_keys.specs.declared.runs.Run.{Run}
@@ -52,6 +53,12 @@ pub record TakesRun (s : List ℕ) (run : Run) : Type 0 where
   pub code_is : key_of vs ≡ run_code run
   pub text_is : text_of vs ≡ run_text run
   pub is : s ≡ run_code run ++ drop (length (run_code run)) s
+
+-- these bytes are names, with an end mark behind each, and nothing else
+pub record AreNames (s : List ℕ) : Type 0 where
+  pub some : 0 < length s
+  pub begins : none_begins 0 slash s 0 ≡ false
+  pub stop : FirstStopOf 0 slash s (length s - 1)
 
 -- these bytes are the key of no values that may stand behind others, unless of none
 abbrev pub HoldsNone : List ℕ → Type 0

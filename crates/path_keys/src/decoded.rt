@@ -111,11 +111,12 @@ fn write_short(out: &mut [u8], at: usize, names: &[u8])
     write_half(out, at + last, names, last);
 }
 
-// Overwrites the bytes of `out` from `at` on with those of the names that stand like this in a key,
-// with a slash for each end mark.
+// Overwrites the bytes of `out` from `at` on with those of the names, fewer than 32 bytes, that
+// stand like this in a key.
 #[inline]
-pub(crate) fn write_decoded(out: &mut [u8], at: usize, names: &[u8])
-    requires { at + length names.now ≤ length out.old }
+fn write_middle(out: &mut [u8], at: usize, names: &[u8])
+    requires room { at + length names.now ≤ length out.old }
+    requires few { length names.now < 32 }
     ensures { out.new ≡ overlay at (map decoded names.now) out.old }
 {
     if names.len() < 16 {
@@ -123,10 +124,29 @@ pub(crate) fn write_decoded(out: &mut [u8], at: usize, names: &[u8])
         return;
     }
     let last = names.len() - 16;
+    write_lanes(out, at, names, 0);
+    write_lanes(out, at + last, names, last);
+}
+
+// Overwrites the bytes of `out` from `at` on with those of the names that stand like this in a key,
+// with a slash for each end mark. A turn puts 32 bytes there, as many as `is_unbroken` looks at: the
+// processor, which guesses how often that turns, then mostly guesses right here.
+#[inline]
+pub(crate) fn write_decoded(out: &mut [u8], at: usize, names: &[u8])
+    requires { at + length names.now ≤ length out.old }
+    ensures { out.new ≡ overlay at (map decoded names.now) out.old }
+{
+    if names.len() < 32 {
+        write_middle(out, at, names);
+        return;
+    }
+    let last = names.len() - 32;
     let mut from = 0;
     while from < last {
         write_lanes(out, at + from, names, from);
-        from += 16;
+        write_lanes(out, at + from + 16, names, from + 16);
+        from += 32;
     }
     write_lanes(out, at + last, names, last);
+    write_lanes(out, at + last + 16, names, last + 16);
 }

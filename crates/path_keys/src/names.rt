@@ -8,7 +8,7 @@ ghost use Rattle.path_keys.specs.Keys.{key_of};
 ghost use Rattle.path_keys.specs.Stretches.{coded, is_stop, FirstStop, HasRoom, PutsFirst};
 
 use crate::coded::{write_coded, write_lanes};
-use crate::stretch::{first_stop, may_break};
+use crate::stretch::{may_break, near_stop};
 
 // Overwrites the bytes of `out` from `at` on with those of names in a key, 16 at a time. Ends before
 // the first 16 that may hold a stop, or at the first place that isn't before `last`, and returns
@@ -41,7 +41,7 @@ fn ends_unbroken(bytes: &[u8]) -> bool
 }
 
 // As `write_to_stop`, where the bytes before `from` are put there, and no stop is among them: the
-// first stop is searched, and what stands before it is put there.
+// first stop, which is mostly near `from`, is searched, and what stands before it is put there.
 #[inline(always)]
 fn write_searched(out: &mut [u8], at: usize, bytes: &[u8], from: usize) -> usize
     requires in_range { from ≤ length bytes.now }
@@ -52,7 +52,7 @@ fn write_searched(out: &mut [u8], at: usize, bytes: &[u8], from: usize) -> usize
     ensures out { out.new
         ≡ overlay (at + from) (map coded (take (result - from) (drop from bytes.now))) out.old }
 {
-    let len = first_stop(&bytes[from..], b'/', b'.');
+    let len = near_stop(&bytes[from..], b'/', b'.');
     write_coded(out, at + from, &bytes[from..from + len]);
     from + len
 }

@@ -1,9 +1,9 @@
 //! What stands first in a key: a lead, and then each `..`, or names up to another mark.
 ghost use Rattle.std.specs.Prelude.{◌≡◌, ◌<◌, ◌≤◌, ◌^◌, false, length, None, IfSome, IsTrue};
 ghost use Rattle.path_keys.specs.Runs.{lead_text, run_code, run_text, BeginsLead, BeginsUps};
-ghost use Rattle.path_keys.specs.Runs.{HoldsNone, LeavesText, TakesRun};
+ghost use Rattle.path_keys.specs.Runs.{AreNames, HoldsNone, LeavesText, TakesRun};
 
-use crate::stretch::{first_stop, none_begins};
+use crate::stretch::{first_stop, none_begins, stops_last};
 use std::simd::prelude::*;
 
 // The root or the `.` with which a path begins, if it begins with one.
@@ -117,6 +117,14 @@ fn names_in(bytes: &[u8]) -> Option<Run<'_>>
         return None;
     }
     Some(Run::Names(&bytes[..end]))
+}
+
+// Whether these bytes are names alone, with an end mark behind each. It may say no of such names too.
+#[inline(always)]
+pub(crate) fn are_names(bytes: &[u8]) -> bool
+    ensures { IsTrue result → AreNames bytes.now }
+{
+    stops_last(bytes, 0, b'/') && !none_begins(bytes, 0, 0, b'/')
 }
 
 // Whether the mark of a `..` stands first.

@@ -8,7 +8,7 @@ ghost use Rattle.path_keys.specs.Codes.{slashed, text_of, HasPath, IsRead, Reads
 ghost use Rattle.path_keys.specs.Runs.{decoded, lead_text, run_text, ups};
 
 use crate::decoded::write_decoded;
-use crate::runs::{Lead, Run, next_run, past_lead, run_in, up_count};
+use crate::runs::{Lead, Run, are_names, next_run, past_lead, run_in, up_count};
 
 // Overwrites the bytes of `out` from `at` on with `bytes`, as many as there is room for.
 #[inline(always)]
@@ -147,6 +147,10 @@ fn text_len(key: &[u8]) -> Option<usize>
     ensures none { result ≡ None → IsKey key.now → ⊥ }
 {
     let started = past_lead(key);
+    // Most keys are names alone behind a lead.
+    if are_names(started.rest) {
+        return Some(started.lead.len_in_path() + started.rest.len());
+    }
     let mut rest = started.rest;
     let mut len = started.lead.len_in_path();
     while !rest.is_empty() {

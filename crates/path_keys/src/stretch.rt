@@ -1,6 +1,6 @@
 //! Where a stretch of names ends, in a path or a key.
-ghost use Rattle.std.specs.Prelude.{◌≡◌, ℕ, ◌+◌, ◌<◌, ◌≤◌, ◌==◌, false, length};
-ghost use Rattle.std.specs.Prelude.{slice_index_or};
+ghost use Rattle.std.specs.Prelude.{◌≡◌, ℕ, ◌+◌, ◌-◌, ◌<◌, ◌≤◌, ◌==◌, false, length};
+ghost use Rattle.std.specs.Prelude.{slice_index_or, IsTrue};
 ghost use Rattle.path_keys.specs.Stretches.{is_break_of, is_stop_of, none_begins, FirstStopOf};
 ghost use Rattle.path_keys.specs.Stretches.{HasFewBits};
 
@@ -162,6 +162,23 @@ fn unstopped_len(bytes: &[u8], mark: u8, point: u8) -> usize
     last + unstopped_in_lanes(bytes, last, mark, point)
 }
 
+// As `unstopped_len`, of bytes of which the first 16 may hold a stop.
+#[inline(always)]
+fn unstopped_near(bytes: &[u8], mark: u8, point: u8) -> usize
+    requires { HasFewBits mark point }
+    ensures in_range { result ≤ length bytes.now }
+    ensures none_before { (i : ℕ) → i < result → is_stop_of mark point bytes.now i ≡ false }
+{
+    if bytes.len() < 19 {
+        return unstopped_short(bytes, mark, point);
+    }
+    let len = unstopped_in_lanes(bytes, 0, mark, point);
+    if len < 16 {
+        return len;
+    }
+    16 + unstopped_len(&bytes[16..], mark, point)
+}
+
 // The place of the first stop, or the length if there is none. The bytes are searched 16 at a time,
 // and one by one from the place where that search ends. In a path the mark is a slash, and the
 // point a dot; in a key they are the bytes that stand for these, 0 and a slash.
@@ -175,4 +192,65 @@ pub(crate) fn first_stop(bytes: &[u8], mark: u8, point: u8) -> usize
         at += 1;
     }
     at
+}
+
+// As `first_stop`, of bytes of which the first 16 may hold a stop: these aren't asked first whether
+// they do.
+#[inline(always)]
+pub(crate) fn near_stop(bytes: &[u8], mark: u8, point: u8) -> usize
+    requires { HasFewBits mark point }
+    ensures { FirstStopOf mark point bytes.now result }
+{
+    let mut at = unstopped_near(bytes, mark, point);
+    while at < bytes.len() && !is_stop(bytes, at, mark, point) {
+        at += 1;
+    }
+    at
+}
+
+// Whether one of the 32 bytes from `at` on is a mark with one of a few bytes behind it, as of 16
+// bytes. Both halves are looked at in any case, with one branch.
+#[inline(always)]
+fn may_break_in_two(bytes: &[u8], at: usize, mark: u8, point: u8) -> bool
+    requires room { at + 33 ≤ length bytes.now }
+    requires apart { HasFewBits mark point }
+    ensures { result ≡ false → (i : ℕ) → at ≤ i → i < at + 32
+        → is_break_of mark point bytes.now i ≡ false }
+{
+    let first = may_break(bytes, at, mark, point);
+    let second = may_break(bytes, at + 16, mark, point);
+    first | second
+}
+
+// Whether none of the bytes but the last two is a break. It may say no of others too.
+#[inline(always)]
+fn is_unbroken(bytes: &[u8], mark: u8, point: u8) -> bool
+    requires apart { HasFewBits mark point }
+    requires long { 34 ≤ length bytes.now }
+    ensures { IsTrue result → (i : ℕ) → i + 2 < length bytes.now
+        → is_break_of mark point bytes.now i ≡ false }
+{
+    let last = bytes.len() - 34;
+    let mut at = 0;
+    while at < last {
+        if may_break_in_two(bytes, at, mark, point) {
+            return false;
+        }
+        at += 32;
+    }
+    !may_break_in_two(bytes, last, mark, point)
+}
+
+// Whether the last byte is the first stop. It may say no where it is.
+#[inline(always)]
+pub(crate) fn stops_last(bytes: &[u8], mark: u8, point: u8) -> bool
+    requires { HasFewBits mark point }
+    ensures some { IsTrue result → 0 < length bytes.now }
+    ensures stop { IsTrue result → FirstStopOf mark point bytes.now (length bytes.now - 1) }
+{
+    if bytes.len() < 34 {
+        return false;
+    }
+    let last = bytes.len() - 1;
+    bytes[last] == mark && bytes[last - 1] != mark && is_unbroken(bytes, mark, point)
 }

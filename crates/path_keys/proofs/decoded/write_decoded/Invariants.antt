@@ -6,9 +6,9 @@ use Rattle.path_keys.proofs.decoded.write_decoded.Given as goal
 -- the bytes before `from` are put there
 abbrev pub invariant-loop-from : goal.invariant-loop-from
 invariant-loop-from l = record {
-  in_range : l.from < l.last + 16;
+  in_range : l.from < l.last + 32;
   put : PutTo decoded l.names l.fn.out l.at l.from l.out;
 }
 
 abbrev pub decreases-loop-from : goal.decreases-loop-from
-decreases-loop-from l = l.last + 16 - l.from
+decreases-loop-from l = l.last + 32 - l.from

@@ -2,14 +2,15 @@
 use Rattle.std.proofs.Common.{◌≡◌, ◌<◌, ◌≤◌, ◌+◌, ◌*◌, ℕ, true, false, List, [], ◌∷◌, ◌++◌}
 use Rattle.std.proofs.Common.{length, drop, refl, sym, ap, ◌∙◌, arith, subst, append_assoc}
 use Rattle.std.proofs.Common.{length-append, length-drop}
-use Rattle.std.proofs.Common.{map}
-use Rattle.std.proofs.lemmas.List.{append_cancel_left, length-map}
+use Rattle.std.proofs.Common.{map, take, ◌-◌, append-nil}
+use Rattle.std.specs.Borrow.{Bor}
+use Rattle.std.proofs.lemmas.List.{append_cancel_left, drop_all, length-map, length-take-le}
 use Rattle.unix_path.specs.Parts.{Value, values}
 use Rattle.unix_path.specs.Parts.{slash}
 use Rattle.path_keys.specs.Keys.{code, key_of, IsKey}
-use Rattle.path_keys.specs.Codes.{slashed, text_of, AllFit}
+use Rattle.path_keys.specs.Codes.{slashed, text_of, AllFit, ReadsAs}
 use Rattle.path_keys.specs.Runs.{decoded, lead_text, run_code, run_text}
-use Rattle.path_keys.specs.Runs.{BeginsLead, HoldsNone, TakesRun}
+use Rattle.path_keys.specs.Runs.{AreNames, BeginsLead, HoldsNone, TakesRun}
 use Rattle.path_keys.specs.declared.runs.Run.{Run}
 use Rattle.path_keys.specs.declared.runs.Lead.{Lead}
 use Rattle.path_keys.specs.declared.runs.Run.TheVariants.{Up, Names}
@@ -17,6 +18,7 @@ use Rattle.path_keys.proofs.lemmas.values.CodeLemmas.{code-length, values-coded}
 use Rattle.path_keys.proofs.lemmas.reading.FitLemmas.{AllFit-coded, AllFit-first, values-fit}
 use Rattle.path_keys.proofs.lemmas.values.KeyLemmas.{key_of-nil, key_of-cons, key_of-append}
 use Rattle.path_keys.proofs.lemmas.values.OrderLemmas.{key_of-begins}
+use Rattle.path_keys.proofs.lemmas.spelling.KeyRunLemmas.{names_run}
 use Rattle.path_keys.proofs.lemmas.reading.ReadLemmas.{starts}
 use Rattle.path_keys.proofs.lemmas.reading.TextLemmas.{text_of-nil, text_of-cons, text_of-append}
 use Rattle.path_keys.proofs.lemmas.reading.TextLemmas.{length-slashed}
@@ -177,3 +179,34 @@ reads_no_run {key} {rest} {len} h none some is = by begins.0 begins.1
     by (w ∷ ws) e = none w ws
         (h.inner (w ∷ ws) (subst (AllFit true) (sym e) (values-fit is.0)) (left (w ∷ ws) e))
         (left (w ∷ ws) e)
+
+-- a key that is a lead and names is read
+pub reads_names : {key rest : List ℕ} {lead : Lead} {n k : ℕ} (b : Bor (List ℕ))
+    → BeginsLead key rest lead → k ≡ length (lead_text lead) → AreNames rest
+    → n ≡ k + length rest → ReadsAs key n
+reads_names {key} {rest} {lead} {n} {k} b h begins names count =
+    let bytes : Bor (List ℕ) = record b { now = take (length rest - 1) rest } in
+    let size : length bytes.now ≡ length rest - 1 =
+    length-take-le (length rest - 1) rest (omega arith) in
+    let code : length (run_code (Names bytes)) ≡ length rest =
+    omega (arith, size, names.some, length-append bytes.now (0 ∷ [])) in
+    let text : length (run_text (Names bytes)) ≡ length rest =
+    omega (
+      arith,
+      size,
+      names.some,
+      length-append (map decoded bytes.now) (slash ∷ []),
+      length-map bytes.now decoded,
+    ) in
+    let run = names_run bytes rest (length rest - 1) names.begins names.stop
+    (omega (arith, names.some)) refl in
+    let all = reads_run (reads_lead h begins) run refl refl in
+    let none : drop (length (run_code (Names bytes))) rest ≡ [] =
+    drop_all (length (run_code (Names bytes))) rest (omega (arith, code)) in
+    record {
+      vs = all.us;
+      fit = all.fit;
+      key_is = sym (append-nil (key_of all.us)) ∙ ap (λ m. key_of all.us ++ m) (sym none)
+          ∙ all.whole;
+      len_is = omega (arith, count, text, all.len_is);
+    }

@@ -1,6 +1,7 @@
 -- Stops: marks behind which no name begins.
 use Rattle.std.proofs.Common.{◌≡◌, ◌<◌, ◌≤◌, ◌+◌, ℕ, Bool, false, eqb, List}
 use Rattle.std.proofs.Common.{◌++◌, length, take, get_or, sym, ap, ap₂, ◌∙◌, arith}
+use Rattle.std.proofs.Common.{drop, ◌-◌, take-append-drop}
 use Rattle.std.proofs.Common.{eq-eqb, eqb-true, ⊎_elim, ◌&&◌, ◌||◌}
 use Rattle.std.proofs.lemmas.Bool.{and_parts, cases_lt}
 use Rattle.std.proofs.lemmas.List.{get_or-take, get_or_past, get_or_default, length-take-le}
@@ -43,6 +44,25 @@ is_stop-append m p xs ys i =
   where
     at : (k n : ℕ) → k ≡ length xs + n → get_or (xs ++ ys) k m ≡ get_or ys n m
     at k n e = ap (λ n. get_or (xs ++ ys) n m) e ∙ get_or-append-add xs ys n m
+
+-- a stop behind the first bytes
+pub is_stop-behind : (m p : ℕ) (s : List ℕ) (from k : ℕ) → from ≤ length s
+    → is_stop_of m p s (from + k) ≡ is_stop_of m p (drop from s) k
+is_stop-behind m p s from k l =
+    ap₂ (λ t n. is_stop_of m p t (n + k)) (sym (take-append-drop from s))
+    (sym (length-take-le from s l))
+    ∙ is_stop-append m p (take from s) (drop from s) k
+
+-- neither the first bytes nor n behind them are stops
+pub unstopped_behind : (m p : ℕ) (s : List ℕ) (from n : ℕ) → from ≤ length s
+    → ((i : ℕ) → i < from → is_stop_of m p s i ≡ false)
+    → ((i : ℕ) → i < n → is_stop_of m p (drop from s) i ≡ false)
+    → (i : ℕ) → i < from + n → is_stop_of m p s i ≡ false
+unstopped_behind m p s from n l front behind i low = ⊎_elim
+    (λ before. front i before)
+    (λ past. ap (is_stop_of m p s) {x = i} {y = from + (i - from)} (omega arith)
+    ∙ is_stop-behind m p s from (i - from) l ∙ behind (i - from) (omega arith))
+    (cases_lt i from)
 
 -- the byte at i in the beginning of a string that ends before a mark or with the string
 front_same : (m : ℕ) (s : List ℕ) (n i : ℕ) → n ≤ length s → get_or s n m ≡ m → i ≤ n

@@ -2,7 +2,7 @@
 use Rattle.std.proofs.Common.{◌≡◌, ◌<◌, ◌≤◌, ◌+◌, ◌-◌, ℕ, zero, suc, Bool, true, false, List, []}
 use Rattle.std.proofs.Common.{◌∷◌, ◌++◌, length, take, drop, map, get_or, set, eqb, refl, sym, ap}
 use Rattle.std.proofs.Common.{ap₂, ◌∙◌, arith, ⊎_elim, ◌&&◌, ◌||◌, append_assoc, length-append}
-use Rattle.std.proofs.Common.{length-drop, take-append-drop}
+use Rattle.std.proofs.Common.{length-drop}
 use Rattle.std.proofs.lemmas.Bool.{cases_lt}
 use Rattle.std.proofs.lemmas.List.{drop_more, length-map, length-take-le, map-append}
 use Rattle.std.proofs.Math.Seq.{set-append_seam, take-add}
@@ -13,7 +13,7 @@ use Rattle.path_runs.specs.Overlay.{overlay}
 use Rattle.path_keys.specs.Keys.{key_of}
 use Rattle.path_keys.specs.Stretches.{coded, is_break_of, is_stop, is_stop_of, FirstStop, HasRoom}
 use Rattle.path_keys.specs.Stretches.{PutsFirst}
-use Rattle.path_keys.proofs.lemmas.stops.StopLemmas.{is_stop-append}
+use Rattle.path_keys.proofs.lemmas.stops.StopLemmas.{is_stop-behind, unstopped_behind}
 use Rattle.path_keys.proofs.lemmas.writing.RunLemmas.{names_to}
 use Rattle.path_keys.proofs.lemmas.writing.UpLemmas.{overlay-overlay}
 
@@ -55,19 +55,10 @@ pub first_behind : (s : List ℕ) (from len : ℕ) → from ≤ length s
     → FirstStop s (from + len)
 first_behind s from len l none h = record {
   in_range = omega (arith, h.in_range, length-drop from s, l);
-  stops = λ low. same len ∙ h.stops (omega (arith, low, length-drop from s, l));
-  none_before = λ i low. ⊎_elim
-      (λ before. none i before)
-      (λ past. ap (is_stop s) {x = i} {y = from + (i - from)} (omega arith) ∙ same (i - from)
-      ∙ h.none_before (i - from) (omega arith))
-      (cases_lt i from);
+  stops = λ low. is_stop-behind 47 46 s from len l
+      ∙ h.stops (omega (arith, low, length-drop from s, l));
+  none_before = unstopped_behind 47 46 s from len l none h.none_before;
 }
-  where
-    same : (k : ℕ) → is_stop s (from + k) ≡ is_stop (drop from s) k
-    same k =
-        ap₂ (λ t n. is_stop t (n + k)) (sym (take-append-drop from s))
-        (sym (length-take-le from s l))
-        ∙ is_stop-append 47 46 (take from s) (drop from s) k
 
 -- behind bytes without a stop is the first one
 stop_behind : (s : List ℕ) (k m : ℕ) → k + m ≡ length s

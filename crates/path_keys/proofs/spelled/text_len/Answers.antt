@@ -2,12 +2,17 @@ use Rattle.std.proofs.Common.{◌+◌, length, drop, length-drop, refl, ap, ◌�
 use Rattle.std.proofs.lemmas.Bool.Decides.{nat_tests}
 use Rattle.std.proofs.lemmas.List.{take_rest}
 use Rattle.path_keys.proofs.lemmas.spelling.RunReadLemmas.{reads_lead, reads_run, reads_no_run}
-use Rattle.path_keys.proofs.lemmas.spelling.RunReadLemmas.{run_small}
+use Rattle.path_keys.proofs.lemmas.spelling.RunReadLemmas.{reads_names, run_small}
 use Rattle.path_keys.proofs.lemmas.spelling.RunReadLemmas.{run_within}
 use Rattle.path_keys.proofs.spelled.text_len.Goals as goal
 
 pub loop-rest-init : goal.loop-rest-init
 loop-rest-init c = reads_lead c.past_lead-started.ensures c.len_in_path-len.ensures
+
+pub returns-then-are_names-clause-some : goal.returns-then-are_names-clause-some
+returns-then-are_names-clause-some c =
+    reads_names c.past_lead-started.result.rest c.past_lead-started.ensures c.len_in_path.ensures
+    (c.are_names.ensures c.if-are_names.true) refl
 
 pub text_len-len-requires : goal.text_len-len-requires
 text_len-len-requires c =
