@@ -129,8 +129,8 @@ fn write_middle(out: &mut [u8], at: usize, names: &[u8])
 }
 
 // Overwrites the bytes of `out` from `at` on with those of the names that stand like this in a key,
-// with a slash for each end mark. A turn puts 32 bytes there, as many as `is_unbroken` looks at: the
-// processor, which guesses how often that turns, then mostly guesses right here.
+// with a slash for each end mark. A turn puts 32 bytes there, as many as `is_unbroken` looks at.
+// The loops then turn as often, and the processor mostly guesses right when this one ends.
 #[inline]
 pub(crate) fn write_decoded(out: &mut [u8], at: usize, names: &[u8])
     requires { at + length names.now ≤ length out.old }

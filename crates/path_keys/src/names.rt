@@ -1,6 +1,6 @@
 //! The names that stand first in a path, put in a key while their end is searched.
-ghost use Rattle.std.specs.Prelude.{◌≡◌, ℕ, ◌+◌, ◌-◌, ◌<◌, ◌≤◌, false, length, map, take, drop};
-ghost use Rattle.std.specs.Prelude.{IsTrue};
+ghost use Rattle.std.specs.Prelude.{◌≡◌, ℕ, ◌+◌, ◌-◌, ◌<◌, ◌≤◌, ◌∷◌, [], false, length, map};
+ghost use Rattle.std.specs.Prelude.{take, drop, IsTrue};
 ghost use Rattle.unix_path.specs.CommonDir.{inner_values};
 ghost use Rattle.unix_path.specs.Scan.{begins_with_parent, is_filler};
 ghost use Rattle.path_runs.specs.Overlay.{overlay};
@@ -10,9 +10,10 @@ ghost use Rattle.path_keys.specs.Stretches.{coded, is_stop, FirstStop, HasRoom, 
 use crate::coded::{write_coded, write_lanes};
 use crate::stretch::{may_break, near_stop};
 
-// Overwrites the bytes of `out` from `at` on with those of names in a key, 16 at a time. Ends before
-// the first 16 that may hold a stop, or at the first place that isn't before `last`, and returns
-// that place. What is put there is in the key, since no stop is among it.
+// Overwrites the bytes of `out` from `at` on with those of names in a key, 16 at a time. Ends
+// before the first 16 that may hold a stop, or at the first place that isn't before `last`, and
+// returns that place. What is put there is in the key, since no stop is among it; so these bytes
+// are read once, and not once for the search and once more to be put there.
 #[inline(always)]
 fn write_unbroken(out: &mut [u8], at: usize, bytes: &[u8], last: usize) -> usize
     requires long { last + 16 ≤ length bytes.now }
@@ -77,6 +78,15 @@ fn write_to_stop(out: &mut [u8], at: usize, bytes: &[u8]) -> usize
     bytes.len()
 }
 
+// Overwrites the byte of `out` at `at` with the end mark of a name.
+#[inline(always)]
+fn write_end(out: &mut [u8], at: usize)
+    requires { at < length out.old }
+    ensures { out.new ≡ overlay at (0 ∷ []) out.old }
+{
+    out[at] = 0;
+}
+
 // Overwrites the bytes of `out` from `at` on with those of the names that stand first, with one
 // slash between two of them, in a key. Returns how many bytes these are in the path.
 #[inline(always)]
@@ -88,6 +98,6 @@ pub(crate) fn write_names(out: &mut [u8], at: usize, bytes: &[u8]) -> usize
     ensures { PutsFirst bytes.now result at (result + 1) out.old out.new }
 {
     let end = write_to_stop(out, at, bytes);
-    out[at + end] = 0;
+    write_end(out, at + end);
     end
 }

@@ -119,7 +119,8 @@ fn names_in(bytes: &[u8]) -> Option<Run<'_>>
     Some(Run::Names(&bytes[..end]))
 }
 
-// Whether these bytes are names alone, with an end mark behind each. It may say no of such names too.
+// Whether these bytes are names alone, with an end mark behind each. It may say no of such names
+// too.
 #[inline(always)]
 pub(crate) fn are_names(bytes: &[u8]) -> bool
     ensures { IsTrue result → AreNames bytes.now }

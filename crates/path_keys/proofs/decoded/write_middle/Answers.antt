@@ -18,5 +18,5 @@ returns c =
     let fewer = put_fewer decoded bytes out at 16 last c.write_lanes.new.out front (omega arith)
     (omega arith) c.requires.room in
     put_all decoded bytes out at (last + 16) _
-    (put_many 16 decoded bytes out at last c.write_lanes.new.out _ fewer (omega arith) c.requires.room
-    c.write_lanes-2.ensures) (omega arith)
+    (put_many 16 decoded bytes out at last c.write_lanes.new.out _ fewer (omega arith)
+    c.requires.room c.write_lanes-2.ensures) (omega arith)

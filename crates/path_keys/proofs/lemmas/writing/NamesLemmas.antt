@@ -1,11 +1,11 @@
 -- Names that are put in a key while their end is searched.
 use Rattle.std.proofs.Common.{◌≡◌, ◌<◌, ◌≤◌, ◌+◌, ◌-◌, ℕ, zero, suc, Bool, true, false, List, []}
-use Rattle.std.proofs.Common.{◌∷◌, ◌++◌, length, take, drop, map, get_or, set, eqb, refl, sym, ap}
-use Rattle.std.proofs.Common.{ap₂, ◌∙◌, arith, ⊎_elim, ◌&&◌, ◌||◌, append_assoc, length-append}
+use Rattle.std.proofs.Common.{◌∷◌, ◌++◌, length, take, drop, map, get_or, eqb, refl, sym, ap}
+use Rattle.std.proofs.Common.{ap₂, ◌∙◌, arith, ⊎_elim, ◌&&◌, ◌||◌, length-append}
 use Rattle.std.proofs.Common.{length-drop}
 use Rattle.std.proofs.lemmas.Bool.{cases_lt}
-use Rattle.std.proofs.lemmas.List.{drop_more, length-map, length-take-le, map-append}
-use Rattle.std.proofs.Math.Seq.{set-append_seam, take-add}
+use Rattle.std.proofs.lemmas.List.{length-map, length-take-le, map-append}
+use Rattle.std.proofs.Math.Seq.{take-add}
 use Rattle.unix_bytes.proofs.lemmas.lists.ListLemmas.{by_test}
 use Rattle.unix_path.specs.CommonDir.{inner_values}
 use Rattle.unix_path.specs.Scan.{begins_with_parent, is_filler}
@@ -123,24 +123,10 @@ put_rest f bytes old at i r out new low l room h e =
     ∙ ap (λ zs. overlay at zs old) (sym (ap (map f) (ap (λ n. take n bytes) whole
     ∙ take-add i (r - i) bytes) ∙ map-append f (take i bytes) (take (r - i) (drop i bytes))))
 
--- a byte is put behind those that are put in place of others
-put_behind : (at : ℕ) (xs old : List ℕ) (b n : ℕ) → n ≡ at + length xs
-    → at + length xs < length old → set (overlay at xs old) n b ≡ overlay at (xs ++ b ∷ []) old
-put_behind at xs old b n e l =
-    let front = take at old ++ xs in
-    let k = at + length xs in
-    let size : length front ≡ n =
-    omega (arith, e, length-append (take at old) xs, length-take-le at old (omega arith)) in
-    ap₂ (λ r i. set (front ++ r) i b) (drop_more old k 0 l) (sym size)
-    ∙ set-append_seam front (get_or old k 0) (drop (k + 1) old) b
-    ∙ sym (append_assoc front (b ∷ []) (drop (k + 1) old))
-    ∙ ap₂ (λ xs n. xs ++ drop n old) (append_assoc (take at old) xs (b ∷ []))
-    (omega (arith, length-append xs (b ∷ [])))
-
 -- the names that stand first are put there, with an end mark
 pub names_put : (s : List ℕ) (at n : ℕ) (old out new : List ℕ) → 0 < length s
     → is_filler s 0 ≡ false → begins_with_parent s ≡ false → FirstStop s n → at + n < length old
-    → out ≡ overlay at (map coded (take n s)) old → new ≡ set out (at + n) 0
+    → out ≡ overlay at (map coded (take n s)) old → new ≡ overlay (at + n) (0 ∷ []) out
     → PutsFirst s n at (n + 1) old new
 names_put s at n old out new some busy no_up stop room h e =
     let names = names_to s n some busy no_up stop in
@@ -152,6 +138,8 @@ names_put s at n old out new some busy no_up stop room h e =
       in_range = names.in_range;
       split = names.split;
       len_is = sym (names_len s n names.in_range);
-      new_is = e ∙ ap (λ o. set o (at + n) 0) h
-          ∙ put_behind at xs old 0 (at + n) (omega (arith, size)) (omega (arith, size));
+      new_is = e
+          ∙ ap₂ (λ k o. overlay k (0 ∷ []) o) {x = at + n} {y = at + length xs}
+          (omega (arith, size)) h
+          ∙ overlay-overlay at xs (0 ∷ []) old (omega arith);
     }
