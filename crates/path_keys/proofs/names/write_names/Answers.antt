@@ -24,4 +24,5 @@ returns c =
     names_put c.args.bytes.now c.args.at end.result c.args.out.now end.new.out _ c.requires.some
     c.requires.busy c.requires.no_up end.ensures.stop (names_room c.args.bytes.now c.args.at
     (length c.args.out.now) c.requires.some c.requires.busy c.requires.no_up c.requires.room
-    end.result end.ensures.stop.in_range end.ensures.stop.none_before) end.ensures.out c.write_end.ensures
+    end.result end.ensures.stop.in_range end.ensures.stop.none_before) end.ensures.out
+    c.write_end.ensures
