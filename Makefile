@@ -15,7 +15,7 @@ help:
 	@echo 'make run           runs pathtool on standard input. Proves and builds it first'
 	@echo 'make check         proves every crate, some ten minutes; later only what changed'
 	@echo 'make test          the gate: every proof, test, wrong body and vector, from nothing;'
-	@echo '                   some forty minutes; tools/gate_times.txt has its parts'
+	@echo '                   an hour; tools/gate_times.txt has its parts'
 	@echo 'make bench         times the calls and pathtool beside Rust, some three minutes.'
 	@echo '                   Proves and builds first; needs rustc. bench/calls/run lists its'
 	@echo '                   options, as in  make bench only=parts,eq corpus=deep reps=15'
