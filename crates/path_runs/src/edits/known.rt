@@ -9,7 +9,7 @@ ghost use Rattle.unix_path.specs.Scan.{is_trailing, EndsInPart};
 ghost use Rattle.path_runs.specs.Known.{IsKnown, IsStack, KnowsStem, KnowsStems};
 
 use crate::edits::stems::Stems;
-use unix_path::scan::{ends_in_name, is_trailing, stem_end};
+use unix_path::scan::{ends_in_name, has_slash, is_trailing, stem_end};
 
 // The place where the last part of the path ends, or `least` if that is greater.
 #[inline]
@@ -35,7 +35,14 @@ fn ends_in_filler(path: &[u8]) -> bool
     !path.is_empty() && is_trailing(path, path.len() - 1)
 }
 
-// What is known of a path's first bytes, as long as these stay.
+// Whether the last 64 bytes are of one name.
+#[inline]
+fn ends_in_long_name(path: &[u8]) -> bool {
+    path.len() >= 64 && !has_slash(&path[path.len() - 64..])
+}
+
+// What is known of a path's first bytes, as long as these stay: of ordinary paths nothing, since
+// only long filler and long stems are kept.
 #[derive(Drop)]
 pub(super) struct Known {
     // Among the first `len` bytes the last part ends at `end`.
@@ -69,7 +76,16 @@ impl Known {
         self.stems.clear();
     }
 
+    // True only if nothing is known, which is right of each path.
+    #[inline]
+    pub(super) fn is_empty(&self) -> bool
+        ensures { IsTrue result → (s t : List ℕ) → IsKnown s self.now → IsKnown t self.now }
+    {
+        self.len == 0 && self.stems.is_empty()
+    }
+
     // The place where the last part of the path ends. The bytes of which that is known aren't read.
+    // It is kept if the next call would read many bytes for it.
     #[inline]
     pub(super) fn part_end(&mut self, path: &[u8]) -> usize
         requires { IsKnown path.now self.old }
@@ -78,14 +94,28 @@ impl Known {
         ensures same { parts (take result path.now) ≡ parts path.now }
         ensures ends { EndsInPart (take result path.now) }
     {
-        let end = trimmed_to(path, self.len);
-        if end == self.len {
+        let read_to = trimmed_to(path, self.len);
+        let end = if read_to == self.len {
+            self.end
+        } else {
+            read_to
+        };
+        if path.len() - read_to >= 16 {
+            self.end = end;
             self.len = path.len();
-            return self.end;
         }
-        self.end = end;
-        self.len = path.len();
         end
+    }
+
+    // Reads the filler at the end of the path, if there is any, so that the next call needn't.
+    #[inline]
+    pub(super) fn learn(&mut self, path: &[u8])
+        requires { IsKnown path.now self.old }
+        ensures { IsKnown path.now self.new }
+    {
+        if ends_in_filler(path) {
+            let _end = self.part_end(path);
+        }
     }
 
     // The place where the file name of the path ends, or `None` if there is none.
@@ -130,7 +160,7 @@ impl Known {
     }
 
     // The place where the stem of the file name ends, which ends at `end`. Of the bytes that are
-    // known to end in a stem only the last is read.
+    // known to end in a stem only the last is read. A stem is kept if it is long.
     #[inline]
     pub(super) fn stem_end(&mut self, path: &[u8], end: usize) -> usize
         requires known { IsKnown path.now self.old }
@@ -142,7 +172,7 @@ impl Known {
     {
         let start = self.start(end);
         let stem = stem_end(&path[..end], start);
-        if stem == end {
+        if stem == end && ends_in_long_name(&path[..end]) {
             self.stems.add(end);
         }
         stem

@@ -1,5 +1,5 @@
 //! Places of a path where stems end, so that a long name without a dot isn't searched for one again.
-ghost use Rattle.std.specs.Prelude.{◌≡◌, ℕ, ◌<◌, ◌≤◌, List, length, take};
+ghost use Rattle.std.specs.Prelude.{◌≡◌, ℕ, ◌<◌, ◌≤◌, List, length, take, IsTrue};
 ghost use Rattle.path_runs.specs.Known.{IsStack, KnowsStem, KnowsStems};
 
 // Places up to which a path ends in a stem: 0, and those up to `last`, which rise.
@@ -30,6 +30,14 @@ impl Stems {
         ensures known { (s : List ℕ) → KnowsStems s self.new }
     {
         self.last = 0;
+    }
+
+    // Whether there is no place but 0.
+    #[inline]
+    pub(super) fn is_empty(&self) -> bool
+        ensures { IsTrue result → self.now.last ≡ 0 }
+    {
+        self.last == 0
     }
 
     // The last place.

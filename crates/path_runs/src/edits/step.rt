@@ -26,7 +26,8 @@ fn bytes_of(path: &PathBuf) -> &[u8]
     path.as_path().as_unix_str().as_bytes()
 }
 
-// Joins the other path to the path. Always inlined, as `PathBuf::push` is.
+// Joins the other path to the path. Always inlined, as `PathBuf::push` is, which stands here twice
+// so that a root is tested for once.
 #[inline(always)]
 #[tactic(auto, using(crate::proofs::lemmas::edits::EditStepLemmas::IsKnown_join))]
 pub(super) fn push(path: &mut PathBuf, known: &mut Known, other: Path<'_>) -> Result<(), AllocError>
@@ -38,13 +39,33 @@ pub(super) fn push(path: &mut PathBuf, known: &mut Known, other: Path<'_>) -> Re
 {
     if other.has_root() {
         known.clear();
+        return path.push(other);
     }
     path.push(other)
 }
 
 // Cuts the path to its parent and returns true. If there is no parent, leaves it and returns false.
+// What a pop reads goes away with it, but for filler behind a root.
 #[inline]
 pub(super) fn pop(path: &mut PathBuf, known: &mut Known) -> bool
+    requires { IsKnown (path_bytes path.old) known.old }
+    ensures known { IsKnown (path_bytes path.new) known.new }
+    ensures value { result ≡ is_some (parent_of (path_bytes path.old)) }
+    ensures bytes { path_bytes path.new ≡ popped_of (path_bytes path.old) }
+{
+    if !known.is_empty() {
+        return pop_known(path, known);
+    }
+    if path.pop() {
+        return true;
+    }
+    known.learn(bytes_of(path));
+    false
+}
+
+// As `pop`, where something is known. It isn't inlined, so that a list's loop stays small.
+#[inline(never)]
+fn pop_known(path: &mut PathBuf, known: &mut Known) -> bool
     requires { IsKnown (path_bytes path.old) known.old }
     ensures known { IsKnown (path_bytes path.new) known.new }
     ensures value { result ≡ is_some (parent_of (path_bytes path.old)) }
@@ -76,9 +97,11 @@ pub(super) fn set_file_name(
         return push(path, known, Path::new(name));
     }
     path.set_file_name(name)?;
-    // Behind what stays of the path stand a slash, perhaps, and the name.
-    let len = bytes_of(path).len();
-    known.cut(len.saturating_sub(name.len() + 1));
+    if !known.is_empty() {
+        // Behind what stays of the path stand a slash, perhaps, and the name.
+        let len = bytes_of(path).len();
+        known.cut(len.saturating_sub(name.len() + 1));
+    }
     Ok(())
 }
 

@@ -4,8 +4,8 @@ use Rattle.unix_path.specs.Edits.{with_name_of}
 use Rattle.path_runs.proofs.lemmas.edits.EditStepLemmas.{keeps-name}
 use Rattle.path_runs.proofs.edits.step.set_file_name.Goals as goal
 
-pub returns-clause-known : goal.returns-clause-known
-returns-clause-known c =
+pub returns-then-not-is_empty-clause-known : goal.returns-then-not-is_empty-clause-known
+returns-then-not-is_empty-clause-known c =
     let v = c.bytes_of.result.now in
     let name = c.args.name.bytes.now in
     let t = path_bytes c.set_file_name.new.self in

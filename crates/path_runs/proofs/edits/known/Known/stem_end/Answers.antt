@@ -14,8 +14,8 @@ stem_end-stem-requires-clause-stem c = λ some.
     ap stem_end_of (take-take start.result c.args.end c.args.path.now start.ensures.in_range)
     ∙ (start.ensures.value c.args.path.now c.requires.known.stems).ends some
 
-pub returns-then-stem-end-clause-known : goal.returns-then-stem-end-clause-known
-returns-then-stem-end-clause-known c = record {
+pub returns-then-ends_in_long_name-clause-known : goal.returns-then-ends_in_long_name-clause-known
+returns-then-ends_in_long_name-clause-known c = record {
   end = c.requires.known.end;
   stack = c.add.ensures.stack;
   stems = c.add.ensures.known c.args.path.now c.requires.known.stems (record {
@@ -24,8 +24,8 @@ returns-then-stem-end-clause-known c = record {
   });
 }
 
-pub returns-then-stem-end-clause-value : goal.returns-then-stem-end-clause-value
-returns-then-stem-end-clause-value c =
+pub returns-then-ends_in_long_name-clause-value : goal.returns-then-ends_in_long_name-clause-value
+returns-then-ends_in_long_name-clause-value c =
     sym (stem_end_of-take c.args.path.now c.args.end c.requires.name)
     ∙ c.stem_end-stem.ensures.value
 

@@ -4,7 +4,7 @@ use Rattle.unix_path.specs.Edits.{popped_of}
 use Rattle.unix_path.specs.Parents.{parent_of}
 use Rattle.unix_path.proofs.lemmas.edits.EditLemmas.{popped_of-none}
 use Rattle.path_runs.proofs.lemmas.edits.EditStepLemmas.{keeps-pop}
-use Rattle.path_runs.proofs.edits.step.pop.Goals as goal
+use Rattle.path_runs.proofs.edits.step.pop_known.Goals as goal
 
 pub returns-then-is_bare-clause-bytes : goal.returns-then-is_bare-clause-bytes
 returns-then-is_bare-clause-bytes c = sym (popped_of-none _
