@@ -21,14 +21,14 @@ Figures = collections.namedtuple("Figures", "start now")
 
 
 def read_file():
-    """The figures of the file by row, and the toolchain that they hold for."""
+    """The figures of the file by row, and the versions of the toolchain that they hold for."""
     if not os.path.exists(FILE):
-        return {}, version()
+        return {}, [version()]
     with open(FILE, encoding="utf-8") as file:
         text = file.read()
     rows = {name: Figures(None if start == "-" else int(start), int(now))
             for name, start, now, _ in ROW.findall(text)}
-    return rows, HOLDS.search(text)[1]
+    return rows, HOLDS.search(text)[1].split("; ")
 
 
 def ratio(figures):
@@ -36,10 +36,10 @@ def ratio(figures):
     return figures.now / figures.start if figures.start else None
 
 
-def write_file(rows):
-    """Writes the figures of these rows, which hold for the toolchain that is here."""
+def write_file(rows, versions):
+    """Writes the figures of these rows, and the versions of the toolchain that they hold for."""
     with open(FILE, "w", encoding="utf-8") as file:
-        file.write(f"{HEAD}# holds for: {version()}\n#\n")
+        file.write(f"{HEAD}# holds for: {'; '.join(versions)}\n#\n")
         file.write(f"#{'row':37} {'START':>9} {'NOW':>9} {'NOW/START':>9}\n")
         for name, figures in rows.items():
             start = "-" if figures.start is None else figures.start
