@@ -20,7 +20,7 @@ help:
 	@echo '                   Proves and builds first; needs rustc. bench/calls/run lists its'
 	@echo '                   options, as in  make bench only=parts,eq corpus=deep reps=15'
 	@echo 'make count         counts the instructions of the jobs, of pathtool and of the calls from'
-	@echo '                   C, a quarter of a minute, and compares them with bench/counts.txt.'
+	@echo '                   C, half a minute, and compares them with bench/counts.txt.'
 	@echo '                   Proves and builds first; needs valgrind and cc'
 	@echo 'make differential  asks pathtool and Rust the same random lines, a quarter of a minute'
 	@echo '                   for a million. Proves and builds first; needs rustc. Prints its'
