@@ -39,8 +39,9 @@ impl<P: AsRef<[u8]>> Ord for ByParts<P> {
     }
 }
 
-/// The hasher is fed what the parts feed it, one after the other: equal paths feed it the same, and
-/// if it has a key, that decides which other paths collide.
+/// Feeds the hasher each part, and an end after the last, as [`Components`](crate::Components)
+/// does: equal paths feed it the same, and if it has a key, that decides which other paths, or
+/// lists of paths, collide.
 impl<P: AsRef<[u8]>> Hash for ByParts<P> {
     #[inline]
     fn hash<H: Hasher>(&self, state: &mut H) {

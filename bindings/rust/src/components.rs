@@ -171,10 +171,13 @@ impl Ord for Components<'_> {
     }
 }
 
-/// The hasher is fed what the parts feed it that are left, one after the other.
+/// Feeds the hasher each part that is left, and then a slash and a NUL, with which no part begins.
+/// So the bytes of one walk are never a prefix of those of a walk over other parts, and two tuples
+/// of paths feed the same bytes only if they are equal.
 impl Hash for Components<'_> {
     #[inline]
     fn hash<H: Hasher>(&self, state: &mut H) {
         self.clone().for_each(|part| part.hash(state));
+        state.write(b"/\0");
     }
 }

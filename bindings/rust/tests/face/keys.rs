@@ -1,7 +1,8 @@
 //! Paths as keys: hashes, maps by parts, and keys for ordered stores.
 use crate::short_strings::over;
-use std::collections::{BTreeMap, HashMap, HashSet};
-use std::hash::{Hash, Hasher};
+use std::collections::hash_map::{DefaultHasher, RandomState};
+use std::collections::{BTreeMap, BTreeSet, HashMap, HashSet};
+use std::hash::{BuildHasher, BuildHasherDefault, Hash, Hasher};
 use unix_path_rattle::{compare, components, hash, owned, starts_with, ByParts, Component, Error};
 
 #[test]
@@ -114,14 +115,15 @@ fn fed_by(key: impl Hash) -> Vec<u8> {
     hasher.0
 }
 
-/// So no two different paths collide under each key of a hasher.
+/// So no two different paths collide under each key of a hasher, nor two different lists of paths.
 #[test]
 fn hashers_are_fed_the_parts() {
-    let (mut feeds, mut spellings) = (HashSet::new(), HashSet::new());
-    for s in over(b"/.ab", 5) {
+    let (mut feeds, mut spellings) = (BTreeSet::new(), HashSet::new());
+    let end = fed_by(ByParts(""));
+    for s in over(b"/.ab\0\xFF", 5) {
         let fed = fed_by(ByParts(&s));
-        let parts: Vec<_> = components(&s).collect();
-        assert_eq!(fed, parts.iter().flat_map(fed_by).collect::<Vec<u8>>());
+        let parts: Vec<_> = components(&s).map(fed_by).chain([end.clone()]).collect();
+        assert_eq!(fed, parts.concat());
         assert_eq!(fed, fed_by(components(&s)));
         let spelling = owned::canonical(&s).unwrap();
         assert_eq!(fed, fed_by(ByParts(&spelling)), "{}", s.escape_ascii());
@@ -129,4 +131,32 @@ fn hashers_are_fed_the_parts() {
         spellings.insert(spelling);
     }
     assert_eq!(feeds.len(), spellings.len());
+    // If one begins with another, so does the one right after that other.
+    let feeds: Vec<_> = feeds.into_iter().collect();
+    assert!(feeds.windows(2).all(|pair| !pair[1].starts_with(&pair[0])));
+}
+
+/// The lists of two and of three paths whose parts are, one after the other, that many names.
+fn cut_lists(names: usize) -> Vec<Vec<ByParts<String>>> {
+    let path = |count| ByParts(["a"].repeat(count).join("/"));
+    let mut lists = vec![];
+    for first in 0..=names {
+        lists.push(vec![path(first), path(names - first)]);
+        for second in 0..=names - first {
+            lists.push([first, second, names - first - second].map(path).into());
+        }
+    }
+    lists
+}
+
+#[test]
+fn cut_lists_differ() {
+    let lists = cut_lists(64);
+    let fixed = BuildHasherDefault::<DefaultHasher>::default();
+    let random = RandomState::new();
+    let feeds: HashSet<_> = lists.iter().map(fed_by).collect();
+    let hashes: HashSet<_> = lists.iter().map(|it| fixed.hash_one(it)).collect();
+    let keyed: HashSet<_> = lists.iter().map(|it| random.hash_one(it)).collect();
+    assert_eq!(lists.len(), 65 + 65 * 66 / 2);
+    assert_eq!([feeds.len(), hashes.len(), keyed.len()], [lists.len(); 3]);
 }

@@ -120,8 +120,8 @@ impl Ord for Path {
     }
 }
 
-/// The hasher is fed what the parts feed it, one after the other: equal paths feed it the same, and
-/// if it has a key, that decides which other paths collide.
+/// Feeds the hasher each part, and an end after the last, as [`Components`] does: equal paths feed
+/// it the same, and if it has a key, that decides which other paths, or lists of paths, collide.
 impl Hash for Path {
     #[inline]
     fn hash<H: Hasher>(&self, state: &mut H) {

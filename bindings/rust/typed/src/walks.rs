@@ -77,7 +77,7 @@ impl DoubleEndedIterator for Components<'_> {
 
 impl FusedIterator for Components<'_> {}
 
-/// The hasher is fed what the parts feed it that are left, one after the other.
+/// Feeds the hasher each part that is left, and then a slash and a NUL, with which no part begins.
 impl Hash for Components<'_> {
     #[inline]
     fn hash<H: Hasher>(&self, state: &mut H) {

@@ -1,8 +1,11 @@
 //! Paths as keys of maps, looked up by another spelling.
 use crate::strings::*;
-use std::collections::{BTreeMap, HashMap, HashSet};
-use std::hash::{BuildHasher, Hash, Hasher, RandomState};
-use unix_path_typed::{Component, Path, PathBuf, UnixStr, UnixString};
+use std::borrow::Cow;
+use std::collections::{BTreeMap, BTreeSet, HashMap, HashSet};
+use std::hash::{BuildHasher, BuildHasherDefault, DefaultHasher, Hash, Hasher, RandomState};
+use std::{rc::Rc, sync::Arc};
+use unix_path_rattle::ByParts;
+use unix_path_typed::{Path, PathBuf, UnixStr, UnixString};
 
 /// A hasher that keeps what it is fed.
 #[derive(Default)]
@@ -25,21 +28,62 @@ fn fed_by(key: impl Hash) -> Vec<u8> {
     hasher.0
 }
 
-/// So no two different paths collide under each key of a hasher.
+/// What a path feeds: its parts and then an end, be it borrowed, owned or a walk.
+fn fed_by_path(path: &Path) -> Vec<u8> {
+    let fed = fed_by(path);
+    let parts = path.components().map(fed_by);
+    let parts: Vec<_> = parts.chain([fed_by(Path::new(""))]).collect();
+    assert_eq!(fed, parts.concat());
+    assert_eq!(fed, fed_by(path.components()));
+    assert_eq!(fed, fed_by(ByParts(bytes(path))));
+    assert_eq!(fed, fed_by(path.to_path_buf()));
+    assert_eq!(fed, fed_by(Box::<Path>::from(path)));
+    assert_eq!(fed, fed_by(Rc::<Path>::from(path)));
+    assert_eq!(fed, fed_by(Arc::<Path>::from(path)));
+    assert_eq!(fed, fed_by(Cow::from(path)));
+    fed
+}
+
+/// So no two different paths collide under each key of a hasher, nor two different lists of paths.
 #[test]
 fn hashers_are_fed_the_parts() {
-    let (mut feeds, mut paths) = (HashSet::new(), HashSet::new());
-    for s in short(6).iter().chain(&random(20_000)) {
-        let path = ours(s);
-        let fed = fed_by(path);
-        let parts: Vec<Component> = path.components().collect();
-        assert_eq!(fed, parts.iter().flat_map(fed_by).collect::<Vec<u8>>());
-        assert_eq!(fed, fed_by(path.to_path_buf()));
-        assert_eq!(fed, fed_by(path.components()));
-        feeds.insert(fed);
-        paths.insert(theirs(s).to_owned());
+    let mut feeds = HashMap::new();
+    let strings = [over(b"/.a\0\xFF", 5), short(6), random(20_000)];
+    for s in strings.iter().flatten() {
+        let fed = fed_by_path(ours(s));
+        let same = feeds.entry(theirs(s).to_owned()).or_insert(fed.clone());
+        assert_eq!(*same, fed);
     }
-    assert_eq!(feeds.len(), paths.len());
+    let sorted: BTreeSet<_> = feeds.values().collect();
+    assert_eq!(sorted.len(), feeds.len());
+    // If one begins with another, so does the one right after that other.
+    let sorted: Vec<_> = sorted.into_iter().collect();
+    assert!(sorted.windows(2).all(|pair| !pair[1].starts_with(pair[0])));
+}
+
+/// The lists of two and of three paths whose parts are, one after the other, that many names.
+fn cut_lists(names: usize) -> Vec<Vec<PathBuf>> {
+    let path = |count| PathBuf::from_iter(["a"].repeat(count));
+    let mut lists = vec![];
+    for first in 0..=names {
+        lists.push(vec![path(first), path(names - first)]);
+        for second in 0..=names - first {
+            lists.push([first, second, names - first - second].map(path).into());
+        }
+    }
+    lists
+}
+
+#[test]
+fn cut_lists_differ() {
+    let lists = cut_lists(64);
+    let fixed = BuildHasherDefault::<DefaultHasher>::default();
+    let random = RandomState::new();
+    let feeds: HashSet<_> = lists.iter().map(fed_by).collect();
+    let hashes: HashSet<_> = lists.iter().map(|it| fixed.hash_one(it)).collect();
+    let keyed: HashSet<_> = lists.iter().map(|it| random.hash_one(it)).collect();
+    assert_eq!(lists.len(), 65 + 65 * 66 / 2);
+    assert_eq!([feeds.len(), hashes.len(), keyed.len()], [lists.len(); 3]);
 }
 
 #[test]

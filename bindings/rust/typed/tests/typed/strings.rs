@@ -5,10 +5,15 @@ use unix_path_typed::{Path, UnixStr};
 
 /// The strings of at most `longest` bytes over `/`, `.` and `a`, shorter ones first.
 pub fn short(longest: usize) -> Vec<Vec<u8>> {
+    over(b"/.a", longest)
+}
+
+/// The strings of at most `longest` bytes over these letters, shorter ones first.
+pub fn over(letters: &[u8], longest: usize) -> Vec<Vec<u8>> {
     let mut strings = vec![vec![]];
     let mut at = 0;
     while strings[at].len() < longest {
-        for letter in b"/.a" {
+        for letter in letters {
             let longer = [&strings[at][..], &[*letter]].concat();
             strings.push(longer);
         }
