@@ -76,7 +76,9 @@ impl Ord for Path<'_> {
 }
 
 /// A path feeds a hasher the values of its parts one after the other, each as `Component` does, so
-/// `a//b` feeds what `a/b` feeds. Does not allocate.
+/// `a//b` feeds what `a/b` feeds. Different tuples of paths can feed the same bytes, as
+/// (`a`, `b/c`) and (`a/b`, `c`) do, so a key of several paths should feed something between them,
+/// such as a slash and a NUL, with which no part begins. Does not allocate.
 impl Hash for Path<'_> {
     ghost hash_input = { λ path. hash_input_of (values path.bytes.now) };
 

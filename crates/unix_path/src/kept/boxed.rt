@@ -188,7 +188,8 @@ impl Ord for BoxedPath {
     }
 }
 
-/// The hash of `as_path`, which is the same for `a//b` and `a/b`. Does not allocate.
+/// The hash of `as_path`, which is the same for `a//b` and `a/b`. A key of several paths should
+/// feed something between them, as `Path` says. Does not allocate.
 impl Hash for BoxedPath {
     ghost hash_input = { λ path. hash_input_of (values (boxed_bytes path)) };
 

@@ -170,7 +170,8 @@ impl Ord for CowPath<'_> {
     }
 }
 
-/// The hash of `as_path`, which is the same for `a//b` and `a/b`. Does not allocate.
+/// The hash of `as_path`, which is the same for `a//b` and `a/b`. A key of several paths should
+/// feed something between them, as `Path` says. Does not allocate.
 impl Hash for CowPath<'_> {
     ghost hash_input = { λ path. hash_input_of (values (cow_bytes path)) };
 
