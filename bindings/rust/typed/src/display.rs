@@ -5,15 +5,14 @@ use core::fmt::{self, Write};
 
 /// A path that is printed as text; [`Path::display`](crate::Path::display) gives it.
 ///
-/// Bytes that are UTF-8 are printed as a `str` is, with width, precision, fill and alignment. For
-/// others each part that isn't is printed as U+FFFD, without regard to these, and the text is
-/// allocated once. As Rust's `std::path::Display`.
+/// Prints U+FFFD for each stretch that isn't UTF-8; the text is then allocated once. Width, fill
+/// and alignment work as for a `str`, and a precision is ignored. As Rust's `std::path::Display`.
 ///
 /// ```
 /// use unix_path_typed::{Path, UnixStr};
-/// assert_eq!(format!("{:>6}", Path::new("/tmp").display()), "  /tmp");
+/// assert_eq!(format!("{:>6.2}", Path::new("/tmp").display()), "  /tmp");
 /// let path = Path::new(UnixStr::from_bytes(b"caf\xE9"));
-/// assert_eq!(path.display().to_string(), "caf\u{FFFD}");
+/// assert_eq!(format!("{:-^6}", path.display()), "-caf\u{FFFD}-");
 /// ```
 pub struct Display<'a> {
     path: &'a Path,
@@ -34,10 +33,17 @@ impl fmt::Debug for Display<'_> {
 
 impl fmt::Display for Display<'_> {
     fn fmt(&self, f: &mut fmt::Formatter<'_>) -> fmt::Result {
-        match self.path.to_str() {
-            Some(text) => f.pad(text),
-            None => f.write_str(&self.path.to_string_lossy()),
-        }
+        let (text, fill) = (self.path.to_string_lossy(), f.fill());
+        let width = f.width().unwrap_or(0);
+        let padding = width.saturating_sub(text.chars().count());
+        let before = match f.align() {
+            Some(fmt::Alignment::Right) => padding,
+            Some(fmt::Alignment::Center) => padding / 2,
+            _ => 0,
+        };
+        (0..before).try_for_each(|_| f.write_char(fill))?;
+        f.write_str(&text)?;
+        (before..padding).try_for_each(|_| f.write_char(fill))
     }
 }
 

@@ -59,14 +59,50 @@ fn text_is_borrowed() {
 
 #[test]
 fn printed_in_a_field() {
-    assert_eq!(
-        format!(
-            "{:>5}|{:<5}|{:.2}",
-            ours(b"abc").display(),
-            ours(b"").display(),
-            ours(b"abc").display()
-        ),
-        "  abc|     |ab"
-    );
-    assert_eq!(format!("{:5}|", ours(b"\xFF").display()), "\u{FFFD}|");
+    let (text, broken) = (ours(b"abc").display(), ours(b"\xFFa").display());
+    let rows = [
+        (format!("{text:5}|"), "abc  |"),
+        (format!("{text:>5}"), "  abc"),
+        (format!("{text:-^6}"), "-abc--"),
+        (format!("{text:.2}"), "abc"),
+        (format!("{text:>5.2}"), "  abc"),
+        (format!("{:<5}|", ours(b"").display()), "     |"),
+        (format!("{:>3.0}", ours("é".as_bytes()).display()), "  é"),
+        (format!("{broken:4}|"), "\u{FFFD}a  |"),
+        (format!("{broken:*>4.1}"), "**\u{FFFD}a"),
+    ];
+    for (found, want) in rows {
+        assert_eq!(found, want);
+    }
+}
+
+/// Checks that a path of these bytes is printed in a field as one of std is, with each style: a
+/// fill, an alignment and flags, before a width `w` and a precision `p`.
+macro_rules! prints_as_std {
+    ($bytes:expr, $w:expr, $p:expr, $($style:literal)*) => {$(
+        prints_as_std!(@ $bytes, concat!("{:", $style, "w$}"), w = $w);
+        prints_as_std!(@ $bytes, concat!("{:", $style, ".p$}"), p = $p);
+        prints_as_std!(@ $bytes, concat!("{:", $style, "w$.p$}"), w = $w, p = $p);
+        prints_as_std!(@ $bytes, concat!("{:", $style, "w$.p$?}"), w = $w, p = $p);
+    )*};
+    (@ $bytes:expr, concat!($($form:tt)*), $($name:ident = $value:expr),*) => {
+        assert_eq!(
+            format!(concat!($($form)*), ours($bytes).display(), $($name = $value),*),
+            format!(concat!($($form)*), theirs($bytes).display(), $($name = $value),*),
+            "{} as {}", $bytes.escape_ascii(), concat!($($form)*)
+        );
+    };
+}
+
+#[test]
+fn fields_as_in_std() {
+    let strings: Vec<Vec<u8>> = short(2).into_iter().chain(random(500)).collect();
+    assert!(strings.iter().any(|s| ours(s).to_str().is_none()));
+    for s in &strings {
+        for width in [0, 1, 2, 5, 24, 25, 40] {
+            for precision in [0, 1, 3, 24, 40] {
+                prints_as_std!(s, width, precision, "" "<" "^" ">" "*<" "*^" "é>" "0" "+" "#");
+            }
+        }
+    }
 }
