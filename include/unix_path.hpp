@@ -429,26 +429,36 @@ class walk {
     unix_path_walk walk_;
 };
 
+namespace detail {
+
+// What `->` returns where `*` returns a value.
+template <typename T>
+class arrow {
+  public:
+    explicit arrow(T value) noexcept : value_(value) {}
+    const T *operator->() const noexcept { return &value_; }
+
+  private:
+    T value_;
+};
+
+}  // namespace detail
+
+// The iterators of the ranges below return values, which outlive the iterator; the bytes are the
+// path's. C++17 calls an iterator that returns values an input iterator. The category of these
+// names their steps all the same, like std::vector<bool>'s, so that std::prev can step back.
+
 /// The parts of a path, as a range in both directions.
 class components {
   public:
-    /// A part's place, or the end. What `*` gives is a value and no reference, so that a loop may
-    /// keep it. Its bytes are the path's.
+    /// A part's place, or the end.
     class iterator {
       public:
         using iterator_category = std::bidirectional_iterator_tag;
         using value_type = component;
         using difference_type = std::ptrdiff_t;
         using reference = component;
-        /// What `->` gives.
-        class pointer {
-          public:
-            explicit pointer(component part) noexcept : part_(part) {}
-            const component *operator->() const noexcept { return &part_; }
-
-          private:
-            component part_;
-        };
+        using pointer = detail::arrow<component>;
 
         iterator() noexcept = default;
         component operator*() const noexcept {
@@ -532,13 +542,13 @@ class ancestors {
         using iterator_category = std::forward_iterator_tag;
         using value_type = view;
         using difference_type = std::ptrdiff_t;
-        using reference = const view &;
-        using pointer = const view *;
+        using reference = view;
+        using pointer = detail::arrow<view>;
 
         iterator() noexcept = default;
         explicit iterator(view path) noexcept : whole_(path), next_(path.size()) { ++*this; }
-        const view &operator*() const noexcept { return *path_; }
-        const view *operator->() const noexcept { return &*path_; }
+        view operator*() const noexcept { return *path_; }
+        pointer operator->() const noexcept { return pointer(**this); }
         iterator &operator++() noexcept {
             unix_path_place place;
             const bool is_there =
@@ -584,13 +594,13 @@ class chunks {
         using iterator_category = std::forward_iterator_tag;
         using value_type = chunk;
         using difference_type = std::ptrdiff_t;
-        using reference = const chunk &;
-        using pointer = const chunk *;
+        using reference = chunk;
+        using pointer = detail::arrow<chunk>;
 
         iterator() noexcept = default;
         explicit iterator(view path) noexcept : path_(path), next_(0) { ++*this; }
-        const chunk &operator*() const noexcept { return *chunk_; }
-        const chunk *operator->() const noexcept { return &*chunk_; }
+        chunk operator*() const noexcept { return *chunk_; }
+        pointer operator->() const noexcept { return pointer(**this); }
         iterator &operator++() noexcept {
             unix_path_chunk found;
             if (!unix_path_next_chunk(path_.data(), path_.size(), &next_, &found)) {

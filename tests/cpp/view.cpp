@@ -10,6 +10,7 @@
 #include <cstdio>
 #include <cstdlib>
 #include <functional>
+#include <iterator>
 #include <map>
 #include <new>
 #include <set>
@@ -78,6 +79,20 @@ static_assert(std::is_constructible_v<buffer, std::array<char, 4> &>);
 static_assert(!std::is_constructible_v<buffer, std::array<char, 4>>);
 static_assert(!std::is_constructible_v<buffer, std::string>);
 static_assert(!std::is_constructible_v<buffer, view>);
+
+// Whether an iterator returns values, and how it steps.
+template <typename It, typename Value, typename Category>
+constexpr bool returns =
+    std::is_same_v<decltype(*std::declval<It &>()), Value>
+    && std::is_same_v<typename std::iterator_traits<It>::reference, Value>
+    && std::is_same_v<typename std::iterator_traits<It>::value_type, Value>
+    && std::is_same_v<typename std::iterator_traits<It>::iterator_category, Category>
+    && std::is_same_v<decltype(std::declval<It &>().operator->()),
+                      typename std::iterator_traits<It>::pointer>;
+static_assert(
+    returns<unix_path::components::iterator, component, std::bidirectional_iterator_tag>);
+static_assert(returns<unix_path::ancestors::iterator, view, std::forward_iterator_tag>);
+static_assert(returns<unix_path::chunks::iterator, unix_path::chunk, std::forward_iterator_tag>);
 
 int wrong_checks = 0, passed_tests = 0, failed_tests = 0;
 
@@ -262,6 +277,31 @@ void iterators() {
             steps_of(path, parts, turns);
         }
     }
+}
+
+// What an iterator returns outlives it, and stays as the iterator goes on.
+template <typename Range>
+void outlives(const Range &range) {
+    using value = typename Range::value_type;
+    const std::vector<value> all(range.begin(), range.end());
+    const auto is_second = [&](const value &it) { return it == all[1]; };
+    auto at = range.begin();
+    const value &of_temporary = *range.begin(), &of_passed = *at++, &of_kept = *at++;
+    const value &of_found = *std::find_if(range.begin(), range.end(), is_second);
+    const value &of_next = *std::next(range.begin());
+    CHECK(at != range.end() && *at == all[2]);
+    CHECK(of_temporary == all[0] && of_passed == all[0]);
+    CHECK(of_kept == all[1] && of_found == all[1] && of_next == all[1]);
+    CHECK(std::adjacent_find(range.begin(), range.end()) == range.end());
+}
+
+void returned_values() {
+    outlives(view("/a/..").components());
+    outlives(view("/a/b").ancestors());
+    outlives(view("a\xFF" "b\xFF" "c"sv).chunks());
+    const component &last = *view("/a/b").components().rbegin();
+    CHECK(last.bytes == "b" && view("/a/b").ancestors().begin()->size() == 4);
+    CHECK(view("a\xFF"sv).chunks().begin()->broken == "\xFF"sv);
 }
 
 // Parts taken from both ends, and what is left between.
@@ -497,6 +537,7 @@ int main() {
     run("written strings", written_strings);
     run("places", places);
     run("iterators", iterators);
+    run("values that iterators return", returned_values);
     run("walks", walks);
     run("parents", parents);
     run("chunks", chunks);
