@@ -518,8 +518,44 @@ class components {
         unix_path_walk left_ = {0, 0};
         unix_path_part part_ = {0, 0, UNIX_PATH_NORMAL};
     };
+    /// Steps from the last part to the first. std::reverse_iterator wouldn't do: in C++17 libc++
+    /// makes `->` of the address of what `*` returns, which is a value here.
+    class reverse_iterator {
+      public:
+        using iterator_category = std::bidirectional_iterator_tag;
+        using value_type = component;
+        using difference_type = std::ptrdiff_t;
+        using reference = component;
+        using pointer = iterator::pointer;
+
+        reverse_iterator() noexcept = default;
+        explicit reverse_iterator(iterator base) noexcept : base_(base) {}
+        /// The place after the part, as std::reverse_iterator has it.
+        iterator base() const noexcept { return base_; }
+        component operator*() const noexcept { return *--base(); }
+        pointer operator->() const noexcept { return pointer(**this); }
+        reverse_iterator &operator++() noexcept {
+            --base_;
+            return *this;
+        }
+        reverse_iterator &operator--() noexcept {
+            ++base_;
+            return *this;
+        }
+        reverse_iterator operator++(int) noexcept { return reverse_iterator(base_--); }
+        reverse_iterator operator--(int) noexcept { return reverse_iterator(base_++); }
+        /// Whether both stand at the same part of one path.
+        friend bool operator==(const reverse_iterator &a, const reverse_iterator &b) noexcept {
+            return a.base_ == b.base_;
+        }
+        friend bool operator!=(const reverse_iterator &a, const reverse_iterator &b) noexcept {
+            return !(a == b);
+        }
+
+      private:
+        iterator base_;
+    };
     using const_iterator = iterator;
-    using reverse_iterator = std::reverse_iterator<iterator>;
     using value_type = component;
 
     explicit components(view path) noexcept : path_(path) {}

@@ -23,6 +23,7 @@
 #include <ranges>
 #include <span>
 static_assert(std::bidirectional_iterator<unix_path::components::iterator>);
+static_assert(std::bidirectional_iterator<unix_path::components::reverse_iterator>);
 static_assert(std::ranges::bidirectional_range<unix_path::components>);
 static_assert(std::forward_iterator<unix_path::ancestors::iterator>);
 static_assert(std::ranges::forward_range<unix_path::ancestors>);
@@ -91,6 +92,8 @@ constexpr bool returns =
                       typename std::iterator_traits<It>::pointer>;
 static_assert(
     returns<unix_path::components::iterator, component, std::bidirectional_iterator_tag>);
+static_assert(
+    returns<unix_path::components::reverse_iterator, component, std::bidirectional_iterator_tag>);
 static_assert(returns<unix_path::ancestors::iterator, view, std::forward_iterator_tag>);
 static_assert(returns<unix_path::chunks::iterator, unix_path::chunk, std::forward_iterator_tag>);
 
@@ -277,6 +280,30 @@ void iterators() {
             steps_of(path, parts, turns);
         }
     }
+}
+
+// The parts from the last to the first, and back, through `->`.
+void reversed_parts() {
+    for (const std::string &path : strings("/.a", 5)) {
+        const std::vector<component> parts = parts_of(path);
+        const unix_path::components all = view(path).components();
+        auto at = all.rbegin();
+        for (auto part = parts.rbegin(); part != parts.rend(); ++part, ++at) {
+            CHECK(at->kind == part->kind && at->bytes == part->bytes && *at == *part);
+            CHECK(*std::prev(at.base()) == *part);
+        }
+        CHECK(at == all.rend() && at.base() == all.begin());
+        for (auto part = parts.begin(); part != parts.end(); ++part) {
+            CHECK((--at)->bytes.data() == part->bytes.data() && at != all.rend());
+        }
+        CHECK(at == all.rbegin());
+    }
+    const unix_path::components all = view("/a/..").components();
+    auto at = all.rbegin();
+    CHECK((at++)->bytes == ".." && (at++)->bytes == "a");
+    CHECK((at--)->kind == component_kind::root_dir);
+    CHECK(at->bytes == "a" && all.rbegin()->kind == component_kind::parent_dir);
+    CHECK((*std::make_reverse_iterator(all.end())).bytes == "..");
 }
 
 // What an iterator returns outlives it, and stays as the iterator goes on.
@@ -537,6 +564,7 @@ int main() {
     run("written strings", written_strings);
     run("places", places);
     run("iterators", iterators);
+    run("reversed parts", reversed_parts);
     run("values that iterators return", returned_values);
     run("walks", walks);
     run("parents", parents);
