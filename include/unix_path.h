@@ -35,6 +35,7 @@
  *    The calls of the library itself take none: a function of this header, which isn't proved,
  *    passes them another in its place. Without these functions, as through the library's symbols
  *    and where UNIX_PATH_EXPORTS_ONLY was defined before this file, no pointer is null at all.
+ *    unix_path.hpp needs these functions.
  *  - What a call writes (walk, part, place, next, ancestor, chunk, out) overlaps nothing else that
  *    the call is given.
  *  - If a call answers false, the records that it would write to stay as they were.

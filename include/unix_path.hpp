@@ -45,6 +45,10 @@
 
 #include "unix_path.h"
 
+#ifndef unix_path_components
+#error "unix_path.hpp needs the functions of unix_path.h, which UNIX_PATH_EXPORTS_ONLY leaves out"
+#endif
+
 #if defined(__cpp_impl_three_way_comparison) && __has_include(<compare>)
 #include <compare>
 #endif

@@ -1,6 +1,14 @@
-// Uses of unix_path.hpp that a compiler warns of, one for each number of MISUSE; 0 has none.
+// Uses of unix_path.hpp that a compiler warns of or refuses, one for each number of MISUSE; 0 has
+// none.
 #include <string>
 
+#if MISUSE == 3 || MISUSE == 4  // no functions that replace null pointers
+#define UNIX_PATH_EXPORTS_ONLY
+#endif
+#if MISUSE == 4  // nor in the header that was included before
+#include "unix_path.h"
+#undef UNIX_PATH_EXPORTS_ONLY
+#endif
 #include "unix_path.hpp"
 
 bool misuse(const std::string &path);
