@@ -120,7 +120,9 @@ _Static_assert(sizeof(size_t) == 8, "the library is for lengths of 64 bits");
 #define UNIX_PATH_TOO_LONG (SIZE_MAX / 2 + 1)
 
 /* What is left of a walk over a path: the bytes from front up to back. Nothing is left if front is
- * greater than back, or back is greater than the path's length: a record may hold anything. */
+ * greater than back, or back is greater than the path's length: a record may hold anything. One
+ * that no call wrote is safe too: its parts are the parts of its bytes as a path of their own, and
+ * from 1 to 3 in `a/b` these are the root and `b`. */
 typedef struct {
     size_t front, back;
 } unix_path_walk;

@@ -112,6 +112,11 @@ static void walks_between(view path) {
 }
 
 static void any_walks(void) {
+    view path = view_of("a/b");
+    unix_path_part parts[16];
+    CHECK(take_all(path, (unix_path_walk){1, 3}, parts) == 2, "the root and a name");
+    CHECK(same_part(parts[0], (unix_path_part){1, 1, UNIX_PATH_ROOT_DIR}), "the root");
+    CHECK(same_part(parts[1], (unix_path_part){2, 1, UNIX_PATH_NORMAL}), "a name");
     each_string("/.a", 5, walks_between);
 }
 
