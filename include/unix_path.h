@@ -220,13 +220,16 @@ bool unix_path_extension(const void *path, size_t path_length, unix_path_place *
 bool unix_path_file_prefix(const void *path, size_t path_length, unix_path_place *place);
 
 /* What follows base in the path; false if the path doesn't start with base. Of `/a//b/` and
- * `/a` it is `b`. */
+ * `/a` it is `b`, and of `/dest/../etc` and `/dest` it is `../etc`: see unix_path_starts_with. */
 bool unix_path_strip_prefix(const void *path, size_t path_length, const void *base,
                             size_t base_length, unix_path_place *place);
 
 /* Questions. */
 
-/* Whether the parts of b begin those of a: `/etc/passwd` starts with `/etc/`, and not with `/e`. */
+/* Whether the parts of b begin those of a: `/etc/passwd` starts with `/etc/`, and not with `/e`.
+ * `..` is a part like a name, so `/dest/../etc` starts with `/dest`: a join that starts with its
+ * root may lead out of it. Join a path from outside by unix_path_join_below or
+ * unix_path_join_within. */
 bool unix_path_starts_with(const void *a, size_t a_length, const void *b, size_t b_length);
 
 /* Whether the parts of b end those of a: `/etc/passwd` ends with `passwd`. */

@@ -276,6 +276,9 @@ class view {
 
     // Questions. None asks for memory.
 
+    /// Returns true if this path's parts begin with those of base. `/dest/../etc` starts with
+    /// `/dest`, so a join that starts with its root may lead out of it: join a path from outside by
+    /// `join_below` or `join_within`.
     bool starts_with(view base) const noexcept {
         return unix_path_starts_with(data(), size(), base.data(), base.size());
     }
@@ -303,6 +306,7 @@ class view {
         unix_path_place place;
         return path_at(unix_path_parent(data(), size(), &place), place);
     }
+    /// What follows base, if `starts_with` is true: of `/dest/../etc` and `/dest` it is `../etc`.
     std::optional<view> strip_prefix(view base) const noexcept {
         unix_path_place place;
         return path_at(

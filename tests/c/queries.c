@@ -67,6 +67,7 @@ static void prefixes(void) {
         {"/test/haha/foo.txt", "/test/", "haha/foo.txt"},
         {"./foo/bar/", ".", "foo/bar"},
         {"/a//b/", "/a", "b"},
+        {"/dest/../etc", "/dest", "../etc"},
         {"foo/bar", "foo/bar/baz", NULL},
         {"/test/haha/foo.txt", "test", NULL},
     };
@@ -93,6 +94,7 @@ static void relations(void) {
         {unix_path_starts_with, "/etc/passwd", "/etc/", true},
         {unix_path_starts_with, "/etc/passwd", "/e", false},
         {unix_path_starts_with, "foo", "", true},
+        {unix_path_starts_with, "/dest/../etc", "/dest", true},
         {unix_path_ends_with, "/etc/passwd", "passwd", true},
         {unix_path_ends_with, "a/b", "./b", false},
         {unix_path_ends_with, "foo", "", true},
@@ -105,6 +107,20 @@ static void relations(void) {
         CHECK(rows[row].call(a.bytes, a.length, b.bytes, b.length) == rows[row].is_true,
               "row %zu", row);
     }
+}
+
+// A join that starts with its root, though it leads out; the calls that refuse to make it.
+static void joins_that_climb(void) {
+    view root = view_of("/dest"), request = view_of("../etc");
+    char out[16];
+    size_t length = unix_path_join(root.bytes, root.length, request.bytes, request.length, out,
+                                   sizeof out);
+    CHECK(same_bytes((view){(uint8_t *)out, length}, view_of("/dest/../etc")), "%zu", length);
+    CHECK(unix_path_starts_with(out, length, root.bytes, root.length), "a part like a name");
+    CHECK(unix_path_join_below(root.bytes, root.length, request.bytes, request.length, false, out,
+                               sizeof out) == UNIX_PATH_ESCAPES, "below");
+    CHECK(unix_path_join_within(root.bytes, root.length, request.bytes, request.length, out,
+                                sizeof out) == UNIX_PATH_ESCAPES, "within");
 }
 
 static void truths(void) {
@@ -161,6 +177,7 @@ int main(void) {
     run("empty places", empty_places);
     run("prefixes", prefixes);
     run("relations", relations);
+    run("joins that climb", joins_that_climb);
     run("truths", truths);
     run("requests", requests);
     run("orders, hashes and common dirs", orders_hashes_and_common_dirs);

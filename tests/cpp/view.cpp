@@ -148,6 +148,15 @@ void rows() {
     CHECK(view("a/../b").check_request() == unix_path::request_check::is_fine);
 }
 
+// A join that starts with its root, though it leads out; the members that refuse to make it.
+void joins_that_climb() {
+    CHECK(view("/dest").join("../etc") == "/dest/../etc");
+    CHECK(view("/dest/../etc").starts_with("/dest"));
+    CHECK(view("/dest/../etc").strip_prefix("/dest")->bytes() == "../etc");
+    CHECK(view("/dest").join_below("../etc", reading::as_path).why() == refusal::escapes);
+    CHECK(view("/dest").join_within("../etc").why() == refusal::escapes);
+}
+
 void comparisons() {
     const std::string text = "a/./b//";
     CHECK(view("a/./b//") == view("a/b") && text == view("a/b") && view("a/b") == "a/b/"sv);
@@ -560,6 +569,7 @@ void looked_at_refusals() {
 
 int main() {
     run("rows", rows);
+    run("joins that climb", joins_that_climb);
     run("comparisons", comparisons);
     run("written strings", written_strings);
     run("places", places);
