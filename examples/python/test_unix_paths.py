@@ -2,6 +2,7 @@
 
 test_unix_paths.py [COUNT] [SEED]       100,000 paths and a fixed seed, if none are given
 
+UnixPath has to answer the same if the bytes that it is given say another length than they have.
 Where the two differ, one of these rules says why; each rule has to show, and each difference has to
 fall under one:
 """
@@ -101,6 +102,49 @@ def first_difference(path, other):
     return next((pair for pair in pairs if pair[0] != pair[1]), ())
 
 
+class Bytes(bytes):
+    """Bytes that say another length than they have, as their slices do, and that `bytes` returns
+    as they are."""
+    said = 0
+
+    def __len__(self):
+        return self.said
+
+    def __getitem__(self, places):
+        return saying(self.said, Bytes(super().__getitem__(places)))
+
+    def __bytes__(self):
+        return self
+
+
+class Text(str):
+    """Text that is encoded as such bytes."""
+    said = 0
+
+    def encode(self, *how):
+        return saying(self.said, Bytes(super().encode(*how)))
+
+
+def saying(length, value):
+    value.said = length
+    return value
+
+
+def wrong_lengths():
+    """The calls that answer otherwise if what they are given says another length than it has."""
+    def answers(*given):
+        within = answer(UnixPath(given[0]).join_within, given[2])
+        return [*all_of(UnixPath, *given), ("join_within", within)]
+
+    plain = "/srv/www/a.tar", "/srv", "index.html", ".gz"
+    for length in 0, 1, 24, 4096:
+        for kind, words in (Bytes, [it.encode() for it in plain]), (Text, plain):
+            found = answers(*(saying(length, kind(it)) for it in words))
+            for ours, wanted in zip(found, answers(*plain)):
+                if ours != wanted:
+                    yield kind.__name__, length, ours, wanted
+
+
 def main():
     count = int(sys.argv[1]) if len(sys.argv) > 1 else 100_000
     numbers = random.Random(sys.argv[2] if len(sys.argv) > 2 else "paths")
@@ -124,8 +168,11 @@ def main():
         print(f"  {rule}: {number}")
     for it in wrong[:5]:
         print("differs by no rule:", it)
+    misread = list(wrong_lengths())
+    for it in misread[:5]:
+        print("differs for bytes that say another length:", it)
     failures = doctest.testmod(unix_paths).failed
-    return 1 if wrong or failures or 0 in seen.values() else 0
+    return 1 if wrong or misread or failures or 0 in seen.values() else 0
 
 
 if __name__ == "__main__":

@@ -61,6 +61,11 @@ _join, _with_file_name, _with_extension, _join_within = (
     for name in ("join", "with_file_name", "with_extension", "join_within"))
 
 
+def _bytes_of(path):
+    """The path's bytes, as the type `bytes` itself: the length of a subclass may be another."""
+    return bytes(memoryview(os.fsencode(path)))
+
+
 def _written(call, room, *paths):
     """What a call writes to a buffer with this room, which is enough for it."""
     out = ctypes.create_string_buffer(room + 1)
@@ -91,7 +96,7 @@ class UnixPath:
     __slots__ = ("_bytes",)
 
     def __init__(self, *segments):
-        whole, *others = map(os.fsencode, segments or [b""])
+        whole, *others = map(_bytes_of, segments or [b""])
         for path in others:
             whole = _written(_join, len(whole) + len(path) + 1, whole, path)
         self._bytes = _written(_canonical, len(whole), whole)
@@ -171,14 +176,14 @@ class UnixPath:
         return UnixPath(rest)
 
     def with_name(self, name):
-        new = os.fsencode(name)
+        new = _bytes_of(name)
         if not self.name or new in (b"", b".") or b"/" in new:
             raise ValueError(f"{str(self)!r} can't have the name {name!r}")
         room = len(self._bytes) + len(new) + 1
         return UnixPath(_written(_with_file_name, room, self._bytes, new))
 
     def with_suffix(self, suffix):
-        new = os.fsencode(suffix)
+        new = _bytes_of(suffix)
         if not self.name or new == b"." or new[:1] not in (b"", b"."):
             raise ValueError(f"{str(self)!r} can't have the suffix {suffix!r}")
         room = len(self._bytes) + len(new) + 1
@@ -190,6 +195,6 @@ class UnixPath:
 
     def join_within(self, request):
         """The request joined to this root, resolved; ValueError if it leads out by names."""
-        new = os.fsencode(request)
+        new = _bytes_of(request)
         room = len(self._bytes) + len(new) + 1
         return UnixPath(_written(_join_within, room, self._bytes, new))
