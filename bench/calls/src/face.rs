@@ -14,6 +14,7 @@ mod options;
 mod ours;
 mod random;
 mod static_calls;
+mod table;
 mod targets;
 mod timing;
 
@@ -23,6 +24,7 @@ use options::Options;
 use std::hint::black_box;
 use std::iter::repeat;
 use std::process::ExitCode;
+use table::Table;
 use timing::Measure;
 
 /// The side's answers to these paths, as one number.
@@ -49,29 +51,34 @@ fn measure(row: &Row, side: Side, corpus: &Corpus, options: &Options) -> Measure
     )
 }
 
+const TABLE: Table = Table(28, 14);
+
+/// Prints a line of measures, and returns whether all answers were the same.
+fn print_cells(name: &str, corpora: &[Corpus], measure: impl Fn(&Corpus) -> Measure) -> bool {
+    let mut is_same = true;
+    let cells = corpora.iter().map(|corpus| {
+        let measure = measure(corpus);
+        is_same &= measure.is_same;
+        let mark = if measure.is_same { "" } else { " DIFFERS" };
+        format!("{:.2}{mark}", measure.ratio)
+    });
+    TABLE.print_row(name, cells);
+    is_same
+}
+
 /// Prints the line of this side, and answers whether all answers were the same.
 fn print_line(name: &str, row: &Row, side: Side, corpora: &[Corpus], options: &Options) -> bool {
-    let mut is_same = true;
-    print!("{name:28}");
-    for corpus in corpora {
-        let measure = measure(row, side, corpus, options);
-        let mark = if measure.is_same { "" } else { " DIFFERS" };
-        print!("{:14}", format!("{:.2}{mark}", measure.ratio));
-        is_same &= measure.is_same;
-    }
-    println!();
-    is_same
+    print_cells(name, corpora, |corpus| measure(row, side, corpus, options))
 }
 
 /// Prints the table, and that of maps, and answers whether all answers were the same.
 fn print(options: &Options) -> bool {
     let mut corpora = corpora();
     corpora.retain(|corpus| options.has_corpus(corpus.name));
-    print!("{:28}", "call from Rust over C");
-    corpora
-        .iter()
-        .for_each(|corpus| print!("{:14}", corpus.name));
-    println!();
+    TABLE.print_heads(
+        "call from Rust over C",
+        corpora.iter().map(|corpus| corpus.name),
+    );
     let mut is_same = true;
     for row in ROWS.iter().filter(|row| options.has_row(row.name)) {
         let lines = [

@@ -2,6 +2,7 @@
 //! paths of std.
 use crate::corpora::{slices, Corpus};
 use crate::options::Options;
+use crate::print_cells;
 use std::collections::{BTreeMap, HashMap};
 use std::ffi::OsStr;
 use std::os::unix::ffi::OsStrExt;
@@ -73,23 +74,16 @@ fn sum(find: &Find, paths: &[Vec<u8>]) -> u64 {
 
 /// Prints a line for each map, and answers whether all answers were the same.
 pub fn print(corpora: &[Corpus], options: &Options) -> bool {
-    let mut is_same = true;
+    let (mut is_same, timer) = (true, options.timer());
     for row in ROWS.iter().filter(|row| options.has_row(row.name)) {
-        print!("{:28}", row.name);
-        for corpus in corpora {
+        is_same &= print_cells(row.name, corpora, |corpus| {
             let [ours, std] = (row.sides)(&corpus.paths);
             let slices = slices(&corpus.paths);
             let paths = |slice: usize| &corpus.paths[slices[slice].clone()];
-            let measure = options.timer().compare(
-                slices.len(),
-                &|slice| sum(&ours, paths(slice)),
-                &|slice| sum(&std, paths(slice)),
-            );
-            let mark = if measure.is_same { "" } else { " DIFFERS" };
-            print!("{:14}", format!("{:.2}{mark}", measure.ratio));
-            is_same &= measure.is_same;
-        }
-        println!();
+            timer.compare(slices.len(), &|slice| sum(&ours, paths(slice)), &|slice| {
+                sum(&std, paths(slice))
+            })
+        });
     }
     is_same
 }

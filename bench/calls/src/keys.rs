@@ -3,6 +3,7 @@
 use crate::corpora::corpora;
 use crate::options::Options;
 use crate::ours::{ours_forms, ours_keys, ours_paths_of};
+use crate::table::Table;
 use crate::tables::OfAsked;
 use crate::timing::{median, Measure, Score, Timer};
 
@@ -19,18 +20,16 @@ pub fn print(options: &Options, score: &mut Score) {
         .filter(|corpus| options.has_corpus(corpus.name))
         .map(|corpus| (corpus.name, lines_of(&corpus.paths)))
         .collect();
-    print!("{:24}", "beside canonical");
-    for (corpus, _) in &corpora {
-        print!("{corpus:14}");
-    }
-    println!();
+    let table = Table(24, 14);
+    table.print_heads(
+        "beside canonical",
+        corpora.iter().map(|(corpus, _)| *corpus),
+    );
     for (name, call) in rows {
-        print!("{name:24}");
-        for (corpus, lines) in &corpora {
-            let measure = measure(*call, lines, &options.timer());
-            print!("{:14}", score.cell(&measure, name, corpus));
-        }
-        println!();
+        let cells = corpora.iter().map(|(corpus, lines)| {
+            score.cell(&measure(*call, lines, &options.timer()), name, corpus)
+        });
+        table.print_row(name, cells);
     }
     println!();
 }

@@ -20,6 +20,7 @@ mod std_calls;
 mod std_tables;
 mod std_trees;
 mod std_within;
+mod table;
 mod tables;
 mod targets;
 mod texts;

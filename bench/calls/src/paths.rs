@@ -3,6 +3,7 @@ use crate::corpora::{corpora, slices, Corpus};
 use crate::options::Options;
 use crate::random::Random;
 use crate::rows::{rows, Row};
+use crate::table::Table;
 use crate::timing::{Measure, Score};
 use std::ops::Range;
 
@@ -10,19 +11,13 @@ use std::ops::Range;
 pub fn print(options: &Options, score: &mut Score) {
     let mut corpora = corpora();
     corpora.retain(|corpus| options.has_corpus(corpus.name));
-    print!("{:22}", "call");
-    for corpus in &corpora {
-        print!("{:14}", corpus.name);
-    }
-    println!();
+    let table = Table(22, 14);
+    table.print_heads("call", corpora.iter().map(|corpus| corpus.name));
     for row in rows().iter().filter(|row| options.has_row(row.name)) {
-        print!("{:22}", row.name);
-        for corpus in &corpora {
-            let measure = measure(row, corpus, options);
-            let cell = score.cell(&measure, row.name, corpus.name);
-            print!("{cell:14}");
-        }
-        println!();
+        let cells = corpora
+            .iter()
+            .map(|corpus| score.cell(&measure(row, corpus, options), row.name, corpus.name));
+        table.print_row(row.name, cells);
     }
     println!();
 }

@@ -2,8 +2,10 @@
 use crate::clock;
 use crate::lines::{groups, Paths};
 use crate::options::Options;
+use crate::table::Table;
 use crate::timing::{Measure, Score, Timer};
 use std::fs::{read, write, File};
+use std::iter::once_with;
 use std::process::{Command, Stdio};
 
 /// How many bytes the lines of a group have.
@@ -17,7 +19,8 @@ pub fn print(options: &Options, score: &mut Score) {
         budget: options.reps as f64 * 0.5,
         clock: clock::of_children,
     };
-    println!("{:22}{:14}", "program", "2 MiB of lines");
+    let table = Table(22, 0);
+    table.print_heads("program", ["2 MiB of lines"]);
     for (group, commands) in groups() {
         let input = format!("{}/lines", options.folder);
         write(&input, paths.lines(&commands, LEN)).expect("the folder can be written to");
@@ -26,11 +29,14 @@ pub fn print(options: &Options, score: &mut Score) {
         let is_same = outputs[0] == outputs[1];
         let run_ours = |_| run(ours, &input, Stdio::null());
         let run_std = |_| run(std, &input, Stdio::null());
-        let measure = Measure {
+        let measure = || Measure {
             is_same,
             ..timer.compare(1, &run_ours, &run_std)
         };
-        println!("{group:22}{}", score.cell(&measure, "program", group));
+        table.print_row(
+            group,
+            once_with(|| score.cell(&measure(), "program", group)),
+        );
         if !is_same {
             show_difference(&input, &outputs);
         }

@@ -11,6 +11,7 @@ use crate::random::Random;
 use crate::resident;
 use crate::std_tables as std_side;
 use crate::std_trees;
+use crate::table::Table;
 use crate::timing::{median, Measure, Score, Timer};
 use std::time::Instant;
 
@@ -52,18 +53,13 @@ pub fn print(options: &Options, score: &mut Score) {
         return;
     }
     let all = lines();
-    print!("{:24}", "table");
-    for lines in &all {
-        print!("{:14}", lines.order);
-    }
-    println!();
+    let table = Table(24, 14);
+    table.print_heads("table", all.iter().map(|lines| lines.order));
     for name in NAMES.into_iter().filter(|name| options.has_row(name)) {
-        print!("{name:24}");
-        for lines in &all {
-            let measure = lines.measure(name, options);
-            print!("{:14}", score.cell(&measure, name, lines.order));
-        }
-        println!();
+        let cells = all
+            .iter()
+            .map(|lines| score.cell(&lines.measure(name, options), name, lines.order));
+        table.print_row(name, cells);
     }
     println!();
 }

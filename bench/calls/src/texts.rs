@@ -2,6 +2,7 @@
 use crate::options::Options;
 use crate::random::Random;
 use crate::rows::{texts, Row};
+use crate::table::Table;
 use crate::timing::{Score, Timer};
 
 /// The bytes of a row's sources.
@@ -25,17 +26,11 @@ pub fn print(options: &Options, score: &mut Score) {
         reps: options.reps * 10,
         ..options.timer()
     };
-    print!("{:26}", "text");
-    for row in &rows {
-        print!("{:18}", row.name);
-    }
-    println!();
+    let table = Table(26, 18);
+    table.print_heads("text", rows.iter().map(|row| row.name));
     for sources in well_formed().iter().chain(&broken()) {
-        print!("{:26}", sources.name);
-        for row in &rows {
-            print!("{:18}", sources.cell(row, &timer, score));
-        }
-        println!();
+        let cells = rows.iter().map(|row| sources.cell(row, &timer, score));
+        table.print_row(&sources.name, cells);
     }
     println!();
 }

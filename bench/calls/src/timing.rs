@@ -1,7 +1,7 @@
 //! Our time over std's, and how it is shown.
 use crate::targets::{may_differ, target};
 use std::hint::black_box;
-use std::time::Instant;
+use std::time::{Duration, Instant};
 
 /// What a side does with a slice of the work; the number stands for its answers.
 pub type Work<'a> = &'a dyn Fn(usize) -> u64;
@@ -14,6 +14,12 @@ pub struct Measure {
 
 /// Each time is of at least so many seconds.
 const SHORTEST: f64 = 1e-4;
+
+/// A round takes longer than `SHORTEST` over this.
+pub const MOST_ROUNDS: usize = 1 << 16;
+
+/// What is measured in so much time is long enough, whatever the clock says.
+const LONGEST_SEARCH: Duration = Duration::from_millis(100);
 
 /// How work is timed.
 pub struct Timer {
@@ -43,8 +49,9 @@ impl Timer {
     /// Our time over std's on one slice. The sides run right after each other and in turns, so that
     /// a busy machine slows both, and neither finds the bytes nearer than the other does.
     fn ratio_on(&self, slice: usize, ours: Work, std: Work) -> f64 {
-        let [once, again] = [ours, std].map(|work| self.seconds(work, slice, 1));
-        let rounds = (SHORTEST / once.min(again)).ceil() as usize;
+        let [one, other] =
+            [ours, std].map(|work| enough_rounds(|rounds| self.seconds(work, slice, rounds)));
+        let rounds = one.max(other);
         let [a, b, c, d] = [ours, std, std, ours].map(|work| self.seconds(work, slice, rounds));
         (a + d) / (b + c)
     }
@@ -57,6 +64,21 @@ impl Timer {
         }
         (self.clock)() - start
     }
+}
+
+/// Returns how many rounds take at least `SHORTEST` seconds: doubles them until the clock measures
+/// that. A clock that stands still or goes back can't keep it from ending.
+pub fn enough_rounds(seconds: impl Fn(usize) -> f64) -> usize {
+    let start = Instant::now();
+    let mut rounds = 1;
+    // The maximum of NaN and 0 is 0.
+    while seconds(rounds).max(0.0) < SHORTEST
+        && rounds < MOST_ROUNDS
+        && start.elapsed() < LONGEST_SEARCH
+    {
+        rounds *= 2;
+    }
+    rounds
 }
 
 /// The middle one of the numbers.
