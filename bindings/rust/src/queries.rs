@@ -124,9 +124,13 @@ pub fn file_prefix(path: &[u8]) -> Option<&[u8]> {
 /// As Rust's `Path::strip_prefix`, except that an answer of no bytes may stand elsewhere in the
 /// path.
 ///
+/// What follows may climb, as `../etc` does below. To keep a path below a directory, use
+/// [`Request::join_below`](crate::Request::join_below) or [`join_within`](crate::join_within).
+///
 /// ```
 /// assert_eq!(unix_path_rattle::strip_prefix(b"/a//b/", b"/a"), Some(&b"b"[..]));
 /// assert_eq!(unix_path_rattle::strip_prefix(b"/ab", b"/a"), None);
+/// assert_eq!(unix_path_rattle::strip_prefix(b"/dest/../etc", b"/dest"), Some(&b"../etc"[..]));
 /// ```
 #[must_use]
 #[inline]
@@ -136,9 +140,14 @@ pub fn strip_prefix<'a>(path: &'a [u8], base: &[u8]) -> Option<&'a [u8]> {
 
 /// Whether the parts of `base` begin those of `path`. As Rust's `Path::starts_with`.
 ///
+/// A path that starts with a directory may still leave it, since no `..` is resolved. To keep a
+/// path below a directory, use [`Request::join_below`](crate::Request::join_below) or
+/// [`join_within`](crate::join_within).
+///
 /// ```
 /// assert!(unix_path_rattle::starts_with(b"/etc//passwd", b"/etc/"));
 /// assert!(!unix_path_rattle::starts_with(b"/etc/passwd", b"/e"));
+/// assert!(unix_path_rattle::starts_with(b"/dest/../etc", b"/dest"));
 /// ```
 #[must_use]
 #[inline]

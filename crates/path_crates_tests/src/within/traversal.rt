@@ -28,8 +28,9 @@ type Row<'a> = (
 );
 
 #[rattlefmt::skip]
-static REQUESTS: [Row<'static>; 37] = [
+static REQUESTS: [Row<'static>; 38] = [
     (b"../../../../etc/passwd", true, None, None, false, CLIMBS, Some(b"/www/etc/passwd")),
+    (b"../etc", true, None, None, false, CLIMBS, Some(b"/www/etc")),
     (b"a/b/../../../etc/passwd", true, None, None, false, CLIMBS, Some(b"/www/etc/passwd")),
     (b"a/../../../../../../etc/passwd", true, None, None, false, CLIMBS, Some(b"/www/etc/passwd")),
     (b"a/b/c/../../../../etc", true, None, None, false, CLIMBS, Some(b"/www/etc")),
@@ -229,5 +230,20 @@ fn is_shown(
 fn texts_of_errors(rt: HostRuntime) -> Result<(), Fail> {
     let (text, wide) = ("path leaves its root", "  path leaves its root");
     assert!(rt; is_shown(rt.alloc(), &WithinError::Escapes, text, wide)?);
+    Ok(())
+}
+
+// A path that starts with a directory may leave it: what follows the directory climbs.
+#[test]
+fn prefix_is_left(rt: HostRuntime) -> Result<(), Fail> {
+    let (path, base) = (Path::from_text("/dest/../etc"), Path::from_text("/dest"));
+    assert!(rt; path.starts_with(base));
+    match path.strip_prefix(base) {
+        Ok(left) => assert!(rt; left.bytes == b"../etc".as_slice()),
+        Err(_) => return Err(Fail::new("no prefix")),
+    }
+    let request = Path::from_text("../etc");
+    assert!(rt; matches!(Request::new(request), Err(RequestError::Climbs)));
+    assert!(rt; is_joined_within(rt.alloc(), b"/dest", request.bytes, None));
     Ok(())
 }

@@ -45,6 +45,10 @@ impl<V> PathTable<V> {
     /// `base` and stops at the first path that doesn't start with it. Neither this nor the walk
     /// allocates. Not in Rust's std.
     ///
+    /// No `..` is resolved: `/dest/../etc` is under `/dest`, and `../etc` follows. To keep a path
+    /// below a directory, use `Request::new` and `Root::join` of the crate `path_within`, or its
+    /// `join_within`.
+    ///
     /// With 1 at `a//b/c` and 2 at `a/b/d`, under `a/b` it gives `c` with 1, and then `d` with 2.
     pub fn walk_under<'a, 'b>(&'a self, base: &'b PathBuf) -> Under<'a, 'b, V>
         ensures left { under_left result
@@ -64,7 +68,7 @@ impl<V> PathTable<V> {
         }
     }
 
-    /// The files under `base`, as `walk_under` gives them, in a list.
+    /// The files under `base`, as `walk_under` gives them, in a list: no `..` is resolved.
     ///
     /// Allocates as the list grows; fails if an allocation fails, and then the list is dropped. If
     /// no file is under `base` does not allocate, and succeeds. Not in Rust's std.

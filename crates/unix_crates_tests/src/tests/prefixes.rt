@@ -13,7 +13,7 @@ type Comparison = (
     Option<&'static str>,
 );
 
-static COMPARISONS: [Comparison; 26] = [
+static COMPARISONS: [Comparison; 27] = [
     ("", "", true, true, true, Some("")),
     ("foo", "", false, true, true, Some("foo")),
     ("", "foo", false, false, false, None),
@@ -75,6 +75,7 @@ static COMPARISONS: [Comparison; 26] = [
     ("a/b", "./b", false, false, false, None),
     ("/a", "/", false, true, false, Some("a")),
     ("foo/bar", "foo/ba", false, false, false, None),
+    ("/dest/../etc", "/dest", false, true, false, Some("../etc")),
 ];
 
 // What stripping the base leaves, if the path starts with the base.

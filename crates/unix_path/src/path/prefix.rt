@@ -44,6 +44,10 @@ impl<'a> Path<'a> {
     /// `starts_with` is false. Does not allocate. As Rust's `Path::strip_prefix`, whose empty slice
     /// may stand further on; `base` is a `Path`.
     ///
+    /// What follows may climb: for `/dest/../etc` and the base `/dest` it is `../etc`. To keep a
+    /// path below a directory, use `Request::new` and `Root::join` of the crate `path_within` (C:
+    /// `unix_path_join_below`), or its `join_within`.
+    ///
     /// For `/a//b/` and the base `/a` it is `b`.
     #[inline]
     pub fn strip_prefix(&self, base: Path<'_>) -> Result<Path<'a>, StripPrefixError>
@@ -70,6 +74,10 @@ impl<'a> Path<'a> {
 
     /// Whether `base`'s parts begin this path's. Every path begins with the empty one. Does not
     /// allocate. As Rust's `Path::starts_with`; `base` is a `Path`.
+    ///
+    /// A path that starts with a directory may still leave it: no `..` is resolved, and
+    /// `/dest/../etc` starts with `/dest`. To keep a path below a directory, use `Request::new` and
+    /// `Root::join` of the crate `path_within` (C: `unix_path_join_below`), or its `join_within`.
     ///
     /// `/etc/passwd` starts with `/etc/`, and not with `/e`.
     #[must_use]

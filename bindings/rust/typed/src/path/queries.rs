@@ -136,12 +136,16 @@ impl Path {
     /// As Rust's `Path::strip_prefix`, except that an answer of no bytes may stand elsewhere in the
     /// path.
     ///
+    /// What follows may climb, as `../etc` does below. To keep a path below a directory, use
+    /// `Request::join_below` or `join_within` of the crate `unix_path_rattle`.
+    ///
     /// ```
     /// use unix_path_typed::Path;
     /// let path = Path::new("/a//b/");
     /// assert_eq!(path.strip_prefix("/a"), Ok(Path::new("b")));
     /// assert_eq!(path.strip_prefix("/a/b"), Ok(Path::new("")));
     /// assert!(path.strip_prefix("/a/bc").is_err());
+    /// assert_eq!(Path::new("/dest/../etc").strip_prefix("/dest"), Ok(Path::new("../etc")));
     /// ```
     #[inline]
     pub fn strip_prefix<P: AsRef<Path>>(&self, base: P) -> Result<&Path, StripPrefixError> {
@@ -153,10 +157,15 @@ impl Path {
 
     /// Whether the parts of `base` begin those of the path. As Rust's `Path::starts_with`.
     ///
+    /// A path that starts with a directory may still leave it, since no `..` is resolved. To keep a
+    /// path below a directory, use `Request::join_below` or `join_within` of the crate
+    /// `unix_path_rattle`.
+    ///
     /// ```
     /// use unix_path_typed::Path;
     /// assert!(Path::new("/etc//passwd").starts_with("/etc/"));
     /// assert!(!Path::new("/etc/passwd").starts_with("/e"));
+    /// assert!(Path::new("/dest/../etc").starts_with("/dest"));
     /// ```
     #[must_use]
     #[inline]
