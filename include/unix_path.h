@@ -60,7 +60,8 @@
  *                                unix_path_join_plain: it has a root or a `..`
  *     UNIX_PATH_NO_MEMORY        unix_path_resolved, unix_path_join_within, unix_path_way: an
  *                                allocation failed
- *     UNIX_PATH_NUL_IN_REQUEST   unix_path_join_below: the request has a NUL byte
+ *     UNIX_PATH_NUL_IN_REQUEST   unix_path_join_below, unix_path_join_plain: the request has a NUL
+ *                                byte
  *     UNIX_PATH_NOT_A_KEY        unix_path_from_key, unix_path_key_end: no path has this key
  *     UNIX_PATH_NO_END           unix_path_key_end: the key is empty, and every key in its range
  *     UNIX_PATH_NO_WAY           unix_path_way: no path without a root leads there
@@ -105,7 +106,8 @@ _Static_assert(sizeof(size_t) == 8, "the library is for lengths of 64 bits");
 /* What unix_path_resolved, unix_path_join_within and unix_path_way answer if an allocation
  * failed. */
 #define UNIX_PATH_NO_MEMORY (SIZE_MAX - 2)
-/* What unix_path_join_below answers if the request has a NUL byte. */
+/* What unix_path_join_below and unix_path_join_plain answer if the request has a NUL byte and isn't
+ * refused as UNIX_PATH_ESCAPES. Nothing is allocated. */
 #define UNIX_PATH_NUL_IN_REQUEST (SIZE_MAX - 3)
 /* What unix_path_from_key and unix_path_key_end answer if the bytes are the key of no path. */
 #define UNIX_PATH_NOT_A_KEY (SIZE_MAX - 4)
@@ -323,11 +325,12 @@ size_t unix_path_resolved(const void *path, size_t path_length, void *out,
 size_t unix_path_join_within(const void *root, size_t root_length, const void *request,
                              size_t request_length, void *out, size_t out_length);
 
-/* The request joined to the root, both as they stand, so that the request goes down from the root
- * by its names: for roots in or under which links may stand. UNIX_PATH_ESCAPES exactly if the
- * request has a root or a `..`. It has at most as many bytes as both and one more, and holds a NUL
- * if what it is made of does. `/srv/../www` with `./a` gives `/srv/../www/./a`, and `a/../b` is
- * refused. */
+/* The request joined to the root, both verbatim, so that the request only goes down from the root
+ * by its names: for roots that may be or contain links. UNIX_PATH_ESCAPES if and only if the
+ * request has a root or a `..`. A request without either is refused as UNIX_PATH_NUL_IN_REQUEST if
+ * and only if it has a NUL byte, at which a system call would cut the answer. The answer has at
+ * most as many bytes as both and one more, and holds a NUL only if the root does. `/srv/../www`
+ * with `./a` gives `/srv/../www/./a`; `a/../b` and `..\0/a` are refused. */
 size_t unix_path_join_plain(const void *root, size_t root_length, const void *request,
                             size_t request_length, void *out, size_t out_length);
 

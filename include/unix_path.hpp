@@ -365,8 +365,9 @@ class view {
     /// and refusal::no_memory if the library got none, which it asks for beside the string.
     result<std::string> join_within(view request) const;
     result<std::string_view> join_within(view request, buffer out) const noexcept;
-    /// This path is the root, and both stay as they are spelled, for roots in which links may
-    /// stand. refusal::escapes exactly if the request has a root or a `..`; refusal::too_long.
+    /// This path is the root, and both stay as they are spelled, for roots that may contain links.
+    /// refusal::escapes if and only if the request has a root or a `..`; otherwise
+    /// refusal::nul_in_request if and only if it has a NUL byte; refusal::too_long.
     result<std::string> join_plain(view request) const;
     result<std::string_view> join_plain(view request, buffer out) const noexcept;
     /// This path is the root, and stays as it is spelled; behind it stand the names that the

@@ -129,6 +129,43 @@ static void refusals(void) {
     }
 }
 
+// Joins of two paths in which a NUL may stand, and what they answer: bytes, or a refusal if `bytes`
+// is NULL.
+static const struct {
+    call_of_two call;
+    const char *root;
+    size_t root_length;
+    const char *request;
+    size_t length;
+    const char *bytes;
+    size_t answer;
+} nuls[] = {
+    {unix_path_join_plain, "/s\0v/..", 7, "a", 1, "/s\0v/../a", 9},
+    {unix_path_join_plain, "/srv", 4, "..\0/a", 5, NULL, UNIX_PATH_NUL_IN_REQUEST},
+    {unix_path_join_plain, "", 0, "\0", 1, NULL, UNIX_PATH_NUL_IN_REQUEST},
+    {unix_path_join_plain, "/srv", 4, "a/name/of/32/bytes.and/more.png\0", 32, NULL,
+     UNIX_PATH_NUL_IN_REQUEST},
+    {unix_path_join_plain, "/srv", 4, "/\0", 2, NULL, UNIX_PATH_ESCAPES},
+    {unix_path_join_plain, "/srv", 4, "a\0/..", 5, NULL, UNIX_PATH_ESCAPES},
+};
+
+static void joins_with_nuls(void) {
+    for (size_t row = 0; row < sizeof nuls / sizeof *nuls; row++) {
+        for (size_t room = 0; room <= 16; room++) {
+            uint8_t memory[16];
+            memset(memory, 0xA5, sizeof memory);
+            size_t answer = nuls[row].call(nuls[row].root, nuls[row].root_length,
+                                           nuls[row].request, nuls[row].length, memory, room);
+            CHECK(answer == nuls[row].answer, "row %zu, room %zu", row, room);
+            view written = view_of("");
+            if (room >= nuls[row].answer) {
+                written = (view){(const uint8_t *)nuls[row].bytes, nuls[row].answer};
+            }
+            CHECK(is_written(memory, sizeof memory, written), "row %zu, room %zu", row, room);
+        }
+    }
+}
+
 // A root, a request, and the answer in both readings, where a NULL is a refusal as the number says.
 static const struct {
     const char *root, *request;
@@ -190,6 +227,7 @@ static void requests_below(void) {
 int main(void) {
     run("ample memory", ample_memory);
     run("short buffers", short_buffers);
+    run("joins with NULs", joins_with_nuls);
     run("buffers before a page that can't be written", fenced_buffers);
     run("separators and escapes write nothing", refusals);
     run("requests below a root", requests_below);

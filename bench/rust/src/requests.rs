@@ -89,8 +89,8 @@ fn answer(root: &Path, request: &Path, digest: &mut Digest) {
     }
 }
 
-/// Adds the answer of those who trust no link: the plain join, if the request has no root and no
-/// `..`.
+/// Adds the answer of those who trust no link: the plain join, if the request has no root, no `..`
+/// and no NUL.
 fn answer_plain_join(root: &Path, request: &Path, digest: &mut Digest) {
     digest.add_flag(climbs(request));
     match join_plain(root, request) {

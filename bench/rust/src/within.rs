@@ -1,4 +1,5 @@
 //! Paths from outside by names alone, for which `std::path` has no calls.
+use std::os::unix::ffi::OsStrExt;
 use std::path::{Component, Path, PathBuf};
 
 /// Adds the parts to a resolved path: `..` takes away the name before it, and is dropped behind the
@@ -48,10 +49,11 @@ pub fn join_within(root: &Path, request: &Path) -> Option<PathBuf> {
     Some(kept)
 }
 
-/// The request joined to the root, both as they stand; `None` if the request has a root or a `..`.
+/// The request joined to the root, both as they stand; `None` if the request has a root, a `..` or
+/// a NUL.
 pub fn join_plain(root: &Path, request: &Path) -> Option<PathBuf> {
     let leaves = |part| matches!(part, Component::RootDir | Component::ParentDir);
-    if request.components().any(leaves) {
+    if request.components().any(leaves) || request.as_os_str().as_bytes().contains(&0) {
         return None;
     }
     Some(root.join(request))

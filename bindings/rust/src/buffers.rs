@@ -143,18 +143,20 @@ pub fn join_within<'o>(root: &[u8], request: &[u8], out: &'o mut [u8]) -> Result
     MakeOfTwo::JOIN_WITHIN.write(root, request, out)
 }
 
-/// The request joined to the root, both as they stand, so that it goes down from the root by its
+/// The request joined to the root, both verbatim, so that it only goes down from the root by its
 /// names.
 ///
-/// It is for roots in or under which links may stand: each `..` of the root stays. It has at most
-/// one byte more than both. Fails with `Escapes` exactly if the request has a root or a `..`, and
-/// with `Short`. Does not allocate. Not in Rust's std.
+/// It is for roots that may be or contain links: each `..` of the root stays. It has at most one
+/// byte more than both. Fails with `Escapes` if and only if the request has a root or a `..`;
+/// otherwise with `Nul` if and only if the request has a NUL byte, at which a system call would cut
+/// the answer; and with `Short`. Does not allocate. Not in Rust's std.
 ///
 /// ```
 /// use unix_path_rattle::{join_plain, Error};
 /// let mut out = [0; 24];
 /// assert_eq!(join_plain(b"/srv/../www", b"./a", &mut out), Ok(&b"/srv/../www/./a"[..]));
 /// assert_eq!(join_plain(b"/srv/../www", b"a/../b", &mut out), Err(Error::Escapes));
+/// assert_eq!(join_plain(b"/srv/../www", b"..\0/a", &mut out), Err(Error::Nul));
 /// ```
 #[inline]
 pub fn join_plain<'o>(root: &[u8], request: &[u8], out: &'o mut [u8]) -> Result<&'o [u8], Error> {

@@ -21,6 +21,8 @@ pub enum Error {
     Separator,
     /// The request would leave the root or, for `join_plain`, has a root or a `..`.
     Escapes,
+    /// The request of `join_plain` has neither a root nor a `..`, and has a NUL byte.
+    Nul,
     /// An allocation failed.
     NoMemory,
     /// No path has these bytes as its key.
@@ -35,6 +37,7 @@ impl fmt::Display for Error {
             Error::Short { needed } => write!(f, "the buffer is too short for {needed} bytes"),
             Error::Separator => f.write_str("extension contains a separator"),
             Error::Escapes => f.write_str("path leaves its root"),
+            Error::Nul => f.write_str("path has a NUL byte"),
             Error::NoMemory => f.write_str("out of memory"),
             Error::NotAKey => f.write_str("not the key of a path"),
             Error::NoWay => f.write_str("no way from one path to the other"),
@@ -64,6 +67,7 @@ impl From<Error> for std::io::Error {
             Error::Short { .. }
             | Error::Separator
             | Error::Escapes
+            | Error::Nul
             | Error::NotAKey
             | Error::NoWay => std::io::Error::new(InvalidInput, error),
         }

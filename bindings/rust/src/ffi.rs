@@ -26,6 +26,7 @@ fn refusal(answer: usize) -> Error {
         SEPARATOR => Error::Separator,
         ESCAPES => Error::Escapes,
         NO_MEMORY => Error::NoMemory,
+        NUL_IN_REQUEST => Error::Nul,
         NOT_A_KEY => Error::NotAKey,
         NO_WAY => Error::NoWay,
         needed => Error::Short { needed },

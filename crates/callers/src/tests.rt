@@ -156,6 +156,7 @@ fn names(found: Result<Option<PathBuf>, WithinError>, want: Option<&str>) -> boo
     match found {
         Ok(found) => is_wanted(found, want),
         Err(WithinError::Escapes) => want == Some("refused"),
+        Err(WithinError::Nul) => false,
         Err(WithinError::Memory(_)) => false,
     }
 }

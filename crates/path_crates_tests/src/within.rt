@@ -18,6 +18,7 @@ fn is_joined(joined: Result<PathBuf, WithinError>, want: Option<&[u8]>) -> bool 
     match joined {
         Ok(path) => want == Some(path.as_path().as_unix_str().as_bytes()),
         Err(WithinError::Escapes) => want.is_none(),
+        Err(WithinError::Nul) => false,
         Err(WithinError::Memory(_)) => false,
     }
 }
@@ -31,13 +32,22 @@ fn is_joined_within(alloc: Global, root: &[u8], request: &[u8], want: Option<&[u
     )
 }
 
-// Whether `join_plain` of the root and the request gives these bytes, or refuses if `want` is
-// `None`.
+// Returns true if the plain join is refused as `Nul`.
+fn is_nul(joined: Result<PathBuf, WithinError>) -> bool {
+    match joined {
+        Err(WithinError::Nul) => true,
+        _ => false,
+    }
+}
+
+// Returns true if `join_plain` of the root and the request gives these bytes or, if `want` is
+// `None`, refuses: as `Escapes` if the request has a root or a `..`, otherwise as `Nul`.
 fn is_joined_plain(alloc: Global, root: &[u8], request: &[u8], want: Option<&[u8]>) -> bool {
-    is_joined(
-        join_plain(alloc, Path::from_bytes(root), Path::from_bytes(request)),
-        want,
-    )
+    let joined = join_plain(alloc, Path::from_bytes(root), Path::from_bytes(request));
+    if want.is_none() && !naive::has_root_or_up(request) {
+        return is_nul(joined);
+    }
+    is_joined(joined, want)
 }
 
 // The bytes of the text, if there is one.

@@ -100,14 +100,14 @@ fn answer(
                 digest.add_path(rest);
             }
         }
-        Err(WithinError::Escapes) => digest.add(0),
+        Err(WithinError::Escapes | WithinError::Nul) => digest.add(0),
         Err(WithinError::Memory(error)) => return Err(error),
     }
     Ok(())
 }
 
-// Adds the answer of those who trust no link: the plain join, if the request has no root and no
-// `..`.
+// Adds the answer of those who trust no link: the plain join, if the request has no root, no `..`
+// and no NUL.
 fn answer_plain_join(
     alloc: Global,
     root: Path<'_>,
@@ -117,7 +117,7 @@ fn answer_plain_join(
     digest.add_flag(climbs(request));
     match join_plain(alloc, root, request) {
         Ok(path) => digest.add_path(path.as_path()),
-        Err(WithinError::Escapes) => digest.add(0),
+        Err(WithinError::Escapes | WithinError::Nul) => digest.add(0),
         Err(WithinError::Memory(error)) => return Err(error),
     }
     Ok(())

@@ -2,6 +2,7 @@
 use Rattle.std.specs.Prelude.{ℕ, List, codes}
 use Rattle.path_within.specs.declared.within.WithinError.{WithinError}
 use Rattle.path_within.specs.declared.within.WithinError.TheVariants.{Escapes, Memory}
+use Rattle.path_within.specs.declared.within.WithinError.TheVariants as within_errors
 use Rattle.path_within.specs.declared.request.RequestError.{RequestError}
 use Rattle.path_within.specs.declared.request.RequestError.TheVariants.{Rooted, Climbs}
 use Rattle.path_within.specs.declared.request.RequestError.TheVariants as request_errors
@@ -12,6 +13,7 @@ use Rattle.path_within.specs.declared.root.StripError.TheVariants as strip_error
 -- what an error of a join is printed as
 abbrev pub within_error_text : WithinError → List ℕ
 within_error_text Escapes = codes "path leaves its root"
+within_error_text within_errors.Nul = codes "path has a NUL byte"
 within_error_text (Memory error) = codes "out of memory"
 
 -- what an error of a request is printed as

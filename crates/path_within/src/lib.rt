@@ -11,6 +11,6 @@ pub mod way;
 pub mod within;
 mod written;
 
-pub use request::{Request, RequestError};
+pub use request::{Request, RequestError, has_nul};
 pub use root::{Root, StripError};
 pub use within::WithinError;

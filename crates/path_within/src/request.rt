@@ -56,9 +56,13 @@ impl fmt::Display for RequestError {
 
 impl Error for RequestError {}
 
-// Whether a byte is NUL. Looks at 16 bytes at a time.
+/// Returns true if a byte is NUL, at which a system call cuts a path. Looks at 16 bytes at a time.
+/// Does not allocate. Not in Rust's std.
+///
+/// For `a\0.png` it is true; for `a%00.png` it is false.
+#[must_use]
 #[inline]
-pub(crate) fn has_nul(bytes: &[u8]) -> bool
+pub fn has_nul(bytes: &[u8]) -> bool
     ensures { result ≡ has_nul bytes.now }
 {
     first_place(bytes, 0) < bytes.len()

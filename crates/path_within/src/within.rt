@@ -1,15 +1,16 @@
 //! Joins that stay under a root.
-ghost use Rattle.std.specs.Prelude.{◌≡◌, ◌↔◌, true, [], IfOk, IsOk, IsErrOf, IsTrue, Some};
+ghost use Rattle.std.specs.Prelude.{◌≡◌, ◌↔◌, true, false, [], IfOk, IsOk, IsErrOf, IsTrue, Some};
 ghost use Rattle.std.specs.Fmt.{padded};
 ghost use Rattle.unix_path.specs.Buffers.{path_bytes};
 ghost use Rattle.unix_path.specs.Joins.{join_of};
 ghost use Rattle.unix_path.specs.Parts.{values};
 ghost use Rattle.unix_path.specs.Prefixes.{Begins};
+ghost use Rattle.path_within.specs.Below.{has_nul};
 ghost use Rattle.path_within.specs.Climbs.{Climbs, has_root_or_up};
 ghost use Rattle.path_within.specs.Resolved.{resolved_bytes_of};
 
 use crate::laws;
-use crate::request::is_spelled_unless_climbs;
+use crate::request::{has_nul, is_spelled_unless_climbs};
 use crate::resolved::keep;
 use crate::root::is_spelled_unless_up;
 use crate::runs::{Run, Runs, is_plain, part_count};
@@ -26,6 +27,9 @@ pub enum WithinError {
     /// The request would leave the root or, for `join_plain`, has a root or a `..`. It is printed
     /// as `path leaves its root`.
     Escapes,
+    /// The request of `join_plain` has neither a root nor a `..`, and has a NUL byte. It is printed
+    /// as `path has a NUL byte`.
+    Nul,
     /// An allocation failed. It is printed as `out of memory`.
     Memory(AllocError),
 }
@@ -43,6 +47,7 @@ impl fmt::Display for WithinError {
     fn fmt<W: fmt::Write>(&self, f: &mut fmt::Formatter<W>) -> fmt::Result {
         f.pad(match self {
             WithinError::Escapes => "path leaves its root",
+            WithinError::Nul => "path has a NUL byte",
             WithinError::Memory(_) => "out of memory",
         })
     }
@@ -118,6 +123,7 @@ pub fn has_root_or_up(path: Path<'_>) -> bool
 pub fn join_within(alloc: Global, root: Path<'_>, request: Path<'_>) -> Result<PathBuf, WithinError>
     ensures escapes { IsErrOf result WithinError.Escapes
         ↔ Climbs (values request.entry.bytes.now) }
+    ensures nul { IsErrOf result WithinError.Nul → ⊥ }
     ensures bytes { IfOk result (λ p. path_bytes p
         ≡ resolved_bytes_of (join_of root.entry.bytes.now request.entry.bytes.now)) }
     ensures within { IfOk result (λ p. Begins (values (resolved_bytes_of root.entry.bytes.now))
@@ -137,21 +143,24 @@ pub fn join_within(alloc: Global, root: Path<'_>, request: Path<'_>) -> Result<P
     Ok(kept)
 }
 
-/// The request joined to the root, both as they stand, if the request has neither a root nor a
-/// `..`.
+/// The request joined to the root, both verbatim, if the request has no root, no `..` and no NUL.
 ///
-/// It is for roots in or under which links may stand: the request goes down by names alone, and
-/// each `..` of the root stays. The error is `Escapes` exactly if the request has a root or any
-/// `..`, before anything is allocated, and `Memory` if the allocation fails. A slash at the end of
-/// the request stays, a NUL passes, and the answer may be the root itself, with a slash behind it.
-/// A request with a leading slash is refused: for paths of URLs take `Request::below`. Allocates
-/// once, as many bytes as the join has, or not at all if both are empty; then it succeeds. Not in
-/// Rust's std.
+/// It is for roots that may be or contain links: the request only goes down by its names, and each
+/// `..` of the root stays. The error is `Escapes` if and only if the request has a root or any
+/// `..`; otherwise it is `Nul` if and only if the request has a NUL byte, at which a system call
+/// would cut the join. Both come before anything is allocated. The error is `Memory` if the
+/// allocation fails. A trailing slash of the request stays, the root may have a NUL, and the answer
+/// may be the root itself, with a trailing slash. A request with a leading slash is refused: for
+/// paths of URLs use `Request::below`. Allocates once, as many bytes as the join has, or not at all
+/// if both are empty; then it succeeds. Not in Rust's std.
 ///
-/// `/srv/../www` with `./a` is `/srv/../www/./a`, and with `a/../b` it is refused.
+/// `/srv/../www` with `./a` is `/srv/../www/./a`, and with `a/../b` or `..\0/a` it is refused.
 pub fn join_plain(alloc: Global, root: Path<'_>, request: Path<'_>) -> Result<PathBuf, WithinError>
     ensures escapes { IsErrOf result WithinError.Escapes
         ↔ (has_root_or_up (values request.entry.bytes.now) ≡ true) }
+    ensures nul { IsErrOf result WithinError.Nul
+        ↔ ((has_root_or_up (values request.entry.bytes.now) ≡ false)
+        × (has_nul request.entry.bytes.now ≡ true)) }
     ensures bytes { IfOk result (λ p. path_bytes p
         ≡ join_of root.entry.bytes.now request.entry.bytes.now) }
     ensures within { IfOk result (λ p. Begins (values root.entry.bytes.now)
@@ -160,6 +169,9 @@ pub fn join_plain(alloc: Global, root: Path<'_>, request: Path<'_>) -> Result<Pa
 {
     if has_root_or_up(request) {
         return Err(WithinError::Escapes);
+    }
+    if has_nul(request.bytes) {
+        return Err(WithinError::Nul);
     }
     laws::plain_stays_within();
     Ok(root.join(alloc, request)?)

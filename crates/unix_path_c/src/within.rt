@@ -15,7 +15,7 @@ use crate::joins::unix_path_join;
 use crate::writing::{told_len, write_whole};
 use path_within::resolved::resolved;
 use path_within::within::{has_root_or_up, join_within};
-use path_within::{Request, RequestError, WithinError};
+use path_within::{Request, RequestError, WithinError, has_nul};
 use std::alloc::Global;
 use unix_path::Path;
 
@@ -96,29 +96,35 @@ pub extern "C" fn unix_path_join_within(
     match join_within(alloc, Path::from_bytes(root), Path::from_bytes(request)) {
         Ok(joined) => write_whole(out, joined.as_path().bytes),
         Err(WithinError::Escapes) => ESCAPES,
+        Err(WithinError::Nul) => NUL_IN_REQUEST,
         Err(WithinError::Memory(_)) => NO_MEMORY,
     }
 }
 
-/// The request joined to the root, both as they stand, if the request has neither a root nor a
-/// `..`.
+/// The request joined to the root, both verbatim, if the request has no root, no `..` and no NUL.
 ///
-/// It is for roots in or under which links may stand: the request goes down by names alone, and
-/// each `..` of the root stays. The answer is `UNIX_PATH_ESCAPES` exactly if the request has a root
-/// or any `..`. Else it is how many bytes the join has, at most one more than both paths, or
-/// `UNIX_PATH_TOO_LONG` if that is more than `PTRDIFF_MAX`, which no buffer has. If `out` has room
-/// for them all they stand at its beginning, and what stood behind them stays; else nothing is
-/// written. `out` may overlap neither path.
+/// It is for roots that may be or contain links: the request only goes down by its names, and each
+/// `..` of the root stays. The answer is `UNIX_PATH_ESCAPES` if and only if the request has a root
+/// or any `..`; otherwise it is `UNIX_PATH_NUL_IN_REQUEST` if and only if the request has a NUL
+/// byte, at which a system call would cut the join. Otherwise it is how many bytes the join has, at
+/// most one more than both paths, or `UNIX_PATH_TOO_LONG` if that is more than `PTRDIFF_MAX`, which
+/// no buffer has. If `out` has room for them all they are written at its beginning, and the bytes
+/// after them stay; otherwise nothing is written. What is refused writes nothing. `out` may overlap
+/// neither path.
 ///
-/// A slash at the end of the request stays, a NUL passes, and the answer may be the root itself,
-/// with a slash behind it. Does not allocate. Not in Rust's std; as `path_within`'s `join_plain`.
+/// A trailing slash of the request stays, the root may have a NUL, and the answer may be the root
+/// itself, with a trailing slash. Does not allocate. Not in Rust's std; as `path_within`'s
+/// `join_plain`.
 ///
-/// `/srv/../www` with `./a` is `/srv/../www/./a`, and with `a/../b` it is refused.
+/// `/srv/../www` with `./a` is `/srv/../www/./a`, and with `a/../b` or `..\0/a` it is refused.
 #[tactic(auto, using(crate::proofs::lemmas::buffers::BoundLemmas::bounds))]
 #[unsafe(no_mangle)]
 pub extern "C" fn unix_path_join_plain(root: &[u8], request: &[u8], out: &mut [u8]) -> usize
-    ensures answers { IsLength result ⊎ ((result ≡ escapes) ⊎ (result ≡ too_long)) }
+    ensures answers { IsLength result
+        ⊎ ((result ≡ escapes) ⊎ ((result ≡ nul_in_request) ⊎ (result ≡ too_long))) }
     ensures escapes { (result ≡ escapes) ↔ (has_root_or_up (values request.now) ≡ true) }
+    ensures nul { (result ≡ nul_in_request)
+        ↔ ((has_root_or_up (values request.now) ≡ false) × (has_nul request.now ≡ true)) }
     ensures too_long { result ≡ too_long → too_long ≤ length (join_of root.now request.now) }
     ensures length { IsLength result → result ≡ length (join_of root.now request.now) }
     ensures short { IsLength result → result ≤ length root.now + 1 + length request.now }
@@ -127,10 +133,14 @@ pub extern "C" fn unix_path_join_plain(root: &[u8], request: &[u8], out: &mut [u
     ensures within { IsLength result
         → Begins (values root.now) (values (join_of root.now request.now)) }
     ensures escaped { result ≡ escapes → out.new ≡ out.old }
+    ensures refused { result ≡ nul_in_request → out.new ≡ out.old }
     ensures long { result ≡ too_long → out.new ≡ out.old }
 {
     if has_root_or_up(Path::from_bytes(request)) {
         return ESCAPES;
+    }
+    if has_nul(request) {
+        return NUL_IN_REQUEST;
     }
     told_len(unix_path_join(root, request, out))
 }

@@ -114,6 +114,9 @@ pub const ESCAPES: usize = usize::MAX - 1;
 /// What `unix_path_resolved`, `unix_path_join_within` and `unix_path_way` answer if an allocation
 /// failed.
 pub const NO_MEMORY: usize = usize::MAX - 2;
+/// What `unix_path_join_below` and `unix_path_join_plain` answer for a request with a NUL byte that
+/// they don't refuse as `ESCAPES`.
+pub const NUL_IN_REQUEST: usize = usize::MAX - 3;
 /// What `unix_path_from_key` and `unix_path_key_end` answer for bytes that are the key of no path.
 pub const NOT_A_KEY: usize = usize::MAX - 4;
 /// What `unix_path_way` answers if no path without a root leads there.

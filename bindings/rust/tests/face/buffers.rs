@@ -88,7 +88,7 @@ fn of_one_path_or_key() {
 
 #[test]
 fn of_two() {
-    let rows: [RowOfTwo; 30] = [
+    let rows: [RowOfTwo; 31] = [
         (paths::join, b"a", b"b", b"a/b"),
         (paths::join, b"a/", b"b", b"a/b"),
         (paths::join, b"a", b"/b", b"/b"),
@@ -120,6 +120,7 @@ fn of_two() {
         (paths::join_plain, b"/srv/..", b"./a", b"/srv/.././a"),
         (paths::join_plain, b"/srv", b"", b"/srv/"),
         (paths::join_plain, b"", b"a//..b/", b"a//..b/"),
+        (paths::join_plain, b"/s\0v/..", b"a", b"/s\0v/../a"),
         (paths::way, b"/a/b/c", b"/a/d", b"../../d"),
         (paths::way, b"a/./b/", b"a//b", b""),
         (paths::way, b"x", b"../y", b"../../y"),
@@ -170,6 +171,8 @@ fn refusals_write_nothing() {
     in_no_room(|out| paths::way(b"../x", b"y", out), Error::NoWay);
     in_no_room(|out| paths::join_plain(b"/a", b"b/..", out), Error::Escapes);
     in_no_room(|out| paths::join_plain(b"/a", b"/", out), Error::Escapes);
+    in_no_room(|out| paths::join_plain(b"/a", b"/\0", out), Error::Escapes);
+    in_no_room(|out| paths::join_plain(b"/a", b"..\0/b", out), Error::Nul);
     let no_keys: [&[u8]; 7] = [
         b"a",
         b"\0\x04",
@@ -201,6 +204,7 @@ fn errors_have_texts() {
         ),
         (Error::Separator, "extension contains a separator"),
         (Error::Escapes, "path leaves its root"),
+        (Error::Nul, "path has a NUL byte"),
         (Error::NoMemory, "out of memory"),
         (Error::NotAKey, "not the key of a path"),
         (Error::NoWay, "no way from one path to the other"),

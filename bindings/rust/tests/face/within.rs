@@ -54,10 +54,13 @@ fn resolved_and_climbing() {
     }
 }
 
-/// The join, if the request has neither a root nor a `..`.
+/// The join, if the request has neither a root nor a `..`, nor a NUL.
 fn plain_join(root: &[u8], request: &[u8]) -> Result<Vec<u8>, Error> {
     if components(request).any(|part| matches!(part, Component::RootDir | Component::ParentDir)) {
         return Err(Error::Escapes);
+    }
+    if request.contains(&0) {
+        return Err(Error::Nul);
     }
     owned::join(root, request)
 }
@@ -77,6 +80,19 @@ fn joined_within() {
             let plain = owned::join(root, request).unwrap();
             assert_eq!(joined, spelling(&kept_parts(&plain)));
             assert!(starts_with(&joined, &owned::resolved(root).unwrap()));
+        }
+    }
+}
+
+#[test]
+fn joined_plain() {
+    let roots: [&[u8]; 5] = [b"", b"/", b"/www", b"/w\0w", b"/a/../b//."];
+    for request in over(b"/.a\0", 5) {
+        for root in roots {
+            assert_eq!(
+                owned::join_plain(root, &request),
+                plain_join(root, &request)
+            );
         }
     }
 }

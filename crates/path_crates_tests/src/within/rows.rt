@@ -1,5 +1,6 @@
 //! Rows of resolved paths, joins under a root, and ways.
 use super::{bytes_of, is_joined_plain, is_joined_within};
+use path_within::has_nul;
 use path_within::resolved::resolved;
 use path_within::way::way;
 use path_within::within::{climbs, has_root_or_up};
@@ -60,6 +61,18 @@ static ROOTS_AND_UPS: [(&'static str, bool); 14] = [
     ("a/b/c/d/e/f/g/h/i/../j", true),
 ];
 
+// A path, and whether it has a NUL byte. A block of 16 bytes is read at once.
+static NULS: [(&'static str, bool); 8] = [
+    ("", false),
+    ("a%00.png", false),
+    ("\\0", false),
+    ("\0", true),
+    ("a.png\0", true),
+    ("..\0/a", true),
+    ("a/name/of/more/than/32/bytes.png\0", true),
+    ("a/name/of/more/than/32/\0bytes.png", true),
+];
+
 // Two paths, and the path that is made of both, if there is one.
 type Row = (&'static str, &'static str, Option<&'static str>);
 
@@ -82,7 +95,7 @@ static JOINS_WITHIN: [Row; 14] = [
 ];
 
 // A root, a request, and their plain join, unless it is refused.
-static PLAIN_JOINS: [Row; 9] = [
+static PLAIN_JOINS: [Row; 15] = [
     ("/srv/../www", "./a", Some("/srv/../www/./a")),
     ("/srv/../www", "a//b/", Some("/srv/../www/a//b/")),
     ("/srv", "", Some("/srv/")),
@@ -92,6 +105,12 @@ static PLAIN_JOINS: [Row; 9] = [
     ("/srv", "a/..", None),
     ("/srv", "./..", None),
     ("/srv", "/a", None),
+    ("/s\0v/..", "a", Some("/s\0v/../a")),
+    ("/srv", "..\0/a", None),
+    ("/srv", "a\0", None),
+    ("", "\0", None),
+    ("/srv", "a\0/..", None),
+    ("/srv", "/\0", None),
 ];
 
 // Two paths, and the way from the first to the other, if there is one.
@@ -151,6 +170,13 @@ fn rows_with_roots_and_ups(rt: HostRuntime) {
             "{}",
             row.0
         );
+    }
+}
+
+#[test]
+fn rows_with_nuls(rt: HostRuntime) {
+    for row in NULS.iter() {
+        assert!(rt; has_nul(row.0.as_bytes()) == row.1, "{:?}", row.0);
     }
 }
 

@@ -1,5 +1,5 @@
 //! All short strings as requests and as paths below roots, beside a naive reading.
-use super::naive;
+use super::{is_joined_plain, naive};
 use crate::strings::strings_over;
 use path_within::{Request, RequestError, Root, StripError};
 use std::alloc::{AllocError, Global};
@@ -115,6 +115,19 @@ fn is_read(
     Ok(is_new && is_below)
 }
 
+// Returns true if the plain join of the request is refused as it should be by a naive reading, and
+// otherwise is the join that `Path` makes.
+fn is_plain_join(alloc: Global, root: Path<'_>, request: &[u8]) -> Result<bool, AllocError> {
+    let whole = root.join(alloc, Path::from_bytes(request))?;
+    let is_refused = naive::has_root_or_up(request) || request.contains(&0);
+    let want = if is_refused {
+        None
+    } else {
+        Some(whole.as_path().bytes)
+    };
+    Ok(is_joined_plain(alloc, root.bytes, request, want))
+}
+
 // Whether the root tells of the path what a naive reading tells.
 fn is_told(alloc: Global, root: &Root, path: &[u8]) -> Result<bool, AllocError> {
     let root_parts = naive::parts(alloc, root.as_path().bytes)?;
@@ -144,7 +157,10 @@ fn first_wrong<'a>(
     let mut buffer = PathBuf::new(alloc);
     for string in strings {
         let path = string.as_slice();
-        if !is_read(alloc, root, &mut buffer, path)? || !is_told(alloc, root, path)? {
+        if !is_read(alloc, root, &mut buffer, path)?
+            || !is_told(alloc, root, path)?
+            || !is_plain_join(alloc, root.as_path(), path)?
+        {
             return Ok(Some(path));
         }
     }

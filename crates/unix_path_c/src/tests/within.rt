@@ -44,24 +44,32 @@ static JOINS: [(&'static str, &'static str, Option<&'static str>); 13] = [
     ("/", "a\0/../etc", Some("/etc")),
 ];
 
-// A root, a request, and their join as they stand, unless it is refused.
-static PLAIN_JOINS: [(&'static str, &'static str, Option<&'static str>); 16] = [
-    ("/srv/../www", "./a", Some("/srv/../www/./a")),
-    ("/srv/../www", "a//b/", Some("/srv/../www/a//b/")),
-    ("/srv", "", Some("/srv/")),
-    ("/srv/", "a", Some("/srv/a")),
-    ("/", "a", Some("/a")),
-    ("", "", Some("")),
-    ("", "./a", Some("./a")),
-    ("/srv", ".", Some("/srv/.")),
-    ("/srv", "..foo/...", Some("/srv/..foo/...")),
-    ("/srv", "a\0b", Some("/srv/a\0b")),
-    ("/srv", "..", None),
-    ("/srv", "a/../b", None),
-    ("/srv", "a/b/c/d/e/f/g/h/..", None),
-    ("/srv", "./..", None),
-    ("/srv", "/a", None),
-    ("", "/", None),
+// A root, a request, and their join as they stand, or the number that refuses it.
+type Plain = (&'static str, &'static str, Result<&'static str, usize>);
+
+static PLAIN_JOINS: [Plain; 22] = [
+    ("/srv/../www", "./a", Ok("/srv/../www/./a")),
+    ("/srv/../www", "a//b/", Ok("/srv/../www/a//b/")),
+    ("/srv", "", Ok("/srv/")),
+    ("/srv/", "a", Ok("/srv/a")),
+    ("/", "a", Ok("/a")),
+    ("", "", Ok("")),
+    ("", "./a", Ok("./a")),
+    ("/srv", ".", Ok("/srv/.")),
+    ("/srv", "..foo/...", Ok("/srv/..foo/...")),
+    ("/s\0v/..", "a", Ok("/s\0v/../a")),
+    ("/srv", "a\0b", Err(NUL)),
+    ("/srv", "..\0/a", Err(NUL)),
+    ("", "\0", Err(NUL)),
+    ("/srv", "a/name/of/more/than/32/bytes.png\0", Err(NUL)),
+    ("/srv", "..", Err(ESCAPES)),
+    ("/srv", "a/../b", Err(ESCAPES)),
+    ("/srv", "a/b/c/d/e/f/g/h/..", Err(ESCAPES)),
+    ("/srv", "./..", Err(ESCAPES)),
+    ("/srv", "/a", Err(ESCAPES)),
+    ("", "/", Err(ESCAPES)),
+    ("/srv", "/\0", Err(ESCAPES)),
+    ("/srv", "a\0/..", Err(ESCAPES)),
 ];
 
 // What is answered for a request below a root: the join, or the number that refuses it.
@@ -163,13 +171,13 @@ fn is_joined(alloc: Global, row: &(&str, &str, Option<&str>)) -> bool {
     }
 }
 
-// Whether the join of both as they stand is written, if there is room for it, or is refused if none
-// is wanted.
-fn is_joined_plain(row: &(&str, &str, Option<&str>)) -> bool {
+// Returns true if the join of both as they stand is written, if there is room for it, or is refused
+// by the row's number.
+fn is_joined_plain(row: &Plain) -> bool {
     let call = |out: &mut [u8]| unix_path_join_plain(row.0.as_bytes(), row.1.as_bytes(), out);
     match row.2 {
-        Some(want) => is_answered(call, want.len(), want.as_bytes()),
-        None => is_answered(call, ESCAPES, b""),
+        Ok(want) => is_answered(call, want.len(), want.as_bytes()),
+        Err(refusal) => is_answered(call, refusal, b""),
     }
 }
 

@@ -94,7 +94,7 @@ fn report_escape(given: Result<PathBuf, WithinError>) -> Result<(), Fail> {
     match given {
         Err(WithinError::Escapes) => report(true, true),
         Err(WithinError::Memory(_)) => report(false, true),
-        Ok(_) => report(true, false),
+        _ => report(true, false),
     }
 }
 
@@ -106,6 +106,15 @@ fn climb_not_joined(rt: HostRuntime) -> Result<(), Fail> {
 #[test]
 fn up_not_joined_plainly(rt: HostRuntime) -> Result<(), Fail> {
     report_escape(join_plain(rt.alloc(), path("/srv"), path("a/../b")))
+}
+
+#[test]
+fn nul_not_joined_plainly(rt: HostRuntime) -> Result<(), Fail> {
+    match join_plain(rt.alloc(), path("/srv"), path("..\0/a")) {
+        Err(WithinError::Nul) => report(true, true),
+        Err(WithinError::Memory(_)) => report(false, true),
+        _ => report(true, false),
+    }
 }
 
 #[test]

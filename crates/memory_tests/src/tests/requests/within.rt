@@ -14,7 +14,7 @@ fn report_join(given: Result<PathBuf, WithinError>, text: &str) -> Result<(), Fa
     match given {
         Ok(buffer) => report_path(Ok(buffer), text),
         Err(WithinError::Memory(error)) => report_path(Err(error), text),
-        Err(WithinError::Escapes) => report(true, false),
+        Err(WithinError::Escapes | WithinError::Nul) => report(true, false),
     }
 }
 
