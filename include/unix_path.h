@@ -318,10 +318,14 @@ size_t unix_path_resolved(const void *path, size_t path_length, void *out,
 
 /* The request joined to the root and resolved, so that it stays under the resolved root.
  * UNIX_PATH_ESCAPES exactly if the request climbs, before anything is allocated, and
- * UNIX_PATH_NO_MEMORY only if an allocation failed. It goes by names alone: if a part may be a
- * link, take unix_path_join_plain, and let the system refuse links. An empty answer stands for `.`.
- * It has at most as many bytes as both and one more, and holds a NUL if a part that stays does, of
- * which unix_path_join_below tells. `/srv` with `a/../b` gives `/srv/b`. */
+ * UNIX_PATH_NO_MEMORY only if an allocation failed. It is lexical: if a part may be a link, use
+ * unix_path_join_plain, and let the system refuse links. An empty answer stands for `.`. It has at
+ * most as many bytes as both and one more. `/srv` with `a/../b` gives `/srv/b`.
+ *
+ * A request with a NUL byte isn't refused, `..\0` is a name, and the answer holds a NUL if a part
+ * that stays does. A system call reads a path only up to its first NUL, so it may read the answer
+ * as the root's parent: it reads `/srv/..\0/a`, the answer for `/srv` and `..\0/a`, as `/srv/..`.
+ * unix_path_join_below refuses such a request. */
 size_t unix_path_join_within(const void *root, size_t root_length, const void *request,
                              size_t request_length, void *out, size_t out_length);
 

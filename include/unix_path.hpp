@@ -362,7 +362,10 @@ class view {
     result<std::string> resolved() const;
     result<std::string_view> resolved(buffer out) const noexcept;
     /// This path is the root, and is resolved too. refusal::escapes exactly if the request climbs,
-    /// and refusal::no_memory if the library got none, which it asks for beside the string.
+    /// and refusal::no_memory if the library got none, which it asks for beside the string. A
+    /// request with a NUL byte isn't refused, and `..\0` is a name. A system call reads a path only
+    /// up to its first NUL, so it may read the answer as the root's parent: it reads `/srv/..\0/a`,
+    /// the answer for `/srv` and `..\0/a`, as `/srv/..`. `join_below` refuses such a request.
     result<std::string> join_within(view request) const;
     result<std::string_view> join_within(view request, buffer out) const noexcept;
     /// This path is the root, and both stay as they are spelled, for roots that may contain links.

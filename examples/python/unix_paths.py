@@ -194,7 +194,15 @@ class UnixPath:
         return UnixPath(_written(_resolved, len(self._bytes), self._bytes))
 
     def join_within(self, request):
-        """The request joined to this root, resolved; ValueError if it leads out by names."""
+        r"""The request joined to this root, resolved; ValueError if it leads out by names.
+
+        A NUL byte isn't refused, and a system call reads a path only up to its first NUL, so it
+        may read the answer as the root's parent, here as `/srv/..`. unix_path_join_below of the
+        library refuses such a request.
+
+        >>> UnixPath("/srv").join_within("..\0/a")
+        UnixPath('/srv/..\x00/a')
+        """
         new = _bytes_of(request)
         room = len(self._bytes) + len(new) + 1
         return UnixPath(_written(_join_within, room, self._bytes, new))

@@ -140,6 +140,7 @@ static const struct {
     const char *bytes;
     size_t answer;
 } nuls[] = {
+    {unix_path_join_within, "/srv", 4, "..\0/a", 5, "/srv/..\0/a", 10},
     {unix_path_join_plain, "/s\0v/..", 7, "a", 1, "/s\0v/../a", 9},
     {unix_path_join_plain, "/srv", 4, "..\0/a", 5, NULL, UNIX_PATH_NUL_IN_REQUEST},
     {unix_path_join_plain, "", 0, "\0", 1, NULL, UNIX_PATH_NUL_IN_REQUEST},

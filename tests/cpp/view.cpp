@@ -185,6 +185,7 @@ void written_strings() {
     CHECK(view("/srv").join_plain("a/../b").why() == refusal::escapes);
     CHECK(view("/srv").join_plain("..\0/a"sv).why() == refusal::nul_in_request);
     CHECK(*view("/s\0v"sv).join_plain("a") == "/s\0v/a"sv);
+    CHECK(*view("/srv").join_within("..\0/a"sv) == "/srv/..\0/a"sv);
     CHECK(*view("/a/b/c").way("/a/d") == "../../d" && view("a//b").way("a/b")->empty());
     CHECK(view("../x").way("y").why() == refusal::no_way);
     CHECK(unix_path::name_of(*view("../x").way("y").why()) == "no_way"sv);

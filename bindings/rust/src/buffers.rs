@@ -128,15 +128,21 @@ pub fn resolved<'o>(path: &[u8], out: &'o mut [u8]) -> Result<&'o [u8], Error> {
 ///
 /// Fails with `Escapes` exactly if the request [climbs](crate::climbs), before anything is
 /// allocated. Else it allocates once, one byte more than both paths have, and frees what it
-/// allocates; it fails with `NoMemory` if the allocation failed, and with `Short`. It goes by names
-/// alone: if a part of the root or of the request may be a link, take [`join_plain`], and let the
-/// system refuse links. Not in Rust's std.
+/// allocates; it fails with `NoMemory` if the allocation failed, and with `Short`. It is lexical:
+/// if a part of the root or of the request may be a link, use [`join_plain`], and let the system
+/// refuse links. Not in Rust's std.
+///
+/// A request with a NUL byte isn't refused, and `..\0` is a name. A system call reads a path only
+/// up to its first NUL, so it may read the answer as the root's parent: it reads `/srv/..\0/a`, the
+/// answer for `/srv` and `..\0/a`, as `/srv/..`. [`Request::new`](crate::Request::new) and
+/// [`Request::below`](crate::Request::below), whose requests `join_below` joins, refuse a NUL.
 ///
 /// ```
 /// use unix_path_rattle::{join_within, Error};
 /// let mut out = [0; 16];
 /// assert_eq!(join_within(b"/srv/www", b"a/../b", &mut out), Ok(&b"/srv/www/b"[..]));
 /// assert_eq!(join_within(b"/srv/www", b"a/../../x", &mut out), Err(Error::Escapes));
+/// assert_eq!(join_within(b"/srv", b"..\0/a", &mut out), Ok(&b"/srv/..\0/a"[..]));
 /// ```
 #[inline]
 pub fn join_within<'o>(root: &[u8], request: &[u8], out: &'o mut [u8]) -> Result<&'o [u8], Error> {

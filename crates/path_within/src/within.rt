@@ -113,11 +113,16 @@ pub fn has_root_or_up(path: Path<'_>) -> bool
 /// The request joined to the root and resolved: a path that stays under the resolved root.
 ///
 /// The error is `Escapes` exactly if the request climbs, before anything is allocated, and `Memory`
-/// if the allocation fails. A slash at the end of the request goes, a NUL passes, and the answer
-/// may be the root itself. A request with a leading slash is refused: for paths of URLs take
-/// `Request::below`. It goes by names alone: if a part of the root or of the request may be a link,
-/// take `join_plain` and let the system refuse links. Allocates once, one byte more than both paths
-/// have together. Not in Rust's std.
+/// if the allocation fails. A trailing slash of the request is dropped, and the answer may be the
+/// root itself. A request with a leading slash is refused: for paths of URLs use `Request::below`.
+/// It is lexical: if a part of the root or of the request may be a link, use `join_plain` and let
+/// the system refuse links. Allocates once, one byte more than both paths have together. Not in
+/// Rust's std.
+///
+/// A request with a NUL byte isn't refused, and `..\0` is a name. A system call reads a path only
+/// up to its first NUL, so it may read the answer as the root's parent: it reads `/srv/..\0/a`, the
+/// answer for `/srv` and `..\0/a`, as `/srv/..`. `Request::new` and `Request::below` refuse a NUL,
+/// and `has_nul` finds one.
 ///
 /// `/srv/www` with `a/../b` is `/srv/www/b`, and with `a/../../x` it is refused.
 pub fn join_within(alloc: Global, root: Path<'_>, request: Path<'_>) -> Result<PathBuf, WithinError>

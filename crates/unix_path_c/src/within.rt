@@ -68,9 +68,13 @@ pub extern "C" fn unix_path_resolved(alloc: Global, path: &[u8], out: &mut [u8])
 /// and `UNIX_PATH_NO_MEMORY` if the allocation fails; in both cases nothing is written. `out` may
 /// overlap neither path.
 ///
-/// It goes by names alone: if a part of the root or of the request may be a link, only the system
-/// knows where the join leads. Allocates once, one byte more than both paths have, and frees what
-/// it allocates. C passes nothing for `alloc`. Not in Rust's std.
+/// It is lexical: if a part of the root or of the request may be a link, only the system knows
+/// where the join leads. Allocates once, one byte more than both paths have, and frees what it
+/// allocates. C passes nothing for `alloc`. Not in Rust's std.
+///
+/// A request with a NUL byte isn't refused, and `..\0` is a name. A system call reads a path only
+/// up to its first NUL, so it may read the answer as the root's parent: it reads `/srv/..\0/a`, the
+/// answer for `/srv` and `..\0/a`, as `/srv/..`. `unix_path_join_below` refuses such a request.
 ///
 /// `/srv/www` with `a/../b` is `/srv/www/b`, and with `a/../../x` it is refused.
 #[tactic(auto, using(crate::proofs::lemmas::buffers::BoundLemmas::bounds))]

@@ -77,7 +77,7 @@ static NULS: [(&'static str, bool); 8] = [
 type Row = (&'static str, &'static str, Option<&'static str>);
 
 // A root, a request, and their join within, unless it is refused.
-static JOINS_WITHIN: [Row; 14] = [
+static JOINS_WITHIN: [Row; 15] = [
     ("/srv/www", "a/../b", Some("/srv/www/b")),
     ("/srv/www", "", Some("/srv/www")),
     ("/srv/www", ".", Some("/srv/www")),
@@ -92,6 +92,7 @@ static JOINS_WITHIN: [Row; 14] = [
     ("/srv/../www", "a//b/", Some("/www/a/b")),
     ("../root", "a", Some("../root/a")),
     ("", "a/..", Some("")),
+    ("/srv", "..\0/a", Some("/srv/..\0/a")),
 ];
 
 // A root, a request, and their plain join, unless it is refused.

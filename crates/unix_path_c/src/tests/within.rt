@@ -28,7 +28,7 @@ static RESOLUTIONS: [(&'static str, &'static str); 12] = [
 ];
 
 // A root, a request, and their join within, unless it is refused.
-static JOINS: [(&'static str, &'static str, Option<&'static str>); 13] = [
+static JOINS: [(&'static str, &'static str, Option<&'static str>); 14] = [
     ("/srv/www", "a/../b", Some("/srv/www/b")),
     ("/srv/www", "", Some("/srv/www")),
     ("/srv/www", ".", Some("/srv/www")),
@@ -42,6 +42,7 @@ static JOINS: [(&'static str, &'static str, Option<&'static str>); 13] = [
     ("../root", "a", Some("../root/a")),
     ("", "a/..", Some("")),
     ("/", "a\0/../etc", Some("/etc")),
+    ("/srv", "..\0/a", Some("/srv/..\0/a")),
 ];
 
 // A root, a request, and their join as they stand, or the number that refuses it.
