@@ -216,7 +216,7 @@ pub(crate) fn trimmed_len(path: &[u8], len: usize) -> usize
 // The root or the name that a path ends with, and how many bytes are left without it and the filler
 // before it.
 #[inline(always)]
-fn last_name_step(path: &[u8]) -> (usize, Component<'_>)
+pub(crate) fn last_name_step(path: &[u8]) -> (usize, Component<'_>)
     requires some { 0 < length path.now }
     requires no_dot { bytes_eq path.now cur_dir ≡ false }
     requires no_parent { ends_with_parent path.now ≡ false }

@@ -5,7 +5,7 @@ ghost use Rattle.unix_path.specs.Names.{file_name_of, stem_of, extension_of, fil
 ghost use Rattle.unix_path.specs.Edits.{before_name_of, stem_end_of};
 ghost use Rattle.unix_path.specs.Extensions.{name_end_of};
 
-use crate::cursor::{Component, Components, trimmed_len};
+use crate::cursor::{Component, Components, last_name_step, trimmed_len};
 use crate::names::{name_prefix, split_name};
 use crate::path::Path;
 use crate::scan::{ends_in_name, stem_end};
@@ -97,14 +97,12 @@ impl<'a> Path<'a> {
         ensures value { result.bytes.now ≡ before_name_of self.now.bytes.now }
         ensures begins { take (length result.bytes.now) self.now.bytes.now ≡ result.bytes.now }
     {
-        let Some(last) = Components::last_part(self.bytes) else {
+        let Some(end) = self.name_end() else {
             return *self;
         };
-        match last.part {
-            Component::Normal(_) => Path {
-                bytes: &self.bytes[..last.before],
-            },
-            _ => *self,
+        let (len, _name) = last_name_step(&self.bytes[..end]);
+        Path {
+            bytes: &self.bytes[..len],
         }
     }
 

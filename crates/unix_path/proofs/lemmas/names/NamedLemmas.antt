@@ -22,6 +22,7 @@ use Rattle.unix_path.proofs.lemmas.steps.LastPieceLemmas.{last_name, starts_dot,
 use Rattle.unix_path.proofs.lemmas.names.NameEndLemmas.{name_end_of-none, name_end_of-some}
 use Rattle.unix_path.proofs.lemmas.names.ParentLemmas.{file_name_of-none, file_name_of-push}
 use Rattle.unix_path.proofs.lemmas.parts.PartLemmas.{parts-none}
+use Rattle.unix_path.proofs.lemmas.rests.RestLemmas.{take-rest}
 use Rattle.unix_path.proofs.lemmas.steps.SpanLemmas.{length-rest_whole, parts_end-whole}
 use Rattle.unix_path.proofs.lemmas.steps.SpanLemmas.{rest-trimmed, trims_end}
 use Rattle.unix_path.proofs.lemmas.names.StemLemmas.{length-rest_whole-le}
@@ -114,7 +115,7 @@ named_end s name ends is =
     ∙ sym is))))
 
 -- a string whose last part ends where it does ends in a part
-ends_part : (s : List ℕ) → length s ≡ length (rest s 0 0) → EndsInPart s
+pub ends_part : (s : List ℕ) → length s ≡ length (rest s 0 0) → EndsInPart s
 ends_part s e some =
     let n = length s in
     by_test (is_trailing s (n - 1))
@@ -308,3 +309,7 @@ nameless-behind s some dot slash =
     let behind : get_or s (n - 1 - 1) 0 ≡ 47 =
     ap (λ i. get_or s i 0) {x = n - 1 - 1} {y = n - 2} (omega arith) ∙ slash in
     nameless-trailing s (omega arith) (rw (lt-ltb 0 (n - 1) (omega arith), dot, behind) refl)
+
+-- the path up to the end of its file name is all that a fresh walk has left
+pub take-name_end : (s : List ℕ) (end : ℕ) → name_end_of s ≡ Some end → take end s ≡ rest s 0 0
+take-name_end s end e = ap (λ n. take n s) (name_end s end e).is ∙ take-rest s 0

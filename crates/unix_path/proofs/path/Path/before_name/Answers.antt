@@ -1,23 +1,47 @@
-use Rattle.std.proofs.Common.{take, refl, ◌∙◌}
-use Rattle.unix_path.proofs.lemmas.names.ParentLemmas.{file_name_of-none, before_name_of-none}
-use Rattle.unix_path.proofs.lemmas.names.ParentLemmas.{before_name_of-some}
-use Rattle.unix_path.proofs.lemmas.walks.ComponentLemmas.{file_name_of-normal, file_name_of-other}
+use Rattle.std.proofs.Common.{◌≡◌, Some, length, take, refl, sym, ◌∙◌, arith, length-take-le}
+use Rattle.std.proofs.Common.{take-take}
+use Rattle.std.specs.Str.{bytes_eq}
+use Rattle.unix_path.specs.Edits.{before_name_of}
+use Rattle.unix_path.specs.Extensions.{name_end_of}
+use Rattle.unix_path.specs.Parts.{cur_dir}
+use Rattle.unix_path.specs.Scan.{ends_with_parent}
+use Rattle.unix_bytes.proofs.lemmas.lists.ListLemmas.{by_test}
+use Rattle.unix_path.proofs.lemmas.names.NamedLemmas.{ends_in_name, ends_part, name_end_of-take}
+use Rattle.unix_path.proofs.lemmas.names.NamedLemmas.{nameless-dot, nameless-parent, take-name_end}
+use Rattle.unix_path.proofs.lemmas.names.NameEndLemmas.{file_name_of-name_end}
+use Rattle.unix_path.proofs.lemmas.names.NameEndLemmas.{file_name_of-no_name_end}
+use Rattle.unix_path.proofs.lemmas.names.ParentLemmas.{rest-whole_last}
 use Rattle.unix_path.proofs.path.Path.before_name.Goals as goal
 
 pub returns-in_default-clause-value : goal.returns-in_default-clause-value
+unfolding before_name_of
 returns-in_default-clause-value c =
     let s = c.args.self.now.bytes.now in
-    before_name_of-none s (file_name_of-none s (c.in_default.ensures.none refl))
+    rw (file_name_of-no_name_end s c.in_default.ensures.value) refl
 
-pub returns-in-Normal-clause-value : goal.returns-in-Normal-clause-value
-returns-in-Normal-clause-value c =
+pub last_name_step-len-requires : goal.last_name_step-len-requires
+last_name_step-len-requires c =
     let s = c.args.self.now.bytes.now in
-    let last = c.in-Some.ensures.some in
-    last.before_is ∙ before_name_of-some s c.in-Normal.field-0.bytes.now
-    (file_name_of-normal s (take c.in-Some.last.before s) last.value c.in-Normal.is)
+    let t = take c.in-Some.end s in
+    let named : name_end_of t ≡ Some (length t) =
+    name_end_of-take s c.in-Some.end (sym c.in-Some.ensures.value) c.in-Some.ensures.in_range in
+    let ends = ends_in_name t named in
+    let some = ends.some in
+    record {
+      some = omega arith;
+      no_dot = by_test (bytes_eq t cur_dir) (λ e. absurd (nameless-dot t e named)) (λ e. e);
+      no_parent = by_test (ends_with_parent t) (λ e. absurd (nameless-parent t e named)) (λ e. e);
+      ends = ends_part t ends.end;
+    }
 
-pub returns-in_default-part-clause-value : goal.returns-in_default-part-clause-value
-returns-in_default-part-clause-value c =
+pub returns-clause-value : goal.returns-clause-value
+unfolding before_name_of
+returns-clause-value c =
     let s = c.args.self.now.bytes.now in
-    before_name_of-none s (file_name_of-other s (take c.in-Some.last.before s)
-    c.in-Some.last.part c.in-Some.ensures.some.value c.in_default-part.not-Normal)
+    let end = c.in-Some.end in
+    let is = c.in-Some.ensures.value in
+    let len = c.last_name_step-len in
+    let size = length-take-le end s c.in-Some.ensures.in_range in
+    rw (file_name_of-name_end s end is)
+    (rest-whole_last s (take-name_end s end (sym is))
+    (sym (take-take len.result.0 end s (omega arith)) ∙ sym len.ensures.takes.rest))
