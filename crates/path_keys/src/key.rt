@@ -151,7 +151,8 @@ impl PathKey {
         key_name(self.as_bytes())
     }
 
-    /// Whether its path starts with that of another key. Does not allocate. Not in Rust's std.
+    /// Whether its path starts with that of another key, as `key_starts_with` says: no `..` is
+    /// resolved. Does not allocate. Not in Rust's std.
     ///
     /// The key of `a/b` starts with that of `a`, and that of `ab` doesn't.
     #[must_use]

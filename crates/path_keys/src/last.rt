@@ -84,7 +84,9 @@ pub fn key_name(key: &[u8]) -> Option<&[u8]>
 /// Whether the path of a key starts with that of another, its base: whether the base's key begins
 /// the key.
 ///
-/// Does not allocate. Not in Rust's std; as `Path::starts_with`.
+/// Does not allocate. Not in Rust's std; as `Path::starts_with`: no `..` is resolved, so the key of
+/// `a/..` starts with that of `a`. To keep a path below a directory, use `Request::new` and
+/// `Root::join` of the crate `path_within`, or its `join_within`.
 ///
 /// The key of `a/b` starts with that of `a`, and that of `ab` doesn't.
 #[must_use]

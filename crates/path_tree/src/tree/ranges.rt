@@ -40,6 +40,9 @@ impl<V> PathTree<V> {
     /// entries. Allocates once, as many bytes as the base's key has, or not at all for the empty path;
     /// fails if the allocation fails. Not in Rust's std.
     ///
+    /// No `..` is resolved: `a/../b` is under `a`. To keep a path below a directory, use
+    /// `Request::new` and `Root::join` of the crate `path_within`, or its `join_within`.
+    ///
     /// With 1 at `a/b`, 2 at `a` and 3 at `a.b`, under `a` it gives 61 00 with 2, and then
     /// 61 00 62 00 with 1.
     pub fn under(&self, base: &PathKey) -> Result<Range<'_, Vec<u8>, V>, AllocError>
