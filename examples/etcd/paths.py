@@ -6,6 +6,11 @@ NOT_A_KEY = SIZE_MAX - 4
 NO_END = SIZE_MAX - 5
 
 
+def exact(some_bytes):
+    """These bytes, as the type `bytes` itself: the length of a subclass may be another."""
+    return bytes(memoryview(some_bytes))
+
+
 class Paths:
     """Keys of paths and paths of keys, all as bytes."""
 
@@ -26,10 +31,12 @@ class Paths:
 
     def key(self, path):
         """The key of a path."""
+        path = exact(path)
         return self.answer("key", path, len(path) + 2)
 
     def path(self, key):
         """The canonical path of a key."""
+        key = exact(key)
         found = self.answer("from_key", key, 2 * len(key))
         if found == NOT_A_KEY:
             raise ValueError(f"{key!r} is the key of no path")
@@ -37,6 +44,7 @@ class Paths:
 
     def end(self, key):
         """The end of a key's range; None for the empty key, whose range has all keys."""
+        key = exact(key)
         found = self.answer("key_end", key, len(key))
         if found == NOT_A_KEY:
             raise ValueError(f"{key!r} is the key of no path")
