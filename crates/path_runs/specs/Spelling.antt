@@ -1,11 +1,15 @@
 -- The canonical spelling of a list of values. Not in Rust's std.
 use Rattle.std.specs.Prelude.{ℕ, List, [], ◌∷◌, map}
-use Rattle.std.specs.List.{join_with_byte}
+use Rattle.std.specs.List.{flat_map, join_with_byte}
 use Rattle.unix_path.specs.Parts.{Value, RootDir, slash, value_bytes}
 
 -- the values' bytes, with one slash between neighbours
 abbrev pub slashed_bytes : List Value → List ℕ
 slashed_bytes vs = join_with_byte slash (map value_bytes vs)
+
+-- the values' bytes, each after a slash
+abbrev pub slash_each : List Value → List ℕ
+slash_each vs = flat_map (λ v. slash ∷ value_bytes v) vs
 
 -- a first root as a slash, and then the other values' bytes with slashes between
 unfoldable pub spelling_of : List Value → List ℕ

@@ -3,3 +3,4 @@ pub mod kept
 pub mod plain
 pub mod below
 pub mod ways
+pub mod backward

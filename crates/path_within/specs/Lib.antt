@@ -10,4 +10,6 @@ pub mod Below
 pub mod Requests
 pub mod BelowLaws
 pub mod Written
-pub mod Runs
+pub mod Backward
+pub mod Pieces
+pub mod Layouts

@@ -1,16 +1,19 @@
-//! Joins that stay under a root, `..` resolved by name, and the way from one path to another.
+//! Joins that stay under a root, `..` resolved lexically, and the relative path between two paths.
 #![tactic(auto)]
 
+mod backward;
+mod check;
 pub mod laws;
 mod normal;
+mod plain;
 mod request;
 pub mod resolved;
 mod root;
-mod runs;
 pub mod way;
 pub mod within;
-mod written;
+mod write;
 
-pub use request::{Request, RequestError, has_nul};
+pub use check::has_nul;
+pub use request::{Request, RequestError};
 pub use root::{Root, StripError};
 pub use within::WithinError;

@@ -6,7 +6,7 @@ ghost use Rattle.unix_path.specs.Views.{value_of};
 ghost use Rattle.path_within.specs.Climbs.{is_name, is_parent};
 ghost use Rattle.path_within.specs.Resolved.{resolved_bytes_of, AreUpsThenNames, IsNormal};
 
-use crate::runs::{begins_plain, is_plain};
+use crate::plain::{begins_plain, is_plain};
 use path_runs::canonical::is_canonical;
 use unix_path::{Component, Components, Path};
 

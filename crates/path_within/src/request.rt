@@ -1,24 +1,26 @@
 //! Requests: paths from outside, checked once.
-ghost use Rattle.std.specs.Prelude.{◌≡◌, ◌↔◌, ◌<◌, ◌≤◌, ◌^◌, true, false, not, [], ◌∷◌, ◌++◌};
-ghost use Rattle.std.specs.Prelude.{length, option_map, IfOk, IfSome, IsErrOf, IsTrue, OnSome};
-ghost use Rattle.std.specs.Prelude.{Some, None};
+ghost use Rattle.std.specs.Prelude.{◌≡◌, ◌↔◌, ◌≤◌, true, false, not, []};
+ghost use Rattle.std.specs.Prelude.{length, option_map, IfOk, IsErrOf, IsTrue, Some};
 ghost use Rattle.std.specs.List.{position_or_len};
 ghost use Rattle.std.specs.Fmt.{padded};
-ghost use Rattle.unix_path.specs.Cursor.{cursor_values};
 ghost use Rattle.unix_path.specs.Names.{file_name_of};
-ghost use Rattle.unix_path.specs.Parts.{Normal, is_rooted, is_slash, values};
+ghost use Rattle.unix_path.specs.Parts.{is_rooted, is_slash, values};
+ghost use Rattle.unix_path.specs.Prefixes.{Begins};
+ghost use Rattle.path_runs.specs.Buffer.{buffer_after};
 ghost use Rattle.path_within.specs.Climbs.{Climbs};
 ghost use Rattle.path_within.specs.PlainPieces.{is_plain};
 ghost use Rattle.path_within.specs.Resolved.{resolved_of};
 ghost use Rattle.path_within.specs.Below.{names_below, has_nul, behind_slashes, ends_in_slash};
+ghost use Rattle.path_within.specs.Below.{below_of, IsBelow};
 
-use crate::runs::is_plain;
-use crate::within::climbs;
+use crate::backward::{Last, Pieces};
+use crate::check::{check_climb, has_nul};
+use crate::plain::is_plain;
+use crate::write::Names;
 use std::error::Error;
 use std::fmt;
 use unix_bytes::bytes::UnixStr;
-use unix_bytes::search::first_place;
-use unix_path::{Component, Components, Path};
+use unix_path::Path;
 
 /// Why a path is no request.
 ///
@@ -56,18 +58,6 @@ impl fmt::Display for RequestError {
 
 impl Error for RequestError {}
 
-/// Returns true if a byte is NUL, at which a system call cuts a path. Looks at 16 bytes at a time.
-/// Does not allocate. Not in Rust's std.
-///
-/// For `a\0.png` it is true; for `a%00.png` it is false.
-#[must_use]
-#[inline]
-pub fn has_nul(bytes: &[u8]) -> bool
-    ensures { result ≡ has_nul bytes.now }
-{
-    first_place(bytes, 0) < bytes.len()
-}
-
 // How many slashes stand in front.
 #[inline]
 fn slashes_len(bytes: &[u8]) -> usize
@@ -80,51 +70,6 @@ fn slashes_len(bytes: &[u8]) -> usize
         }
     }
     bytes.len()
-}
-
-// Whether a path is its names as it is spelled, or `None` if it climbs. If it is, its runs aren't
-// gone through.
-pub(crate) fn is_spelled_unless_climbs(path: Path<'_>) -> Option<bool>
-    ensures none { result ≡ None ↔ Climbs (values path.entry.bytes.now) }
-    ensures spelled { IfSome result (λ is. IsTrue is → is_plain path.entry.bytes.now ≡ true) }
-{
-    if !path.has_root() && is_plain(path) {
-        return Some(true);
-    }
-    if climbs(path) {
-        return None;
-    }
-    Some(false)
-}
-
-// Takes the last name that is left of a walk, as it is resolved behind `/`, and what stands behind
-// that name: each `..` with the name that it takes away, and each `.`. Always inlined, so that a
-// loop over the names keeps the walk in registers.
-#[inline(always)]
-pub(crate) fn take_name<'a>(left: &mut Components<'a>) -> Option<UnixStr<'a>>
-    requires { length (cursor_values left.old) < 2 ^ 64 }
-    ensures none { result ≡ None → names_below (cursor_values left.old) ≡ [] }
-    ensures some { IfSome result (λ name. names_below (cursor_values left.old)
-        ≡ names_below (cursor_values left.new) ++ Normal name.bytes.now ∷ []) }
-    ensures len { OnSome result (length (cursor_values left.new)
-        < length (cursor_values left.old)) }
-{
-    // How many of the names that are left are taken away by the `..` behind them.
-    let mut ups = 0_usize;
-    while let Some(part) = left.next_back() {
-        match part {
-            Component::Normal(name) => {
-                if ups == 0 {
-                    return Some(name);
-                }
-                ups -= 1;
-            }
-            Component::ParentDir => ups += 1,
-            Component::CurDir => {}
-            Component::RootDir => return None,
-        }
-    }
-    None
 }
 
 /// A path from outside that was checked: it stands for names, which go down from any root.
@@ -146,6 +91,7 @@ pub struct Request<'a> {
 }
 
 impl<'a> Request<'a> {
+    ghost use Rattle.path_within.specs.Layouts.{names_in};
     ghost use Rattle.path_within.specs.Requests.{request_bytes, request_names};
 
     // The request of a path without a root and a NUL.
@@ -185,13 +131,17 @@ impl<'a> Request<'a> {
         if path.has_root() {
             return Err(RequestError::Rooted);
         }
-        let Some(is_spelled) = is_spelled_unless_climbs(path) else {
+        let check = check_climb(path);
+        if check.is_refused() {
             return Err(RequestError::Climbs);
-        };
+        }
         if has_nul(path.bytes) {
             return Err(RequestError::Nul);
         }
-        Ok(Request { path, is_spelled })
+        Ok(Request {
+            path,
+            is_spelled: check.is_plain(),
+        })
     }
 
     /// The request of a path as a root directory reads it: leading slashes are dropped, and a `..`
@@ -242,6 +192,38 @@ impl<'a> Request<'a> {
         self.is_spelled
     }
 
+    // Returns the names.
+    #[inline]
+    fn names(self) -> Names<'a>
+        ensures { names_in result ≡ request_names self.entry }
+    {
+        Names::of(self.path, self.is_spelled)
+    }
+
+    /// Writes the request joined to a root to the beginning of `out`, and returns the length of the
+    /// join.
+    ///
+    /// The join is what `Root::join` returns for `Root::kept` of this root: the root's bytes
+    /// verbatim, and after them the request's names, with a `/` between two of them and, where one
+    /// is needed, after the root. The bytes of `out` after it stay as they were. If `out` has no
+    /// room for all of it, nothing is written, and the length that is returned is greater than that
+    /// of `out`. To join to a resolved root, resolve it once before. Does not allocate. Not in
+    /// Rust's std.
+    ///
+    /// Below `/srv/www` the request `a/../b/` is `/srv/www/b`, of 10 bytes.
+    pub fn write_below(self, root: Path<'_>, out: &mut [u8]) -> usize
+        ensures out { out.new
+            ≡ buffer_after (below_of root.entry.bytes.now (request_names self.entry)) out.old }
+        ensures length { result
+            ≡ length (below_of root.entry.bytes.now (request_names self.entry)) }
+        ensures begins { Begins root.entry.bytes.now
+            (below_of root.entry.bytes.now (request_names self.entry)) }
+        ensures below { IsBelow root.entry.bytes.now
+            (below_of root.entry.bytes.now (request_names self.entry)) }
+    {
+        self.names().write_join(root.bytes, out)
+    }
+
     /// The last of the names. `None` if there is no name. Does not allocate. Not in Rust's std.
     ///
     /// For the request of `a/b/..` it is `a`.
@@ -250,7 +232,10 @@ impl<'a> Request<'a> {
         ensures { option_map (λ name. name.bytes.now) result
             ≡ file_name_of (request_names self.now) }
     {
-        take_name(&mut self.path.components())
+        match Pieces::new(self.path).take_last() {
+            Last::Name(name) => Some(name),
+            Last::Ups(_) => None,
+        }
     }
 
     /// Whether there is no name: a join with the request is the root itself. Does not allocate. Not
@@ -261,8 +246,7 @@ impl<'a> Request<'a> {
     pub fn is_root(&self) -> bool
         ensures { IsTrue result ↔ (request_names self.now ≡ []) }
     {
-        let mut left = self.path.components();
-        take_name(&mut left).is_none()
+        matches!(Pieces::new(self.path).take_last(), Last::Ups(_))
     }
 
     /// Whether a slash or a `/.` stands behind the path's last part, and that is a name. A system

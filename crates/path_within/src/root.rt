@@ -13,9 +13,9 @@ ghost use Rattle.path_within.specs.Requests.{request_bytes, request_names};
 ghost use Rattle.path_within.specs.Resolved.{resolved_bytes_of};
 ghost use Rattle.path_within.specs.Written.{opened};
 
-use crate::request::{Request, has_nul};
+use crate::check::{check_up, has_nul};
+use crate::request::Request;
 use crate::resolved::resolved;
-use crate::runs::{Run, Runs, is_plain};
 use core::mem::replace_with;
 use std::alloc::{AllocError, Global};
 use std::error::Error;
@@ -55,39 +55,6 @@ impl fmt::Display for StripError {
 }
 
 impl Error for StripError {}
-
-// Whether a `..` is among the parts of a path without a root.
-fn has_up(path: Path<'_>) -> bool
-    requires { is_rooted path.bytes.now ≡ false }
-    ensures { result ≡ has_root_or_up (values path.entry.bytes.now) }
-{
-    let mut runs = Runs::new(path.bytes);
-    while let Some(run) = runs.next() {
-        match run {
-            Run::Up => return true,
-            Run::Name(_) => {}
-            Run::Names(_) => {}
-        }
-    }
-    false
-}
-
-// Whether a path is its names as it is spelled, or `None` if the root or a `..` is among its parts.
-pub(crate) fn is_spelled_unless_up(path: Path<'_>) -> Option<bool>
-    ensures none { result ≡ None ↔ (has_root_or_up (values path.entry.bytes.now) ≡ true) }
-    ensures spelled { IfSome result (λ is. IsTrue is → is_plain path.entry.bytes.now ≡ true) }
-{
-    if path.has_root() {
-        return None;
-    }
-    if is_plain(path) {
-        return Some(true);
-    }
-    if has_up(path) {
-        return None;
-    }
-    Some(false)
-}
 
 // Appends bytes for which there is room. The test never fails; where it stands, no code is built
 // that makes room, and what the vector holds stays in registers.
@@ -162,9 +129,9 @@ impl Root {
 
     /// The root with this path, resolved by names.
     ///
-    /// If a part before a `..` may be a link, take `kept`. Allocates once, as many bytes as the
-    /// path has, or not at all for the empty path, which stands for the current directory; fails if
-    /// the allocation fails. Not in Rust's std.
+    /// If a part before a `..` may be a link, take `kept`. Allocates the resolved path, once, or
+    /// nothing if it is empty, which stands for the current directory; fails if the allocation
+    /// fails. Not in Rust's std.
     ///
     /// For `/srv/a/../www/` it is the root `/srv/www`.
     pub fn new(alloc: Global, path: Path<'_>) -> Result<Root, AllocError>
@@ -303,13 +270,14 @@ impl Root {
         let Ok(left) = path.strip_prefix(self.as_path()) else {
             return Err(StripError::Outside);
         };
-        let Some(is_spelled) = is_spelled_unless_up(left) else {
+        let check = check_up(left);
+        if check.is_refused() {
             return Err(StripError::Outside);
-        };
+        }
         if has_nul(left.bytes) {
             return Err(StripError::Nul);
         }
-        Ok(Request::of_rootless(left, is_spelled))
+        Ok(Request::of_rootless(left, check.is_plain()))
     }
 
     /// Whether the path is below the root: its parts are those of the root and then neither a root

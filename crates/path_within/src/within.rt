@@ -9,11 +9,11 @@ ghost use Rattle.path_within.specs.Below.{has_nul};
 ghost use Rattle.path_within.specs.Climbs.{Climbs, has_root_or_up};
 ghost use Rattle.path_within.specs.Resolved.{resolved_bytes_of};
 
+use crate::check::{check_climb, has_nul};
+pub use crate::check::{climbs, has_root_or_up};
 use crate::laws;
-use crate::request::{has_nul, is_spelled_unless_climbs};
-use crate::resolved::keep;
-use crate::root::is_spelled_unless_up;
-use crate::runs::{Run, Runs, is_plain, part_count};
+use crate::plain::is_plain;
+use crate::write::{Layout, Names};
 use std::alloc::{AllocError, Global};
 use std::error::Error;
 use std::fmt;
@@ -68,56 +68,13 @@ impl From<AllocError> for WithinError {
     }
 }
 
-/// Whether the path has a root or, read from the left, ever goes above where it starts: up to some
-/// part it has more `..` than names, whatever follows.
-///
-/// It goes by names alone: if a part may be a link, only the system knows where `..` leads. Does
-/// not allocate. Not in Rust's std; Go's `filepath.IsLocal` is its opposite, but for the empty
-/// path, which doesn't climb.
-///
-/// For `a/../../root/x` and `/a` it is true; for `a/../..foo` it is false.
-#[must_use]
-pub fn climbs(path: Path<'_>) -> bool
-    ensures { IsTrue result ↔ Climbs (values path.entry.bytes.now) }
-{
-    if path.has_root() {
-        return true;
-    }
-    let mut depth = 0_usize;
-    let mut runs = Runs::new(path.bytes);
-    while let Some(run) = runs.next() {
-        match run {
-            Run::Up if depth == 0 => return true,
-            Run::Up => depth -= 1,
-            Run::Name(_) => depth += 1,
-            Run::Names(_) if runs.left.is_empty() => return false,
-            Run::Names(names) => depth += part_count(names),
-        }
-    }
-    false
-}
-
-/// Whether the path has a root or any `..`, wherever it stands.
-///
-/// Joined to a root as it stands, a path without them goes down from it by its names alone:
-/// `join_plain` refuses each other. Does not allocate. Not in Rust's std.
-///
-/// For `/a` and `a/../b` it is true; for `./a` and `..a` it is false.
-#[must_use]
-pub fn has_root_or_up(path: Path<'_>) -> bool
-    ensures { result ≡ has_root_or_up (values path.entry.bytes.now) }
-{
-    is_spelled_unless_up(path).is_none()
-}
-
 /// The request joined to the root and resolved: a path that stays under the resolved root.
 ///
 /// The error is `Escapes` exactly if the request climbs, before anything is allocated, and `Memory`
 /// if the allocation fails. A trailing slash of the request is dropped, and the answer may be the
 /// root itself. A request with a leading slash is refused: for paths of URLs use `Request::below`.
 /// It is lexical: if a part of the root or of the request may be a link, use `join_plain` and let
-/// the system refuse links. Allocates once, one byte more than both paths have together. Not in
-/// Rust's std.
+/// the system refuse links. Allocates the join, once, or nothing if it is empty. Not in Rust's std.
 ///
 /// A request with a NUL byte isn't refused, and `..\0` is a name. A system call reads a path only
 /// up to its first NUL, so it may read the answer as the root's parent: it reads `/srv/..\0/a`, the
@@ -134,18 +91,18 @@ pub fn join_within(alloc: Global, root: Path<'_>, request: Path<'_>) -> Result<P
     ensures within { IfOk result (λ p. Begins (values (resolved_bytes_of root.entry.bytes.now))
         (values (path_bytes p))) }
 {
-    let Some(is_spelled) = is_spelled_unless_climbs(request) else {
+    let check = check_climb(request);
+    if check.is_refused() {
         return Err(WithinError::Escapes);
-    };
-    if is_spelled && is_plain(root) {
-        // The join is resolved as it stands, and a plain root ends in no slash.
+    }
+    let plain_root = is_plain(root);
+    if plain_root && check.is_plain() {
+        // The join is resolved as it is spelled.
         return Ok(root.join(alloc, request)?);
     }
-    let len = root.as_unix_str().len() + 1 + request.as_unix_str().len();
-    let mut kept = PathBuf::with_capacity(alloc, len)?;
-    let floor = keep(&mut kept, 0, root)?;
-    keep(&mut kept, floor, request)?;
-    Ok(kept)
+    let names = Names::of(request, check.is_plain());
+    let layout = Layout::of(root, plain_root).with(names);
+    Ok(layout.to_path_buf(alloc)?)
 }
 
 /// The request joined to the root, both verbatim, if the request has no root, no `..` and no NUL.

@@ -5,7 +5,4 @@ pub mod BelowLemmas
 pub mod NamesBelowLemmas
 mod NulLemmas
 pub mod WithinLemmas
-pub mod TakeNameLemmas
 pub mod BelowLawLemmas
-pub mod WritesBackLemmas
-pub mod WrittenLemmas

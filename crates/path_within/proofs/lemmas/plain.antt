@@ -1,10 +1,6 @@
--- Paths that are resolved as they stand, and the runs of others.
+-- Plain paths, and paths that are resolved as they are spelled.
 pub mod RequestLemmas
 -- Of this crate alone.
 pub mod NormalLemmas
 pub mod PlainLemmas
 pub mod PlainStartLemmas
-pub mod PlainStretchLemmas
-pub mod WholeLemmas
-pub mod RunLemmas
-pub mod KeepRunLemmas

@@ -3,5 +3,3 @@ pub mod WayBoundLemmas
 -- Of this crate alone.
 pub mod NoWayLemmas
 pub mod LeadsLemmas
-pub mod RemainderLemmas
-pub mod WaySpellingLemmas

@@ -2,7 +2,7 @@
 use Rattle.std.proofs.Common.{◌≡◌, ℕ, ◌<◌, ◌≤◌, true, false, eqb, List, [], ◌∷◌, ◌++◌, length, take}
 use Rattle.std.proofs.Common.{drop, map, get_or, refl, sym, ap, ap₂, subst, ◌∙◌, append-nil}
 use Rattle.std.proofs.Common.{eqb-true, arith, take_all, ◌⊎◌, inl, inr}
-use Rattle.std.specs.List.{flat_map, position_or_len}
+use Rattle.std.specs.List.{position_or_len}
 use Rattle.unix_path.specs.Parts.{Part, Value, RootDir, is_slash, slash, inner_parts, value_bytes}
 use Rattle.unix_path.specs.Parts.{values}
 use Rattle.unix_path.specs.Rest.{rest}
@@ -14,15 +14,11 @@ use Rattle.unix_path.proofs.lemmas.parts.PlaceLemmas.{values-inner_parts, parts_
 use Rattle.unix_path.proofs.lemmas.steps.SpanLemmas.{parts_end-whole, rest-trimmed, trims_end}
 use Rattle.unix_path.proofs.lemmas.parts.ValueLemmas.{first_value, value_bytes-first, no_root_first}
 use Rattle.path_runs.specs.Gaps.{slashed_parts, FirstGap}
-use Rattle.path_runs.specs.Spelling.{slashed_bytes, spelling_of}
+use Rattle.path_runs.specs.Spelling.{slash_each, slashed_bytes, spelling_of}
 use Rattle.path_runs.proofs.lemmas.gaps.KeptLemmas.{first_slash, kept_stretch, nothing_left}
 use Rattle.path_runs.proofs.lemmas.gaps.KeptLemmas.{slashed_parts-slash}
 use Rattle.path_runs.proofs.lemmas.spelling.SpellLemmas.{spelling_of-cons, spelling_of-nil}
 use Rattle.path_runs.proofs.lemmas.spelling.SpellLemmas.{spelling_of-root, spelling_of-rooted}
-
--- the values' bytes, each behind a slash
-abbrev pub slash_each : List Value → List ℕ
-slash_each vs = flat_map (λ v. slash ∷ value_bytes v) vs
 
 -- values with slashes between are the first of them, and then the others, each behind a slash
 pub slashed_bytes-cons : (v : Value) (vs : List Value)

@@ -11,12 +11,12 @@ use Rattle.unix_path.proofs.lemmas.parts.PieceLemmas.{first_piece, first_piece-o
 use Rattle.unix_path.proofs.lemmas.parts.PieceLemmas.{position_or_len-other, slice_split-first}
 use Rattle.unix_path.proofs.lemmas.parts.ValueLemmas.{value_bytes-piece}
 use Rattle.path_runs.specs.Gaps.{slashed_parts}
-use Rattle.path_runs.specs.Spelling.{slashed_bytes, spelling_of}
+use Rattle.path_runs.specs.Spelling.{slash_each, slashed_bytes, spelling_of}
 use Rattle.path_runs.proofs.lemmas.spelling.PieceValueLemmas.{inner_values-pieces, names_of}
 use Rattle.path_runs.proofs.lemmas.spelling.PieceValueLemmas.{values-rooted}
 use Rattle.path_runs.proofs.lemmas.spelling.SpellLemmas.{spelling_of-root}
 use Rattle.path_runs.proofs.lemmas.gaps.KeptLemmas.{first_slash, nothing_left, slashed_parts-slash}
-use Rattle.path_runs.proofs.lemmas.gaps.StretchLemmas.{slash_each, slashed_bytes-cons}
+use Rattle.path_runs.proofs.lemmas.gaps.StretchLemmas.{slashed_bytes-cons}
 use Rattle.path_runs.proofs.lemmas.gaps.StretchLemmas.{spelling_of-name, spelling_of-short}
 
 -- the same bytes, or fewer

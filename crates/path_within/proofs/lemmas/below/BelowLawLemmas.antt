@@ -1,25 +1,28 @@
 -- A join with a resolved root, and paths that go down from a root.
-use Rattle.std.proofs.Common.{◌≡◌, ◌≢◌, ℕ, List, [], ◌∷◌, ◌++◌, map, false, refl, sym, ap, ◌∙◌}
+use Rattle.std.proofs.Common.{◌≡◌, ◌≢◌, ℕ, List, [], ◌∷◌, ◌++◌, map, true, false, refl, sym, ap, ◌∙◌}
 use Rattle.std.proofs.lemmas.List.{map-append}
 use Rattle.unix_path.specs.Joins.{join_of, join_all_of}
-use Rattle.unix_path.specs.Parts.{value_bytes, values}
+use Rattle.unix_path.specs.Parts.{is_rooted, value_bytes, values}
 use Rattle.unix_path.specs.Prefixes.{stripped_of}
 use Rattle.unix_path.proofs.lemmas.parts.PartLemmas.{values-nil}
 use Rattle.path_runs.specs.JoinLaws.{drop_dot}
 use Rattle.path_runs.specs.Spelling.{spelling_of}
-use Rattle.path_runs.proofs.lemmas.joins.AssociativeLemmas.{join_of-nil}
+use Rattle.path_runs.proofs.lemmas.joins.AssociativeLemmas.{join_of-nil, join_of-separator}
 use Rattle.path_runs.proofs.lemmas.joins.ExtendLemmas.{join_all_of-append}
 use Rattle.path_runs.proofs.lemmas.spelling.JoinAllLemmas.{join_all_of-values}
 use Rattle.path_runs.proofs.lemmas.joins.LeadLemmas.{values-join_of_values_added}
 use Rattle.path_runs.proofs.lemmas.joins.StripLemmas.{values-join_of_stripped}
 use Rattle.path_within.specs.Below.{below_of, names_below, GoesDown}
 use Rattle.path_within.specs.Climbs.{Climbs, has_root_or_up}
+use Rattle.path_within.specs.PlainPieces.{is_plain}
 use Rattle.path_within.specs.Resolved.{resolved_of, resolved_bytes_of}
+use Rattle.path_within.proofs.lemmas.below.BelowLemmas.{below_of-spelled, plain_spelled}
 use Rattle.path_within.proofs.lemmas.below.BelowLemmas.{values-below}
 use Rattle.path_within.proofs.lemmas.below.NamesBelowLemmas.{names_below-drop_dot}
 use Rattle.path_within.proofs.lemmas.below.NamesBelowLemmas.{names_below-names}
 use Rattle.path_within.proofs.lemmas.below.NamesBelowLemmas.{names_below-resolved}
-use Rattle.path_within.proofs.lemmas.plain.RequestLemmas.{request_names, request_rootless}
+use Rattle.path_within.proofs.lemmas.plain.RequestLemmas.{plain_stays, request_names, request_rootless}
+use Rattle.path_within.proofs.lemmas.plain.PlainLemmas.{resolved-plain}
 use Rattle.path_within.proofs.lemmas.kept.ResolveLemmas.{values-resolved}
 use Rattle.path_within.proofs.lemmas.below.WithinLemmas.{resolved_of-within}
 
@@ -70,3 +73,11 @@ down_joined_here path h =
     let left = stripped_of path [] in
     values-down [] left h.names ∙ ap (λ vs. vs ++ drop_dot (values left)) values-nil
     ∙ ap drop_dot (ap values (sym (join_of-nil left)) ∙ values-join_of_stripped path [] h.begins)
+
+-- the join of two plain paths is resolved as it is spelled
+pub resolved-plain_join : (a b : List ℕ) → is_plain a ≡ true → is_plain b ≡ true
+    → is_rooted b ≡ false → join_of a b ≡ resolved_bytes_of (join_of a b)
+resolved-plain_join a b h k r =
+    join_of-separator a b r ∙ below_of-spelled a b (plain_spelled b k r)
+    ∙ ap (λ s. below_of s (names_below (values b))) (sym (resolved-plain a h))
+    ∙ below_of-within a b (plain_stays b k r)

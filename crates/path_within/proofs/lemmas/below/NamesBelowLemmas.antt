@@ -91,7 +91,7 @@ pub names_below-inner : (s : List ℕ) → names_below (inner_values s) ≡ name
 names_below-inner s =
     ap names_below (sym (drop_lead-values s)) ∙ names_below-drop_lead (values s)
 
-values-slash : (t : List ℕ) → values (slash ∷ t) ≡ RootDir ∷ inner_values t
+pub values-slash : (t : List ℕ) → values (slash ∷ t) ≡ RootDir ∷ inner_values t
 values-slash t = values-rooted t ∙ ap (λ vs. RootDir ∷ vs) (sym (inner_values-pieces t))
 
 -- a slash in front changes none of them

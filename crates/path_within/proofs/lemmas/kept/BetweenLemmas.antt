@@ -8,7 +8,6 @@ use Rattle.std.proofs.lemmas.List.Folds.{list_all-append, list_any-append}
 use Rattle.unix_path.specs.Order.{same_value}
 use Rattle.unix_path.specs.Parts.{Value, ParentDir}
 use Rattle.unix_bytes.proofs.lemmas.lists.ListLemmas.{take-suc_cons}
-use Rattle.unix_path.proofs.lemmas.rests.RootLemmas.{NoRoot}
 use Rattle.unix_path.proofs.lemmas.callers.CallerLemmas.{same_value-Decides}
 use Rattle.path_within.specs.Climbs.{is_name}
 use Rattle.path_within.specs.Way.{is_root, steps_between}
@@ -38,7 +37,7 @@ take-shared (x ∷ v) (y ∷ w) = let n = shared_count v w in grind (
 )
 
 -- what stands before two lists is shared by them
-shared_count-behind : (f x y : List Value)
+pub shared_count-behind : (f x y : List Value)
     → shared_count (f ++ x) (f ++ y) ≡ length f + shared_count x y
 shared_count-behind [] x y = grind arith
 shared_count-behind (z ∷ f) x y =
@@ -61,10 +60,6 @@ names_drop n vs h = grind (arith, common_steps, list_all-append is_name (take n 
 no_root_drop : (n : ℕ) (vs : List Value) → list_any is_root vs ≡ false
     → list_any is_root (drop n vs) ≡ false
 no_root_drop n vs h = grind (arith, common_steps, list_any-append is_root (take n vs) (drop n vs))
-
-pub no_roots_any : (vs : List Value) → NoRoot vs → list_any is_root vs ≡ false
-no_roots_any [] h = refl
-no_roots_any (v ∷ vs) h = grind (arith, no_roots_any vs)
 
 -- from names behind f steps lead to values without a root behind f
 pub some_steps : (f x y : List Value) → list_all is_name x ≡ true → list_any is_root y ≡ false

@@ -100,6 +100,11 @@ climbs_by_depth s =
     begins : (vs : List Value) → Begins (RootDir ∷ []) vs → climbs_from 0 vs ≡ true
     begins vs (ws, e) = ap (climbs_from 0) (sym e)
 
+-- a path that doesn't climb has no root
+pub rootless-stays : (b : List ℕ) → (Climbs (values b) → ⊥) → is_rooted b ≡ false
+rootless-stays b h =
+    false_from_ne_true (is_rooted b) (λ r. h (inl ((rooted-Begins b (is_rooted b) refl).0 r)))
+
 -- all that is kept are names, and ks before them
 pub record Stays (ks all names : List Value) : Type 0 where
   pub kept : all ≡ names ++ ks

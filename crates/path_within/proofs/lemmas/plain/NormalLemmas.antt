@@ -21,7 +21,7 @@ pub resolved_if_normal : (s : List ℕ) → IsNormal (values s) → s ≡ spelli
 resolved_if_normal s h own = ap spelling_of (resolved_of-normal (values s) h) ∙ sym own
 
 -- a path that is resolved as it stands has the values that resolving gives
-resolved_values : (s : List ℕ) → resolved_bytes_of s ≡ s → resolved_of (values s) ≡ values s
+pub resolved_values : (s : List ℕ) → resolved_bytes_of s ≡ s → resolved_of (values s) ≡ values s
 resolved_values s e = sym (values-resolved s) ∙ ap values e
 
 -- the values of a path that is resolved as it stands are normal

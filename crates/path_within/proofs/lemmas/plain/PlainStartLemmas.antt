@@ -1,6 +1,11 @@
 -- All pieces are plain if each begins with plain bytes.
 use Rattle.std.proofs.Common.{◌≡◌, ℕ, suc, ◌<◌, true, eqb, ◌&&◌, List, [], ◌∷◌, length, get_or}
 use Rattle.std.proofs.Common.{refl, ap, ◌∙◌, arith}
+use Rattle.std.proofs.Common.{◌+◌, cond, drop, false, subst, Bool}
+use Rattle.std.specs.Int.{from_bool}
+use Rattle.std.proofs.lemmas.List.{get_or_default, get_or_past}
+use Rattle.unix_path.specs.Parts.{is_rooted}
+use Rattle.unix_path.specs.Scan.{is_break}
 use native.Mathlib.Numerals.{unary_clauses}
 use Rattle.std.specs.List.{list_all, onto_first, slice_split}
 use Rattle.std.specs.Str.{bytes_eq}
@@ -12,7 +17,7 @@ use Rattle.unix_path.proofs.lemmas.filler.FillerLemmas.{first_piece_empty, first
 use Rattle.unix_path.proofs.lemmas.parts.PieceLemmas.{first_piece, first_piece-slash}
 use Rattle.unix_path.proofs.lemmas.parts.PieceLemmas.{first_piece-other, slice_split-first}
 use Rattle.path_within.specs.PlainPieces.{is_plain_piece, has_plain_pieces, begins_plain}
-use Rattle.path_within.specs.PlainPieces.{goes_on_plain}
+use Rattle.path_within.specs.PlainPieces.{goes_on_plain, is_plain}
 
 -- whether the first piece is `..`, by its first three bytes
 first_piece_up : (s : List ℕ)
@@ -61,3 +66,18 @@ others_plain (b ∷ s) h =
 pub plain_pieces : (s : List ℕ) → begins_plain s 0 ≡ true
     → ((k : ℕ) → k < length s → goes_on_plain s k ≡ true) → has_plain_pieces s ≡ true
 plain_pieces s h k = all_plain s h (others_plain s k)
+
+-- after a slash that no slash, no dot and no end follows, a plain piece begins
+pub unbroken_plain : (s : List ℕ) (k : ℕ) → is_break s k ≡ false → goes_on_plain s k ≡ true
+unbroken_plain s k h =
+    grind (arith, get_or_default s (k + 1) 0 47, get_or_past s (k + 1) 0)
+
+-- all pieces of a path are plain, but for the one before the root, if they are without that root
+pub plain_without_root : (s : List ℕ) (n : ℕ) → n ≡ from_bool (is_rooted s)
+    → has_plain_pieces (drop n s) ≡ true → is_plain s ≡ true
+plain_without_root s n e h = by (is_rooted s) (subst (λ n. has_plain_pieces (drop n s) ≡ true) e h)
+  where
+    by : (r : Bool) → has_plain_pieces (drop (from_bool r) s) ≡ true
+        → has_plain_pieces (cond r (drop 1 s) s) ≡ true
+    by true h = h
+    by false h = h

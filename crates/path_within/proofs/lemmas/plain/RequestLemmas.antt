@@ -8,7 +8,9 @@ use Rattle.path_runs.specs.JoinLaws.{drop_dot}
 use Rattle.path_runs.proofs.lemmas.joins.LeadLemmas.{IsInner, inner-behind}
 use Rattle.path_within.specs.Resolved.{AreNames}
 use Rattle.path_within.specs.Climbs.{Climbs, has_root_or_up}
+use Rattle.path_within.specs.PlainPieces.{is_plain}
 use Rattle.path_within.proofs.lemmas.kept.ClimbLemmas.{climbs_from, climbs_by_depth}
+use Rattle.path_within.proofs.lemmas.plain.PlainLemmas.{plain_has_names}
 
 -- values without a root or a `..` have no root in front
 no_root_first : (vs : List Value) → has_root_or_up vs ≡ false → root_first vs ≡ false
@@ -45,3 +47,17 @@ request_names b plain = by (values b) refl plain
     by : (vs : List Value) → values b ≡ vs → has_root_or_up vs ≡ false → AreNames (drop_dot vs)
     by [] e h = tt
     by (v ∷ vs) e h = grind (arith, inner_names vs (inner-behind b v vs e))
+
+-- names are neither the root nor `..`
+pub names_down : (vs : List Value) → AreNames vs → has_root_or_up vs ≡ false
+names_down [] h = refl
+names_down (v ∷ vs) h = grind (arith, names_down vs)
+
+-- a plain path without a root has neither a root nor a `..`
+pub plain_down : (b : List ℕ) → is_plain b ≡ true → is_rooted b ≡ false
+    → has_root_or_up (values b) ≡ false
+plain_down b plain r = names_down (values b) (plain_has_names b plain r).names
+
+-- a plain path without a root doesn't climb
+pub plain_stays : (b : List ℕ) → is_plain b ≡ true → is_rooted b ≡ false → Climbs (values b) → ⊥
+plain_stays b plain r = request_stays b (plain_down b plain r)

@@ -2,7 +2,7 @@ use Rattle.std.proofs.Common.{◌++◌, length, drop, ap, ◌∙◌, arith}
 use Rattle.path_within.specs.Requests.{request_bytes}
 use Rattle.path_within.specs.Written.{opened}
 use Rattle.path_within.proofs.lemmas.below.BelowLemmas.{length-below}
-use Rattle.path_within.proofs.lemmas.below.WrittenLemmas.{written_over}
+use Rattle.path_within.proofs.lemmas.backward.JoinedLemmas.{written_over}
 use Rattle.path_within.proofs.root.resolved_in.Goals as goal
 
 pub returns : goal.returns

@@ -10,6 +10,7 @@ use Rattle.unix_path.specs.CommonDir.{inner_values, common_dir_of}
 use Rattle.unix_path.specs.Names.{past_last}
 use Rattle.unix_path.specs.Order.{values_cmp}
 use Rattle.unix_path.specs.Parts.{is_slash, slash, values}
+use Rattle.unix_path.specs.Steps.{SharesFirst}
 use Rattle.unix_path.proofs.lemmas.order.BehindLemmas.{values_cmp-shared}
 use Rattle.unix_path.proofs.lemmas.names.NameLemmas.{past_last-byte}
 use Rattle.unix_path.proofs.lemmas.order.PairLemmas.{cuts-begins}
@@ -44,13 +45,11 @@ past_last-slash s some =
     not_false true e = refl
     not_false false e = cc
 
--- the order of two strings that begin with the same bytes, up to a slash
-pub values_cmp-common_dir : (a b : List ℕ) → 0 < common_dir_of a b
-    → values_cmp (values a) (values b)
-    ≡ values_cmp (inner_values (drop (common_dir_of a b) a))
-    (inner_values (drop (common_dir_of a b) b))
+-- what two strings have after their common dir follows the same values
+pub shares-common_dir : (a b : List ℕ) → 0 < common_dir_of a b
+    → SharesFirst a b (drop (common_dir_of a b) a) (drop (common_dir_of a b) b)
 unfolding common_dir_of
-values_cmp-common_dir a b some =
+shares-common_dir a b some =
     let m = common_prefix_len eqb a b in
     let n = past_last is_slash (take m a) in
     let inside : n ≤ m = omega (arith, length-take-le m a (common_prefix_len-le eqb a b).0) in
@@ -58,4 +57,11 @@ values_cmp-common_dir a b some =
     sym (get_or-take m a (n - 1) 0 (omega arith)) ∙ past_last-slash (take m a) some in
     let other : eqb n 0 ≡ false = ne_eqb n 0 (λ e. omega (arith, some, e)) in
     let cut = cuts-begins a b m n refl inside (rw (other, here) refl) in
-    sym (values_cmp-shared (cut.shares some))
+    cut.shares some
+
+-- so they are in the order of what they have there
+pub values_cmp-common_dir : (a b : List ℕ) → 0 < common_dir_of a b
+    → values_cmp (values a) (values b)
+    ≡ values_cmp (inner_values (drop (common_dir_of a b) a))
+    (inner_values (drop (common_dir_of a b) b))
+values_cmp-common_dir a b some = sym (values_cmp-shared (shares-common_dir a b some))

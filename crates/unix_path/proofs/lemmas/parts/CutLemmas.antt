@@ -62,7 +62,7 @@ onto_first-append x [] qs l = absurd (omega arith)
 onto_first-append x (p ∷ ps) qs l = refl
 
 -- cut at any slash, the pieces of both sides follow one another
-slice_split-append : (x y : List ℕ)
+pub slice_split-append : (x y : List ℕ)
     → slice_split is_slash (x ++ 47 ∷ y) ≡ slice_split is_slash x ++ slice_split is_slash y
 slice_split-append [] y = refl
 slice_split-append (b ∷ x) y = by_test (eqb b 47)

@@ -1,0 +1,9 @@
+-- Paths that are resolved from the last part to the first.
+pub mod PieceLemmas
+pub mod LastLemmas
+pub mod FrontLemmas
+pub mod PutLemmas
+pub mod LayoutLemmas
+pub mod JoinedLemmas
+pub mod SharedLemmas
+pub mod StepLemmas

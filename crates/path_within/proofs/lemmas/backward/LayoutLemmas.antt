@@ -1,0 +1,259 @@
+-- Layouts of resolved paths: how they are spelled, and how long they are.
+use Rattle.std.proofs.Common.{◌≡◌, ℕ, zero, suc, ◌+◌, ◌-◌, ◌*◌, ◌<◌, ◌≤◌, true, false, cond, List, [], ◌∷◌}
+use Rattle.std.proofs.Common.{◌++◌, length, take, drop, refl, sym, ap, ap₂, ◌∙◌, arith}
+use Rattle.std.proofs.Common.{append-nil, length-append, take-append-drop}
+use Rattle.std.proofs.Math.ListN.{replicate, set}
+use borrow.Rule.Slice.PartMut.{put_mid}
+use Rattle.std.proofs.lemmas.List.{drop-append-le, drop_all, nil_from_length}
+use Rattle.std.proofs.lemmas.List.Folds.{sum_by-replicate}
+use Rattle.unix_bytes.proofs.lemmas.lists.ListLemmas.{by_test}
+use Rattle.unix_path.specs.Parts.{Value, RootDir, ParentDir, Normal, is_rooted, slash, value_bytes}
+use Rattle.unix_path.specs.Parts.{values}
+use Rattle.path_runs.specs.Spelling.{slashed_bytes, spelling_of}
+use Rattle.path_runs.proofs.lemmas.spelling.SpellLemmas.{spelling_of-root}
+use Rattle.path_within.specs.Backward.{last_names, ups_left, Puts}
+use Rattle.path_within.specs.Below.{names_below}
+use Rattle.path_within.specs.Layouts.{layout_names, layout_values, names_in}
+use Rattle.path_within.specs.declared.write.Layout.{Layout}
+use Rattle.path_within.specs.PlainPieces.{is_plain}
+use Rattle.path_within.specs.Resolved.{AreNames, resolved_of}
+use Rattle.path_within.proofs.lemmas.backward.FrontLemmas.{front, plain_values, resolved_of-rooted}
+use Rattle.path_within.proofs.lemmas.backward.FrontLemmas.{resolved_of-rootless}
+use Rattle.path_within.proofs.lemmas.plain.NormalLemmas.{resolved_values}
+use Rattle.std.proofs.Common.{Bool}
+use Rattle.path_within.specs.Written.{slashed_len, AreSpelled}
+use Rattle.path_within.proofs.lemmas.backward.FrontLemmas.{straight}
+use Rattle.path_within.proofs.lemmas.backward.FrontLemmas.{resolved_bytes_of-rootless}
+use Rattle.path_within.proofs.lemmas.backward.PutLemmas.{puts_all, puts_then, slashed_len-append}
+use Rattle.path_within.proofs.lemmas.below.BoundLemmas.{length-resolved, length-slashed_bytes}
+use Rattle.path_within.proofs.lemmas.below.BoundLemmas.{slashed_len-cons, slashed_len-names}
+use Rattle.path_within.proofs.lemmas.below.NamesBelowLemmas.{AreNames-names_below}
+use Rattle.path_within.proofs.lemmas.kept.WayLemmas.{spelling_of-straight}
+use Rattle.path_within.proofs.lemmas.plain.PlainLemmas.{resolved-plain}
+
+-- `..` have three bytes each, with their slash
+pub slashed_len-ups : (n : ℕ) (vs : List Value)
+    → slashed_len (replicate n ParentDir ++ vs) ≡ 3 * n + slashed_len vs
+slashed_len-ups n vs = omega (
+  arith,
+  slashed_len-append (replicate n ParentDir) vs,
+  sum_by-replicate (λ v. 1 + length (value_bytes v)) n ParentDir,
+)
+
+-- a value has a slash at least
+pub length-le-slashed_len : (vs : List Value) → length vs ≤ slashed_len vs
+length-le-slashed_len [] = omega arith
+length-le-slashed_len (v ∷ vs) =
+    omega (arith, slashed_len-cons v vs, length-le-slashed_len vs)
+
+-- the rest of names are names
+pub names_rest : (n : ℕ) (vs : List Value) → AreNames vs → AreNames (drop n vs)
+names_rest zero vs h = h
+names_rest (suc n) [] h = h
+names_rest (suc n) (Normal name ∷ vs) h = names_rest n vs h
+names_rest (suc n) (v ∷ vs) h = absurd h
+
+pub are_last_names : (n : ℕ) (vs : List Value) → AreNames (last_names n vs)
+are_last_names n vs =
+    names_rest (length (names_below vs) - n) (names_below vs) (AreNames-names_below vs)
+
+-- and so are names after names
+pub names_append : (vs ws : List Value) → AreNames vs → AreNames ws → AreNames (vs ++ ws)
+names_append [] ws h k = k
+names_append (Normal name ∷ vs) ws h k = names_append vs ws h k
+names_append (v ∷ vs) ws h k = absurd h
+
+-- of one more name, the last ones are those before it and that name
+pub last_names-push : (n : ℕ) (vs ws : List Value) (name : List ℕ) → 0 < n
+    → names_below vs ≡ names_below ws ++ Normal name ∷ []
+    → last_names n vs ≡ last_names (n - 1) ws ++ Normal name ∷ []
+last_names-push n vs ws name some e =
+    let names = names_below ws in
+    ap₂ drop {y = length names - (n - 1)} (omega (
+      arith,
+      ap length e,
+      length-append names (Normal name ∷ []),
+      some,
+    )) e
+    ∙ drop-append-le (length names - (n - 1)) names (Normal name ∷ []) (omega arith)
+
+-- if no name is left, or none is asked for, there is none
+pub last_names-none : (n : ℕ) (vs : List Value) → names_below vs ≡ [] → last_names n vs ≡ []
+last_names-none n vs e = ap (λ ws. drop (length ws - n) ws) e ∙ drop_all (0 - n) [] (omega arith)
+
+-- names that are spelled have a slash less than with one for each
+pub length-spelled : {s : List ℕ} {vs : List Value} → AreSpelled s vs
+    → 1 + length s ≡ slashed_len vs
+length-spelled {s} {vs} h = by vs h.some h.is
+  where
+    by : (vs : List Value) → 0 < length vs → s ≡ slashed_bytes vs → 1 + length s ≡ slashed_len vs
+    by [] some is = absurd (omega (arith, some))
+    by (v ∷ vs) some is =
+        omega (arith, ap length is, length-slashed_bytes (v ∷ vs), slashed_len-cons v vs)
+
+-- as many names as there can be are all names
+pub all_names : (s : List ℕ) (n : ℕ) → 1 + length s ≤ n
+    → last_names n (values s) ≡ names_below (values s)
+all_names s n l =
+    let none : length (names_below (values s)) - n ≡ 0 = omega (
+      arith,
+      slashed_len-names s,
+      length-le-slashed_len (names_below (values s)),
+    ) in
+    ap (λ k. drop k (names_below (values s))) none
+
+-- `..` and then names are spelled with slashes between, and have so many bytes
+pub spelling_of-ups : (n : ℕ) (vs : List Value) → AreNames vs
+    → spelling_of (replicate n ParentDir ++ vs) ≡ slashed_bytes (replicate n ParentDir ++ vs)
+spelling_of-ups n vs h = spelling_of-straight (replicate n ParentDir ++ vs) (straight n vs h)
+
+pub length-ups : (n : ℕ) (vs : List Value)
+    → length (slashed_bytes (replicate n ParentDir ++ vs)) ≡ (3 * n + slashed_len vs) - 1
+length-ups n vs = omega (
+  arith,
+  length-slashed_bytes (replicate n ParentDir ++ vs),
+  slashed_len-ups n vs,
+)
+
+-- a path without a root and a slash have room for its names and its `..`
+pub length-rootless : (s : List ℕ) → is_rooted s ≡ false
+    → slashed_len (names_below (values s)) + 3 * ups_left (values s) ≤ 1 + length s
+length-rootless s r = omega (
+  arith,
+  ap length (resolved_bytes_of-rootless s r),
+  length-ups (ups_left (values s)) (names_below (values s)),
+  length-resolved s,
+)
+
+-- names, the names before them, and `..` are written over all of a buffer
+pub puts_layout : {ws vs : List Value} {mid end : ℕ} {out made more new : List ℕ}
+    → Puts ws (1 + length out) out mid made → Puts vs mid made end more
+    → ((n : ℕ) → end ≡ 3 * n → Puts (replicate n ParentDir) end more 0 new)
+    → length new ≡ length out → (n : ℕ)
+    → length out ≡ length (slashed_bytes (replicate n ParentDir ++ (vs ++ ws)))
+    → new ≡ slashed_bytes (replicate n ParentDir ++ (vs ++ ws))
+puts_layout {ws} {vs} {mid} {end} {out} {made} {more} {new} g h ups same n e =
+    let size : length out ≡ (3 * n + (slashed_len vs + slashed_len ws)) - 1 =
+    omega (arith, e, length-ups n (vs ++ ws), slashed_len-append vs ws) in
+    by (replicate n ParentDir ++ (vs ++ ws)) refl size
+  where
+    by : (all : List Value) → replicate n ParentDir ++ (vs ++ ws) ≡ all
+        → length out ≡ (3 * n + (slashed_len vs + slashed_len ws)) - 1
+        → new ≡ slashed_bytes (replicate n ParentDir ++ (vs ++ ws))
+    by [] f size = nil_from_length new (same ∙ e ∙ ap (λ vs. length (slashed_bytes vs)) f)
+        ∙ ap slashed_bytes (sym f)
+    by (x ∷ xs) f size =
+        let at : end ≡ 3 * n = omega (
+          arith,
+          size,
+          g.size,
+          h.size,
+          ap slashed_len f,
+          slashed_len-cons x xs,
+          slashed_len-ups n (vs ++ ws),
+          slashed_len-append vs ws,
+        ) in
+        puts_all (puts_then (puts_then g h) (ups n at))
+
+-- the last names have no more bytes than the path and a slash
+pub last_names_fit : (n : ℕ) (s : List ℕ) → slashed_len (last_names n (values s)) ≤ 1 + length s
+last_names_fit n s =
+    let names = names_below (values s) in
+    let k = length names - n in
+    omega (
+      arith,
+      slashed_len-names s,
+      slashed_len-append (take k names) (drop k names),
+      ap slashed_len (take-append-drop k names),
+    )
+
+-- ---- layouts
+
+pub are_layout_names : (l : Layout) → AreNames (layout_names l)
+are_layout_names l = names_append (names_in l.names) (names_in l.more)
+    (are_last_names l.names.count (values l.names.path.bytes.now))
+    (are_last_names l.more.count (values l.more.path.bytes.now))
+
+-- with a root, this is a slash, and the names follow with slashes between
+pub layout-rooted : (l : Layout) → l.has_root ≡ true
+    → spelling_of (layout_values l) ≡ slash ∷ slashed_bytes (layout_names l)
+layout-rooted l r =
+    ap (λ b. spelling_of (cond b (RootDir ∷ layout_names l)
+    (replicate l.ups ParentDir ++ layout_names l))) r ∙ spelling_of-root (layout_names l)
+
+-- without one, `..` and names have slashes between
+pub layout-rootless : (l : Layout) → l.has_root ≡ false
+    → spelling_of (layout_values l) ≡ slashed_bytes (replicate l.ups ParentDir ++ layout_names l)
+layout-rootless l r =
+    ap (λ b. spelling_of (cond b (RootDir ∷ layout_names l)
+    (replicate l.ups ParentDir ++ layout_names l))) r
+    ∙ spelling_of-ups l.ups (layout_names l) (are_layout_names l)
+
+pub layout_names-len : (l : Layout) → slashed_len (layout_names l) ≡ l.names.len + l.more.len
+layout_names-len l = omega (
+  arith,
+  slashed_len-append (names_in l.names) (names_in l.more),
+  l.names.len_is,
+  l.more.len_is,
+)
+
+-- so many bytes they have
+pub length-rooted_layout : (l : Layout) → l.has_root ≡ true
+    → length (spelling_of (layout_values l)) ≡ 1 + ((l.names.len + l.more.len) - 1)
+length-rooted_layout l r = omega (
+  arith,
+  ap length (layout-rooted l r),
+  length-slashed_bytes (layout_names l),
+  layout_names-len l,
+)
+
+pub length-rootless_layout : (l : Layout) → l.has_root ≡ false
+    → length (spelling_of (layout_values l)) ≡ (3 * l.ups + (l.names.len + l.more.len)) - 1
+length-rootless_layout l r = omega (
+  arith,
+  ap length (layout-rootless l r),
+  length-ups l.ups (layout_names l),
+  layout_names-len l,
+)
+
+-- the values of a layout
+abbrev pub laid_out : Bool → ℕ → List Value → List Value
+laid_out r n vs = cond r (RootDir ∷ vs) (replicate n ParentDir ++ vs)
+
+-- the layout of a plain path
+pub laid_out-plain : {r : Bool} {n : ℕ} {vs : List Value} (s : List ℕ) → is_plain s ≡ true
+    → r ≡ is_rooted s → n ≡ 0 → vs ≡ names_below (values s)
+    → laid_out r n vs ≡ resolved_of (values s)
+laid_out-plain {r} {n} {vs} s h root none names =
+    ap (λ r. laid_out r n vs) root ∙ ap (λ n. laid_out (is_rooted s) n vs) none
+    ∙ ap (laid_out (is_rooted s) 0) names ∙ by (is_rooted s)
+    ∙ sym (plain_values s h) ∙ sym (resolved_values s (resolved-plain s h))
+  where
+    by : (r : Bool) → laid_out r 0 (names_below (values s)) ≡ front r ++ names_below (values s)
+    by true = refl
+    by false = refl
+
+-- and of any path
+pub laid_out-walked : {r : Bool} {n : ℕ} {vs : List Value} (s : List ℕ) → r ≡ is_rooted s
+    → n ≡ ups_left (values s) → vs ≡ names_below (values s)
+    → laid_out r n vs ≡ resolved_of (values s)
+laid_out-walked {r} {n} {vs} s root ups names =
+    ap (λ r. laid_out r n vs) root ∙ ap (laid_out (is_rooted s) n) names
+    ∙ by_test (is_rooted s)
+    (λ r. ap (λ b. laid_out b n (names_below (values s))) r ∙ sym (resolved_of-rooted s r))
+    (λ r. ap (λ b. laid_out b n (names_below (values s))) r
+    ∙ ap (λ n. replicate n ParentDir ++ names_below (values s)) ups
+    ∙ sym (resolved_of-rootless s r))
+
+-- a slash before bytes that were written to all of a buffer but its first byte
+pub slash_first : (out new : List ℕ) → 0 < length out → length new ≡ length out - 1
+    → set (put_mid 1 (length out - 1) out new) 0 slash ≡ slash ∷ new
+slash_first [] new some e = absurd (omega (arith, some))
+slash_first (x ∷ s) new some e =
+    ap (λ u. slash ∷ new ++ u) (drop_all (length (x ∷ s) - 1) s (omega arith))
+    ∙ append-nil (slash ∷ new)
+
+pub first_fits : (out new : List ℕ) → 0 < length out
+    → 0 < length (put_mid 1 (length out - 1) out new)
+first_fits [] new some = absurd (omega (arith, some))
+first_fits (x ∷ s) new some = omega arith

@@ -1,0 +1,237 @@
+-- The values that two lists begin with, found from the last to the first.
+use Rattle.std.proofs.Common.{◌≡◌, ℕ, suc, ◌+◌, ◌-◌, min, true, false, List, [], ◌∷◌}
+use Rattle.std.proofs.Common.{◌++◌, length, drop, refl, sym, ap, ap₂, ◌∙◌, arith}
+use Rattle.std.proofs.Common.{append_assoc, length-append}
+use Rattle.std.specs.Str.{bytes_eq}
+use Rattle.std.proofs.lemmas.Bool.{false_from_ne_true}
+use Rattle.std.proofs.lemmas.Slice.Eq.{bytes_eq-Decides}
+use Rattle.unix_bytes.proofs.lemmas.lists.ListLemmas.{by_test}
+use Rattle.unix_path.proofs.lemmas.callers.CallerLemmas.{same_value-Decides}
+use Rattle.std.proofs.Common.{eqb, eqb-true, ltb, ltb-true, ltb-false, map, subst}
+use Rattle.std.proofs.lemmas.Bool.{eqb-false}
+use Rattle.std.proofs.lemmas.List.{get_or_default, get_or_past, map-append}
+use Rattle.unix_path.specs.CommonDir.{common_dir_of, inner_values}
+use Rattle.unix_path.specs.Parts.{Part, inner_parts}
+use Rattle.unix_path.specs.Scan.{is_filler}
+use Rattle.unix_path.specs.Steps.{SharesFirst}
+use Rattle.unix_path.proofs.lemmas.callers.CallerLemmas.{shares-common_dir}
+use Rattle.unix_path.proofs.lemmas.filler.FillerLemmas.{is_filler-drop, values-busy}
+use Rattle.unix_path.proofs.lemmas.parts.PlaceLemmas.{values-inner_parts}
+use Rattle.path_within.specs.Backward.{ShareFirst}
+use Rattle.path_within.specs.PlainPieces.{begins_plain}
+use Rattle.path_within.specs.Steps.{ReadsAsItself}
+use Rattle.path_within.proofs.lemmas.kept.PathOfLemmas.{ReadsAsItself-values}
+use Rattle.std.proofs.lemmas.List.Sums.{common_prefix_len-le}
+use Rattle.unix_bytes.proofs.lemmas.lists.ListLemmas.{drop-suc_cons}
+use Rattle.unix_path.specs.Order.{same_value}
+use Rattle.unix_path.specs.Parts.{Value, Normal, value_bytes, values}
+use Rattle.path_within.specs.Backward.{TakesLast}
+use Rattle.path_within.specs.Written.{slashed_len}
+use Rattle.path_within.proofs.lemmas.below.BoundLemmas.{slashed_len-cons}
+use Rattle.path_within.proofs.lemmas.kept.BetweenLemmas.{shared_count, shared_count-behind}
+use Rattle.std.proofs.Math.Seq.{drop-append-add}
+
+-- of two lists the first values are left, equally many, and so many values behind them are shared
+-- that those in front end the shared ones; `behind` and `len` count the bytes of what was taken from
+-- the second, and of what of it isn't shared
+pub record Shares (all_first all_second first second : List Value) (place shared behind len : ℕ)
+    : Type 0 where
+  pub first_taken : List Value
+  pub second_taken : List Value
+  pub first_is : all_first ≡ first ++ first_taken
+  pub second_is : all_second ≡ second ++ second_taken
+  pub first_size : length first ≡ place
+  pub second_size : length second ≡ place
+  pub shared_is : shared ≡ place + shared_count first_taken second_taken
+  pub behind_is : behind ≡ slashed_len second_taken
+  pub len_is : len ≡ slashed_len (drop (shared_count first_taken second_taken) second_taken)
+
+-- the last that is left is taken
+pub takes_last : {all left vs : List Value} {count len : ℕ} (v : Value)
+    → TakesLast all left count len → left ≡ vs ++ v ∷ []
+    → TakesLast all vs (count + 1) (len + (1 + length (value_bytes v)))
+takes_last {vs = vs} v h e = record {
+  taken = v ∷ h.taken;
+  all_is = h.all_is ∙ ap (λ s. s ++ h.taken) e ∙ append_assoc vs (v ∷ []) h.taken;
+  count_is = omega (arith, h.count_is);
+  len_is = omega (arith, h.len_is, slashed_len-cons v h.taken);
+}
+
+-- before any is compared, those behind which the other list has none are taken
+pub shares_first : {first second : List Value} {m n j k rest behind : ℕ} (v w : List Value)
+    → m ≡ length v → n ≡ length w → TakesLast v first j rest → TakesLast w second k behind
+    → j ≡ m - n → k ≡ n - m → Shares v w first second (min m n) (min m n) behind behind
+shares_first {first} {second} v w e f g h a b =
+    let none : shared_count g.taken h.taken ≡ 0 = omega (
+      arith,
+      (common_prefix_len-le same_value g.taken h.taken).0,
+      (common_prefix_len-le same_value g.taken h.taken).1,
+      g.count_is,
+      h.count_is,
+    ) in
+    record {
+      first_taken = g.taken;
+      second_taken = h.taken;
+      first_is = g.all_is;
+      second_is = h.all_is;
+      first_size = omega (arith, ap length g.all_is, length-append first g.taken, g.count_is);
+      second_size = omega (arith, ap length h.all_is, length-append second h.taken, h.count_is);
+      shared_is = omega (arith, none);
+      behind_is = h.len_is;
+      len_is = h.len_is ∙ ap (λ k. slashed_len (drop k h.taken)) (sym none);
+    }
+
+-- the last of both are taken, and are the same
+pub shares_same : {all_first all_second first second vs ws : List Value} {place shared behind len : ℕ}
+    (v w : Value) → Shares all_first all_second first second place shared behind len
+    → first ≡ vs ++ v ∷ [] → second ≡ ws ++ w ∷ [] → same_value v w ≡ true
+    → Shares all_first all_second vs ws (place - 1) shared (behind + (1 + length (value_bytes w))) len
+shares_same {vs = vs} {ws = ws} v w h e f same = record {
+  first_taken = v ∷ h.first_taken;
+  second_taken = w ∷ h.second_taken;
+  first_is = h.first_is ∙ ap (λ s. s ++ h.first_taken) e ∙ append_assoc vs (v ∷ []) h.first_taken;
+  second_is = h.second_is ∙ ap (λ s. s ++ h.second_taken) f ∙ append_assoc ws (w ∷ []) h.second_taken;
+  first_size = omega (arith, h.first_size, ap length e, length-append vs (v ∷ []));
+  second_size = omega (arith, h.second_size, ap length f, length-append ws (w ∷ []));
+  shared_is = rw same (omega (arith, h.shared_is, h.first_size, ap length e, length-append vs (v ∷ [])));
+  behind_is = omega (arith, h.behind_is, slashed_len-cons w h.second_taken);
+  len_is = h.len_is ∙ rw same (ap slashed_len (sym (drop-suc_cons
+      (shared_count h.first_taken h.second_taken) w h.second_taken)));
+}
+
+-- the last of both are taken, and differ
+pub shares_other : {all_first all_second first second vs ws : List Value}
+    {place shared behind len : ℕ}
+    (v w : Value) → Shares all_first all_second first second place shared behind len
+    → first ≡ vs ++ v ∷ [] → second ≡ ws ++ w ∷ [] → same_value v w ≡ false
+    → Shares all_first all_second vs ws (place - 1) (place - 1)
+    (behind + (1 + length (value_bytes w))) (behind + (1 + length (value_bytes w)))
+shares_other {vs = vs} {ws = ws} v w h e f other = record {
+  first_taken = v ∷ h.first_taken;
+  second_taken = w ∷ h.second_taken;
+  first_is = h.first_is ∙ ap (λ s. s ++ h.first_taken) e ∙ append_assoc vs (v ∷ []) h.first_taken;
+  second_is = h.second_is ∙ ap (λ s. s ++ h.second_taken) f ∙ append_assoc ws (w ∷ []) h.second_taken;
+  first_size = omega (arith, h.first_size, ap length e, length-append vs (v ∷ []));
+  second_size = omega (arith, h.second_size, ap length f, length-append ws (w ∷ []));
+  shared_is = rw other (omega arith);
+  behind_is = omega (arith, h.behind_is, slashed_len-cons w h.second_taken);
+  len_is = rw other (omega (arith, h.behind_is, slashed_len-cons w h.second_taken));
+}
+
+-- in the end no value is left before those that were taken
+pub shares_last : {v w first second : List Value} {place shared behind len : ℕ}
+    → Shares v w first second place shared behind len → first ≡ []
+    → (shared ≡ shared_count v w) × (len ≡ slashed_len (drop (shared_count v w) w))
+shares_last {v = v} {w = w} {second = second} {shared = shared} {len = len} h e = by second h.second_is
+    (omega (arith, h.first_size, h.second_size, ap length e))
+  where
+    by : (ws : List Value) → w ≡ ws ++ h.second_taken → length ws ≡ 0
+        → (shared ≡ shared_count v w) × (len ≡ slashed_len (drop (shared_count v w) w))
+    by [] f g =
+        let first_is = h.first_is ∙ ap (λ s. s ++ h.first_taken) e in
+        let both = ap₂ shared_count first_is f in (
+          omega (arith, h.shared_is, h.first_size, ap length e, both),
+          h.len_is ∙ sym (ap₂ (λ n s. slashed_len (drop n s)) both f),
+        )
+    by (x ∷ ws) f g = absurd (omega (arith, g))
+
+-- names are the same value if and only if they have the same bytes
+pub same_bytes : (a b : List ℕ) → same_value (Normal a) (Normal b) ≡ bytes_eq a b
+same_bytes a b = by_test (bytes_eq a b)
+    (λ e. (same_value-Decides (Normal a) (Normal b)).1 (ap Normal ((bytes_eq-Decides a b).0 e)) ∙ sym e)
+    (λ e. false_from_ne_true _ (λ f. let same : Normal a ≡ Normal b = (same_value-Decides (Normal a) (Normal b)).0 f in
+    let bytes : a ≡ b = cc in
+    let yes = (bytes_eq-Decides a b).1 bytes in let no : true ≡ false = sym yes ∙ e in absurd (cc)) ∙ sym e)
+
+-- so are the first values of two paths
+pub same_first : (s t : List ℕ) {x y : Value} {left onward : List Value} → values s ≡ x ∷ left
+    → values t ≡ y ∷ onward → same_value x y ≡ bytes_eq (value_bytes x) (value_bytes y)
+same_first s t {x} {y} e f =
+    let own = (subst ReadsAsItself e (ReadsAsItself-values s)).0 in
+    let other = (subst ReadsAsItself f (ReadsAsItself-values t)).0 in
+    by_test (bytes_eq (value_bytes x) (value_bytes y))
+    (λ same.
+    let one : x ∷ [] ≡ y ∷ [] =
+    sym own ∙ ap values ((bytes_eq-Decides (value_bytes x) (value_bytes y)).0 same) ∙ other in
+    let is : x ≡ y = cc in (same_value-Decides x y).1 is ∙ sym same)
+    (λ differ. false_from_ne_true _ (λ g.
+    let is = (same_value-Decides x y).0 g in
+    let yes = (bytes_eq-Decides (value_bytes x) (value_bytes y)).1 (ap value_bytes is) in
+    let no : true ≡ false = sym yes ∙ differ in absurd (cc)) ∙ sym differ)
+
+-- if two lists begin with the same value, what follows what they share follows what their rests share
+pub drop_shared : {v w left onward : List Value} {x y : Value} → v ≡ x ∷ left → w ≡ y ∷ onward
+    → same_value x y ≡ true
+    → (drop (shared_count left onward) left ≡ drop (shared_count v w) v)
+    × (drop (shared_count left onward) onward ≡ drop (shared_count v w) w)
+drop_shared {left = left} {onward = onward} {x = x} {y = y} e f same =
+    let n = shared_count left onward in
+    let more : shared_count (x ∷ left) (y ∷ onward) ≡ suc n = rw same (omega arith) in (
+      sym (ap₂ (λ v w. drop (shared_count v w) v) e f ∙ ap (λ k. drop k (x ∷ left)) more),
+      sym (ap₂ (λ v w. drop (shared_count v w) w) e f ∙ ap (λ k. drop k (y ∷ onward)) more),
+    )
+
+-- if they begin with others, they share none
+pub none_shared : {v w left onward : List Value} {x y : Value} → v ≡ x ∷ left → w ≡ y ∷ onward
+    → same_value x y ≡ false → shared_count v w ≡ 0
+none_shared {v} {w} e f other = ap₂ shared_count e f ∙ rw other refl
+
+-- nor if one has no value
+pub none_shared_left : {v : List Value} (w : List Value) → v ≡ [] → shared_count v w ≡ 0
+none_shared_left w e = ap (λ v. shared_count v w) e
+
+pub none_shared_onward : {w : List Value} (v : List Value) → w ≡ [] → shared_count v w ≡ 0
+none_shared_onward v e = ap (shared_count v) e ∙ by v
+  where
+    by : (v : List Value) → shared_count v [] ≡ 0
+    by [] = refl
+    by (x ∷ v) = refl
+
+-- ---- two paths that begin with the same bytes
+
+-- where a plain piece begins there is no filler
+busy_plain : (s : List ℕ) (n : ℕ) → begins_plain s n ≡ true → is_filler (drop n s) 0 ≡ false
+busy_plain s n h = is_filler-drop s n ∙ by_test (ltb n (length s))
+    (λ t. let here = get_or_default s n 0 47 (ltb-true n (length s) t) in grind (arith, here))
+    (λ t. let past = get_or_past s n 47 (ltb-false n (length s) t) in grind (arith, past))
+
+-- if names begin there, they have the same values up to their common dir
+pub share_first : (s t : List ℕ) (n : ℕ) → n ≡ common_dir_of s t → begins_plain s n ≡ true
+    → begins_plain t n ≡ true → ShareFirst s t n
+unfolding values
+share_first s t n e first second = by_test (eqb n 0)
+    (λ z. subst (ShareFirst s t) (sym (eqb-true n 0 z))
+    (record { shared = []; first = refl; second = refl }))
+    (λ z.
+    let cut = subst (λ k. SharesFirst s t (drop k s) (drop k t)) (sym e)
+    (shares-common_dir s t (omega (arith, e, eqb-false n 0 z))) in
+    let own : (u : List ℕ) → begins_plain u n ≡ true
+    → inner_values (drop n u) ≡ values (drop n u) =
+    λ u h. sym (values-busy (drop n u) (busy_plain u n h)) in
+    record {
+      shared = map (λ (p : Part). p.value) cut.shared;
+      first = ap (map (λ (p : Part). p.value)) cut.first
+          ∙ map-append (λ (p : Part). p.value) cut.shared (inner_parts cut.at (drop n s))
+          ∙ ap (λ vs. map (λ (p : Part). p.value) cut.shared ++ vs)
+          (values-inner_parts cut.at (drop n s) ∙ own s first);
+      second = cut.second ∙ ap (λ vs. map (λ (p : Part). p.value) cut.shared ++ vs) (own t second);
+    })
+
+-- what follows the values that they share follows what they have from there on
+pub past_place : {u v : List ℕ} (s t : List ℕ) {n : ℕ} → ShareFirst s t n → u ≡ drop n s
+    → v ≡ drop n t
+    → (drop (shared_count (values u) (values v)) (values u)
+    ≡ drop (shared_count (values s) (values t)) (values s))
+    × (drop (shared_count (values u) (values v)) (values v)
+    ≡ drop (shared_count (values s) (values t)) (values t))
+past_place {u} {v} s t h e f =
+    let first : values s ≡ h.shared ++ values u =
+    h.first ∙ ap (λ s. h.shared ++ values s) (sym e) in
+    let second : values t ≡ h.shared ++ values v =
+    h.second ∙ ap (λ s. h.shared ++ values s) (sym f) in
+    let n = shared_count (values u) (values v) in
+    let all : shared_count (values s) (values t) ≡ length h.shared + n =
+    ap₂ shared_count first second ∙ shared_count-behind h.shared (values u) (values v) in (
+      sym (ap₂ drop all first ∙ drop-append-add h.shared (values u) n),
+      sym (ap₂ drop all second ∙ drop-append-add h.shared (values v) n),
+    )

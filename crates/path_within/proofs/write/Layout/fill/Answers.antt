@@ -1,0 +1,59 @@
+use Rattle.std.proofs.Common.{◌≡◌, ◌-◌, ◌∷◌, ap, sym, ◌∙◌, arith, length, take, drop}
+use Rattle.std.proofs.Common.{length-drop, length-take}
+use Rattle.unix_path.specs.Parts.{slash}
+use Rattle.path_within.proofs.lemmas.backward.LayoutLemmas.{first_fits, layout-rooted, layout-rootless}
+use Rattle.path_within.proofs.lemmas.backward.LayoutLemmas.{length-rooted_layout, slash_first}
+use Rattle.path_within.proofs.lemmas.backward.LayoutLemmas.{length-rootless_layout}
+use Rattle.path_within.proofs.write.Layout.fill.Goals as goal
+
+pub slice_bounds-fill_after_root-count : goal.slice_bounds-fill_after_root-count
+slice_bounds-fill_after_root-count c =
+    omega (arith, c.requires, length-rooted_layout c.args.self.now c.if-self.true)
+
+pub slice_bounds-fill_after_root-start : goal.slice_bounds-fill_after_root-start
+slice_bounds-fill_after_root-start c =
+    omega (arith, c.requires, length-rooted_layout c.args.self.now c.if-self.true)
+
+pub fill_after_root-requires : goal.fill_after_root-requires
+fill_after_root-requires c = omega (
+  arith,
+  c.requires,
+  length-rooted_layout c.args.self.now c.if-self.true,
+  length-drop 1 c.args.out.now,
+  length-take (length c.args.out.now - 1) (drop 1 c.args.out.now),
+)
+
+pub bounds-out-0 : goal.bounds-out-0
+bounds-out-0 c = first_fits c.args.out.now c.fill_after_root.new.out
+    (omega (arith, c.requires, length-rooted_layout c.args.self.now c.if-self.true))
+
+pub fill_after_root-requires-else-self : goal.fill_after_root-requires-else-self
+fill_after_root-requires-else-self c = omega (
+  arith,
+  c.requires,
+  length-rootless_layout c.args.self.now c.if-self.false,
+)
+
+pub returns-then-self : goal.returns-then-self
+returns-then-self c =
+    let size = length-rooted_layout c.args.self.now c.if-self.true in
+    let is = layout-rooted c.args.self.now c.if-self.true in
+    let part : length (take (length c.args.out.now - 1) (drop 1 c.args.out.now))
+    ≡ length c.args.out.now - 1 = omega (
+      arith,
+      length-drop 1 c.args.out.now,
+      length-take (length c.args.out.now - 1) (drop 1 c.args.out.now),
+    ) in
+    slash_first c.args.out.now c.fill_after_root.new.out (omega (arith, c.requires, size))
+    (c.fill_after_root.auto.out ∙ part)
+    ∙ ap (λ s. slash ∷ s) (c.fill_after_root.ensures 0 (omega (
+      arith,
+      part,
+      c.requires,
+      ap length is,
+    ))) ∙ sym is
+
+pub returns-else-self : goal.returns-else-self
+returns-else-self c =
+    let is = layout-rootless c.args.self.now c.if-self.false in
+    c.fill_after_root-else-self.ensures c.args.self.now.ups (c.requires ∙ ap length is) ∙ sym is

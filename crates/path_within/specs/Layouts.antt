@@ -1,0 +1,19 @@
+-- What names and layouts of resolved paths stand for. No public clause cites these words.
+use Rattle.std.specs.Prelude.{List, ◌∷◌, ◌++◌, replicate, if◌then◌else◌}
+use Rattle.unix_path.specs.Parts.{Value, RootDir, ParentDir, values}
+use Rattle.path_within.specs.Backward.{last_names}
+use Rattle.path_within.specs.declared.write.Layout.{Layout}
+use Rattle.path_within.specs.declared.write.Names.{Names}
+
+-- these names
+abbrev pub names_in : Names → List Value
+names_in n = last_names n.count (values n.path.bytes.now)
+
+-- all names of a layout
+abbrev pub layout_names : Layout → List Value
+layout_names l = names_in l.names ++ names_in l.more
+
+-- the values of a layout: the root or `..`, and then the names
+abbrev pub layout_values : Layout → List Value
+layout_values l =
+    if l.has_root then RootDir ∷ layout_names l else replicate l.ups ParentDir ++ layout_names l
