@@ -1,6 +1,6 @@
 -- The path of a key has at most half as many bytes more than the key.
 use Rattle.std.proofs.Common.{◌≡◌, ◌≤◌, ◌+◌, ◌*◌, ℕ, List, [], ◌∷◌, length, map, ap, arith}
-use Rattle.std.proofs.Common.{length-append, ◌∙◌, Some, unwrap_or}
+use Rattle.std.proofs.Common.{length-append, Some, unwrap_or}
 use Rattle.std.proofs.lemmas.List.{length-map}
 use Rattle.unix_path.specs.Parts.{Value, RootDir, CurDir, ParentDir, Normal, slash, value_bytes}
 use Rattle.unix_path.specs.Parts.{values}

@@ -3,9 +3,7 @@ use Rattle.std.proofs.Common.{◌≡◌, ℕ, ◌+◌, ◌≤◌, ◌<◌, false
 use Rattle.std.proofs.Common.{get_or, take, drop, sym, ap, subst, ◌∙◌, arith, eqb-true}
 use Rattle.std.proofs.Common.{ltb-true, ltb-false}
 use Rattle.std.specs.List.{position_or_len, slice_split}
-use Rattle.std.specs.Str.{bytes_eq}
-use Rattle.std.proofs.lemmas.Slice.Eq.{bytes_eq-Decides}
-use Rattle.unix_path.specs.Parts.{Part, Value, RootDir, counts, cur_dir, inner_parts, is_slash}
+use Rattle.unix_path.specs.Parts.{Part, Value, RootDir, counts, inner_parts, is_slash}
 use Rattle.unix_path.specs.Parts.{parts, parts_of_pieces, value_bytes}
 use Rattle.unix_path.proofs.lemmas.parts.PlaceLemmas.{parts_end}
 use Rattle.unix_bytes.proofs.lemmas.lists.ListLemmas.{by_test}

@@ -1,11 +1,11 @@
 -- Steps over a name that stands between bytes that are neither slashes nor dots.
 use Rattle.std.proofs.Common.{◌≡◌, ℕ, ◌-◌, ◌≤◌, ◌<◌, true, false, ltb, eqb, List}
 use Rattle.std.proofs.Common.{length, get_or, take, refl, sym, ap, ◌∙◌, arith}
-use Rattle.std.proofs.Common.{take_all, lt-ltb, ltb-true, ltb-false, subst}
+use Rattle.std.proofs.Common.{lt-ltb, ltb-true, ltb-false}
 use Rattle.std.specs.Str.{bytes_eq}
 use Rattle.std.proofs.lemmas.Bool.{both_ways}
 use Rattle.std.proofs.lemmas.Slice.Eq.{bytes_eq-Decides}
-use Rattle.unix_path.specs.Parts.{Value, cur_dir, parts}
+use Rattle.unix_path.specs.Parts.{cur_dir, parts}
 use Rattle.unix_path.specs.Scan.{ends_with_parent, is_trailing, EndsInPart}
 use Rattle.unix_bytes.proofs.lemmas.lists.ListLemmas.{by_test}
 use Rattle.unix_path.proofs.lemmas.filler.TrimLemmas.{parts_shorter}
