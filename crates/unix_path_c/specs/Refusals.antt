@@ -9,10 +9,6 @@ too_long = 2 ^ 63
 abbrev pub escapes : ℕ
 escapes = 2 ^ 64 - 2
 
--- `SIZE_MAX - 2`: an allocation failed
-abbrev pub no_memory : ℕ
-no_memory = 2 ^ 64 - 3
-
 -- `SIZE_MAX - 3`: the request has a NUL byte
 abbrev pub nul_in_request : ℕ
 nul_in_request = 2 ^ 64 - 4

@@ -7,102 +7,43 @@ ghost use Rattle.path_within.specs.Resolved.{resolved_bytes_of};
 ghost use Rattle.path_within.specs.Below.{below_of, has_nul, names_below, IsBelow};
 ghost use Rattle.path_within.specs.Climbs.{Climbs, has_root_or_up};
 ghost use Rattle.path_within.specs.Requests.{request_names};
-ghost use Rattle.unix_path_c.specs.Refusals.{IsLength, escapes, no_memory, nul_in_request};
-ghost use Rattle.unix_path_c.specs.Refusals.{too_long};
+ghost use Rattle.unix_path_c.specs.Refusals.{IsLength, escapes, nul_in_request, too_long};
 ghost use Rattle.path_runs.specs.Buffer.{buffer_after};
 
 use crate::joins::unix_path_join;
-use crate::writing::{told_len, write_whole};
-use path_within::resolved::resolved;
-use path_within::within::{has_root_or_up, join_within};
-use path_within::{Request, RequestError, WithinError, has_nul};
-use std::alloc::Global;
+use crate::writing::told_len;
+use path_within::resolved::write_resolved;
+use path_within::within::has_root_or_up;
+use path_within::{Request, RequestError, has_nul};
 use unix_path::Path;
 
 // The answer if a request would leave its root.
 const ESCAPES: usize = usize::MAX - 1;
 
-// The answer if an allocation failed.
-pub(crate) const NO_MEMORY: usize = usize::MAX - 2;
-
 // The answer if a request has a NUL byte.
 const NUL_IN_REQUEST: usize = usize::MAX - 3;
 
-/// The path with each `..` dropped together with the name before it, in canonical spelling: `.` is
-/// dropped too, and so is `..` behind the root. Without a root, a `..` with no name before it stays
-/// in front.
+/// Writes the path to `out` with each `..` dropped together with the name before it, and returns
+/// how many bytes that is.
 ///
-/// The answer is how many bytes that is, at most as many as the path has. If `out` has room for
-/// them all they stand at its beginning, and what stood behind them stays; else nothing is written.
-/// `UNIX_PATH_NO_MEMORY` is the answer if an allocation fails, and then nothing is written either.
-/// `out` may not overlap the path.
+/// It is in canonical spelling: `.` is dropped too, and so is `..` after the root. Without a root,
+/// a `..` with no name before it stays in front. It has at most as many bytes as the path. If `out`
+/// has room for all of it, it is written at the beginning of `out`, and the bytes after it stay;
+/// otherwise nothing is written. `out` may not overlap the path.
 ///
-/// It goes by names alone: if a part before a `..` may be a link, only the system knows where that
-/// `..` leads. An answer of no bytes stands for the current directory. Allocates once, as many
-/// bytes as the path has, or not at all for the empty path, and frees what it allocates. C passes
-/// nothing for `alloc`. Not in Rust's std; as Go's `path.Clean`, which gives `.` where this answers
-/// 0.
+/// Purely lexical: if a part before a `..` may be a link, only the system knows where that `..`
+/// leads. An answer of no bytes stands for the current directory. Does not allocate. Not in Rust's
+/// std; as Go's `path.Clean`, which gives `.` where this answers 0.
 ///
 /// For `a/../..//b/.` it is `../b`, for `/../a` it is `/a`, and for `a/..` the empty path.
 #[tactic(auto, using(crate::proofs::lemmas::buffers::BoundLemmas::bounds))]
 #[unsafe(no_mangle)]
-pub extern "C" fn unix_path_resolved(alloc: Global, path: &[u8], out: &mut [u8]) -> usize
-    ensures answers { IsLength result ⊎ (result ≡ no_memory) }
-    ensures length { IsLength result → result ≡ length (resolved_bytes_of path.now) }
-    ensures short { IsLength result → result ≤ length path.now }
-    ensures out { IsLength result
-        → out.new ≡ buffer_after (resolved_bytes_of path.now) out.old }
-    ensures refused { result ≡ no_memory → out.new ≡ out.old }
+pub extern "C" fn unix_path_resolved(path: &[u8], out: &mut [u8]) -> usize
+    ensures out { out.new ≡ buffer_after (resolved_bytes_of path.now) out.old }
+    ensures length { result ≡ length (resolved_bytes_of path.now) }
+    ensures short { result ≤ length path.now }
 {
-    match resolved(alloc, Path::from_bytes(path)) {
-        Ok(resolved) => write_whole(out, resolved.as_path().bytes),
-        Err(_) => NO_MEMORY,
-    }
-}
-
-/// The request joined to the root, and resolved, so that it stays under the resolved root.
-///
-/// The answer is how many bytes that is, at most one more than both paths. If `out` has room for
-/// them all they stand at its beginning, and what stood behind them stays; else nothing is written.
-/// `UNIX_PATH_ESCAPES` is the answer exactly if the request climbs, before anything is allocated,
-/// and `UNIX_PATH_NO_MEMORY` if the allocation fails; in both cases nothing is written. `out` may
-/// overlap neither path.
-///
-/// It is lexical: if a part of the root or of the request may be a link, only the system knows
-/// where the join leads. Allocates once, one byte more than both paths have, and frees what it
-/// allocates. C passes nothing for `alloc`. Not in Rust's std.
-///
-/// A request with a NUL byte isn't refused, and `..\0` is a name. A system call reads a path only
-/// up to its first NUL, so it may read the answer as the root's parent: it reads `/srv/..\0/a`, the
-/// answer for `/srv` and `..\0/a`, as `/srv/..`. `unix_path_join_below` refuses such a request.
-///
-/// `/srv/www` with `a/../b` is `/srv/www/b`, and with `a/../../x` it is refused.
-#[tactic(auto, using(crate::proofs::lemmas::buffers::BoundLemmas::bounds))]
-#[unsafe(no_mangle)]
-pub extern "C" fn unix_path_join_within(
-    alloc: Global,
-    root: &[u8],
-    request: &[u8],
-    out: &mut [u8],
-) -> usize
-    ensures answers { IsLength result ⊎ ((result ≡ escapes) ⊎ (result ≡ no_memory)) }
-    ensures escapes { (result ≡ escapes) ↔ Climbs (values request.now) }
-    ensures length { IsLength result
-        → result ≡ length (resolved_bytes_of (join_of root.now request.now)) }
-    ensures short { IsLength result → result ≤ length root.now + 1 + length request.now }
-    ensures out { IsLength result
-        → out.new ≡ buffer_after (resolved_bytes_of (join_of root.now request.now)) out.old }
-    ensures within { IsLength result → Begins (values (resolved_bytes_of root.now))
-        (values (resolved_bytes_of (join_of root.now request.now))) }
-    ensures escaped { result ≡ escapes → out.new ≡ out.old }
-    ensures refused { result ≡ no_memory → out.new ≡ out.old }
-{
-    match join_within(alloc, Path::from_bytes(root), Path::from_bytes(request)) {
-        Ok(joined) => write_whole(out, joined.as_path().bytes),
-        Err(WithinError::Escapes) => ESCAPES,
-        Err(WithinError::Nul) => NUL_IN_REQUEST,
-        Err(WithinError::Memory(_)) => NO_MEMORY,
-    }
+    write_resolved(Path { bytes: path }, out)
 }
 
 /// The request joined to the root, both verbatim, if the request has no root, no `..` and no NUL.

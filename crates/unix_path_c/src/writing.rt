@@ -1,7 +1,6 @@
-//! Writes stretches of bytes into a buffer, one behind the other.
-ghost use Rattle.std.specs.Prelude.{◌≡◌, ◌≤◌, ◌<◌, ◌+◌, ◌^◌, length};
+//! Writes stretches of bytes into a buffer, one after the other, and says how long they are.
+ghost use Rattle.std.specs.Prelude.{◌≡◌, ◌≤◌, ◌+◌, length};
 ghost use Rattle.unix_path.specs.Scan.{separator_bytes};
-ghost use Rattle.path_runs.specs.Buffer.{buffer_after};
 ghost use Rattle.path_runs.specs.Overlay.{overlay};
 ghost use Rattle.unix_path_c.specs.SaturatedSize.{buffer_size};
 
@@ -17,20 +16,6 @@ pub(crate) fn told_len(len: usize) -> usize
     ensures { result ≡ buffer_size len }
 {
     if len < TOO_LONG { len } else { TOO_LONG }
-}
-
-// Puts the bytes at the beginning of the buffer if it has room for all of them, and gives how many
-// they are.
-#[inline]
-pub(crate) fn write_whole(out: &mut [u8], bytes: &[u8]) -> usize
-    ensures out { out.new ≡ buffer_after bytes.now out.old }
-    ensures len { result ≡ length bytes.now }
-    ensures fits { result < 2 ^ 63 }
-{
-    if bytes.len() <= out.len() {
-        write_at(out, 0, bytes);
-    }
-    bytes.len()
 }
 
 // Puts the separator's byte, if it has one, in place of the byte at `at`.

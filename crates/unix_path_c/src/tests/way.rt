@@ -1,7 +1,6 @@
 //! Rows of ways from one path to another, in buffers of 0 to 31 bytes.
 use crate::tests::rooms::is_answered;
 use crate::way::unix_path_way;
-use std::alloc::Global;
 
 // The answer if there is no way.
 const NO_WAY: usize = usize::MAX - 7;
@@ -30,8 +29,8 @@ static WAYS: [(&'static str, &'static str, Option<&'static str>); 19] = [
 ];
 
 // Whether the way is written, if there is room for it, or is refused if there is none.
-fn is_way(alloc: Global, row: &(&str, &str, Option<&str>)) -> bool {
-    let call = |out: &mut [u8]| unix_path_way(alloc, row.0.as_bytes(), row.1.as_bytes(), out);
+fn is_way(row: &(&str, &str, Option<&str>)) -> bool {
+    let call = |out: &mut [u8]| unix_path_way(row.0.as_bytes(), row.1.as_bytes(), out);
     match row.2 {
         Some(want) => is_answered(call, want.len(), want.as_bytes()),
         None => is_answered(call, NO_WAY, b""),
@@ -41,6 +40,6 @@ fn is_way(alloc: Global, row: &(&str, &str, Option<&str>)) -> bool {
 #[test]
 fn ways_in_every_room(rt: HostRuntime) {
     for row in WAYS.iter() {
-        assert!(rt; is_way(rt.alloc(), row), "{} to {}", row.0, row.1);
+        assert!(rt; is_way(row), "{} to {}", row.0, row.1);
     }
 }

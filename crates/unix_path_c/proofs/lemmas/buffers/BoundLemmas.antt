@@ -1,6 +1,7 @@
 -- How many bytes an answer in a buffer has at most.
 use Rattle.std.proofs.Common.{◌≤◌, ◌+◌, ℕ, List, [], ◌∷◌, ◌++◌, cond, eqb, length, take}
-use Rattle.std.proofs.Common.{Option, Some, None, is_some, unwrap_or, option_map, ◌≡◌, ◌*◌, ap, ⊎_elim, arith, refl, length-append}
+use Rattle.std.proofs.Common.{Option, Some, None, is_some, unwrap_or, option_map, ◌≡◌, ◌*◌, ap}
+use Rattle.std.proofs.Common.{⊎_elim, arith, refl, length-append}
 use Rattle.std.specs.Option.{option_map_or}
 use Rattle.std.proofs.lemmas.List.{length-take}
 pub use Rattle.unix_bytes.proofs.lemmas.lossy.LossyBoundLemmas.{length-lossy_of}
@@ -22,7 +23,6 @@ use Rattle.path_within.specs.Way.{way_of}
 use Rattle.path_within.specs.Written.{opened}
 use Rattle.path_within.proofs.lemmas.below.BelowLemmas.{length-below}
 pub use Rattle.path_within.proofs.lemmas.below.BoundLemmas.{length-join_of, length-resolved}
-pub use Rattle.path_within.proofs.lemmas.below.BoundLemmas.{length-resolved_join}
 use Rattle.path_within.proofs.lemmas.ways.WayBoundLemmas.{length-way}
 
 -- a canonical spelling has no more bytes than the path
@@ -113,7 +113,6 @@ pub ruleset bounds = (
   length-key_of,
   length-join_of,
   length-resolved,
-  length-resolved_join,
   length-spelling_of,
   length-with_name_of,
   length-below_of,
