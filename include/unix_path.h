@@ -3,9 +3,11 @@
  * A path is a pointer to its bytes and how many there are. It may hold any byte, NUL too, and
  * needs none behind it. Its parts are the root, a leading `.`, and then each name and each `..`;
  * paths are equal if their parts are. No file is touched, and `..` is a part like a name. Only
- * unix_path_resolved, unix_path_join_within, unix_path_join_below, unix_path_way, unix_path_climbs
- * and unix_path_check_request let `..` undo the name before it. For example, with <stdio.h> and
- * <string.h>:
+ * unix_path_resolved, unix_path_join_below, unix_path_way, unix_path_climbs and
+ * unix_path_check_request let `..` undo the name before it.
+ *
+ * No call allocates, locks or reads global state, so all of them may be made in signal handlers and
+ * from many threads. For example, with <stdio.h> and <string.h>:
  *
  *     const char *root = "/srv", *request = "a/../b";
  *     char out[64];
@@ -26,10 +28,12 @@
  * since a `..` at the root stays there. A server that refuses such a request passes false, and the
  * path without its leading slashes. unix_path_refusal names a refusal.
  *
- * Link with -lunix_path_c, or with what `pkg-config --libs unix_path` prints.
+ * Link with -lunix_path_c, or with what `pkg-config --libs unix_path` prints. It needs nothing of
+ * the C library except memcpy, memmove, memset and memcmp.
  *
  * For every call:
- *  - It returns, whatever the bytes are, and reads nothing but the bytes and records given to it.
+ *  - It returns, whatever the bytes are, reads nothing but the bytes and records given to it, and
+ *    keeps no pointer to them.
  *  - Lengths and places count bytes. A length is at most PTRDIFF_MAX.
  *  - A path of no bytes, and an out of no room, may have a null pointer; else no pointer is null.
  *    The calls of the library itself take none: a function of this header, which isn't proved,
@@ -39,11 +43,6 @@
  *  - What a call writes (walk, part, place, next, ancestor, chunk, out) overlaps nothing else that
  *    the call is given.
  *  - If a call answers false, the records that it would write to stay as they were.
- *  - No call keeps anything, so threads may call at the same time. None allocates except
- *    unix_path_resolved, unix_path_join_within and unix_path_way, which free what they allocate.
- *    They call malloc and free, and these have to be of one allocator: don't make these three calls
- *    where malloc may not be called, as in a signal handler, or in a forked child of a process with
- *    threads.
  *
  * The calls with `out` return how many bytes their answer has. If that is at most out_length, the
  * answer stands at the beginning of out, and the bytes behind it stay as they were. Else nothing is
@@ -56,10 +55,8 @@
  *
  *     UNIX_PATH_SEPARATOR        unix_path_with_extension, unix_path_with_added_extension: the
  *                                extension has a slash
- *     UNIX_PATH_ESCAPES          unix_path_join_within, unix_path_join_below: the request climbs;
- *                                unix_path_join_plain: it has a root or a `..`
- *     UNIX_PATH_NO_MEMORY        unix_path_resolved, unix_path_join_within, unix_path_way: an
- *                                allocation failed
+ *     UNIX_PATH_ESCAPES          unix_path_join_below: the request climbs; unix_path_join_plain:
+ *                                it has a root or a `..`
  *     UNIX_PATH_NUL_IN_REQUEST   unix_path_join_below, unix_path_join_plain: the request has a NUL
  *                                byte
  *     UNIX_PATH_NOT_A_KEY        unix_path_from_key, unix_path_key_end: no path has this key
@@ -67,8 +64,8 @@
  *     UNIX_PATH_NO_WAY           unix_path_way: no path without a root leads there
  *     UNIX_PATH_TOO_LONG         unix_path_to_string_lossy, unix_path_with_extension,
  *                                unix_path_with_added_extension, unix_path_join_below,
- *                                unix_path_join_plain, unix_path_from_key: the answer has more than
- *                                PTRDIFF_MAX bytes
+ *                                unix_path_join_plain, unix_path_way, unix_path_from_key: the
+ *                                answer has more than PTRDIFF_MAX bytes
  *
  * All are greater than the length of any buffer, and unix_path_is_length tells them from lengths.
  * None is SIZE_MAX: one more than a refusal is no size that malloc gives.
@@ -100,14 +97,11 @@ _Static_assert(sizeof(size_t) == 8, "the library is for lengths of 64 bits");
 /* What unix_path_with_extension and unix_path_with_added_extension answer if the extension has a
  * slash. */
 #define UNIX_PATH_SEPARATOR (SIZE_MAX - 6)
-/* What unix_path_join_within and unix_path_join_below answer if the request climbs, and
- * unix_path_join_plain if it has a root or a `..`. Nothing is allocated. */
+/* What unix_path_join_below answers if the request climbs, and unix_path_join_plain if it has a
+ * root or a `..`. */
 #define UNIX_PATH_ESCAPES (SIZE_MAX - 1)
-/* What unix_path_resolved, unix_path_join_within and unix_path_way answer if an allocation
- * failed. */
-#define UNIX_PATH_NO_MEMORY (SIZE_MAX - 2)
 /* What unix_path_join_below and unix_path_join_plain answer if the request has a NUL byte and isn't
- * refused as UNIX_PATH_ESCAPES. Nothing is allocated. */
+ * refused as UNIX_PATH_ESCAPES. */
 #define UNIX_PATH_NUL_IN_REQUEST (SIZE_MAX - 3)
 /* What unix_path_from_key and unix_path_key_end answer if the bytes are the key of no path. */
 #define UNIX_PATH_NOT_A_KEY (SIZE_MAX - 4)
@@ -116,9 +110,8 @@ _Static_assert(sizeof(size_t) == 8, "the library is for lengths of 64 bits");
 /* What unix_path_way answers if no path without a root leads from the first path to the other. */
 #define UNIX_PATH_NO_WAY (SIZE_MAX - 7)
 /* What the calls named above answer in place of a length above PTRDIFF_MAX, which is SIZE_MAX / 2,
- * and which no buffer has. The other calls that may refuse have no such answer: unix_path_resolved
- * and unix_path_key_end none that is longer than what they are given, and unix_path_join_within and
- * unix_path_way allocate theirs, which fails then. */
+ * and which no buffer has. unix_path_key_end, the only other call that may refuse, has no answer
+ * that is longer than what it is given. */
 #define UNIX_PATH_TOO_LONG (SIZE_MAX / 2 + 1)
 
 /* What is left of a walk over a path: the bytes from front up to back. Nothing is left if front is
@@ -230,8 +223,7 @@ bool unix_path_strip_prefix(const void *path, size_t path_length, const void *ba
 
 /* Whether the parts of b begin those of a: `/etc/passwd` starts with `/etc/`, and not with `/e`.
  * `..` is a part like a name, so `/dest/../etc` starts with `/dest`: a join that starts with its
- * root may lead out of it. Join a path from outside by unix_path_join_below or
- * unix_path_join_within. */
+ * root may lead out of it. Join a path from outside by unix_path_join_below. */
 bool unix_path_starts_with(const void *a, size_t a_length, const void *b, size_t b_length);
 
 /* Whether the parts of b end those of a: `/etc/passwd` ends with `passwd`. */
@@ -310,24 +302,11 @@ size_t unix_path_to_string_lossy(const void *path, size_t path_length, void *out
 /* The path with each `..` dropped together with the name before it, in canonical spelling: `.` is
  * dropped too, and so is `..` behind the root. Without a root, a `..` with no name before it stays
  * in front. It goes by names alone: if a part may be a link, only the system knows where `..`
- * leads. UNIX_PATH_NO_MEMORY if an allocation failed. Of `a/../..//b/.` it is `../b`. It has at
- * most as many bytes as the path, and may hold a NUL. An answer of no bytes, as of `a/..`, stands
- * for the current directory: give the system `.` in its place. */
+ * leads. Of `a/../..//b/.` it is `../b`. It has at most as many bytes as the path, and may hold a
+ * NUL. An answer of no bytes, as of `a/..`, stands for the current directory: give the system `.`
+ * in its place. */
 size_t unix_path_resolved(const void *path, size_t path_length, void *out,
                           size_t out_length);
-
-/* The request joined to the root and resolved, so that it stays under the resolved root.
- * UNIX_PATH_ESCAPES exactly if the request climbs, before anything is allocated, and
- * UNIX_PATH_NO_MEMORY only if an allocation failed. It is lexical: if a part may be a link, use
- * unix_path_join_plain, and let the system refuse links. An empty answer stands for `.`. It has at
- * most as many bytes as both and one more. `/srv` with `a/../b` gives `/srv/b`.
- *
- * A request with a NUL byte isn't refused, `..\0` is a name, and the answer holds a NUL if a part
- * that stays does. A system call reads a path only up to its first NUL, so it may read the answer
- * as the root's parent: it reads `/srv/..\0/a`, the answer for `/srv` and `..\0/a`, as `/srv/..`.
- * unix_path_join_below refuses such a request. */
-size_t unix_path_join_within(const void *root, size_t root_length, const void *request,
-                             size_t request_length, void *out, size_t out_length);
 
 /* The request joined to the root, both verbatim, so that the request only goes down from the root
  * by its names: for roots that may be or contain links. UNIX_PATH_ESCAPES if and only if the
@@ -342,7 +321,8 @@ size_t unix_path_join_plain(const void *root, size_t root_length, const void *re
  * that the request resolves to, with a slash between two of them and, where one is wanted, behind
  * the root. Behind the root stand no `..`, no `.`, no NUL and no slash at the end; if the request
  * has no name, the answer is the root alone, and if that is empty too, it stands for `.`. The
- * answer holds a NUL only if the root does.
+ * answer holds a NUL only if the root does. To resolve the root's own `..` by names too, pass what
+ * unix_path_resolved wrote of it, once for all requests.
  *
  * as_url says how the request is read. If it is false, the answer is UNIX_PATH_ESCAPES exactly if
  * the request climbs; unix_path_check_request tells whether by a root. If it is true, as for the
@@ -359,13 +339,12 @@ size_t unix_path_join_below(const void *root, size_t root_length, const void *re
 
 /* The way from one path to another by names: of both resolved, without the parts that they then
  * both begin with, `..` for each name that is left of the first, and then what is left of the
- * other. UNIX_PATH_NO_WAY if one has a root and the other has none, or if a `..` is left of the
- * first: then no path without a root leads there. UNIX_PATH_NO_MEMORY only if an allocation failed;
- * between the same bytes nothing is allocated. It goes by names alone: if a part may be a link,
- * only the system knows where `..` leads. It has at most three bytes for each two of the first path
- * and one more, 3 * (from_length + 1) / 2, and as many as the other path has. It holds a NUL if a
- * part that stays does, and an answer of no bytes stands for `.`. From `/a/b/c` to `/a/d` it is
- * `../../d`. */
+ * other. UNIX_PATH_NO_WAY if and only if one has a root and the other has none, or a `..` is left
+ * of the first: then no path without a root leads there. It goes by names alone: if a part may be a
+ * link, only the system knows where `..` leads. It has at most three bytes for each two of the
+ * first path and one more, 3 * (from_length + 1) / 2, and as many as the other path has. It holds a
+ * NUL if a part that stays does, and an answer of no bytes stands for `.`. From `/a/b/c` to `/a/d`
+ * it is `../../d`. */
 size_t unix_path_way(const void *from, size_t from_length, const void *to, size_t to_length,
                      void *out, size_t out_length);
 
@@ -417,8 +396,6 @@ UNIX_PATH_INLINE const char *unix_path_refusal(size_t answer) {
         return "UNIX_PATH_SEPARATOR";
     case UNIX_PATH_ESCAPES:
         return "UNIX_PATH_ESCAPES";
-    case UNIX_PATH_NO_MEMORY:
-        return "UNIX_PATH_NO_MEMORY";
     case UNIX_PATH_NUL_IN_REQUEST:
         return "UNIX_PATH_NUL_IN_REQUEST";
     case UNIX_PATH_NOT_A_KEY:
@@ -571,7 +548,6 @@ UNIX_PATH_MAKES_OF_TWO(with_added_extension)
 UNIX_PATH_MAKES_OF_ONE(canonical)
 UNIX_PATH_MAKES_OF_ONE(to_string_lossy)
 UNIX_PATH_MAKES_OF_ONE(resolved)
-UNIX_PATH_MAKES_OF_TWO(join_within)
 UNIX_PATH_MAKES_OF_TWO(join_plain)
 UNIX_PATH_MAKES(join_below, UNIX_PATH_READS_TWO UNIX_PATH_FILLS(6, 7),
                 (UNIX_PATH_TWO, bool as_url, UNIX_PATH_OUT), UNIX_PATH_AB, as_url)
@@ -610,7 +586,6 @@ UNIX_PATH_MAKES_OF_ONE(key_end)
 #define unix_path_canonical unix_path_inline_canonical
 #define unix_path_to_string_lossy unix_path_inline_to_string_lossy
 #define unix_path_resolved unix_path_inline_resolved
-#define unix_path_join_within unix_path_inline_join_within
 #define unix_path_join_plain unix_path_inline_join_plain
 #define unix_path_join_below unix_path_inline_join_below
 #define unix_path_way unix_path_inline_way

@@ -23,12 +23,10 @@
 // The calls of the library are proved, and what each answers stands in unix_path.h. This file isn't
 // proved: tests alone show that it passes them what they are to get, and hands on what they answer.
 //
-// Nothing here throws by itself, and all that is `noexcept` asks for no memory, but for `resolved`,
-// `join_within` and `way`, in which the library does: these answer refusal::no_memory if it gets
-// none.
-// What gives a std::string throws std::bad_alloc if the string can't grow. A std::string_view with
-// a null pointer is an empty path everywhere. What is found in a path are its own bytes, so that
-// they have to live as long as the answer. For threads see unix_path.h.
+// Nothing here throws by itself, and what is `noexcept` doesn't allocate. What gives a std::string
+// throws std::bad_alloc if the string can't grow. A std::string_view with a null pointer is an
+// empty path everywhere. What is found in a path are its own bytes, so that they have to live as
+// long as the answer. For threads and signal handlers see unix_path.h.
 #ifndef UNIX_PATH_HPP
 #define UNIX_PATH_HPP
 
@@ -70,8 +68,6 @@ enum class refusal {
     separator,
     /// The request has a root, or goes above where it starts; for join_plain, it has any `..`.
     escapes,
-    /// The library got no memory.
-    no_memory,
     /// The request has a NUL byte, at which a system call cuts it.
     nul_in_request,
     /// No path has these bytes as its key.
@@ -93,8 +89,6 @@ constexpr const char *name_of(refusal why) noexcept {
         return "separator";
     case refusal::escapes:
         return "escapes";
-    case refusal::no_memory:
-        return "no_memory";
     case refusal::nul_in_request:
         return "nul_in_request";
     case refusal::not_a_key:
@@ -278,7 +272,7 @@ class view {
 
     /// Returns true if this path's parts begin with those of base. `/dest/../etc` starts with
     /// `/dest`, so a join that starts with its root may lead out of it: join a path from outside by
-    /// `join_below` or `join_within`.
+    /// `join_below`.
     bool starts_with(view base) const noexcept {
         return unix_path_starts_with(data(), size(), base.data(), base.size());
     }
@@ -358,16 +352,8 @@ class view {
     result<std::string_view> canonical(buffer out) const noexcept;
     std::string to_string_lossy() const;
     result<std::string_view> to_string_lossy(buffer out) const noexcept;
-    /// refusal::no_memory if the library got none, which it asks for beside the string.
-    result<std::string> resolved() const;
+    std::string resolved() const;
     result<std::string_view> resolved(buffer out) const noexcept;
-    /// This path is the root, and is resolved too. refusal::escapes exactly if the request climbs,
-    /// and refusal::no_memory if the library got none, which it asks for beside the string. A
-    /// request with a NUL byte isn't refused, and `..\0` is a name. A system call reads a path only
-    /// up to its first NUL, so it may read the answer as the root's parent: it reads `/srv/..\0/a`,
-    /// the answer for `/srv` and `..\0/a`, as `/srv/..`. `join_below` refuses such a request.
-    result<std::string> join_within(view request) const;
-    result<std::string_view> join_within(view request, buffer out) const noexcept;
     /// This path is the root, and both stay as they are spelled, for roots that may contain links.
     /// refusal::escapes if and only if the request has a root or a `..`; otherwise
     /// refusal::nul_in_request if and only if it has a NUL byte; refusal::too_long.
@@ -376,12 +362,12 @@ class view {
     /// This path is the root, and stays as it is spelled; behind it stand the names that the
     /// request resolves to, with no slash at the end. refusal::escapes exactly if the request
     /// climbs and isn't read as a URL; else refusal::nul_in_request exactly if it has a NUL byte;
-    /// refusal::too_long.
+    /// refusal::too_long. To resolve the root's own `..` by names too, join below what `resolved`
+    /// gives of it.
     result<std::string> join_below(view request, reading how) const;
     result<std::string_view> join_below(view request, reading how, buffer out) const noexcept;
-    /// The way from this path to the other by names. refusal::no_way if no path without a root
-    /// leads there, and refusal::no_memory if the library got none, which it asks for beside the
-    /// string.
+    /// The way from this path to the other by names. refusal::no_way if and only if no path without
+    /// a root leads there; refusal::too_long.
     result<std::string> way(view to) const;
     result<std::string_view> way(view to, buffer out) const noexcept;
     /// The key by which a store that compares keys byte by byte keeps the path; unix_path.h says
@@ -722,7 +708,6 @@ inline refusal refusal_of(std::size_t answer) noexcept {
     switch (answer) {
     case UNIX_PATH_SEPARATOR: return refusal::separator;
     case UNIX_PATH_ESCAPES: return refusal::escapes;
-    case UNIX_PATH_NO_MEMORY: return refusal::no_memory;
     case UNIX_PATH_NUL_IN_REQUEST: return refusal::nul_in_request;
     case UNIX_PATH_NOT_A_KEY: return refusal::not_a_key;
     case UNIX_PATH_NO_END: return refusal::no_end;
@@ -794,11 +779,6 @@ inline auto to_string_lossy_call(view a) noexcept {
 inline auto resolved_call(view a) noexcept {
     return [a](char *out, std::size_t room) noexcept {
         return unix_path_resolved(a.data(), a.size(), out, room);
-    };
-}
-inline auto join_within_call(view a, view b) noexcept {
-    return [a, b](char *out, std::size_t room) noexcept {
-        return unix_path_join_within(a.data(), a.size(), b.data(), b.size(), out, room);
     };
 }
 inline auto join_plain_call(view a, view b) noexcept {
@@ -879,17 +859,11 @@ inline std::string view::to_string_lossy() const {
 inline result<std::string_view> view::to_string_lossy(buffer out) const noexcept {
     return detail::written(out, detail::to_string_lossy_call(*this));
 }
-inline result<std::string> view::resolved() const {
-    return detail::grown(size(), detail::resolved_call(*this));
+inline std::string view::resolved() const {
+    return *detail::grown(size(), detail::resolved_call(*this));
 }
 inline result<std::string_view> view::resolved(buffer out) const noexcept {
     return detail::written(out, detail::resolved_call(*this));
-}
-inline result<std::string> view::join_within(view request) const {
-    return detail::grown(detail::room_of(*this, request), detail::join_within_call(*this, request));
-}
-inline result<std::string_view> view::join_within(view request, buffer out) const noexcept {
-    return detail::written(out, detail::join_within_call(*this, request));
 }
 inline result<std::string> view::join_plain(view request) const {
     return detail::grown(detail::room_of(*this, request), detail::join_plain_call(*this, request));

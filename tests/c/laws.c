@@ -50,7 +50,7 @@ static void room_for_one(view path) {
 static void room_for_two(view a, view b) {
     static const call_of_two calls[] = {unix_path_join, unix_path_with_file_name,
                                         unix_path_with_extension, unix_path_with_added_extension,
-                                        unix_path_join_within, unix_path_join_plain};
+                                        unix_path_join_plain};
     uint8_t out[16];
     size_t room = a.length + 1 + b.length;
     for (size_t at = 0; at < sizeof calls / sizeof *calls; at++) {
@@ -144,24 +144,25 @@ static void nothing_beside_is_read(void) {
     each_string("/.a\xE2\x82", 4, call_fenced);
 }
 
-// A request is refused below a root exactly if it climbs, and if it isn't read as that of a URL. If
-// it doesn't climb, the join below the resolved root is the join within.
+// A request that isn't read as that of a URL is refused if and only if it climbs. If it doesn't
+// climb, the join below the resolved root is the resolved join.
 static void joins_below(view root, view request, bool climbs) {
-    uint8_t resolved[16], below[16], within[16];
+    uint8_t resolved[16], below[16], other[16], wanted[16];
     size_t length = unix_path_resolved(root.bytes, root.length, resolved, sizeof resolved);
     size_t strict = unix_path_join_below(resolved, length, request.bytes, request.length, false,
                                          below, sizeof below);
     CHECK((strict == UNIX_PATH_ESCAPES) == climbs, "escapes below");
     size_t as_url = unix_path_join_below(resolved, length, request.bytes, request.length, true,
-                                         within, sizeof within);
+                                         other, sizeof other);
     CHECK(as_url <= length + 1 + request.length, "as a URL");
     if (climbs) {
         return;
     }
-    CHECK(same_bytes((view){below, strict}, (view){within, as_url}), "both readings");
-    size_t joined = unix_path_join_within(root.bytes, root.length, request.bytes, request.length,
-                                          within, sizeof within);
-    CHECK(same_bytes((view){below, strict}, (view){within, joined}), "below and within");
+    CHECK(same_bytes((view){below, strict}, (view){other, as_url}), "both readings");
+    size_t joined = unix_path_join(root.bytes, root.length, request.bytes, request.length, other,
+                                   sizeof other);
+    length = unix_path_resolved(other, joined, wanted, sizeof wanted);
+    CHECK(same_bytes((view){below, strict}, (view){wanted, length}), "resolved join");
 }
 
 // Whether the root or a `..` is among the parts.
@@ -221,7 +222,6 @@ static void pair_with(view path) {
         CHECK(unix_path_equal(first.bytes, first.length, a.bytes, a.length), "rejoined");
     }
     bool climbs = unix_path_climbs(b.bytes, b.length);
-    CHECK(add_two(&second, unix_path_join_within, a, b) == !climbs, "escapes");
     CHECK(add_two(&second, unix_path_join_plain, a, b) == !has_root_or_up(b), "root or up");
     joins_below(a, b, climbs);
     way_leads(a, b);

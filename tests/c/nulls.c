@@ -101,9 +101,6 @@ static void written_of_nothing(void) {
     write_both(unix_path_with_extension, name, none, view_of("a"));
     write_both(unix_path_with_added_extension, none, name, nothing);
     write_both(unix_path_with_added_extension, name, none, name);
-    write_both(unix_path_join_within, none, none, nothing);
-    write_both(unix_path_join_within, none, name, name);
-    write_both(unix_path_join_within, name, none, name);
     write_both(unix_path_join_plain, none, none, nothing);
     write_both(unix_path_join_plain, none, name, name);
     write_both(unix_path_join_plain, name, none, view_of("a.b/"));
@@ -124,7 +121,6 @@ static void lengths(void) {
     CHECK(!unix_path_is_length(UNIX_PATH_TOO_LONG), "no buffer");
     CHECK(!unix_path_is_length(UNIX_PATH_SEPARATOR) && !unix_path_is_length(UNIX_PATH_ESCAPES),
           "refusals");
-    CHECK(!unix_path_is_length(UNIX_PATH_NO_MEMORY), "refusals");
     CHECK(!unix_path_is_length(UNIX_PATH_NUL_IN_REQUEST), "refusals");
     CHECK(!unix_path_is_length(UNIX_PATH_NO_WAY), "refusals");
     CHECK(unix_path_refusal(0) == NULL && unix_path_refusal((size_t)PTRDIFF_MAX) == NULL, "names");
@@ -132,7 +128,6 @@ static void lengths(void) {
     CHECK(strcmp(unix_path_refusal(SIZE_MAX), "UNIX_PATH_TOO_LONG") == 0, "no buffer");
     CHECK(strcmp(unix_path_refusal(UNIX_PATH_SEPARATOR), "UNIX_PATH_SEPARATOR") == 0, "names");
     CHECK(strcmp(unix_path_refusal(UNIX_PATH_ESCAPES), "UNIX_PATH_ESCAPES") == 0, "names");
-    CHECK(strcmp(unix_path_refusal(UNIX_PATH_NO_MEMORY), "UNIX_PATH_NO_MEMORY") == 0, "names");
     CHECK(strcmp(unix_path_refusal(UNIX_PATH_NUL_IN_REQUEST), "UNIX_PATH_NUL_IN_REQUEST") == 0,
           "names");
     CHECK(strcmp(unix_path_refusal(UNIX_PATH_NOT_A_KEY), "UNIX_PATH_NOT_A_KEY") == 0, "names");

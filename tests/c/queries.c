@@ -119,8 +119,8 @@ static void joins_that_climb(void) {
     CHECK(unix_path_starts_with(out, length, root.bytes, root.length), "a part like a name");
     CHECK(unix_path_join_below(root.bytes, root.length, request.bytes, request.length, false, out,
                                sizeof out) == UNIX_PATH_ESCAPES, "below");
-    CHECK(unix_path_join_within(root.bytes, root.length, request.bytes, request.length, out,
-                                sizeof out) == UNIX_PATH_ESCAPES, "within");
+    CHECK(unix_path_join_plain(root.bytes, root.length, request.bytes, request.length, out,
+                               sizeof out) == UNIX_PATH_ESCAPES, "plain");
 }
 
 static void truths(void) {

@@ -25,9 +25,6 @@ static const struct {
     {NULL, unix_path_with_added_extension, "a/.b", "c.d", "a/.b.c.d"},
     {NULL, unix_path_with_added_extension, "foo/", "", "foo/"},
     {NULL, unix_path_with_added_extension, "foo/..", "bar", "foo/.."},
-    {NULL, unix_path_join_within, "/srv/www", "a/../b", "/srv/www/b"},
-    {NULL, unix_path_join_within, "..//root/.", "x//y/.", "../root/x/y"},
-    {NULL, unix_path_join_within, "", "", ""},
     {NULL, unix_path_join_plain, "/srv/../www", "./a", "/srv/../www/./a"},
     {NULL, unix_path_join_plain, "/srv", "a//b/", "/srv/a//b/"},
     {NULL, unix_path_join_plain, "", "..a", "..a"},
@@ -114,8 +111,8 @@ static void refusals(void) {
         CHECK(unix_path_with_added_extension(path.bytes, path.length, extension.bytes,
                                              extension.length, memory, room)
               == UNIX_PATH_SEPARATOR, "room %zu", room);
-        CHECK(unix_path_join_within(path.bytes, path.length, request.bytes, request.length,
-                                    memory, room) == UNIX_PATH_ESCAPES, "room %zu", room);
+        CHECK(unix_path_join_below(path.bytes, path.length, request.bytes, request.length, false,
+                                   memory, room) == UNIX_PATH_ESCAPES, "room %zu", room);
         CHECK(unix_path_way(path.bytes, path.length, ups[0], 1, memory, room)
               == UNIX_PATH_NO_WAY, "room %zu", room);
         CHECK(unix_path_way(ups[2], 2, path.bytes, path.length, memory, room)
@@ -129,10 +126,9 @@ static void refusals(void) {
     }
 }
 
-// Joins of two paths in which a NUL may stand, and what they answer: bytes, or a refusal if `bytes`
-// is NULL.
+// Joins as they stand of two paths in which a NUL may stand, and what they answer: bytes, or a
+// refusal if `bytes` is NULL.
 static const struct {
-    call_of_two call;
     const char *root;
     size_t root_length;
     const char *request;
@@ -140,14 +136,12 @@ static const struct {
     const char *bytes;
     size_t answer;
 } nuls[] = {
-    {unix_path_join_within, "/srv", 4, "..\0/a", 5, "/srv/..\0/a", 10},
-    {unix_path_join_plain, "/s\0v/..", 7, "a", 1, "/s\0v/../a", 9},
-    {unix_path_join_plain, "/srv", 4, "..\0/a", 5, NULL, UNIX_PATH_NUL_IN_REQUEST},
-    {unix_path_join_plain, "", 0, "\0", 1, NULL, UNIX_PATH_NUL_IN_REQUEST},
-    {unix_path_join_plain, "/srv", 4, "a/name/of/32/bytes.and/more.png\0", 32, NULL,
-     UNIX_PATH_NUL_IN_REQUEST},
-    {unix_path_join_plain, "/srv", 4, "/\0", 2, NULL, UNIX_PATH_ESCAPES},
-    {unix_path_join_plain, "/srv", 4, "a\0/..", 5, NULL, UNIX_PATH_ESCAPES},
+    {"/s\0v/..", 7, "a", 1, "/s\0v/../a", 9},
+    {"/srv", 4, "..\0/a", 5, NULL, UNIX_PATH_NUL_IN_REQUEST},
+    {"", 0, "\0", 1, NULL, UNIX_PATH_NUL_IN_REQUEST},
+    {"/srv", 4, "a/name/of/32/bytes.and/more.png\0", 32, NULL, UNIX_PATH_NUL_IN_REQUEST},
+    {"/srv", 4, "/\0", 2, NULL, UNIX_PATH_ESCAPES},
+    {"/srv", 4, "a\0/..", 5, NULL, UNIX_PATH_ESCAPES},
 };
 
 static void joins_with_nuls(void) {
@@ -155,8 +149,9 @@ static void joins_with_nuls(void) {
         for (size_t room = 0; room <= 16; room++) {
             uint8_t memory[16];
             memset(memory, 0xA5, sizeof memory);
-            size_t answer = nuls[row].call(nuls[row].root, nuls[row].root_length,
-                                           nuls[row].request, nuls[row].length, memory, room);
+            size_t answer = unix_path_join_plain(nuls[row].root, nuls[row].root_length,
+                                                 nuls[row].request, nuls[row].length, memory,
+                                                 room);
             CHECK(answer == nuls[row].answer, "row %zu, room %zu", row, room);
             view written = view_of("");
             if (room >= nuls[row].answer) {

@@ -16,10 +16,10 @@ bool misuse(const std::string &path);
 bool misuse(const std::string &path) {
     unix_path::view view = path;
 #if MISUSE == 1  // the answer isn't looked at
-    view.resolved();
+    view.way("b");
 #elif MISUSE == 2  // a view of a string that is gone
     unix_path::view gone = path + "/b";
     view = gone;
 #endif
-    return view.resolved().has_value();
+    return view.way("b").has_value();
 }

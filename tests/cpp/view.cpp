@@ -71,7 +71,7 @@ static_assert(!std::is_constructible_v<view, std::nullptr_t>);
 static_assert(!std::is_convertible_v<view, std::string_view>, "bytes are compared by `bytes()`");
 static_assert(view("a/b").size() == 3 && view().empty() && view("a\0b"sv).has_nul());
 static_assert(std::is_nothrow_invocable_v<unix_path::less, std::string, view>);
-static_assert(noexcept(view().join_within(view(), std::declval<buffer>())));
+static_assert(noexcept(view().join_below(view(), reading::as_path, std::declval<buffer>())));
 static_assert(noexcept(view().join_plain(view(), std::declval<buffer>())));
 static_assert(noexcept(view().parent()) && noexcept(view().compare(view())));
 static_assert(!std::is_constructible_v<buffer, const std::string &>);
@@ -154,7 +154,7 @@ void joins_that_climb() {
     CHECK(view("/dest/../etc").starts_with("/dest"));
     CHECK(view("/dest/../etc").strip_prefix("/dest")->bytes() == "../etc");
     CHECK(view("/dest").join_below("../etc", reading::as_path).why() == refusal::escapes);
-    CHECK(view("/dest").join_within("../etc").why() == refusal::escapes);
+    CHECK(view("/dest").join_plain("../etc").why() == refusal::escapes);
 }
 
 void comparisons() {
@@ -178,20 +178,16 @@ void written_strings() {
     CHECK(*view("a.tar").with_added_extension("gz") == "a.tar.gz");
     CHECK(view("a.rs").with_added_extension("x/y").why() == refusal::separator);
     CHECK(view(".//a/./b/").canonical() == "./a/b" && view("a\xFF").to_string_lossy() == "a\uFFFD");
-    CHECK(*view("a/../..//b/.").resolved() == "../b" && view("a/..").resolved()->empty());
-    CHECK(*view("/srv").join_within("a/../b") == "/srv/b");
-    CHECK(view("/srv").join_within("../b").why() == refusal::escapes);
+    CHECK(view("a/../..//b/.").resolved() == "../b" && view("a/..").resolved().empty());
     CHECK(*view("/srv/..").join_plain("./a") == "/srv/.././a");
     CHECK(view("/srv").join_plain("a/../b").why() == refusal::escapes);
     CHECK(view("/srv").join_plain("..\0/a"sv).why() == refusal::nul_in_request);
     CHECK(*view("/s\0v"sv).join_plain("a") == "/s\0v/a"sv);
-    CHECK(*view("/srv").join_within("..\0/a"sv) == "/srv/..\0/a"sv);
     CHECK(*view("/a/b/c").way("/a/d") == "../../d" && view("a//b").way("a/b")->empty());
     CHECK(view("../x").way("y").why() == refusal::no_way);
     CHECK(unix_path::name_of(*view("../x").way("y").why()) == "no_way"sv);
     CHECK(unix_path::name_of(refusal::separator) == "separator"sv);
     CHECK(unix_path::name_of(refusal::escapes) == "escapes"sv);
-    CHECK(unix_path::name_of(refusal::no_memory) == "no_memory"sv);
     CHECK(unix_path::name_of(refusal::nul_in_request) == "nul_in_request"sv);
     CHECK(unix_path::name_of(refusal::not_a_key) == "not_a_key"sv);
     CHECK(unix_path::name_of(refusal::no_end) == "no_end"sv);
@@ -209,10 +205,10 @@ void written_strings() {
     CHECK(unix_path::from_key("a").why() == refusal::not_a_key);
     CHECK(*unix_path::key_end("a\0"sv) == "a\1" && unix_path::key_end("").why() == refusal::no_end);
     CHECK(unix_path::key_end("a").why() == refusal::not_a_key);
-    CHECK(view("/srv").join_within("..").value_or("none") == "none");
-    CHECK(view("/srv").join_within("a").value_or("none") == "/srv/a");
-    CHECK(!view("/srv").join_within("a").why() && view("/srv").join_within("a")->size() == 6);
-    std::string taken = view("/srv").join_within("a").value_or("") + *view("b/..").resolved();
+    CHECK(view("/srv").join_plain("..").value_or("none") == "none");
+    CHECK(view("/srv").join_plain("a").value_or("none") == "/srv/a");
+    CHECK(!view("/srv").join_plain("a").why() && view("/srv").join_plain("a")->size() == 6);
+    std::string taken = view("/srv/").join_plain("a").value_or("") + *view("b").way("b");
     CHECK(taken == "/srv/a");
 }
 
@@ -448,7 +444,6 @@ void buffers() {
                          [=](buffer out) { return a.with_extension(b.bytes(), out); });
             in_each_room(a.with_added_extension(b.bytes()),
                          [=](buffer out) { return a.with_added_extension(b.bytes(), out); });
-            in_each_room(a.join_within(b), [=](buffer out) { return a.join_within(b, out); });
             in_each_room(a.join_plain(b), [=](buffer out) { return a.join_plain(b, out); });
             in_each_room(a.way(b), [=](buffer out) { return a.way(b, out); });
             in_each_room(a.join_below(b, how),
@@ -482,13 +477,12 @@ void null_views() {
     CHECK(!walk.next() && !walk.next_back() && walk.rest().empty());
     CHECK(none.join(none).empty() && none.join("a") == "a" && view("a").join(none) == "a/"sv);
     CHECK(none.with_file_name(none).empty() && none.with_extension({})->empty());
-    CHECK(none.canonical().empty() && none.to_string_lossy().empty() && none.resolved()->empty());
-    CHECK(none.join_within(none)->empty() && none.join_below(none, reading::as_path)->empty());
+    CHECK(none.canonical().empty() && none.to_string_lossy().empty() && none.resolved().empty());
+    CHECK(none.join_below(none, reading::as_path)->empty());
     CHECK(none.join(none, room)->empty() && none.with_file_name(none, room)->empty());
     CHECK(none.with_added_extension({})->empty() && none.with_added_extension({}, room)->empty());
     CHECK(none.with_extension({}, room)->empty() && none.canonical(room)->empty());
     CHECK(none.to_string_lossy(room)->empty() && none.resolved(room)->empty());
-    CHECK(none.join_within(none, room)->empty());
     CHECK(none.way(none)->empty() && none.way(none, room)->empty());
     CHECK(none.join_plain(none)->empty() && none.join_plain(none, room)->empty());
     CHECK(none.join_below(none, reading::as_url, room)->empty());
@@ -533,15 +527,16 @@ void memory() {
     }
     CHECK(a.join(b, out) && a.with_file_name(b, out) && a.with_extension(".x", out));
     CHECK(a.with_added_extension(".x", out) && a.is_canonical());
-    CHECK(a.canonical(out) && a.to_string_lossy(out) && a.resolved(out) && a.join_within(b, out));
+    CHECK(a.canonical(out) && a.to_string_lossy(out) && a.resolved(out) && a.way("/a/b", out));
     CHECK(a.join_plain("c", out) && a.join_plain(b, out).why() == refusal::escapes);
     CHECK(a.join_below(b, reading::as_path, out) && a == a && a <= a && !b.climbs() && length > 0);
     CHECK(a.strip_prefix("/a/root")->file_name() == "be" && a.common_dir(b) == 0);
     CHECK(requests == before);
     const std::string joined = a.join(b), canonical = a.canonical(), text = a.to_string_lossy();
     CHECK(requests == before + 3);
-    const auto within = a.join_within(b), below = a.join_below(b, reading::as_path);
-    CHECK(requests == before + 5 && *within == root + "/b.c" && *below == *within);
+    const std::string resolved = a.resolved();
+    const auto below = a.join_below(b, reading::as_path);
+    CHECK(requests == before + 5 && resolved == root && *below == root + "/b.c");
 }
 
 // Whether a child that looks at what isn't there is ended by std::terminate.
@@ -559,13 +554,13 @@ bool ends_program(void (*look)()) {
 }
 
 void looked_at_refusals() {
-    CHECK(ends_program([] { std::puts((*view("a").join_within("..")).c_str()); }));
-    CHECK(ends_program([] { std::puts(view("a").join_within("..")->c_str()); }));
+    CHECK(ends_program([] { std::puts((*view("a").join_plain("..")).c_str()); }));
+    CHECK(ends_program([] { std::puts(view("a").join_plain("..")->c_str()); }));
     CHECK(ends_program([] {
         const auto refused = view("a").with_extension("/");
         std::puts((*refused).c_str());
     }));
-    CHECK(!ends_program([] { (void)view("a").join_within("..").why(); }));
+    CHECK(!ends_program([] { (void)view("a").join_plain("..").why(); }));
 }
 
 }  // namespace

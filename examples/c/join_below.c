@@ -1,7 +1,7 @@
 /* Reads requests, one a line, and prints what each names below the root /srv.
  *
- *   cc join_within.c $(pkg-config --cflags --libs unix_path) -o join_within
- *   printf '%s\n' a/../b ../etc/passwd | ./join_within     prints  /srv/b  refused
+ *   cc join_below.c $(pkg-config --cflags --libs unix_path) -o join_below
+ *   printf '%s\n' a/../b ../etc/passwd | ./join_below     prints  /srv/b  refused
  */
 #define _POSIX_C_SOURCE 200809L
 #include <stdio.h>
@@ -13,11 +13,10 @@
 static void answer(const char *root, const char *request, size_t request_length) {
     char out[64];
     size_t room = sizeof out - 1;
-    size_t length = unix_path_join_within(root, strlen(root), request, request_length, out, room);
-    if (length == UNIX_PATH_ESCAPES || !unix_path_is_c_string(request, request_length)) {
+    size_t length = unix_path_join_below(root, strlen(root), request, request_length, false, out,
+                                         room);
+    if (!unix_path_is_length(length)) {
         puts("refused");
-    } else if (!unix_path_is_length(length)) {
-        puts("out of memory");
     } else if (length > room) {
         puts("too long");
     } else {
