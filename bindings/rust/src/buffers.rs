@@ -1,7 +1,7 @@
 //! Paths that are made of others, in a buffer that the caller passes.
 //!
 //! The answer stands at the beginning of the buffer, and the bytes behind it stay as they were. If
-//! a call fails, nothing is written.
+//! a call fails, nothing is written. None allocates.
 use crate::error::Error;
 use crate::ffi::{Make, MakeOfTwo};
 
@@ -110,9 +110,8 @@ pub fn to_string_lossy<'o>(path: &[u8], out: &'o mut [u8]) -> Result<&'o [u8], E
 /// in front. An answer of no bytes stands for the current directory.
 ///
 /// It goes by names alone: if a part before a `..` may be a link, only the system knows where that
-/// `..` leads. It has at most as many bytes as the path. Allocates once, as many bytes as the path
-/// has, or not at all for the empty path, and frees what it allocates. Fails with `NoMemory` if the
-/// allocation failed, and with `Short`. Not in Rust's std.
+/// `..` leads. It has at most as many bytes as the path. Fails only with `Short`. Does not allocate.
+/// Not in Rust's std.
 ///
 /// ```
 /// let mut out = [0; 16];
@@ -122,31 +121,6 @@ pub fn to_string_lossy<'o>(path: &[u8], out: &'o mut [u8]) -> Result<&'o [u8], E
 #[inline]
 pub fn resolved<'o>(path: &[u8], out: &'o mut [u8]) -> Result<&'o [u8], Error> {
     Make::RESOLVED.write(path, out)
-}
-
-/// The request joined to the root, and resolved, so that it stays under the resolved root.
-///
-/// Fails with `Escapes` exactly if the request [climbs](crate::climbs), before anything is
-/// allocated. Else it allocates once, one byte more than both paths have, and frees what it
-/// allocates; it fails with `NoMemory` if the allocation failed, and with `Short`. It is lexical:
-/// if a part of the root or of the request may be a link, use [`join_plain`], and let the system
-/// refuse links. Not in Rust's std.
-///
-/// A request with a NUL byte isn't refused, and `..\0` is a name. A system call reads a path only
-/// up to its first NUL, so it may read the answer as the root's parent: it reads `/srv/..\0/a`, the
-/// answer for `/srv` and `..\0/a`, as `/srv/..`. [`Request::new`](crate::Request::new) and
-/// [`Request::below`](crate::Request::below), whose requests `join_below` joins, refuse a NUL.
-///
-/// ```
-/// use unix_path_rattle::{join_within, Error};
-/// let mut out = [0; 16];
-/// assert_eq!(join_within(b"/srv/www", b"a/../b", &mut out), Ok(&b"/srv/www/b"[..]));
-/// assert_eq!(join_within(b"/srv/www", b"a/../../x", &mut out), Err(Error::Escapes));
-/// assert_eq!(join_within(b"/srv", b"..\0/a", &mut out), Ok(&b"/srv/..\0/a"[..]));
-/// ```
-#[inline]
-pub fn join_within<'o>(root: &[u8], request: &[u8], out: &'o mut [u8]) -> Result<&'o [u8], Error> {
-    MakeOfTwo::JOIN_WITHIN.write(root, request, out)
 }
 
 /// The request joined to the root, both verbatim, so that it only goes down from the root by its
@@ -174,10 +148,9 @@ pub fn join_plain<'o>(root: &[u8], request: &[u8], out: &'o mut [u8]) -> Result<
 /// other. A way of no bytes stands for the current directory.
 ///
 /// It goes by names alone: if a part may be a link, only the system knows where `..` leads. Fails
-/// with `NoWay` if one path has a root and the other has none, or if a `..` is left of the first:
-/// then no path without a root leads there. Allocates the way, once, or not at all if that is
-/// empty, and before that each path that isn't resolved as it stands, and frees what it allocates;
-/// fails with `NoMemory` if an allocation failed, and with `Short`. Not in Rust's std.
+/// with `NoWay` if and only if one path has a root and the other has none, or a `..` is left of the
+/// first: then no path without a root leads there; and with `Short`. Does not allocate. Not in
+/// Rust's std.
 ///
 /// ```
 /// use unix_path_rattle::{way, Error};

@@ -25,7 +25,6 @@ fn refusal(answer: usize) -> Error {
     match answer {
         SEPARATOR => Error::Separator,
         ESCAPES => Error::Escapes,
-        NO_MEMORY => Error::NoMemory,
         NUL_IN_REQUEST => Error::Nul,
         NOT_A_KEY => Error::NotAKey,
         NO_WAY => Error::NoWay,
@@ -332,7 +331,6 @@ impl MakeOfTwo {
     pub const WITH_FILE_NAME: MakeOfTwo = MakeOfTwo(unix_path_with_file_name);
     pub const WITH_EXTENSION: MakeOfTwo = MakeOfTwo(unix_path_with_extension);
     pub const WITH_ADDED_EXTENSION: MakeOfTwo = MakeOfTwo(unix_path_with_added_extension);
-    pub const JOIN_WITHIN: MakeOfTwo = MakeOfTwo(unix_path_join_within);
     pub const JOIN_PLAIN: MakeOfTwo = MakeOfTwo(unix_path_join_plain);
     pub const WAY: MakeOfTwo = MakeOfTwo(unix_path_way);
 

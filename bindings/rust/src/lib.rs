@@ -16,8 +16,9 @@
 //! ```
 //!
 //! With the feature `alloc` the calls of [`owned`] give a `Vec<u8>`, and those of [`edits`] change
-//! one; with `std`, the default, those of [`os`] take and give `Path` and `OsStr` on Unix. No call
-//! panics, and a failed allocation is an error, [`Error::NoMemory`].
+//! one; with `std`, the default, those of [`os`] take and give `Path` and `OsStr` on Unix. Only
+//! these allocate, and the library never does. No call panics, and a failed allocation is an error,
+//! [`Error::NoMemory`].
 //!
 //! The crate `unix_path_typed` beside this one has the types and names of Rust's `Path`.
 //!
@@ -65,7 +66,7 @@ mod request;
 mod walks;
 
 pub use buffers::{
-    canonical, join, join_plain, join_within, resolved, to_string_lossy, way, with_added_extension,
+    canonical, join, join_plain, resolved, to_string_lossy, way, with_added_extension,
     with_extension, with_file_name,
 };
 pub use by_parts::ByParts;

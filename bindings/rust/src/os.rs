@@ -291,18 +291,6 @@ pub fn resolved(path: impl AsRef<Path>) -> Result<PathBuf, Error> {
     owned::resolved(bytes(&path)).map(path_buf)
 }
 
-/// As [`owned::join_within`].
-///
-/// ```
-/// # use std::path::Path;
-/// use unix_path_rattle::{os::join_within, Error};
-/// assert_eq!(join_within("/srv/www", "a/../b").unwrap(), Path::new("/srv/www/b"));
-/// assert_eq!(join_within("/srv/www", "../b"), Err(Error::Escapes));
-/// ```
-pub fn join_within(root: impl AsRef<Path>, request: impl AsRef<Path>) -> Result<PathBuf, Error> {
-    owned::join_within(bytes(&root), bytes(&request)).map(path_buf)
-}
-
 /// As [`owned::join_plain`].
 ///
 /// ```

@@ -119,19 +119,6 @@ pub fn resolved(path: &[u8]) -> Result<Vec<u8>, Error> {
     vec_of(path.len(), |bytes| Make::RESOLVED.fill(path, bytes))
 }
 
-/// As [`join_within`](crate::join_within), in memory of its own.
-///
-/// ```
-/// use unix_path_rattle::{owned, Error};
-/// assert_eq!(owned::join_within(b"/srv/www", b"a/../b").unwrap(), b"/srv/www/b");
-/// assert_eq!(owned::join_within(b"/srv/www", b"/etc"), Err(Error::Escapes));
-/// ```
-pub fn join_within(root: &[u8], request: &[u8]) -> Result<Vec<u8>, Error> {
-    vec_of(root.len() + 1 + request.len(), |bytes| {
-        MakeOfTwo::JOIN_WITHIN.fill(root, request, bytes)
-    })
-}
-
 /// As [`join_plain`](crate::join_plain), in memory of its own.
 ///
 /// ```

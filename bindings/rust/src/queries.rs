@@ -125,7 +125,7 @@ pub fn file_prefix(path: &[u8]) -> Option<&[u8]> {
 /// path.
 ///
 /// What follows may climb, as `../etc` does below. To keep a path below a directory, use
-/// [`Request::join_below`](crate::Request::join_below) or [`join_within`](crate::join_within).
+/// [`Request::join_below`](crate::Request::join_below).
 ///
 /// ```
 /// assert_eq!(unix_path_rattle::strip_prefix(b"/a//b/", b"/a"), Some(&b"b"[..]));
@@ -141,8 +141,7 @@ pub fn strip_prefix<'a>(path: &'a [u8], base: &[u8]) -> Option<&'a [u8]> {
 /// Whether the parts of `base` begin those of `path`. As Rust's `Path::starts_with`.
 ///
 /// A path that starts with a directory may still leave it, since no `..` is resolved. To keep a
-/// path below a directory, use [`Request::join_below`](crate::Request::join_below) or
-/// [`join_within`](crate::join_within).
+/// path below a directory, use [`Request::join_below`](crate::Request::join_below).
 ///
 /// ```
 /// assert!(unix_path_rattle::starts_with(b"/etc//passwd", b"/etc/"));

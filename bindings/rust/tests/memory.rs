@@ -44,7 +44,6 @@ fn it_is_an_error() {
         owned::with_file_name,
         owned::with_extension,
         owned::with_added_extension,
-        owned::join_within,
         owned::join_plain,
         owned::way,
     ];

@@ -4,28 +4,29 @@
 //! prints each with the file that it names, that there is none, or that it was refused. Requests
 //! are taken by names alone: no link below the folder may lead out of it.
 use std::env;
-use std::ffi::OsStr;
 use std::fs;
 use std::io::{self, BufRead, Write};
-use std::os::unix::ffi::OsStrExt;
 use std::path::Path;
 use std::process::ExitCode;
-use unix_path_rattle::os::join_within;
-use unix_path_rattle::Error;
+use unix_path_rattle::os::join_below;
+use unix_path_rattle::Request;
 
 /// The file that the request names below the folder, if there is one.
-fn look_up(folder: &Path, request: &[u8]) -> Result<Option<Vec<u8>>, Error> {
-    let path = join_within(folder, OsStr::from_bytes(request))?;
+fn look_up(folder: &Path, request: Request<'_>) -> io::Result<Option<Vec<u8>>> {
+    let path = join_below(folder, request)?;
     Ok(fs::read(path).ok())
 }
 
 /// Writes the request, and the answer to it.
 fn answer(folder: &Path, request: &[u8], output: &mut impl Write) -> io::Result<()> {
     output.write_all(&[b"== ", request, b"\n"].concat())?;
-    match look_up(folder, request) {
-        Ok(Some(bytes)) => output.write_all(&bytes),
-        Ok(None) => writeln!(output, "not found"),
-        Err(error) => writeln!(output, "refused: {error}"),
+    let request = match Request::new(request) {
+        Ok(request) => request,
+        Err(error) => return writeln!(output, "refused: {error}"),
+    };
+    match look_up(folder, request)? {
+        Some(bytes) => output.write_all(&bytes),
+        None => writeln!(output, "not found"),
     }
 }
 

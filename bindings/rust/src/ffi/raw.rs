@@ -89,8 +89,6 @@ extern "C" {
         out_length: usize) -> usize;
     pub fn unix_path_resolved(path: Start, path_length: usize, out: *mut u8, out_length: usize)
         -> usize;
-    pub fn unix_path_join_within(root: Start, root_length: usize, request: Start,
-        request_length: usize, out: *mut u8, out_length: usize) -> usize;
     pub fn unix_path_join_plain(root: Start, root_length: usize, request: Start,
         request_length: usize, out: *mut u8, out_length: usize) -> usize;
     pub fn unix_path_join_below(root: Start, root_length: usize, request: Start,
@@ -108,12 +106,9 @@ extern "C" {
 /// What `unix_path_with_extension` and `unix_path_with_added_extension` answer for an extension with
 /// a slash.
 pub const SEPARATOR: usize = usize::MAX - 6;
-/// What `unix_path_join_within` and `unix_path_join_below` answer for a request that climbs, and
-/// `unix_path_join_plain` for one with a root or a `..`.
+/// What `unix_path_join_below` answers for a request that climbs, and `unix_path_join_plain` for one
+/// with a root or a `..`.
 pub const ESCAPES: usize = usize::MAX - 1;
-/// What `unix_path_resolved`, `unix_path_join_within` and `unix_path_way` answer if an allocation
-/// failed.
-pub const NO_MEMORY: usize = usize::MAX - 2;
 /// What `unix_path_join_below` and `unix_path_join_plain` answer for a request with a NUL byte that
 /// they don't refuse as `ESCAPES`.
 pub const NUL_IN_REQUEST: usize = usize::MAX - 3;

@@ -88,7 +88,7 @@ fn of_one_path_or_key() {
 
 #[test]
 fn of_two() {
-    let rows: [RowOfTwo; 31] = [
+    let rows: [RowOfTwo; 27] = [
         (paths::join, b"a", b"b", b"a/b"),
         (paths::join, b"a/", b"b", b"a/b"),
         (paths::join, b"a", b"/b", b"/b"),
@@ -113,10 +113,6 @@ fn of_two() {
         (paths::with_added_extension, b"a/..foo", b"", b"a/..foo"),
         (paths::with_added_extension, b"a/", b"", b"a/"),
         (paths::with_added_extension, b"a/..", b"d", b"a/.."),
-        (paths::join_within, b"/srv/www", b"a/../b", b"/srv/www/b"),
-        (paths::join_within, b"/srv/../www", b"", b"/www"),
-        (paths::join_within, b"", b"a/..", b""),
-        (paths::join_within, b"../x", b"./y", b"../x/y"),
         (paths::join_plain, b"/srv/..", b"./a", b"/srv/.././a"),
         (paths::join_plain, b"/srv", b"", b"/srv/"),
         (paths::join_plain, b"", b"a//..b/", b"a//..b/"),
@@ -161,8 +157,6 @@ fn refusals_write_nothing() {
         |out| paths::with_extension(b"..", b"/", out),
         Error::Separator,
     );
-    in_no_room(|out| paths::join_within(b"/a", b"..", out), Error::Escapes);
-    in_no_room(|out| paths::join_within(b"/a", b"/a", out), Error::Escapes);
     in_no_room(
         |out| paths::with_added_extension(b"..", b"/", out),
         Error::Separator,

@@ -65,21 +65,22 @@ fn plain_join(root: &[u8], request: &[u8]) -> Result<Vec<u8>, Error> {
     owned::join(root, request)
 }
 
+/// A join below a resolved root is the resolved join, and starts with that root.
 #[test]
-fn joined_within() {
+fn joined_below_resolved() {
     let strings = over(b"/.a", 5);
     for root in &strings {
-        for request in &strings {
-            let joined = owned::join_within(root, request);
-            assert_eq!(owned::join_plain(root, request), plain_join(root, request));
-            if climbs(request) {
-                assert_eq!(joined, Err(Error::Escapes));
+        let resolved = owned::resolved(root).unwrap();
+        for path in &strings {
+            assert_eq!(owned::join_plain(root, path), plain_join(root, path));
+            let Ok(request) = Request::new(path) else {
+                assert!(climbs(path));
                 continue;
-            }
-            let joined = joined.unwrap();
-            let plain = owned::join(root, request).unwrap();
+            };
+            let joined = owned::join_below(&resolved, request).unwrap();
+            let plain = owned::join(root, path).unwrap();
             assert_eq!(joined, spelling(&kept_parts(&plain)));
-            assert!(starts_with(&joined, &owned::resolved(root).unwrap()));
+            assert!(starts_with(&joined, &resolved) && !climbs(path));
         }
     }
 }
@@ -160,19 +161,26 @@ fn bad_requests() {
         b"..",
         b"../",
     ];
-    for request in refused {
-        assert_eq!(owned::join_within(b"/www", request), Err(Error::Escapes));
+    for path in refused {
+        let want = match path[0] {
+            b'/' => RequestError::Rooted,
+            _ => RequestError::Climbs,
+        };
+        assert_eq!(Request::new(path).unwrap_err(), want);
     }
-    let kept: [(&[u8], &[u8]); 6] = [
+    let with_nul: [&[u8]; 2] = [b"..\0/etc", b"a\0/../etc"];
+    for path in with_nul {
+        assert_eq!(Request::new(path).unwrap_err(), RequestError::Nul);
+    }
+    let kept: [(&[u8], &[u8]); 4] = [
         (b"..%2f..%2fetc/passwd", b"/www/..%2f..%2fetc/passwd"),
         (b"....//....//etc", b"/www/..../..../etc"),
         (b"..\\..\\etc", b"/www/..\\..\\etc"),
-        (b"..\0/etc", b"/www/..\0/etc"),
-        (b"a\0/../etc", b"/www/etc"),
         (b"\xC0\xAE\xC0\xAE/etc", b"/www/\xC0\xAE\xC0\xAE/etc"),
     ];
-    for (request, want) in kept {
-        assert_eq!(owned::join_within(b"/www", request).as_deref(), Ok(want));
+    for (path, want) in kept {
+        let request = Request::new(path).unwrap();
+        assert_eq!(owned::join_below(b"/www", request).as_deref(), Ok(want));
     }
 }
 

@@ -73,7 +73,6 @@ fn buffers() {
         paths::with_file_name,
         paths::with_extension,
         paths::with_added_extension,
-        paths::join_within,
         paths::join_plain,
         paths::way,
     ];
@@ -110,7 +109,6 @@ fn memory_of_its_own() {
         owned::with_file_name,
         owned::with_extension,
         owned::with_added_extension,
-        owned::join_within,
         owned::join_plain,
         owned::way,
     ];

@@ -137,7 +137,7 @@ impl Path {
     /// path.
     ///
     /// What follows may climb, as `../etc` does below. To keep a path below a directory, use
-    /// `Request::join_below` or `join_within` of the crate `unix_path_rattle`.
+    /// `Request::join_below` of the crate `unix_path_rattle`.
     ///
     /// ```
     /// use unix_path_typed::Path;
@@ -158,8 +158,7 @@ impl Path {
     /// Whether the parts of `base` begin those of the path. As Rust's `Path::starts_with`.
     ///
     /// A path that starts with a directory may still leave it, since no `..` is resolved. To keep a
-    /// path below a directory, use `Request::join_below` or `join_within` of the crate
-    /// `unix_path_rattle`.
+    /// path below a directory, use `Request::join_below` of the crate `unix_path_rattle`.
     ///
     /// ```
     /// use unix_path_typed::Path;
