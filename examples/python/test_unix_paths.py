@@ -133,8 +133,8 @@ def saying(length, value):
 def wrong_lengths():
     """The calls that answer otherwise if what they are given says another length than it has."""
     def answers(*given):
-        within = answer(UnixPath(given[0]).join_within, given[2])
-        return [*all_of(UnixPath, *given), ("join_within", within)]
+        below = answer(UnixPath(given[0]).join_below, given[2])
+        return [*all_of(UnixPath, *given), ("join_below", below)]
 
     plain = "/srv/www/a.tar", "/srv", "index.html", ".gz"
     for length in 0, 1, 24, 4096:

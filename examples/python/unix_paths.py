@@ -7,9 +7,9 @@ rules of both agree; test_unix_paths.py lists where they don't.
     >>> path = UnixPath("/srv//www/./index.tar.gz")
     >>> path.parts, path.suffix, path.parent
     (('/', 'srv', 'www', 'index.tar.gz'), '.gz', UnixPath('/srv/www'))
-    >>> UnixPath("/srv").join_within("a/../b")
+    >>> UnixPath("/srv").join_below("a/../b")
     UnixPath('/srv/b')
-    >>> UnixPath("/srv").join_within("../b")
+    >>> UnixPath("/srv").join_below("../b")
     Traceback (most recent call last):
     ValueError: the request leads out of the root
 """
@@ -23,7 +23,7 @@ _library = ctypes.CDLL(os.environ.get("UNIX_PATH_SO", "libunix_path.so.1"))
 # What include/unix_path.h defines. A length is at most PTRDIFF_MAX; the calls take no null pointer,
 # and none stands for a Python `bytes`.
 _PTRDIFF_MAX = 2**63 - 1
-_SEPARATOR, _ESCAPES, _NO_MEMORY = 2**64 - 7, 2**64 - 2, 2**64 - 3
+_SEPARATOR, _ESCAPES, _NUL_IN_REQUEST = 2**64 - 7, 2**64 - 2, 2**64 - 4
 
 
 class _Walk(ctypes.Structure):
@@ -56,9 +56,10 @@ _compare = _call("compare", c_int32, _PATH, _PATH)
 _hash = _call("hash", c_uint64, _PATH)
 _is_absolute = _call("is_absolute", c_bool, _PATH)
 _canonical, _resolved = (_call(name, c_size_t, _PATH, _OUT) for name in ("canonical", "resolved"))
-_join, _with_file_name, _with_extension, _join_within = (
+_join, _with_file_name, _with_extension = (
     _call(name, c_size_t, _PATH, _PATH, _OUT)
-    for name in ("join", "with_file_name", "with_extension", "join_within"))
+    for name in ("join", "with_file_name", "with_extension"))
+_join_below = _call("join_below", c_size_t, _PATH, _PATH, [c_bool], _OUT)
 
 
 def _bytes_of(path):
@@ -66,16 +67,18 @@ def _bytes_of(path):
     return bytes(memoryview(os.fsencode(path)))
 
 
-def _written(call, room, *paths):
-    """What a call writes to a buffer with this room, which is enough for it."""
+def _written(call, room, *paths, options=()):
+    """What a call writes to a buffer with this room, which is enough for it. Its options stand
+    between the paths and the buffer."""
     out = ctypes.create_string_buffer(room + 1)
-    length = call(*(it for path in paths for it in (path, len(path))), out, room)
+    words = (it for path in paths for it in (path, len(path)))
+    length = call(*words, *options, out, room)
     if length == _ESCAPES:
         raise ValueError("the request leads out of the root")
+    if length == _NUL_IN_REQUEST:
+        raise ValueError("the request has a NUL byte")
     if length == _SEPARATOR:
         raise ValueError("the suffix has a slash")
-    if length == _NO_MEMORY:
-        raise MemoryError
     assert length <= min(room, _PTRDIFF_MAX)
     return out.raw[:length]
 
@@ -193,16 +196,14 @@ class UnixPath:
         """The path with each `..` dropped together with the name before it."""
         return UnixPath(_written(_resolved, len(self._bytes), self._bytes))
 
-    def join_within(self, request):
-        r"""The request joined to this root, resolved; ValueError if it leads out by names.
+    def join_below(self, request):
+        r"""The request's names joined below this root; ValueError if the request leads out of the
+        root by names, or has a NUL byte, at which a system call would cut the answer.
 
-        A NUL byte isn't refused, and a system call reads a path only up to its first NUL, so it
-        may read the answer as the root's parent, here as `/srv/..`. unix_path_join_below of the
-        library refuses such a request.
-
-        >>> UnixPath("/srv").join_within("..\0/a")
-        UnixPath('/srv/..\x00/a')
+        >>> UnixPath("/srv").join_below("..\0/a")
+        Traceback (most recent call last):
+        ValueError: the request has a NUL byte
         """
         new = _bytes_of(request)
         room = len(self._bytes) + len(new) + 1
-        return UnixPath(_written(_join_within, room, self._bytes, new))
+        return UnixPath(_written(_join_below, room, self._bytes, new, options=[False]))
