@@ -77,7 +77,6 @@ CALL(key, unix_path_key(A, OUT))
 CALL(from_key, unix_path_from_key(A, OUT))
 CALL(key_end, unix_path_key_end(A, OUT))
 CALL(way, unix_path_way(A, B, OUT))
-CALL(join_within, unix_path_join_within(A, B, OUT))
 CALL(join_plain, unix_path_join_plain(A, B, OUT))
 /* A request with a root is one of a URL. */
 CALL(join_below, unix_path_join_below(A, B, b.length > 0 && b.bytes[0] == '/', OUT))
@@ -93,7 +92,7 @@ static const call calls[] = {
     NAMED(join), NAMED(with_file_name), NAMED(with_extension), NAMED(with_added_extension),
     NAMED(is_canonical), NAMED(canonical), NAMED(to_string_lossy), NAMED(resolved), NAMED(key),
     NAMED(from_key), NAMED(key_end),
-    NAMED(way), NAMED(join_within), NAMED(join_plain), NAMED(join_below),
+    NAMED(way), NAMED(join_plain), NAMED(join_below),
 };
 
 /* The call whose name has these bytes; NULL if there is none. */

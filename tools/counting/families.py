@@ -195,13 +195,11 @@ def families():
     yield from PAIRS + PATHS
     for title, make, sizes in REQUESTS:
         yield title, lambda n, make=make: (make(n), b""), sizes, "climbs check_request"
-        yield (title, lambda n, make=make: (ROOT, make(n)), sizes,
-               "join_within join_plain join_below")
+        yield title, lambda n, make=make: (ROOT, make(n)), sizes, "join_plain join_below"
     for title, make, sizes in URLS:
         yield title, lambda n, make=make: (ROOT, make(n)), sizes, "join_below"
     for title, make, sizes in KEYS:
         yield title, lambda n, make=make: (make(n), b""), sizes, "from_key key_end"
-    yield ("plain_root", lambda n: (b"/" + plain(n - 1), b"img/logo.png"), EDGES, "join_within")
 
 
 def rows(calls):
