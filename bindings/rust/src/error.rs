@@ -19,7 +19,7 @@ pub enum Error {
     },
     /// The extension has a slash.
     Separator,
-    /// The request would leave the root or, for `join_plain`, has a root or a `..`.
+    /// The request of `join_plain` has a root or a `..`.
     Escapes,
     /// The request of `join_plain` has neither a root nor a `..`, and has a NUL byte.
     Nul,

@@ -73,6 +73,9 @@ impl<'a> Request<'a> {
     /// the bytes behind it stay as they were. It has at most one byte more than the root and the
     /// request have. Fails only with `Short`, and then nothing is written. Does not allocate.
     ///
+    /// To resolve the root's own `..` by names too, pass what [`resolved`](crate::resolved) made of
+    /// it, once for all requests.
+    ///
     /// ```
     /// let request = unix_path_rattle::Request::new(b"a//b/").unwrap();
     /// let mut out = [0; 16];
