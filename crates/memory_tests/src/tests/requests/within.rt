@@ -34,6 +34,11 @@ fn path_above_resolved(rt: HostRuntime) -> Result<(), Fail> {
 }
 
 #[test]
+fn path_resolved_to_nothing(rt: HostRuntime) -> Result<(), Fail> {
+    report_path(resolved(rt.alloc(), path("a/..")), "")
+}
+
+#[test]
 fn path_joined_within(rt: HostRuntime) -> Result<(), Fail> {
     let given = join_within(rt.alloc(), path("/srv/www"), path("a/../b"));
     report_join(given, "/srv/www/b")
@@ -43,6 +48,11 @@ fn path_joined_within(rt: HostRuntime) -> Result<(), Fail> {
 fn plain_paths_joined_within(rt: HostRuntime) -> Result<(), Fail> {
     let given = join_within(rt.alloc(), path("/srv/www"), path("a/b"));
     report_join(given, "/srv/www/a/b")
+}
+
+#[test]
+fn nothing_joined_within(rt: HostRuntime) -> Result<(), Fail> {
+    report_join(join_within(rt.alloc(), path("."), path("a/..")), "")
 }
 
 #[test]
@@ -92,9 +102,22 @@ fn way_from_above_found(rt: HostRuntime) -> Result<(), Fail> {
 }
 
 #[test]
+fn way_between_same_found(rt: HostRuntime) -> Result<(), Fail> {
+    report_way(way(rt.alloc(), path("/a/b"), path("/a//c/../b")), "")
+}
+
+#[test]
 fn root_resolved(rt: HostRuntime) -> Result<(), Fail> {
     match Root::new(rt.alloc(), path("/srv/a/../www/")) {
         Ok(root) => report(true, root.as_path() == path("/srv/www")),
+        Err(AllocError) => report(false, true),
+    }
+}
+
+#[test]
+fn root_resolved_to_nothing(rt: HostRuntime) -> Result<(), Fail> {
+    match Root::new(rt.alloc(), path("srv/..")) {
+        Ok(root) => report(true, root.as_path() == path("")),
         Err(AllocError) => report(false, true),
     }
 }
