@@ -4,8 +4,8 @@ use super::{debug_has, hash_same};
 use path_runs::canonical::{canonical, collected, is_canonical, write_canonical};
 use path_runs::edits::{Edit, apply, rejoin};
 use path_runs::walk::{Turn, walk};
-use path_within::resolved::resolved;
-use path_within::way::way;
+use path_within::resolved::{resolved, write_resolved};
+use path_within::way::{way, write_way};
 use path_within::within::join_plain;
 use path_within::{Request, Root};
 use std::alloc::Global;
@@ -115,6 +115,25 @@ fn spelling_is_written() -> bool {
     write_canonical(path("/.//a/b/."), &mut out) == 4 && path("/a/b") == Path::from_bytes(&out)
 }
 
+// Returns true if a path is written resolved, both if it is and if it isn't resolved as it stands.
+fn resolved_is_written() -> bool {
+    let mut out = [0_u8; 4];
+    write_resolved(path("a/../..//b/."), &mut out) == 4
+        && out == *b"../b"
+        && write_resolved(path("/a/c"), &mut out) == 4
+        && out == *b"/a/c"
+}
+
+// Returns true if ways are written, both between plain paths and between others.
+fn way_is_written() -> bool {
+    let mut out = [0_u8; 7];
+    write_way(path("/a/b/c"), path("/a/d"), &mut out) == Some(7)
+        && out == *b"../../d"
+        && write_way(path("../x/./y"), path("../z//"), &mut out) == Some(7)
+        && out == *b"../../z"
+        && write_way(path(".."), path("a"), &mut out).is_none()
+}
+
 fn joins_nothing(alloc: Global) -> bool {
     matches!(rejoin(alloc, path("a"), path("b")), Ok(None))
         && matches!(rejoin(alloc, path(""), path("")), Ok(Some(_)))
@@ -145,6 +164,8 @@ fn buffers_need_no_memory(rt: HostRuntime) -> Result<(), Fail> {
     assert!(rt; is_written_below("a/b/") && is_written_below("/.."));
     assert!(rt; is_written_below("a/../b//c"));
     assert!(rt; spelling_is_written());
+    assert!(rt; resolved_is_written());
+    assert!(rt; way_is_written());
     assert!(rt; joins_nothing(alloc));
     assert!(rt; resolves_nothing(alloc));
     assert!(rt; leads_nowhere(alloc));
