@@ -1,4 +1,5 @@
 //! Rows of requests, roots and joins below them.
+use super::is_written;
 use path_within::{Request, RequestError, Root, StripError};
 use std::alloc::{AllocError, Global};
 use std::test::Fail;
@@ -74,26 +75,12 @@ fn holds(path: &PathBuf, bytes: &[u8]) -> bool {
     path.as_path().as_unix_str().as_bytes() == bytes
 }
 
-// Whether the call returns the join's length, and writes the join to the beginning of this buffer
-// of `#`, or nothing if there is no room for it.
-fn is_written(root: Path<'_>, request: Request<'_>, want: &[u8], out: &mut [u8]) -> bool {
-    let len = request.write_below(root, out);
-    let written = if want.len() <= out.len() {
-        want
-    } else {
-        b"".as_slice()
-    };
-    match out.strip_prefix(written) {
-        Some(behind) => len == want.len() && behind.iter().all(|byte| *byte == b'#'),
-        None => false,
-    }
-}
-
-// Whether `is_written` is true for buffers of 0 to 47 bytes.
+// Whether the join is written to buffers of 0 to 47 bytes.
 fn is_written_in_every_room(root: Path<'_>, request: Request<'_>, want: &[u8]) -> bool {
     for room in 0..48usize {
         let mut buffer = [b'#'; 48];
-        if !is_written(root, request, want, &mut buffer[..room]) {
+        let len = request.write_below(root, &mut buffer[..room]);
+        if !is_written(len, want, &buffer[..room]) {
             return false;
         }
     }

@@ -1,5 +1,7 @@
 //! Rows of resolved paths, joins under a root, and ways.
-use super::{bytes_of, is_joined_plain, is_joined_within};
+use super::{
+    bytes_of, is_joined_plain, is_joined_within, is_resolved_into_buffers, is_way_into_buffers,
+};
 use path_within::has_nul;
 use path_within::resolved::resolved;
 use path_within::way::way;
@@ -132,21 +134,25 @@ static WAYS: [Row; 14] = [
     ("/a", "a", None),
 ];
 
-// Whether the path resolves to these bytes.
+// Whether the path resolves to these bytes, made anew and into buffers.
 fn is_resolved(alloc: Global, path: &str, want: &str) -> bool {
-    match resolved(alloc, Path::from_text(path)) {
+    let path = Path::from_text(path);
+    let is_made = match resolved(alloc, path) {
         Ok(found) => found.as_path().as_unix_str().as_bytes() == want.as_bytes(),
         Err(AllocError) => false,
-    }
+    };
+    is_made && is_resolved_into_buffers(path, want.as_bytes())
 }
 
-// Whether the way is that of the row.
+// Whether the way is that of the row, made anew and into buffers.
 fn is_way(alloc: Global, row: &Row) -> bool {
-    match way(alloc, Path::from_text(row.0), Path::from_text(row.1)) {
+    let (from, to) = (Path::from_text(row.0), Path::from_text(row.1));
+    let is_made = match way(alloc, from, to) {
         Ok(Some(found)) => bytes_of(row.2) == Some(found.as_path().as_unix_str().as_bytes()),
         Ok(None) => row.2.is_none(),
         Err(AllocError) => false,
-    }
+    };
+    is_made && is_way_into_buffers(from, to, bytes_of(row.2))
 }
 
 #[test]

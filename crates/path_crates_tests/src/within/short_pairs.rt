@@ -1,5 +1,5 @@
 //! All pairs of short paths: joins within, and ways.
-use super::{is_joined, naive};
+use super::{is_joined, is_way_into_buffers, naive};
 use crate::strings::strings_over;
 use path_within::resolved::resolved;
 use path_within::way::way;
@@ -104,7 +104,8 @@ fn has_no_way(from: &ShortPath<'_>, to: &ShortPath<'_>) -> bool {
     naive::is_rooted(from.path.bytes) != naive::is_rooted(to.path.bytes) || is_above
 }
 
-// Whether the way leads from the first path to the other, or there is none by a naive reading too.
+// Whether the way leads from the first path to the other, or there is none by a naive reading too;
+// and whether it is written to buffers as it is made anew.
 fn leads_there(
     alloc: Global,
     from: &ShortPath<'_>,
@@ -114,9 +115,11 @@ fn leads_there(
         Some(steps) => {
             let joined = from.path.join(alloc, steps.as_path())?;
             let end = naive::resolved_of(alloc, bytes_of(&joined))?;
-            Ok(end.as_slice() == to.want.as_slice() && !has_no_way(from, to))
+            let is_there = end.as_slice() == to.want.as_slice() && !has_no_way(from, to);
+            let steps = Some(bytes_of(&steps));
+            Ok(is_there && is_way_into_buffers(from.path, to.path, steps))
         }
-        None => Ok(has_no_way(from, to)),
+        None => Ok(has_no_way(from, to) && is_way_into_buffers(from.path, to.path, None)),
     }
 }
 

@@ -1,5 +1,5 @@
 //! All short paths, resolved.
-use super::naive;
+use super::{is_resolved_into_buffers, naive};
 use crate::strings::strings_over;
 use path_runs::canonical::canonical;
 use path_within::resolved::resolved;
@@ -32,10 +32,11 @@ fn is_normal(path: Path<'_>) -> bool {
     is_normal
 }
 
-// Whether the path resolves to these bytes.
+// Whether the path resolves to these bytes, made anew and into buffers.
 fn resolves_to(alloc: Global, path: Path<'_>, want: &[u8]) -> Result<bool, AllocError> {
     let found = resolved(alloc, path)?;
-    Ok(found.as_path().as_unix_str().as_bytes() == want)
+    let is_made = found.as_path().as_unix_str().as_bytes() == want;
+    Ok(is_made && is_resolved_into_buffers(path, want))
 }
 
 // Whether these bytes are a path that is normal and is its own spelling.
