@@ -97,12 +97,7 @@ fn extension_answer(edited: Result<bool, ExtensionError>) -> Result<Answer, Allo
 }
 
 // Makes one edit of a path of which some is known, and returns its answer.
-fn apply_one(
-    alloc: Global,
-    path: &mut PathBuf,
-    known: &mut Known,
-    edit: &Edit<'_>,
-) -> Result<Answer, AllocError>
+fn apply_one(path: &mut PathBuf, known: &mut Known, edit: &Edit<'_>) -> Result<Answer, AllocError>
     requires { IsKnown (path_bytes path.old) known.old }
     ensures known { OnOk result (IsKnown (path_bytes path.new) known.new) }
     ensures ok { OnOk result
@@ -123,10 +118,10 @@ fn apply_one(
             Ok(Answer::Plain)
         }
         Edit::SetExtension(extension) => {
-            extension_answer(set_extension(alloc, path, known, *extension))
+            extension_answer(set_extension(path, known, *extension))
         }
         Edit::AddExtension(extension) => {
-            extension_answer(add_extension(alloc, path, known, *extension))
+            extension_answer(add_extension(path, known, *extension))
         }
         Edit::Clear => {
             path.clear();
@@ -172,7 +167,7 @@ pub fn apply(
     };
     let mut known = Known::new();
     for (done, edit) in edits.iter().enumerate() {
-        match apply_one(alloc, path, &mut known, edit) {
+        match apply_one(path, &mut known, edit) {
             Ok(answer) => answers.push_reserved(answer),
             Err(_) => return Err(ApplyError { done }),
         }

@@ -159,23 +159,23 @@ impl Known {
         self.part_end(path) <= 1
     }
 
-    // The place where the stem of the file name ends, which ends at `end`. Of the bytes that are
-    // known to end in a stem only the last is read. A stem is kept if it is long.
+    // The place where the stem of the file name ends, or `None` if there is no file name. Of the
+    // bytes that are known to end in a stem only the last is read. A stem is kept if it is long.
     #[inline]
-    pub(super) fn stem_end(&mut self, path: &[u8], end: usize) -> usize
-        requires known { IsKnown path.now self.old }
-        requires name { name_end_of path.now ≡ Some end }
-        requires in_range { end ≤ length path.now }
+    pub(super) fn stem_end(&mut self, path: &[u8]) -> Option<usize>
+        requires { IsKnown path.now self.old }
         ensures known { IsKnown path.now self.new }
-        ensures value { stem_end_of path.now ≡ Some result }
-        ensures in_range { result ≤ end }
+        ensures value { result ≡ stem_end_of path.now }
+        ensures in_range { IfSome result (λ end. end ≤ length path.now) }
     {
-        let start = self.start(end);
-        let stem = stem_end(&path[..end], start);
+        let Some(end) = self.name_end(path) else {
+            return None;
+        };
+        let stem = stem_end(&path[..end], self.start(end));
         if stem == end && ends_in_long_name(&path[..end]) {
             self.stems.add(end);
         }
-        stem
+        Some(stem)
     }
 
     // How many of the first `end` bytes are known to end in a stem.

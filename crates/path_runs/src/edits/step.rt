@@ -1,21 +1,18 @@
 //! The edits of a list one by one, each from what is known of the path.
-ghost use Rattle.std.specs.Prelude.{◌≡◌, ◌↔◌, ◌+◌, ◌∷◌, ◌++◌, ◌≤◌, [], true, length, take, IfOk};
-ghost use Rattle.std.specs.Prelude.{OnOk, OnErr, IsOk};
-ghost use Rattle.std.specs.Prelude.{IsErrOf, is_some};
-ghost use Rattle.unix_path.specs.Buffers.{path_bytes, capacity};
+ghost use Rattle.std.specs.Prelude.{◌≡◌, ◌↔◌, [], true, IfOk, OnOk, OnErr, IsOk, IsErrOf, is_some};
+ghost use Rattle.unix_path.specs.Buffers.{path_bytes};
 ghost use Rattle.unix_path.specs.Edits.{popped_of, with_name_of, with_extension_of};
 ghost use Rattle.unix_path.specs.Extensions.{added_extension_of, has_slash};
 ghost use Rattle.unix_path.specs.Joins.{join_of};
 ghost use Rattle.unix_path.specs.Names.{file_name_of};
 ghost use Rattle.unix_path.specs.Parents.{parent_of};
-ghost use Rattle.unix_path.specs.Parts.{dot, values};
+ghost use Rattle.unix_path.specs.Parts.{values};
 ghost use Rattle.path_runs.specs.Known.{IsKnown};
 
 use crate::edits::known::Known;
-use std::alloc::{AllocError, Global};
-use std::mem;
+use std::alloc::AllocError;
 use unix_path::bytes::UnixStr;
-use unix_path::scan::has_slash;
+use unix_path::scan::{dot_before, has_slash};
 use unix_path::{ExtensionError, Path, PathBuf};
 
 // The bytes of the path.
@@ -105,49 +102,11 @@ pub(super) fn set_file_name(
     Ok(())
 }
 
-// Makes room for a path of `len` bytes, as a push that makes it grow does.
-#[inline]
-fn make_room(path: &mut PathBuf, len: usize) -> Result<(), AllocError>
-    ensures bytes { path_bytes path.new ≡ path_bytes path.old }
-    ensures ok { OnOk result (len ≤ capacity path.new) }
-    ensures succeeds { len ≤ capacity path.old → IsOk result }
-{
-    if len <= path.capacity() {
-        return Ok(());
-    }
-    path.reserve(len - bytes_of(path).len())
-}
-
-// Drops all bytes behind the first `len`, and keeps the memory.
-fn truncate(alloc: Global, path: &mut PathBuf, len: usize)
-    ensures { path_bytes path.new ≡ take len (path_bytes path.old) }
-{
-    let mut text = mem::replace(path, PathBuf::new(alloc)).into_unix_string();
-    text.truncate(len);
-    *path = PathBuf::from(text);
-}
-
-// Keeps the first `keep` bytes, and puts a dot and the extension behind them. There has to be room
-// for all.
-#[inline]
-fn replace_end(alloc: Global, path: &mut PathBuf, keep: usize, extension: UnixStr<'_>)
-    requires { keep + (1 + length extension.bytes.now) ≤ capacity path.old }
-    ensures { path_bytes path.new
-        ≡ (take keep (path_bytes path.old) ++ dot ∷ []) ++ extension.entry.bytes.now }
-{
-    let mut text = mem::replace(path, PathBuf::new(alloc)).into_unix_string();
-    text.truncate(keep);
-    let _is_put = text.push(UnixStr::from_bytes(b".")).is_ok();
-    let _is_put = text.push(extension).is_ok();
-    *path = PathBuf::from(text);
-}
-
 // Replaces the extension of the file name, or removes it if the new one is empty. It isn't inlined,
 // nor is `add_extension`, so that a list's loop stays small.
 #[inline(never)]
-#[tactic(auto, using(crate::proofs::lemmas::edits::EditStepLemmas::extension_cases))]
+#[tactic(auto, using(unix_path::proofs::lemmas::edits::EditLemmas::extension_cases))]
 pub(super) fn set_extension(
-    alloc: Global,
     path: &mut PathBuf,
     known: &mut Known,
     extension: UnixStr<'_>,
@@ -167,26 +126,18 @@ pub(super) fn set_extension(
     if has_slash(new) {
         return Err(ExtensionError::Separator);
     }
-    let bytes = bytes_of(path);
-    let Some(end) = known.name_end(bytes) else {
+    let Some(end) = known.stem_end(bytes_of(path)) else {
         return Ok(false);
     };
-    let stem = known.stem_end(bytes, end);
-    known.cut(stem);
-    if new.is_empty() {
-        truncate(alloc, path, stem);
-        return Ok(true);
-    }
-    make_room(path, stem + 1 + new.len())?;
-    replace_end(alloc, path, stem, extension);
+    known.cut(end);
+    path.replace_end(end, dot_before(new), new)?;
     Ok(true)
 }
 
 // Puts a dot and the extension behind the file name, unless the extension is empty.
 #[inline(never)]
-#[tactic(auto, using(crate::proofs::lemmas::edits::EditStepLemmas::added_cases))]
+#[tactic(auto, using(unix_path::proofs::lemmas::names::NameEndLemmas::added_cases))]
 pub(super) fn add_extension(
-    alloc: Global,
     path: &mut PathBuf,
     known: &mut Known,
     extension: UnixStr<'_>,
@@ -206,15 +157,13 @@ pub(super) fn add_extension(
     if has_slash(more) {
         return Err(ExtensionError::Separator);
     }
-    let bytes = bytes_of(path);
-    let Some(end) = known.name_end(bytes) else {
+    let Some(end) = known.name_end(bytes_of(path)) else {
         return Ok(false);
     };
     if more.is_empty() {
         return Ok(true);
     }
     known.cut(end);
-    make_room(path, end + 1 + more.len())?;
-    replace_end(alloc, path, end, extension);
+    path.replace_end(end, Some(b'.'), more)?;
     Ok(true)
 }

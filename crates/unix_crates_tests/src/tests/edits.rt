@@ -116,6 +116,38 @@ fn a_file_name_is_replaced_or_added(rt: HostRuntime) {
     }
 }
 
+static ENDS: [(&str, usize, Option<u8>, &str, &str); 5] = [
+    ("a/b.rs", 3, Some(b'.'), "txt", "a/b.txt"),
+    ("a/b.rs", 6, Some(b'.'), "bak", "a/b.rs.bak"),
+    ("a/b.rs", 3, None, "", "a/b"),
+    ("ab", 0, Some(b'/'), "cde", "/cde"),
+    ("", 0, None, "a", "a"),
+];
+
+// Whether the path is `new` after what follows these first bytes is replaced.
+fn replaces_end(
+    alloc: Global,
+    row: &(&str, usize, Option<u8>, &str, &str),
+) -> Result<bool, AllocError> {
+    let mut buffer = PathBuf::from_text(alloc, row.0)?;
+    if buffer.as_path().as_unix_str().len() < row.1 {
+        return Ok(false);
+    }
+    buffer.replace_end(row.1, row.2, row.3.as_bytes())?;
+    Ok(has_bytes(&buffer, row.4))
+}
+
+#[test]
+fn ends_are_replaced(rt: HostRuntime) {
+    for row in ENDS.iter() {
+        assert!(rt;
+            matches!(replaces_end(rt.alloc(), row), Ok(true)),
+            "{}",
+            row.4
+        );
+    }
+}
+
 // `/feel/the`, pushed part by part.
 fn pushed_parts(alloc: Global) -> Result<PathBuf, AllocError> {
     let mut buffer = PathBuf::from_text(alloc, "/")?;

@@ -171,10 +171,16 @@ impl PathBuf {
         self.replace_end(keep, separator, name.bytes)
     }
 
-    // Keeps the first `keep` bytes, and puts the separator's byte and the slice behind them. It
-    // grows before it cuts, so that a failed allocation leaves the bytes as they were.
+    /// Replaces what follows the first `keep` bytes by the separator's byte, if there is one, and
+    /// the slice.
+    ///
+    /// The bytes aren't checked: `stem_end` and `name_end` say how many an extension keeps.
+    /// Allocates only if the result is longer than the capacity, and then once. If the allocation
+    /// fails, the bytes stay as they were. Not in Rust's std.
+    ///
+    /// `a/b.rs` with its end after 3 bytes replaced by a dot and `txt` is `a/b.txt`.
     #[inline]
-    pub(super) fn replace_end(
+    pub fn replace_end(
         &mut self,
         keep: usize,
         separator: Option<u8>,

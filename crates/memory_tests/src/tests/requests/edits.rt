@@ -38,6 +38,13 @@ fn name_set(rt: HostRuntime) -> Result<(), Fail> {
     report_edit(edited, &buffer, "a/bb", "a/ccc")
 }
 
+#[test]
+fn end_replaced(rt: HostRuntime) -> Result<(), Fail> {
+    let mut buffer = PathBuf::from_text(rt.alloc(), "a/b.rs")?;
+    let edited = buffer.replace_end(6, Some(b'.'), b"bak");
+    report_edit(edited, &buffer, "a/b.rs", "a/b.rs.bak")
+}
+
 // The result of a test whose call edits the extension of `foo/.`.
 fn report_extension(edited: Result<bool, ExtensionError>, buffer: &PathBuf) -> Result<(), Fail> {
     match edited {

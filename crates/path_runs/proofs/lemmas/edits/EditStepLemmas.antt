@@ -1,24 +1,19 @@
 -- What edits leave of the first bytes of a path, and which edits change nothing.
-use Rattle.std.proofs.Common.{◌≡◌, ℕ, zero, suc, ◌+◌, ◌-◌, ◌≤◌, true, false, eqb, List, [], ◌∷◌}
-use Rattle.std.proofs.Common.{◌++◌, ◌<◌, length, get_or, take, map, Some, None, is_some, refl, sym}
-use Rattle.std.proofs.Common.{ap, ◌∙◌, arith, length-append, length-take-le, append-nil}
+use Rattle.std.proofs.Common.{◌≡◌, ℕ, zero, suc, ◌+◌, ◌-◌, ◌≤◌, false, eqb, List, [], ◌∷◌}
+use Rattle.std.proofs.Common.{◌++◌, ◌<◌, length, get_or, take, map, None, is_some, refl, sym}
+use Rattle.std.proofs.Common.{ap, ◌∙◌, arith, length-append, length-take-le}
 use Rattle.std.proofs.Math.Seq.{take-length}
-use Rattle.std.proofs.lemmas.List.{take-append-le, take-take, nil_from_length, append_assoc}
+use Rattle.std.proofs.lemmas.List.{take-append-le, take-take, append_assoc}
 use Rattle.unix_path.specs.Parts.{Part, RootDir, is_rooted, parts, values}
 use Rattle.unix_path.specs.Rest.{rest}
 use Rattle.unix_path.specs.Parents.{depth_of, parent_of}
 use Rattle.unix_path.specs.Names.{file_name_of}
 use Rattle.unix_path.specs.Joins.{is_open, join_of}
-use Rattle.unix_path.specs.Edits.{before_name_of, popped_of, stem_end_of, with_name_of}
-use Rattle.unix_path.specs.Edits.{with_extension_of}
+use Rattle.unix_path.specs.Edits.{before_name_of, popped_of, with_name_of}
 use Rattle.unix_path.specs.Extensions.{name_end_of}
 use Rattle.unix_bytes.proofs.lemmas.lists.ListLemmas.{by_test}
-use Rattle.unix_path.proofs.lemmas.edits.EditLemmas.{with_extension_of-none, with_extension_of-some}
 use Rattle.unix_path.proofs.lemmas.edits.JoinLemmas.{join_of_closed, join_of_open, join_of_rooted}
 use Rattle.unix_path.proofs.lemmas.edits.JoinLemmas.{length-join_of_closed, length-join_of_open}
-use Rattle.unix_path.proofs.lemmas.names.NameEndLemmas.{added_extension_of-nil}
-use Rattle.unix_path.proofs.lemmas.names.NameEndLemmas.{added_extension_of-none}
-use Rattle.unix_path.proofs.lemmas.names.NameEndLemmas.{file_name_of-name_end}
 use Rattle.unix_path.proofs.lemmas.names.NameEndLemmas.{file_name_of-no_name_end}
 use Rattle.unix_path.proofs.lemmas.names.ParentLemmas.{parent_of-none, parent_of-root}
 use Rattle.unix_path.proofs.lemmas.parts.PartLemmas.{parts-nil, parts-root}
@@ -72,12 +67,11 @@ pub IsKnown_join : (s b : List ℕ) (k : Known) → IsKnown s k → is_rooted b 
     → IsKnown (join_of s b) k
 IsKnown_join s b k h r = IsKnown-keeps s (join_of s b) k h (keeps-join s b r)
 
--- a path in which a dot and x stand behind the first n bytes keeps these, if it has as many
-pub keeps-replaced : (s t u v x : List ℕ) (n : ℕ) → v ≡ s → n ≤ length v → u ≡ s
-    → t ≡ (take n u ++ 46 ∷ []) ++ x → Keeps v t n
-keeps-replaced s t u v x n view few room made = keeps-front v (46 ∷ x) t n few
-    (made ∙ ap (λ s. (take n s ++ 46 ∷ []) ++ x) (room ∙ sym view)
-    ∙ append_assoc (take n v) (46 ∷ []) x)
+-- a path in which something else stands behind the first n bytes keeps these, if it has as many
+pub keeps-replaced : (s t v y x : List ℕ) (n : ℕ) → v ≡ s → n ≤ length v
+    → t ≡ (take n s ++ y) ++ x → Keeps v t n
+keeps-replaced s t v y x n view few made = keeps-front v (y ++ x) t n few
+    (made ∙ append_assoc (take n s) y x ∙ ap (λ s. take n s ++ (y ++ x)) (sym view))
 
 -- a path keeps all its bytes
 keeps-self : (s : List ℕ) → Keeps s s (length s)
@@ -141,36 +135,4 @@ keeps-name s t name n made size =
     let joined = keeps-fewer b (join_of b name) n (length b) (keeps-join b name r) few in
     record { in_range = omega arith; same = before.same ∙ joined.same ∙ ap (take n) (sym made) })
 
--- if a view of s has a place where its file name ends, s has a file name
-pub named : (s v : List ℕ) (end : ℕ) → v ≡ s → Some end ≡ name_end_of v
-    → true ≡ is_some (file_name_of (values s))
-named s v end e some = sym (file_name_of-name_end s end (some ∙ ap name_end_of e))
-
--- without an extension the path ends where its stem does
-pub with_extension_of-nil : (s t v x : List ℕ) (end : ℕ) → v ≡ s → stem_end_of v ≡ Some end
-    → length x ≡ 0 → t ≡ take end s → t ≡ with_extension_of s x
-with_extension_of-nil s t v x end view stem none made =
-    let nil = nil_from_length x none in
-    made ∙ sym (ap (with_extension_of s) nil
-    ∙ with_extension_of-some s [] [] end (sym stem ∙ ap stem_end_of view) refl
-    ∙ append-nil (take end s ++ []) ∙ append-nil (take end s))
-
--- an extension that has a byte is put behind the stem with a dot
-pub with_extension_of-dotted : (s t u v x : List ℕ) (end : ℕ) → v ≡ s
-    → stem_end_of v ≡ Some end → eqb (length x) 0 ≡ false → u ≡ s
-    → t ≡ (take end u ++ 46 ∷ []) ++ x → t ≡ with_extension_of s x
-with_extension_of-dotted s t u v x end view stem some room made =
-    made ∙ ap (λ s. (take end s ++ 46 ∷ []) ++ x) room
-    ∙ sym (with_extension_of-some s x (46 ∷ []) end (sym stem ∙ ap stem_end_of view) (rw some refl))
-
 pub ruleset name_cases = (with_name_of-nameless)
-
-pub ruleset extension_cases =
-    (with_extension_of-none, file_name_of-name_end, file_name_of-no_name_end)
-
-pub ruleset added_cases = (
-  added_extension_of-nil,
-  added_extension_of-none,
-  file_name_of-name_end,
-  file_name_of-no_name_end,
-)
