@@ -9,3 +9,4 @@ mod DepthLemmas
 pub mod AncestorLemmas
 pub mod NamedLemmas
 pub mod StemCutLemmas
+pub mod NameStemLemmas

@@ -6,7 +6,7 @@ ghost use Rattle.unix_path.specs.Edits.{before_name_of, stem_end_of};
 ghost use Rattle.unix_path.specs.Extensions.{name_end_of};
 
 use crate::cursor::{Component, Components, last_name_step, trimmed_len};
-use crate::names::{name_prefix, split_name};
+use crate::names::name_prefix;
 use crate::path::Path;
 use crate::scan::{ends_in_name, stem_end};
 use unix_bytes::bytes::UnixStr;
@@ -41,12 +41,13 @@ impl<'a> Path<'a> {
     pub fn file_stem(&self) -> Option<UnixStr<'a>>
         ensures { option_map (λ stem. stem.bytes.now) result ≡ stem_of (values self.now.bytes.now) }
     {
-        match self.file_name() {
-            Some(name) => Some(UnixStr {
-                bytes: split_name(name.bytes).0,
-            }),
-            None => None,
-        }
+        let Some(name) = self.file_name() else {
+            return None;
+        };
+        let end = stem_end(name.bytes, 0);
+        Some(UnixStr {
+            bytes: &name.bytes[..end],
+        })
     }
 
     /// The file name's bytes after its last dot, without the dot. `None` if there is no file name,
@@ -60,13 +61,17 @@ impl<'a> Path<'a> {
         ensures { option_map (λ part. part.bytes.now) result
             ≡ extension_of (values self.now.bytes.now) }
     {
-        let Some(name) = self.file_name() else {
+        let Some(end) = self.name_end() else {
             return None;
         };
-        match split_name(name.bytes).1 {
-            Some(bytes) => Some(UnixStr { bytes }),
-            None => None,
+        let named = &self.bytes[..end];
+        let stem = stem_end(named, 0);
+        if stem == end {
+            return None;
         }
+        Some(UnixStr {
+            bytes: &named[stem + 1..],
+        })
     }
 
     /// The file name up to the first dot behind its first byte, or all of it if there is no such

@@ -1,0 +1,159 @@
+-- A file name as a path of its own, and what stands behind its stem.
+use Rattle.std.proofs.Common.{◌≡◌, ℕ, ◌+◌, ◌-◌, ◌<◌, List, ◌++◌, length, take, drop}
+use Rattle.std.proofs.Common.{Option, Some, None, ltb, refl, sym, ap, ap₂, ◌∙◌, arith}
+use Rattle.std.proofs.Common.{ltb-true, ltb-false, length-append, length-take-le}
+use Rattle.std.proofs.Math.Seq.{take-append_seam, drop-append_seam}
+use Rattle.std.proofs.lemmas.List.{drop-drop}
+use Rattle.std.proofs.lemmas.Option.{none-some, same_Some}
+use Rattle.std.specs.Option.{option_and_then}
+use Rattle.unix_path.specs.Parts.{parts, values}
+use Rattle.unix_path.specs.Rest.{rest}
+use Rattle.unix_path.specs.Names.{extension_of, file_name_of, past_last, split_name}
+use Rattle.unix_path.specs.Edits.{last_start_of, stem_end_of}
+use Rattle.unix_path.specs.Extensions.{name_end_of}
+use Rattle.unix_bytes.proofs.lemmas.lists.ListLemmas.{by_test}
+use Rattle.unix_path.proofs.lemmas.names.NameCutLemmas.{name_cut, values-name}
+use Rattle.unix_path.proofs.lemmas.names.NameEndLemmas.{name_end_by, name_end_of-some}
+use Rattle.unix_path.proofs.lemmas.names.NameLemmas.{is_dot, split_name-cut, split_name-stem}
+use Rattle.unix_path.proofs.lemmas.names.NameLemmas.{split_name-whole}
+use Rattle.unix_path.proofs.lemmas.names.NamedLemmas.{name_end}
+use Rattle.unix_path.proofs.lemmas.names.StemCutLemmas.{stem_end_of-take}
+use Rattle.unix_path.proofs.lemmas.names.StemLemmas.{last_start_of-name, stem_end_by}
+use Rattle.unix_path.proofs.lemmas.names.StemLemmas.{stem_end_of-some}
+
+-- y is the file name of itself, and starts where it does
+record IsOwnName (y : List ℕ) : Type 0 where
+  name : file_name_of (values y) ≡ Some y
+  start : last_start_of (parts y) ≡ 0
+
+own_name : (s y : List ℕ) → Some y ≡ file_name_of (values s) → IsOwnName y
+unfolding file_name_of
+own_name s y e =
+    let name : file_name_of (values y) ≡ Some y =
+    ap file_name_of (values-name y (name_cut s y (sym e)).is_name) in
+    let cut = name_cut y y name in
+    record {
+      name = name;
+      start = omega (
+        arith,
+        cut.start,
+        ap length cut.whole,
+        length-append (cut.prefix ++ y) cut.back,
+        length-append cut.prefix y,
+      );
+    }
+
+-- a file name ends in itself
+pub name_end_of-name : (s name : List ℕ) → Some name ≡ file_name_of (values s)
+    → name_end_of name ≡ Some (length name)
+unfolding name_end_of
+name_end_of-name s name e =
+    let h = own_name s name e in
+    let to : last_start_of (parts name) + length name ≡ length name = omega (arith, h.start) in
+    ap (name_end_by name) h.name ∙ ap Some to
+
+-- up to its stem's end a file name is its stem
+pub take-stem_end : (s name : List ℕ) (end : ℕ) → Some name ≡ file_name_of (values s)
+    → stem_end_of name ≡ Some end → take end name ≡ (split_name name).0
+unfolding stem_end_of
+take-stem_end s name end e at =
+    let h = own_name s name e in
+    let n = length (split_name name).0 in
+    let to : last_start_of (parts name) + n ≡ end =
+    same_Some _ _ (sym (ap (stem_end_by name) h.name) ∙ at) in
+    let same : end ≡ n = omega (arith, h.start) in
+    ap (λ n. take n name) same ∙ split_name-stem name
+
+-- a name that is all stem has no extension
+extension-none : (name : List ℕ) → length (split_name name).0 ≡ length name
+    → (split_name name).1 ≡ None
+extension-none name e =
+    let n = past_last is_dot name in
+    by_test (ltb 1 n)
+    (λ t.
+    let cut = split_name-cut name n refl (ltb-true _ _ t) in
+    absurd (omega (
+      arith,
+      e,
+      ltb-true _ _ t,
+      ap (λ r. length r.0) cut,
+      length-take-le (n - 1) name (omega arith),
+    )))
+    (λ f. ap (λ r. r.1) (split_name-whole name n refl (omega (arith, ltb-false _ _ f))))
+
+-- a stem that is shorter than its name ends before the dot before the extension
+extension-some : (name : List ℕ) → length (split_name name).0 < length name
+    → (split_name name).1 ≡ Some (drop (length (split_name name).0 + 1) name)
+extension-some name l =
+    let n = past_last is_dot name in
+    by_test (ltb 1 n)
+    (λ t.
+    let cut = split_name-cut name n refl (ltb-true _ _ t) in
+    let at : n ≡ length (split_name name).0 + 1 = omega (
+      arith,
+      ltb-true _ _ t,
+      ap (λ r. length r.0) cut,
+      length-take-le (n - 1) name (omega arith),
+    ) in
+    ap (λ r. r.1) cut ∙ ap (λ k. Some (drop k name)) at)
+    (λ f. absurd (omega (
+      arith,
+      l,
+      ap (λ r. length r.0) (split_name-whole name n refl (omega (arith, ltb-false _ _ f))),
+    )))
+
+-- a file name that ends at `end`, and its stem at `stem`
+record EndsAt (s : List ℕ) (end stem : ℕ) : Type 0 where
+  name : List ℕ
+  is : Some name ≡ file_name_of (values s)
+  end_is : end ≡ last_start_of (parts s) + length name
+  stem_is : stem ≡ last_start_of (parts s) + length (split_name name).0
+
+ends_at : (s : List ℕ) (end stem : ℕ) → Some end ≡ name_end_of s
+    → stem_end_of (take end s) ≡ Some stem → EndsAt s end stem
+ends_at s end stem e at =
+    let h = name_end s end (sym e) in
+    let start = last_start_of-name s h.bytes h.name in
+    let to : end - length h.bytes + length (split_name h.bytes).0 ≡ stem = same_Some _ _
+    (stem_end_of-some s h.bytes end h.name h.is refl ∙ sym (stem_end_of-take s end (sym e)) ∙ at) in
+    record {
+      name = h.bytes;
+      is = h.name;
+      end_is = omega (arith, h.is);
+      stem_is = omega (arith, h.is);
+    }
+
+-- without a place where the file name ends there is no extension
+pub extension_of-nameless : (s : List ℕ) → None ≡ name_end_of s → None ≡ extension_of (values s)
+extension_of-nameless s e = by (file_name_of (values s)) refl
+  where
+    by : (o : Option (List ℕ)) → o ≡ file_name_of (values s) → None ≡ extension_of (values s)
+    by None is = ap (option_and_then (λ name. (split_name name).1)) is
+    by (Some name) is =
+        absurd (none-some _ (e ∙ sym (name_end_of-some s name (length (rest s 0 0)) is refl)))
+
+-- if the stem ends where the file name does, there is no extension
+pub extension_of-none : (s : List ℕ) (end stem : ℕ) → Some end ≡ name_end_of s
+    → stem_end_of (take end s) ≡ Some stem → stem ≡ end → None ≡ extension_of (values s)
+extension_of-none s end stem e at same =
+    let h = ends_at s end stem e at in
+    sym (extension-none h.name (omega (arith, h.end_is, h.stem_is)))
+    ∙ ap (option_and_then (λ name. (split_name name).1)) h.is
+
+-- otherwise the extension stands behind the byte behind the stem
+pub extension_of-some : (s : List ℕ) (end stem : ℕ) → Some end ≡ name_end_of s
+    → stem_end_of (take end s) ≡ Some stem → stem < end
+    → Some (drop (stem + 1) (take end s)) ≡ extension_of (values s)
+extension_of-some s end stem e at less =
+    let h = ends_at s end stem e at in
+    let k = length (split_name h.name).0 + 1 in
+    let cut = name_cut s h.name (sym h.is) in
+    let named : take end s ≡ cut.prefix ++ h.name =
+    ap₂ take (omega (arith, h.end_is, cut.start, length-append cut.prefix h.name)) cut.whole
+    ∙ take-append_seam (cut.prefix ++ h.name) cut.back in
+    let there : drop (stem + 1) (take end s) ≡ drop k h.name =
+    ap₂ drop {x = stem + 1} {y = length cut.prefix + k} (omega (arith, h.stem_is, cut.start)) named
+    ∙ sym (drop-drop k (length cut.prefix) (cut.prefix ++ h.name))
+    ∙ ap (drop k) (drop-append_seam cut.prefix h.name) in
+    ap Some there ∙ sym (extension-some h.name (omega (arith, h.end_is, h.stem_is)))
+    ∙ ap (option_and_then (λ name. (split_name name).1)) h.is
