@@ -11,6 +11,7 @@ ghost use Rattle.unix_path.specs.Prefixes.{Begins, stripped_of};
 ghost use Rattle.unix_path_c.specs.Places.{span_end, span_bytes, name_start_of, last_end_of};
 
 use unix_path::Path;
+use unix_path::scan::stem_end;
 
 /// A stretch of a path: `length` bytes, the first of them at place `start`. Both count bytes.
 ///
@@ -129,12 +130,10 @@ pub extern "C" fn unix_path_file_stem(path: &[u8], span: &mut Span) -> bool
     let Some(name) = name_span(path) else {
         return false;
     };
-    let Some(stem) = path.file_stem() else {
-        return false;
-    };
+    let bytes = &path.bytes[name.start..name.start + name.length];
     *span = Span {
         start: name.start,
-        length: stem.bytes.len(),
+        length: stem_end(bytes, 0),
     };
     true
 }
@@ -157,13 +156,13 @@ pub extern "C" fn unix_path_extension(path: &[u8], span: &mut Span) -> bool
     ensures inside { OnTrue result (span_end span.new ≤ length path.now) }
 {
     let path = Path { bytes: path };
-    let Some(name) = name_span(path) else {
+    let Some(end) = path.name_end() else {
         return false;
     };
     let Some(extension) = path.extension() else {
         return false;
     };
-    *span = span_at_end(name.start + name.length, extension.bytes);
+    *span = span_at_end(end, extension.bytes);
     true
 }
 

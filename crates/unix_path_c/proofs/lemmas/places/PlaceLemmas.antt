@@ -5,16 +5,19 @@ use Rattle.std.proofs.Common.{length, take, drop, Option, Some, None, option_map
 use Rattle.std.proofs.Common.{ap₂, subst, ◌∙◌, arith, append_assoc, length-drop, take_all}
 use Rattle.std.proofs.Math.Seq.{take-append_seam, drop-append_seam}
 use Rattle.std.specs.Option.{option_and_then}
-use Rattle.std.proofs.lemmas.List.{length-take}
+use Rattle.std.proofs.lemmas.List.{length-take, take-take}
 use Rattle.std.proofs.lemmas.Option.{same_Some, none-some}
 use Rattle.unix_path.specs.Parts.{Part, parts, values}
 use Rattle.unix_path.specs.Rest.{rest, span_of}
 use Rattle.unix_path.specs.Parents.{parent_of}
 use Rattle.unix_path.specs.Names.{past_last, file_name_of, split_name, stem_of, extension_of}
 use Rattle.unix_path.specs.Prefixes.{stripped_of}
-use Rattle.unix_path.specs.Edits.{last_start_of}
+use Rattle.unix_path.specs.Edits.{last_start_of, stem_end_of}
+use Rattle.unix_path.specs.Extensions.{name_end_of}
 use Rattle.unix_path.proofs.lemmas.parts.PlaceLemmas.{parts_end}
-use Rattle.unix_path.proofs.lemmas.names.NameLemmas.{is_dot, split_name-stem}
+use Rattle.unix_path.proofs.lemmas.names.NameLemmas.{is_dot}
+use Rattle.unix_path.proofs.lemmas.names.NamedLemmas.{name_end}
+use Rattle.unix_path.proofs.lemmas.names.NameStemLemmas.{take-stem_end}
 use Rattle.unix_path.proofs.lemmas.names.ParentLemmas.{parent_of-some}
 use Rattle.unix_path.proofs.lemmas.rests.RestLemmas.{take-rest}
 use Rattle.unix_path.proofs.lemmas.steps.SpanLemmas.{length-rest_whole}
@@ -22,8 +25,8 @@ use Rattle.unix_path.proofs.lemmas.names.StemLemmas.{last_start_of-name, length-
 use Rattle.unix_path.proofs.lemmas.names.StemLemmas.{length-rest_whole-le}
 use Rattle.unix_path.proofs.lemmas.names.NameCutLemmas.{name_cut}
 use Rattle.unix_path_c.specs.Places.{name_start_of}
-use Rattle.unix_path_c.proofs.lemmas.places.StretchLemmas.{Stands, stands, range_stands}
-use Rattle.unix_path_c.proofs.lemmas.places.StretchLemmas.{stands-beginning, stands-end, EndsAt}
+use Rattle.unix_path_c.proofs.lemmas.places.StretchLemmas.{Stands, stands}
+use Rattle.unix_path_c.proofs.lemmas.places.StretchLemmas.{stands-end, EndsAt}
 use Rattle.unix_path_c.proofs.lemmas.places.StretchLemmas.{nothing_ends}
 use Rattle.unix_path_c.proofs.lemmas.places.StretchLemmas.{range_ends}
 
@@ -73,22 +76,22 @@ name_start_of-some s name end e at =
     omega (arith, last_start_of-name s name e) in
     ap Some start ∙ ap (option_map (λ name. last_start_of (parts s))) e
 
--- a stem is what its name has before the last dot, or the whole name
-stem_of-name : (s name stem : List ℕ) → Some name ≡ file_name_of (values s)
-    → Some stem ≡ stem_of (values s) → stem ≡ (split_name name).0
-stem_of-name s name stem named e =
-    same_Some stem (split_name name).0
-    (e ∙ ap (option_map (λ name. (split_name name).0)) (sym named))
+-- the n bytes from a place on are as many as stand up to n bytes further
+pub name_at : (s : List ℕ) (start n : ℕ) → Some (take n (drop start s)) ≡ file_name_of (values s)
+    → Some (take (start + n - start) (drop start s)) ≡ file_name_of (values s)
+name_at s start n named =
+    ap (λ k. Some (take k (drop start s))) {x = start + n - start} {y = n} (omega arith) ∙ named
 
--- the stem stands where the file name does
-pub stem_stands : (s stem : List ℕ) (start n : ℕ) → start + n ≤ length s
-    → Some (take n (drop start s)) ≡ file_name_of (values s) → Some stem ≡ stem_of (values s)
-    → Stands s start stem
-stem_stands s stem start n l named e =
+-- the stem stands where the file name does, and has as many bytes as its end says
+pub stem_is : (s : List ℕ) (start n stem : ℕ)
+    → Some (take n (drop start s)) ≡ file_name_of (values s)
+    → stem ≤ length (take n (drop start s)) → stem_end_of (take n (drop start s)) ≡ Some stem
+    → Some (take stem (drop start s)) ≡ stem_of (values s)
+stem_is s start n stem named l at =
     let name = take n (drop start s) in
-    let is = stem_of-name s name stem named e in
-    stands-beginning s name stem start (range_stands s start n (omega arith))
-    (ap (λ w. take (length w) name) is ∙ split_name-stem name ∙ sym is)
+    ap Some (sym (take-take stem n (drop start s) (omega (arith, length-take n (drop start s))))
+    ∙ take-stem_end s name stem named at)
+    ∙ ap (option_map (λ name. (split_name name).0)) named
 
 -- an extension is the end of a name, from some place on
 record IsEnd (name extension : List ℕ) : Type 0 where
@@ -117,24 +120,23 @@ split_name-extension name extension = by (ltb 1 (past_last is_dot name))
     }
 
 -- the extension ends where the file name does
-pub extension_ends : (s extension : List ℕ) (start n : ℕ) → start + n ≤ length s
-    → Some (take n (drop start s)) ≡ file_name_of (values s)
-    → Some extension ≡ extension_of (values s) → EndsAt s (start + n) extension
-extension_ends s extension start n l named e =
-    let name = take n (drop start s) in
-    let size : length name ≡ n =
-    omega (arith, length-take n (drop start s), length-drop start s) in
-    let part = split_name-extension name extension
-    (e ∙ ap (option_and_then (λ name. (split_name name).1)) (sym named)) in
+pub extension_ends : (s extension : List ℕ) (end : ℕ) → Some end ≡ name_end_of s
+    → Some extension ≡ extension_of (values s) → EndsAt s end extension
+extension_ends s extension end at e =
+    let h = name_end s end (sym at) in
+    let whole = name_ends s h.bytes end h.name h.is in
+    let part = split_name-extension h.bytes extension
+    (e ∙ ap (option_and_then (λ name. (split_name name).1)) (sym h.name)) in
     let in_range = part.in_range in
-    let left : length extension ≡ length name - part.from =
-    sym (ap length part.is) ∙ length-drop part.from name in
-    let from : start + part.from ≡ start + n - length extension = omega arith in
+    let fits = whole.fits in
+    let left : length extension ≡ length h.bytes - part.from =
+    sym (ap length part.is) ∙ length-drop part.from h.bytes in
+    let from : end - length h.bytes + part.from ≡ end - length extension = omega arith in
     record {
       fits = omega arith;
-      stands = subst (Stands s (start + n - length extension)) part.is
-          (subst (λ i. Stands s i (drop part.from name)) from
-          (stands-end s name start part.from (range_stands s start n (omega arith)) in_range));
+      stands = subst (Stands s (end - length extension)) part.is
+          (subst (λ i. Stands s i (drop part.from h.bytes)) from
+          (stands-end s h.bytes (end - length h.bytes) part.from whole.stands in_range));
     }
 
 -- the last part stays the last if fewer parts than all are dropped in front
