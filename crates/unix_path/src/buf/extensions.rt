@@ -199,9 +199,11 @@ impl<'a> Path<'a> {
         if has_slash(bytes) {
             return Err(ExtensionError::Separator);
         }
-        let end = self.stem_end();
-        self.copy_with_end(alloc, end, dot_before(bytes), bytes)
-            .map_err(ExtensionError::from)
+        let copy = match self.stem_end() {
+            Some(end) => copy_of(alloc, &self.bytes[..end], dot_before(bytes), bytes)?,
+            None => self.to_path_buf(alloc)?,
+        };
+        Ok(copy)
     }
 
     /// A copy of the path, with this extension added as `PathBuf::add_extension` adds it.
@@ -229,37 +231,12 @@ impl<'a> Path<'a> {
         if has_slash(added) {
             return Err(ExtensionError::Separator);
         }
-        let end = if added.is_empty() {
-            None
-        } else {
-            self.name_end()
+        let copy = match self.name_end() {
+            Some(end) if !added.is_empty() => {
+                copy_of(alloc, &self.bytes[..end], Some(b'.'), added)?
+            }
+            _ => self.to_path_buf(alloc)?,
         };
-        self.copy_with_end(alloc, end, Some(b'.'), added)
-            .map_err(ExtensionError::from)
-    }
-
-    // A copy of the path up to `end`, with the separator's byte, if there is one, and the slice
-    // behind it. If `end` is `None`, a copy of the whole path without them.
-    fn copy_with_end(
-        &self,
-        alloc: Global,
-        end: Option<usize>,
-        separator: Option<u8>,
-        more: &[u8],
-    ) -> Result<PathBuf, AllocError>
-        requires { IfSome end (λ end. end ≤ length self.now.bytes.now) }
-        ensures whole { end ≡ None → IfOk result (λ p. path_bytes p ≡ self.now.bytes.now) }
-        ensures cut { IfSome end (λ end. IfOk result (λ p.
-            path_bytes p ≡ (take end self.now.bytes.now ++ separator_bytes separator)
-            ++ more.now)) }
-        ensures succeeds_whole { end ≡ None → self.now.bytes.now ≡ [] → IsOk result }
-        ensures succeeds_cut { IfSome end (λ end.
-            (take end self.now.bytes.now ++ separator_bytes separator) ++ more.now ≡ []
-            → IsOk result) }
-    {
-        match end {
-            Some(end) => copy_of(alloc, &self.bytes[..end], separator, more),
-            None => self.to_path_buf(alloc),
-        }
+        Ok(copy)
     }
 }
