@@ -14,6 +14,7 @@ mod order;
 mod pair;
 pub mod path;
 pub mod scan;
+pub mod stems;
 
 pub use buf::{ExtensionError, PathBuf};
 pub use cursor::{Ancestors, Component, Components, Iter};

@@ -5,16 +5,14 @@
 //! callers need.
 ghost use Rattle.std.specs.Prelude.{◌≡◌, ℕ, ◌+◌, ◌<◌, ◌≤◌, true, false, length, drop};
 ghost use Rattle.std.specs.Prelude.{None, Some, IfSome, IsTrue, ◌↔◌, ◌∷◌, take};
-ghost use Rattle.unix_path.specs.Edits.{dot_before, stem_end_of};
-ghost use Rattle.unix_path.specs.Extensions.{has_slash, name_end_of};
+ghost use Rattle.unix_path.specs.Extensions.{name_end_of};
 ghost use Rattle.unix_path.specs.Joins.{is_open};
 ghost use Rattle.unix_path.specs.Parts.{inner_parts, parts, Normal, ParentDir};
-ghost use Rattle.unix_path.specs.Scan.{begins_with_parent, ends_with_parent, separator_bytes};
-ghost use Rattle.unix_path.specs.Scan.{is_filler};
-ghost use Rattle.unix_path.specs.Scan.{is_break, is_trailing};
+ghost use Rattle.unix_path.specs.Scan.{begins_with_parent, ends_with_parent};
+ghost use Rattle.unix_path.specs.Scan.{is_break, is_filler, is_trailing};
 
 use std::simd::prelude::*;
-use unix_bytes::search::{first_place, past_last_of_two};
+use unix_bytes::search::first_place;
 
 /// Whether the byte at `at` is a slash, or a `.` that a slash or the end follows.
 ///
@@ -314,33 +312,6 @@ pub fn ends_in_name(bytes: &[u8]) -> bool
     !ends_with_parent(bytes)
 }
 
-/// The place where the stem ends of the name that the bytes end in. The first `known` bytes have to
-/// end in a stem themselves, unless there are none.
-///
-/// Looks back to the last dot or slash, and not at the bytes before `known`, but for the last of
-/// them. Does not allocate. Not in Rust's std.
-///
-/// For `a/b.rs` and 0 it is 3, and for `a/bcd` and 4 it is 5.
-#[inline]
-pub fn stem_end(bytes: &[u8], known: usize) -> usize
-    requires name { name_end_of bytes.now ≡ Some (length bytes.now) }
-    requires in_range { known ≤ length bytes.now }
-    requires stem { 0 < known → stem_end_of (take known bytes.now) ≡ Some known }
-    ensures value { stem_end_of bytes.now ≡ Some result }
-    ensures forward { known ≤ result }
-    ensures in_range { result ≤ length bytes.now }
-{
-    let past = past_last_of_two(&bytes[known..], b'.', b'/');
-    if past == 0 {
-        return bytes.len();
-    }
-    let place = known + past - 1;
-    if place == 0 || bytes[place] == b'/' || bytes[place - 1] == b'/' {
-        return bytes.len();
-    }
-    place
-}
-
 /// Whether a path without a root can be put behind these bytes as it stands: whether there is no
 /// byte, or the last is a slash. Does not allocate. Not in Rust's std.
 ///
@@ -350,28 +321,4 @@ pub fn is_open(bytes: &[u8]) -> bool
     ensures { result ≡ is_open bytes.now }
 {
     bytes.is_empty() || bytes[bytes.len() - 1] == b'/'
-}
-
-/// The dot that stands before an extension, or `None` before an empty one. Does not allocate. Not
-/// in Rust's std.
-///
-/// Before `rs` it is a dot.
-#[inline]
-pub fn dot_before(extension: &[u8]) -> Option<u8>
-    ensures { separator_bytes result ≡ dot_before extension.now }
-{
-    if extension.is_empty() {
-        return None;
-    }
-    Some(b'.')
-}
-
-/// Whether one of the bytes is a slash. Does not allocate. Not in Rust's std.
-///
-/// It is true for `x/y`, which is refused as an extension.
-#[inline]
-pub fn has_slash(extension: &[u8]) -> bool
-    ensures { result ≡ has_slash extension.now }
-{
-    extension.contains(&b'/')
 }

@@ -12,7 +12,7 @@ ghost use Rattle.path_runs.specs.Known.{IsKnown};
 use crate::edits::known::Known;
 use std::alloc::AllocError;
 use unix_path::bytes::UnixStr;
-use unix_path::scan::{dot_before, has_slash};
+use unix_path::stems::{dot_before, has_slash};
 use unix_path::{ExtensionError, Path, PathBuf};
 
 // The bytes of the path.

@@ -1,8 +1,9 @@
 //! Rows of what single bytes of a path are.
 use unix_path::scan::{
-    any_break, begins_with_parent, dot_before, ends_in_name, ends_with_parent, filler_len,
-    first_break, has_slash, is_filler, is_open, is_trailing, name_step, parent_step, stem_end,
+    any_break, begins_with_parent, ends_in_name, ends_with_parent, filler_len, first_break,
+    is_filler, is_open, is_trailing, name_step, parent_step,
 };
+use unix_path::stems::{dot_before, has_slash, stem_end};
 
 // Bytes, `x` for each that is filler or a lead from in front, the same from behind, and how many
 // bytes of filler stand in front if a slash stands before them.

@@ -12,7 +12,7 @@ ghost use Rattle.unix_path.specs.Scan.{separator_bytes};
 use crate::buf::PathBuf;
 use crate::buf::edits::{copy_of, total_len};
 use crate::path::Path;
-use crate::scan::{dot_before, has_slash};
+use crate::stems::{dot_before, has_slash};
 use std::alloc::{AllocError, Global};
 use std::error::Error;
 use std::fmt;

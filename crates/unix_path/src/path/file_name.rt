@@ -8,7 +8,8 @@ ghost use Rattle.unix_path.specs.Extensions.{name_end_of};
 use crate::cursor::{Component, Components, last_name_step, trimmed_len};
 use crate::names::name_prefix;
 use crate::path::Path;
-use crate::scan::{ends_in_name, stem_end};
+use crate::scan::ends_in_name;
+use crate::stems::stem_end;
 use unix_bytes::bytes::UnixStr;
 
 impl<'a> Path<'a> {

@@ -5,9 +5,10 @@ use std::cmp::Ordering;
 use std::test::Fail;
 use unix_path::bytes::UnixStr;
 use unix_path::scan::{
-    any_break, begins_with_parent, dot_before, ends_in_name, ends_with_parent, filler_len,
-    first_break, has_slash, is_filler, is_open, is_trailing, name_step, parent_step,
+    any_break, begins_with_parent, ends_in_name, ends_with_parent, filler_len, first_break,
+    is_filler, is_open, is_trailing, name_step, parent_step,
 };
+use unix_path::stems::{dot_before, has_slash};
 use unix_path::{Component, Display, Path, StripPrefixError, is_separator};
 
 fn is_made() -> bool {
