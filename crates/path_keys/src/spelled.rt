@@ -9,20 +9,7 @@ ghost use Rattle.path_keys.specs.Runs.{decoded, lead_text, run_text, ups};
 
 use crate::decoded::write_decoded;
 use crate::runs::{Lead, Run, are_names, next_run, past_lead, run_in, up_count};
-
-// Overwrites the bytes of `out` from `at` on with `bytes`, as many as there is room for.
-#[inline(always)]
-fn write_at(out: &mut [u8], at: usize, bytes: &[u8])
-    requires { at ≤ length out.old }
-    ensures { out.new ≡ overlay at (take (length out.old - at) bytes.now) out.old }
-{
-    let room = out.len() - at;
-    if bytes.len() <= room {
-        out[at..at + bytes.len()].copy_from_slice(bytes);
-        return;
-    }
-    out[at..].copy_from_slice(&bytes[..room]);
-}
+use unix_bytes::buffers::write_at;
 
 // Overwrites the bytes of `out` from `at` on with `..` and, if there is room for it, a slash.
 #[inline(always)]
@@ -133,10 +120,12 @@ fn write_run(out: &mut [u8], at: usize, run: Run<'_>)
 fn write_lead(out: &mut [u8], lead: Lead)
     ensures { out.new ≡ overlay 0 (take (length out.old) (lead_text lead)) out.old }
 {
+    let room = out.len();
     match lead {
-        Lead::Absent => {}
-        Lead::Root => write_at(out, 0, b"/"),
-        Lead::Dot => write_at(out, 0, b"./"),
+        Lead::Root if room > 0 => write_at(out, 0, b"/"),
+        Lead::Dot if room > 1 => write_at(out, 0, b"./"),
+        Lead::Dot if room > 0 => write_at(out, 0, b"."),
+        _ => {}
     }
 }
 
