@@ -1,6 +1,5 @@
 -- The lemmas, by subject.
 pub mod values
-pub mod stops
 pub mod lanes
 pub mod reading
 pub mod writing

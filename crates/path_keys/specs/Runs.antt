@@ -6,7 +6,7 @@ use Rattle.std.specs.Prelude.{if◌then◌else◌}
 use Rattle.unix_path.specs.Parts.{slash, cur_dir, Value, ParentDir}
 use Rattle.path_keys.specs.Keys.{key_of}
 use Rattle.path_keys.specs.Codes.{lowered, text_of, AllFit}
-use Rattle.path_keys.specs.Stretches.{none_begins, FirstStopOf}
+use Rattle.unix_path.specs.Stops.{none_begins, FirstStopOf}
 use Rattle.path_keys.specs.declared.runs.Lead.{Lead}
 use Rattle.path_keys.specs.declared.runs.Lead.TheVariants.{Absent, Root, Dot}
 use Rattle.path_keys.specs.declared.runs.Run.{Run}

@@ -13,7 +13,6 @@ mod parts;
 pub mod read;
 mod runs;
 mod spelled;
-mod stretch;
 pub mod written;
 
 pub use key::{KeyRange, PathKey};

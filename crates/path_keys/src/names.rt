@@ -8,7 +8,7 @@ ghost use Rattle.path_keys.specs.Keys.{key_of};
 ghost use Rattle.path_keys.specs.Stretches.{coded, is_stop, FirstStop, HasRoom, PutsFirst};
 
 use crate::coded::{write_coded, write_lanes};
-use crate::stretch::{may_break, near_stop};
+use unix_path::stops::{may_break, near_stop};
 
 // Overwrites the bytes of `out` from `at` on with those of names in a key, 16 at a time. Ends
 // before the first 16 that may hold a stop, or at the first place that isn't before `last`, and

@@ -11,19 +11,10 @@ ghost use Rattle.path_keys.specs.Stretches.{run_key, BeginsKey};
 ghost use Rattle.path_keys.specs.Stretches.{IsRun, IsUp, PutsFirst};
 
 use crate::names::write_names;
-use crate::stretch::first_stop;
 use std::simd::prelude::*;
-use unix_path::scan::{begins_with_parent, filler_len, is_filler};
-
-// What follows the filler, slashes and `.` pieces, in front.
-#[inline]
-fn past_filler(bytes: &[u8]) -> &[u8]
-    ensures same { inner_values bytes.now ≡ inner_values result.now }
-    ensures busy { is_filler result.now 0 ≡ false }
-    ensures short { length result.now ≤ length bytes.now }
-{
-    &bytes[filler_len(bytes)..]
-}
+use unix_path::filler::{is_filler, past_filler};
+use unix_path::firsts::begins_with_parent;
+use unix_path::stops::first_stop;
 
 // The mark of the root or the `.` with which a path begins; `None` if it begins with none.
 #[inline]

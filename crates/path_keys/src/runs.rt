@@ -1,10 +1,12 @@
 //! What stands first in a key: a lead, and then each `..`, or names up to another mark.
-ghost use Rattle.std.specs.Prelude.{◌≡◌, ◌<◌, ◌≤◌, ◌^◌, false, length, None, IfSome, IsTrue};
+ghost use Rattle.std.specs.Prelude.{◌≡◌, ◌-◌, ◌<◌, ◌^◌, false, length, None, IfSome, IsTrue};
+ghost use Rattle.unix_path.specs.Parts.{slash};
+ghost use Rattle.unix_path.specs.Stops.{FirstStopOf};
 ghost use Rattle.path_keys.specs.Runs.{lead_text, run_code, run_text, BeginsLead, BeginsUps};
 ghost use Rattle.path_keys.specs.Runs.{AreNames, HoldsNone, LeavesText, TakesRun};
 
-use crate::stretch::{first_stop, none_begins, stops_last};
 use std::simd::prelude::*;
+use unix_path::stops::{first_stop, is_unstopped, none_begins};
 
 // The root or the `.` with which a path begins, if it begins with one.
 #[derive(Clone, Copy)]
@@ -119,13 +121,26 @@ fn names_in(bytes: &[u8]) -> Option<Run<'_>>
     Some(Run::Names(&bytes[..end]))
 }
 
+// Returns true only if the last byte is the first stop.
+#[inline(always)]
+fn stops_last(bytes: &[u8]) -> bool
+    ensures some { IsTrue result → 0 < length bytes.now }
+    ensures stop { IsTrue result → FirstStopOf 0 slash bytes.now (length bytes.now - 1) }
+{
+    if bytes.is_empty() {
+        return false;
+    }
+    let last = bytes.len() - 1;
+    bytes[last] == 0 && is_unstopped(&bytes[..last], 0, b'/')
+}
+
 // Whether these bytes are names alone, with an end mark behind each. It may say no of such names
 // too.
 #[inline(always)]
 pub(crate) fn are_names(bytes: &[u8]) -> bool
     ensures { IsTrue result → AreNames bytes.now }
 {
-    stops_last(bytes, 0, b'/') && !none_begins(bytes, 0, 0, b'/')
+    stops_last(bytes) && !none_begins(bytes, 0, 0, b'/')
 }
 
 // Whether the mark of a `..` stands first.

@@ -5,7 +5,7 @@ ghost use Rattle.unix_path.specs.Scan.{is_filler};
 ghost use Rattle.path_runs.specs.Gaps.{is_gap, slashed_parts, FirstGap, IsPart};
 
 use std::simd::prelude::*;
-use unix_path::scan::is_filler;
+use unix_path::filler::is_filler;
 
 // Whether the byte at `at` is a slash, and the piece behind it is empty or `.`.
 #[inline]

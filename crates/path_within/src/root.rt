@@ -21,7 +21,7 @@ use std::alloc::{AllocError, Global};
 use std::error::Error;
 use std::fmt;
 use unix_bytes::bytes::UnixString;
-use unix_path::scan::is_open;
+use unix_path::lasts::is_open;
 use unix_path::{Path, PathBuf};
 
 /// Why a path is not below a root.

@@ -16,7 +16,7 @@ use crate::plain::is_plain;
 use std::alloc::{AllocError, Global};
 use unix_bytes::buffers::write_at;
 use unix_bytes::bytes::UnixString;
-use unix_path::scan::is_open;
+use unix_path::lasts::is_open;
 use unix_path::{Component, Path, PathBuf};
 
 // The last names of a path, as it is resolved.

@@ -11,6 +11,7 @@ pub mod Kept
 pub mod Json
 pub mod Order
 pub mod Scan
+pub mod Stops
 pub mod Steps
 pub mod Views
 pub mod Cursor

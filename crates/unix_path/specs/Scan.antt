@@ -32,12 +32,6 @@ is_trailing s i =
 abbrev pub EndsInPart : List ℕ → Type 0
 EndsInPart s = 0 < length s → is_trailing s (length s - 1) ≡ false
 
--- the byte at i is a slash, and a slash, a dot or the end follows
-abbrev pub is_break : List ℕ → ℕ → Bool
-is_break s i =
-    let next = slice_index_or s (i + 1) slash in
-    slice_index s i == slash && (next == slash || next == dot)
-
 -- the byte between what is kept and what is added, if there is one
 abbrev pub separator_bytes : Option ℕ → List ℕ
 separator_bytes None = []

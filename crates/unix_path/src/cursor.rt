@@ -11,5 +11,5 @@ mod walk;
 pub use component::Component;
 pub use iter::Iter;
 pub use parents::Ancestors;
-pub(crate) use steps::{last_name_step, long_filler_len, trimmed_len};
+pub(crate) use steps::{last_name_step, trimmed_len};
 pub use walk::Components;

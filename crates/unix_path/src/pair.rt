@@ -1,5 +1,5 @@
 //! Two paths side by side: what each is to the other, told by where their bytes first differ.
-ghost use Rattle.std.specs.Prelude.{◌≡◌, ◌≢◌, ◌↔◌, ◌+◌, ◌<◌, ◌≤◌, ℕ, false, List, [], length};
+ghost use Rattle.std.specs.Prelude.{◌≡◌, ◌≢◌, ◌↔◌, ◌+◌, ◌<◌, ◌≤◌, ℕ, List, [], length};
 ghost use Rattle.std.specs.Prelude.{IsTrue, IsSome, IfSome};
 ghost use Rattle.std.specs.Ordering.{nat_cmp};
 ghost use Rattle.unix_path.specs.CommonDir.{inner_values};
@@ -9,10 +9,10 @@ ghost use Rattle.unix_path.specs.Places.{IsTail};
 ghost use Rattle.unix_path.specs.Prefixes.{Begins};
 ghost use Rattle.unix_path.specs.Scan.{is_filler};
 ghost use Rattle.unix_path.specs.Steps.{begins_piece, piece_rank, DiffersAtStart, IsAlike};
-ghost use Rattle.unix_path.specs.Steps.{IsAlike-prop, PastFiller, SharesFirst};
+ghost use Rattle.unix_path.specs.Steps.{IsAlike-prop, SharesFirst};
 
-use crate::cursor::long_filler_len;
-use crate::scan::{begins_with_parent, is_filler};
+use crate::filler::{is_filler, past_filler};
+use crate::firsts::begins_with_parent;
 use std::cmp::Ordering;
 use unix_bytes::search::{common_len, near_common_len};
 
@@ -55,16 +55,6 @@ enum Kind {
     CurDir,
     ParentDir,
     Name,
-}
-
-// What follows the filler at the beginning of a string that stands behind a cut.
-#[inline]
-pub(crate) fn past_filler(bytes: &[u8]) -> &[u8]
-    ensures lead { is_filler result.now 0 ≡ false }
-    ensures behind { PastFiller bytes.now result.now }
-    ensures tail { IsTail result bytes.entry }
-{
-    &bytes[long_filler_len(bytes)..]
 }
 
 // How many bytes follow the filler behind a cut: none exactly if no part follows. It isn't inlined,

@@ -3,7 +3,8 @@
 ghost use Rattle.std.specs.Prelude.{◌<◌, length, IfSome};
 ghost use Rattle.unix_path_c.specs.Steps.{BeginsInPart};
 
-use unix_path::scan::{begins_with_parent, is_filler, is_trailing, name_step, parent_step};
+use unix_path::filler::{is_filler, is_trailing};
+use unix_path::firsts::{begins_with_parent, name_step, parent_step};
 
 // The kind of a `..`.
 pub(crate) const PARENT_DIR: u32 = 2;

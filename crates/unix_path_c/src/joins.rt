@@ -11,7 +11,7 @@ ghost use Rattle.path_runs.specs.Buffer.{buffer_after};
 use crate::writing::{separator_len, told_len, write_separator};
 use unix_bytes::buffers::write_at;
 use unix_path::Path;
-use unix_path::scan::is_open;
+use unix_path::lasts::is_open;
 use unix_path::stems::{dot_before, has_slash};
 
 // The answer if an extension has a slash.

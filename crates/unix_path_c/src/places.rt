@@ -11,7 +11,7 @@ ghost use Rattle.unix_path.specs.Prefixes.{Begins, stripped_of};
 ghost use Rattle.unix_path_c.specs.Places.{span_end, span_bytes, name_start_of, last_end_of};
 
 use unix_path::Path;
-use unix_path::scan::stem_end;
+use unix_path::stems::stem_end;
 
 /// A stretch of a path: `length` bytes, the first of them at place `start`. Both count bytes.
 ///

@@ -9,7 +9,8 @@ ghost use Rattle.unix_path.specs.Scan.{is_trailing, EndsInPart};
 ghost use Rattle.path_runs.specs.Known.{IsKnown, IsStack, KnowsStem, KnowsStems};
 
 use crate::edits::stems::Stems;
-use unix_path::scan::{ends_in_name, is_trailing};
+use unix_path::filler::is_trailing;
+use unix_path::lasts::ends_in_name;
 use unix_path::stems::{has_slash, stem_end};
 
 // The place where the last part of the path ends, or `least` if that is greater.

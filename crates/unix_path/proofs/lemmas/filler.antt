@@ -5,4 +5,3 @@ pub mod TrimLemmas
 mod DotLaneLemmas
 pub mod TrailingBlockLemmas
 pub mod FillerBlockLemmas
-pub mod BreakLaneLemmas

@@ -11,8 +11,8 @@ ghost use Rattle.unix_path.specs.Parts.{is_rooted};
 ghost use Rattle.unix_path.specs.Scan.{separator_bytes};
 
 use crate::buf::PathBuf;
+use crate::lasts::is_open;
 use crate::path::Path;
-use crate::scan::is_open;
 use std::alloc::{AllocError, Global};
 use unix_bytes::bytes::{UnixStr, UnixString};
 

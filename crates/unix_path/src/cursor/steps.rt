@@ -9,107 +9,12 @@ ghost use Rattle.unix_path.specs.Views.{value_of};
 ghost use Rattle.unix_path.specs.Steps.{StepsFirst, TakesLast};
 
 use crate::cursor::Component;
-use crate::scan::{
-    begins_with_parent, ends_with_parent, filler_len, is_filler, is_trailing, name_step,
-    parent_step,
-};
+use crate::filler::{filler_len, is_filler, is_trailing};
+use crate::firsts::{begins_with_parent, name_step, parent_step};
+use crate::lasts::ends_with_parent;
 use std::simd::prelude::*;
 use unix_bytes::bytes::UnixStr;
 use unix_bytes::search::past_last;
-
-// True only if each of the 16 bytes from `at` on is a slash, or a `.` before a slash.
-#[inline]
-fn is_filler_block(path: &[u8], at: usize) -> bool
-    requires { at + 16 < length path.now }
-    ensures { IsTrue result → ((k : ℕ) → at ≤ k → k < at + 16 → is_filler path.now k ≡ true) }
-{
-    let slash = u8x16::splat(b'/');
-    let here = u8x16::from_slice(&path[at..]);
-    let next = u8x16::from_slice(&path[at + 1..]);
-    let is_no_dot = here.simd_ne(u8x16::splat(b'.'));
-    let other = here.simd_ne(slash) & (is_no_dot | next.simd_ne(slash));
-    other.to_bitmask() == 0
-}
-
-// The length of the filler at the beginning, or less: `start` bytes, which are known to be filler,
-// and then 16 for each block of 16 bytes that are all filler. It stops if 16 bytes or fewer are
-// left.
-#[inline]
-fn filler_blocks_len(path: &[u8], start: usize) -> usize
-    requires { start ≤ length path.now }
-    ensures forward { start ≤ result }
-    ensures in_range { result ≤ length path.now }
-    ensures filler { (at : ℕ) → inner_parts (at + start) (drop start path.now)
-        ≡ inner_parts (at + result) (drop result path.now) }
-{
-    let mut len = start;
-    while path.len() - len > 16 && is_filler_block(path, len) {
-        len += 16;
-    }
-    len
-}
-
-// As `long_filler_len`, for filler of which `start` bytes are known: it looks at blocks of 16. It
-// isn't inlined, since most filler is short.
-#[inline(never)]
-fn filler_len_from(path: &[u8], start: usize) -> usize
-    requires { start ≤ length path.now }
-    ensures in_range { result ≤ length path.now }
-    ensures filler { (at : ℕ) → inner_parts (at + start) (drop start path.now)
-        ≡ inner_parts (at + result) (drop result path.now) }
-    ensures busy { result < length path.now → is_filler path.now result ≡ false }
-{
-    let mut len = filler_blocks_len(path, start);
-    while len < path.len() && is_filler(path, len) {
-        len += 1;
-    }
-    len
-}
-
-// How many bytes of filler begin at `i`: a slash, a `.` and the slash behind it, or a `.` at the
-// end. 0 if a part begins there.
-#[inline]
-fn filler_step(path: &[u8], i: usize) -> usize
-    requires { i < length path.now }
-    ensures in_range { i + result ≤ length path.now }
-    ensures filler { (at : ℕ) → inner_parts (at + i) (drop i path.now)
-        ≡ inner_parts (at + (i + result)) (drop (i + result) path.now) }
-    ensures busy { result ≡ 0 → is_filler path.now i ≡ false }
-{
-    if path[i] == b'/' {
-        return 1;
-    }
-    if path[i] != b'.' {
-        return 0;
-    }
-    if i + 1 == path.len() {
-        return 1;
-    }
-    if path[i + 1] == b'/' { 2 } else { 0 }
-}
-
-// The length of the filler at the beginning, for when it may be long: behind its first four bytes,
-// blocks of 16 are looked at. `filler_len` is quicker for short filler, as between two parts.
-#[inline]
-pub(crate) fn long_filler_len(path: &[u8]) -> usize
-    ensures in_range { result ≤ length path.now }
-    ensures filler { (at : ℕ) →
-        inner_parts at path.now ≡ inner_parts (at + result) (drop result path.now) }
-    ensures busy { result < length path.now → is_filler path.now result ≡ false }
-{
-    let mut len = 0;
-    while len < path.len() {
-        let step = filler_step(path, len);
-        if step == 0 {
-            return len;
-        }
-        len += step;
-        if len > 3 {
-            return filler_len_from(path, len);
-        }
-    }
-    len
-}
 
 // Whether the path begins with a root or with a `.` that counts.
 #[inline]

@@ -6,9 +6,9 @@ ghost use Rattle.unix_path.specs.Edits.{before_name_of, stem_end_of};
 ghost use Rattle.unix_path.specs.Extensions.{name_end_of};
 
 use crate::cursor::{Component, Components, last_name_step, trimmed_len};
+use crate::lasts::ends_in_name;
 use crate::names::name_prefix;
 use crate::path::Path;
-use crate::scan::ends_in_name;
 use crate::stems::stem_end;
 use unix_bytes::bytes::UnixStr;
 

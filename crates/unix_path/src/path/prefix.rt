@@ -8,7 +8,8 @@ ghost use Rattle.unix_path.specs.Places.{EndsAt, LiesIn};
 
 use crate::cursor::trimmed_len;
 use crate::endings::{ends_with_parts, shared_last_len};
-use crate::pair::{Pair, past_filler};
+use crate::filler::past_filler;
+use crate::pair::Pair;
 use crate::path::Path;
 use std::error::Error;
 use std::fmt;

@@ -4,11 +4,11 @@ use super::{debug_has, display_has, hash_same, is_view};
 use std::cmp::Ordering;
 use std::test::Fail;
 use unix_path::bytes::UnixStr;
-use unix_path::scan::{
-    any_break, begins_with_parent, ends_in_name, ends_with_parent, filler_len, first_break,
-    is_filler, is_open, is_trailing, name_step, parent_step,
-};
+use unix_path::filler::{filler_len, is_filler, is_trailing, past_filler};
+use unix_path::firsts::{begins_with_parent, name_step, parent_step};
+use unix_path::lasts::{ends_in_name, is_open};
 use unix_path::stems::{dot_before, has_slash};
+use unix_path::stops::{first_stop, is_unstopped, may_break, near_stop, none_begins};
 use unix_path::{Component, Display, Path, StripPrefixError, is_separator};
 
 fn is_made() -> bool {
@@ -87,16 +87,19 @@ fn component_is_viewed() -> bool {
         && hash_same(&part, &Component::Normal(UnixStr::new("a")))
 }
 
-fn is_scanned() -> bool {
+fn is_read_by_bytes() -> bool {
     is_filler(b"/a", 0)
         && is_trailing(b"a/", 1)
         && filler_len(b"/./a") == 3
+        && past_filler(b"/./a") == b"a".as_slice()
         && parent_step(b".././a") == 5
         && name_step(b"a/./b") == (1, 4)
-        && first_break(b"a/b/.", 0) == 3
-        && any_break(b"a/") == 1
+        && first_stop(b"a/b/.", b'/', b'.') == 3
+        && near_stop(b"a//b", b'/', b'.') == 1
+        && none_begins(b"a/../b", 2, b'/', b'.')
+        && may_break(b"0123456789abc/.f/", 0, b'/', b'.')
+        && is_unstopped(b"a/.b/c", b'/', b'.')
         && begins_with_parent(b"../a")
-        && ends_with_parent(b"a/..")
         && ends_in_name(b"a/b")
         && is_open(b"a/")
         && dot_before(b"rs") == Some(b'.')
@@ -119,6 +122,6 @@ fn views_need_no_memory(rt: HostRuntime) -> Result<(), Fail> {
     assert!(rt; is_walked());
     assert!(rt; is_listed());
     assert!(rt; component_is_viewed());
-    assert!(rt; is_scanned());
+    assert!(rt; is_read_by_bytes());
     Ok(())
 }

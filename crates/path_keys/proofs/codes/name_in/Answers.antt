@@ -3,7 +3,7 @@ use Rattle.std.proofs.lemmas.Bool.{true≢false}
 use Rattle.std.specs.Str.{bytes_eq}
 use Rattle.unix_path.specs.Parts.{cur_dir, parent_dir}
 use Rattle.path_keys.proofs.lemmas.values.LoweredLemmas.{map-raised-lowered, NoZero-before}
-use Rattle.path_keys.proofs.lemmas.stops.NameLemmas.{no_name_first, no_name_read, takes_name}
+use Rattle.path_keys.proofs.lemmas.reading.NameLemmas.{no_name_first, no_name_read, takes_name}
 use Rattle.path_keys.proofs.codes.name_in.Goals as goal
 
 pub returns-then-len-eq0-clause-none : goal.returns-then-len-eq0-clause-none

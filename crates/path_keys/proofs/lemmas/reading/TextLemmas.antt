@@ -13,7 +13,7 @@ use Rattle.path_keys.specs.Keys.{raised, code, key_of}
 use Rattle.path_keys.specs.Runs.{ups}
 use Rattle.path_keys.specs.Codes.{slashed, text_of, Fits, AllFit}
 use Rattle.path_keys.proofs.lemmas.values.KeyLemmas.{key_of-nil, key_of-cons}
-use Rattle.path_keys.proofs.lemmas.stops.NameLemmas.{some_bytes}
+use Rattle.path_keys.proofs.lemmas.reading.NameLemmas.{some_bytes}
 
 pub text_of-nil : text_of [] ≡ []
 unfolding text_of

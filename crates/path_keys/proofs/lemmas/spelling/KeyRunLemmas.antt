@@ -19,10 +19,11 @@ use Rattle.path_keys.specs.Keys.{key_of, raised}
 use Rattle.path_keys.specs.Codes.{text_of, AllFit, IsName}
 use Rattle.path_keys.specs.Runs.{decoded, TakesRun}
 use Rattle.path_keys.specs.declared.runs.Run.TheVariants.{Names}
-use Rattle.path_keys.specs.Stretches.{coded, is_stop, is_stop_of, none_begins, FirstStopOf}
-use Rattle.path_keys.proofs.lemmas.stops.StopLemmas.{no_name, no_name-same, none_begins-take}
-use Rattle.path_keys.proofs.lemmas.stops.StopLemmas.{stop_end}
-use Rattle.path_keys.proofs.lemmas.stops.StopLemmas.{stop_mark, unstopped_to}
+use Rattle.unix_path.specs.Stops.{is_stop_of, none_begins, FirstStopOf}
+use Rattle.path_keys.specs.Stretches.{coded, is_stop}
+use Rattle.unix_path.proofs.lemmas.stops.StopLemmas.{no_name, no_name-same, none_begins-take}
+use Rattle.unix_path.proofs.lemmas.stops.StopLemmas.{stop_end}
+use Rattle.unix_path.proofs.lemmas.stops.StopLemmas.{stop_mark, unstopped_to}
 use Rattle.path_keys.proofs.lemmas.writing.StretchLemmas.{all_pieces_names, names_of-names}
 use Rattle.path_keys.proofs.lemmas.writing.StretchLemmas.{some_piece}
 use Rattle.path_keys.proofs.lemmas.writing.StretchLemmas.{stretch_key}

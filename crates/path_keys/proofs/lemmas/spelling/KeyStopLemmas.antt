@@ -9,10 +9,10 @@ use Rattle.unix_bytes.proofs.lemmas.lists.ListLemmas.{by_test}
 use Rattle.path_keys.specs.Keys.{key_of, raised}
 use Rattle.path_keys.specs.Codes.{AllFit, IsName}
 use Rattle.path_keys.specs.Runs.{BeginsUps, HoldsNone}
-use Rattle.path_keys.specs.Stretches.{is_stop_of, none_begins, FirstStopOf}
+use Rattle.unix_path.specs.Stops.{is_stop_of, none_begins, FirstStopOf}
 use Rattle.path_keys.proofs.lemmas.values.KeyLemmas.{key_of-nil, key_of-cons}
 use Rattle.path_keys.proofs.lemmas.values.LoweredLemmas.{raised-no_zero}
-use Rattle.path_keys.proofs.lemmas.stops.StopLemmas.{is_stop-append}
+use Rattle.unix_path.proofs.lemmas.stops.StopLemmas.{is_stop-append}
 use Rattle.path_keys.proofs.lemmas.spelling.UpRunLemmas.{one_up}
 
 -- an end mark before a mark or nothing is a stop

@@ -1,7 +1,7 @@
 -- Names that are put in a key while their end is searched.
-use Rattle.std.proofs.Common.{◌≡◌, ◌<◌, ◌≤◌, ◌+◌, ◌-◌, ℕ, zero, suc, Bool, true, false, List, []}
-use Rattle.std.proofs.Common.{◌∷◌, ◌++◌, length, take, drop, map, get_or, eqb, refl, sym, ap}
-use Rattle.std.proofs.Common.{ap₂, ◌∙◌, arith, ⊎_elim, ◌&&◌, ◌||◌, length-append}
+use Rattle.std.proofs.Common.{◌≡◌, ◌<◌, ◌≤◌, ◌+◌, ◌-◌, ℕ, zero, suc, false, List, []}
+use Rattle.std.proofs.Common.{◌∷◌, ◌++◌, length, take, drop, map, sym, ap}
+use Rattle.std.proofs.Common.{ap₂, ◌∙◌, arith, ⊎_elim, length-append}
 use Rattle.std.proofs.Common.{length-drop}
 use Rattle.std.proofs.lemmas.Bool.{cases_lt}
 use Rattle.std.proofs.lemmas.List.{length-map, length-take-le, map-append}
@@ -11,23 +11,13 @@ use Rattle.unix_path.specs.CommonDir.{inner_values}
 use Rattle.unix_path.specs.Scan.{begins_with_parent, is_filler}
 use Rattle.path_runs.specs.Overlay.{overlay}
 use Rattle.path_keys.specs.Keys.{key_of}
-use Rattle.path_keys.specs.Stretches.{coded, is_break_of, is_stop, is_stop_of, FirstStop, HasRoom}
+use Rattle.unix_path.specs.Stops.{is_break_of}
+use Rattle.path_keys.specs.Stretches.{coded, is_stop, FirstStop, HasRoom}
 use Rattle.path_keys.specs.Stretches.{PutsFirst}
-use Rattle.path_keys.proofs.lemmas.stops.StopLemmas.{is_stop-behind, unstopped_behind}
+use Rattle.unix_path.proofs.lemmas.stops.StopLemmas.{is_stop-behind, unbroken_unstopped}
+use Rattle.unix_path.proofs.lemmas.stops.StopLemmas.{unstopped_behind}
 use Rattle.path_keys.proofs.lemmas.writing.RunLemmas.{names_to}
 use Rattle.path_keys.proofs.lemmas.writing.UpLemmas.{overlay-overlay}
-
--- a stop is a break
-pub unbroken_unstopped : (m p : ℕ) (s : List ℕ) (i : ℕ) → is_break_of m p s i ≡ false
-    → is_stop_of m p s i ≡ false
-unbroken_unstopped m p s i e = by (eqb (get_or s i 0) m) (eqb (get_or s (i + 1) m) m)
-    (eqb (get_or s (i + 1) m) p) _ e
-  where
-    by : (a b c d : Bool) → (a && (b || c)) ≡ false → (a && (b || (c && d))) ≡ false
-    by false b c d e = refl
-    by true true c d e = absurd (let k : true ≡ false = e in cc)
-    by true false true d e = absurd (let k : true ≡ false = e in cc)
-    by true false false d e = refl
 
 -- 16 more bytes have no stop
 pub unstopped_more : (s : List ℕ) (from : ℕ) → ((i : ℕ) → i < from → is_stop s i ≡ false)

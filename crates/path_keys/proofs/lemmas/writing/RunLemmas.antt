@@ -23,7 +23,7 @@ use Rattle.path_runs.proofs.lemmas.spelling.PieceValueLemmas.{inner_values-piece
 use Rattle.path_keys.specs.Keys.{key_of}
 use Rattle.path_keys.specs.Codes.{AllFit, IsName}
 use Rattle.path_keys.specs.Stretches.{coded, AreNamesTo, FirstStop, IsRun}
-use Rattle.path_keys.proofs.lemmas.stops.StopLemmas.{stop_mark, unstopped_to}
+use Rattle.unix_path.proofs.lemmas.stops.StopLemmas.{stop_mark, unstopped_to}
 use Rattle.path_keys.proofs.lemmas.reading.FitLemmas.{values-fit}
 use Rattle.path_keys.proofs.lemmas.values.KeyLemmas.{key_of-cons, key_of-append}
 use Rattle.unix_path.proofs.lemmas.filler.FillerLemmas.{values-busy}

@@ -16,8 +16,9 @@ use Rattle.path_runs.proofs.lemmas.spelling.PieceValueLemmas.{inner_values-piece
 use Rattle.path_runs.proofs.lemmas.spelling.PieceValueLemmas.{slice_split-no_slash}
 use Rattle.path_keys.specs.Keys.{key_of, raised}
 use Rattle.path_keys.specs.Codes.{IsName}
-use Rattle.path_keys.specs.Stretches.{coded, is_stop, none_begins}
-use Rattle.path_keys.proofs.lemmas.stops.StopLemmas.{is_stop-append}
+use Rattle.unix_path.specs.Stops.{none_begins}
+use Rattle.path_keys.specs.Stretches.{coded, is_stop}
+use Rattle.unix_path.proofs.lemmas.stops.StopLemmas.{is_stop-append}
 
 -- the codes of pieces as of names, one after the other
 abbrev piece_codes : List (List ℕ) → List ℕ

@@ -10,7 +10,7 @@ write_lanes-requires-clause-room c = omega (
   c.loop-from.auto.out,
   c.requires.room (c.loop-from.from + 16) (omega arith)
       (unstopped_more c.args.bytes.now c.loop-from.from c.loop-from.invariant.none_before
-      (c.may_break.ensures c.if-not-may_break.true)),
+      (c.may_break.ensures.none c.if-not-may_break.true)),
 )
 
 pub loop-from-preserved : goal.loop-from-preserved
@@ -18,7 +18,7 @@ loop-from-preserved c =
     let from = c.loop-from.from in
     let bytes = c.args.bytes.now in
     let none = unstopped_more bytes from c.loop-from.invariant.none_before
-    (c.may_break.ensures c.if-not-may_break.true) in
+    (c.may_break.ensures.none c.if-not-may_break.true) in
     record {
       in_range = omega arith;
       none_before = none;

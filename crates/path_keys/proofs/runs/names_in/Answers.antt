@@ -1,5 +1,5 @@
 use Rattle.std.proofs.Common.{sym, refl, subst, ◌∙◌, arith}
-use Rattle.path_keys.specs.Stretches.{FirstStopOf}
+use Rattle.unix_path.specs.Stops.{FirstStopOf}
 use Rattle.path_keys.proofs.lemmas.spelling.KeyRunLemmas.{names_run}
 use Rattle.path_keys.proofs.lemmas.spelling.KeyStopLemmas.{no_name_none, no_stop_none}
 use Rattle.path_keys.proofs.runs.names_in.Goals as goal

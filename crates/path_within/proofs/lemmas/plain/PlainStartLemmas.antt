@@ -5,7 +5,7 @@ use Rattle.std.proofs.Common.{◌+◌, cond, drop, false, subst, Bool}
 use Rattle.std.specs.Int.{from_bool}
 use Rattle.std.proofs.lemmas.List.{get_or_default, get_or_past}
 use Rattle.unix_path.specs.Parts.{is_rooted}
-use Rattle.unix_path.specs.Scan.{is_break}
+use Rattle.unix_path.specs.Stops.{is_stop_of}
 use native.Mathlib.Numerals.{unary_clauses}
 use Rattle.std.specs.List.{list_all, onto_first, slice_split}
 use Rattle.std.specs.Str.{bytes_eq}
@@ -67,10 +67,15 @@ pub plain_pieces : (s : List ℕ) → begins_plain s 0 ≡ true
     → ((k : ℕ) → k < length s → goes_on_plain s k ≡ true) → has_plain_pieces s ≡ true
 plain_pieces s h k = all_plain s h (others_plain s k)
 
--- after a slash that no slash, no dot and no end follows, a plain piece begins
-pub unbroken_plain : (s : List ℕ) (k : ℕ) → is_break s k ≡ false → goes_on_plain s k ≡ true
-unbroken_plain s k h =
-    grind (arith, get_or_default s (k + 1) 0 47, get_or_past s (k + 1) 0)
+-- up to the first stop, plain pieces go on
+pub unstopped_plain : (s : List ℕ) (k : ℕ) → is_stop_of 47 46 s k ≡ false → goes_on_plain s k ≡ true
+unstopped_plain s k h = grind (
+  arith,
+  get_or_default s (k + 1) 0 47,
+  get_or_past s (k + 1) 0,
+  get_or_default s (k + 1 + 1) 0 47,
+  get_or_past s (k + 1 + 1) 0,
+)
 
 -- all pieces of a path are plain, but for the one before the root, if they are without that root
 pub plain_without_root : (s : List ℕ) (n : ℕ) → n ≡ from_bool (is_rooted s)

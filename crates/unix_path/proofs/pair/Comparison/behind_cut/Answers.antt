@@ -26,13 +26,13 @@ returns-then-is_empty c = (
         (shares (goal.at.returns-then-is_empty c).After-past_filler-second s t h);
     tail = IsTail-trans _ _ _ c.past_filler-first.ensures.tail c.loop-second.invariant.tail;
   },
-  c.past_filler-first.ensures.lead,
+  c.past_filler-first.ensures.busy,
 )
 
 pub returns-in-InParts : goal.returns-in-InParts
 returns-in-InParts c = λ s t h.
     apart-shared (shares (goal.at.returns-in-InParts c).After-past_filler-second s t h)
-    c.past_filler-first.ensures.lead c.past_filler-second.ensures.lead c.in-InParts.ensures
+    c.past_filler-first.ensures.busy c.past_filler-second.ensures.busy c.in-InParts.ensures
 
 pub returns-in-InFirstParts : goal.returns-in-InFirstParts
 returns-in-InFirstParts c = λ s t h.
@@ -41,7 +41,7 @@ returns-in-InFirstParts c = λ s t h.
     nil_from_length _ (eqb-true _ 0 (sym c.if-is_empty-2.ensures)) in
     more-left (subst (λ x. SharesFirst s t x second) none
     (shares (goal.at.returns-in-InFirstParts c).After-past_filler-second s t h))
-    c.past_filler-second.ensures.lead
+    c.past_filler-second.ensures.busy
     (omega (arith, eqb-false _ 0 (sym c.is_empty.ensures ∙ c.if-is_empty.false)))
 
 pub returns-in-InFirstParts-2 : goal.returns-in-InFirstParts-2
@@ -49,7 +49,7 @@ returns-in-InFirstParts-2 c = λ s t h.
     let first : List ℕ = c.past_filler-first.result.now in
     let second : List ℕ = c.past_filler-second.result.now in
     apart-shared (shares (goal.at.returns-in-InFirstParts-2 c).After-past_filler-second s t h)
-    c.past_filler-first.ensures.lead c.past_filler-second.ensures.lead
+    c.past_filler-first.ensures.busy c.past_filler-second.ensures.busy
     (record {
       order_is = c.first_parts_order.ensures;
       no_prefix = first_parts-apart first second c.near_common_len-common.result
@@ -61,7 +61,7 @@ pub loop-second-preserved : goal.loop-second-preserved
 loop-second-preserved c = record {
   shares = λ s t h. shares-onward
       (shares (goal.at.loop-second-preserved c).After-past_filler-second s t h)
-      c.past_filler-first.ensures.lead c.past_filler-second.ensures.lead c.in-Behind.ensures.shares;
+      c.past_filler-first.ensures.busy c.past_filler-second.ensures.busy c.in-Behind.ensures.shares;
   tail = IsTail-trans _ _ _ c.in-Behind.ensures.tail
       (IsTail-trans _ _ _ c.past_filler-first.ensures.tail c.loop-second.invariant.tail);
 }

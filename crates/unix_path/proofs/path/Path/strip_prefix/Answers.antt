@@ -56,7 +56,7 @@ returns-in-Some-clause-value c =
     c.past_filler.result _ (trims (goal.at.returns-in-Some-clause-value c).After-trimmed_len) refl
     (IsTail-trans _ _ _ c.past_filler.ensures.tail c.in-Some.ensures.tail)
     (shares-past c.in-Some.ensures.left c.past_filler.ensures.behind past-nil)
-    c.past_filler.ensures.lead
+    c.past_filler.ensures.busy
 
 pub returns-in-Some-clause-end : goal.returns-in-Some-clause-end
 returns-in-Some-clause-end c =

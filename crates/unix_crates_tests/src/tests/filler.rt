@@ -1,0 +1,58 @@
+//! Rows of which bytes of a path are filler.
+use unix_path::filler::{filler_len, is_filler, is_trailing, past_filler};
+
+// Bytes, `x` for each that is filler or a lead from in front, the same from behind, and how many
+// bytes of filler stand in front if a slash stands before them.
+type Filler = (&'static [u8], &'static [u8], &'static [u8], usize);
+
+static FILLER: [Filler; 14] = [
+    (b"", b"", b"", 0),
+    (b"/", b"x", b" ", 1),
+    (b".", b"x", b" ", 1),
+    (b"a", b" ", b" ", 0),
+    (b"//", b"xx", b" x", 2),
+    (b"./", b"xx", b" x", 2),
+    (b"/.", b"xx", b" x", 2),
+    (b"..", b" x", b"  ", 0),
+    (b".a", b"  ", b"  ", 0),
+    (b"a.", b" x", b"  ", 0),
+    (b"a/./b", b" xxx ", b" xxx ", 0),
+    (b"/./a/.", b"xxx xx", b" xx xx", 3),
+    (b"././/..", b"xxxxx x", b" xxxxx ", 5),
+    (b"a/..b/", b" x   x", b" xx  x", 0),
+];
+
+fn marks_filler(bytes: &[u8], crosses: &[u8]) -> bool {
+    for at in 0..bytes.len() {
+        if is_filler(bytes, at) != (crosses.get(at) == Some(&b'x')) {
+            return false;
+        }
+    }
+    bytes.len() == crosses.len()
+}
+
+fn marks_trailing(bytes: &[u8], crosses: &[u8]) -> bool {
+    for at in 0..bytes.len() {
+        if is_trailing(bytes, at) != (crosses.get(at) == Some(&b'x')) {
+            return false;
+        }
+    }
+    bytes.len() == crosses.len()
+}
+
+#[test]
+fn bytes_are_filler(rt: HostRuntime) {
+    for &(bytes, in_front, behind, len) in &FILLER {
+        assert!(rt; marks_filler(bytes, in_front));
+        assert!(rt; marks_trailing(bytes, behind));
+        assert!(rt; filler_len(bytes) == len);
+        assert!(rt; bytes.get(len..) == Some(past_filler(bytes)));
+    }
+}
+
+#[test]
+fn long_filler_is_passed(rt: HostRuntime) {
+    assert!(rt; past_filler(b"///////////////////././././././a/") == b"a/".as_slice());
+    assert!(rt; past_filler(b"/////////////////////////////////") == b"".as_slice());
+    assert!(rt; past_filler(b"/././././././././././../././././.") == b"../././././.".as_slice());
+}

@@ -1,0 +1,12 @@
+use Rattle.std.proofs.Common.{◌≡◌, ℕ, ◌+◌, ◌-◌, ◌≤◌, length, drop}
+use Rattle.unix_path.specs.Parts.{inner_parts}
+use Rattle.unix_path.proofs.filler.filler_len.Given as goal
+
+abbrev pub invariant-loop-len : goal.invariant-loop-len
+invariant-loop-len l = record {
+  in_range : l.len ≤ length l.bytes;
+  filler : (at : ℕ) → inner_parts at l.bytes ≡ inner_parts (at + l.len) (drop l.len l.bytes);
+}
+
+abbrev pub decreases-loop-len : goal.decreases-loop-len
+decreases-loop-len l = length l.initial.bytes - l.len

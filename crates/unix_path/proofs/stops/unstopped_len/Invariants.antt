@@ -1,0 +1,13 @@
+use Rattle.std.proofs.Common.{◌≡◌, ℕ, ◌+◌, ◌-◌, ◌<◌, false}
+use Rattle.unix_path.specs.Stops.{is_stop_of}
+use Rattle.unix_path.proofs.stops.unstopped_len.Given as goal
+
+-- no stop is there so far
+abbrev pub invariant-loop-at : goal.invariant-loop-at
+invariant-loop-at l = record {
+  in_range : l.at < l.last + 16;
+  none_before : (i : ℕ) → i < l.at → is_stop_of l.mark l.point l.bytes i ≡ false;
+}
+
+abbrev pub decreases-loop-at : goal.decreases-loop-at
+decreases-loop-at l = l.last + 16 - l.at
