@@ -1,16 +1,15 @@
 -- A key stands for the values of each path that has it.
 use Rattle.std.proofs.Common.{◌≡◌, ℕ, Bool, true, false, List, [], ◌∷◌, ◌++◌, map, Some}
-use Rattle.std.proofs.Common.{refl, sym, ap, ap₂, ◌∙◌, subst, append_assoc, append-nil, arith}
-use Rattle.std.proofs.lemmas.Bool.Decides.{nat_tests}
+use Rattle.std.proofs.Common.{refl, sym, ap, ap₂, ◌∙◌, subst, append_assoc, append-nil}
 use Rattle.std.proofs.lemmas.Slice.Eq.{bytes_eq-Decides}
 use Rattle.std.proofs.Math.Logic.{∥∥₁_elim}
 use Rattle.std.proofs.Props.{props}
 use Rattle.unix_path.specs.Order.{values_cmp}
-use Rattle.unix_path.specs.Parts.{Value, RootDir, CurDir, ParentDir, Normal, is_slash, values}
+use Rattle.unix_path.specs.Parts.{Value, RootDir, CurDir, ParentDir, Normal, values}
 use Rattle.path_runs.specs.Spelling.{spelling_of}
 use Rattle.path_runs.proofs.lemmas.spelling.PieceValueLemmas.{NoSlash}
 use Rattle.path_runs.proofs.lemmas.spelling.ReadBackLemmas.{values-spelling_of}
-use Rattle.path_keys.specs.Codes.{lowered, Fits, AllFit}
+use Rattle.path_keys.specs.Codes.{Fits, AllFit}
 use Rattle.path_keys.specs.Keys.{code, key_of, raised, IsKey}
 use Rattle.path_keys.specs.Ranges.{bytes_cmp}
 use Rattle.path_keys.proofs.lemmas.values.CodeLemmas.{values-coded}

@@ -221,10 +221,14 @@ spelled_inner s n e h = by_test (is_rooted s)
     let t = is_rooted-slash s r in
     let names : names_below (values (drop n s)) ≡ names_below (values s) =
     ap₂ (λ n s. names_below (values (drop n s))) one t.1 ∙ sym (names_below-slash t.0)
-    ∙ ap (λ s. names_below (values s)) (sym t.1) in
-    (subst (AreSpelled (drop n s)) (sym names) (subst (λ n. AreSpelled (drop n s)
-    (names_below (values s))) (sym one) (spelled_after_root s h r)), names))
+    ∙ ap (λ s. names_below (values s)) (sym t.1) in (
+      subst (AreSpelled (drop n s)) (sym names) (subst (λ n. AreSpelled (drop n s)
+          (names_below (values s))) (sym one) (spelled_after_root s h r)),
+      names,
+    ))
     (λ r.
-    let none : n ≡ 0 = omega (arith, e, ap from_bool r) in
-    (subst (λ n. AreSpelled (drop n s) (names_below (values (drop n s)))) (sym none)
-    (plain_spelled s h r), ap (λ n. names_below (values (drop n s))) none))
+    let none : n ≡ 0 = omega (arith, e, ap from_bool r) in (
+      subst (λ n. AreSpelled (drop n s) (names_below (values (drop n s)))) (sym none)
+          (plain_spelled s h r),
+      ap (λ n. names_below (values (drop n s))) none,
+    ))

@@ -40,7 +40,7 @@ loop-part-preserved c =
 none : (c : After-as_path-in_default)
     → shared_count (cursor_values c.loop-part.left) (cursor_values c.loop-part.onward) ≡ 0
 none c = elim c.in_default.branch [
-  in_default-via-in-Some-Some+else-is_same w ↦
+  | in_default-via-in-Some-Some+else-is_same w ↦
       let first = rw w.in-Some-Some.is-0 at c.next.ensures.steps.item_is in
       let second = rw w.in-Some-Some.is-1 at c.next-in-loop-part.ensures.steps.item_is in
       none_shared first second (same_first (cursor_rest c.loop-part.left)
