@@ -17,7 +17,7 @@ help:
 	@echo 'make test          the gate: every proof, test, wrong body and vector, from nothing;'
 	@echo '                   an hour; tools/gate_times.txt has its parts'
 	@echo 'make bench         times the calls and pathtool beside Rust. Beside other work, building'
-	@echo '                   both sides took 8 minutes, and timing them 12 more.'
+	@echo '                   both sides took 8 minutes, and timing them less than 12 more.'
 	@echo '                   Proves and builds first; needs rustc. bench/calls/run lists its'
 	@echo '                   options, as in  make bench only=parts,eq corpus=deep reps=15'
 	@echo 'make count         counts the instructions of the jobs, of pathtool and of the calls from'

@@ -221,13 +221,15 @@ bool unix_path_strip_prefix(const void *path, size_t path_length, const void *ba
 
 /* Questions. */
 
-/* Whether the parts of b begin those of a: `/etc/passwd` starts with `/etc/`, and not with `/e`.
- * `..` is a part like a name, so `/dest/../etc` starts with `/dest`: a join that starts with its
- * root may lead out of it. Join a path from outside by unix_path_join_below. */
-bool unix_path_starts_with(const void *a, size_t a_length, const void *b, size_t b_length);
+/* Whether the parts of base begin those of path: `/etc/passwd` starts with `/etc/`, and not with
+ * `/e`. `..` is a part like a name, so `/dest/../etc` starts with `/dest`: a join that starts with
+ * its root may lead out of it. Join a path from outside by unix_path_join_below. */
+bool unix_path_starts_with(const void *path, size_t path_length, const void *base,
+                           size_t base_length);
 
-/* Whether the parts of b end those of a: `/etc/passwd` ends with `passwd`. */
-bool unix_path_ends_with(const void *a, size_t a_length, const void *b, size_t b_length);
+/* Whether the parts of child end those of path: `/etc/passwd` ends with `passwd`. */
+bool unix_path_ends_with(const void *path, size_t path_length, const void *child,
+                         size_t child_length);
 
 /* Whether a and b have the same parts. `a/./b//` and `a/b` have, and `./a` and `a` haven't. */
 bool unix_path_equal(const void *a, size_t a_length, const void *b, size_t b_length);
@@ -480,86 +482,101 @@ UNIX_PATH_INLINE void *unix_path_room(void *out, size_t out_length, void *none) 
     UNIX_PATH_ASKED known UNIX_PATH_INLINE answer unix_path_inline_##name parameters {             \
         return unix_path_##name given;                                                             \
     }
-#define UNIX_PATH_ASKS(answer, name)                                                               \
+#define UNIX_PATH_ASK(answer, name)                                                                \
     UNIX_PATH_CALL(answer, name, UNIX_PATH_READS_ONE, (UNIX_PATH_ONE), (UNIX_PATH_A))
-#define UNIX_PATH_ASKS_TWO(answer, name)                                                           \
+#define UNIX_PATH_ASK_TWO(answer, name)                                                            \
     UNIX_PATH_CALL(answer, name, UNIX_PATH_READS_TWO, (UNIX_PATH_TWO), (UNIX_PATH_AB))
-#define UNIX_PATH_STEPS(name)                                                                      \
+#define UNIX_PATH_STEP(name)                                                                       \
     UNIX_PATH_CALL(bool, name, UNIX_PATH_READS_ONE UNIX_PATH_MOVES(3) UNIX_PATH_WRITES(4),         \
                    (UNIX_PATH_ONE, unix_path_walk *walk, unix_path_part *part),                    \
                    (UNIX_PATH_A, walk, part))
-#define UNIX_PATH_FINDS(name)                                                                      \
+#define UNIX_PATH_NEXT_PLACE(name)                                                                 \
+    UNIX_PATH_CALL(bool, name, UNIX_PATH_READS_ONE UNIX_PATH_MOVES(3) UNIX_PATH_WRITES(4),         \
+                   (UNIX_PATH_ONE, size_t *next, unix_path_place *place),                          \
+                   (UNIX_PATH_A, next, place))
+#define UNIX_PATH_NEXT_CHUNK(name)                                                                 \
+    UNIX_PATH_CALL(bool, name, UNIX_PATH_READS_ONE UNIX_PATH_MOVES(3) UNIX_PATH_WRITES(4),         \
+                   (UNIX_PATH_ONE, size_t *next, unix_path_chunk *chunk),                          \
+                   (UNIX_PATH_A, next, chunk))
+#define UNIX_PATH_FIND(name)                                                                       \
     UNIX_PATH_CALL(bool, name, UNIX_PATH_READS_ONE UNIX_PATH_WRITES(3),                            \
                    (UNIX_PATH_ONE, unix_path_place *place), (UNIX_PATH_A, place))
-#define UNIX_PATH_FINDS_OF_TWO(name)                                                               \
+#define UNIX_PATH_FIND_OF_TWO(name)                                                                \
     UNIX_PATH_CALL(bool, name, UNIX_PATH_READS_TWO UNIX_PATH_WRITES(5),                            \
                    (UNIX_PATH_TWO, unix_path_place *place), (UNIX_PATH_AB, place))
 
 /* The same for the calls with `out`. */
-#define UNIX_PATH_MAKES(name, known, parameters, ...)                                              \
+#define UNIX_PATH_OUT_CALL(name, known, parameters, ...)                                           \
     known UNIX_PATH_ALL_NONNULL size_t unix_path_##name parameters;                                \
     UNIX_PATH_ASKED known UNIX_PATH_INLINE size_t unix_path_inline_##name parameters {             \
         char none[1];                                                                              \
         return unix_path_##name(__VA_ARGS__, unix_path_room(out, out_length, none), out_length);   \
     }
-#define UNIX_PATH_MAKES_OF_ONE(name)                                                               \
-    UNIX_PATH_MAKES(name, UNIX_PATH_READS_ONE UNIX_PATH_FILLS(3, 4),                               \
-                    (UNIX_PATH_ONE, UNIX_PATH_OUT), UNIX_PATH_A)
-#define UNIX_PATH_MAKES_OF_TWO(name)                                                               \
-    UNIX_PATH_MAKES(name, UNIX_PATH_READS_TWO UNIX_PATH_FILLS(5, 6),                               \
-                    (UNIX_PATH_TWO, UNIX_PATH_OUT), UNIX_PATH_AB)
+#define UNIX_PATH_MAKE(name)                                                                       \
+    UNIX_PATH_OUT_CALL(name, UNIX_PATH_READS_ONE UNIX_PATH_FILLS(3, 4),                            \
+                       (UNIX_PATH_ONE, UNIX_PATH_OUT), UNIX_PATH_A)
+#define UNIX_PATH_MAKE_OF_TWO(name)                                                                \
+    UNIX_PATH_OUT_CALL(name, UNIX_PATH_READS_TWO UNIX_PATH_FILLS(5, 6),                            \
+                       (UNIX_PATH_TWO, UNIX_PATH_OUT), UNIX_PATH_AB)
+#define UNIX_PATH_MAKE_OF_TWO_AS(name)                                                             \
+    UNIX_PATH_OUT_CALL(name, UNIX_PATH_READS_TWO UNIX_PATH_FILLS(6, 7),                            \
+                       (UNIX_PATH_TWO, bool as, UNIX_PATH_OUT), UNIX_PATH_AB, as)
 
-UNIX_PATH_READS_ONE UNIX_PATH_WRITES(3) UNIX_PATH_INLINE
-void unix_path_inline_components(UNIX_PATH_ONE, unix_path_walk *walk) {
-    unix_path_components(UNIX_PATH_A, walk);
-}
-UNIX_PATH_READS_ONE UNIX_PATH_LOOKS(3) UNIX_PATH_WRITES(4) UNIX_PATH_INLINE
-void unix_path_inline_as_path(UNIX_PATH_ONE, const unix_path_walk *walk, unix_path_place *place) {
-    unix_path_as_path(UNIX_PATH_A, walk, place);
-}
-UNIX_PATH_STEPS(next)
-UNIX_PATH_STEPS(next_back)
-UNIX_PATH_CALL(bool, next_ancestor, UNIX_PATH_READS_ONE UNIX_PATH_MOVES(3) UNIX_PATH_WRITES(4),
-               (UNIX_PATH_ONE, size_t *next, unix_path_place *ancestor),
-               (UNIX_PATH_A, next, ancestor))
-UNIX_PATH_CALL(bool, next_chunk, UNIX_PATH_READS_ONE UNIX_PATH_MOVES(3) UNIX_PATH_WRITES(4),
-               (UNIX_PATH_ONE, size_t *next, unix_path_chunk *chunk), (UNIX_PATH_A, next, chunk))
-UNIX_PATH_FINDS(parent)
-UNIX_PATH_FINDS(file_name)
-UNIX_PATH_FINDS(file_stem)
-UNIX_PATH_FINDS(extension)
-UNIX_PATH_FINDS(file_prefix)
-UNIX_PATH_FINDS_OF_TWO(strip_prefix)
-UNIX_PATH_ASKS_TWO(bool, starts_with)
-UNIX_PATH_ASKS_TWO(bool, ends_with)
-UNIX_PATH_ASKS_TWO(bool, equal)
-UNIX_PATH_ASKS_TWO(int32_t, compare)
-UNIX_PATH_ASKS(uint64_t, hash)
-UNIX_PATH_ASKS(bool, is_utf8)
-UNIX_PATH_ASKS(bool, is_canonical)
-UNIX_PATH_ASKS(bool, is_absolute)
-UNIX_PATH_ASKS(bool, climbs)
-UNIX_PATH_ASKS(int32_t, check_request)
-UNIX_PATH_ASKS_TWO(size_t, common_dir)
-UNIX_PATH_MAKES_OF_TWO(join)
-UNIX_PATH_MAKES_OF_TWO(with_file_name)
-UNIX_PATH_MAKES_OF_TWO(with_extension)
-UNIX_PATH_MAKES_OF_TWO(with_added_extension)
-UNIX_PATH_MAKES_OF_ONE(canonical)
-UNIX_PATH_MAKES_OF_ONE(to_string_lossy)
-UNIX_PATH_MAKES_OF_ONE(resolved)
-UNIX_PATH_MAKES_OF_TWO(join_plain)
-UNIX_PATH_MAKES(join_below, UNIX_PATH_READS_TWO UNIX_PATH_FILLS(6, 7),
-                (UNIX_PATH_TWO, bool as_url, UNIX_PATH_OUT), UNIX_PATH_AB, as_url)
-UNIX_PATH_MAKES_OF_TWO(way)
-UNIX_PATH_MAKES_OF_ONE(key)
-UNIX_PATH_MAKES_OF_ONE(from_key)
-UNIX_PATH_MAKES_OF_ONE(key_end)
+/* And for those without an answer. */
+#define UNIX_PATH_BEGIN(name)                                                                      \
+    UNIX_PATH_READS_ONE UNIX_PATH_WRITES(3) UNIX_PATH_INLINE                                       \
+    void unix_path_inline_##name(UNIX_PATH_ONE, unix_path_walk *walk) {                            \
+        unix_path_##name(UNIX_PATH_A, walk);                                                       \
+    }
+#define UNIX_PATH_LEFT(name)                                                                       \
+    UNIX_PATH_READS_ONE UNIX_PATH_LOOKS(3) UNIX_PATH_WRITES(4) UNIX_PATH_INLINE                    \
+    void unix_path_inline_##name(UNIX_PATH_ONE, const unix_path_walk *walk,                        \
+                                 unix_path_place *place) {                                         \
+        unix_path_##name(UNIX_PATH_A, walk, place);                                                \
+    }
+
+/* tools/calls wrote the next lines from the exports of crates/unix_path_c/src. */
+UNIX_PATH_BEGIN(components)
+UNIX_PATH_STEP(next)
+UNIX_PATH_STEP(next_back)
+UNIX_PATH_LEFT(as_path)
+UNIX_PATH_NEXT_PLACE(next_ancestor)
+UNIX_PATH_NEXT_CHUNK(next_chunk)
+UNIX_PATH_FIND(parent)
+UNIX_PATH_FIND(file_name)
+UNIX_PATH_FIND(file_stem)
+UNIX_PATH_FIND(extension)
+UNIX_PATH_FIND(file_prefix)
+UNIX_PATH_FIND_OF_TWO(strip_prefix)
+UNIX_PATH_ASK_TWO(bool, starts_with)
+UNIX_PATH_ASK_TWO(bool, ends_with)
+UNIX_PATH_ASK_TWO(bool, equal)
+UNIX_PATH_ASK_TWO(int32_t, compare)
+UNIX_PATH_ASK(uint64_t, hash)
+UNIX_PATH_ASK(bool, is_utf8)
+UNIX_PATH_ASK(bool, is_canonical)
+UNIX_PATH_ASK(bool, is_absolute)
+UNIX_PATH_ASK(bool, climbs)
+UNIX_PATH_ASK(int32_t, check_request)
+UNIX_PATH_ASK_TWO(size_t, common_dir)
+UNIX_PATH_MAKE_OF_TWO(join)
+UNIX_PATH_MAKE_OF_TWO(with_file_name)
+UNIX_PATH_MAKE_OF_TWO(with_extension)
+UNIX_PATH_MAKE_OF_TWO(with_added_extension)
+UNIX_PATH_MAKE(canonical)
+UNIX_PATH_MAKE(to_string_lossy)
+UNIX_PATH_MAKE(resolved)
+UNIX_PATH_MAKE_OF_TWO(join_plain)
+UNIX_PATH_MAKE_OF_TWO_AS(join_below)
+UNIX_PATH_MAKE_OF_TWO(way)
+UNIX_PATH_MAKE(key)
+UNIX_PATH_MAKE(from_key)
+UNIX_PATH_MAKE(key_end)
 
 #define unix_path_components unix_path_inline_components
-#define unix_path_as_path unix_path_inline_as_path
 #define unix_path_next unix_path_inline_next
 #define unix_path_next_back unix_path_inline_next_back
+#define unix_path_as_path unix_path_inline_as_path
 #define unix_path_next_ancestor unix_path_inline_next_ancestor
 #define unix_path_next_chunk unix_path_inline_next_chunk
 #define unix_path_parent unix_path_inline_parent
@@ -592,6 +609,7 @@ UNIX_PATH_MAKES_OF_ONE(key_end)
 #define unix_path_key unix_path_inline_key
 #define unix_path_from_key unix_path_inline_from_key
 #define unix_path_key_end unix_path_inline_key_end
+/* The end of what tools/calls wrote. */
 
 #undef UNIX_PATH_NONNULL
 #undef UNIX_PATH_ALL_NONNULL
@@ -610,14 +628,19 @@ UNIX_PATH_MAKES_OF_ONE(key_end)
 #undef UNIX_PATH_READS_ONE
 #undef UNIX_PATH_READS_TWO
 #undef UNIX_PATH_CALL
-#undef UNIX_PATH_ASKS
-#undef UNIX_PATH_ASKS_TWO
-#undef UNIX_PATH_STEPS
-#undef UNIX_PATH_FINDS
-#undef UNIX_PATH_FINDS_OF_TWO
-#undef UNIX_PATH_MAKES
-#undef UNIX_PATH_MAKES_OF_ONE
-#undef UNIX_PATH_MAKES_OF_TWO
+#undef UNIX_PATH_OUT_CALL
+#undef UNIX_PATH_BEGIN
+#undef UNIX_PATH_LEFT
+#undef UNIX_PATH_STEP
+#undef UNIX_PATH_NEXT_PLACE
+#undef UNIX_PATH_NEXT_CHUNK
+#undef UNIX_PATH_FIND
+#undef UNIX_PATH_FIND_OF_TWO
+#undef UNIX_PATH_ASK
+#undef UNIX_PATH_ASK_TWO
+#undef UNIX_PATH_MAKE
+#undef UNIX_PATH_MAKE_OF_TWO
+#undef UNIX_PATH_MAKE_OF_TWO_AS
 #if defined(__GNUC__) && !defined(UNIX_PATH_NO_ATTRIBUTES)
 #pragma GCC diagnostic pop
 #endif

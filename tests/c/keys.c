@@ -1,79 +1,7 @@
-// Keys of paths, read back, and the ends of their ranges: rows, and all short strings.
+// Keys of paths, read back, and the ends of their ranges, of all short strings.
 #define _DEFAULT_SOURCE
 #include "check.h"
 #include "comparisons.h"
-
-// Bytes that may hold a NUL.
-#define BYTES(literal) {(const uint8_t *)(literal), sizeof(literal) - 1}
-
-// A path, its key, the end of the key's range, which that of the empty path lacks, and what the key
-// reads back as.
-static const struct {
-    view path, key, end, canonical;
-} rows[] = {
-    {BYTES(""), BYTES(""), BYTES(""), BYTES("")},
-    {BYTES("/"), BYTES("\x00\x01"), BYTES("\x00\x02"), BYTES("/")},
-    {BYTES("//."), BYTES("\x00\x01"), BYTES("\x00\x02"), BYTES("/")},
-    {BYTES("./"), BYTES("\x00\x02"), BYTES("\x00\x03"), BYTES(".")},
-    {BYTES(".."), BYTES("\x00\x03"), BYTES("\x00\x04"), BYTES("..")},
-    {BYTES("/.."), BYTES("\x00\x01\x00\x03"), BYTES("\x00\x01\x00\x04"), BYTES("/..")},
-    {BYTES(".././/.."), BYTES("\x00\x03\x00\x03"), BYTES("\x00\x03\x00\x04"), BYTES("../..")},
-    {BYTES("/a"), BYTES("\x00\x01\x61\x00"), BYTES("\x00\x01\x61\x01"), BYTES("/a")},
-    {BYTES("a//b/."), BYTES("\x61\x00\x62\x00"), BYTES("\x61\x00\x62\x01"), BYTES("a/b")},
-    {BYTES("./a.b/.."), BYTES("\x00\x02\x61\x2F\x62\x00\x00\x03"),
-     BYTES("\x00\x02\x61\x2F\x62\x00\x00\x04"), BYTES("./a.b/..")},
-    {BYTES("/srv//a-1.txt/.."), BYTES("\x00\x01srv\x00\x61\x2E\x31\x2Ftxt\x00\x00\x03"),
-     BYTES("\x00\x01srv\x00\x61\x2E\x31\x2Ftxt\x00\x00\x04"), BYTES("/srv/a-1.txt/..")},
-    {BYTES("\x00\x2D\x30\xFF/"), BYTES("\x01\x2E\x30\xFF\x00"), BYTES("\x01\x2E\x30\xFF\x01"),
-     BYTES("\x00\x2D\x30\xFF")},
-};
-
-static const size_t row_count = sizeof rows / sizeof *rows;
-
-// Bytes that are the key of no path.
-static const view no_keys[] = {
-    BYTES("\x61"), BYTES("\x00"), BYTES("\x00\x00"), BYTES("\x00\x04"), BYTES("\x61\x00\x62"),
-    BYTES("\x61\x00\x00\x01"), BYTES("\x00\x03\x00\x02"), BYTES("\x2F\x00"),
-    BYTES("\x2F\x2F\x00"), BYTES("\xFF"), BYTES("\x61\x00\xFF"), BYTES("/srv"),
-};
-
-static fence around;
-
-// Whether the call gives this answer and writes these bytes, if they fit, in so much room of the
-// fence.
-static bool is_answered(call_of_one call, view given, size_t answer, view wanted, size_t room) {
-    uint8_t *out = around.begin + around.size - room;
-    memset(out, 0xA5, room);
-    return call(given.bytes, given.length, out, room) == answer
-           && is_written(out, room, wanted.length <= room ? wanted : view_of(""));
-}
-
-static void keys_in_every_room(void) {
-    for (size_t row = 0; row < row_count; row++) {
-        view key = rows[row].key, end = rows[row].end;
-        size_t end_length = key.length == 0 ? UNIX_PATH_NO_END : end.length;
-        view canonical = rows[row].canonical;
-        for (size_t room = 0; room <= key.length + 3; room++) {
-            CHECK(is_answered(unix_path_key, rows[row].path, key.length, key, room),
-                  "row %zu, room %zu", row, room);
-            CHECK(is_answered(unix_path_key_end, key, end_length, end, room),
-                  "row %zu, room %zu", row, room);
-            CHECK(is_answered(unix_path_from_key, key, canonical.length, canonical, room),
-                  "row %zu, room %zu", row, room);
-        }
-    }
-}
-
-static void bytes_that_are_no_keys(void) {
-    for (size_t row = 0; row < sizeof no_keys / sizeof *no_keys; row++) {
-        for (size_t room = 0; room <= 8; room++) {
-            CHECK(is_answered(unix_path_key_end, no_keys[row], UNIX_PATH_NOT_A_KEY, view_of(""),
-                              room), "row %zu, room %zu", row, room);
-            CHECK(is_answered(unix_path_from_key, no_keys[row], UNIX_PATH_NOT_A_KEY, view_of(""),
-                              room), "row %zu, room %zu", row, room);
-        }
-    }
-}
 
 // The order in which a store keeps these keys.
 static int compare_keys(view a, view b) {
@@ -145,9 +73,6 @@ static void laws_of_keys(void) {
 }
 
 int main(void) {
-    around = new_fence();
-    run("keys and ends of ranges in every room", keys_in_every_room);
-    run("bytes that are no keys", bytes_that_are_no_keys);
     run("strings read as keys", strings_as_keys);
     run("laws of keys", laws_of_keys);
     return finish();

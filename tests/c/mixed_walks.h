@@ -14,9 +14,14 @@ static inline size_t take_all(view path, unix_path_walk walk, unix_path_part *pa
     return count;
 }
 
-static inline bool same_text(view path, unix_path_part a, unix_path_part b) {
-    view first = {path.bytes + a.start, a.length}, second = {path.bytes + b.start, b.length};
-    return a.kind == b.kind && same_bytes(first, second);
+// Whether the place reaches from the first of these parts to the last, or is empty without any.
+static inline bool reaches(unix_path_place place, const unix_path_part *parts, size_t count) {
+    if (count == 0) {
+        return place.length == 0;
+    }
+    unix_path_part last = parts[count - 1];
+    return place.start == parts[0].start
+           && place.start + place.length == last.start + last.length;
 }
 
 // Takes as the bits of `turns` say; the parts in front, left and behind have to be those of path.
@@ -43,8 +48,9 @@ static inline void walk_by(view path, unsigned turns, const unix_path_part *part
     CHECK(take_all(left, fresh, again) == behind - front, "turns %u", turns);
     for (size_t at = front; at < behind; at++) {
         again[at - front].start += rest.start;
-        CHECK(same_text(path, again[at - front], parts[at]), "turns %u", turns);
+        CHECK(same_part(again[at - front], parts[at]), "turns %u", turns);
     }
+    CHECK(reaches(rest, parts + front, behind - front), "turns %u", turns);
 }
 
 static inline void walks_of(view path) {

@@ -1,6 +1,8 @@
 // Each call with a null pointer for the empty path, and for an out without room: it answers what it
-// answers for a path of no bytes that stands somewhere.
+// answers for a path of no bytes that stands somewhere. Calls are named only in rows of expected
+// answers.
 #define _DEFAULT_SOURCE
+#include "../passed_on.h"
 #include "check.h"
 #include "comparisons.h"
 #include "records.h"
@@ -8,6 +10,19 @@
 static const view none = {NULL, 0};
 static const char *const others[] = {"", "/", "a.b", "x//y.tar/.", "../a", "./b"};
 static const size_t other_count = sizeof others / sizeof *others;
+
+// Compares each function of the header with its call.
+static void each_function(void) {
+    CHECK(wrong_functions(NULL, 0, NULL, 0, 64) == 0, "nothing");
+    CHECK(wrong_functions(NULL, 0, NULL, 0, 0) == 0, "nothing, without room");
+    for (size_t at = 0; at < other_count; at++) {
+        view path = view_of(others[at]);
+        CHECK(wrong_functions(path.bytes, path.length, NULL, 0, 64) == 0, "row %zu", at);
+        CHECK(wrong_functions(path.bytes, path.length, NULL, 0, 0) == 0, "row %zu, no room", at);
+        CHECK(wrong_functions(NULL, 0, path.bytes, path.length, 64) == 0, "row %zu", at);
+        CHECK(wrong_functions(NULL, 0, path.bytes, path.length, 0) == 0, "row %zu, no room", at);
+    }
+}
 
 static void walks_of_nothing(void) {
     unix_path_walk walk = {1, 2};
@@ -139,6 +154,7 @@ static void lengths(void) {
 }
 
 int main(void) {
+    run("each function", each_function);
     run("walks of nothing", walks_of_nothing);
     run("places in nothing", places_in_nothing);
     run("questions of nothing", questions_of_nothing);

@@ -1,13 +1,12 @@
-// The header in C++: each call has the type that it says, and links by its name.
+// The header in C++: each call has the type of its shape, links by its name, and returns and writes
+// the same as the library's own call. Calls are named only in rows of expected answers.
 #include <algorithm>
 #include <array>
 #include <cstdio>
 #include <string>
 #include <string_view>
 
-#include "unix_path.h"
-
-namespace {
+#include "../passed_on.h"
 
 using OfOne = size_t (*)(const void *, size_t, void *, size_t);
 using OfTwo = size_t (*)(const void *, size_t, const void *, size_t, void *, size_t);
@@ -15,13 +14,42 @@ using Turn = bool (*)(const void *, size_t, unix_path_walk *, unix_path_part *);
 using Place = bool (*)(const void *, size_t, unix_path_place *);
 using Relation = bool (*)(const void *, size_t, const void *, size_t);
 using Truth = bool (*)(const void *, size_t);
+using Begin = void (*)(const void *, size_t, unix_path_walk *);
+using Left = void (*)(const void *, size_t, const unix_path_walk *, unix_path_place *);
+using Remainder = bool (*)(const void *, size_t, const void *, size_t, unix_path_place *);
+using Below = size_t (*)(const void *, size_t, const void *, size_t, bool, void *, size_t);
+using Ancestor = bool (*)(const void *, size_t, size_t *, unix_path_place *);
+using Chunk = bool (*)(const void *, size_t, size_t *, unix_path_chunk *);
+
+// Each call by its name, with the type of its shape.
+namespace calls {
+#define BEGIN(name) inline constexpr Begin name = unix_path_##name;
+#define LEFT(name) inline constexpr Left name = unix_path_##name;
+#define STEP(name) inline constexpr Turn name = unix_path_##name;
+#define NEXT_PLACE(name) inline constexpr Ancestor name = unix_path_##name;
+#define NEXT_CHUNK(name) inline constexpr Chunk name = unix_path_##name;
+#define FIND(name) inline constexpr Place name = unix_path_##name;
+#define FIND_OF_TWO(name) inline constexpr Remainder name = unix_path_##name;
+#define ASK(answer, name) inline constexpr answer (*name)(const void *, size_t) = unix_path_##name;
+#define ASK_TWO(answer, name)                                                                      \
+    inline constexpr answer (*name)(const void *, size_t, const void *, size_t) = unix_path_##name;
+#define MAKE(name) inline constexpr OfOne name = unix_path_##name;
+#define MAKE_OF_TWO(name) inline constexpr OfTwo name = unix_path_##name;
+#define MAKE_OF_TWO_AS(name) inline constexpr Below name = unix_path_##name;
+#include "../calls.inc"
+}  // namespace calls
+
+namespace {
+
+using namespace calls;
+using namespace std::string_view_literals;
+
 
 constexpr std::array<OfOne, 3> of_one{unix_path_canonical, unix_path_to_string_lossy,
                                       unix_path_resolved};
 constexpr std::array<OfTwo, 5> of_two{unix_path_join, unix_path_with_file_name,
                                       unix_path_with_extension, unix_path_with_added_extension,
                                       unix_path_join_plain};
-constexpr OfTwo way = unix_path_way;
 constexpr std::array<Turn, 2> turns{unix_path_next, unix_path_next_back};
 constexpr std::array<Place, 5> places{unix_path_parent, unix_path_file_name, unix_path_file_stem,
                                       unix_path_extension, unix_path_file_prefix};
@@ -68,31 +96,20 @@ int right_calls() {
     return right;
 }
 
-using Begin = void (*)(const void *, size_t, unix_path_walk *);
-using Left = void (*)(const void *, size_t, const unix_path_walk *, unix_path_place *);
-using Remainder = bool (*)(const void *, size_t, const void *, size_t, unix_path_place *);
-using Order = int32_t (*)(const void *, size_t, const void *, size_t);
-using Length = size_t (*)(const void *, size_t, const void *, size_t);
-using Hash = uint64_t (*)(const void *, size_t);
-using Reason = int32_t (*)(const void *, size_t);
-using Below = size_t (*)(const void *, size_t, const void *, size_t, bool, void *, size_t);
-
-using Ancestor = bool (*)(const void *, size_t, size_t *, unix_path_place *);
-using Chunk = bool (*)(const void *, size_t, size_t *, unix_path_chunk *);
-
-constexpr Ancestor next_ancestor = unix_path_next_ancestor;
-constexpr Chunk next_chunk = unix_path_next_chunk;
-constexpr Begin components = unix_path_components;
-constexpr Left as_path = unix_path_as_path;
-constexpr Remainder strip_prefix = unix_path_strip_prefix;
-constexpr Order compare = unix_path_compare;
-constexpr Length common_dir = unix_path_common_dir;
-constexpr Hash hash = unix_path_hash;
-constexpr Reason check_request = unix_path_check_request;
-constexpr Below join_below = unix_path_join_below;
-constexpr OfOne key = unix_path_key;
-constexpr OfOne from_key = unix_path_from_key;
-constexpr OfOne key_end = unix_path_key_end;
+// Returns how often a function differs from its call, on each two of these paths.
+int wrong_on_paths() {
+    const std::array<std::string_view, 6> paths{"",     "/",       "a.b", ".//x//y.tar/.",
+                                                "../a", "a\0\0c"sv};
+    int wrong = 0;
+    for (std::string_view a : paths) {
+        for (std::string_view b : paths) {
+            for (size_t room : {size_t{0}, size_t{2}, size_t{64}}) {
+                wrong += wrong_functions(a.data(), a.size(), b.data(), b.size(), room);
+            }
+        }
+    }
+    return wrong;
+}
 
 // Whether a request with a root is refused as it stands, and joined as that of a URL.
 bool is_joined_below() {
@@ -109,7 +126,6 @@ bool is_joined_below() {
 
 // Whether the key of a path, read back too, and the end of its range are right, and refusals.
 bool is_key_right() {
-    using namespace std::string_view_literals;
     uint8_t none = 0;
     std::string_view path = "/a", of_path = "\0\1a\0"sv;
     return output_of(key, path) == of_path && output_of(from_key, of_path) == path
@@ -152,7 +168,7 @@ bool other_calls_are_right() {
 }  // namespace
 
 int main() {
-    bool is_right = right_calls() == 22 && other_calls_are_right();
+    bool is_right = right_calls() == 22 && other_calls_are_right() && wrong_on_paths() == 0;
     std::puts(is_right ? "1 passed, 0 failed" : "0 passed, 1 failed");
     return is_right ? 0 : 1;
 }

@@ -127,36 +127,6 @@ std::vector<std::string> strings(std::string_view letters, std::size_t longest) 
     return all;
 }
 
-void rows() {
-    CHECK(*view("/a//b/").parent() == "/a" && view("/a//b/").parent()->bytes() == "/a");
-    CHECK(!view("/").parent() && !view("").parent() && view("a").parent()->empty());
-    CHECK(view("a/b.txt/.").file_name() == "b.txt" && !view("a/..").file_name());
-    CHECK(view("a.tar.gz").file_stem() == "a.tar" && view(".a").file_stem() == ".a");
-    CHECK(view("a.tar.gz").extension() == "gz" && !view(".a").extension());
-    CHECK(view("a.tar.gz").file_prefix() == "a" && !view("..").file_prefix());
-    CHECK(view("/a//b/").strip_prefix("/a")->bytes() == "b" && !view("/a").strip_prefix("a"));
-    CHECK(view("/etc/passwd").starts_with("/etc/") && !view("/etc/passwd").starts_with("/e"));
-    CHECK(view("/etc/passwd").ends_with("passwd") && !view("a/b").ends_with("./b"));
-    CHECK(view("./a/b").is_canonical() && !view("a//b").is_canonical());
-    CHECK(view("/a").is_absolute() && !view("a/").is_absolute());
-    CHECK(view("caf\xC3\xA9").is_utf8() && !view("caf\xE9").is_utf8());
-    CHECK(view("a/../../b").climbs() && !view("a/../b").climbs());
-    CHECK(view("a/./b").common_dir("a/b") == 2 && view("a/b").common_dir("ab") == 0);
-    CHECK(view("/a").check_request() == unix_path::request_check::has_root);
-    CHECK(view("..").check_request() == unix_path::request_check::climbs);
-    CHECK(view("a\0"sv).check_request() == unix_path::request_check::has_nul);
-    CHECK(view("a/../b").check_request() == unix_path::request_check::is_fine);
-}
-
-// A join that starts with its root, though it leads out; the members that refuse to make it.
-void joins_that_climb() {
-    CHECK(view("/dest").join("../etc") == "/dest/../etc");
-    CHECK(view("/dest/../etc").starts_with("/dest"));
-    CHECK(view("/dest/../etc").strip_prefix("/dest")->bytes() == "../etc");
-    CHECK(view("/dest").join_below("../etc", reading::as_path).why() == refusal::escapes);
-    CHECK(view("/dest").join_plain("../etc").why() == refusal::escapes);
-}
-
 void comparisons() {
     const std::string text = "a/./b//";
     CHECK(view("a/./b//") == view("a/b") && text == view("a/b") && view("a/b") == "a/b/"sv);
@@ -169,22 +139,7 @@ void comparisons() {
 #endif
 }
 
-void written_strings() {
-    CHECK(view("/a").join("./b") == "/a/./b"sv && view("/a").join("/b") == "/b"sv);
-    CHECK(view("/a").join("./b").size() == 6);
-    CHECK(view("/a/b.txt").with_file_name("c") == "/a/c");
-    CHECK(*view("a.rs").with_extension("txt") == "a.txt");
-    CHECK(view("a.rs").with_extension("x/y").why() == refusal::separator);
-    CHECK(*view("a.tar").with_added_extension("gz") == "a.tar.gz");
-    CHECK(view("a.rs").with_added_extension("x/y").why() == refusal::separator);
-    CHECK(view(".//a/./b/").canonical() == "./a/b" && view("a\xFF").to_string_lossy() == "a\uFFFD");
-    CHECK(view("a/../..//b/.").resolved() == "../b" && view("a/..").resolved().empty());
-    CHECK(*view("/srv/..").join_plain("./a") == "/srv/.././a");
-    CHECK(view("/srv").join_plain("a/../b").why() == refusal::escapes);
-    CHECK(view("/srv").join_plain("..\0/a"sv).why() == refusal::nul_in_request);
-    CHECK(*view("/s\0v"sv).join_plain("a") == "/s\0v/a"sv);
-    CHECK(*view("/a/b/c").way("/a/d") == "../../d" && view("a//b").way("a/b")->empty());
-    CHECK(view("../x").way("y").why() == refusal::no_way);
+void names() {
     CHECK(unix_path::name_of(*view("../x").way("y").why()) == "no_way"sv);
     CHECK(unix_path::name_of(refusal::separator) == "separator"sv);
     CHECK(unix_path::name_of(refusal::escapes) == "escapes"sv);
@@ -197,15 +152,11 @@ void written_strings() {
     CHECK(unix_path::name_of(component_kind::cur_dir) == "cur_dir"sv);
     CHECK(unix_path::name_of(component_kind::parent_dir) == "parent_dir"sv);
     CHECK(unix_path::name_of(component_kind::normal) == "normal"sv);
-    CHECK(*view("/srv/").join_below("/../b", reading::as_url) == "/srv/b");
-    CHECK(view("/srv/").join_below("/../b", reading::as_path).why() == refusal::escapes);
-    CHECK(view("/srv").join_below("a\0"sv, reading::as_url).why() == refusal::nul_in_request);
-    CHECK(view("/a//b.c").key() == "\0\1a\0b/c\0"sv && view("").key().empty());
-    CHECK(*unix_path::from_key("\0\1a\0b/c\0"sv) == "/a/b.c" && unix_path::from_key("")->empty());
-    CHECK(unix_path::from_key("a").why() == refusal::not_a_key);
-    CHECK(*unix_path::key_end("a\0"sv) == "a\1" && unix_path::key_end("").why() == refusal::no_end);
-    CHECK(unix_path::key_end("a").why() == refusal::not_a_key);
+}
+
+void results() {
     CHECK(view("/srv").join_plain("..").value_or("none") == "none");
+    CHECK(view("/srv").join_plain("..").why() == refusal::escapes);
     CHECK(view("/srv").join_plain("a").value_or("none") == "/srv/a");
     CHECK(!view("/srv").join_plain("a").why() && view("/srv").join_plain("a")->size() == 6);
     std::string taken = view("/srv/").join_plain("a").value_or("") + *view("b").way("b");
@@ -372,11 +323,6 @@ void parents() {
         const auto first = view(path).ancestors().begin();
         CHECK(std::next(first) != first && first == view(path).ancestors().begin());
     }
-    std::vector<std::string_view> found;
-    for (view ancestor : view("/a//b/.").ancestors()) {
-        found.push_back(ancestor.bytes());
-    }
-    CHECK(found == std::vector{"/a//b/."sv, "/a"sv, "/"sv});
 }
 
 // The chunks stand side by side in the path, and what they show is the lossy text.
@@ -394,9 +340,6 @@ void chunks() {
         CHECK((first == it.chunks().end()) == path.empty() && first == it.chunks().begin());
         CHECK(path.empty() || std::next(first) != first);
     }
-    const auto chunks = view("a\xFF" "b"sv).chunks();
-    const std::vector<unix_path::chunk> found(chunks.begin(), chunks.end());
-    CHECK(found == std::vector<unix_path::chunk>{{"a"sv, "\xFF"sv}, {"b"sv, ""sv}});
 }
 
 // An answer as a string and in buffers of each size, which are the same.
@@ -566,10 +509,9 @@ void looked_at_refusals() {
 }  // namespace
 
 int main() {
-    run("rows", rows);
-    run("joins that climb", joins_that_climb);
     run("comparisons", comparisons);
-    run("written strings", written_strings);
+    run("names", names);
+    run("results", results);
     run("places", places);
     run("iterators", iterators);
     run("reversed parts", reversed_parts);

@@ -1,6 +1,7 @@
 """Counts the instructions of the calls from C, each on the families of paths that suit it.
 
-calls.c makes the calls. What they answer isn't looked at: tests do that.
+calls.c makes the calls, each as those of its shape are made. What they answer isn't looked at:
+tests do that.
 """
 import os
 import re
@@ -11,6 +12,7 @@ import subprocess
 import sys
 import tempfile
 
+import call_shapes
 from counting import families
 from counting.callgrind import counts
 from repository import ROOT
@@ -30,7 +32,8 @@ def read_calls(checkout):
 
 def rows_of(checkout):
     """The rows of the calls from C that a checkout has; a call that is gone by now has none."""
-    rows = families.rows(read_calls(checkout))
+    shapes = {it.name: it.shape for it in call_shapes.read_calls()}
+    rows = families.rows(read_calls(checkout), shapes)
     lacking = read_calls(checkout) & read_calls(ROOT) - {row.call for row in rows}
     if lacking:
         sys.exit(f"no family of tools/counting/families.py has these calls: {', '.join(lacking)}")

@@ -1,7 +1,8 @@
 """The paths on which tools/count counts the calls from C: families, each of several sizes.
 
 A family makes two paths from a size; a call of one path gets the first. PAIRS and PATHS say which
-calls are counted on which family. A row is a call, a family and a size.
+calls are counted on which family, and OTHERS on which those are that no list names, by their
+shapes. A row is a call, a family and a size.
 """
 import collections
 
@@ -192,6 +193,21 @@ URLS = [
     ("rooted_climbs_first", lambda n: b"/../" + plain(n - 4), SHORT),
 ]
 
+# Families for a call that no list above names, by the shapes of tools/call_shapes.py.
+OF_A_PATH = "BEGIN LEFT STEP NEXT_PLACE NEXT_CHUNK FIND ASK MAKE"
+OF_TWO = "FIND_OF_TWO ASK_TWO"
+OTHERS = [
+    ("plain", lambda n: (plain(n), b"new.rs"), EDGES, f"{OF_A_PATH} MAKE_OF_TWO"),
+    ("rooted", lambda n: (b"/" + plain(n - 1), b""), EDGES, OF_A_PATH),
+    ("gap_each", lambda n: (cut(n, b"a/./"), b""), EDGES, OF_A_PATH),
+    ("tail_slashes", lambda n: (b"a" + b"/" * n, b"b"), SCORES, f"{OF_A_PATH} MAKE_OF_TWO"),
+    ("same", lambda n: (plain(n), plain(n)), EDGES, OF_TWO),
+    ("next_listed", lambda n: (plain(n - 4) + b"-007", plain(n - 4) + b"-008"), EDGES, OF_TWO),
+    ("respelled_each", lambda n: (plain(n), respelled_each(plain(n))), EDGES,
+     f"{OF_TWO} MAKE_OF_TWO"),
+    ("comes_down", lambda n: (ROOT, cut(n, b"a/../")), EDGES, "MAKE_OF_TWO_AS"),
+]
+
 
 def families():
     """Each family: its name, how its paths are made, its sizes, and the calls."""
@@ -205,9 +221,20 @@ def families():
         yield title, lambda n, make=make: (make(n), b""), sizes, "from_key key_end"
 
 
-def rows(calls):
+def families_of(shapes):
+    """Each family, with the calls of these shapes, by their names, that no family names."""
+    found = list(families())
+    named = {call for *_, calls in found for call in calls.split()}
+    others = {call: shape for call, shape in shapes.items() if call not in named}
+    yield from found
+    for title, make, sizes, wanted in OTHERS:
+        calls = [call for call, shape in others.items() if shape in wanted.split()]
+        yield title, make, sizes, " ".join(calls)
+
+
+def rows(calls, shapes):
     """The rows of these calls, each family's one after the other."""
     return [Row(f"{call} {title} {size}", call, [make(length) for length in lengths])
-            for title, make, sizes, named in families()
+            for title, make, sizes, named in families_of(shapes)
             for call in named.split() if call in calls
             for size, lengths in sizes.items()]

@@ -1,7 +1,7 @@
 //! Times the Rust calls over the C face beside `std::path` on the same bytes, and prints our time
-//! over std's; below each, the time of the method of `unix_path_typed`, of the crates' own call, and
-//! of the call from C with nothing in between. It is a program of its own, since it is linked with
-//! the library of the face.
+//! over std's; below each, the time of the method of `unix_path_typed`, of the crates' own call,
+//! and of the call from C with nothing in between. It is a program of its own, since it is linked
+//! with the library of the face.
 #![allow(dead_code)] // The modules have more for the other program.
 mod called;
 mod calls;

@@ -6,7 +6,6 @@ mod command_sizes;
 mod commands;
 mod corpora;
 mod digest;
-mod keys;
 mod lines;
 mod options;
 mod ours;
@@ -18,7 +17,6 @@ mod rows;
 mod sizes;
 mod std_calls;
 mod std_tables;
-mod std_trees;
 mod std_within;
 mod table;
 mod tables;
@@ -44,9 +42,6 @@ fn main() -> ExitCode {
     }
     if options.has_part("tables") {
         tables::print(&options, &mut score);
-    }
-    if options.has_part("keys") {
-        keys::print(&options, &mut score);
     }
     if options.has_part("programs") {
         programs::print(&options, &mut score);

@@ -4,9 +4,7 @@ use crate::timing::Timer;
 use std::process::ExitCode;
 
 /// What can be timed, and over what.
-const PARTS: [&str; 7] = [
-    "calls", "texts", "tables", "keys", "programs", "sizes", "face",
-];
+const PARTS: [&str; 6] = ["calls", "texts", "tables", "programs", "sizes", "face"];
 const CORPORA: [&str; 4] = ["realistic", "adversarial", "deep", "non_utf8"];
 
 /// Whether each of the words is one of the names.
@@ -47,7 +45,7 @@ impl Options {
     /// The options that these words set, or the first word that sets none.
     fn read(words: impl Iterator<Item = String>) -> Result<Options, String> {
         let mut options = Options {
-            parts: list("calls,texts,tables,keys,programs"),
+            parts: list("calls,texts,tables,programs"),
             only: vec![],
             corpora: vec![],
             reps: 9,

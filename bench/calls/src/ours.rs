@@ -32,24 +32,10 @@ extern "C" {
     pub fn ours_to_string_lossy(path: Start, len: usize) -> u64;
     pub fn ours_display(path: Start, len: usize) -> u64;
     pub fn ours_chunks(bytes: Start, len: usize) -> u64;
-    pub fn ours_table_insert(lines: Start, len: usize) -> u64;
-    pub fn ours_table_get(lines: Start, len: usize, asked: Start, count: usize, rounds: u64)
-        -> u64;
-    pub fn ours_table_under(
-        lines: Start,
-        len: usize,
-        bases: Start,
-        count: usize,
-        rounds: u64,
-    ) -> u64;
-    pub fn ours_tree_insert(lines: Start, len: usize) -> u64;
-    pub fn ours_tree_get(
-        lines: Start,
-        len: usize,
-        asked: Start,
-        count: usize,
-        rounds: u64,
-    ) -> u64;
+    pub fn ours_key_and_back(path: Start, len: usize) -> u64;
+    pub fn ours_table(lines: Start, len: usize) -> u64;
+    pub fn ours_tree(lines: Start, len: usize) -> u64;
+    pub fn ours_tree_get(lines: Start, len: usize, asked: Start, count: usize, rounds: u64) -> u64;
     pub fn ours_tree_get_key(
         lines: Start,
         len: usize,
@@ -57,67 +43,6 @@ extern "C" {
         count: usize,
         rounds: u64,
     ) -> u64;
-    pub fn ours_tree_under(
-        lines: Start,
-        len: usize,
-        bases: Start,
-        count: usize,
-        rounds: u64,
-    ) -> u64;
-    pub fn ours_tree_nearest(
-        lines: Start,
-        len: usize,
-        asked: Start,
-        count: usize,
-        rounds: u64,
-    ) -> u64;
-    pub fn ours_tree_found(
-        lines: Start,
-        len: usize,
-        asked: Start,
-        count: usize,
-        rounds: u64,
-    ) -> u64;
-    pub fn ours_tree_at_entries(
-        lines: Start,
-        len: usize,
-        asked: Start,
-        count: usize,
-        rounds: u64,
-    ) -> u64;
-    pub fn ours_sort_keys(
-        lines: Start,
-        len: usize,
-        asked: Start,
-        count: usize,
-        rounds: u64,
-    ) -> u64;
-    pub fn ours_sort_paths(
-        lines: Start,
-        len: usize,
-        asked: Start,
-        count: usize,
-        rounds: u64,
-    ) -> u64;
-    pub fn ours_forms(
-        lines: Start,
-        len: usize,
-        asked: Start,
-        count: usize,
-        rounds: u64,
-    ) -> u64;
-    pub fn ours_keys(
-        lines: Start,
-        len: usize,
-        asked: Start,
-        count: usize,
-        rounds: u64,
-    ) -> u64;
-    pub fn ours_paths_of(
-        lines: Start,
-        len: usize,
-        asked: Start,
-        count: usize,
-        rounds: u64,
-    ) -> u64;
+    pub fn ours_sort_keys(lines: Start, len: usize, asked: Start, count: usize, rounds: u64)
+        -> u64;
 }

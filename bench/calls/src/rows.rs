@@ -109,6 +109,8 @@ fn edits() -> Vec<Row> {
         two("push and pop", ours_push_pop, std::push_pop, Other::Name),
         one("canonical", ours_canonical, std::canonical),
         one("resolved", ours_resolved, std_within::resolved),
+        // Rust has no keys: both sides give the canonical form.
+        one("key and back", ours_key_and_back, std::canonical),
     ]
 }
 

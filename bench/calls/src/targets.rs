@@ -26,14 +26,9 @@ const TARGETS: &[(&str, &str, f64)] = &[
     ("to_string_lossy", "broken", 0.8),
     ("display", "non_utf8", 0.5),
     ("display", "broken", 0.5),
-    ("table under", "", 0.8),
     ("table memory", "", 1.1),
     ("tree get beside hash", "", 3.0),
-    ("tree nearest beside get", "", 2.0),
-    ("tree under", "", 0.8),
     ("tree memory", "", 1.1),
-    ("key", "", 1.3),
-    ("key back", "", 1.3),
 ];
 
 /// The greatest ratio that is wanted of a row on a corpus: 1 if no line of the table says another.

@@ -1,8 +1,8 @@
 //! The calls of `libunix_path_c`, by what they take and answer. All `unsafe` code of this crate is
 //! here.
 //!
-//! A type of this module is a shape of calls, and its constants are the calls of that shape, as
-//! `include/unix_path.h` declares them. Only this module makes values of these types.
+//! A type of this module is a shape of calls, and its constants, which `tools/calls` wrote into
+//! `raw.rs`, are the calls of that shape. Only that module makes values of these types.
 //!
 //! Each `unsafe` block rests on the same promises of the library: a call reads the slices that it
 //! is given and writes the record or the buffer that it is given, and touches nothing else; it
@@ -15,7 +15,7 @@ mod raw;
 use crate::error::Error;
 #[cfg(feature = "alloc")]
 use alloc::vec::Vec;
-use core::cmp::Ordering;
+use raw::refusals::*;
 use raw::*;
 pub(crate) use raw::{Part, Walk};
 
@@ -88,11 +88,6 @@ impl Span {
 }
 
 impl Part {
-    pub const ROOT_DIR: u32 = 0;
-    pub const CUR_DIR: u32 = 1;
-    pub const PARENT_DIR: u32 = 2;
-    pub const NORMAL: u32 = 3;
-
     #[inline]
     pub fn of(self, path: &[u8]) -> Option<&[u8]> {
         cut(path, self.start, self.length)
@@ -100,7 +95,8 @@ impl Part {
 }
 
 impl Walk {
-    /// The walk over all parts of the path, without a call: what is left stands between the places.
+    /// The walk over all parts of the path, without `unix_path_components`: what is left stands
+    /// between the places.
     #[inline]
     pub const fn new(path: &[u8]) -> Walk {
         Walk {
@@ -120,12 +116,9 @@ impl Walk {
 }
 
 /// Calls that take a part of what is left of a walk.
-pub(crate) struct Step(StepOfWalk);
+pub(crate) struct Step(unsafe extern "C" fn(Start, usize, *mut Walk, *mut Part) -> bool);
 
 impl Step {
-    pub const NEXT: Step = Step(unix_path_next);
-    pub const NEXT_BACK: Step = Step(unix_path_next_back);
-
     #[inline]
     pub fn take(self, path: &[u8], walk: &mut Walk) -> Option<Part> {
         let mut part = Part {
@@ -173,15 +166,9 @@ pub(crate) fn next_chunk<'a>(path: &'a [u8], next: &mut usize) -> Option<(&'a [u
 }
 
 /// Calls that find something in a path.
-pub(crate) struct Find(SpanInOne);
+pub(crate) struct Find(unsafe extern "C" fn(Start, usize, *mut Span) -> bool);
 
 impl Find {
-    pub const PARENT: Find = Find(unix_path_parent);
-    pub const FILE_NAME: Find = Find(unix_path_file_name);
-    pub const FILE_STEM: Find = Find(unix_path_file_stem);
-    pub const EXTENSION: Find = Find(unix_path_extension);
-    pub const FILE_PREFIX: Find = Find(unix_path_file_prefix);
-
     #[inline]
     pub fn find(self, path: &[u8]) -> Option<&[u8]> {
         let mut span = Span::NOWHERE;
@@ -195,73 +182,44 @@ impl Find {
     }
 }
 
-#[inline]
-pub(crate) fn strip_prefix<'a>(path: &'a [u8], base: &[u8]) -> Option<&'a [u8]> {
-    let (start, length) = (path.as_ptr(), path.len());
-    let mut span = Span::NOWHERE;
-    // SAFETY: the slices are read, and the place is written.
-    let is_there =
-        unsafe { unix_path_strip_prefix(start, length, base.as_ptr(), base.len(), &mut span) };
-    if is_there {
-        span.of(path)
-    } else {
-        None
+/// Calls that find something in a path by another.
+pub(crate) struct FindOfTwo(unsafe extern "C" fn(Start, usize, Start, usize, *mut Span) -> bool);
+
+impl FindOfTwo {
+    #[inline]
+    pub fn find<'a>(self, path: &'a [u8], other: &[u8]) -> Option<&'a [u8]> {
+        let (start, length) = (path.as_ptr(), path.len());
+        let mut span = Span::NOWHERE;
+        // SAFETY: the slices are read, and the place is written.
+        let is_there = unsafe { (self.0)(start, length, other.as_ptr(), other.len(), &mut span) };
+        if is_there {
+            span.of(path)
+        } else {
+            None
+        }
     }
 }
 
-/// Questions about a path.
-pub(crate) struct Ask(TruthOfOne);
+/// Questions about a path, by what they answer.
+pub(crate) struct Ask<T>(unsafe extern "C" fn(Start, usize) -> T);
 
-impl Ask {
-    pub const IS_UTF8: Ask = Ask(unix_path_is_utf8);
-    pub const IS_CANONICAL: Ask = Ask(unix_path_is_canonical);
-    pub const IS_ABSOLUTE: Ask = Ask(unix_path_is_absolute);
-    pub const CLIMBS: Ask = Ask(unix_path_climbs);
-
+impl<T> Ask<T> {
     #[inline]
-    pub fn ask(self, path: &[u8]) -> bool {
+    pub fn ask(self, path: &[u8]) -> T {
         // SAFETY: the slice is read.
         unsafe { (self.0)(path.as_ptr(), path.len()) }
     }
 }
 
-/// Questions about two paths.
-pub(crate) struct AskTwo(TruthOfTwo);
+/// Questions about two paths, by what they answer.
+pub(crate) struct AskTwo<T>(unsafe extern "C" fn(Start, usize, Start, usize) -> T);
 
-impl AskTwo {
-    pub const STARTS_WITH: AskTwo = AskTwo(unix_path_starts_with);
-    pub const ENDS_WITH: AskTwo = AskTwo(unix_path_ends_with);
-    pub const EQUAL: AskTwo = AskTwo(unix_path_equal);
-
+impl<T> AskTwo<T> {
     #[inline]
-    pub fn ask(self, a: &[u8], b: &[u8]) -> bool {
+    pub fn ask(self, a: &[u8], b: &[u8]) -> T {
         // SAFETY: the slices are read.
         unsafe { (self.0)(a.as_ptr(), a.len(), b.as_ptr(), b.len()) }
     }
-}
-
-#[inline]
-pub(crate) fn compare(a: &[u8], b: &[u8]) -> Ordering {
-    // SAFETY: the slices are read.
-    unsafe { unix_path_compare(a.as_ptr(), a.len(), b.as_ptr(), b.len()) }.cmp(&0)
-}
-
-#[inline]
-pub(crate) fn hash(path: &[u8]) -> u64 {
-    // SAFETY: the slice is read.
-    unsafe { unix_path_hash(path.as_ptr(), path.len()) }
-}
-
-#[inline]
-pub(crate) fn check_request(path: &[u8]) -> i32 {
-    // SAFETY: the slice is read.
-    unsafe { unix_path_check_request(path.as_ptr(), path.len()) }
-}
-
-#[inline]
-pub(crate) fn common_dir(a: &[u8], b: &[u8]) -> usize {
-    // SAFETY: the slices are read.
-    unsafe { unix_path_common_dir(a.as_ptr(), a.len(), b.as_ptr(), b.len()) }
 }
 
 /// Writes the join of a checked request below the root. The call reads it as the path of a URL: a
@@ -295,16 +253,9 @@ pub(crate) fn fill_below(root: &[u8], request: &[u8], bytes: &mut Vec<u8>) -> Re
 
 /// Calls that write what they make of a path or of a key.
 #[derive(Clone, Copy)]
-pub(crate) struct Make(BytesOfOne);
+pub(crate) struct Make(unsafe extern "C" fn(Start, usize, *mut u8, usize) -> usize);
 
 impl Make {
-    pub const CANONICAL: Make = Make(unix_path_canonical);
-    pub const TO_STRING_LOSSY: Make = Make(unix_path_to_string_lossy);
-    pub const RESOLVED: Make = Make(unix_path_resolved);
-    pub const KEY: Make = Make(unix_path_key);
-    pub const FROM_KEY: Make = Make(unix_path_from_key);
-    pub const KEY_END: Make = Make(unix_path_key_end);
-
     #[inline]
     pub fn write<'o>(self, path: &[u8], out: &'o mut [u8]) -> Result<&'o [u8], Error> {
         // SAFETY: the slice is read, and the buffer is written.
@@ -324,16 +275,11 @@ impl Make {
 
 /// Calls that write what they make of a path and something else.
 #[derive(Clone, Copy)]
-pub(crate) struct MakeOfTwo(BytesOfTwo);
+pub(crate) struct MakeOfTwo(
+    unsafe extern "C" fn(Start, usize, Start, usize, *mut u8, usize) -> usize,
+);
 
 impl MakeOfTwo {
-    pub const JOIN: MakeOfTwo = MakeOfTwo(unix_path_join);
-    pub const WITH_FILE_NAME: MakeOfTwo = MakeOfTwo(unix_path_with_file_name);
-    pub const WITH_EXTENSION: MakeOfTwo = MakeOfTwo(unix_path_with_extension);
-    pub const WITH_ADDED_EXTENSION: MakeOfTwo = MakeOfTwo(unix_path_with_added_extension);
-    pub const JOIN_PLAIN: MakeOfTwo = MakeOfTwo(unix_path_join_plain);
-    pub const WAY: MakeOfTwo = MakeOfTwo(unix_path_way);
-
     #[inline]
     pub fn write<'o>(
         self,

@@ -1,7 +1,7 @@
 //! Questions about a path or about two. Answers lie in the path, and no call allocates.
 use crate::components::Components;
 use crate::error::RequestError;
-use crate::ffi::{self, Ask, AskTwo, Find};
+use crate::ffi::{Ask, AskTwo, Find, FindOfTwo};
 use crate::walks::{Ancestors, Chunks};
 use core::cmp::Ordering;
 
@@ -135,7 +135,7 @@ pub fn file_prefix(path: &[u8]) -> Option<&[u8]> {
 #[must_use]
 #[inline]
 pub fn strip_prefix<'a>(path: &'a [u8], base: &[u8]) -> Option<&'a [u8]> {
-    ffi::strip_prefix(path, base)
+    FindOfTwo::STRIP_PREFIX.find(path, base)
 }
 
 /// Whether the parts of `base` begin those of `path`. As Rust's `Path::starts_with`.
@@ -188,7 +188,7 @@ pub fn equal(a: &[u8], b: &[u8]) -> bool {
 #[must_use]
 #[inline]
 pub fn compare(a: &[u8], b: &[u8]) -> Ordering {
-    ffi::compare(a, b)
+    AskTwo::COMPARE.ask(a, b).cmp(&0)
 }
 
 /// A number that equal paths share, the same in every run and on every machine.
@@ -202,7 +202,7 @@ pub fn compare(a: &[u8], b: &[u8]) -> Ordering {
 #[must_use]
 #[inline]
 pub fn hash(path: &[u8]) -> u64 {
-    ffi::hash(path)
+    Ask::HASH.ask(path)
 }
 
 /// Whether the path's bytes are UTF-8. As Rust's `Path::to_str`, which gives the text.
@@ -271,7 +271,7 @@ pub fn climbs(path: &[u8]) -> bool {
 /// ```
 #[inline]
 pub fn check_request(path: &[u8]) -> Result<(), RequestError> {
-    match ffi::check_request(path) {
+    match Ask::CHECK_REQUEST.ask(path) {
         0 => Ok(()),
         1 => Err(RequestError::Rooted),
         2 => Err(RequestError::Climbs),
@@ -291,5 +291,5 @@ pub fn check_request(path: &[u8]) -> Result<(), RequestError> {
 #[must_use]
 #[inline]
 pub fn common_dir<'a>(a: &'a [u8], b: &[u8]) -> &'a [u8] {
-    a.get(..ffi::common_dir(a, b)).unwrap_or_default()
+    a.get(..AskTwo::COMMON_DIR.ask(a, b)).unwrap_or_default()
 }

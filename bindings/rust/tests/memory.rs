@@ -1,4 +1,8 @@
 //! Lack of memory: each call that allocates has an error for it.
+#[macro_use]
+#[path = "untrusted/calls.rs"]
+mod calls;
+
 use std::alloc::{GlobalAlloc, Layout, System};
 use std::cell::Cell;
 use std::ptr::null_mut;
@@ -39,31 +43,25 @@ fn without_memory<T>(call: impl FnOnce() -> Result<T, Error>) -> Result<T, Error
 
 #[test]
 fn it_is_an_error() {
-    let of_two = [
-        owned::join,
-        owned::with_file_name,
-        owned::with_extension,
-        owned::with_added_extension,
-        owned::join_plain,
-        owned::way,
-    ];
-    for call in of_two {
-        assert_eq!(without_memory(|| call(b"a/b", b"c")), Err(Error::NoMemory));
-        assert!(call(b"a/b", b"c").is_ok());
+    macro_rules! of_one {
+        ($($name:ident)*) => {$(
+            let failed = without_memory(|| owned::$name(b"a\0"));
+            assert_eq!(failed, Err(Error::NoMemory));
+            assert!(owned::$name(b"a\0").is_ok());
+        )*};
     }
-    for call in [owned::canonical, owned::resolved, owned::key] {
-        assert_eq!(without_memory(|| call(b"a/b")), Err(Error::NoMemory));
-        assert!(call(b"a/b").is_ok());
+    make!(of_one);
+    macro_rules! of_two {
+        ($($name:ident)*) => {$(
+            let failed = without_memory(|| owned::$name(b"a/b", b"c"));
+            assert_eq!(failed, Err(Error::NoMemory));
+            assert!(owned::$name(b"a/b", b"c").is_ok());
+        )*};
     }
-    let path = without_memory(|| owned::from_key(b"a\0"));
-    assert_eq!(path, Err(Error::NoMemory));
-    let end = without_memory(|| owned::key_end(b"a\0"));
-    assert_eq!(end, Err(Error::NoMemory));
+    make_of_two!(of_two);
     let request = Request::below(b"/a/../b").unwrap();
     let joined = without_memory(|| owned::join_below(b"/srv", request));
     assert_eq!(joined, Err(Error::NoMemory));
-    let text = without_memory(|| owned::to_string_lossy(b"a/b"));
-    assert_eq!(text, Err(Error::NoMemory));
 }
 
 #[test]

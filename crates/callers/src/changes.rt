@@ -22,8 +22,8 @@ pub struct Changes<'a, 'b, V> {
 
 /// What is new in the manifest `after`, what is gone from `before`, and what differs.
 ///
-/// A file is the same if its path is equal, however it was spelled. Allocates as the lists grow, and
-/// not at all if nothing has changed; fails if an allocation fails. Not in Rust's std.
+/// A file is the same if its path is equal, however it was spelled. Allocates as the lists grow,
+/// and not at all if nothing has changed; fails if an allocation fails. Not in Rust's std.
 ///
 /// From 1 at `a` and 2 at `b` to 3 at `a` and 4 at `c`, new is `c`, gone is `b`, and `a` differs.
 pub fn changes_from<'a, 'b, V: PartialEq>(

@@ -1,5 +1,5 @@
-//! Small users of paths: a file server, an unpacker of archives, mappers of URLs, a table of mounts,
-//! a router, manifests and what changes from one to another, a tree of files and an index.
+//! Small users of paths: a file server, an unpacker of archives, mappers of URLs, a table of
+//! mounts, a router, manifests and what changes from one to another, a tree of files and an index.
 #![tactic(auto)]
 
 pub mod archive;

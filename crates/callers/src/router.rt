@@ -14,8 +14,8 @@ use unix_path::Path;
 /// `..` is resolved. Does not allocate if the path's key has at most 512 bytes, as it has for each
 /// path of up to 510; else allocates once, and fails if the allocation fails. Not in Rust's std.
 ///
-/// With 1 at `/` and 2 at `/api`, for `/api//users` it is 2 and `users`, and for `/apis` it is 1 and
-/// `apis`.
+/// With 1 at `/` and 2 at `/api`, for `/api//users` it is 2 and `users`, and for `/apis` it is 1
+/// and `apis`.
 pub fn route<'a, 'r, H>(
     routes: &'r PathTree<H>,
     fallback: &'r H,

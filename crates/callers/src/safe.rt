@@ -3,7 +3,7 @@ ghost use Rattle.std.specs.Prelude.{◌≡◌, ◌↔◌, false, IsTrue};
 ghost use Rattle.unix_path.specs.Parts.{is_rooted, values};
 ghost use Rattle.callers.specs.Below.{StaysBelow};
 
-use path_runs::laws::walks_in_order;
+use unix_path::laws::walks_in_order;
 use unix_path::{Component, Path};
 
 /// Whether a path stays below whatever it is joined to: it is relative, and no part is `..`.

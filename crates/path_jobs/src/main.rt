@@ -1,8 +1,8 @@
 //! The jobs that users of paths wait for, on made-up inputs, for timing.
 //!
 //! `path_jobs JOB SEED COUNT` runs one of the jobs `manifest`, `table`, `requests`, `rules`,
-//! `long`, `server`, `pairs` and `tree` on so many inputs, which the seed makes, and prints a digest
-//! of all its answers. `path_jobs all SEED COUNT` runs each. The same words print the same.
+//! `long`, `server`, `pairs` and `tree` on so many inputs, which the seed makes, and prints a
+//! digest of all its answers. `path_jobs all SEED COUNT` runs each. The same words print the same.
 #![tactic(auto)]
 
 mod digest;

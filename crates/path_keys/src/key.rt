@@ -104,8 +104,8 @@ impl PathKey {
 
     /// The bytes of the key, as the vector that holds them. Does not allocate. Not in Rust's std.
     ///
-    /// A `BTreeMap` whose keys are vectors is asked for a range by such: that of the key of `..` has
-    /// 00 03.
+    /// A `BTreeMap` whose keys are vectors is asked for a range by such: that of the key of `..`
+    /// has 00 03.
     #[must_use]
     #[inline]
     pub fn as_vec(&self) -> &Vec<u8>

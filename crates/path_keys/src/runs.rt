@@ -158,7 +158,7 @@ fn is_up(bytes: &[u8]) -> bool
     bytes[1] == 3
 }
 
-// Whether the four_ups of four `..` stand first.
+// Returns true only if the marks of four `..` stand first.
 #[inline(always)]
 fn are_four_ups(bytes: &[u8]) -> bool
     ensures { IsTrue result → BeginsUps bytes.now 4 }
@@ -170,7 +170,7 @@ fn are_four_ups(bytes: &[u8]) -> bool
     u8x8::from_slice(bytes).simd_eq(four_ups).to_bitmask() == 255
 }
 
-// How many four_ups of a `..` stand first, in groups of four.
+// Returns how many marks of a `..` stand first, or fewer: counts them in groups of four.
 #[inline(always)]
 fn up_fours(bytes: &[u8]) -> usize
     ensures { BeginsUps bytes.now result }
@@ -184,7 +184,7 @@ fn up_fours(bytes: &[u8]) -> usize
     count
 }
 
-// How many four_ups of a `..` stand first, one behind the other.
+// Returns how many marks of a `..` stand first, one after another.
 #[inline(always)]
 pub(crate) fn up_count(bytes: &[u8]) -> usize
     ensures ups { BeginsUps bytes.now result }

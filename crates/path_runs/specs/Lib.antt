@@ -7,7 +7,6 @@ pub mod EditLists
 pub mod EditViews
 pub mod EditErrors
 pub mod Known
-pub mod CallsMixed
 pub mod JoinLaws
 pub mod EditLaws
 pub mod QueryLaws

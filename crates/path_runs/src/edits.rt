@@ -137,9 +137,9 @@ fn apply_one(path: &mut PathBuf, known: &mut Known, edit: &Edit<'_>) -> Result<A
 /// `PathBuf` with its name does, but an extension may leave more room than it needs. An empty list
 /// allocates nothing. If an allocation fails, the path keeps what the edits before it left, and the
 /// error has their number: 0 if the answers could not be allocated. An edit whose extension holds a
-/// `/` does not fail: its answer is `Separator`, it leaves the bytes as they were, and the next edit
-/// is made. The time of a list grows with the bytes of its edits, of the path and of what it leaves.
-/// Not in Rust's std; each edit is the method of Rust's `PathBuf` with its name.
+/// `/` does not fail: its answer is `Separator`, it leaves the bytes as they were, and the next
+/// edit is made. The time of a list grows with the bytes of its edits, of the path and of what it
+/// leaves. Not in Rust's std; each edit is the method of Rust's `PathBuf` with its name.
 ///
 /// On `foo/.`, setting the extension `bar` and then two pops leave the empty path, and answer true,
 /// true and false.

@@ -5,7 +5,6 @@ mod joins;
 mod order;
 mod parts;
 mod queries;
-mod runs;
 mod spelling;
 mod tables;
 
@@ -17,8 +16,7 @@ pub use order::{
 };
 pub use parts::{no_part_no_byte, parts_fit, rest_reads_again};
 pub use queries::{ancestors_step, name_rejoined, parent_before, queries_congruent};
-pub use runs::{ends_meet, walks_in_order};
 pub use spelling::{canonical_form, canonical_is_short, spelling_joined};
 pub use tables::{insert_by_values, lookup_by_values, remove_by_values};
 pub use unix_bytes::laws::{bytes_ordered, lossy_of_text};
-pub use unix_path::laws::components_ordered;
+pub use unix_path::laws::{components_ordered, ends_meet, walks_in_order};

@@ -2,8 +2,8 @@
 use Rattle.std.specs.Prelude.{◌≡◌, ◌<◌, ◌+◌, ◌-◌, ℕ, zero, suc, List, [], ◌∷◌, ◌++◌, drop, length}
 use Rattle.std.specs.Prelude.{map, if◌then◌else◌}
 use Rattle.std.specs.List.{slice_split}
-use Rattle.unix_path.specs.Parts.{Value, CurDir, ParentDir, Normal, counts, is_slash, slash, value_of_piece}
-use Rattle.unix_path.specs.Parts.{values}
+use Rattle.unix_path.specs.Parts.{Value, CurDir, ParentDir, Normal, counts, is_slash, slash}
+use Rattle.unix_path.specs.Parts.{value_of_piece, values}
 use Rattle.path_runs.specs.Spelling.{slash_each}
 use Rattle.path_within.specs.Below.{names_below}
 use Rattle.path_within.specs.Resolved.{kept_of}
@@ -71,8 +71,8 @@ pub record ShareFirst (s t : List ℕ) (place : ℕ) : Type 0 where
   pub first : values s ≡ shared ++ values (drop place s)
   pub second : values t ≡ shared ++ values (drop place t)
 
--- the bytes of `out` before `end` become these values, each after a slash, and begin at `start`; both
--- places count a slash that is imagined before `out`
+-- the bytes of `out` before `end` become these values, each after a slash, and begin at `start`;
+-- both places count a slash that is imagined before `out`
 pub record Puts (vs : List Value) (end : ℕ) (out : List ℕ) (start : ℕ) (new : List ℕ) : Type 0 where
   pub size : start + slashed_len vs ≡ end
   pub bytes : (ws : List Value) → drop end (slash ∷ out) ≡ slash_each ws

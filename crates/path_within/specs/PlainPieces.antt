@@ -1,7 +1,6 @@
 -- Paths whose pieces are plain names. No public clause cites it.
-use Rattle.std.specs.Prelude.{ℕ, ◌+◌, Bool, ◌==◌, ◌&&◌, ◌||◌, not}
-use Rattle.std.specs.Prelude.{List, drop, slice_index, slice_index_or}
-use Rattle.std.specs.Prelude.{if◌then◌else◌}
+use Rattle.std.specs.Prelude.{ℕ, ◌+◌, Bool, ◌==◌, ◌&&◌, ◌||◌, not, List, drop, slice_index}
+use Rattle.std.specs.Prelude.{slice_index_or, if◌then◌else◌}
 use Rattle.std.specs.List.{list_all, slice_split}
 use Rattle.std.specs.Str.{bytes_eq}
 use Rattle.unix_path.specs.Parts.{dot, slash, is_slash, counts, parent_dir, is_rooted}

@@ -38,7 +38,7 @@ fn read_piece(bytes: &[u8]) -> Piece<'_>
 
 // Returns the path, without the filler after its last part if it ends in a slash or a dot.
 #[inline]
-fn without_filler(path: Path<'_>) -> Path<'_>
+pub(crate) fn without_filler(path: Path<'_>) -> Path<'_>
     ensures { SameValues result.bytes.now path.entry.bytes.now }
 {
     if matches!(path.bytes.last(), Some(b'/' | b'.')) {

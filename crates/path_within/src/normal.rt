@@ -75,14 +75,17 @@ pub(crate) fn is_resolved(path: Path<'_>) -> bool
     is_canonical(path) && is_normal(path.components())
 }
 
-// Whether a path is resolved as it stands, of those for which `is_plain` is false: it begins with no
-// plain piece, or ends in a dot that isn't filler.
+// Returns true only if the path is resolved as it is spelled. Looks at the parts of few paths: of
+// those that begin with no plain piece, or end in a dot that isn't filler.
 #[inline]
-pub(crate) fn is_resolved_otherwise(path: Path<'_>) -> bool
+pub(crate) fn is_spelled_resolved(path: Path<'_>) -> bool
     ensures resolved { IsTrue result
         → resolved_bytes_of path.entry.bytes.now ≡ path.entry.bytes.now }
     ensures empty { path.entry.bytes.now ≡ [] → IsTrue result }
 {
+    if is_plain(path) {
+        return true;
+    }
     let bytes = path.bytes;
     if !begins_plain(bytes, 0) {
         return is_resolved(path);

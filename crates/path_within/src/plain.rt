@@ -1,19 +1,11 @@
 //! Plain paths: those whose bytes are their names.
 ghost use Rattle.std.specs.Prelude.{◌≡◌, true, IsTrue};
-ghost use Rattle.path_within.specs.PlainPieces.{begins_plain, is_end, is_plain};
+ghost use Rattle.path_within.specs.PlainPieces.{begins_plain, is_plain};
 
 use unix_path::Path;
 use unix_path::filler::is_filler;
 use unix_path::firsts::begins_with_parent;
 use unix_path::stops::is_unstopped;
-
-// Whether the byte at `i` is a slash, or `i` is at or after the end.
-#[inline]
-pub(crate) fn is_end(bytes: &[u8], i: usize) -> bool
-    ensures { result ≡ is_end bytes.now i }
-{
-    i >= bytes.len() || bytes[i] == b'/'
-}
 
 // Whether the piece that begins at `at` is plain: neither empty, nor `.`, nor `..`.
 #[inline]

@@ -16,7 +16,7 @@ ghost use Rattle.path_within.specs.Below.{below_of, IsBelow};
 use crate::backward::{Last, Pieces};
 use crate::check::{check_climb, has_nul};
 use crate::plain::is_plain;
-use crate::write::Names;
+use crate::write::{Layout, Names};
 use std::error::Error;
 use std::fmt;
 use unix_bytes::bytes::UnixStr;
@@ -197,7 +197,7 @@ impl<'a> Request<'a> {
     fn names(self) -> Names<'a>
         ensures { names_in result ≡ request_names self.entry }
     {
-        Names::of(self.path, self.is_spelled)
+        Layout::names_of(self.path, self.is_spelled)
     }
 
     /// Writes the request joined to a root to the beginning of `out`, and returns the length of the

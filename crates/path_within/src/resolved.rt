@@ -1,26 +1,15 @@
 //! Paths resolved lexically: each `..` takes away the name before it.
-ghost use Rattle.std.specs.Prelude.{◌≡◌, [], length, IfOk, IsOk, IsTrue};
+ghost use Rattle.std.specs.Prelude.{◌≡◌, [], length, IfOk, IsOk};
 ghost use Rattle.unix_path.specs.Buffers.{path_bytes};
 ghost use Rattle.unix_path.specs.Parts.{values};
 ghost use Rattle.path_runs.specs.Buffer.{buffer_after};
 ghost use Rattle.path_within.specs.Resolved.{resolved_bytes_of};
 
-use crate::normal::is_resolved_otherwise;
-use crate::plain::is_plain;
+use crate::normal::is_spelled_resolved;
 use crate::write::Layout;
 use std::alloc::{AllocError, Global};
 use unix_bytes::buffers::write_at;
 use unix_path::{Path, PathBuf};
-
-// Returns true only if the path is resolved as it is spelled.
-#[inline]
-fn is_spelled_resolved(path: Path<'_>) -> bool
-    ensures resolved { IsTrue result
-        → resolved_bytes_of path.entry.bytes.now ≡ path.entry.bytes.now }
-    ensures empty { path.entry.bytes.now ≡ [] → IsTrue result }
-{
-    is_plain(path) || is_resolved_otherwise(path)
-}
 
 /// Returns the path resolved lexically, in canonical spelling: each `..` takes away the name before
 /// it.
@@ -41,7 +30,7 @@ pub fn resolved(alloc: Global, path: Path<'_>) -> Result<PathBuf, AllocError>
     if is_spelled_resolved(path) {
         return path.to_path_buf(alloc);
     }
-    Layout::of(path, false).to_path_buf(alloc)
+    Layout::of(path).to_path_buf(alloc)
 }
 
 /// Writes the path resolved lexically to the beginning of `out`, and returns its length.
@@ -56,7 +45,7 @@ pub fn write_resolved(path: Path<'_>, out: &mut [u8]) -> usize
     ensures length { result ≡ length (resolved_bytes_of path.entry.bytes.now) }
 {
     if !is_spelled_resolved(path) {
-        return Layout::of(path, false).write(out);
+        return Layout::of(path).write(out);
     }
     let bytes = path.bytes;
     if bytes.len() <= out.len() {

@@ -190,23 +190,6 @@ impl Root {
         self.as_path().as_unix_str().len() + 1 + request.as_path().as_unix_str().len()
     }
 
-    // Makes room in the buffer for a join with the request. If there is room, nothing is called.
-    #[inline(always)]
-    fn make_room(&self, buffer: &mut PathBuf, request: Request<'_>) -> Result<(), AllocError>
-        ensures bytes { path_bytes buffer.new ≡ path_bytes buffer.old }
-        ensures ok { OnOk result (length (root_bytes self.now) + 1
-            + length (request_bytes request.entry) ≤ capacity buffer.new) }
-        ensures succeeds { length (root_bytes self.now) + 1 + length (request_bytes request.entry)
-            ≤ capacity buffer.old → IsOk result }
-    {
-        let most = self.most_bytes(request);
-        if most <= buffer.capacity() {
-            return Ok(());
-        }
-        let held = buffer.as_path().as_unix_str().len();
-        buffer.reserve(most.saturating_sub(held))
-    }
-
     /// The request joined to the root: the root's bytes, and behind them the request's names, with
     /// a `/` between two of them and, where one is wanted, behind the root.
     ///
@@ -245,7 +228,8 @@ impl Root {
             ≤ capacity buffer.old → IsOk result }
     {
         // All the room comes first, so that a failed allocation leaves the buffer as it was.
-        self.make_room(buffer, request)?;
+        let held = buffer.as_path().as_unix_str().len();
+        buffer.reserve(self.most_bytes(request).saturating_sub(held))?;
         self.fill(buffer, request);
         Ok(())
     }

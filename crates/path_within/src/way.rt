@@ -1,6 +1,6 @@
 //! The relative path from one path to another.
-ghost use Rattle.std.specs.Prelude.{◌≡◌, ◌≤◌, ◌<◌, ◌-◌, ◌^◌, ℕ, List, Some, None, min, length, drop};
-ghost use Rattle.std.specs.Prelude.{option_map, replicate, ◌++◌, true, IfOk, IfSome, IsOk};
+ghost use Rattle.std.specs.Prelude.{◌≡◌, ◌≤◌, ◌<◌, ◌-◌, ◌^◌, ℕ, List, Some, None, min, length};
+ghost use Rattle.std.specs.Prelude.{drop, option_map, replicate, ◌++◌, true, IfOk, IfSome, IsOk};
 ghost use Rattle.std.specs.List.{common_prefix_len};
 ghost use Rattle.std.specs.Str.{bytes_eq};
 ghost use Rattle.unix_path.specs.Buffers.{path_bytes};
@@ -20,8 +20,8 @@ ghost use Rattle.path_within.specs.Written.{slashed_len};
 use crate::backward::{Last, Pieces, counted};
 use crate::plain::{begins_plain, is_plain};
 use crate::write::{Layout, Names};
-use path_runs::laws::walks_in_order;
 use std::alloc::{AllocError, Global};
+use unix_path::laws::walks_in_order;
 use unix_path::{Component, Path, PathBuf};
 
 // Returns how many parts the path has.
@@ -84,7 +84,7 @@ fn plain_steps<'a>(from: Path<'_>, to: Path<'a>) -> Layout<'a>
         ≡ way_of (values from.entry.bytes.now) (values to.entry.bytes.now) }
 {
     let (left, onward) = past_shared(from, to);
-    Layout::after_ups(part_count(left), Names::of(onward, false))
+    Layout::after_ups(part_count(left), Layout::names_found(onward))
 }
 
 // Takes the last `count` names that a walk has left, and returns how many bytes they have, with a
@@ -185,8 +185,8 @@ fn steps<'a>(from: Path<'_>, to: Path<'a>) -> Option<Layout<'a>>
     walked_steps(from, to)
 }
 
-/// Returns the relative path from one path to another: `..` for each name that is left of the first,
-/// and then what is left of the other.
+/// Returns the relative path from one path to another: `..` for each name that is left of the
+/// first, and then what is left of the other.
 ///
 /// Both paths are resolved lexically, and the parts that both then begin with are left out. `None`
 /// if and only if one path has a root and the other has none, or if what is left of the first holds

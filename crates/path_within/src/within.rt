@@ -13,7 +13,7 @@ use crate::check::{check_climb, has_nul};
 pub use crate::check::{climbs, has_root_or_up};
 use crate::laws;
 use crate::plain::is_plain;
-use crate::write::{Layout, Names};
+use crate::write::Layout;
 use std::alloc::{AllocError, Global};
 use std::error::Error;
 use std::fmt;
@@ -95,13 +95,13 @@ pub fn join_within(alloc: Global, root: Path<'_>, request: Path<'_>) -> Result<P
     if check.is_refused() {
         return Err(WithinError::Escapes);
     }
-    let plain_root = is_plain(root);
-    if plain_root && check.is_plain() {
+    let is_request_plain = check.is_plain();
+    if is_request_plain && is_plain(root) {
         // The join is resolved as it is spelled.
         return Ok(root.join(alloc, request)?);
     }
-    let names = Names::of(request, check.is_plain());
-    let layout = Layout::of(root, plain_root).with(names);
+    let names = Layout::names_of(request, is_request_plain);
+    let layout = Layout::of(root).with(names);
     Ok(layout.to_path_buf(alloc)?)
 }
 

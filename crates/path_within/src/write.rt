@@ -7,17 +7,17 @@ ghost use Rattle.path_runs.specs.Buffer.{buffer_after};
 ghost use Rattle.path_runs.specs.Spelling.{slashed_bytes, spelling_of};
 ghost use Rattle.path_within.specs.Backward.{last_names, Puts};
 ghost use Rattle.path_within.specs.Below.{below_of, names_below};
-ghost use Rattle.path_within.specs.PlainPieces.{is_plain};
 ghost use Rattle.path_within.specs.Resolved.{resolved_of};
 ghost use Rattle.path_within.specs.Written.{slashed_len, AreSpelled, StandsFor};
 
-use crate::backward::{counted, put_before, put_names_before, put_ups_before};
+use crate::backward::{counted, put_before, put_names_before, put_ups_before, without_filler};
 use crate::plain::is_plain;
 use std::alloc::{AllocError, Global};
 use unix_bytes::buffers::write_at;
 use unix_bytes::bytes::UnixString;
+use unix_path::filler::past_filler;
 use unix_path::lasts::is_open;
-use unix_path::{Component, Path, PathBuf};
+use unix_path::{Path, PathBuf};
 
 // The last names of a path, as it is resolved.
 #[derive(Clone, Copy)]
@@ -35,21 +35,14 @@ pub(crate) struct Names<'a> {
         → AreSpelled path.bytes.now (last_names count (values path.bytes.now)) },
 }
 
-// Returns the path without a leading `.`, and without the filler after its last part.
+// Returns the path without a root, and without the filler before and after its parts.
 #[inline]
 fn trimmed(path: Path<'_>) -> Path<'_>
-    requires { is_rooted path.bytes.now ≡ false }
-    ensures { StandsFor result.bytes.now path.entry.bytes.now }
+    ensures stands { StandsFor result.bytes.now path.entry.bytes.now }
+    ensures resolved { is_rooted path.entry.bytes.now ≡ false
+        → resolved_of (values result.bytes.now) ≡ resolved_of (values path.entry.bytes.now) }
 {
-    let mut left = path.components();
-    let whole = left.as_path();
-    // A first name isn't looked at.
-    if !whole.bytes.is_empty() && whole.bytes[0] == b'.' {
-        if let Some(Component::CurDir) = left.next() {
-            return left.as_path();
-        }
-    }
-    whole
+    Path::from_bytes(past_filler(without_filler(path).bytes))
 }
 
 impl<'a> Names<'a> {
@@ -97,23 +90,6 @@ impl<'a> Names<'a> {
         }
     }
 
-    // Returns the names of a path without a root, which may be known to be plain.
-    pub(crate) fn of(path: Path<'a>, known_plain: bool) -> Names<'a>
-        requires rootless { is_rooted path.bytes.now ≡ false }
-        requires plain { IsTrue known_plain → is_plain path.bytes.now ≡ true }
-        ensures { names_in result ≡ names_below (values path.entry.bytes.now) }
-    {
-        if known_plain {
-            return Names::spelled(path);
-        }
-        let left = trimmed(path);
-        if is_plain(left) {
-            return Names::spelled(left);
-        }
-        let counts = counted(path);
-        Names::last(path, counts.names, counts.len)
-    }
-
     // Overwrites the bytes before `end`, counted as in `put_before`, with the names and a slash
     // before each. Returns where the first of these slashes is.
     #[inline(always)]
@@ -155,6 +131,7 @@ impl<'a> Names<'a> {
 
     // Writes a join to the beginning of `out` if it has room for all of it: the root, and these
     // names after it. Returns its length.
+    #[inline(always)]
     pub(crate) fn write_join(&self, root: &[u8], out: &mut [u8]) -> usize
         ensures out { out.new ≡ buffer_after (below_of root.now (names_in self.now)) out.old }
         ensures length { result ≡ length (below_of root.now (names_in self.now)) }
@@ -194,31 +171,52 @@ impl<'a> Layout<'a> {
         }
     }
 
-    // Returns the layout of a path once it is resolved. It may be known to be plain.
-    pub(crate) fn of(path: Path<'a>, known_plain: bool) -> Layout<'a>
-        requires { IsTrue known_plain → is_plain path.bytes.now ≡ true }
+    // Returns the layout of a path once it is resolved.
+    #[inline(always)]
+    pub(crate) fn of(path: Path<'a>) -> Layout<'a>
         ensures values { layout_values result ≡ resolved_of (values path.entry.bytes.now) }
+        ensures names { names_in result.names ≡ names_below (values path.entry.bytes.now) }
         ensures more { names_in result.more ≡ [] }
     {
         let has_root = path.has_root();
-        if known_plain {
-            let left = Path::from_bytes(&path.bytes[usize::from(has_root)..]);
-            let names = Names::spelled(left);
+        let left = trimmed(path);
+        if is_plain(left) {
             return Layout {
                 has_root,
                 ups: 0,
-                names,
+                names: Names::spelled(left),
                 more: Names::none(),
             };
         }
         let counts = counted(path);
-        let names = Names::last(path, counts.names, counts.len);
         Layout {
             has_root,
             ups: counts.ups,
-            names,
+            names: Names::last(path, counts.names, counts.len),
             more: Names::none(),
         }
+    }
+
+    // Returns the names of a path. Not inlined, so that callers whose path mostly is its names stay
+    // small.
+    #[inline(never)]
+    pub(crate) fn names_found(path: Path<'a>) -> Names<'a>
+        ensures { names_in result ≡ names_below (values path.entry.bytes.now) }
+    {
+        Layout::of(path).names
+    }
+
+    // Returns the names of a path, whose bytes may be known to be these.
+    #[inline]
+    pub(crate) fn names_of(path: Path<'a>, are_spelled: bool) -> Names<'a>
+        requires { IsTrue are_spelled
+            → AreSpelled path.bytes.now (names_below (values path.bytes.now)) }
+        ensures { names_in result ≡ names_below (values path.entry.bytes.now) }
+    {
+        if are_spelled {
+            return Names::spelled(path);
+        }
+        Layout::names_found(path)
     }
 
     // Returns the layout with these names in the place of none after its own.
@@ -231,6 +229,7 @@ impl<'a> Layout<'a> {
     }
 
     // Returns the length of the path, or `usize::MAX` if it is longer.
+    #[inline(always)]
     pub(crate) fn len(&self) -> usize
         ensures { result ≡ min (2 ^ 64 - 1) (length (spelling_of (layout_values self.now))) }
     {
@@ -250,6 +249,7 @@ impl<'a> Layout<'a> {
 
     // Writes what follows the root over all of `out`: the names, and `..` before them for which
     // there is room.
+    #[inline(always)]
     fn fill_after_root(&self, out: &mut [u8])
         requires { self.now.names.len + self.now.more.len ≤ 1 + length out.old }
         ensures { (n : ℕ) →
@@ -262,6 +262,7 @@ impl<'a> Layout<'a> {
     }
 
     // Writes the path over all of `out`, which has just the room.
+    #[inline(always)]
     pub(crate) fn fill(&self, out: &mut [u8])
         requires { length out.old ≡ length (spelling_of (layout_values self.now)) }
         ensures { out.new ≡ spelling_of (layout_values self.now) }
@@ -275,6 +276,7 @@ impl<'a> Layout<'a> {
     }
 
     // Writes the path to the beginning of `out` if it has room for all of it. Returns its length.
+    #[inline(always)]
     pub(crate) fn write(&self, out: &mut [u8]) -> usize
         ensures out { out.new ≡ buffer_after (spelling_of (layout_values self.now)) out.old }
         ensures length { result

@@ -16,6 +16,7 @@ pub mod Steps
 pub mod Views
 pub mod Cursor
 pub mod Ancestors
+pub mod CallsMixed
 pub mod Hashed
 pub mod OrderLaws
 pub mod Places

@@ -7,7 +7,8 @@ use Rattle.unix_path.specs.Places.{IsTail}
 use Rattle.unix_path.specs.Scan.{is_filler}
 use Rattle.unix_path.specs.Steps.{AreApart, DiffersAtStart, HasMore, SharesFirst}
 use Rattle.unix_path.specs.declared.pair.Kind.{Kind}
-use Rattle.unix_path.specs.declared.pair.Kind.TheVariants.{Nothing, RootDir, CurDir, ParentDir, Name}
+use Rattle.unix_path.specs.declared.pair.Kind.TheVariants.{Nothing, RootDir, CurDir, ParentDir}
+use Rattle.unix_path.specs.declared.pair.Kind.TheVariants.{Name}
 use Rattle.unix_path.specs.declared.pair.Difference.{Difference}
 use Rattle.unix_path.specs.declared.pair.Difference.TheVariants.{InParts, InFirstParts, Behind}
 use Rattle.unix_path.specs.declared.pair.Comparison.{Comparison}

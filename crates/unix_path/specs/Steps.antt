@@ -63,10 +63,6 @@ pub record PastFiller (s t : List ℕ) : Type 0 where
 abbrev pub IsAlike : List ℕ → List ℕ → ℕ → Type 0
 IsAlike a b n = n ≡ common_prefix_len nat_eq a b
 
--- `IsAlike` has no more than one proof
-pub IsAlike-prop : (a b : List ℕ) (n : ℕ) → IsProp (IsAlike a b n)
-IsAlike-prop a b n = hlevel props
-
 -- a and b differ from byte n on, which is in their first parts
 pub record DiffersAtStart (a b : List ℕ) (n : ℕ) : Type 0 where
   pub near : n ≤ 1

@@ -1,10 +1,13 @@
-//! Laws of parts: each function does nothing, and its contract is the law.
+//! Laws of parts and walks: each function does nothing, and its contract is the law.
 ghost use Rattle.std.specs.Prelude.{◌≡◌, ◌↔◌, IsTrue};
 ghost use Rattle.unix_path.specs.Order.{value_cmp};
 ghost use Rattle.unix_path.specs.Views.{value_of};
 ghost use Rattle.unix_path.specs.declared.cursor.component.Component.{Component};
 
+mod walks;
+
 use crate::cursor::Component;
+pub use walks::{ends_meet, walks_in_order};
 
 /// Components are equal exactly if they have the same value, and are ordered as their values are.
 ///

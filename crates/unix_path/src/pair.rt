@@ -2,6 +2,7 @@
 ghost use Rattle.std.specs.Prelude.{◌≡◌, ◌≢◌, ◌↔◌, ◌+◌, ◌<◌, ◌≤◌, ℕ, List, [], length};
 ghost use Rattle.std.specs.Prelude.{IsTrue, IsSome, IfSome};
 ghost use Rattle.std.specs.Ordering.{nat_cmp};
+ghost use Rattle.std.proofs.Props.{props};
 ghost use Rattle.unix_path.specs.CommonDir.{inner_values};
 ghost use Rattle.unix_path.specs.Order.{values_cmp};
 ghost use Rattle.unix_path.specs.Parts.{dot, values};
@@ -9,7 +10,7 @@ ghost use Rattle.unix_path.specs.Places.{IsTail};
 ghost use Rattle.unix_path.specs.Prefixes.{Begins};
 ghost use Rattle.unix_path.specs.Scan.{is_filler};
 ghost use Rattle.unix_path.specs.Steps.{begins_piece, piece_rank, DiffersAtStart, IsAlike};
-ghost use Rattle.unix_path.specs.Steps.{IsAlike-prop, SharesFirst};
+ghost use Rattle.unix_path.specs.Steps.{SharesFirst};
 
 use crate::filler::{is_filler, past_filler};
 use crate::firsts::begins_with_parent;
@@ -44,7 +45,7 @@ pub(crate) struct Pair<'a, 'b> {
     pub(crate) first: &'a [u8],
     pub(crate) second: &'b [u8],
     pub(crate) common: usize,
-    ghost alike: { IsAlike first.now second.now common } by { IsAlike-prop first.now second.now common },
+    ghost alike: { IsAlike first.now second.now common } by { Prim.hlevel props },
 }
 
 // What a path begins with, in the order of paths.

@@ -2,6 +2,7 @@
 #![tactic(auto)]
 
 mod ancestors;
+mod callers;
 mod canonical;
 mod chunks;
 mod firsts;
@@ -11,8 +12,6 @@ mod lossy;
 mod names;
 mod places;
 mod queries;
-#[cfg(test)]
-mod tests;
 mod walks;
 mod way;
 mod within;

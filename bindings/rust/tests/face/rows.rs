@@ -1,115 +1,179 @@
-//! Worked rows.
-use std::cmp::Ordering::{self, Equal, Greater, Less};
+//! The rows of `tests/rows.txt`, asked of the calls over slices, and of those over the system's
+//! strings.
+mod reader;
+
+use reader::{ask_all, spelled, Call};
 use unix_path_rattle::Component::{self, CurDir, Normal, ParentDir, RootDir};
-use unix_path_rattle::{self as paths, os};
+use unix_path_rattle::{self as paths, os, owned, Error, Request, RequestError};
 
-#[test]
-fn parts() {
-    let rows: [(&[u8], &[Component<'_>]); 9] = [
-        (b"", &[]),
-        (b"///", &[RootDir]),
-        (b"/foo/bar", &[RootDir, Normal(b"foo"), Normal(b"bar")]),
-        (b"./a/./..", &[CurDir, Normal(b"a"), ParentDir]),
-        (b"./.", &[CurDir]),
-        (b"/./a//", &[RootDir, Normal(b"a")]),
-        (b"a/..foo/", &[Normal(b"a"), Normal(b"..foo")]),
-        (b"..", &[ParentDir]),
-        (b"\xFF/\0", &[Normal(b"\xFF"), Normal(b"\0")]),
-    ];
-    for (path, want) in rows {
-        let found: Vec<_> = paths::components(path).collect();
-        assert_eq!(found, want);
-        let mut reversed: Vec<_> = paths::components(path).rev().collect();
-        reversed.reverse();
-        assert_eq!(reversed, want);
+fn truth(is_true: bool) -> Vec<String> {
+    vec![is_true.to_string()]
+}
+
+/// What was found in the path, and where.
+fn found(path: &[u8], found: Option<&[u8]>) -> Vec<String> {
+    let place = |bytes: &[u8]| bytes.as_ptr() as usize - path.as_ptr() as usize;
+    match found {
+        Some(bytes) => vec![spelled(bytes), place(bytes).to_string()],
+        None => vec!["!none".to_string()],
     }
 }
 
-/// A path, and its file name, stem, extension and prefix.
-type Names = (&'static str, [Option<&'static str>; 4]);
+fn word(error: Error) -> String {
+    let word = match error {
+        Error::Separator => "!separator",
+        Error::Escapes => "!escapes",
+        Error::Nul => "!nul_in_request",
+        Error::NotAKey => "!not_a_key",
+        Error::NoWay => "!no_way",
+        _ => panic!("{error}"),
+    };
+    word.to_string()
+}
 
-#[test]
-fn names() {
-    let rows: [Names; 8] = [
-        (
-            "foo.tar.gz",
-            [Some("foo.tar.gz"), Some("foo.tar"), Some("gz"), Some("foo")],
-        ),
-        ("a/.foo", [Some(".foo"), Some(".foo"), None, Some(".foo")]),
-        ("foo.", [Some("foo."), Some("foo"), Some(""), Some("foo")]),
-        ("..foo", [Some("..foo"), Some("."), Some("foo"), Some(".")]),
-        ("foo/.", [Some("foo"), Some("foo"), None, Some("foo")]),
-        ("foo/..", [None; 4]),
-        ("/", [None; 4]),
-        ("", [None; 4]),
-    ];
-    for (path, want) in rows {
-        let path = path.as_bytes();
-        let calls = [
-            paths::file_name,
-            paths::file_stem,
-            paths::extension,
-            paths::file_prefix,
-        ];
-        let found = calls.map(|call| call(path));
-        assert_eq!(found, want.map(|name| name.map(str::as_bytes)));
+fn written(answer: Result<Vec<u8>, Error>) -> Vec<String> {
+    vec![answer.map_or_else(word, |bytes| spelled(&bytes))]
+}
+
+fn key_end(key: &[u8]) -> Vec<String> {
+    match owned::key_end(key) {
+        Ok(None) => vec!["!no_end".to_string()],
+        end => written(end.map(Option::unwrap)),
     }
 }
 
-#[test]
-fn orders() {
-    let rows: [(&[u8], &[u8], Ordering); 8] = [
-        (b"a/b", b"a.b", Less),
-        (b"a//b/.", b"a/b", Equal),
-        (b"./a", b"a", Less),
-        (b"/", b"", Greater),
-        (b"a", b"..", Greater),
-        (b"..", b".", Greater),
-        (b"a", b"a/b", Less),
-        (b"\xFF", b"z/z", Greater),
+/// Their order, of which the one from the other side and `equal` have to know.
+fn order(a: &[u8], b: &[u8]) -> Vec<String> {
+    let order = paths::compare(a, b);
+    assert_eq!(paths::compare(b, a), order.reverse());
+    assert_eq!(paths::equal(a, b), order.is_eq());
+    vec![(order as i8).to_string()]
+}
+
+/// The number for which a request is refused.
+fn number(answer: Result<(), RequestError>) -> Vec<String> {
+    let refusals = [
+        Ok(()),
+        Err(RequestError::Rooted),
+        Err(RequestError::Climbs),
+        Err(RequestError::Nul),
     ];
-    for (a, b, want) in rows {
-        assert_eq!(paths::compare(a, b), want);
-        assert_eq!(paths::compare(b, a), want.reverse());
-        assert_eq!(paths::equal(a, b), want.is_eq());
+    let number = refusals.iter().position(|it| *it == answer);
+    vec![number.unwrap().to_string()]
+}
+
+/// The join of a request as it is, and as that of a URL.
+fn below(root: &[u8], path: &[u8]) -> Vec<String> {
+    [Request::new(path), Request::below(path)]
+        .map(|request| match request {
+            Ok(request) => written(owned::join_below(root, request)).remove(0),
+            Err(RequestError::Nul) => "!nul_in_request".to_string(),
+            Err(_) => "!escapes".to_string(),
+        })
+        .to_vec()
+}
+
+fn component(bytes: &[u8]) -> Component<'_> {
+    match bytes {
+        b"/" => RootDir,
+        b"." => CurDir,
+        b".." => ParentDir,
+        name => Normal(name),
     }
 }
 
+/// The parts, which have to come from behind too, each with the place of what is left before it.
+fn parts(path: &[u8]) -> Vec<String> {
+    let (mut rest, mut taken, mut fields) = (paths::components(path), vec![], vec![]);
+    let whole = rest.as_path();
+    let mut left = whole;
+    while let Some(part) = rest.next() {
+        assert_eq!(part, component(part.as_bytes()));
+        assert!(left.starts_with(part.as_bytes()));
+        fields.extend(found(path, Some(&left[..part.as_bytes().len()])));
+        taken.push(part);
+        left = rest.as_path();
+    }
+    assert!(whole.ends_with(taken.last().map_or(b"", |part| part.as_bytes())));
+    assert!(paths::components(path).rev().eq(taken.into_iter().rev()));
+    fields
+}
+
+fn ancestors(path: &[u8]) -> Vec<String> {
+    let fields: Vec<_> = paths::ancestors(path)
+        .map(|it| found(path, Some(it)))
+        .collect();
+    assert!(fields.iter().all(|it| it[1] == "0"));
+    fields.into_iter().map(|mut it| it.remove(0)).collect()
+}
+
+fn chunks(path: &[u8]) -> Vec<String> {
+    paths::chunks(path)
+        .flat_map(|it| [spelled(it.valid), spelled(it.broken)])
+        .collect()
+}
+
+static CALLS: &[Call] = &[
+    ("components", 1, |a, _| parts(a)),
+    ("next_ancestor", 1, |a, _| ancestors(a)),
+    ("next_chunk", 1, |a, _| chunks(a)),
+    ("parent", 1, |a, _| found(a, paths::parent(a))),
+    ("file_name", 1, |a, _| found(a, paths::file_name(a))),
+    ("file_stem", 1, |a, _| found(a, paths::file_stem(a))),
+    ("extension", 1, |a, _| found(a, paths::extension(a))),
+    ("file_prefix", 1, |a, _| found(a, paths::file_prefix(a))),
+    ("strip_prefix", 2, |a, b| {
+        found(a, paths::strip_prefix(a, b))
+    }),
+    ("starts_with", 2, |a, b| truth(paths::starts_with(a, b))),
+    ("ends_with", 2, |a, b| truth(paths::ends_with(a, b))),
+    ("equal", 2, |a, b| truth(paths::equal(a, b))),
+    ("compare", 2, order),
+    ("hash", 1, |a, _| vec![format!("{:#018x}", paths::hash(a))]),
+    ("is_utf8", 1, |a, _| truth(paths::is_utf8(a))),
+    ("is_canonical", 1, |a, _| truth(paths::is_canonical(a))),
+    ("is_absolute", 1, |a, _| truth(paths::is_absolute(a))),
+    ("climbs", 1, |a, _| truth(paths::climbs(a))),
+    ("check_request", 1, |a, _| number(paths::check_request(a))),
+    ("common_dir", 2, |a, b| {
+        vec![paths::common_dir(a, b).len().to_string()]
+    }),
+    ("join", 2, |a, b| written(owned::join(a, b))),
+    ("with_file_name", 2, |a, b| {
+        written(owned::with_file_name(a, b))
+    }),
+    ("with_extension", 2, |a, b| {
+        written(owned::with_extension(a, b))
+    }),
+    ("with_added_extension", 2, |a, b| {
+        written(owned::with_added_extension(a, b))
+    }),
+    ("canonical", 1, |a, _| written(owned::canonical(a))),
+    ("to_string_lossy", 1, |a, _| {
+        written(owned::to_string_lossy(a).map(String::into_bytes))
+    }),
+    ("resolved", 1, |a, _| written(owned::resolved(a))),
+    ("join_plain", 2, |a, b| written(owned::join_plain(a, b))),
+    ("join_below", 2, below),
+    ("way", 2, |a, b| written(owned::way(a, b))),
+    ("key", 1, |a, _| written(owned::key(a))),
+    ("from_key", 1, |a, _| written(owned::from_key(a))),
+    ("key_end", 1, |a, _| key_end(a)),
+];
+
 #[test]
-fn truths() {
-    assert!(paths::is_utf8("/a/é/文件/📁".as_bytes()) && paths::is_utf8(b""));
-    for broken in [
-        &b"\xFF"[..],
-        b"a\xC3",
-        b"\xC0\xAF",
-        b"\xED\xA0\x80",
-        b"\xF4\x90\x80\x80",
+fn rows() {
+    ask_all(CALLS, &[]);
+}
+
+#[test]
+fn refused_requests_say_why() {
+    use RequestError::{Climbs, Nul, Rooted};
+    for (why, text) in [
+        (Rooted, "path has a root"),
+        (Climbs, "path leaves its root"),
+        (Nul, "path has a NUL byte"),
     ] {
-        assert!(!paths::is_utf8(broken));
-    }
-    assert!(paths::is_absolute(b"/") && !paths::is_absolute(b"./a") && !paths::is_absolute(b""));
-    for climbing in [&b".."[..], b"/", b"a/../..", b"a/../../a/b", b"./../x"] {
-        assert!(paths::climbs(climbing));
-    }
-    for staying in [&b""[..], b"a/..", b"..foo", b"a/b/../..", b"...", b"./a"] {
-        assert!(!paths::climbs(staying));
-        assert_eq!(paths::check_request(staying), Ok(()));
-    }
-}
-
-#[test]
-fn requests() {
-    use paths::RequestError::{Climbs, Nul, Rooted};
-    for (path, why, text) in [
-        (&b"/\0"[..], Rooted, "path has a root"),
-        (b"..\0/../..", Climbs, "path leaves its root"),
-        (
-            b"a/long/name/in/front/shell.php\0.png",
-            Nul,
-            "path has a NUL byte",
-        ),
-    ] {
-        assert_eq!(paths::check_request(path), Err(why));
         assert_eq!(why.to_string(), text);
     }
 }

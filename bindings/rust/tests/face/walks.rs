@@ -1,4 +1,5 @@
-//! Walks from both ends, by every list of turns.
+//! Walks from both ends, by every list of turns; `beside_std.rs` tries `next_ancestor` and
+//! `next_chunk`, as ancestors and chunks.
 use crate::short_strings::over;
 use std::ffi::OsStr;
 use std::os::unix::ffi::OsStrExt;

@@ -1,4 +1,5 @@
-/* A library with the calls of unix_path.h that answer at random, and write where they may. */
+/* A library with the calls of unix_path.h. Each does what a call of its shape may do: it answers at
+ * random, and writes where it may. */
 #define UNIX_PATH_EXPORTS_ONLY
 #include "unix_path.h"
 
@@ -13,7 +14,7 @@ static uint64_t any(void)
 }
 
 /* A small number, or one near those where sums wrap. */
-static size_t any_size(void)
+static size_t any_size_t(void)
 {
     switch (any() % 4) {
     case 0:
@@ -25,20 +26,43 @@ static size_t any_size(void)
     }
 }
 
+static bool any_bool(void)
+{
+    return any() % 2;
+}
+
+static int32_t any_int32_t(void)
+{
+    return (int32_t)any();
+}
+
+static uint64_t any_uint64_t(void)
+{
+    return any();
+}
+
 static bool any_place(unix_path_place *place)
 {
-    place->start = any_size();
-    place->length = any_size();
+    place->start = any_size_t();
+    place->length = any_size_t();
     return any() % 4 > 0;
 }
 
 static bool any_part(unix_path_walk *walk, unix_path_part *part)
 {
-    walk->front = any_size();
-    walk->back = any_size();
-    part->start = any_size();
-    part->length = any_size();
+    walk->front = any_size_t();
+    walk->back = any_size_t();
+    part->start = any_size_t();
+    part->length = any_size_t();
     part->kind = (uint32_t)(any() % 6);
+    return any() % 8 > 0;
+}
+
+static bool any_chunk(unix_path_chunk *chunk)
+{
+    chunk->start = any_size_t();
+    chunk->valid_length = any_size_t();
+    chunk->broken_length = any_size_t();
     return any() % 8 > 0;
 }
 
@@ -47,7 +71,7 @@ static size_t any_bytes(void *room, size_t out_length)
     uint8_t *out = room;
     for (size_t at = 0; at < out_length; at++)
         out[at] = (uint8_t)any();
-    return any_size();
+    return any_size_t();
 }
 
 #define ONE const void *a, size_t a_length
@@ -56,76 +80,36 @@ static size_t any_bytes(void *room, size_t out_length)
 #define NONE_OF_ONE (void)a, (void)a_length
 #define NONE_OF_TWO NONE_OF_ONE, (void)b, (void)b_length
 
-void unix_path_components(ONE, unix_path_walk *walk)
-{
-    NONE_OF_ONE;
-    walk->front = any_size();
-    walk->back = any_size();
-}
-
-void unix_path_as_path(ONE, const unix_path_walk *walk, unix_path_place *place)
-{
-    NONE_OF_ONE, (void)walk, any_place(place);
-}
-
+#define BEGIN(name) \
+    void unix_path_##name(ONE, unix_path_walk *walk) \
+    { \
+        NONE_OF_ONE; \
+        walk->front = any_size_t(); \
+        walk->back = any_size_t(); \
+    }
+#define LEFT(name) \
+    void unix_path_##name(ONE, const unix_path_walk *walk, unix_path_place *place) \
+    { NONE_OF_ONE, (void)walk, any_place(place); }
 #define STEP(name) \
-    bool name(ONE, unix_path_walk *walk, unix_path_part *part) \
+    bool unix_path_##name(ONE, unix_path_walk *walk, unix_path_part *part) \
     { return NONE_OF_ONE, any_part(walk, part); }
-#define FIND(name) bool name(ONE, unix_path_place *place) { return NONE_OF_ONE, any_place(place); }
-#define ASK(name) bool name(ONE) { return NONE_OF_ONE, any() % 2; }
-#define ASK_TWO(name) bool name(TWO) { return NONE_OF_TWO, any() % 2; }
-#define MAKE(name) size_t name(ONE, OUT) { return NONE_OF_ONE, any_bytes(out, out_length); }
+#define NEXT_PLACE(name) \
+    bool unix_path_##name(ONE, size_t *next, unix_path_place *place) \
+    { return NONE_OF_ONE, *next = any_size_t(), any_place(place); }
+#define NEXT_CHUNK(name) \
+    bool unix_path_##name(ONE, size_t *next, unix_path_chunk *chunk) \
+    { return NONE_OF_ONE, *next = any_size_t(), any_chunk(chunk); }
+#define FIND(name) \
+    bool unix_path_##name(ONE, unix_path_place *place) { return NONE_OF_ONE, any_place(place); }
+#define FIND_OF_TWO(name) \
+    bool unix_path_##name(TWO, unix_path_place *place) { return NONE_OF_TWO, any_place(place); }
+#define ASK(answer, name) answer unix_path_##name(ONE) { return NONE_OF_ONE, any_##answer(); }
+#define ASK_TWO(answer, name) answer unix_path_##name(TWO) { return NONE_OF_TWO, any_##answer(); }
+#define MAKE(name) \
+    size_t unix_path_##name(ONE, OUT) { return NONE_OF_ONE, any_bytes(out, out_length); }
 #define MAKE_OF_TWO(name) \
-    size_t name(TWO, OUT) { return NONE_OF_TWO, any_bytes(out, out_length); }
-
-bool unix_path_next_ancestor(ONE, size_t *next, unix_path_place *ancestor)
-{
-    *next = any_size();
-    return NONE_OF_ONE, any_place(ancestor);
-}
-bool unix_path_next_chunk(ONE, size_t *next, unix_path_chunk *chunk)
-{
-    *next = any_size();
-    chunk->start = any_size();
-    chunk->valid_length = any_size();
-    chunk->broken_length = any_size();
-    return NONE_OF_ONE, any() % 8 > 0;
-}
-STEP(unix_path_next)
-STEP(unix_path_next_back)
-FIND(unix_path_parent)
-FIND(unix_path_file_name)
-FIND(unix_path_file_stem)
-FIND(unix_path_extension)
-FIND(unix_path_file_prefix)
-bool unix_path_strip_prefix(TWO, unix_path_place *place)
-{
-    return NONE_OF_TWO, any_place(place);
-}
-ASK(unix_path_is_utf8)
-ASK(unix_path_is_canonical)
-ASK(unix_path_is_absolute)
-ASK(unix_path_climbs)
-ASK_TWO(unix_path_starts_with)
-ASK_TWO(unix_path_ends_with)
-ASK_TWO(unix_path_equal)
-int32_t unix_path_check_request(ONE) { return NONE_OF_ONE, (int32_t)any(); }
-int32_t unix_path_compare(TWO) { return NONE_OF_TWO, (int32_t)any(); }
-uint64_t unix_path_hash(ONE) { return NONE_OF_ONE, any(); }
-size_t unix_path_common_dir(TWO) { return NONE_OF_TWO, any_size(); }
-MAKE(unix_path_canonical)
-MAKE(unix_path_to_string_lossy)
-MAKE(unix_path_resolved)
-MAKE(unix_path_key)
-MAKE(unix_path_from_key)
-MAKE(unix_path_key_end)
-MAKE_OF_TWO(unix_path_join)
-MAKE_OF_TWO(unix_path_with_file_name)
-MAKE_OF_TWO(unix_path_with_extension)
-MAKE_OF_TWO(unix_path_with_added_extension)
-MAKE_OF_TWO(unix_path_join_plain)
-MAKE_OF_TWO(unix_path_way)
-size_t unix_path_join_below(TWO, bool as_url, OUT)
-{
-    return NONE_OF_TWO, (void)as_url, any_bytes(out, out_length);
-}
+    size_t unix_path_##name(TWO, OUT) { return NONE_OF_TWO, any_bytes(out, out_length); }
+#define MAKE_OF_TWO_AS(name) \
+    size_t unix_path_##name(TWO, bool as, OUT) \
+    { return NONE_OF_TWO, (void)as, any_bytes(out, out_length); }
+#include "../../../../tests/calls.inc"

@@ -1,8 +1,13 @@
 //! Whatever the library answers, no call panics, and what it gives lies in its path or buffer.
 //!
-//! This holds with any library; `answers.c` makes one that answers at random.
+//! This holds with any library; `answers.c` makes one that answers at random. `calls.rs` lists the
+//! calls by shape, and each call of a shape is tried.
+#[macro_use]
+mod calls;
+
+use std::cmp::Ordering;
 use std::path::Path;
-use unix_path_rattle::{self as paths, edits, os, owned, Error, Request};
+use unix_path_rattle::{self as paths, edits, os, owned, Error, Request, RequestError};
 
 const PATH: &[u8] = b"/a//b.c";
 const ROUNDS: usize = 20_000;
@@ -11,6 +16,49 @@ const ROUNDS: usize = 20_000;
 fn lies_in(slice: &[u8], other: &[u8]) -> bool {
     let (inner, outer) = (slice.as_ptr_range(), other.as_ptr_range());
     slice.is_empty() || (outer.start <= inner.start && inner.end <= outer.end)
+}
+
+/// What a call returns.
+trait Given {
+    /// The bytes that it refers to or holds.
+    fn bytes(&self) -> &[u8];
+}
+
+/// Answers that have no bytes.
+macro_rules! no_bytes {
+    ($($kind:ty),*) => {
+        $(impl Given for $kind {
+            fn bytes(&self) -> &[u8] {
+                &[]
+            }
+        })*
+    };
+}
+no_bytes!(bool, u64, usize, Ordering, Result<(), RequestError>);
+
+impl Given for &[u8] {
+    fn bytes(&self) -> &[u8] {
+        self
+    }
+}
+
+impl Given for Vec<u8> {
+    fn bytes(&self) -> &[u8] {
+        self
+    }
+}
+
+impl Given for String {
+    fn bytes(&self) -> &[u8] {
+        assert!(std::str::from_utf8(self.as_bytes()).is_ok());
+        self.as_bytes()
+    }
+}
+
+impl<T: Given> Given for Option<T> {
+    fn bytes(&self) -> &[u8] {
+        self.as_ref().map_or(&[], Given::bytes)
+    }
 }
 
 #[test]
@@ -40,63 +88,52 @@ fn ancestors_and_chunks() {
 #[test]
 fn places() {
     for _ in 0..ROUNDS {
-        let found = [
-            paths::parent(PATH),
-            paths::file_name(PATH),
-            paths::file_stem(PATH),
-            paths::extension(PATH),
-            paths::file_prefix(PATH),
-            paths::strip_prefix(PATH, b"/a"),
-            Some(paths::common_dir(PATH, b"/a//c")),
-        ];
-        let _ = paths::check_request(PATH);
-        let _ = paths::is_canonical(PATH);
-        assert!(found
-            .into_iter()
-            .flatten()
-            .all(|slice| lies_in(slice, PATH)));
+        macro_rules! of_one {
+            ($($name:ident)*) => { $(assert!(lies_in(paths::$name(PATH).bytes(), PATH));)* };
+        }
+        find!(of_one);
+        ask!(of_one);
+        macro_rules! of_two {
+            ($($name:ident)*) => {
+                $(assert!(lies_in(paths::$name(PATH, b"/a").bytes(), PATH));)*
+            };
+        }
+        find_of_two!(of_two);
+        ask_two!(of_two);
         assert!(os::parent("/a/b").map_or(0, |parent| parent.as_os_str().len()) <= 4);
     }
 }
 
 #[test]
 fn buffers() {
-    let of_one = [
-        paths::canonical,
-        paths::to_string_lossy,
-        paths::resolved,
-        paths::key,
-        paths::from_key,
-    ];
-    let of_two = [
-        paths::join,
-        paths::with_file_name,
-        paths::with_extension,
-        paths::with_added_extension,
-        paths::join_plain,
-        paths::way,
-    ];
     for _ in 0..ROUNDS {
         let mut out = [0; 12];
         let range = out.as_ptr_range();
-        let is_inside = |made: Result<&[u8], Error>| match made {
-            Ok(made) => made.as_ptr() == range.start && made.len() <= 12,
-            Err(Error::Short { needed }) => needed > 12,
-            Err(_) => true,
-        };
-        for call in of_one {
-            assert!(is_inside(call(PATH, &mut out)));
+        macro_rules! is_inside {
+            ($call:expr) => {
+                match $call {
+                    Ok(made) => {
+                        let bytes = made.bytes();
+                        bytes.as_ptr() == range.start && bytes.len() <= 12
+                    }
+                    Err(Error::Short { needed }) => needed > 12,
+                    Err(_) => true,
+                }
+            };
         }
-        for call in of_two {
-            assert!(is_inside(call(PATH, b"x", &mut out)));
+        macro_rules! of_one {
+            ($($name:ident)*) => { $(assert!(is_inside!(paths::$name(PATH, &mut out)));)* };
         }
-        let end = paths::key_end(PATH, &mut out);
-        assert!(is_inside(end.map(Option::unwrap)));
+        make!(of_one);
+        macro_rules! of_two {
+            ($($name:ident)*) => { $(assert!(is_inside!(paths::$name(PATH, b"x", &mut out)));)* };
+        }
+        make_of_two!(of_two);
         for request in [Request::new(PATH), Request::below(PATH)]
             .into_iter()
             .flatten()
         {
-            assert!(is_inside(request.join_below(b"/srv", &mut out)));
+            assert!(is_inside!(request.join_below(b"/srv", &mut out)));
             assert!(lies_in(request.as_path(), PATH));
         }
     }
@@ -104,30 +141,23 @@ fn buffers() {
 
 #[test]
 fn memory_of_its_own() {
-    let of_two = [
-        owned::join,
-        owned::with_file_name,
-        owned::with_extension,
-        owned::with_added_extension,
-        owned::join_plain,
-        owned::way,
-    ];
     for _ in 0..ROUNDS {
-        for call in of_two {
-            let _ = call(PATH, b"x").map(|made| made.len());
+        macro_rules! of_one {
+            ($($name:ident)*) => { $(let _ = owned::$name(PATH).map(|made| made.bytes().len());)* };
         }
+        make!(of_one);
+        macro_rules! of_two {
+            ($($name:ident)*) => {
+                $(let _ = owned::$name(PATH, b"x").map(|made| made.bytes().len());)*
+            };
+        }
+        make_of_two!(of_two);
         for request in [Request::new(PATH), Request::below(PATH)]
             .into_iter()
             .flatten()
         {
             let _ = owned::join_below(b"/srv", request).map(|made| made.len());
         }
-        let _ = owned::canonical(PATH).map(|made| made.len());
-        let _ = owned::resolved(PATH).map(|made| made.len());
-        let _ = owned::key(PATH).map(|made| made.len());
-        let _ = owned::from_key(PATH).map(|made| made.len());
-        let _ = owned::key_end(PATH).map(|made| made.map_or(0, |end| end.len()));
-        let _ = owned::to_string_lossy(PATH).map(|text| text.chars().count());
         let _ = os::join(Path::new("a"), "b").map(|made| made.components().count());
     }
 }

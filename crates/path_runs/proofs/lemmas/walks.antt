@@ -1,5 +1,4 @@
--- Walks: their turns, and runs of their calls.
+-- Walks by turns.
 pub mod WalkLemmas
 -- Of this crate alone.
 pub mod WalkStepLemmas
-pub mod MixedLemmas

@@ -1,4 +1,5 @@
-//! Places of a path where stems end, so that a long name without a dot isn't searched for one again.
+//! Places of a path where stems end, so that a long name without a dot isn't searched for one
+//! again.
 ghost use Rattle.std.specs.Prelude.{◌≡◌, ℕ, ◌<◌, ◌≤◌, List, length, take, IsTrue};
 ghost use Rattle.path_runs.specs.Known.{IsStack, KnowsStem, KnowsStems};
 

@@ -37,8 +37,8 @@ impl<V> PathTree<V> {
     ///
     /// Whole parts count: `a.b` isn't under `a`. An entry at the base comes first. A key without
     /// the base's bytes in front is that of what follows the base. The walk visits no other
-    /// entries. Allocates once, as many bytes as the base's key has, or not at all for the empty path;
-    /// fails if the allocation fails. Not in Rust's std.
+    /// entries. Allocates once, as many bytes as the base's key has, or not at all for the empty
+    /// path; fails if the allocation fails. Not in Rust's std.
     ///
     /// No `..` is resolved: `a/../b` is under `a`. To keep a path below a directory, use
     /// `Request::new` and `Root::join` of the crate `path_within`, or its `join_within`.

@@ -1,8 +1,7 @@
 //! Laws of joins that stay under their root.
-ghost use Rattle.path_within.specs.ResolvedLaws.{WithinAddsNames, WithinHasNames};
-ghost use Rattle.path_within.specs.ResolvedLaws.{WithinBegins, WithinStripped};
-ghost use Rattle.path_within.specs.ResolvedLaws.{PlainStays, PlainHasNames, PlainAddsValues};
-ghost use Rattle.path_within.specs.ResolvedLaws.{PlainBegins, PlainStripped};
+ghost use Rattle.path_within.specs.ResolvedLaws.{WithinAddsNames, WithinHasNames, WithinBegins};
+ghost use Rattle.path_within.specs.ResolvedLaws.{WithinStripped, PlainStays, PlainHasNames};
+ghost use Rattle.path_within.specs.ResolvedLaws.{PlainAddsValues, PlainBegins, PlainStripped};
 
 /// The resolved join with a request that doesn't climb stays under the resolved root.
 ///

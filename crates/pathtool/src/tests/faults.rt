@@ -95,8 +95,8 @@ fn faulty_writer(alloc: Global, fault: Fault, faulty: u32) -> OnceFaultyWriter {
     }
 }
 
-// A reader of `left` newlines that fails at call number `faulty` with an error of this kind, and has
-// not been called yet.
+// A reader of `left` newlines that fails at call number `faulty` with an error of this kind, and
+// has not been called yet.
 fn failing_reader(left: u32, faulty: u32, kind: io::ErrorKind) -> OnceFailingReader {
     OnceFailingReader {
         left,
@@ -145,7 +145,8 @@ fn an_interrupted_read_is_tried_again(rt: HostRuntime) {
 }
 
 // Whether a run over two lines, with this fault of its writer, ends in `Write`, or in Ok for a call
-// that is interrupted and for no fault; and has then read the input, written this output, and made so many writes and flushes.
+// that is interrupted and for no fault; and has then read the input, written this output, and made
+// so many writes and flushes.
 fn is_ended(alloc: Global, fault: Fault, faulty: u32, output: &[u8], calls: (u32, u32)) -> bool {
     let mut reader = watch(b"parts\ta/b\nparts\t./c\n".as_slice());
     let mut writer = watch(faulty_writer(alloc, fault, faulty));

@@ -3,3 +3,4 @@ pub mod CursorLemmas
 -- Of this crate alone.
 pub mod OffsetLemmas
 pub mod ComponentLemmas
+pub mod MixedLemmas

@@ -3,6 +3,7 @@ mod edits;
 mod keys;
 mod owners;
 mod pairs;
+mod rows;
 mod singles;
 mod strings;
 mod texts;

@@ -1,7 +1,7 @@
 -- The children of a base, found in a walk that goes on behind each child.
-use Rattle.std.proofs.Common.{◌≡◌, ◌∙◌, ◌<◌, ◌+◌, ℕ, Bool, true, false, cond, List, [], ◌∷◌}
-use Rattle.std.proofs.Common.{Some, None, Option, Ordering, Less, Equal, Greater, IfSome, length, map, take}
-use Rattle.std.proofs.Common.{ap, refl, sym, is_le}
+use Rattle.std.proofs.Common.{◌≡◌, ◌∙◌, ◌<◌, ◌+◌, ℕ, Bool, true, false, cond, List, [], ◌∷◌, Some}
+use Rattle.std.proofs.Common.{None, Option, Ordering, Less, Equal, Greater, IfSome, length, map}
+use Rattle.std.proofs.Common.{take, ap, refl, sym, is_le}
 use Rattle.std.specs.Cmp.Lexicographic.{nat_list_cmp_total}
 use Rattle.std.specs.List.{AllByRecursion, dedup_from, filter}
 use Rattle.std.specs.List.Sorted.{IsStrictlySortedBy}
@@ -134,7 +134,8 @@ module _ {K V : Type 0} (bytes_of : K → List ℕ) where
   pass_child base c end child ends (e ∷ es) own sorted from = by_test (is_behind bytes_of end e.0)
       (λ is. ap (λ l. fresh (key_values base) (Some (key_values c)) (rows_by bytes_of l))
       (sym (filter_all (is_behind bytes_of end) (e ∷ es)
-      (all_from_first (keys_cmp bytes_of) (is_behind bytes_of end) (stays_behind bytes_of end) e es sorted is))))
+      (all_from_first (keys_cmp bytes_of) (is_behind bytes_of end)
+      (stays_behind bytes_of end) e es sorted is))))
       (λ other.
       let under : is_under (key_values c) (key_values (bytes_of e.0)) ≡ true =
       sym (between-under c end (bytes_of e.0) ends child.own own.0) ∙ rw (from.0, other) refl in
@@ -143,7 +144,8 @@ module _ {K V : Type 0} (bytes_of : K → List ℕ) where
       ∙ pass_child base c end child ends es own.1
       (sorted_others (keys_cmp bytes_of) e es sorted) from.1
       ∙ ap (λ b. fresh (key_values base) (Some (key_values c)) (rows_by bytes_of
-      (cond b (e ∷ filter (λ e. is_behind bytes_of end e.0) es) (filter (λ e. is_behind bytes_of end e.0) es))))
+      (cond b (e ∷ filter (λ e. is_behind bytes_of end e.0) es)
+      (filter (λ e. is_behind bytes_of end e.0) es))))
       (sym other))
 
   -- keys behind one that isn't under base aren't under it either

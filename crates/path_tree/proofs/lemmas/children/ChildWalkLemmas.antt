@@ -1,9 +1,8 @@
 -- The walk that finds the children of a base: how far it has come, and each of its steps.
 use Rattle.std.proofs.Common.{◌≡◌, ◌∙◌, ◌&&◌, ◌<◌, ◌+◌, ℕ, Bool, true, false, cond, List, [], ◌∷◌}
-use Rattle.std.proofs.Common.{◌++◌, Some, None, Option, Ordering, Less, Equal, Greater, IfSome}
-use Rattle.std.proofs.Common.{ap, append_assoc, append-nil, arith, eqb, is_le, length, length-append}
-use Rattle.std.proofs.Common.{length-take, not, refl, subst, subst₂}
-use Rattle.std.proofs.Common.{sym, take}
+use Rattle.std.proofs.Common.{◌++◌, Some, None, Option, Ordering, Less, Equal, Greater, IfSome, ap}
+use Rattle.std.proofs.Common.{append_assoc, append-nil, arith, eqb, is_le, length, length-append}
+use Rattle.std.proofs.Common.{length-take, not, refl, subst, subst₂, sym, take}
 use Rattle.std.proofs.lemmas.Bool.Decides.{nat_tests}
 use Rattle.std.proofs.lemmas.Cmp.{nat_list_cmp_total, tied_itself}
 use Rattle.std.specs.FinMap.{nat_cmp-IsAntisymmetric, slice_cmp-IsAntisymmetric}
@@ -158,7 +157,8 @@ module _ {V : Type 0} (base : List ℕ) (base_own : is_own base ≡ true) where
     -- where an entry goes on in the child that was found last, what isn't behind the child is
     -- passed over
     module _ (c end : List ℕ) (e : Key × V) (es : List (Key × V))
-        (found : List (List Value × Option V)) (h : FindsChildren base entries (Some c) (e ∷ es) found)
+        (found : List (List Value × Option V))
+        (h : FindsChildren base entries (Some c) (e ∷ es) found)
         (in_child : Begins c e.0.items) (ends : end_of c ≡ Some end) (rest : List (Key × V))
         (is : rest ≡ filter (λ e. is_le (bytes_cmp end e.0.items) && true) entries) where
       behind_is : rest ≡ filter (λ e. is_behind items_of end e.0) entries
@@ -228,7 +228,8 @@ module _ {V : Type 0} (base : List ℕ) (base_own : is_own base ≡ true) where
               (ap is_le (le_less c k l.items from less.0), all_from c k from ls less.1)
 
     module _ (last : Option (List ℕ)) (e : Key × V) (es : List (Key × V))
-        (found : List (List Value × Option V)) (h : FindsChildren base entries last (e ∷ es) found) where
+        (found : List (List Value × Option V))
+        (h : FindsChildren base entries last (e ∷ es) found) where
       -- an entry that begins with base is longer
       pub longer : Begins base e.0.items → length base < length e.0.items
       longer begins = by begins.0 begins.1

@@ -1,6 +1,6 @@
 -- Lists that rise: one element more, and two maps that find the same.
-use Rattle.std.proofs.Common.{◌≡◌, ◌∙◌, ◌⊎◌, ℕ, cond, List, [], ◌∷◌, ◌++◌, Option}
-use Rattle.std.proofs.Common.{Some, None, ap, ap₂, arith, length, length-append, map, refl, sym, inl, inr, ◌-◌}
+use Rattle.std.proofs.Common.{◌≡◌, ◌∙◌, ◌⊎◌, ℕ, cond, List, [], ◌∷◌, ◌++◌, Option, Some, None, ap}
+use Rattle.std.proofs.Common.{ap₂, arith, length, length-append, map, refl, sym, inl, inr, ◌-◌}
 use Rattle.std.proofs.Common.{Ordering, Less, Equal, Greater}
 use Rattle.std.proofs.lemmas.Cmp.{nat_list_cmp_total, tied_itself}
 use Rattle.std.specs.BTreeMap.{is_at}
@@ -113,7 +113,8 @@ module _ {K V : Type 0} (bytes_of : K → List ℕ) where
       → keys_cmp bytes_of e.0 f.0 ≡ Less
       → finds_at e.0 (e ∷ es) ≡ finds_at e.0 (f ∷ fs) → ⊥
   not_behind e f es fs sorted less same =
-      let none = none_greater e.0 (f ∷ fs) (less, less_all bytes_of e.0 f.0 less (keys_of fs) sorted) in
+      let none = none_greater e.0 (f ∷ fs)
+      (less, less_all bytes_of e.0 f.0 less (keys_of fs) sorted) in
       let some = itself e es in
       let e = sym some ∙ same ∙ none in cc
 
@@ -177,7 +178,8 @@ module _ {K V : Type 0} (bytes_of : K → List ℕ) where
       → rows_by bytes_of es ≡ rows_by bytes_of fs
   rows-bare es fs same = told es ∙ ap (map (λ p. (key_values p.0, p.1))) same ∙ sym (told fs)
     where
-      told : (es : List (K × V)) → rows_by bytes_of es ≡ map (λ p. (key_values p.0, p.1)) (map bare es)
+      told : (es : List (K × V))
+          → rows_by bytes_of es ≡ map (λ p. (key_values p.0, p.1)) (map bare es)
       told [] = refl
       told (e ∷ es) = ap (λ l. (key_values (bytes_of e.0), e.1) ∷ l) (told es)
 

@@ -15,7 +15,8 @@ overflow_add-names c = omega (
   arith,
   length-le-slashed_len (names_below (values c.args.path.bytes.now)),
   ap length c.in-Name.ensures.names,
-  length-append (names_below (values_left c.take_last.new.self)) (Normal c.in-Name.name.bytes.now ∷ []),
+  length-append (names_below (values_left c.take_last.new.self))
+      (Normal c.in-Name.name.bytes.now ∷ []),
 )
 
 pub returns-then-has_root-clause-ups : goal.returns-then-has_root-clause-ups

@@ -1,5 +1,5 @@
-use Rattle.std.proofs.Common.{drop, length, ◌-◌, ◌∷◌, ◌++◌, [], refl, sym, ap, ◌∙◌, arith, append_assoc}
-use Rattle.std.proofs.Common.{append-nil}
+use Rattle.std.proofs.Common.{drop, length, ◌-◌, ◌∷◌, ◌++◌, [], refl, sym, ap, ◌∙◌, arith}
+use Rattle.std.proofs.Common.{append_assoc, append-nil}
 use Rattle.path_within.specs.Pieces.{values_left}
 use Rattle.unix_path.specs.Parts.{Normal}
 use Rattle.path_within.specs.Backward.{last_names}
@@ -24,7 +24,8 @@ loop-more-preserved c =
     let name = c.in-Name.name.bytes.now in
     let left = last_names (c.loop-more.more - 1) (values_left c.take_last.new.self) in
     let last = last_names-push c.loop-more.more
-    (values_left c.loop-more.left) (values_left c.take_last.new.self) name (omega (arith, c.loop-more-test.true))
+    (values_left c.loop-more.left) (values_left c.take_last.new.self) name
+    (omega (arith, c.loop-more-test.true))
     c.in-Name.ensures.names in
     let made = c.loop-more.invariant.made in
     record {

@@ -1,23 +1,21 @@
 -- What stands before the names of a resolved path: a root, or `..` any number of times.
-use Rattle.std.proofs.Common.{◌≡◌, ℕ, suc, zero, true, false, List, [], ◌∷◌, ◌++◌, reverse}
-use Rattle.std.proofs.Common.{refl, sym, ap, ap₂, ◌∙◌, add-one}
+use Rattle.std.proofs.Common.{◌≡◌, ℕ, suc, zero, true, false, List, [], ◌∷◌, ◌++◌, reverse, refl}
+use Rattle.std.proofs.Common.{sym, ap, ap₂, ◌∙◌, add-one, Bool}
 use Rattle.std.proofs.Math.ListN.{replicate}
 use Rattle.std.proofs.lemmas.Grind.{reverse_onto}
 use Rattle.std.proofs.lemmas.List.{replicate_more, reverse-append}
-use Rattle.unix_path.specs.Parts.{Value, RootDir, CurDir, ParentDir, Normal, is_rooted, slash}
-use Rattle.unix_path.specs.Parts.{values}
+use Rattle.unix_path.specs.Parts.{Value, RootDir, CurDir, ParentDir, Normal, is_rooted, values}
 use Rattle.unix_path.proofs.lemmas.rests.RootLemmas.{NoRoot}
 use Rattle.path_runs.specs.Spelling.{slashed_bytes, spelling_of}
 use Rattle.path_runs.proofs.lemmas.spelling.PieceValueLemmas.{is_rooted-slash}
-use Rattle.path_runs.proofs.lemmas.spelling.SpellLemmas.{spelling_of-root}
 use Rattle.path_within.specs.Backward.{ups_in, ups_left}
 use Rattle.path_within.specs.Below.{names_below}
 use Rattle.path_within.specs.Resolved.{AreNames, AreUpsThenNames, kept_of, resolved_of}
 use Rattle.path_within.specs.Resolved.{resolved_bytes_of}
 use Rattle.path_within.proofs.lemmas.below.NamesBelowLemmas.{AreNames-names_below, behind_root}
 use Rattle.path_within.proofs.lemmas.below.NamesBelowLemmas.{names_below-kept, names_below-slash}
-use Rattle.path_within.proofs.lemmas.below.NamesBelowLemmas.{resolved_of-slash}
-use Rattle.path_within.proofs.lemmas.below.NamesBelowLemmas.{names_below-names, names_kept, values-slash}
+use Rattle.path_within.proofs.lemmas.below.NamesBelowLemmas.{resolved_of-slash, names_below-names}
+use Rattle.path_within.proofs.lemmas.below.NamesBelowLemmas.{names_kept, values-slash}
 use Rattle.unix_path.specs.CommonDir.{inner_values}
 use Rattle.path_within.proofs.lemmas.kept.ClimbLemmas.{rootless-no_roots}
 use Rattle.path_within.proofs.lemmas.kept.KeepLemmas.{names_straight}
@@ -25,7 +23,6 @@ use Rattle.path_within.proofs.lemmas.kept.WayLemmas.{spelling_of-straight}
 use Rattle.path_within.proofs.lemmas.plain.NormalLemmas.{resolved_values}
 use Rattle.path_within.proofs.lemmas.plain.PlainLemmas.{plain_has_names, resolved-plain}
 use Rattle.path_within.specs.PlainPieces.{is_plain}
-use Rattle.std.proofs.Common.{Bool}
 use Rattle.unix_bytes.proofs.lemmas.lists.ListLemmas.{by_test}
 
 -- `..` and the names are kept, and behind the root the same names
@@ -72,7 +69,8 @@ resolved_of-rootless s r =
     ∙ ap (λ n. replicate n ParentDir) (sym (ap ups_in h.kept_is ∙ ups_in-kept h.names h.ups h.are)))
     (sym (names_below-kept (values s) h.names h.below_is))
 
-pub straight : (n : ℕ) (vs : List Value) → AreNames vs → AreUpsThenNames (replicate n ParentDir ++ vs)
+pub straight : (n : ℕ) (vs : List Value) → AreNames vs
+    → AreUpsThenNames (replicate n ParentDir ++ vs)
 straight zero vs h = names_straight vs h
 straight (suc n) vs h = straight n vs h
 
@@ -94,12 +92,6 @@ resolved_of-rooted s r =
     ap (λ s. resolved_of (values s)) t.1 ∙ resolved_of-slash t.0
     ∙ ap (λ vs. RootDir ∷ vs) (sym (ap (λ s. names_below (values s)) t.1 ∙ names_below-slash t.0))
 
--- and they are spelled with a slash, and slashes between the names
-pub resolved_bytes_of-rooted : (s : List ℕ) → is_rooted s ≡ true
-    → resolved_bytes_of s ≡ slash ∷ slashed_bytes (names_below (values s))
-resolved_bytes_of-rooted s r =
-    ap spelling_of (resolved_of-rooted s r) ∙ spelling_of-root (names_below (values s))
-
 -- the root of a path, if it has one
 abbrev pub front : Bool → List Value
 front true = RootDir ∷ []
@@ -120,7 +112,8 @@ unfolding ups_left
 ups_left-rooted s r =
     let t = is_rooted-slash s r in
     let found = names_kept (inner_values t.0) in
-    ap (λ s. ups_in (kept_of [] (values s))) t.1 ∙ ap (λ vs. ups_in (kept_of [] vs)) (values-slash t.0)
+    ap (λ s. ups_in (kept_of [] (values s))) t.1
+    ∙ ap (λ vs. ups_in (kept_of [] vs)) (values-slash t.0)
     ∙ ap ups_in found.2 ∙ none found.0 found.1
   where
     none : (ns : List Value) → AreNames ns → ups_in (ns ++ RootDir ∷ []) ≡ 0

@@ -20,7 +20,8 @@ use Rattle.path_within.specs.Written.{opened, slashed_len}
 use Rattle.path_within.proofs.lemmas.below.BelowLemmas.{below_of-nil, below_of-some}
 use Rattle.path_within.proofs.lemmas.below.BoundLemmas.{length-slashed_bytes, slashed_len-cons}
 
--- a join has the root's bytes, and those of the names with a slash for each, unless the root is open
+-- a join has the root's bytes, and those of the names with a slash for each, unless the root is
+-- open
 pub length-joined : (root : List ℕ) (vs : List Value) → AllByRecursion IsUnslashedValue vs
     → 0 < slashed_len vs
     → length (below_of root vs) + from_bool (is_open root) ≡ length root + slashed_len vs

@@ -14,8 +14,8 @@ abbrev pub ups_on : ℕ → List Value → List Value
 ups_on zero ks = ks
 ups_on (suc n) ks = ups_on n (up_from ks)
 
--- behind whatever is kept, the values vs, which are at least n fewer, and n more `..` leave what all
--- values leave
+-- behind whatever is kept, the values vs, which are at least n fewer, and n more `..` leave what
+-- all values leave
 pub record Leaves (n : ℕ) (vs all : List Value) : Type 0 where
   pub kept : (ks : List Value) → ups_on n (kept_of ks vs) ≡ kept_of ks all
   pub room : n + length vs ≤ length all

@@ -1,10 +1,11 @@
 -- Layouts of resolved paths: how they are spelled, and how long they are.
-use Rattle.std.proofs.Common.{◌≡◌, ℕ, zero, suc, ◌+◌, ◌-◌, ◌*◌, ◌<◌, ◌≤◌, true, false, cond, List, [], ◌∷◌}
+use Rattle.std.proofs.Common.{◌≡◌, ℕ, Bool, ◌+◌, ◌-◌, ◌*◌, ◌<◌, ◌≤◌, true, false, cond, List, []}
+use Rattle.std.proofs.Common.{◌∷◌}
 use Rattle.std.proofs.Common.{◌++◌, length, take, drop, refl, sym, ap, ap₂, ◌∙◌, arith}
 use Rattle.std.proofs.Common.{append-nil, length-append, take-append-drop}
 use Rattle.std.proofs.Math.ListN.{replicate, set}
 use borrow.Rule.Slice.PartMut.{put_mid}
-use Rattle.std.proofs.lemmas.List.{drop-append-le, drop_all, nil_from_length}
+use Rattle.std.proofs.lemmas.List.{drop-append-le, drop_all, length-replicate, nil_from_length}
 use Rattle.std.proofs.lemmas.List.Folds.{sum_by-replicate}
 use Rattle.unix_bytes.proofs.lemmas.lists.ListLemmas.{by_test}
 use Rattle.unix_path.specs.Parts.{Value, RootDir, ParentDir, Normal, is_rooted, slash, value_bytes}
@@ -17,19 +18,20 @@ use Rattle.path_within.specs.Layouts.{layout_names, layout_values, names_in}
 use Rattle.path_within.specs.declared.write.Layout.{Layout}
 use Rattle.path_within.specs.PlainPieces.{is_plain}
 use Rattle.path_within.specs.Resolved.{AreNames, resolved_of}
-use Rattle.path_within.proofs.lemmas.backward.FrontLemmas.{front, plain_values, resolved_of-rooted}
-use Rattle.path_within.proofs.lemmas.backward.FrontLemmas.{resolved_of-rootless}
+use Rattle.path_within.proofs.lemmas.backward.FrontLemmas.{resolved_of-rooted, resolved_of-rootless}
 use Rattle.path_within.proofs.lemmas.plain.NormalLemmas.{resolved_values}
-use Rattle.std.proofs.Common.{Bool}
-use Rattle.path_within.specs.Written.{slashed_len, AreSpelled}
-use Rattle.path_within.proofs.lemmas.backward.FrontLemmas.{straight}
-use Rattle.path_within.proofs.lemmas.backward.FrontLemmas.{resolved_bytes_of-rootless}
+use Rattle.path_within.specs.Written.{slashed_len, AreSpelled, StandsFor}
+use Rattle.path_within.proofs.lemmas.backward.FrontLemmas.{resolved_bytes_of-rootless, straight}
+use Rattle.path_within.proofs.lemmas.backward.FrontLemmas.{ups_left-rooted}
 use Rattle.path_within.proofs.lemmas.backward.PutLemmas.{puts_all, puts_then, slashed_len-append}
 use Rattle.path_within.proofs.lemmas.below.BoundLemmas.{length-resolved, length-slashed_bytes}
 use Rattle.path_within.proofs.lemmas.below.BoundLemmas.{slashed_len-cons, slashed_len-names}
 use Rattle.path_within.proofs.lemmas.below.NamesBelowLemmas.{AreNames-names_below}
+use Rattle.path_within.proofs.lemmas.below.NamesBelowLemmas.{names_below-names}
+use Rattle.path_within.proofs.lemmas.kept.BetweenLemmas.{names_drop}
+use Rattle.path_within.proofs.lemmas.kept.WayLemmas.{list_all-names, names_all}
 use Rattle.path_within.proofs.lemmas.kept.WayLemmas.{spelling_of-straight}
-use Rattle.path_within.proofs.lemmas.plain.PlainLemmas.{resolved-plain}
+use Rattle.path_within.proofs.lemmas.plain.PlainLemmas.{plain_has_names, resolved-plain}
 
 -- `..` have three bytes each, with their slash
 pub slashed_len-ups : (n : ℕ) (vs : List Value)
@@ -48,10 +50,7 @@ length-le-slashed_len (v ∷ vs) =
 
 -- the rest of names are names
 pub names_rest : (n : ℕ) (vs : List Value) → AreNames vs → AreNames (drop n vs)
-names_rest zero vs h = h
-names_rest (suc n) [] h = h
-names_rest (suc n) (Normal name ∷ vs) h = names_rest n vs h
-names_rest (suc n) (v ∷ vs) h = absurd h
+names_rest n vs h = names_all (drop n vs) (names_drop n vs (list_all-names vs h))
 
 pub are_last_names : (n : ℕ) (vs : List Value) → AreNames (last_names n vs)
 are_last_names n vs =
@@ -76,10 +75,6 @@ last_names-push n vs ws name some e =
       some,
     )) e
     ∙ drop-append-le (length names - (n - 1)) names (Normal name ∷ []) (omega arith)
-
--- if no name is left, or none is asked for, there is none
-pub last_names-none : (n : ℕ) (vs : List Value) → names_below vs ≡ [] → last_names n vs ≡ []
-last_names-none n vs e = ap (λ ws. drop (length ws - n) ws) e ∙ drop_all (0 - n) [] (omega arith)
 
 -- names that are spelled have a slash less than with one for each
 pub length-spelled : {s : List ℕ} {vs : List Value} → AreSpelled s vs
@@ -220,24 +215,28 @@ length-rootless_layout l r = omega (
 abbrev pub laid_out : Bool → ℕ → List Value → List Value
 laid_out r n vs = cond r (RootDir ∷ vs) (replicate n ParentDir ++ vs)
 
--- the layout of a plain path
-pub laid_out-plain : {r : Bool} {n : ℕ} {vs : List Value} (s : List ℕ) → is_plain s ≡ true
-    → r ≡ is_rooted s → n ≡ 0 → vs ≡ names_below (values s)
-    → laid_out r n vs ≡ resolved_of (values s)
-laid_out-plain {r} {n} {vs} s h root none names =
-    ap (λ r. laid_out r n vs) root ∙ ap (λ n. laid_out (is_rooted s) n vs) none
-    ∙ ap (laid_out (is_rooted s) 0) names ∙ by (is_rooted s)
-    ∙ sym (plain_values s h) ∙ sym (resolved_values s (resolved-plain s h))
-  where
-    by : (r : Bool) → laid_out r 0 (names_below (values s)) ≡ front r ++ names_below (values s)
-    by true = refl
-    by false = refl
+-- if what stands for a path is plain, no `..` is left of the path
+pub no_ups : {t s : List ℕ} → StandsFor t s
+    → (is_rooted s ≡ false → resolved_of (values t) ≡ resolved_of (values s))
+    → is_plain t ≡ true → 0 ≡ ups_left (values s)
+no_ups {t} {s} stands same h = by_test (is_rooted s)
+    (λ r. sym (ups_left-rooted s r))
+    (λ r. let n = ups_left (values s) in omega (
+      arith,
+      ap length (resolved_of-rootless s r),
+      ap length (same r),
+      ap length (resolved_values t (resolved-plain t h)),
+      ap length (names_below-names (values t) (plain_has_names t h stands.rootless).names),
+      ap length stands.names,
+      length-append (replicate n ParentDir) (names_below (values s)),
+      length-replicate n ParentDir,
+    ))
 
--- and of any path
-pub laid_out-walked : {r : Bool} {n : ℕ} {vs : List Value} (s : List ℕ) → r ≡ is_rooted s
+-- the layout of a path
+pub laid_out-resolved : {r : Bool} {n : ℕ} {vs : List Value} (s : List ℕ) → r ≡ is_rooted s
     → n ≡ ups_left (values s) → vs ≡ names_below (values s)
     → laid_out r n vs ≡ resolved_of (values s)
-laid_out-walked {r} {n} {vs} s root ups names =
+laid_out-resolved {r} {n} {vs} s root ups names =
     ap (λ r. laid_out r n vs) root ∙ ap (laid_out (is_rooted s) n) names
     ∙ by_test (is_rooted s)
     (λ r. ap (λ b. laid_out b n (names_below (values s))) r ∙ sym (resolved_of-rooted s r))

@@ -1,7 +1,8 @@
 -- The pieces of a path, from the last to the first.
 use Rattle.std.proofs.Common.{◌≡◌, ℕ, suc, ◌+◌, ◌-◌, ◌<◌, ◌≤◌, false, cond, eqb, eqb-true, List, []}
-use Rattle.std.proofs.Common.{◌∷◌, ◌++◌, length, map, take, drop, get_or, refl, sym, ap, ◌∙◌, arith, drop-cons}
-use Rattle.std.proofs.Common.{take-append-drop}
+use Rattle.std.proofs.Common.{◌∷◌, ◌++◌, length, map, take, drop, get_or, refl, sym, ap, ◌∙◌, arith}
+use Rattle.std.proofs.Common.{drop-cons}
+use Rattle.std.proofs.Common.{reverse, take-append-drop}
 use Rattle.std.specs.List.{onto_first, position_or_len, slice_split}
 use Rattle.std.proofs.lemmas.Bool.{eqb-false}
 use Rattle.std.proofs.lemmas.List.{length-map, map-append}
@@ -9,17 +10,20 @@ use Rattle.std.proofs.lemmas.List.Splits.{length-slice_split, slice_split-cons_n
 use Rattle.std.proofs.lemmas.List.Sums.{count_by-le-length}
 use Rattle.unix_bytes.proofs.lemmas.lists.ListLemmas.{by_test}
 use Rattle.unix_path.specs.CommonDir.{inner_values}
-use Rattle.unix_path.specs.Parts.{Value, RootDir, counts, is_rooted, is_slash, slash, value_of_piece}
-use Rattle.unix_path.specs.Parts.{values}
+use Rattle.unix_path.specs.Parts.{Value, RootDir, counts, is_rooted, is_slash, slash}
+use Rattle.unix_path.specs.Parts.{value_of_piece, values}
 use Rattle.unix_path.proofs.lemmas.parts.CutLemmas.{slice_split-append}
-use Rattle.path_runs.proofs.lemmas.joins.LeadLemmas.{drop_dot-values}
+use Rattle.path_runs.proofs.lemmas.joins.LeadLemmas.{drop_dot-values, roots_same}
 use Rattle.path_runs.proofs.lemmas.spelling.PieceValueLemmas.{inner_values-pieces, names_of}
 use Rattle.path_within.specs.Backward.{piece_value, piece_values, ups_in, ups_left}
 use Rattle.path_within.specs.Below.{names_below}
-use Rattle.path_within.specs.Resolved.{keep, kept_of}
+use Rattle.path_within.specs.Resolved.{keep, kept_of, resolved_of}
 use Rattle.path_within.proofs.lemmas.below.NamesBelowLemmas.{names_below-inner, names_below-kept}
 use Rattle.path_within.proofs.lemmas.below.NamesBelowLemmas.{names_kept}
 use Rattle.path_within.proofs.lemmas.kept.ResolveLemmas.{kept_of-drop_dot}
+use Rattle.unix_path.specs.Scan.{is_filler}
+use Rattle.unix_path.proofs.lemmas.filler.FillerLemmas.{values-busy}
+use Rattle.path_within.specs.Written.{StandsFor}
 
 -- where they are kept, filler adds nothing
 kept_of-pieces : (ks : List Value) (ps : List (List ℕ))
@@ -61,14 +65,16 @@ few_pieces s = omega (
 one_piece : (p : List ℕ) → position_or_len is_slash p ≡ length p → slice_split is_slash p ≡ p ∷ []
 one_piece [] e = refl
 one_piece (x ∷ p) e = by_test (is_slash x)
-    (λ yes. let no : position_or_len is_slash (x ∷ p) ≡ 0 = rw yes refl in absurd (omega (arith, no, e)))
+    (λ yes. let no : position_or_len is_slash (x ∷ p) ≡ 0 = rw yes refl in
+    absurd (omega (arith, no, e)))
     (λ no.
     let rest : position_or_len is_slash (x ∷ p) ≡ suc (position_or_len is_slash p) =
     rw no (omega arith) in
     slice_split-cons_no is_slash x p no ∙ ap (onto_first x) (one_piece p (omega (arith, rest, e))))
 
 -- up to its last slash a string has the pieces before the last one
-pub last_piece : {u p : List ℕ} (s : List ℕ) (n : ℕ) → 0 < n → n ≤ length s → get_or s (n - 1) 0 ≡ slash
+pub last_piece : {u p : List ℕ} (s : List ℕ) (n : ℕ) → 0 < n → n ≤ length s
+    → get_or s (n - 1) 0 ≡ slash
     → u ≡ take (n - 1) s → p ≡ drop n s → position_or_len is_slash p ≡ length p
     → piece_values s ≡ piece_values u ++ piece_value p ∷ []
 last_piece {u} {p} s n some in_range here e f none =
@@ -88,7 +94,8 @@ last_piece {u} {p} s n some in_range here e f none =
 pub only_piece : {s p : List ℕ} → p ≡ s → position_or_len is_slash p ≡ length p
     → piece_values s ≡ piece_value p ∷ []
 only_piece {s} {p} e none =
-    ap (λ s. map piece_value (slice_split is_slash s)) (sym e) ∙ ap (map piece_value) (one_piece p none)
+    ap (λ s. map piece_value (slice_split is_slash s)) (sym e)
+    ∙ ap (map piece_value) (one_piece p none)
 
 -- the last piece v is taken, and the pieces before its slash are left
 pub taken_piece : (s : List ℕ) (n : ℕ) {v : Value} → n ≤ length s
@@ -101,3 +108,29 @@ taken_piece s n {v} in_range here none e = by_test (eqb n 0)
     (λ z. let some : 0 < n = omega (arith, eqb-false n 0 z) in
     rw z (last_piece s n some in_range (here some) refl refl none
     ∙ ap (λ v. piece_values (take (n - 1) s) ++ v ∷ []) (sym e)))
+
+-- ---- what stands for a path
+
+-- a path that doesn't begin with filler has no root
+busy-rootless : (s : List ℕ) → is_filler s 0 ≡ false → is_rooted s ≡ false
+busy-rootless [] busy = refl
+busy-rootless (x ∷ s) busy = grind (arith, busy)
+
+-- what follows the filler in front stands for the path
+pub past_filler-stands : (u t s : List ℕ) → values u ≡ values s
+    → inner_values u ≡ inner_values t → is_filler t 0 ≡ false → StandsFor t s
+past_filler-stands u t s same inner busy = record {
+  rootless = busy-rootless t busy;
+  names = ap names_below (values-busy t busy ∙ sym inner) ∙ names_below-inner u
+      ∙ ap names_below same;
+}
+
+-- and resolves to the same, if the path has no root
+pub past_filler-resolved : (u t s : List ℕ) → values u ≡ values s
+    → inner_values u ≡ inner_values t → is_filler t 0 ≡ false → is_rooted s ≡ false
+    → resolved_of (values t) ≡ resolved_of (values s)
+unfolding resolved_of
+past_filler-resolved u t s same inner busy r =
+    ap resolved_of (values-busy t busy ∙ sym inner)
+    ∙ ap reverse (ap (kept_of []) (sym (drop_dot-values u (roots_same u s same ∙ r)))
+    ∙ kept_of-drop_dot [] (values u)) ∙ ap resolved_of same

@@ -81,7 +81,8 @@ pub puts_all : {vs : List Value} {out new : List ℕ} → Puts vs (1 + length ou
 puts_all {vs} {out} {new} h = by vs h.size (h.bytes [] none)
   where
     none : drop (1 + length out) (slash ∷ out) ≡ []
-    none = ap (λ n. drop n (slash ∷ out)) {x = 1 + length out} {y = length (slash ∷ out)} (omega arith)
+    none = ap (λ n. drop n (slash ∷ out)) {x = 1 + length out} {y = length (slash ∷ out)}
+        (omega arith)
         ∙ drop-length (slash ∷ out)
 
     by : (vs : List Value) → 0 + slashed_len vs ≡ 1 + length out

@@ -1,39 +1,34 @@
 -- The values that two lists begin with, found from the last to the first.
-use Rattle.std.proofs.Common.{◌≡◌, ℕ, suc, ◌+◌, ◌-◌, min, true, false, List, [], ◌∷◌}
-use Rattle.std.proofs.Common.{◌++◌, length, drop, refl, sym, ap, ap₂, ◌∙◌, arith}
-use Rattle.std.proofs.Common.{append_assoc, length-append}
-use Rattle.std.specs.Str.{bytes_eq}
-use Rattle.std.proofs.lemmas.Bool.{false_from_ne_true}
-use Rattle.std.proofs.lemmas.Slice.Eq.{bytes_eq-Decides}
-use Rattle.unix_bytes.proofs.lemmas.lists.ListLemmas.{by_test}
-use Rattle.unix_path.proofs.lemmas.callers.CallerLemmas.{same_value-Decides}
+use Rattle.std.proofs.Common.{◌≡◌, ℕ, suc, ◌+◌, ◌-◌, min, Bool, cond, true, false, List, [], ◌∷◌}
+use Rattle.std.proofs.Common.{◌++◌, length}
+use Rattle.std.proofs.Common.{drop, refl, sym, ap, ap₂, ◌∙◌, arith, append_assoc, length-append}
 use Rattle.std.proofs.Common.{eqb, eqb-true, ltb, ltb-true, ltb-false, map, subst}
-use Rattle.std.proofs.lemmas.Bool.{eqb-false}
+use Rattle.std.specs.Str.{bytes_eq}
+use Rattle.std.proofs.lemmas.Bool.{false_from_ne_true, eqb-false}
+use Rattle.std.proofs.lemmas.Slice.Eq.{bytes_eq-Decides}
+use Rattle.unix_bytes.proofs.lemmas.lists.ListLemmas.{by_test, drop-suc_cons}
+use Rattle.unix_path.proofs.lemmas.callers.CallerLemmas.{same_value-Decides, shares-common_dir}
 use Rattle.std.proofs.lemmas.List.{get_or_default, get_or_past, map-append}
 use Rattle.unix_path.specs.CommonDir.{common_dir_of, inner_values}
-use Rattle.unix_path.specs.Parts.{Part, inner_parts}
+use Rattle.unix_path.specs.Parts.{Part, inner_parts, Value, Normal, value_bytes, values}
 use Rattle.unix_path.specs.Scan.{is_filler}
 use Rattle.unix_path.specs.Steps.{SharesFirst}
-use Rattle.unix_path.proofs.lemmas.callers.CallerLemmas.{shares-common_dir}
 use Rattle.unix_path.proofs.lemmas.filler.FillerLemmas.{is_filler-drop, values-busy}
 use Rattle.unix_path.proofs.lemmas.parts.PlaceLemmas.{values-inner_parts}
-use Rattle.path_within.specs.Backward.{ShareFirst}
+use Rattle.path_within.specs.Backward.{ShareFirst, TakesLast}
 use Rattle.path_within.specs.PlainPieces.{begins_plain}
 use Rattle.path_within.specs.Steps.{ReadsAsItself}
 use Rattle.path_within.proofs.lemmas.kept.PathOfLemmas.{ReadsAsItself-values}
 use Rattle.std.proofs.lemmas.List.Sums.{common_prefix_len-le}
-use Rattle.unix_bytes.proofs.lemmas.lists.ListLemmas.{drop-suc_cons}
 use Rattle.unix_path.specs.Order.{same_value}
-use Rattle.unix_path.specs.Parts.{Value, Normal, value_bytes, values}
-use Rattle.path_within.specs.Backward.{TakesLast}
 use Rattle.path_within.specs.Written.{slashed_len}
 use Rattle.path_within.proofs.lemmas.below.BoundLemmas.{slashed_len-cons}
 use Rattle.path_within.proofs.lemmas.kept.BetweenLemmas.{shared_count, shared_count-behind}
 use Rattle.std.proofs.Math.Seq.{drop-append-add}
 
 -- of two lists the first values are left, equally many, and so many values behind them are shared
--- that those in front end the shared ones; `behind` and `len` count the bytes of what was taken from
--- the second, and of what of it isn't shared
+-- that those in front end the shared ones; `behind` and `len` count the bytes of what was taken
+-- from the second, and of what of it isn't shared
 pub record Shares (all_first all_second first second : List Value) (place shared behind len : ℕ)
     : Type 0 where
   pub first_taken : List Value
@@ -81,48 +76,45 @@ shares_first {first} {second} v w e f g h a b =
       len_is = h.len_is ∙ ap (λ k. slashed_len (drop k h.taken)) (sym none);
     }
 
--- the last of both are taken, and are the same
-pub shares_same : {all_first all_second first second vs ws : List Value} {place shared behind len : ℕ}
-    (v w : Value) → Shares all_first all_second first second place shared behind len
-    → first ≡ vs ++ v ∷ [] → second ≡ ws ++ w ∷ [] → same_value v w ≡ true
-    → Shares all_first all_second vs ws (place - 1) shared (behind + (1 + length (value_bytes w))) len
-shares_same {vs = vs} {ws = ws} v w h e f same = record {
+-- the last of both are taken: if they differ, only those before them may be shared
+pub shares_taken : {all_first all_second first second vs ws : List Value}
+    {place shared behind len : ℕ} (b : Bool) (v w : Value)
+    → Shares all_first all_second first second place shared behind len
+    → first ≡ vs ++ v ∷ [] → second ≡ ws ++ w ∷ [] → same_value v w ≡ b
+    → (let now = behind + (1 + length (value_bytes w)) in Shares all_first all_second vs ws
+    (place - 1) (cond b shared (place - 1)) now (cond b len now))
+shares_taken {vs = vs} {ws = ws} {place} {shared} {behind} {len} b v w h e f same = record {
   first_taken = v ∷ h.first_taken;
   second_taken = w ∷ h.second_taken;
   first_is = h.first_is ∙ ap (λ s. s ++ h.first_taken) e ∙ append_assoc vs (v ∷ []) h.first_taken;
-  second_is = h.second_is ∙ ap (λ s. s ++ h.second_taken) f ∙ append_assoc ws (w ∷ []) h.second_taken;
+  second_is = h.second_is ∙ ap (λ s. s ++ h.second_taken) f
+      ∙ append_assoc ws (w ∷ []) h.second_taken;
   first_size = omega (arith, h.first_size, ap length e, length-append vs (v ∷ []));
   second_size = omega (arith, h.second_size, ap length f, length-append ws (w ∷ []));
-  shared_is = rw same (omega (arith, h.shared_is, h.first_size, ap length e, length-append vs (v ∷ [])));
+  shared_is = shared_now b same;
   behind_is = omega (arith, h.behind_is, slashed_len-cons w h.second_taken);
-  len_is = h.len_is ∙ rw same (ap slashed_len (sym (drop-suc_cons
-      (shared_count h.first_taken h.second_taken) w h.second_taken)));
+  len_is = len_now b same;
 }
+  where
+    shared_now : (b : Bool) → same_value v w ≡ b → cond b shared (place - 1)
+        ≡ place - 1 + shared_count (v ∷ h.first_taken) (w ∷ h.second_taken)
+    shared_now true same =
+        rw same (omega (arith, h.shared_is, h.first_size, ap length e, length-append vs (v ∷ [])))
+    shared_now false same = rw same (omega arith)
 
--- the last of both are taken, and differ
-pub shares_other : {all_first all_second first second vs ws : List Value}
-    {place shared behind len : ℕ}
-    (v w : Value) → Shares all_first all_second first second place shared behind len
-    → first ≡ vs ++ v ∷ [] → second ≡ ws ++ w ∷ [] → same_value v w ≡ false
-    → Shares all_first all_second vs ws (place - 1) (place - 1)
-    (behind + (1 + length (value_bytes w))) (behind + (1 + length (value_bytes w)))
-shares_other {vs = vs} {ws = ws} v w h e f other = record {
-  first_taken = v ∷ h.first_taken;
-  second_taken = w ∷ h.second_taken;
-  first_is = h.first_is ∙ ap (λ s. s ++ h.first_taken) e ∙ append_assoc vs (v ∷ []) h.first_taken;
-  second_is = h.second_is ∙ ap (λ s. s ++ h.second_taken) f ∙ append_assoc ws (w ∷ []) h.second_taken;
-  first_size = omega (arith, h.first_size, ap length e, length-append vs (v ∷ []));
-  second_size = omega (arith, h.second_size, ap length f, length-append ws (w ∷ []));
-  shared_is = rw other (omega arith);
-  behind_is = omega (arith, h.behind_is, slashed_len-cons w h.second_taken);
-  len_is = rw other (omega (arith, h.behind_is, slashed_len-cons w h.second_taken));
-}
+    len_now : (b : Bool) → same_value v w ≡ b → cond b len (behind + (1 + length (value_bytes w)))
+        ≡ slashed_len (drop (shared_count (v ∷ h.first_taken) (w ∷ h.second_taken))
+        (w ∷ h.second_taken))
+    len_now true same = h.len_is ∙ rw same (ap slashed_len (sym (drop-suc_cons
+        (shared_count h.first_taken h.second_taken) w h.second_taken)))
+    len_now false same = rw same (omega (arith, h.behind_is, slashed_len-cons w h.second_taken))
 
 -- in the end no value is left before those that were taken
 pub shares_last : {v w first second : List Value} {place shared behind len : ℕ}
     → Shares v w first second place shared behind len → first ≡ []
     → (shared ≡ shared_count v w) × (len ≡ slashed_len (drop (shared_count v w) w))
-shares_last {v = v} {w = w} {second = second} {shared = shared} {len = len} h e = by second h.second_is
+shares_last {v = v} {w = w} {second = second} {shared = shared} {len = len} h e =
+    by second h.second_is
     (omega (arith, h.first_size, h.second_size, ap length e))
   where
     by : (ws : List Value) → w ≡ ws ++ h.second_taken → length ws ≡ 0
@@ -135,13 +127,20 @@ shares_last {v = v} {w = w} {second = second} {shared = shared} {len = len} h e 
         )
     by (x ∷ ws) f g = absurd (omega (arith, g))
 
--- names are the same value if and only if they have the same bytes
+-- values that are the same if their bytes are are told apart by their bytes
+by_bytes : (x y : Value) → (value_bytes x ≡ value_bytes y → x ≡ y)
+    → same_value x y ≡ bytes_eq (value_bytes x) (value_bytes y)
+by_bytes x y h = by_test (bytes_eq (value_bytes x) (value_bytes y))
+    (λ e. (same_value-Decides x y).1 (h ((bytes_eq-Decides (value_bytes x) (value_bytes y)).0 e))
+    ∙ sym e)
+    (λ e. false_from_ne_true _ (λ f.
+    let yes = (bytes_eq-Decides (value_bytes x) (value_bytes y)).1
+    (ap value_bytes ((same_value-Decides x y).0 f)) in
+    let no : true ≡ false = sym yes ∙ e in absurd (cc)) ∙ sym e)
+
+-- as names are
 pub same_bytes : (a b : List ℕ) → same_value (Normal a) (Normal b) ≡ bytes_eq a b
-same_bytes a b = by_test (bytes_eq a b)
-    (λ e. (same_value-Decides (Normal a) (Normal b)).1 (ap Normal ((bytes_eq-Decides a b).0 e)) ∙ sym e)
-    (λ e. false_from_ne_true _ (λ f. let same : Normal a ≡ Normal b = (same_value-Decides (Normal a) (Normal b)).0 f in
-    let bytes : a ≡ b = cc in
-    let yes = (bytes_eq-Decides a b).1 bytes in let no : true ≡ false = sym yes ∙ e in absurd (cc)) ∙ sym e)
+same_bytes a b = by_bytes (Normal a) (Normal b) (ap Normal)
 
 -- so are the first values of two paths
 pub same_first : (s t : List ℕ) {x y : Value} {left onward : List Value} → values s ≡ x ∷ left
@@ -149,17 +148,10 @@ pub same_first : (s t : List ℕ) {x y : Value} {left onward : List Value} → v
 same_first s t {x} {y} e f =
     let own = (subst ReadsAsItself e (ReadsAsItself-values s)).0 in
     let other = (subst ReadsAsItself f (ReadsAsItself-values t)).0 in
-    by_test (bytes_eq (value_bytes x) (value_bytes y))
-    (λ same.
-    let one : x ∷ [] ≡ y ∷ [] =
-    sym own ∙ ap values ((bytes_eq-Decides (value_bytes x) (value_bytes y)).0 same) ∙ other in
-    let is : x ≡ y = cc in (same_value-Decides x y).1 is ∙ sym same)
-    (λ differ. false_from_ne_true _ (λ g.
-    let is = (same_value-Decides x y).0 g in
-    let yes = (bytes_eq-Decides (value_bytes x) (value_bytes y)).1 (ap value_bytes is) in
-    let no : true ≡ false = sym yes ∙ differ in absurd (cc)) ∙ sym differ)
+    by_bytes x y (λ same. let one : x ∷ [] ≡ y ∷ [] = sym own ∙ ap values same ∙ other in cc)
 
--- if two lists begin with the same value, what follows what they share follows what their rests share
+-- if two lists begin with the same value, what follows what they share follows what their rests
+-- share
 pub drop_shared : {v w left onward : List Value} {x y : Value} → v ≡ x ∷ left → w ≡ y ∷ onward
     → same_value x y ≡ true
     → (drop (shared_count left onward) left ≡ drop (shared_count v w) v)

@@ -1,30 +1,27 @@
 -- The relative path between two paths: `..` and names, or none.
 use Rattle.std.proofs.Common.{◌≡◌, ℕ, suc, ◌+◌, ◌-◌, ◌*◌, ◌<◌, ◌≤◌, true, false, List, [], ◌∷◌}
 use Rattle.std.proofs.Common.{◌++◌, length, drop, Some, None, refl, sym, ap, ap₂, ◌∙◌, arith}
-use Rattle.std.proofs.Common.{append_assoc, length-drop}
-use Rattle.std.proofs.Common.{option_map, subst}
-use Rattle.std.proofs.lemmas.List.{drop_all}
-use Rattle.path_within.specs.Resolved.{resolved_of}
-use Rattle.unix_path.proofs.lemmas.parts.PartLemmas.{root_first, root_first-values}
+use Rattle.std.proofs.Common.{append_assoc, length-drop, option_map, subst}
+use Rattle.std.proofs.lemmas.List.{drop_all, replicate-append-replicate}
+use Rattle.path_within.specs.Resolved.{resolved_of, AreNames, AreUpsThenNames}
 use Rattle.path_within.specs.PlainPieces.{is_plain}
 use Rattle.path_within.proofs.lemmas.plain.NormalLemmas.{resolved_values}
 use Rattle.path_within.proofs.lemmas.plain.PlainLemmas.{resolved-plain}
 use Rattle.unix_bytes.proofs.lemmas.lists.ListLemmas.{by_test}
 use Rattle.unix_path.proofs.lemmas.callers.CallerLemmas.{same_value-Decides}
-use Rattle.path_within.specs.Backward.{last_names}
+use Rattle.path_within.specs.Backward.{last_names, ups_left}
 use Rattle.path_within.proofs.lemmas.backward.LayoutLemmas.{length-rootless, names_rest}
-use Rattle.path_within.proofs.lemmas.backward.FrontLemmas.{front, plain_values, ups_left-rooted, resolved_of-rooted, resolved_of-rootless, straight}
+use Rattle.path_within.proofs.lemmas.backward.FrontLemmas.{front, plain_values, ups_left-rooted}
+use Rattle.path_within.proofs.lemmas.backward.FrontLemmas.{resolved_of-rooted, resolved_of-rootless}
+use Rattle.path_within.proofs.lemmas.backward.FrontLemmas.{straight}
 use Rattle.std.proofs.Math.ListN.{replicate}
 use Rattle.std.proofs.Math.Seq.{drop-append-add}
-use Rattle.std.proofs.lemmas.List.{replicate-append-replicate}
 use Rattle.unix_path.specs.Parts.{Value, RootDir, ParentDir, Normal, is_rooted, values}
-use Rattle.path_within.specs.Backward.{ups_left}
 use Rattle.path_within.specs.Below.{names_below}
-use Rattle.path_within.specs.Resolved.{AreNames, AreUpsThenNames}
 use Rattle.path_within.specs.Way.{way_of}
 use Rattle.path_within.proofs.lemmas.below.NamesBelowLemmas.{AreNames-names_below}
-use Rattle.path_within.proofs.lemmas.kept.BetweenLemmas.{shared_count, shared_count-behind, steps_from}
-use Rattle.path_within.proofs.lemmas.kept.BetweenLemmas.{ups_of}
+use Rattle.path_within.proofs.lemmas.kept.BetweenLemmas.{shared_count, shared_count-behind}
+use Rattle.path_within.proofs.lemmas.kept.BetweenLemmas.{steps_from, ups_of}
 use Rattle.path_within.proofs.lemmas.kept.KeepLemmas.{names_straight}
 use Rattle.path_within.proofs.lemmas.kept.WayLemmas.{list_all-names, straight_rootless}
 use Rattle.path_runs.specs.Spelling.{spelling_of}
@@ -84,19 +81,24 @@ no_steps_ups f v w h =
 -- ---- two paths
 
 -- without a root, `..` and names are left
-rootless : (s : List ℕ) → is_rooted s ≡ false → AreUpsThenNames (replicate (ups_left (values s)) ParentDir ++ names_below (values s))
-rootless s r = straight (ups_left (values s)) (names_below (values s)) (AreNames-names_below (values s))
+rootless : (s : List ℕ) → is_rooted s ≡ false
+    → AreUpsThenNames (replicate (ups_left (values s)) ParentDir ++ names_below (values s))
+rootless s r = straight (ups_left (values s)) (names_below (values s))
+    (AreNames-names_below (values s))
 
 -- if one path has a root and the other has none, there is no way
-pub no_way-roots : (s t : List ℕ) → (is_rooted s ≡ is_rooted t → ⊥) → way_of (values s) (values t) ≡ None
+pub no_way-roots : (s t : List ℕ) → (is_rooted s ≡ is_rooted t → ⊥)
+    → way_of (values s) (values t) ≡ None
 unfolding way_of
 no_way-roots s t differ = by_test (is_rooted s)
     (λ r. by_test (is_rooted t) (λ q. absurd (differ (r ∙ sym q)))
     (λ q. ap₂ steps_from (resolved_of-rooted s r) (resolved_of-rootless t q)
-    ∙ from_root (names_below (values s)) (replicate (ups_left (values t)) ParentDir ++ names_below (values t)) (rootless t q)))
+    ∙ from_root (names_below (values s))
+    (replicate (ups_left (values t)) ParentDir ++ names_below (values t)) (rootless t q)))
     (λ r. by_test (is_rooted t)
     (λ q. ap₂ steps_from (resolved_of-rootless s r) (resolved_of-rooted t q)
-    ∙ to_root (replicate (ups_left (values s)) ParentDir ++ names_below (values s)) (names_below (values t)) (rootless s r))
+    ∙ to_root (replicate (ups_left (values s)) ParentDir ++ names_below (values s))
+    (names_below (values t)) (rootless s r))
     (λ q. absurd (differ (r ∙ sym q))))
   where
     from_root : (v w : List Value) → AreUpsThenNames w → steps_from (RootDir ∷ v) w ≡ None
@@ -220,15 +222,6 @@ plain_way s t h k same =
           (sym (ap length left ∙ length-drop m v)) (sym onward);
       names = subst AreNames (sym onward) (names_rest m w (AreNames-names_below (values t)));
     }
-
--- a path of names has no root
-pub names_rootless : (s : List ℕ) → AreNames (values s) → is_rooted s ≡ false
-names_rootless s h = sym (root_first-values s) ∙ by (values s) h
-  where
-    by : (vs : List Value) → AreNames vs → root_first vs ≡ false
-    by [] h = refl
-    by (Normal name ∷ vs) h = refl
-    by (v ∷ vs) h = absurd h
 
 -- equal lists share all their values
 same_count : (vs : List Value) → shared_count vs vs ≡ length vs

@@ -1,5 +1,6 @@
 -- A join with a resolved root, and paths that go down from a root.
-use Rattle.std.proofs.Common.{◌≡◌, ◌≢◌, ℕ, List, [], ◌∷◌, ◌++◌, map, true, false, refl, sym, ap, ◌∙◌}
+use Rattle.std.proofs.Common.{◌≡◌, ◌≢◌, ℕ, List, [], ◌∷◌, ◌++◌, map, true, false, refl, sym, ap}
+use Rattle.std.proofs.Common.{◌∙◌}
 use Rattle.std.proofs.lemmas.List.{map-append}
 use Rattle.unix_path.specs.Joins.{join_of, join_all_of}
 use Rattle.unix_path.specs.Parts.{is_rooted, value_bytes, values}
@@ -21,7 +22,8 @@ use Rattle.path_within.proofs.lemmas.below.BelowLemmas.{values-below}
 use Rattle.path_within.proofs.lemmas.below.NamesBelowLemmas.{names_below-drop_dot}
 use Rattle.path_within.proofs.lemmas.below.NamesBelowLemmas.{names_below-names}
 use Rattle.path_within.proofs.lemmas.below.NamesBelowLemmas.{names_below-resolved}
-use Rattle.path_within.proofs.lemmas.plain.RequestLemmas.{plain_stays, request_names, request_rootless}
+use Rattle.path_within.proofs.lemmas.plain.RequestLemmas.{plain_stays, request_names}
+use Rattle.path_within.proofs.lemmas.plain.RequestLemmas.{request_rootless}
 use Rattle.path_within.proofs.lemmas.plain.PlainLemmas.{resolved-plain}
 use Rattle.path_within.proofs.lemmas.kept.ResolveLemmas.{values-resolved}
 use Rattle.path_within.proofs.lemmas.below.WithinLemmas.{resolved_of-within}

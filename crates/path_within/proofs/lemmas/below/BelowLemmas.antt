@@ -17,15 +17,7 @@ use Rattle.path_runs.proofs.lemmas.lists.AllLemmas.{AllByRecursion-end}
 use Rattle.path_within.specs.Backward.{last_names}
 use Rattle.path_within.specs.Below.{below_of, has_nul, names_below, IsBelow}
 use Rattle.path_within.specs.Climbs.{has_root_or_up}
-use Rattle.std.proofs.Common.{ap₂}
-use Rattle.std.specs.Int.{from_bool}
-use Rattle.unix_bytes.proofs.lemmas.lists.ListLemmas.{by_test}
-use Rattle.path_runs.specs.Spelling.{spelling_of}
-use Rattle.path_runs.proofs.lemmas.spelling.PieceValueLemmas.{is_rooted-slash}
-use Rattle.path_runs.proofs.lemmas.spelling.SpellLemmas.{spelling_of-root}
-use Rattle.path_within.specs.PlainPieces.{has_plain_pieces, is_plain}
-use Rattle.path_within.specs.Resolved.{resolved_of}
-use Rattle.path_within.proofs.lemmas.below.NamesBelowLemmas.{names_below-slash}
+use Rattle.path_within.specs.PlainPieces.{is_plain}
 use Rattle.path_within.specs.Resolved.{AreNames, resolved_bytes_of}
 use Rattle.path_within.specs.Steps.{ReadsAsItself}
 use Rattle.path_within.specs.Written.{opened, AreSpelled}
@@ -36,7 +28,7 @@ use Rattle.path_within.proofs.lemmas.below.NulLemmas.{has_nul-values, no_nul-bel
 use Rattle.path_within.proofs.lemmas.kept.KeepLemmas.{names_straight}
 use Rattle.path_within.proofs.lemmas.kept.PathOfLemmas.{ReadsAsItself-values}
 use Rattle.path_within.proofs.lemmas.kept.WayLemmas.{spelling_of-straight}
-use Rattle.path_within.proofs.lemmas.plain.PlainLemmas.{plain_has_names, resolved-plain}
+use Rattle.path_within.proofs.lemmas.plain.PlainLemmas.{plain_has_names}
 use Rattle.path_within.proofs.lemmas.kept.ResolveLemmas.{values-resolved}
 use Rattle.path_within.proofs.lemmas.plain.RequestLemmas.{names_down}
 
@@ -85,7 +77,7 @@ below_of-some root [] h some = absurd (omega arith)
 below_of-some root (v ∷ vs) h some =
     join_all_of-some root (value_bytes v) (map value_bytes vs) (unslashed_bytes (v ∷ vs) h)
 
--- names that are spelled stand behind the opened root
+-- names that are spelled follow the opened root
 pub below_of-spelled : {names : List ℕ} (root b : List ℕ)
     → AreSpelled names (names_below (values b))
     → opened root ++ names ≡ below_of root (names_below (values b))
@@ -193,42 +185,3 @@ plain_spelled b plain r = record { some = by (names_below (values b)) same; is =
     by : (vs : List Value) → b ≡ slashed_bytes vs → 0 < length vs
     by [] e = absurd ((plain_has_names b plain r).some e)
     by (v ∷ vs) e = omega arith
-
--- the bytes of a plain path after its root are its names
-spelled_after_root : (s : List ℕ) → is_plain s ≡ true → is_rooted s ≡ true
-    → AreSpelled (drop 1 s) (names_below (values s))
-spelled_after_root s h r =
-    let t = is_rooted-slash s r in
-    let is : drop 1 s ≡ slashed_bytes (names_below (values s)) = ap (drop 1)
-    (sym (resolved-plain s h) ∙ ap spelling_of (ap (λ s. resolved_of (values s)) t.1
-    ∙ resolved_of-slash t.0) ∙ spelling_of-root (names_below (values t.0)))
-    ∙ ap slashed_bytes (sym (names_below-slash t.0) ∙ ap (λ s. names_below (values s)) (sym t.1)) in
-    record { some = by (names_below (values s)) is; is = is }
-  where
-    by : (vs : List Value) → drop 1 s ≡ slashed_bytes vs → 0 < length vs
-    by [] e =
-        let plain : has_plain_pieces (drop 1 s) ≡ true = grind (arith, h, r) in
-        let no : false ≡ true = sym (ap has_plain_pieces e) ∙ plain in absurd (cc)
-    by (v ∷ vs) e = omega arith
-
--- and after its root, if it has one
-pub spelled_inner : (s : List ℕ) (n : ℕ) → n ≡ from_bool (is_rooted s) → is_plain s ≡ true
-    → AreSpelled (drop n s) (names_below (values (drop n s)))
-    × (names_below (values (drop n s)) ≡ names_below (values s))
-spelled_inner s n e h = by_test (is_rooted s)
-    (λ r.
-    let one : n ≡ 1 = omega (arith, e, ap from_bool r) in
-    let t = is_rooted-slash s r in
-    let names : names_below (values (drop n s)) ≡ names_below (values s) =
-    ap₂ (λ n s. names_below (values (drop n s))) one t.1 ∙ sym (names_below-slash t.0)
-    ∙ ap (λ s. names_below (values s)) (sym t.1) in (
-      subst (AreSpelled (drop n s)) (sym names) (subst (λ n. AreSpelled (drop n s)
-          (names_below (values s))) (sym one) (spelled_after_root s h r)),
-      names,
-    ))
-    (λ r.
-    let none : n ≡ 0 = omega (arith, e, ap from_bool r) in (
-      subst (λ n. AreSpelled (drop n s) (names_below (values (drop n s)))) (sym none)
-          (plain_spelled s h r),
-      ap (λ n. names_below (values (drop n s))) none,
-    ))

@@ -7,12 +7,10 @@ use Rattle.std.proofs.lemmas.Grind.{reverse_onto}
 use Rattle.std.proofs.lemmas.List.{reverse-append, reverse-reverse}
 use Rattle.unix_path.specs.CommonDir.{inner_values}
 use Rattle.unix_path.specs.Parts.{Value, RootDir, CurDir, ParentDir, Normal, is_slash, slash}
-use Rattle.unix_path.specs.Parts.{is_rooted, values}
+use Rattle.unix_path.specs.Parts.{values}
 use Rattle.unix_bytes.proofs.lemmas.lists.ListLemmas.{drop-suc_cons}
 use Rattle.path_runs.specs.JoinLaws.{drop_dot, drop_lead}
-use Rattle.unix_path.proofs.lemmas.parts.PartLemmas.{root_first-values}
-use Rattle.path_runs.proofs.lemmas.joins.LeadLemmas.{drop_lead-values, inner-behind, inner-no_lead}
-use Rattle.path_runs.proofs.lemmas.joins.LeadLemmas.{roots_same}
+use Rattle.path_runs.proofs.lemmas.joins.LeadLemmas.{drop_lead-values}
 use Rattle.path_runs.proofs.lemmas.spelling.PieceValueLemmas.{inner_values-pieces, values-rooted}
 use Rattle.path_within.specs.Resolved.{AreNames, kept_of, resolved_of}
 use Rattle.path_within.specs.Below.{names_below, has_nul, behind_slashes}
@@ -125,22 +123,6 @@ behind_slashes-stands (x ∷ s) =
       },
       λ h. grind (arith, more.1),
     )
-
--- a path with the values of one without a root stands for it
-pub same_values-stands : {t s : List ℕ} → is_rooted s ≡ false → values t ≡ values s → StandsFor t s
-same_values-stands {t} {s} r e = record {
-  rootless = roots_same t s e ∙ r;
-  names = ap names_below e;
-}
-
--- and so does one without the dot in front
-pub dotted-stands : {t s : List ℕ} → values s ≡ CurDir ∷ values t → StandsFor t s
-unfolding names_below resolved_of
-dotted-stands {t} {s} e = record {
-  rootless = sym (root_first-values t)
-      ∙ (inner-no_lead (values t) (inner-behind s CurDir (values t) e)).no_root;
-  names = ap names_below (sym e);
-}
 
 -- a byte passes exactly if the first place that passes is before the end
 pub list_any-place : (p : ℕ → Bool) (s : List ℕ)

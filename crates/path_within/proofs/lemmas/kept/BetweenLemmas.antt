@@ -53,7 +53,8 @@ list_any-reverse (v ∷ vs) = grind (
   list_any-reverse vs,
 )
 
-names_drop : (n : ℕ) (vs : List Value) → list_all is_name vs ≡ true
+-- the rest of names are names
+pub names_drop : (n : ℕ) (vs : List Value) → list_all is_name vs ≡ true
     → list_all is_name (drop n vs) ≡ true
 names_drop n vs h = grind (arith, common_steps, list_all-append is_name (take n vs) (drop n vs))
 

@@ -1,17 +1,15 @@
 -- All pieces are plain if each begins with plain bytes.
 use Rattle.std.proofs.Common.{◌≡◌, ℕ, suc, ◌<◌, true, eqb, ◌&&◌, List, [], ◌∷◌, length, get_or}
-use Rattle.std.proofs.Common.{refl, ap, ◌∙◌, arith}
-use Rattle.std.proofs.Common.{◌+◌, cond, drop, false, subst, Bool}
+use Rattle.std.proofs.Common.{refl, ap, ◌∙◌, arith, ◌+◌, cond, drop, false, subst, Bool}
 use Rattle.std.specs.Int.{from_bool}
 use Rattle.std.proofs.lemmas.List.{get_or_default, get_or_past}
-use Rattle.unix_path.specs.Parts.{is_rooted}
+use Rattle.unix_path.specs.Parts.{is_rooted, is_slash, parent_dir}
 use Rattle.unix_path.specs.Stops.{is_stop_of}
 use native.Mathlib.Numerals.{unary_clauses}
 use Rattle.std.specs.List.{list_all, onto_first, slice_split}
 use Rattle.std.specs.Str.{bytes_eq}
 use Rattle.std.proofs.lemmas.Bool.{and_from}
 use Rattle.std.proofs.lemmas.List.Splits.{slice_split-cons_yes, slice_split-cons_no}
-use Rattle.unix_path.specs.Parts.{is_slash, parent_dir}
 use Rattle.unix_bytes.proofs.lemmas.lists.ListLemmas.{by_test}
 use Rattle.unix_path.proofs.lemmas.filler.FillerLemmas.{first_piece_empty, first_piece_dot}
 use Rattle.unix_path.proofs.lemmas.parts.PieceLemmas.{first_piece, first_piece-slash}

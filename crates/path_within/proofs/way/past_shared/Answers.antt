@@ -7,7 +7,8 @@ use Rattle.path_within.proofs.lemmas.backward.SharedLemmas.{drop_shared, none_sh
 use Rattle.path_within.proofs.lemmas.backward.SharedLemmas.{none_shared_left, none_shared_onward}
 use Rattle.path_within.proofs.lemmas.backward.SharedLemmas.{past_place, same_first}
 use Rattle.path_within.proofs.way.past_shared.Goals as goal
-use Rattle.path_within.proofs.way.past_shared.Goals.{After-as_path-in_default, in_default-via-in_default}
+use Rattle.path_within.proofs.way.past_shared.Goals.{After-as_path-in_default}
+use Rattle.path_within.proofs.way.past_shared.Goals.{in_default-via-in_default}
 use Rattle.path_within.proofs.way.past_shared.Goals.{in_default-via-in-Some+in_default}
 use Rattle.path_within.proofs.way.past_shared.Goals.{in_default-via-in-Some-Some+else-is_same}
 
@@ -17,7 +18,8 @@ loop-part-init c =
     let second = c.components-onward.ensures.values in
     let both = ap₂ shared_count first second in
     let place = c.shared_place-place.result in
-    let past = past_place c.args.from.bytes.now c.args.to.bytes.now c.shared_place-place.ensures.shared
+    let past = past_place c.args.from.bytes.now c.args.to.bytes.now
+    c.shared_place-place.ensures.shared
     (c.from_bytes.ensures.bytes ∙ take_rest c.args.from.bytes.now place)
     (c.from_bytes-2.ensures.bytes ∙ take_rest c.args.to.bytes.now place) in
     record {

@@ -1,18 +1,10 @@
-use Rattle.std.proofs.Common.{◌++◌, Some, ap, ap₂, sym, subst, ◌∙◌, length}
+use Rattle.std.proofs.Common.{◌++◌, Some, ap, ap₂, sym, ◌∙◌, length}
 use Rattle.std.proofs.Math.ListN.{replicate}
 use Rattle.unix_path.specs.Parts.{ParentDir}
 use Rattle.path_within.specs.Below.{names_below}
-use Rattle.path_within.specs.Resolved.{AreNames}
-use Rattle.path_within.proofs.lemmas.backward.StepLemmas.{names_rootless, plain_way}
+use Rattle.path_within.proofs.lemmas.backward.StepLemmas.{plain_way}
 use Rattle.path_within.proofs.lemmas.below.NamesBelowLemmas.{names_below-names}
 use Rattle.path_within.proofs.way.plain_steps.Goals as goal
-
-pub of-requires-clause-rootless : goal.of-requires-clause-rootless
-of-requires-clause-rootless c =
-    let way = plain_way c.args.from.bytes.now c.args.to.bytes.now c.requires.from c.requires.to
-    c.requires.roots in
-    names_rootless c.past_shared.result.1.bytes.now
-    (subst AreNames (sym c.past_shared.ensures.second) way.names)
 
 pub returns : goal.returns
 returns c =
@@ -20,5 +12,6 @@ returns c =
     c.requires.roots in
     ap Some (c.after_ups.ensures ∙ ap₂ (λ n vs. replicate n ParentDir ++ vs)
     (c.part_count.ensures ∙ ap length c.past_shared.ensures.first)
-    (c.of.ensures ∙ ap names_below c.past_shared.ensures.second ∙ names_below-names _ way.names))
+    (c.names_found.ensures ∙ ap names_below c.past_shared.ensures.second
+    ∙ names_below-names _ way.names))
     ∙ sym way.is

@@ -7,8 +7,8 @@ use Rattle.path_within.specs.Backward.{TakesLast}
 use Rattle.path_within.specs.Below.{names_below}
 use Rattle.path_within.specs.Written.{slashed_len}
 use Rattle.path_within.proofs.lemmas.below.BoundLemmas.{slashed_len-names}
-use Rattle.path_within.proofs.lemmas.backward.SharedLemmas.{Shares, same_bytes, shares_first, shares_other}
-use Rattle.path_within.proofs.lemmas.backward.SharedLemmas.{shares_same}
+use Rattle.path_within.proofs.lemmas.backward.SharedLemmas.{Shares, same_bytes, shares_first}
+use Rattle.path_within.proofs.lemmas.backward.SharedLemmas.{shares_taken}
 use Rattle.path_within.proofs.lemmas.backward.PutLemmas.{slashed_len-push}
 use Rattle.path_within.proofs.way.shared_names.Goals as goal
 
@@ -60,8 +60,9 @@ loop-name-preserved-then-ne c =
     let other = c.in-Name-take_last.other.bytes.now in
     let differ : bytes_eq name other ≡ false = grind (arith, c.ne.ensures, c.if-ne.true) in
     record {
-      shares = shares_other (Normal name) (Normal other) c.loop-name.invariant.shares
-          c.in-Name.ensures.names c.in-Name-take_last.ensures.names (same_bytes name other ∙ differ);
+      shares = shares_taken false (Normal name) (Normal other) c.loop-name.invariant.shares
+          c.in-Name.ensures.names c.in-Name-take_last.ensures.names
+          (same_bytes name other ∙ differ);
       fits = omega (
         arith,
         ap slashed_len c.in-Name-take_last.ensures.names,
@@ -77,7 +78,7 @@ loop-name-preserved c =
     let other = c.in-Name-take_last.other.bytes.now in
     let same : bytes_eq name other ≡ true = grind (arith, c.ne.ensures, c.if-ne.false) in
     record {
-      shares = shares_same (Normal name) (Normal other) c.loop-name.invariant.shares
+      shares = shares_taken true (Normal name) (Normal other) c.loop-name.invariant.shares
           c.in-Name.ensures.names c.in-Name-take_last.ensures.names (same_bytes name other ∙ same);
       fits = omega (
         arith,

@@ -32,7 +32,8 @@ pub returns-then-first-second-2 : goal.returns-then-first-second-2
 returns-then-first-second-2 c =
     let s = c.args.from.bytes.now in
     let t = c.args.to.bytes.now in
-    let n : c.counted-first.result.names + (c.counted-second.result.ups - c.counted-first.result.ups)
+    let n : c.counted-first.result.names
+    + (c.counted-second.result.ups - c.counted-first.result.ups)
     ≡ length (names_below (values s)) + (ups_left (values t) - ups_left (values s)) = omega arith in
     let all : last_names c.counted-second.result.names (values t) ≡ names_below (values t) =
     last_others c.counted-second.result.names 0 t (omega arith) in
@@ -79,7 +80,8 @@ returns c =
     let s = c.args.from.bytes.now in
     let t = c.args.to.bytes.now in
     let n : c.counted-first.result.names - c.shared_names-shared.result.count
-    ≡ length (names_below (values s)) - shared_count (names_below (values s)) (names_below (values t)) =
+    ≡ length (names_below (values s))
+    - shared_count (names_below (values s)) (names_below (values t)) =
     omega (arith, c.shared_names-shared.ensures.count) in
     ap Some (c.after_ups-2.ensures ∙ ap₂ (λ n vs. replicate n ParentDir ++ vs) n
     (c.last-names-2.ensures ∙ others (goal.at.returns c).After-shared_names-shared))

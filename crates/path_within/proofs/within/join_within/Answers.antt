@@ -3,6 +3,7 @@ use Rattle.unix_path.specs.Parts.{values}
 use Rattle.path_runs.specs.Spelling.{spelling_of}
 use Rattle.path_within.specs.Climbs.{Climbs}
 use Rattle.path_within.proofs.lemmas.below.BelowLawLemmas.{resolved-plain_join}
+use Rattle.path_within.proofs.lemmas.below.BelowLemmas.{plain_spelled}
 use Rattle.path_within.proofs.lemmas.below.NamesBelowLemmas.{names_below-resolved}
 use Rattle.path_within.proofs.lemmas.kept.ClimbLemmas.{rootless-stays}
 use Rattle.path_within.proofs.lemmas.below.WithinLemmas.{begins-within, resolved_of-within}
@@ -20,8 +21,9 @@ returns-then-is_plain-clause-bytes c =
     let a = c.args.root.bytes.now in
     let b = c.args.request.bytes.now in
     let stay = stays (goal.at.returns-then-is_plain-clause-bytes c).Else-is_refused in
-    c.in_ok-join.ensures.bytes ∙ resolved-plain_join a b (c.is_plain-plain_root.ensures c.if-plain_root.true)
-    (c.check_climb-check.ensures.plain (c.is_plain.ensures.0 c.if-is_plain.true))
+    c.in_ok-join.ensures.bytes ∙ resolved-plain_join a b (c.is_plain.ensures c.if-is_plain.true)
+    (c.check_climb-check.ensures.plain
+    (c.is_plain-is_request_plain.ensures.0 c.if-is_request_plain.true))
     (rootless-stays b stay)
 
 pub returns-then-is_plain-clause-within : goal.returns-then-is_plain-clause-within
@@ -30,10 +32,12 @@ returns-then-is_plain-clause-within c =
     (stays (goal.at.returns-then-is_plain-clause-within c).Else-is_refused)
     (returns-then-is_plain-clause-bytes c)
 
-pub of-names-requires-clause-rootless : goal.of-names-requires-clause-rootless
-of-names-requires-clause-rootless c =
-    let stay = stays (goal.at.of-names-requires-clause-rootless c).Else-is_refused in
-    rootless-stays c.args.request.bytes.now stay
+pub names_of-names-requires : goal.names_of-names-requires
+names_of-names-requires c h =
+    let stay = stays (goal.at.names_of-names-requires c).Else-is_refused in
+    plain_spelled c.args.request.bytes.now
+    (c.check_climb-check.ensures.plain (c.is_plain-is_request_plain.ensures.0 h))
+    (rootless-stays c.args.request.bytes.now stay)
 
 pub returns-clause-bytes : goal.returns-clause-bytes
 returns-clause-bytes c =
@@ -41,7 +45,8 @@ returns-clause-bytes c =
     let b = c.args.request.bytes.now in
     let stay = stays (goal.at.returns-clause-bytes c).Else-is_refused in
     c.in_ok-to_path_buf.ensures.bytes ∙ ap spelling_of (c.with-layout.ensures
-    ∙ ap₂ (λ vs ws. vs ++ ws) c.of.ensures.values (c.of-names.ensures ∙ names_below-resolved b stay)
+    ∙ ap₂ (λ vs ws. vs ++ ws) c.of.ensures.values
+    (c.names_of-names.ensures ∙ names_below-resolved b stay)
     ∙ sym (resolved_of-within a b stay))
 
 pub returns-clause-within : goal.returns-clause-within

@@ -1,16 +1,19 @@
-use Rattle.std.proofs.Common.{◌∷◌, sym, ap, ◌∙◌}
-use Rattle.unix_path.specs.Cursor.{cursor_values}
-use Rattle.unix_path.specs.Parts.{CurDir, values}
-use Rattle.unix_path.specs.Views.{value_of}
-use Rattle.path_within.proofs.lemmas.below.NamesBelowLemmas.{dotted-stands, same_values-stands}
+use Rattle.std.proofs.Common.{ap, sym, ◌∙◌}
+use Rattle.unix_path.specs.CommonDir.{inner_values}
+use Rattle.unix_path.specs.Scan.{is_filler}
+use Rattle.path_within.proofs.lemmas.backward.PieceLemmas.{past_filler-resolved, past_filler-stands}
 use Rattle.path_within.proofs.write.trimmed.Goals as goal
 
-pub returns-in-Some-CurDir : goal.returns-in-Some-CurDir
-returns-in-Some-CurDir c = dotted-stands
-    (sym c.components-left.ensures.values ∙ c.in-Some-CurDir.ensures.steps.item_is
-    ∙ ap (λ v. v ∷ cursor_values c.next.new.self) (ap value_of c.in-Some-CurDir.field-0-is)
-    ∙ ap (λ s. CurDir ∷ values s) (sym c.as_path.ensures.bytes))
+pub returns-clause-stands : goal.returns-clause-stands
+returns-clause-stands c =
+    past_filler-stands c.without_filler.result.bytes.now c.from_bytes.result.bytes.now
+    c.args.path.bytes.now c.without_filler.ensures
+    (c.past_filler.ensures.same ∙ ap inner_values (sym c.from_bytes.ensures.bytes))
+    (ap (λ s. is_filler s 0) c.from_bytes.ensures.bytes ∙ c.past_filler.ensures.busy)
 
-pub returns-else-not-is_empty : goal.returns-else-not-is_empty
-returns-else-not-is_empty c = same_values-stands c.requires
-    (ap values c.as_path-whole.ensures.bytes ∙ c.components-left.ensures.values)
+pub returns-clause-resolved : goal.returns-clause-resolved
+returns-clause-resolved c =
+    past_filler-resolved c.without_filler.result.bytes.now c.from_bytes.result.bytes.now
+    c.args.path.bytes.now c.without_filler.ensures
+    (c.past_filler.ensures.same ∙ ap inner_values (sym c.from_bytes.ensures.bytes))
+    (ap (λ s. is_filler s 0) c.from_bytes.ensures.bytes ∙ c.past_filler.ensures.busy)

@@ -34,7 +34,8 @@ loop-left-init g c = (search rules, ([], grind (arith, common_steps), search rul
 pub returns-in_err-write_whole-clause-gave_up : goal.returns-in_err-write_whole-clause-gave_up
 returns-in_err-write_whole-clause-gave_up g c =
     OnErr-of c.from_residual-in_err-write_whole.result
-    (WritesOn-then g.W.Sink.write_gives c.loop-left.invariant.2 c.in_err-write_whole.ensures.gave_up)
+    (WritesOn-then g.W.Sink.write_gives c.loop-left.invariant.2
+    c.in_err-write_whole.ensures.gave_up)
 
 pub loop-left-preserved : goal.loop-left-preserved
 loop-left-preserved g c =

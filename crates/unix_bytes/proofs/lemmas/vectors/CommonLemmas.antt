@@ -48,7 +48,8 @@ common_prefix_len-same (x ∷ a) (y ∷ b) (suc k) l =
     (cases_Bool (eqb x y))
 
 -- two strings that go on behind their common prefix differ there
-pub common_prefix_len-differs : (a b : List ℕ) (n : ℕ) → n ≡ common_prefix_len eqb a b → n < length a
+pub common_prefix_len-differs : (a b : List ℕ) (n : ℕ) → n ≡ common_prefix_len eqb a b
+    → n < length a
     → n < length b → eqb (get_or a n 0) (get_or b n 0) ≡ false
 common_prefix_len-differs [] b n e l m = absurd (omega arith)
 common_prefix_len-differs (x ∷ a) [] n e l m = absurd (omega arith)

@@ -27,8 +27,8 @@ fn long_bytes(rt: HostRuntime) {
     assert_places(&rt, b"123456789abcdef0:23456789abcdef01", 16, 17);
 }
 
-// The place just after the last `:` or `;`. Of the last three, the one byte stands in a block of 16,
-// and the other in front of it or behind it.
+// The place just after the last `:` or `;`. Of the last three, the one byte stands in a block of
+// 16, and the other in front of it or behind it.
 static LAST_OF_TWO: [(&[u8], usize); 10] = [
     (b"", 0),
     (b"abc", 0),

@@ -5,8 +5,10 @@ use Rattle.unix_bytes.proofs.lemmas.lists.ListLemmas.{by_test}
 use Rattle.unix_path.proofs.lemmas.names.NamedLemmas.{named-dot, named-other, nameless-behind}
 use Rattle.unix_path.proofs.lemmas.names.NamedLemmas.{nameless-nil}
 use Rattle.unix_path.proofs.lemmas.names.NamedLemmas.{nameless-one, nameless-parent, nameless-slash}
-use Rattle.unix_path.proofs.lasts.ends_in_name.Goals.{then-len-eq1-via-then-len-eq1}
-use Rattle.unix_path.proofs.lasts.ends_in_name.Goals.{then-len-eq1-via-else-len-eq1+then-bytes-len-eq47}
+use Rattle.unix_path.proofs.lasts.ends_in_name.Goals.{
+  then-len-eq1-via-then-len-eq1,
+  then-len-eq1-via-else-len-eq1+then-bytes-len-eq47,
+}
 use Rattle.unix_path.proofs.lasts.ends_in_name.Goals as goal
 
 pub returns-then-is_empty : goal.returns-then-is_empty

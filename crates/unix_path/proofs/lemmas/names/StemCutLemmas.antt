@@ -1,9 +1,8 @@
 -- Where the stem of a name ends with which a string ends, by its last dot or slash.
-use Rattle.std.proofs.Common.{◌≡◌, ℕ, zero, suc, ◌+◌, ◌-◌, ◌<◌, ◌≤◌, true, false, not, eqb, ltb, ◌||◌}
-use Rattle.std.proofs.Common.{List, length, get_or, take, drop, map, Option, Some, None, option_map}
-use Rattle.std.proofs.Common.{refl, sym, ap, ◌∙◌}
-use Rattle.std.proofs.Common.{arith, ltb-true, ltb-false, length-take-le, length-drop, get_or-drop}
-use Rattle.std.proofs.Common.{eqb-true, subst, ⊎_elim}
+use Rattle.std.proofs.Common.{◌≡◌, ℕ, zero, suc, ◌+◌, ◌-◌, ◌<◌, ◌≤◌, true, false, not, eqb, ltb}
+use Rattle.std.proofs.Common.{◌||◌, List, length, get_or, take, drop, map, Option, Some, None}
+use Rattle.std.proofs.Common.{option_map, refl, sym, ap, ◌∙◌, arith, ltb-true, ltb-false}
+use Rattle.std.proofs.Common.{length-take-le, length-drop, get_or-drop, eqb-true, subst, ⊎_elim}
 use Rattle.std.proofs.lemmas.Bool.{true≢false, or_cases}
 use Rattle.std.proofs.lemmas.List.{get_or-take, length-take}
 use Rattle.std.proofs.lemmas.List.Sums.{position_or_len_is}

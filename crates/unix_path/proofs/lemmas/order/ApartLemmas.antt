@@ -1,8 +1,8 @@
 -- Two strings that are told apart by the bytes at the first place at which they differ.
-use Rattle.std.proofs.Common.{◌≡◌, ℕ, zero, suc, ◌+◌, ◌-◌, ◌<◌, ◌≤◌, ◌||◌, true, false, eqb, List, []}
-use Rattle.std.proofs.Common.{◌∷◌, ◌++◌, length, get_or, take, drop, map, refl, sym, ap}
-use Rattle.std.proofs.Common.{◌∙◌, arith, take-append-drop, append_assoc, get_or-drop}
-use Rattle.std.proofs.Common.{length-drop, length-take-le}
+use Rattle.std.proofs.Common.{◌≡◌, ℕ, zero, suc, ◌+◌, ◌-◌, ◌<◌, ◌≤◌, ◌||◌, true, false, eqb, List}
+use Rattle.std.proofs.Common.{[], ◌∷◌, ◌++◌, length, get_or, take, drop, map, refl, sym, ap, ◌∙◌}
+use Rattle.std.proofs.Common.{arith, take-append-drop, append_assoc, get_or-drop, length-drop}
+use Rattle.std.proofs.Common.{length-take-le}
 use Rattle.std.specs.FinMap.{nat_cmp-IsAntisymmetric}
 use Rattle.std.specs.List.{common_prefix_len, position_or_len}
 use Rattle.std.specs.Ordering.{nat_cmp}
@@ -46,7 +46,8 @@ pub apart-values : {a b : List ℕ} (v : List Value) (s t : Value) (ss ts : List
 apart-values v s t ss ts x y first second order differs = record {
   order_is = rw (first, second, values_cmp-common v (s ∷ ss) (t ∷ ts), order) (grind arith);
   no_prefix = λ h.
-      let same = (begins_tail t s ts ss (begins_past v (t ∷ ts) (s ∷ ss) (rw (first, second) at h))).0 in
+      let same = (begins_tail t s ts ss
+      (begins_past v (t ∷ ts) (s ∷ ss) (rw (first, second) at h))).0 in
       differs (nat_cmp-IsAntisymmetric x y (sym order ∙ ap (value_cmp s) same
       ∙ tied_itself value_cmp-total s));
 }
@@ -61,7 +62,8 @@ first_piece-behind (b ∷ p) x none =
 -- the values behind that of the first piece
 abbrev later_values : List ℕ → List Value
 later_values s =
-    let n = position_or_len is_slash s in map (λ (p : Part). p.value) (inner_parts (0 + n) (drop n s))
+    let n = position_or_len is_slash s in
+    map (λ (p : Part). p.value) (inner_parts (0 + n) (drop n s))
 
 -- a string that begins with a piece that counts has its value first, also behind a slash
 values-first : (s p : List ℕ) → first_piece s ≡ p → (bytes_eq p [] || bytes_eq p cur_dir) ≡ false
@@ -101,8 +103,8 @@ values-piece w x (suc k) start h =
 abbrev IsInName : List ℕ → ℕ → Type 0
 IsInName s n = (piece_rank s n ≡ 0 → ⊥) × (piece_rank s n ≡ 47 → ⊥)
 
--- the bytes at the first difference tell the order, if they are such bytes or more than a dot stands
--- before them in their pieces
+-- the bytes at the first difference tell the order, if they are such bytes or more than a dot
+-- stands before them in their pieces
 apart-behind : (a b : List ℕ) (n : ℕ) → n ≡ common_prefix_len eqb a b
     → (piece_rank a n ≡ piece_rank b n → ⊥)
     → ((k : ℕ) → begins_piece a k ≡ true → k ≤ n → n ≤ k + 1 → (k < n → get_or a k 0 ≡ 46)
@@ -122,8 +124,10 @@ apart-behind a b n is differs in_name =
     let names : length p ≤ 1 → get_or p 0 46 ≡ 46 → IsInName a n × IsInName b n =
     λ l e. in_name k begins (omega (arith, start.1.in_range, size))
     (omega (arith, length-drop k w, size, l)) (λ m. dot m e) in
-    let first = counts_from p (first_piece (drop n a)) (λ l e. rw (head_rank-drop a n) (names l e).0) in
-    let second = counts_from p (first_piece (drop n b)) (λ l e. rw (head_rank-drop b n) (names l e).1) in
+    let first = counts_from p (first_piece (drop n a))
+    (λ l e. rw (head_rank-drop a n) (names l e).0) in
+    let second = counts_from p (first_piece (drop n b))
+    (λ l e. rw (head_rank-drop b n) (names l e).1) in
     let common = take-common a b n (omega (arith, is)) in
     apart-values (values (take k w)) _ _ _ _ (piece_rank a n) (piece_rank b n)
     (ap values (sym (take-append-drop n a)) ∙ values-piece w (drop n a) k start.1 first)

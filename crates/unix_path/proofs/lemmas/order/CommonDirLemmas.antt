@@ -1,7 +1,7 @@
 -- The place just after the last slash of what two strings both begin with.
 use Rattle.std.proofs.Common.{◌≡◌, ℕ, ◌-◌, ◌<◌, ◌≤◌, Bool, true, false, not, eqb, List, length}
-use Rattle.std.proofs.Common.{get_or, take, drop, refl, sym, ap, arith, ◌∙◌, eqb-true, length-take-le}
-use Rattle.std.proofs.Common.{ne_eqb}
+use Rattle.std.proofs.Common.{get_or, take, drop, refl, sym, ap, arith, ◌∙◌, eqb-true}
+use Rattle.std.proofs.Common.{length-take-le, ne_eqb}
 use Rattle.std.specs.List.{common_prefix_len, position_or_len, suffix_len}
 use Rattle.std.specs.Prelude.{reverse}
 use Rattle.std.proofs.lemmas.List.{get_or-reverse, get_or-take, length-reverse}

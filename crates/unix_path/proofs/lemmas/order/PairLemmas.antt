@@ -1,8 +1,8 @@
 -- Where two paths can be cut, and what that tells of them.
-use Rattle.std.proofs.Common.{◌≡◌, ℕ, suc, ◌+◌, ◌-◌, ◌≤◌, ◌<◌, ◌⊎◌, true, false, eqb, ltb, List, [], ◌∷◌}
-use Rattle.std.proofs.Common.{◌++◌, length, get_or, take, drop, map, refl, sym, ap, ap₂, arith, ◌∙◌}
-use Rattle.std.proofs.Common.{subst, ⊎_elim, append-nil, eqb-true, length-take-le, ltb-false, ltb-true}
-use Rattle.std.proofs.Common.{inl, inr, nat_cmp, ne_eqb, take-append-drop, take_all}
+use Rattle.std.proofs.Common.{◌≡◌, ℕ, suc, ◌+◌, ◌-◌, ◌≤◌, ◌<◌, ◌⊎◌, true, false, eqb, ltb, List, []}
+use Rattle.std.proofs.Common.{◌∷◌, ◌++◌, length, get_or, take, drop, map, refl, sym, ap, ap₂, arith}
+use Rattle.std.proofs.Common.{◌∙◌, subst, ⊎_elim, append-nil, eqb-true, length-take-le, ltb-false}
+use Rattle.std.proofs.Common.{ltb-true, inl, inr, nat_cmp, ne_eqb, take-append-drop, take_all}
 use Rattle.std.specs.Borrow.{Bor}
 use Rattle.std.proofs.Math.Seq.{drop-cons, drop-length}
 use Rattle.std.proofs.lemmas.Bool.{eqb-false, or_parts}
@@ -29,7 +29,8 @@ use Rattle.unix_path.specs.declared.pair.Comparison.TheVariants.{Differ, StartsW
 use Rattle.unix_path.specs.declared.pair.Difference.{Difference}
 use Rattle.unix_path.specs.declared.pair.Difference.TheVariants.{InParts, InFirstParts, Behind}
 use Rattle.unix_path.specs.declared.pair.Kind.{Kind}
-use Rattle.unix_path.specs.declared.pair.Kind.TheVariants.{Nothing, RootDir, CurDir, ParentDir, Name}
+use Rattle.unix_path.specs.declared.pair.Kind.TheVariants.{Nothing, RootDir, CurDir, ParentDir}
+use Rattle.unix_path.specs.declared.pair.Kind.TheVariants.{Name}
 
 -- no slash stands before a place at which no piece begins, and that isn't 0
 pub inside_piece : (s : List ℕ) (i : ℕ) → begins_piece s i ≡ false → 0 < i

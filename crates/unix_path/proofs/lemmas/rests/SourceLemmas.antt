@@ -29,7 +29,8 @@ IsTail-trans part middle whole h k =
 pub IsTail-itself : (slice : Bor (List ℕ)) → IsTail slice slice
 IsTail-itself slice = record {
   short = omega arith;
-  bytes = ap (λ i. drop i slice.now) {x = 0} {y = length slice.now - length slice.now} (omega arith);
+  bytes = ap (λ i. drop i slice.now) {x = 0} {y = length slice.now - length slice.now}
+      (omega arith);
   block = refl;
   place = refl;
 }

@@ -9,10 +9,12 @@ pub returns-clause-behind : goal.returns-clause-behind
 returns-clause-behind c =
     let left = c.past_filler.result.now in
     values_cmp-end left [] (λ _. refl)
-    ∙ ap₂ values_cmp (sym (values-past c.args.bytes.now left c.past_filler.ensures.behind)) values-nil
+    ∙ ap₂ values_cmp (sym (values-past c.args.bytes.now left c.past_filler.ensures.behind))
+    values-nil
 
 pub returns-clause-before : goal.returns-clause-before
 returns-clause-before c =
     let left = c.past_filler.result.now in
     values_cmp-end [] left (λ some. absurd (omega (arith, some)))
-    ∙ ap₂ values_cmp values-nil (sym (values-past c.args.bytes.now left c.past_filler.ensures.behind))
+    ∙ ap₂ values_cmp values-nil
+    (sym (values-past c.args.bytes.now left c.past_filler.ensures.behind))

@@ -5,9 +5,11 @@ use Rattle.unix_path.proofs.lemmas.names.NamedLemmas.{ends_in_name}
 use Rattle.unix_path.proofs.lemmas.names.StemCutLemmas.{dot_at, ordinary_from, stem_end-cut}
 use Rattle.unix_path.proofs.lemmas.names.StemCutLemmas.{stem_end-known}
 use Rattle.unix_path.proofs.lemmas.names.StemCutLemmas.{stem_end-lead, stem_end-slash}
-use Rattle.unix_path.proofs.stems.stem_end.Goals.{then-place-eq0-via-then-place-eq0}
-use Rattle.unix_path.proofs.stems.stem_end.Goals.{then-place-eq0-via-else-place-eq0+then-bytes-place-eq47}
-use Rattle.unix_path.proofs.stems.stem_end.Goals.{then-place-eq0-via-else-place-eq0+else-bytes-place-eq47+then-bytes-place-eq47-2}
+use Rattle.unix_path.proofs.stems.stem_end.Goals.{
+  then-place-eq0-via-then-place-eq0,
+  then-place-eq0-via-else-place-eq0+then-bytes-place-eq47,
+  then-place-eq0-via-else-place-eq0+else-bytes-place-eq47+then-bytes-place-eq47-2,
+}
 use Rattle.unix_path.proofs.stems.stem_end.Goals as goal
 
 pub returns-then-past-eq0-clause-value : goal.returns-then-past-eq0-clause-value

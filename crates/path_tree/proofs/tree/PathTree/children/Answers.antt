@@ -1,5 +1,6 @@
-use Rattle.std.proofs.Common.{◌≡◌, ◌∙◌, ◌∷◌, ◌++◌, ◌+◌, ◌==◌, None, Some, append-nil, ap, ap₂, arith, eqb, length, map, option_map}
-use Rattle.std.proofs.Common.{Bor, List, [], if◌then◌else◌, take, Option, IfSome, false, rules, subst, subst₂, sym, ℕ}
+use Rattle.std.proofs.Common.{◌≡◌, ◌∙◌, ◌∷◌, ◌++◌, ◌+◌, ◌==◌, None, Some, append-nil, ap, ap₂}
+use Rattle.std.proofs.Common.{arith, eqb, length, map, option_map, Bor, List, [], if◌then◌else◌}
+use Rattle.std.proofs.Common.{take, Option, IfSome, false, rules, subst, subst₂, sym, ℕ}
 use Rattle.std.specs.List.{starts_with}
 use Rattle.unix_path.specs.Prefixes.{Begins}
 use Rattle.path_tree.specs.Children.{child_row, children_of, lent_child}
@@ -16,8 +17,10 @@ use Rattle.path_tree.proofs.lemmas.children.ChildWalkLemmas.{passes, starts}
 use Rattle.path_tree.proofs.lemmas.rows.DifferenceLemmas.{map_push-append}
 use Rattle.path_tree.proofs.lemmas.rows.ManyLemmas.{starts_with-under}
 use Rattle.path_tree.proofs.tree.PathTree.children.Goals as goal
-use Rattle.path_tree.proofs.tree.PathTree.children.Goals.{in_default}
-use Rattle.path_tree.proofs.tree.PathTree.children.Goals.{in-Some+in_default-begun_by+then-not-starts_with}
+use Rattle.path_tree.proofs.tree.PathTree.children.Goals.{
+  in_default,
+  in-Some+in_default-begun_by+then-not-starts_with,
+}
 
 -- the child that was found last doesn't begin the key, by any name of the key
 without : (last : Option (Bor (List ℕ))) (key k : List ℕ)
@@ -116,7 +119,8 @@ child_key-child-requires-clause-own g c =
     let h : FindsChildren base entries last (e ∷ es) found =
     subst (λ l. FindsChildren base entries last l found) steps c.loop-key.invariant in
     ap is_own c.deref-in-Some-2.ensures.value
-    ∙ first_own base c.vec_of-base.ensures.own entries tree.own c.range-rest.ensures.ordered last e es found h
+    ∙ first_own base c.vec_of-base.ensures.own entries tree.own c.range-rest.ensures.ordered last e
+    es found h
 
 pub child_key-child-requires-clause-below : goal.child_key-child-requires-clause-below
 child_key-child-requires-clause-below g c =
@@ -143,7 +147,8 @@ child_key-child-requires-clause-longer g c =
     begins_by c.as_slice.result.now c.deref-in-Some.result.now c.in-Some.key.now.items base
     c.starts_with.result c.starts_with.ensures.value c.as_slice.ensures.value
     c.deref-in-Some.ensures.value (search rules) in
-    let more = longer base c.vec_of-base.ensures.own entries tree.own c.range-rest.ensures.ordered last e es found h begins in
+    let more = longer base c.vec_of-base.ensures.own entries tree.own c.range-rest.ensures.ordered
+    last e es found h begins in
     omega (
       arith,
       more,
@@ -179,11 +184,14 @@ returns-in_err-push-clause-succeeds g c = λ none.
           ∙ ap (λ b. length (key_values b) + 1) c.deref-in-Some-3.ensures.value;
       some = c.child_key-child.ensures.some;
     } in
-    let is_below = below base c.vec_of-base.ensures.own entries tree.own c.range-rest.ensures.ordered last e es found h child
+    let is_below = below base c.vec_of-base.ensures.own entries tree.own
+    c.range-rest.ensures.ordered last e es found h child
     is_child values begins in
-    let no_other = other base c.vec_of-base.ensures.own entries tree.own c.range-rest.ensures.ordered last e es found h
+    let no_other = other base c.vec_of-base.ensures.own entries tree.own
+    c.range-rest.ensures.ordered last e es found h
     (without c.loop-key.last c.deref.result.now key (search rules) c.deref.ensures.value) in
-    absurd (not_none base c.vec_of-base.ensures.own entries tree.own c.range-rest.ensures.ordered last e es found h child
+    absurd (not_none base c.vec_of-base.ensures.own entries tree.own c.range-rest.ensures.ordered
+    last e es found h child
     values is_below no_other
     (ap (λ b. children_of (key_values b) (table_of tree)) c.vec_of-base.ensures.bytes ∙ none))
 
@@ -215,9 +223,11 @@ loop-key-preserved g c =
           ∙ ap (λ b. length (key_values b) + 1) c.deref-in-Some-3.ensures.value;
       some = c.child_key-child.ensures.some;
     } in
-    let is_below = below base c.vec_of-base.ensures.own entries tree.own c.range-rest.ensures.ordered last e es found h child
+    let is_below = below base c.vec_of-base.ensures.own entries tree.own
+    c.range-rest.ensures.ordered last e es found h child
     is_child values begins in
-    let no_other = other base c.vec_of-base.ensures.own entries tree.own c.range-rest.ensures.ordered last e es found h
+    let no_other = other base c.vec_of-base.ensures.own entries tree.own
+    c.range-rest.ensures.ordered last e es found h
     (without c.loop-key.last c.deref.result.now key (search rules) c.deref.ensures.value) in
     let x = c.in-Some.value.now in
     let whole : (length child == length c.deref-in-Some-4.result.now)
@@ -229,7 +239,8 @@ loop-key-preserved g c =
     c.deref-in-Some-3.ensures.value c.deref-in-Some-2.ensures.value in
     let row : lent_child c.with_value.result ≡ child_row (key_values base) (key_values key, x) =
     c.with_value.ensures ∙ ap₂ (λ v t. (v, if t then Some x else None)) values whole in
-    finds base c.vec_of-base.ensures.own entries tree.own c.range-rest.ensures.ordered last e es found h child is_child
+    finds base c.vec_of-base.ensures.own entries tree.own c.range-rest.ensures.ordered last e es
+    found h child is_child
     values is_below no_other (map lent_child c.push.new.self.items)
     (ap (map lent_child) c.in_ok-push.ensures.items
     ∙ sym (append-nil _)
@@ -251,15 +262,18 @@ returns-clause-rows g c =
           let steps : c.loop-key.rest ≡ e ∷ es = search rules in
           let h : FindsChildren base entries last (e ∷ es) found =
           subst (λ l. FindsChildren base entries last l found) steps c.loop-key.invariant in
-          let own = first_own base c.vec_of-base.ensures.own entries tree.own c.range-rest.ensures.ordered last e es found h in
+          let own = first_own base c.vec_of-base.ensures.own entries tree.own
+          c.range-rest.ensures.ordered last e es found h in
           let fails : w.starts_with.result ≡ false = search rules in
-          found_all base c.vec_of-base.ensures.own entries tree.own c.range-rest.ensures.ordered last e es found h
+          found_all base c.vec_of-base.ensures.own entries tree.own c.range-rest.ensures.ordered
+          last e es found h
           (sym (starts_with-under base e.0.items c.vec_of-base.ensures.own own)
           ∙ ap₂ (starts_with eqb) (sym w.as_slice.ensures.value) (sym w.deref-in-Some.ensures.value)
           ∙ sym w.starts_with.ensures.value ∙ fails)
       | in_default w ↦
           let none : c.loop-key.rest ≡ [] = search rules in
-          found_at_end base c.vec_of-base.ensures.own entries tree.own c.range-rest.ensures.ordered last found
+          found_at_end base c.vec_of-base.ensures.own entries tree.own c.range-rest.ensures.ordered
+          last found
           (subst (λ l. FindsChildren base entries last l found) none c.loop-key.invariant)
     ] in
     all ∙ ap (λ b. children_of (key_values b) (table_of tree)) c.vec_of-base.ensures.bytes

@@ -27,7 +27,8 @@ loop-key-preserved-in-Continue-1 g c =
       All-tail (λ (k : Key). is_own k.items ≡ true) _ _
           (subst (Own (λ (k : Key). k.items)) steps c.loop-key.invariant.2),
       ap (λ items. map lent_row items ++ left) c.in_ok-push.ensures.items
-          ∙ map_push-append lent_row c.loop-key.found.items (c.as_slice.result, c.in-Some.value) left
+          ∙ map_push-append lent_row c.loop-key.found.items
+          (c.as_slice.result, c.in-Some.value) left
           ∙ ap (λ k. found ++ (key_values k, c.in-Some.value.now) ∷ left) c.as_slice.ensures.value
           ∙ ap (λ rows. found ++ rows) (sym (lacks_row other row (key_rows rest) lacks))
           ∙ ap (λ entries. found ++ rows_lacking other (key_rows entries)) (sym steps)

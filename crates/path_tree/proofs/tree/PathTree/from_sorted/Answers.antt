@@ -13,7 +13,8 @@ pub returns-then-not-rises-clause-not_rising : goal.returns-then-not-rises-claus
 returns-then-not-rises-clause-not_rising g c = λ _.
     let key = c.in_ok-key.key in
     let made = c.in_ok-key.ensures in
-    stops c.loop-path.entries.items c.loop-path.yielded c.loop-path.invariant key c.in-Some.path made.own made.values
+    stops c.loop-path.entries.items c.loop-path.yielded c.loop-path.invariant key c.in-Some.path
+    made.own made.values
     g.I.Iterator.next_gives c.args.items c.in-Some.value c.next.new.self
     (search (
       rules,
@@ -59,6 +60,7 @@ returns-clause-ok g c = record {
     ),
   );
   rise = rise c.loop-path.entries.items c.loop-path.yielded c.loop-path.invariant;
-  rows_are = c.renew_marks.ensures ∙ made_rows c.loop-path.entries.items c.loop-path.yielded c.loop-path.invariant
+  rows_are = c.renew_marks.ensures
+      ∙ made_rows c.loop-path.entries.items c.loop-path.yielded c.loop-path.invariant
       c.in_ok-map_of.field-0 c.in_ok-map_of.ensures;
 }

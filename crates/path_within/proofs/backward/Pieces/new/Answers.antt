@@ -12,7 +12,8 @@ returns-clause-names c = names_below-pieces c.without_filler.result.bytes.now
 
 pub returns-clause-ups : goal.returns-clause-ups
 returns-clause-ups c = λ r. ups_left-pieces c.without_filler.result.bytes.now
-    (roots_same c.without_filler.result.bytes.now c.args.path.bytes.now c.without_filler.ensures ∙ r)
+    (roots_same c.without_filler.result.bytes.now c.args.path.bytes.now c.without_filler.ensures
+    ∙ r)
     ∙ ap ups_left c.without_filler.ensures
 
 pub returns-clause-few : goal.returns-clause-few

@@ -11,7 +11,8 @@ returns-in-Name c =
     let names = c.in-Name.ensures.names in
     sym (ap file_name_of (sym c.new.ensures.names)
     ∙ ap file_name_of names
-    ∙ file_name_of-last (names_below (values_left c.take_last.new.self)) (Normal c.in-Name.name.bytes.now))
+    ∙ file_name_of-last (names_below (values_left c.take_last.new.self))
+    (Normal c.in-Name.name.bytes.now))
 
 pub returns-in-Ups : goal.returns-in-Ups
 unfolding file_name_of

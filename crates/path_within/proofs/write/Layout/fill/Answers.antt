@@ -1,9 +1,9 @@
 use Rattle.std.proofs.Common.{◌≡◌, ◌-◌, ◌∷◌, ap, sym, ◌∙◌, arith, length, take, drop}
 use Rattle.std.proofs.Common.{length-drop, length-take}
 use Rattle.unix_path.specs.Parts.{slash}
-use Rattle.path_within.proofs.lemmas.backward.LayoutLemmas.{first_fits, layout-rooted, layout-rootless}
-use Rattle.path_within.proofs.lemmas.backward.LayoutLemmas.{length-rooted_layout, slash_first}
-use Rattle.path_within.proofs.lemmas.backward.LayoutLemmas.{length-rootless_layout}
+use Rattle.path_within.proofs.lemmas.backward.LayoutLemmas.{first_fits, layout-rooted}
+use Rattle.path_within.proofs.lemmas.backward.LayoutLemmas.{layout-rootless, length-rooted_layout}
+use Rattle.path_within.proofs.lemmas.backward.LayoutLemmas.{slash_first, length-rootless_layout}
 use Rattle.path_within.proofs.write.Layout.fill.Goals as goal
 
 pub slice_bounds-fill_after_root-count : goal.slice_bounds-fill_after_root-count

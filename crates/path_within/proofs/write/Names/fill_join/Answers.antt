@@ -26,7 +26,8 @@ pub returns : goal.returns
 returns c =
     let root = c.args.root.now in
     c.write_at.ensures
-    ∙ ap (λ n. root ++ drop n c.put_before.new.out) {x = 0 + length root} {y = length root} (omega arith)
+    ∙ ap (λ n. root ++ drop n c.put_before.new.out) {x = 0 + length root} {y = length root}
+    (omega arith)
     ∙ joined root (names_in c.args.self.now)
     (unslashed_last c.args.self.now.count c.args.self.now.path.bytes.now) c.put_before.ensures
     c.put_before.auto.out c.requires

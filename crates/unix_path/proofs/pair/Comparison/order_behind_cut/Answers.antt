@@ -11,7 +11,8 @@ pub returns-in-StartsWith : goal.returns-in-StartsWith
 returns-in-StartsWith c = λ s t h.
     let left = c.in-StartsWith.left.now in
     c.cmp.ensures ∙ values_cmp-end left [] (λ _. refl)
-    ∙ ap₂ values_cmp (values-busy left c.in-StartsWith.ensures.1) (values-nil ∙ sym inner_values-nil)
+    ∙ ap₂ values_cmp (values-busy left c.in-StartsWith.ensures.1)
+    (values-nil ∙ sym inner_values-nil)
     ∙ values_cmp-shared (c.in-StartsWith.ensures.0.shares s t h)
 
 pub returns-in-IsPrefix : goal.returns-in-IsPrefix

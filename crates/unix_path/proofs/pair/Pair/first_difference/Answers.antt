@@ -8,12 +8,16 @@ use Rattle.unix_path.specs.Steps.{begins_piece, piece_rank, AreApart, SharesFirs
 use Rattle.unix_path.proofs.lemmas.order.ApartLemmas.{apart-here, apart-inside}
 use Rattle.unix_path.proofs.lemmas.order.PairLemmas.{CutsAt, cuts-begins, cuts-ends, inside_piece}
 use Rattle.unix_path.proofs.lemmas.rests.SourceLemmas.{IsTail-from}
-use Rattle.unix_path.proofs.pair.Pair.first_difference.Goals.{Joined-begins_piece, Joined-x-y}
-use Rattle.unix_path.proofs.pair.Pair.first_difference.Goals.{then-x-y, else-x-y}
-use Rattle.unix_path.proofs.pair.Pair.first_difference.Goals.{then-begins_piece}
-use Rattle.unix_path.proofs.pair.Pair.first_difference.Goals.{else-begins_piece+then-first-common-eq46+then-begins_piece-2}
-use Rattle.unix_path.proofs.pair.Pair.first_difference.Goals.{else-first-common-eq46-via-then-first-common-eq46+else-begins_piece-2}
-use Rattle.unix_path.proofs.pair.Pair.first_difference.Goals.{else-first-common-eq46-via-else-first-common-eq46}
+use Rattle.unix_path.proofs.pair.Pair.first_difference.Goals.{
+  Joined-begins_piece,
+  Joined-x-y,
+  then-x-y,
+  else-x-y,
+  then-begins_piece,
+  else-begins_piece+then-first-common-eq46+then-begins_piece-2,
+  else-first-common-eq46-via-then-first-common-eq46+else-begins_piece-2,
+  else-first-common-eq46-via-else-first-common-eq46,
+}
 use Rattle.unix_path.proofs.pair.Pair.first_difference.Goals as goal
 
 pub returns-then-is_in_name-2 : goal.returns-then-is_in_name-2

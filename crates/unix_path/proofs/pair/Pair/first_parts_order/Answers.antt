@@ -9,7 +9,8 @@ use Rattle.unix_path.proofs.pair.Pair.first_parts_order.Goals as goal
 
 -- the kinds are in the order of the first values
 by_kind-is : (c : After-cmp-by_kind) → c.cmp-by_kind.result
-    ≡ nat_cmp (first_rank (values c.args.self.first.now)) (first_rank (values c.args.self.second.now))
+    ≡ nat_cmp (first_rank (values c.args.self.first.now))
+    (first_rank (values c.args.self.second.now))
 by_kind-is c =
     c.cmp-by_kind.ensures ∙ kinds-cmp c.of_first.result c.of_first-2.result
     ∙ ap₂ nat_cmp c.of_first.ensures c.of_first-2.ensures

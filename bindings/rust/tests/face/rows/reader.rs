@@ -1,0 +1,78 @@
+//! Asks the rows of `tests/rows.txt`: each is spelled anew with the answer of its call. A row that
+//! is spelled otherwise is wrong, or no row.
+
+static ROWS: &str = include_str!("../../../../../tests/rows.txt");
+
+/// A call: its name, how many paths it takes, and what asks it, as the fields of its answer.
+pub type Call = (&'static str, usize, fn(&[u8], &[u8]) -> Vec<String>);
+
+/// The field that stands for these bytes.
+pub fn spelled(bytes: &[u8]) -> String {
+    let spell = |(at, byte): (usize, &u8)| {
+        let is_coded = !(b' '..=b'~').contains(byte)
+            || *byte == b'|'
+            || (*byte == b' ' && (at == 0 || at + 1 == bytes.len()))
+            || (*byte == b'!' && at == 0);
+        match *byte {
+            b'\\' => r"\\".to_string(),
+            byte if is_coded => format!("\\x{byte:02X}"),
+            byte => char::from(byte).to_string(),
+        }
+    };
+    bytes.iter().enumerate().map(spell).collect()
+}
+
+/// The bytes that a field stands for.
+fn unescaped(field: &str) -> Vec<u8> {
+    let (mut bytes, mut left) = (vec![], field.as_bytes());
+    while let [first, rest @ ..] = left {
+        let digits = rest.get(1..3).and_then(|it| std::str::from_utf8(it).ok());
+        let code = digits.and_then(|it| u8::from_str_radix(it, 16).ok());
+        let (byte, taken) = match (first, rest.first(), code) {
+            (b'\\', Some(b'x'), Some(code)) => (code, 4),
+            (b'\\', Some(next), _) => (*next, 2),
+            _ => (*first, 1),
+        };
+        bytes.push(byte);
+        left = &left[taken..];
+    }
+    bytes
+}
+
+/// A row with these fields.
+fn spelled_row(fields: &[String]) -> String {
+    let spell = |field: &String| match field.is_empty() {
+        true => " |".to_string(),
+        false => format!(" | {field}"),
+    };
+    fields[0].clone() + &fields[1..].iter().map(spell).collect::<String>()
+}
+
+/// Asks each row of these calls, and says how many, and how many were left out.
+pub fn ask_all(calls: &[Call], left_out: &[&str]) {
+    let (mut asked, mut left) = (0, 0);
+    for row in ROWS
+        .lines()
+        .filter(|row| !row.is_empty() && !row.starts_with('#'))
+    {
+        let fields: Vec<_> = row
+            .split('|')
+            .map(|field| field.trim_matches(' '))
+            .collect();
+        if left_out.contains(&fields[0]) {
+            left += 1;
+            continue;
+        }
+        let found = calls.iter().find(|call| call.0 == fields[0]);
+        let (name, count, ask) = found.unwrap_or_else(|| panic!("no call asks {row}"));
+        let given = fields[1..].iter().take(*count);
+        let mut paths: Vec<_> = given.map(|field| unescaped(field)).collect();
+        let mut again = vec![name.to_string()];
+        again.extend(paths.iter().map(|path| spelled(path)));
+        paths.resize(2, vec![]);
+        again.extend(ask(&paths[0], &paths[1]));
+        assert_eq!(spelled_row(&again), row);
+        asked += 1;
+    }
+    println!("{asked} rows, {left} left out");
+}

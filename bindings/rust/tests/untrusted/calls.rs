@@ -1,0 +1,134 @@
+// tools/calls made this file from the exports of crates/unix_path_c/src: the calls by shape.
+//
+// Each macro passes the names of the calls of its shape to another macro.
+#[allow(unused_macros)]
+macro_rules! begin {
+    ($each:ident) => {
+        $each! {
+            components
+        }
+    };
+}
+
+#[allow(unused_macros)]
+macro_rules! step {
+    ($each:ident) => {
+        $each! {
+            next
+            next_back
+        }
+    };
+}
+
+#[allow(unused_macros)]
+macro_rules! left {
+    ($each:ident) => {
+        $each! {
+            as_path
+        }
+    };
+}
+
+#[allow(unused_macros)]
+macro_rules! next_place {
+    ($each:ident) => {
+        $each! {
+            next_ancestor
+        }
+    };
+}
+
+#[allow(unused_macros)]
+macro_rules! next_chunk {
+    ($each:ident) => {
+        $each! {
+            next_chunk
+        }
+    };
+}
+
+#[allow(unused_macros)]
+macro_rules! find {
+    ($each:ident) => {
+        $each! {
+            parent
+            file_name
+            file_stem
+            extension
+            file_prefix
+        }
+    };
+}
+
+#[allow(unused_macros)]
+macro_rules! find_of_two {
+    ($each:ident) => {
+        $each! {
+            strip_prefix
+        }
+    };
+}
+
+#[allow(unused_macros)]
+macro_rules! ask_two {
+    ($each:ident) => {
+        $each! {
+            starts_with
+            ends_with
+            equal
+            compare
+            common_dir
+        }
+    };
+}
+
+#[allow(unused_macros)]
+macro_rules! ask {
+    ($each:ident) => {
+        $each! {
+            hash
+            is_utf8
+            is_canonical
+            is_absolute
+            climbs
+            check_request
+        }
+    };
+}
+
+#[allow(unused_macros)]
+macro_rules! make_of_two {
+    ($each:ident) => {
+        $each! {
+            join
+            with_file_name
+            with_extension
+            with_added_extension
+            join_plain
+            way
+        }
+    };
+}
+
+#[allow(unused_macros)]
+macro_rules! make {
+    ($each:ident) => {
+        $each! {
+            canonical
+            to_string_lossy
+            resolved
+            key
+            from_key
+            key_end
+        }
+    };
+}
+
+#[allow(unused_macros)]
+macro_rules! make_of_two_as {
+    ($each:ident) => {
+        $each! {
+            join_below
+        }
+    };
+}

@@ -1,0 +1,10 @@
+//! Tests of path_runs, path_table and path_keys, in a crate of their own: a crate with tests is
+//! proved twice.
+#![tactic(auto)]
+
+#[cfg(test)]
+mod keys;
+#[cfg(test)]
+mod runs;
+#[cfg(test)]
+mod table;

@@ -1,0 +1,34 @@
+//! All short strings over some letters.
+use std::alloc::{AllocError, Global};
+
+// Returns the string with the letter after it.
+fn with_letter(alloc: Global, string: &[u8], letter: u8) -> Result<Vec<u8>, AllocError> {
+    let mut longer = Vec::from_slice(alloc, string)?;
+    longer.push(letter)?;
+    Ok(longer)
+}
+
+/// Returns strings over these letters, shorter ones first: the empty one, and each of the first
+/// `shorter` strings with each letter after it.
+///
+/// Over `ab` with `shorter` 1 they are the empty string, `a` and `b`. Fails if an allocation fails.
+/// Not in Rust's std.
+pub fn strings_over(
+    alloc: Global,
+    letters: &[u8],
+    shorter: usize,
+) -> Result<Vec<Vec<u8>>, AllocError> {
+    let mut strings = Vec::new(alloc);
+    strings.push(Vec::new(alloc))?;
+    for at in 0..shorter {
+        for letter in letters {
+            let string = match strings.get(at) {
+                Some(string) => string.as_slice(),
+                None => b"",
+            };
+            let longer = with_letter(alloc, string, *letter)?;
+            strings.push(longer)?;
+        }
+    }
+    Ok(strings)
+}

@@ -1,0 +1,42 @@
+//! What a caller of the exports can show by their clauses. Nothing calls these.
+ghost use Rattle.std.specs.Prelude.{◌≡◌, [], ◌∷◌, ◌++◌, IsTrue, option_map};
+ghost use Rattle.unix_path.specs.Names.{file_name_of};
+ghost use Rattle.unix_path.specs.Parts.{values};
+ghost use Rattle.unix_path_c.specs.Places.{span_bytes};
+ghost use Rattle.unix_path_c.specs.Walks.{part_value};
+
+use crate::places::{Span, unix_path_file_name};
+use crate::walks::{
+    Part, Walk, unix_path_as_path, unix_path_components, unix_path_next, unix_path_next_back,
+};
+
+// Returns the file name as a slice of the path.
+fn read_file_name(path: &[u8]) -> Option<&[u8]>
+    ensures { option_map (λ name. name.now) result ≡ file_name_of (values path.now) }
+{
+    let mut span = Span {
+        start: 0,
+        length: 0,
+    };
+    if !unix_path_file_name(path, &mut span) {
+        return None;
+    }
+    Some(&path[span.start..span.start + span.length])
+}
+
+// Takes the first part of a path and the last, and finds those between; false with fewer than two.
+fn take_ends(path: &[u8], first: &mut Part, between: &mut Span, last: &mut Part) -> bool
+    ensures { IsTrue result → values path.now ≡ part_value path.now first.new
+        ∷ (values (span_bytes path.now between.new) ++ part_value path.now last.new ∷ []) }
+{
+    let mut walk = Walk { front: 0, back: 0 };
+    unix_path_components(path, &mut walk);
+    if !unix_path_next(path, &mut walk, first) {
+        return false;
+    }
+    if !unix_path_next_back(path, &mut walk, last) {
+        return false;
+    }
+    unix_path_as_path(path, &walk, between);
+    true
+}

@@ -1,0 +1,143 @@
+"""Asks the rows of tests/rows.txt of libunix_path.so.1, by unix_paths' way of calling.
+
+Prints each row that is answered otherwise, and then the counts.
+"""
+import ctypes
+import os
+import sys
+from ctypes import POINTER, c_bool, c_int32, c_size_t, c_uint64
+
+from unix_paths import _OUT, _PATH, _Part, _Place, _Walk, _call
+
+sys.path.append(f"{os.path.dirname(os.path.abspath(__file__))}/../../tools")
+
+from call_rows import read_rows, spelled, spelled_row, unescaped
+
+REFUSALS = {2**64 - 7: "!separator", 2**64 - 2: "!escapes", 2**64 - 4: "!nul_in_request",
+            2**64 - 5: "!not_a_key", 2**64 - 6: "!no_end", 2**64 - 8: "!no_way"}
+
+
+class _Chunk(ctypes.Structure):
+    _fields_ = [("start", c_size_t), ("valid_length", c_size_t), ("broken_length", c_size_t)]
+
+
+def words(paths):
+    """The paths as the calls take them."""
+    return [it for path in paths for it in (path, len(path))]
+
+
+def found(name, *paths):
+    place = _Place()
+    call = _call(name, c_bool, _PATH * len(paths), [POINTER(_Place)])
+    if not call(*words(paths), ctypes.byref(place)):
+        return ["!none"]
+    return [spelled(paths[0][place.start:place.start + place.length]), str(place.start)]
+
+
+def truth(name, *paths):
+    return [str(_call(name, c_bool, _PATH * len(paths))(*words(paths))).lower()]
+
+
+def number(name, *paths):
+    kind = c_size_t if name == "common_dir" else c_int32
+    return [str(_call(name, kind, _PATH * len(paths))(*words(paths)))]
+
+
+def order(name, a, b):
+    """Their order, of which the one from the other side and unix_path_equal have to know."""
+    (there,), (back,), (equal,) = number(name, a, b), number(name, b, a), truth("equal", a, b)
+    is_known = int(there) == -int(back) and (equal == "true") == (there == "0")
+    return [there] if is_known else [there, back, equal]
+
+
+def hashed(name, path):
+    return [f"0x{_call(name, c_uint64, _PATH)(*words([path])):016x}"]
+
+
+def written(name, *paths, options=()):
+    room = 3 * sum(map(len, paths)) + 2
+    out = ctypes.create_string_buffer(room)
+    call = _call(name, c_size_t, _PATH * len(paths), [c_bool] * len(options), _OUT)
+    length = call(*words(paths), *options, out, room)
+    return [REFUSALS[length] if length in REFUSALS else spelled(out.raw[:length])]
+
+
+def below(name, root, request):
+    return [it for as_url in (False, True)
+            for it in written(name, root, request, options=[as_url])]
+
+
+def walked(call, path):
+    """The parts that a call takes, each with its place and in its order."""
+    walk, part = _Walk(0, len(path)), _Part()
+    step = _call(call, c_bool, _PATH, [POINTER(_Walk), POINTER(_Part)])
+    while step(*words([path]), ctypes.byref(walk), ctypes.byref(part)):
+        yield [spelled(path[part.start:part.start + part.length]), str(part.start)]
+
+
+def whole(path):
+    """The place of what is left of a walk from which nothing was taken."""
+    walk, place = _Walk(), _Place()
+    begin = _call("components", None, _PATH, [POINTER(_Walk)])
+    look = _call("as_path", None, _PATH, [POINTER(_Walk), POINTER(_Place)])
+    begin(*words([path]), ctypes.byref(walk))
+    look(*words([path]), ctypes.byref(walk), ctypes.byref(place))
+    return place.start, place.start + place.length
+
+
+def parts(_name, path):
+    """The parts, which both calls have to take, and which reach over all that is left at first."""
+    front, back = list(walked("next", path)), list(walked("next_back", path))
+    places = [(int(start), int(start) + len(unescaped(part))) for part, start in front] or [(0, 0)]
+    if front != back[::-1] or whole(path) != (places[0][0], places[-1][1]):
+        return [f"{front} from the front, {back} from behind, {whole(path)} in all"]
+    return sum(front, [])
+
+
+def ancestors(name, path):
+    taken, place, at = [], _Place(), c_size_t(len(path))
+    call = _call(name, c_bool, _PATH, [POINTER(c_size_t), POINTER(_Place)])
+    while call(*words([path]), ctypes.byref(at), ctypes.byref(place)):
+        taken.append(spelled(path[place.start:place.start + place.length]))
+    return taken
+
+
+def chunks(name, path):
+    taken, chunk, at = [], _Chunk(), c_size_t(0)
+    call = _call(name, c_bool, _PATH, [POINTER(c_size_t), POINTER(_Chunk)])
+    while call(*words([path]), ctypes.byref(at), ctypes.byref(chunk)):
+        middle, end = chunk.start + chunk.valid_length, at.value
+        taken += [spelled(path[chunk.start:middle]), spelled(path[middle:end])]
+    return taken
+
+
+# How many paths a call takes, and what asks it.
+CALLS = {
+    **dict.fromkeys(("parent", "file_name", "file_stem", "extension", "file_prefix"), (1, found)),
+    **dict.fromkeys(("is_utf8", "is_canonical", "is_absolute", "climbs"), (1, truth)),
+    **dict.fromkeys(("starts_with", "ends_with", "equal"), (2, truth)),
+    **dict.fromkeys(("canonical", "to_string_lossy", "resolved", "key", "from_key", "key_end"),
+                    (1, written)),
+    **dict.fromkeys(("join", "with_file_name", "with_extension", "with_added_extension",
+                     "join_plain", "way"), (2, written)),
+    "strip_prefix": (2, found), "compare": (2, order), "hash": (1, hashed),
+    "check_request": (1, number), "common_dir": (2, number), "join_below": (2, below),
+    "components": (1, parts), "next_ancestor": (1, ancestors), "next_chunk": (1, chunks),
+}
+
+
+def main():
+    rows, wrong = read_rows(), 0
+    for row in rows:
+        count, ask = CALLS[row.call]
+        paths = row.fields[:count]
+        line = spelled_row(row.call, [*map(spelled, paths), *ask(row.call, *paths)])
+        if line != row.line:
+            print(f"{line}, and not {row.line}")
+            wrong += 1
+    print(f"{len(rows)} rows, 0 left out; {wrong} wrong")
+    return 1 if wrong else 0
+
+
+if __name__ == "__main__":
+    sys.exit(main())

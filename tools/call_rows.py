@@ -1,0 +1,109 @@
+"""The rows of tests/rows.txt: calls of the library, and what they answer."""
+import dataclasses
+import re
+import sys
+
+from repository import ROOT
+
+TABLE = "tests/rows.txt"
+# The calls of a walk, which the rows of `components` ask too.
+ASKED_BY = {"next": "components", "next_back": "components", "as_path": "components"}
+WORDS = {"!none", "!separator", "!escapes", "!nul_in_request", "!not_a_key", "!no_end", "!no_way"}
+ESCAPE = re.compile(rb"\\(?:\\|x([0-9A-F]{2}))")
+# What `pathtool` answers for a row, by the call of the row and its command; the answer's fields.
+FOUND = {
+    "parent": "parent", "file_name": "name", "file_stem": "stem", "extension": "ext",
+    "strip_prefix": "strip",
+}
+SAID = {
+    "starts_with": "starts", "ends_with": "ends", "join": "join", "canonical": "canon",
+    "to_string_lossy": "show",
+}
+ORDERS = {b"-1": b"less", b"0": b"equal", b"1": b"greater"}
+
+
+@dataclasses.dataclass(frozen=True)
+class Row:
+    """A row: its line, its call, and its other fields as they are spelled."""
+    line: str
+    call: str
+    spelled: tuple
+
+    @property
+    def fields(self):
+        """The fields as bytes."""
+        return [unescaped(it) for it in self.spelled]
+
+
+def unescaped(field):
+    """The bytes that a field stands for."""
+    return ESCAPE.sub(lambda it: bytes([int(it[1], 16)]) if it[1] else b"\\", field.encode())
+
+
+def spelled(data):
+    """The field that stands for these bytes."""
+    field = "".join("\\\\" if it == ord("\\") else
+                    chr(it) if 0x20 <= it < 0x7F and it != ord("|") else f"\\x{it:02X}"
+                    for it in data)
+    field = re.sub(r"^[ !]", lambda it: f"\\x{ord(it[0]):02X}", field)
+    return re.sub(r" $", r"\\x20", field)
+
+
+def spelled_row(call, fields):
+    """The line of a row with these fields."""
+    return call + "".join(f" | {it}" if it else " |" for it in fields)
+
+
+def exports():
+    """The names of the library's calls, as the header declares them."""
+    with open(f"{ROOT}/include/unix_path.h", encoding="utf-8") as file:
+        return set(re.findall(r"^\w+ unix_path_(\w+)\(const", file.read(), re.M))
+
+
+def read_rows():
+    """The rows of the table. What is no row, no call of the library, or there twice, and a call
+    without a row, are errors."""
+    rows, calls = {}, exports()
+    with open(f"{ROOT}/{TABLE}", encoding="ascii") as file:
+        lines = [line for line in file.read().splitlines() if line and not line.startswith("#")]
+    for line in lines:
+        call, *fields = (it.strip(" ") for it in line.split("|"))
+        anew = [it if it in WORDS else spelled(unescaped(it)) for it in fields]
+        if call not in calls or len(fields) < 1 or line != spelled_row(call, anew):
+            sys.exit(f"{TABLE} has a line that is no row: {line}")
+        if line in rows:
+            sys.exit(f"{TABLE} has a row twice: {line}")
+        rows[line] = Row(line, call, tuple(fields))
+    asked = {row.call for row in rows.values()}
+    for call in sorted(calls):
+        if ASKED_BY.get(call, call) not in asked:
+            sys.exit(f"{TABLE} has no row of unix_path_{call}")
+    return list(rows.values())
+
+
+def lines_of(row):
+    """The lines of `pathtool` that ask the row, and their answers."""
+    fields = row.fields
+    if row.call in FOUND:
+        count = 2 if row.call == "strip_prefix" else 1
+        none = b"prefix not found" if count == 2 else b"-"
+        answer = none if row.spelled[count] == "!none" else b"+" + fields[count]
+        yield [FOUND[row.call].encode(), *fields[:count]], answer
+    elif row.call in SAID:
+        yield [SAID[row.call].encode(), *fields[:-1]], fields[-1]
+    elif row.call == "compare":
+        yield [b"cmp", *fields[:2]], ORDERS[fields[2]]
+    elif row.call == "components":
+        yield [b"parts", fields[0]], b"\t".join(fields[1::2])
+        yield [b"back", fields[0]], b"\t".join(fields[1::2][::-1])
+    elif row.call == "next_ancestor":
+        yield [b"ancestors", fields[0]], b"\t".join(fields[1:])
+
+
+def write_lines(name):
+    """Writes the lines of `pathtool` that ask the rows to NAME.in, and the answers to NAME.out."""
+    pairs = [pair for row in read_rows() for pair in lines_of(row)]
+    with open(f"{name}.in", "wb") as given, open(f"{name}.out", "wb") as wanted:
+        for words, answer in pairs:
+            given.write(b"\t".join(words) + b"\n")
+            wanted.write(answer + b"\n")
