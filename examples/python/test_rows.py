@@ -12,6 +12,7 @@ from unix_paths import _OUT, _PATH, _Part, _Place, _Walk, _call
 sys.path.append(f"{os.path.dirname(os.path.abspath(__file__))}/../../tools")
 
 from call_rows import read_rows, spelled, spelled_row, unescaped
+from call_shapes import read_calls
 
 REFUSALS = {2**64 - 7: "!separator", 2**64 - 2: "!escapes", 2**64 - 4: "!nul_in_request",
             2**64 - 5: "!not_a_key", 2**64 - 6: "!no_end", 2**64 - 8: "!no_way"}
@@ -34,24 +35,17 @@ def found(name, *paths):
     return [spelled(paths[0][place.start:place.start + place.length]), str(place.start)]
 
 
-def truth(name, *paths):
-    return [str(_call(name, c_bool, _PATH * len(paths))(*words(paths))).lower()]
-
-
-def number(name, *paths):
-    kind = c_size_t if name == "common_dir" else c_int32
-    return [str(_call(name, kind, _PATH * len(paths))(*words(paths)))]
+def asked(name, *paths):
+    """The answer to a question. A hash has no sign and is written in base 16."""
+    answer = _call(name, TYPES[ANSWERS[name]], _PATH * len(paths))(*words(paths))
+    return [f"0x{answer:016x}" if ANSWERS[name] == "u64" else str(answer).lower()]
 
 
 def order(name, a, b):
     """Their order, of which the one from the other side and unix_path_equal have to know."""
-    (there,), (back,), (equal,) = number(name, a, b), number(name, b, a), truth("equal", a, b)
+    (there,), (back,), (equal,) = asked(name, a, b), asked(name, b, a), asked("equal", a, b)
     is_known = int(there) == -int(back) and (equal == "true") == (there == "0")
     return [there] if is_known else [there, back, equal]
-
-
-def hashed(name, path):
-    return [f"0x{_call(name, c_uint64, _PATH)(*words([path])):016x}"]
 
 
 def written(name, *paths, options=()):
@@ -111,19 +105,16 @@ def chunks(name, path):
     return taken
 
 
-# How many paths a call takes, and what asks it.
-CALLS = {
-    **dict.fromkeys(("parent", "file_name", "file_stem", "extension", "file_prefix"), (1, found)),
-    **dict.fromkeys(("is_utf8", "is_canonical", "is_absolute", "climbs"), (1, truth)),
-    **dict.fromkeys(("starts_with", "ends_with", "equal"), (2, truth)),
-    **dict.fromkeys(("canonical", "to_string_lossy", "resolved", "key", "from_key", "key_end"),
-                    (1, written)),
-    **dict.fromkeys(("join", "with_file_name", "with_extension", "with_added_extension",
-                     "join_plain", "way"), (2, written)),
-    "strip_prefix": (2, found), "compare": (2, order), "hash": (1, hashed),
-    "check_request": (1, number), "common_dir": (2, number), "join_below": (2, below),
-    "components": (1, parts), "next_ancestor": (1, ancestors), "next_chunk": (1, chunks),
+# How many paths a call takes, and what asks it, by its shape.
+SHAPES = {
+    "BEGIN": (1, parts), "NEXT_PLACE": (1, ancestors), "NEXT_CHUNK": (1, chunks),
+    "FIND": (1, found), "FIND_OF_TWO": (2, found), "ASK": (1, asked), "ASK_TWO": (2, asked),
+    "MAKE": (1, written), "MAKE_OF_TWO": (2, written), "MAKE_OF_TWO_AS": (2, below),
 }
+CALLS = {it.name: SHAPES[it.shape] for it in read_calls() if it.shape in SHAPES}
+CALLS["compare"] = (2, order)
+TYPES = {"bool": c_bool, "i32": c_int32, "u64": c_uint64, "usize": c_size_t}
+ANSWERS = {it.name: it.answer for it in read_calls()}
 
 
 def main():

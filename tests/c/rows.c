@@ -2,6 +2,7 @@
 // and spelled anew with the answer. A row that is spelled otherwise is wrong, or no row.
 #define _DEFAULT_SOURCE
 #include <ctype.h>
+#include <inttypes.h>
 
 #include "check.h"
 #include "comparisons.h"
@@ -11,17 +12,15 @@
 // The most bytes that an answer or a path of a row has.
 enum { most = 64 };
 
-// A call: its name, how many paths it takes, what asks it, and the call by its type.
-typedef struct call {
+// A call: its name, how many paths it takes, and what asks it.
+typedef struct {
     const char *name;
     size_t paths;
-    void (*ask)(const struct call *, view, view);
-    call_of_place place;
-    call_of_truth truth;
-    call_of_relation relation;
-    call_of_one one;
-    call_of_two two;
+    void (*ask)(view, view);
 } call;
+
+// A call that writes.
+typedef size_t (*writer)(view, view, bool, uint8_t *, size_t);
 
 // The row that is asked, the same row with the answer that was found, and the memory of paths and
 // buffers.
@@ -36,9 +35,24 @@ static void add_field(const char *spelled) {
     add_string(&found, spelled);
 }
 
-static void add_number(int64_t number) {
+// Adds what a question answers. A hash has no sign and is written in base 16.
+static void add_bool(bool is_true) { add_field(is_true ? "true" : "false"); }
+
+static void add_int32_t(int32_t number) {
     char digits[32];
-    snprintf(digits, sizeof digits, "%lld", (long long)number);
+    snprintf(digits, sizeof digits, "%" PRId32, number);
+    add_field(digits);
+}
+
+static void add_size_t(size_t number) {
+    char digits[32];
+    snprintf(digits, sizeof digits, "%zu", number);
+    add_field(digits);
+}
+
+static void add_uint64_t(uint64_t number) {
+    char digits[32];
+    snprintf(digits, sizeof digits, "0x%016" PRIx64, number);
     add_field(digits);
 }
 
@@ -70,66 +84,15 @@ static void add_place(view path, bool is_there, unix_path_place place) {
     }
     CHECK_ROW(is_inside(path, place));
     add_bytes(view_at(path, place));
-    add_number((int64_t)place.start);
+    add_size_t(place.start);
 }
 
-static void find(const call *it, view a, view b) {
-    (void)b;
-    unix_path_place place = no_place;
-    bool is_there = it->place(a.bytes, a.length, &place);
-    add_place(a, is_there, place);
-}
-
-static void strip(const call *it, view a, view b) {
-    (void)it;
-    unix_path_place place = no_place;
-    bool is_there = unix_path_strip_prefix(a.bytes, a.length, b.bytes, b.length, &place);
-    add_place(a, is_there, place);
-}
-
-static void ask(const call *it, view a, view b) {
-    (void)b;
-    add_field(it->truth(a.bytes, a.length) ? "true" : "false");
-}
-
-static void ask_two(const call *it, view a, view b) {
-    add_field(it->relation(a.bytes, a.length, b.bytes, b.length) ? "true" : "false");
-}
-
-static void ask_order(const call *it, view a, view b) {
-    (void)it;
+// Asks for the order, of which that from the other side and unix_path_equal have to know.
+static void ask_order(view a, view b) {
     int32_t order = compare(a, b);
-    add_number(order);
+    add_int32_t(order);
     CHECK_ROW(compare(b, a) == -order);
     CHECK_ROW(unix_path_equal(a.bytes, a.length, b.bytes, b.length) == (order == 0));
-}
-
-static void ask_hash(const call *it, view a, view b) {
-    (void)it, (void)b;
-    char digits[32];
-    snprintf(digits, sizeof digits, "0x%016llx", (unsigned long long)hash(a));
-    add_field(digits);
-}
-
-static void ask_request(const call *it, view a, view b) {
-    (void)it, (void)b;
-    add_number(unix_path_check_request(a.bytes, a.length));
-}
-
-static void ask_common_dir(const call *it, view a, view b) {
-    (void)it;
-    add_number((int64_t)common_dir(a, b));
-}
-
-// Makes a call that writes.
-static size_t write_to(const call *it, view a, view b, bool as_url, uint8_t *out, size_t room) {
-    if (it->one != NULL) {
-        return it->one(a.bytes, a.length, out, room);
-    }
-    if (it->two != NULL) {
-        return it->two(a.bytes, a.length, b.bytes, b.length, out, room);
-    }
-    return unix_path_join_below(a.bytes, a.length, b.bytes, b.length, as_url, out, room);
 }
 
 static void add_refusal(const char *name) {
@@ -141,16 +104,16 @@ static void add_refusal(const char *name) {
 }
 
 // Adds what the call writes, which it writes if there is room for it, and else nothing.
-static void write_in_each_room(const call *it, view a, view b, bool as_url) {
+static void write_in_each_room(writer write, view a, view b, bool as_url) {
     uint8_t whole[most];
     memset(whole, 0xA5, sizeof whole);
-    size_t answer = write_to(it, a, b, as_url, whole, sizeof whole);
+    size_t answer = write(a, b, as_url, whole, sizeof whole);
     view wanted = {whole, unix_path_is_length(answer) ? answer : 0};
     CHECK_ROW(wanted.length <= most && is_written(whole, sizeof whole, wanted));
     for (size_t room = 0; room <= most; room++) {
         uint8_t *out = room_of_out.begin + room_of_out.size - room;
         memset(out, 0xA5, room);
-        CHECK_ROW(write_to(it, a, b, as_url, out, room) == answer);
+        CHECK_ROW(write(a, b, as_url, out, room) == answer);
         CHECK_ROW(is_written(out, room, wanted.length <= room ? wanted : view_of("")));
     }
     if (unix_path_is_length(answer)) {
@@ -158,15 +121,6 @@ static void write_in_each_room(const call *it, view a, view b, bool as_url) {
     } else {
         add_refusal(unix_path_refusal(answer) + strlen("UNIX_PATH_"));
     }
-}
-
-static void write_answer(const call *it, view a, view b) {
-    write_in_each_room(it, a, b, false);
-}
-
-static void write_both(const call *it, view a, view b) {
-    write_in_each_room(it, a, b, false);
-    write_in_each_room(it, a, b, true);
 }
 
 static uint32_t kind_of(view part) {
@@ -179,8 +133,8 @@ static uint32_t kind_of(view part) {
 }
 
 // The parts, from either end and by turns, and what is left before one is taken.
-static void walk_path(const call *it, view a, view b) {
-    (void)it, (void)b;
+static void walk_path(view a, view b) {
+    (void)b;
     unix_path_walk walk;
     unix_path_part parts[16], part = no_part;
     unix_path_place rest;
@@ -194,7 +148,7 @@ static void walk_path(const call *it, view a, view b) {
         view bytes = {a.bytes + parts[at].start, parts[at].length};
         CHECK_ROW(parts[at].kind == kind_of(bytes));
         add_bytes(bytes);
-        add_number((int64_t)parts[at].start);
+        add_size_t(parts[at].start);
     }
     for (size_t at = count; at > 0; at--) {
         CHECK_ROW(unix_path_next_back(a.bytes, a.length, &walk, &part));
@@ -205,8 +159,8 @@ static void walk_path(const call *it, view a, view b) {
 }
 
 // The ancestors, of which none is left once next is SIZE_MAX, or greater than the path's length.
-static void list_ancestors(const call *it, view a, view b) {
-    (void)it, (void)b;
+static void list_ancestors(view a, view b) {
+    (void)b;
     size_t next = a.length, past = a.length + 1;
     unix_path_place place;
     while (unix_path_next_ancestor(a.bytes, a.length, &next, &place)) {
@@ -220,8 +174,8 @@ static void list_ancestors(const call *it, view a, view b) {
 }
 
 // The chunks, each behind the one before it, of which none is left at the path's end.
-static void list_chunks(const call *it, view a, view b) {
-    (void)it, (void)b;
+static void list_chunks(view a, view b) {
+    (void)b;
     size_t next = 0, end = 0, past = SIZE_MAX;
     unix_path_chunk chunk;
     while (unix_path_next_chunk(a.bytes, a.length, &next, &chunk)) {
@@ -237,40 +191,65 @@ static void list_chunks(const call *it, view a, view b) {
     CHECK_ROW(past == SIZE_MAX && same_chunk(chunk, no_chunk));
 }
 
+// What asks each call of a shape.
+#define FIND(name)                                                                                 \
+    static void ask_##name(view a, view b) {                                                       \
+        (void)b;                                                                                   \
+        unix_path_place place = no_place;                                                          \
+        bool is_there = unix_path_##name(a.bytes, a.length, &place);                               \
+        add_place(a, is_there, place);                                                             \
+    }
+#define FIND_OF_TWO(name)                                                                          \
+    static void ask_##name(view a, view b) {                                                       \
+        unix_path_place place = no_place;                                                          \
+        bool is_there = unix_path_##name(a.bytes, a.length, b.bytes, b.length, &place);            \
+        add_place(a, is_there, place);                                                             \
+    }
+#define ASK(answer, name)                                                                          \
+    static void ask_##name(view a, view b) {                                                       \
+        (void)b;                                                                                   \
+        add_##answer(unix_path_##name(a.bytes, a.length));                                         \
+    }
+#define ASK_TWO(answer, name)                                                                      \
+    static void ask_##name(view a, view b) {                                                       \
+        add_##answer(unix_path_##name(a.bytes, a.length, b.bytes, b.length));                      \
+    }
+#define MAKE(name)                                                                                 \
+    static size_t write_##name(view a, view b, bool as_url, uint8_t *out, size_t room) {           \
+        (void)b, (void)as_url;                                                                     \
+        return unix_path_##name(a.bytes, a.length, out, room);                                     \
+    }                                                                                              \
+    static void ask_##name(view a, view b) { write_in_each_room(write_##name, a, b, false); }
+#define MAKE_OF_TWO(name)                                                                          \
+    static size_t write_##name(view a, view b, bool as_url, uint8_t *out, size_t room) {           \
+        (void)as_url;                                                                              \
+        return unix_path_##name(a.bytes, a.length, b.bytes, b.length, out, room);                  \
+    }                                                                                              \
+    static void ask_##name(view a, view b) { write_in_each_room(write_##name, a, b, false); }
+#define MAKE_OF_TWO_AS(name)                                                                       \
+    static size_t write_##name(view a, view b, bool as_url, uint8_t *out, size_t room) {           \
+        return unix_path_##name(a.bytes, a.length, b.bytes, b.length, as_url, out, room);          \
+    }                                                                                              \
+    static void ask_##name(view a, view b) {                                                       \
+        write_in_each_room(write_##name, a, b, false);                                             \
+        write_in_each_room(write_##name, a, b, true);                                              \
+    }
+#include "../calls.inc"
+
+// The calls that are asked in a way of their own, and then all.
 static const call calls[] = {
-    {.name = "components", 1, walk_path},
-    {.name = "next_ancestor", 1, list_ancestors},
-    {.name = "next_chunk", 1, list_chunks},
-    {.name = "parent", 1, find, .place = unix_path_parent},
-    {.name = "file_name", 1, find, .place = unix_path_file_name},
-    {.name = "file_stem", 1, find, .place = unix_path_file_stem},
-    {.name = "extension", 1, find, .place = unix_path_extension},
-    {.name = "file_prefix", 1, find, .place = unix_path_file_prefix},
-    {.name = "strip_prefix", 2, strip},
-    {.name = "starts_with", 2, ask_two, .relation = unix_path_starts_with},
-    {.name = "ends_with", 2, ask_two, .relation = unix_path_ends_with},
-    {.name = "equal", 2, ask_two, .relation = unix_path_equal},
-    {.name = "compare", 2, ask_order},
-    {.name = "hash", 1, ask_hash},
-    {.name = "is_utf8", 1, ask, .truth = unix_path_is_utf8},
-    {.name = "is_canonical", 1, ask, .truth = unix_path_is_canonical},
-    {.name = "is_absolute", 1, ask, .truth = unix_path_is_absolute},
-    {.name = "climbs", 1, ask, .truth = unix_path_climbs},
-    {.name = "check_request", 1, ask_request},
-    {.name = "common_dir", 2, ask_common_dir},
-    {.name = "join", 2, write_answer, .two = unix_path_join},
-    {.name = "with_file_name", 2, write_answer, .two = unix_path_with_file_name},
-    {.name = "with_extension", 2, write_answer, .two = unix_path_with_extension},
-    {.name = "with_added_extension", 2, write_answer, .two = unix_path_with_added_extension},
-    {.name = "canonical", 1, write_answer, .one = unix_path_canonical},
-    {.name = "to_string_lossy", 1, write_answer, .one = unix_path_to_string_lossy},
-    {.name = "resolved", 1, write_answer, .one = unix_path_resolved},
-    {.name = "join_plain", 2, write_answer, .two = unix_path_join_plain},
-    {.name = "join_below", 2, write_both},
-    {.name = "way", 2, write_answer, .two = unix_path_way},
-    {.name = "key", 1, write_answer, .one = unix_path_key},
-    {.name = "from_key", 1, write_answer, .one = unix_path_from_key},
-    {.name = "key_end", 1, write_answer, .one = unix_path_key_end},
+    {"compare", 2, ask_order},
+#define BEGIN(name) {#name, 1, walk_path},
+#define NEXT_PLACE(name) {#name, 1, list_ancestors},
+#define NEXT_CHUNK(name) {#name, 1, list_chunks},
+#define FIND(name) {#name, 1, ask_##name},
+#define FIND_OF_TWO(name) {#name, 2, ask_##name},
+#define ASK(answer, name) {#name, 1, ask_##name},
+#define ASK_TWO(answer, name) {#name, 2, ask_##name},
+#define MAKE(name) {#name, 1, ask_##name},
+#define MAKE_OF_TWO(name) {#name, 2, ask_##name},
+#define MAKE_OF_TWO_AS(name) {#name, 2, ask_##name},
+#include "../calls.inc"
 };
 
 // Cuts off the field up to the next `|`, and the spaces beside it.
@@ -328,7 +307,7 @@ static void ask_row(bool at_end) {
         paths[at] = unescaped(take_field(&left), at == 0 ? first_path : second_path, at_end);
         add_bytes(paths[at]);
     }
-    it->ask(it, paths[0], paths[1]);
+    it->ask(paths[0], paths[1]);
     CHECK(same_bytes(as_view(&row), as_view(&found)), "%.*s, and not %.*s", (int)found.length,
           (const char *)found.bytes, (int)row.length, (const char *)row.bytes);
 }

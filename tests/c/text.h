@@ -25,7 +25,6 @@ typedef bool (*call_of_step)(const void *, size_t, unix_path_walk *, unix_path_p
 // A call that finds a place in a path.
 typedef bool (*call_of_place)(const void *, size_t, unix_path_place *);
 // A question about a path, or about two.
-typedef bool (*call_of_truth)(const void *, size_t);
 typedef bool (*call_of_relation)(const void *, size_t, const void *, size_t);
 // A call that writes its answer into out, of one path or of two.
 typedef size_t (*call_of_one)(const void *, size_t, void *, size_t);

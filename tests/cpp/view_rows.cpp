@@ -52,24 +52,32 @@ std::string unescaped(std::string_view field) {
     return bytes;
 }
 
-fields truth(bool is_true) { return {is_true ? "true" : "false"}; }
+// What a member answers of a path, as the fields of a row.
+fields shown(view, const fields &answer) { return answer; }
 
-fields written(const std::string &bytes) { return {spelled(bytes)}; }
+fields shown(view, bool is_true) { return {is_true ? "true" : "false"}; }
 
-fields unless_refused(const result<std::string> &answer) {
-    return answer ? written(*answer) : fields{std::string("!") + unix_path::name_of(*answer.why())};
+fields shown(view, std::size_t number) { return {std::to_string(number)}; }
+
+fields shown(view, unix_path::request_check check) {
+    return {std::to_string(static_cast<int>(check))};
 }
 
-// What a member found in the path, and where.
-fields found(view path, std::optional<view> place) {
+fields shown(view, const std::string &bytes) { return {spelled(bytes)}; }
+
+fields shown(view, const result<std::string> &answer) {
+    return {answer ? spelled(*answer) : std::string("!") + unix_path::name_of(*answer.why())};
+}
+
+fields shown(view path, std::optional<view> place) {
     if (!place) {
         return {"!none"};
     }
     return {spelled(place->bytes()), std::to_string(place->data() - path.data())};
 }
 
-fields found(view path, std::optional<std::string_view> place) {
-    return found(path, place ? std::optional<view>(*place) : std::nullopt);
+fields shown(view path, std::optional<std::string_view> place) {
+    return shown(path, place ? std::optional<view>(*place) : std::nullopt);
 }
 
 fields hash_of(view path) {
@@ -86,11 +94,9 @@ fields order_of(view a, view b) {
     return {is_known ? std::to_string(order) : "not from each side"};
 }
 
-fields request_of(view path) { return {std::to_string(static_cast<int>(path.check_request()))}; }
-
 fields below(view root, view request) {
-    return {unless_refused(root.join_below(request, reading::as_path))[0],
-            unless_refused(root.join_below(request, reading::as_url))[0]};
+    return {shown(root, root.join_below(request, reading::as_path))[0],
+            shown(root, root.join_below(request, reading::as_url))[0]};
 }
 
 component_kind kind_of(std::string_view part) {
@@ -102,7 +108,7 @@ component_kind kind_of(std::string_view part) {
 
 // The parts of an iterator and those of the reverse iterator, which are the same, and which reach
 // over all that is left of a walk at first.
-fields parts_of(view path) {
+fields parts_of(view path, view) {
     const unix_path::components all = path.components();
     std::vector<component> parts(all.begin(), all.end());
     bool is_known = std::vector<component>(all.rbegin(), all.rend())
@@ -122,7 +128,7 @@ fields parts_of(view path) {
     return is_known && whole.empty() == parts.empty() ? taken : fields{"not from each end"};
 }
 
-fields ancestors_of(view path) {
+fields ancestors_of(view path, view) {
     fields taken;
     for (view ancestor : path.ancestors()) {
         const bool begins = ancestor.data() == path.data();
@@ -131,7 +137,7 @@ fields ancestors_of(view path) {
     return taken;
 }
 
-fields chunks_of(view path) {
+fields chunks_of(view path, view) {
     fields taken;
     for (unix_path::chunk chunk : path.chunks()) {
         taken.push_back(spelled(chunk.valid));
@@ -140,47 +146,37 @@ fields chunks_of(view path) {
     return taken;
 }
 
+// A view, with the calls that the header has as an operator or as a function, and with those of
+// whose answers more is asked.
+struct all_calls : view {
+    explicit all_calls(view path) : view(path) {}
+    fields compare(view b) const { return order_of(*this, b); }
+    fields hash() const { return hash_of(*this); }
+    bool equal(view b) const { return *this == b && !(*this != b); }
+    result<std::string> from_key() const { return unix_path::from_key(bytes()); }
+    result<std::string> key_end() const { return unix_path::key_end(bytes()); }
+};
+
 // A call, how many paths it takes, and what asks it.
-const struct {
+struct call {
     std::string_view name;
     std::size_t paths;
     fields (*ask)(view, view);
-} calls[] = {
-    {"components", 1, [](view a, view) { return parts_of(a); }},
-    {"next_ancestor", 1, [](view a, view) { return ancestors_of(a); }},
-    {"next_chunk", 1, [](view a, view) { return chunks_of(a); }},
-    {"parent", 1, [](view a, view) { return found(a, a.parent()); }},
-    {"file_name", 1, [](view a, view) { return found(a, a.file_name()); }},
-    {"file_stem", 1, [](view a, view) { return found(a, a.file_stem()); }},
-    {"extension", 1, [](view a, view) { return found(a, a.extension()); }},
-    {"file_prefix", 1, [](view a, view) { return found(a, a.file_prefix()); }},
-    {"strip_prefix", 2, [](view a, view b) { return found(a, a.strip_prefix(b)); }},
-    {"starts_with", 2, [](view a, view b) { return truth(a.starts_with(b)); }},
-    {"ends_with", 2, [](view a, view b) { return truth(a.ends_with(b)); }},
-    {"equal", 2, [](view a, view b) { return truth(a == b && !(a != b)); }},
-    {"compare", 2, order_of},
-    {"hash", 1, [](view a, view) { return hash_of(a); }},
-    {"is_utf8", 1, [](view a, view) { return truth(a.is_utf8()); }},
-    {"is_canonical", 1, [](view a, view) { return truth(a.is_canonical()); }},
-    {"is_absolute", 1, [](view a, view) { return truth(a.is_absolute()); }},
-    {"climbs", 1, [](view a, view) { return truth(a.climbs()); }},
-    {"check_request", 1, [](view a, view) { return request_of(a); }},
-    {"common_dir", 2, [](view a, view b) { return fields{std::to_string(a.common_dir(b))}; }},
-    {"join", 2, [](view a, view b) { return written(a.join(b)); }},
-    {"with_file_name", 2, [](view a, view b) { return written(a.with_file_name(b)); }},
-    {"with_extension", 2,
-     [](view a, view b) { return unless_refused(a.with_extension(b.bytes())); }},
-    {"with_added_extension", 2,
-     [](view a, view b) { return unless_refused(a.with_added_extension(b.bytes())); }},
-    {"canonical", 1, [](view a, view) { return written(a.canonical()); }},
-    {"to_string_lossy", 1, [](view a, view) { return written(a.to_string_lossy()); }},
-    {"resolved", 1, [](view a, view) { return written(a.resolved()); }},
-    {"join_plain", 2, [](view a, view b) { return unless_refused(a.join_plain(b)); }},
-    {"join_below", 2, below},
-    {"way", 2, [](view a, view b) { return unless_refused(a.way(b)); }},
-    {"key", 1, [](view a, view) { return written(a.key()); }},
-    {"from_key", 1, [](view a, view) { return unless_refused(unix_path::from_key(a.bytes())); }},
-    {"key_end", 1, [](view a, view) { return unless_refused(unix_path::key_end(a.bytes())); }},
+};
+
+const call calls[] = {
+#define BEGIN(name) {#name, 1, parts_of},
+#define NEXT_PLACE(name) {#name, 1, ancestors_of},
+#define NEXT_CHUNK(name) {#name, 1, chunks_of},
+#define FIND(name) {#name, 1, [](view a, view) { return shown(a, all_calls(a).name()); }},
+#define ASK(answer, name) FIND(name)
+#define MAKE(name) FIND(name)
+#define FIND_OF_TWO(name)                                                                          \
+    {#name, 2, [](view a, view b) { return shown(a, all_calls(a).name(b.bytes())); }},
+#define ASK_TWO(answer, name) FIND_OF_TWO(name)
+#define MAKE_OF_TWO(name) FIND_OF_TWO(name)
+#define MAKE_OF_TWO_AS(name) {#name, 2, below},
+#include "../calls.inc"
 };
 
 // Cuts off the field up to the next `|`, and the spaces beside it.

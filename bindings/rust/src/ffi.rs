@@ -10,6 +10,8 @@
 //! even if empty; they have at most `isize::MAX` bytes; and one that is written shares no byte with
 //! the others. The library also promises that a call wrote as many bytes as it answers: each `Vec`
 //! that a call fills rests on that.
+#[macro_use]
+mod calls;
 mod raw;
 
 use crate::error::Error;

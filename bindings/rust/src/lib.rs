@@ -55,6 +55,7 @@ mod components;
 pub mod edits;
 mod error;
 #[allow(unsafe_code)]
+#[macro_use]
 mod ffi;
 mod keys;
 #[cfg(all(feature = "std", unix))]
@@ -73,10 +74,6 @@ pub use by_parts::ByParts;
 pub use components::{Component, Components};
 pub use error::{Error, RequestError};
 pub use keys::{from_key, key, key_end};
-pub use queries::{
-    ancestors, check_request, chunks, climbs, common_dir, compare, components, ends_with, equal,
-    extension, file_name, file_prefix, file_stem, hash, is_absolute, is_canonical, is_utf8, parent,
-    starts_with, strip_prefix,
-};
+pub use queries::*;
 pub use request::Request;
 pub use walks::{Ancestors, Chunk, Chunks};

@@ -3,9 +3,10 @@
 //! Their answers lie in the path that was given, or are a `PathBuf` or a `String` of their own.
 //
 // Calls of one shape differ only in their names and in the types of their answers: a macro writes
-// them, and each has its own comment. Not here are `next`, `next_back` and `as_path`, which are
-// methods of `Components`; `next_ancestor` and `next_chunk`, whose iterators give bytes;
-// `check_request`, since `Request` checks; and `key_end`, since it has to do with keys alone.
+// them. What finds or makes something has a type of its own, and its own comment. Questions are
+// those of the lists that `tools/calls` writes. Not here are `next`, `next_back` and `as_path`,
+// which are methods of `Components`; `next_ancestor` and `next_chunk`, whose iterators give bytes;
+// and `key_end`, since it has to do with keys alone.
 use crate::components::{Component, Components};
 use crate::error::Error;
 use crate::owned;
@@ -31,7 +32,7 @@ fn path_buf(bytes: Vec<u8>) -> PathBuf {
 }
 
 /// Writes calls that find something in a path, with the type that it has here.
-macro_rules! find {
+macro_rules! find_as {
     ($($(#[$doc:meta])* $name:ident($path:ident) -> &$found:ty, $made:expr;)*) => {$(
         $(#[$doc])*
         #[must_use]
@@ -41,19 +42,50 @@ macro_rules! find {
     )*};
 }
 
-/// Writes questions about paths.
-macro_rules! ask {
-    ($($(#[$doc:meta])* $name:ident($($path:ident),*) -> $answer:ty;)*) => {$(
-        $(#[$doc])*
+/// Writes the questions about a path.
+macro_rules! ask_of_one {
+    () => {};
+    // `Request` checks.
+    (check_request -> i32; $($more:tt)*) => { ask_of_one! { $($more)* } };
+    ($name:ident -> $answer:ident; $($more:tt)*) => {
+        #[doc = concat!("As [`crate::", stringify!($name), "`].")]
+        ///
+        /// ```
+        #[doc = concat!("use unix_path_rattle::{os, ", stringify!($name), "};")]
+        #[doc = concat!("let answer = os::", stringify!($name), "(\"/tmp//a/\");")]
+        #[doc = concat!("assert_eq!(answer, ", stringify!($name), "(b\"/tmp//a/\"));")]
+        /// ```
         #[must_use]
-        pub fn $name($($path: impl AsRef<Path>),*) -> $answer {
-            crate::$name($(bytes(&$path)),*)
+        pub fn $name(path: impl AsRef<Path>) -> $answer {
+            crate::$name(bytes(&path))
         }
-    )*};
+        ask_of_one! { $($more)* }
+    };
+}
+
+/// Writes the questions about two paths that are true or false.
+macro_rules! ask_of_two {
+    () => {};
+    ($name:ident -> bool; $($more:tt)*) => {
+        #[doc = concat!("As [`crate::", stringify!($name), "`].")]
+        ///
+        /// ```
+        #[doc = concat!("use unix_path_rattle::{os, ", stringify!($name), "};")]
+        #[doc = concat!("let answer = os::", stringify!($name), "(\"/tmp//a/\", \"/tmp\");")]
+        #[doc = concat!("assert_eq!(answer, ", stringify!($name), "(b\"/tmp//a/\", b\"/tmp\"));")]
+        /// ```
+        #[must_use]
+        pub fn $name(a: impl AsRef<Path>, b: impl AsRef<Path>) -> bool {
+            crate::$name(bytes(&a), bytes(&b))
+        }
+        ask_of_two! { $($more)* }
+    };
+    // The others are below, since their answers have types of their own.
+    ($name:ident -> $answer:ident; $($more:tt)*) => { ask_of_two! { $($more)* } };
 }
 
 /// Writes calls that make something of paths and of parts of names, with the type that it has here.
-macro_rules! make {
+macro_rules! make_as {
     ($($(#[$doc:meta])* $name:ident($($given:ident: $kind:ty),*) -> $answer:ty, $made:expr;)*)
     => {$(
         $(#[$doc])*
@@ -86,7 +118,7 @@ pub fn components<P: AsRef<Path> + ?Sized>(path: &P) -> Components<'_> {
     crate::components(bytes(path))
 }
 
-find! {
+find_as! {
     /// As [`crate::parent`].
     ///
     /// ```
@@ -139,70 +171,17 @@ pub fn strip_prefix<P: AsRef<Path> + ?Sized>(of: &P, base: impl AsRef<Path>) -> 
     crate::strip_prefix(bytes(of), bytes(&base)).map(path)
 }
 
-ask! {
-    /// As [`crate::starts_with`].
-    ///
-    /// ```
-    /// assert!(unix_path_rattle::os::starts_with("/etc//passwd", "/etc"));
-    /// ```
-    starts_with(path, base) -> bool;
+ask!(ask_of_one);
+ask_two!(ask_of_two);
 
-    /// As [`crate::ends_with`].
-    ///
-    /// ```
-    /// assert!(unix_path_rattle::os::ends_with("/etc/passwd", "passwd/"));
-    /// ```
-    ends_with(path, child) -> bool;
-
-    /// As [`crate::equal`].
-    ///
-    /// ```
-    /// assert!(unix_path_rattle::os::equal("a//b/.", "a/b"));
-    /// ```
-    equal(a, b) -> bool;
-
-    /// As [`crate::compare`].
-    ///
-    /// ```
-    /// assert!(unix_path_rattle::os::compare("a/b", "a.b").is_lt());
-    /// ```
-    compare(a, b) -> Ordering;
-
-    /// As [`crate::hash`].
-    ///
-    /// ```
-    /// use unix_path_rattle::os::hash;
-    /// assert_eq!(hash("a//b/."), hash("a/b"));
-    /// ```
-    hash(path) -> u64;
-
-    /// As [`crate::is_absolute`].
-    ///
-    /// ```
-    /// assert!(unix_path_rattle::os::is_absolute("/a"));
-    /// ```
-    is_absolute(path) -> bool;
-
-    /// As [`crate::is_utf8`].
-    ///
-    /// ```
-    /// assert!(unix_path_rattle::os::is_utf8("/tmp/é"));
-    /// ```
-    is_utf8(path) -> bool;
-
-    /// As [`crate::is_canonical`].
-    ///
-    /// ```
-    /// assert!(unix_path_rattle::os::is_canonical("./a/b"));
-    /// ```
-    is_canonical(path) -> bool;
-
-    /// As [`crate::climbs`].
-    ///
-    /// ```
-    /// assert!(unix_path_rattle::os::climbs("a/../../x"));
-    /// ```
-    climbs(path) -> bool;
+/// As [`crate::compare`].
+///
+/// ```
+/// assert!(unix_path_rattle::os::compare("a/b", "a.b").is_lt());
+/// ```
+#[must_use]
+pub fn compare(a: impl AsRef<Path>, b: impl AsRef<Path>) -> Ordering {
+    crate::compare(bytes(&a), bytes(&b))
 }
 
 /// As [`crate::common_dir`].
@@ -216,7 +195,7 @@ pub fn common_dir<P: AsRef<Path> + ?Sized>(a: &P, b: impl AsRef<Path>) -> &Path 
     path(crate::common_dir(bytes(a), bytes(&b)))
 }
 
-make! {
+make_as! {
     /// As [`owned::join`].
     ///
     /// ```

@@ -1,6 +1,6 @@
 //! Lack of memory: each call that allocates has an error for it.
 #[macro_use]
-#[path = "untrusted/calls.rs"]
+#[path = "../src/ffi/calls.rs"]
 mod calls;
 
 use std::alloc::{GlobalAlloc, Layout, System};
@@ -44,7 +44,7 @@ fn without_memory<T>(call: impl FnOnce() -> Result<T, Error>) -> Result<T, Error
 #[test]
 fn it_is_an_error() {
     macro_rules! of_one {
-        ($($name:ident)*) => {$(
+        ($($name:ident;)*) => {$(
             let failed = without_memory(|| owned::$name(b"a\0"));
             assert_eq!(failed, Err(Error::NoMemory));
             assert!(owned::$name(b"a\0").is_ok());
@@ -52,7 +52,7 @@ fn it_is_an_error() {
     }
     make!(of_one);
     macro_rules! of_two {
-        ($($name:ident)*) => {$(
+        ($($name:ident;)*) => {$(
             let failed = without_memory(|| owned::$name(b"a/b", b"c"));
             assert_eq!(failed, Err(Error::NoMemory));
             assert!(owned::$name(b"a/b", b"c").is_ok());

@@ -1,7 +1,6 @@
-//! What the safe calls answer: by rows, beside `std::path` on all short strings, and into buffers
-//! that are too short.
+//! What the safe calls answer: by rows, into buffers with every room, and beside `std::path` on all
+//! short strings.
 mod beside_std;
-mod buffers;
 mod edits;
 mod keys;
 mod rows;

@@ -1,21 +1,102 @@
 //! The rows of `tests/rows.txt`, asked of the calls over slices, and of those over the system's
 //! strings.
+#[path = "../../src/ffi/calls.rs"]
+#[macro_use]
+mod calls;
 mod reader;
 
 use reader::{ask_all, spelled, Call};
+use std::cmp::Ordering;
 use unix_path_rattle::Component::{self, CurDir, Normal, ParentDir, RootDir};
 use unix_path_rattle::{self as paths, os, owned, Error, Request, RequestError};
 
-fn truth(is_true: bool) -> Vec<String> {
-    vec![is_true.to_string()]
+/// What a buffer holds before a call.
+const OLD: u8 = 0xA5;
+
+/// What a call answers of a path.
+trait Answer {
+    /// The fields of a row.
+    fn fields(self, path: &[u8]) -> Vec<String>;
+}
+
+impl Answer for bool {
+    fn fields(self, _: &[u8]) -> Vec<String> {
+        vec![self.to_string()]
+    }
+}
+
+/// A hash.
+impl Answer for u64 {
+    fn fields(self, _: &[u8]) -> Vec<String> {
+        vec![format!("{self:#018x}")]
+    }
+}
+
+impl Answer for usize {
+    fn fields(self, _: &[u8]) -> Vec<String> {
+        vec![self.to_string()]
+    }
+}
+
+impl Answer for Ordering {
+    fn fields(self, _: &[u8]) -> Vec<String> {
+        vec![(self as i8).to_string()]
+    }
+}
+
+/// The number for which a request is refused.
+impl Answer for Result<(), RequestError> {
+    fn fields(self, _: &[u8]) -> Vec<String> {
+        let refusals = [
+            Ok(()),
+            Err(RequestError::Rooted),
+            Err(RequestError::Climbs),
+            Err(RequestError::Nul),
+        ];
+        let number = refusals.iter().position(|it| *it == self);
+        vec![number.unwrap().to_string()]
+    }
+}
+
+/// How many bytes begin the path.
+impl Answer for &[u8] {
+    fn fields(self, path: &[u8]) -> Vec<String> {
+        assert!(path.starts_with(self));
+        vec![self.len().to_string()]
+    }
 }
 
 /// What was found in the path, and where.
-fn found(path: &[u8], found: Option<&[u8]>) -> Vec<String> {
-    let place = |bytes: &[u8]| bytes.as_ptr() as usize - path.as_ptr() as usize;
-    match found {
-        Some(bytes) => vec![spelled(bytes), place(bytes).to_string()],
-        None => vec!["!none".to_string()],
+impl Answer for Option<&[u8]> {
+    fn fields(self, path: &[u8]) -> Vec<String> {
+        let place = |bytes: &[u8]| bytes.as_ptr() as usize - path.as_ptr() as usize;
+        match self {
+            Some(bytes) => vec![spelled(bytes), place(bytes).to_string()],
+            None => vec!["!none".to_string()],
+        }
+    }
+}
+
+/// What a call makes: bytes, text, or nothing.
+trait Made {
+    fn bytes(self) -> Option<Vec<u8>>;
+}
+
+/// What has bytes.
+macro_rules! made {
+    ($($kind:ty)*) => {
+        $(impl Made for $kind {
+            fn bytes(self) -> Option<Vec<u8>> {
+                Some(self.into())
+            }
+        })*
+    };
+}
+made!(&[u8] Vec<u8> &str String);
+
+impl<T: Made> Made for Option<T> {
+    fn bytes(self) -> Option<Vec<u8>> {
+        self.and_then(Made::bytes)
     }
 }
 
@@ -31,14 +112,30 @@ fn word(error: Error) -> String {
     word.to_string()
 }
 
-fn written(answer: Result<Vec<u8>, Error>) -> Vec<String> {
-    vec![answer.map_or_else(word, |bytes| spelled(&bytes))]
-}
-
-fn key_end(key: &[u8]) -> Vec<String> {
-    match owned::key_end(key) {
+/// What a call makes in memory of its own. It writes the same with every room, from none to 3 bytes
+/// more than needed, and nothing else.
+fn written<T: Made, F>(made: Result<T, Error>, write: F) -> Vec<String>
+where
+    F: Fn(&mut [u8]) -> Result<Option<Vec<u8>>, Error>,
+{
+    let made = made.map(Made::bytes);
+    let want = made.clone().ok().flatten().unwrap_or_default();
+    let needed = want.len();
+    for room in 0..needed + 4 {
+        let mut bytes = vec![OLD; needed + 8];
+        let answer = write(&mut bytes[..room]);
+        let count = if room < needed { 0 } else { needed };
+        match room < needed {
+            true => assert_eq!(answer, Err(Error::Short { needed })),
+            false => assert_eq!(answer, made),
+        }
+        assert_eq!(bytes[..count], want[..count]);
+        assert!(bytes[count..].iter().all(|byte| *byte == OLD));
+    }
+    match made {
+        Ok(Some(bytes)) => vec![spelled(&bytes)],
         Ok(None) => vec!["!no_end".to_string()],
-        end => written(end.map(Option::unwrap)),
+        Err(error) => vec![word(error)],
     }
 }
 
@@ -47,30 +144,21 @@ fn order(a: &[u8], b: &[u8]) -> Vec<String> {
     let order = paths::compare(a, b);
     assert_eq!(paths::compare(b, a), order.reverse());
     assert_eq!(paths::equal(a, b), order.is_eq());
-    vec![(order as i8).to_string()]
-}
-
-/// The number for which a request is refused.
-fn number(answer: Result<(), RequestError>) -> Vec<String> {
-    let refusals = [
-        Ok(()),
-        Err(RequestError::Rooted),
-        Err(RequestError::Climbs),
-        Err(RequestError::Nul),
-    ];
-    let number = refusals.iter().position(|it| *it == answer);
-    vec![number.unwrap().to_string()]
+    order.fields(a)
 }
 
 /// The join of a request as it is, and as that of a URL.
 fn below(root: &[u8], path: &[u8]) -> Vec<String> {
     [Request::new(path), Request::below(path)]
-        .map(|request| match request {
-            Ok(request) => written(owned::join_below(root, request)).remove(0),
-            Err(RequestError::Nul) => "!nul_in_request".to_string(),
-            Err(_) => "!escapes".to_string(),
+        .into_iter()
+        .flat_map(|request| match request {
+            Ok(request) => written(owned::join_below(root, request), |out| {
+                request.join_below(root, out).map(Made::bytes)
+            }),
+            Err(RequestError::Nul) => vec!["!nul_in_request".to_string()],
+            Err(_) => vec!["!escapes".to_string()],
         })
-        .to_vec()
+        .collect()
 }
 
 fn component(bytes: &[u8]) -> Component<'_> {
@@ -90,7 +178,7 @@ fn parts(path: &[u8]) -> Vec<String> {
     while let Some(part) = rest.next() {
         assert_eq!(part, component(part.as_bytes()));
         assert!(left.starts_with(part.as_bytes()));
-        fields.extend(found(path, Some(&left[..part.as_bytes().len()])));
+        fields.extend(Some(&left[..part.as_bytes().len()]).fields(path));
         taken.push(part);
         left = rest.as_path();
     }
@@ -101,7 +189,7 @@ fn parts(path: &[u8]) -> Vec<String> {
 
 fn ancestors(path: &[u8]) -> Vec<String> {
     let fields: Vec<_> = paths::ancestors(path)
-        .map(|it| found(path, Some(it)))
+        .map(|it| Some(it).fields(path))
         .collect();
     assert!(fields.iter().all(|it| it[1] == "0"));
     fields.into_iter().map(|mut it| it.remove(0)).collect()
@@ -113,57 +201,79 @@ fn chunks(path: &[u8]) -> Vec<String> {
         .collect()
 }
 
-static CALLS: &[Call] = &[
-    ("components", 1, |a, _| parts(a)),
-    ("next_ancestor", 1, |a, _| ancestors(a)),
-    ("next_chunk", 1, |a, _| chunks(a)),
-    ("parent", 1, |a, _| found(a, paths::parent(a))),
-    ("file_name", 1, |a, _| found(a, paths::file_name(a))),
-    ("file_stem", 1, |a, _| found(a, paths::file_stem(a))),
-    ("extension", 1, |a, _| found(a, paths::extension(a))),
-    ("file_prefix", 1, |a, _| found(a, paths::file_prefix(a))),
-    ("strip_prefix", 2, |a, b| {
-        found(a, paths::strip_prefix(a, b))
-    }),
-    ("starts_with", 2, |a, b| truth(paths::starts_with(a, b))),
-    ("ends_with", 2, |a, b| truth(paths::ends_with(a, b))),
-    ("equal", 2, |a, b| truth(paths::equal(a, b))),
-    ("compare", 2, order),
-    ("hash", 1, |a, _| vec![format!("{:#018x}", paths::hash(a))]),
-    ("is_utf8", 1, |a, _| truth(paths::is_utf8(a))),
-    ("is_canonical", 1, |a, _| truth(paths::is_canonical(a))),
-    ("is_absolute", 1, |a, _| truth(paths::is_absolute(a))),
-    ("climbs", 1, |a, _| truth(paths::climbs(a))),
-    ("check_request", 1, |a, _| number(paths::check_request(a))),
-    ("common_dir", 2, |a, b| {
-        vec![paths::common_dir(a, b).len().to_string()]
-    }),
-    ("join", 2, |a, b| written(owned::join(a, b))),
-    ("with_file_name", 2, |a, b| {
-        written(owned::with_file_name(a, b))
-    }),
-    ("with_extension", 2, |a, b| {
-        written(owned::with_extension(a, b))
-    }),
-    ("with_added_extension", 2, |a, b| {
-        written(owned::with_added_extension(a, b))
-    }),
-    ("canonical", 1, |a, _| written(owned::canonical(a))),
-    ("to_string_lossy", 1, |a, _| {
-        written(owned::to_string_lossy(a).map(String::into_bytes))
-    }),
-    ("resolved", 1, |a, _| written(owned::resolved(a))),
-    ("join_plain", 2, |a, b| written(owned::join_plain(a, b))),
-    ("join_below", 2, below),
-    ("way", 2, |a, b| written(owned::way(a, b))),
-    ("key", 1, |a, _| written(owned::key(a))),
-    ("from_key", 1, |a, _| written(owned::from_key(a))),
-    ("key_end", 1, |a, _| key_end(a)),
-];
+/// The calls that are asked in a way of their own, and then those of each other shape.
+fn all_calls() -> Vec<Call> {
+    let mut calls: Vec<Call> = vec![
+        ("components", 1, |a, _| parts(a)),
+        ("next_ancestor", 1, |a, _| ancestors(a)),
+        ("next_chunk", 1, |a, _| chunks(a)),
+        ("compare", 2, order),
+        ("join_below", 2, below),
+    ];
+    macro_rules! of_one {
+        ($($name:ident $(-> $answer:ident)?;)*) => {
+            $(calls.push((stringify!($name), 1, |a, _| paths::$name(a).fields(a)));)*
+        };
+    }
+    macro_rules! of_two {
+        ($($name:ident $(-> $answer:ident)?;)*) => {
+            $(calls.push((stringify!($name), 2, |a, b| paths::$name(a, b).fields(a)));)*
+        };
+    }
+    macro_rules! made_of_one {
+        ($($name:ident;)*) => {
+            $(calls.push((stringify!($name), 1, |a, _| {
+                written(owned::$name(a), |out| paths::$name(a, out).map(Made::bytes))
+            }));)*
+        };
+    }
+    macro_rules! made_of_two {
+        ($($name:ident;)*) => {
+            $(calls.push((stringify!($name), 2, |a, b| {
+                written(owned::$name(a, b), |out| paths::$name(a, b, out).map(Made::bytes))
+            }));)*
+        };
+    }
+    find!(of_one);
+    ask!(of_one);
+    find_of_two!(of_two);
+    ask_two!(of_two);
+    make!(made_of_one);
+    make_of_two!(made_of_two);
+    calls
+}
 
 #[test]
 fn rows() {
-    ask_all(CALLS, &[]);
+    ask_all(&all_calls(), &[]);
+}
+
+#[test]
+fn owned_text_grows() {
+    let broken = [0xFF; 1_000];
+    let text = owned::to_string_lossy(&broken).unwrap();
+    assert_eq!(text, "\u{FFFD}".repeat(1_000));
+}
+
+#[test]
+fn errors_have_texts() {
+    let rows = [
+        (
+            Error::Short { needed: 4 },
+            "the buffer is too short for 4 bytes",
+        ),
+        (Error::Separator, "extension contains a separator"),
+        (Error::Escapes, "path leaves its root"),
+        (Error::Nul, "path has a NUL byte"),
+        (Error::NoMemory, "out of memory"),
+        (Error::NotAKey, "not the key of a path"),
+        (Error::NoWay, "no way from one path to the other"),
+    ];
+    for (error, want) in rows {
+        assert_eq!(error.to_string(), want);
+        let boxed: Box<dyn std::error::Error> = error.into();
+        assert_eq!(boxed.to_string(), want);
+    }
 }
 
 #[test]

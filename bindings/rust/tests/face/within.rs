@@ -1,8 +1,7 @@
-//! Paths from outside: all short strings beside a fold over their parts, and known bad requests.
+//! Paths from outside: all short strings beside a fold over their parts.
 use crate::short_strings::over;
 use unix_path_rattle::{
-    check_request, climbs, components, os, owned, starts_with, Component, Error, Request,
-    RequestError,
+    check_request, climbs, components, owned, starts_with, Component, Error, Request,
 };
 
 /// The parts that are kept where each `..` takes the name before it away.
@@ -127,60 +126,6 @@ fn joined_below() {
                 assert_eq!(owned::join_below(root, request).as_ref(), Ok(&want));
             }
         }
-    }
-}
-
-#[test]
-fn requests_below() {
-    let rows: [(&[u8], Result<&str, RequestError>); 6] = [
-        (b"/index.html", Ok("/www/index.html")),
-        (b"//etc/passwd", Ok("/www/etc/passwd")),
-        (b"a/../../www/x", Ok("/www/www/x")),
-        (b"..%2f..%2fetc", Ok("/www/..%2f..%2fetc")),
-        (b"..\\..\\etc", Ok("/www/..\\..\\etc")),
-        (b"shell.php\0.png", Err(RequestError::Nul)),
-    ];
-    for (path, want) in rows {
-        let joined = Request::below(path).map(|request| os::join_below("/www", request).unwrap());
-        assert_eq!(joined, want.map(Into::into));
-    }
-}
-
-/// An encoding is no `..`, and stays a name.
-#[test]
-fn bad_requests() {
-    let refused: [&[u8]; 10] = [
-        b"../../../../etc/passwd",
-        b"a/b/../../../etc/passwd",
-        b"./../etc/passwd",
-        b".//..//etc/passwd",
-        b"//etc/passwd",
-        b"/../etc/passwd",
-        b"/www/../etc/passwd",
-        b"a/../../www/x",
-        b"..",
-        b"../",
-    ];
-    for path in refused {
-        let want = match path[0] {
-            b'/' => RequestError::Rooted,
-            _ => RequestError::Climbs,
-        };
-        assert_eq!(Request::new(path).unwrap_err(), want);
-    }
-    let with_nul: [&[u8]; 2] = [b"..\0/etc", b"a\0/../etc"];
-    for path in with_nul {
-        assert_eq!(Request::new(path).unwrap_err(), RequestError::Nul);
-    }
-    let kept: [(&[u8], &[u8]); 4] = [
-        (b"..%2f..%2fetc/passwd", b"/www/..%2f..%2fetc/passwd"),
-        (b"....//....//etc", b"/www/..../..../etc"),
-        (b"..\\..\\etc", b"/www/..\\..\\etc"),
-        (b"\xC0\xAE\xC0\xAE/etc", b"/www/\xC0\xAE\xC0\xAE/etc"),
-    ];
-    for (path, want) in kept {
-        let request = Request::new(path).unwrap();
-        assert_eq!(owned::join_below(b"/www", request).as_deref(), Ok(want));
     }
 }
 

@@ -2,6 +2,7 @@
 //!
 //! This holds with any library; `answers.c` makes one that answers at random. `calls.rs` lists the
 //! calls by shape, and each call of a shape is tried.
+#[path = "../../src/ffi/calls.rs"]
 #[macro_use]
 mod calls;
 
@@ -89,12 +90,14 @@ fn ancestors_and_chunks() {
 fn places() {
     for _ in 0..ROUNDS {
         macro_rules! of_one {
-            ($($name:ident)*) => { $(assert!(lies_in(paths::$name(PATH).bytes(), PATH));)* };
+            ($($name:ident $(-> $answer:ident)?;)*) => {
+                $(assert!(lies_in(paths::$name(PATH).bytes(), PATH));)*
+            };
         }
         find!(of_one);
         ask!(of_one);
         macro_rules! of_two {
-            ($($name:ident)*) => {
+            ($($name:ident $(-> $answer:ident)?;)*) => {
                 $(assert!(lies_in(paths::$name(PATH, b"/a").bytes(), PATH));)*
             };
         }
@@ -122,11 +125,11 @@ fn buffers() {
             };
         }
         macro_rules! of_one {
-            ($($name:ident)*) => { $(assert!(is_inside!(paths::$name(PATH, &mut out)));)* };
+            ($($name:ident;)*) => { $(assert!(is_inside!(paths::$name(PATH, &mut out)));)* };
         }
         make!(of_one);
         macro_rules! of_two {
-            ($($name:ident)*) => { $(assert!(is_inside!(paths::$name(PATH, b"x", &mut out)));)* };
+            ($($name:ident;)*) => { $(assert!(is_inside!(paths::$name(PATH, b"x", &mut out)));)* };
         }
         make_of_two!(of_two);
         for request in [Request::new(PATH), Request::below(PATH)]
@@ -143,11 +146,13 @@ fn buffers() {
 fn memory_of_its_own() {
     for _ in 0..ROUNDS {
         macro_rules! of_one {
-            ($($name:ident)*) => { $(let _ = owned::$name(PATH).map(|made| made.bytes().len());)* };
+            ($($name:ident;)*) => {
+                $(let _ = owned::$name(PATH).map(|made| made.bytes().len());)*
+            };
         }
         make!(of_one);
         macro_rules! of_two {
-            ($($name:ident)*) => {
+            ($($name:ident;)*) => {
                 $(let _ = owned::$name(PATH, b"x").map(|made| made.bytes().len());)*
             };
         }

@@ -1,59 +1,116 @@
 //! The rows of `tests/rows.txt`, asked of the types.
+#[path = "../../../src/ffi/calls.rs"]
+#[macro_use]
+mod calls;
 #[path = "../../../tests/face/rows/reader.rs"]
 mod reader;
 
 use crate::strings::{bytes, ours};
 use reader::{ask_all, spelled, Call};
+use std::borrow::Cow;
+use std::cmp::Ordering;
 use std::panic::catch_unwind;
-use unix_path_typed::{Component, PathBuf, UnixStr};
+use unix_path_typed::{Component, Path, PathBuf, StripPrefixError, UnixStr};
 
-/// The calls of the library of which the types have no method.
-const LEFT_OUT: &[&str] = &[
-    "next_chunk",
-    "hash",
-    "is_canonical",
-    "climbs",
-    "check_request",
-    "common_dir",
-    "with_added_extension",
-    "resolved",
-    "join_plain",
-    "join_below",
-    "way",
-    "key",
-    "from_key",
-    "key_end",
-];
-
-fn truth(is_true: bool) -> Vec<String> {
-    vec![is_true.to_string()]
+/// What a method answers of a path.
+trait Answer {
+    /// The fields of a row.
+    fn fields(self, path: &[u8]) -> Vec<String>;
 }
 
-/// What was found in the path, and where.
-fn found<S: AsRef<UnixStr> + ?Sized>(path: &[u8], found: Option<&S>) -> Vec<String> {
-    let place = |bytes: &[u8]| bytes.as_ptr() as usize - path.as_ptr() as usize;
-    match found.map(bytes) {
-        Some(bytes) => vec![spelled(bytes), place(bytes).to_string()],
-        None => vec!["!none".to_string()],
+impl Answer for bool {
+    fn fields(self, _: &[u8]) -> Vec<String> {
+        vec![self.to_string()]
     }
 }
 
-fn written(path: PathBuf) -> Vec<String> {
-    vec![spelled(bytes(&path))]
+impl Answer for usize {
+    fn fields(self, _: &[u8]) -> Vec<String> {
+        vec![self.to_string()]
+    }
+}
+
+impl Answer for Ordering {
+    fn fields(self, _: &[u8]) -> Vec<String> {
+        vec![(self as i8).to_string()]
+    }
+}
+
+impl Answer for PathBuf {
+    fn fields(self, _: &[u8]) -> Vec<String> {
+        vec![spelled(bytes(&self))]
+    }
+}
+
+impl Answer for Cow<'_, str> {
+    fn fields(self, _: &[u8]) -> Vec<String> {
+        vec![spelled(self.as_bytes())]
+    }
+}
+
+/// What was found in the path, and where.
+impl<S: AsRef<UnixStr> + ?Sized> Answer for Option<&S> {
+    fn fields(self, path: &[u8]) -> Vec<String> {
+        let place = |bytes: &[u8]| bytes.as_ptr() as usize - path.as_ptr() as usize;
+        match self.map(bytes) {
+            Some(bytes) => vec![spelled(bytes), place(bytes).to_string()],
+            None => vec!["!none".to_string()],
+        }
+    }
+}
+
+impl Answer for Result<&Path, StripPrefixError> {
+    fn fields(self, path: &[u8]) -> Vec<String> {
+        self.ok().fields(path)
+    }
+}
+
+/// The calls that are operators of the types, or other methods.
+trait Renamed {
+    fn is_utf8(&self) -> bool;
+    fn equal(&self, other: &UnixStr) -> bool;
+    fn compare(&self, other: &UnixStr) -> Ordering;
+}
+
+impl Renamed for Path {
+    fn is_utf8(&self) -> bool {
+        self.to_str().is_some()
+    }
+
+    fn equal(&self, other: &UnixStr) -> bool {
+        self == Path::new(other)
+    }
+
+    /// The one from the other side and `==` have to know of it.
+    fn compare(&self, other: &UnixStr) -> Ordering {
+        let order = self.cmp(Path::new(other));
+        assert_eq!(Path::new(other).cmp(self), order.reverse());
+        assert_eq!(self.equal(other), order.is_eq());
+        order
+    }
+}
+
+/// Names the calls that the types lack, so that a row of another call is asked or isn't compiled.
+macro_rules! lacking {
+    ($($name:ident($($other:tt)?))*) => {
+        trait Lacking {
+            $(fn $name(&self $(, $other: &UnixStr)?) -> bool {
+                unreachable!()
+            })*
+        }
+        impl Lacking for Path {}
+        static LEFT_OUT: &[&str] = &["next_chunk", "join_below", $(stringify!($name)),*];
+    };
+}
+lacking! {
+    hash() is_canonical() climbs() check_request() common_dir(_) with_added_extension(_)
+    join_plain(_) way(_) resolved() key() from_key() key_end()
 }
 
 /// The path with that extension, of which a slash makes the method panic.
 fn with_extension(a: &[u8], b: &[u8]) -> Vec<String> {
-    catch_unwind(|| written(ours(a).with_extension(UnixStr::from_bytes(b))))
+    catch_unwind(|| ours(a).with_extension(UnixStr::from_bytes(b)).fields(a))
         .unwrap_or_else(|_| vec!["!separator".to_string()])
-}
-
-/// Their order, of which the one from the other side and `==` have to know.
-fn order(a: &[u8], b: &[u8]) -> Vec<String> {
-    let order = ours(a).cmp(ours(b));
-    assert_eq!(ours(b).cmp(ours(a)), order.reverse());
-    assert_eq!(ours(a) == ours(b), order.is_eq());
-    vec![(order as i8).to_string()]
 }
 
 fn component(bytes: &[u8]) -> Component<'_> {
@@ -74,7 +131,7 @@ fn parts(path: &[u8]) -> Vec<String> {
         assert_eq!(part, component(bytes(&part)));
         assert!(left.starts_with(bytes(&part)));
         let place = UnixStr::from_bytes(&left[..bytes(&part).len()]);
-        fields.extend(found(path, Some(place)));
+        fields.extend(Some(place).fields(path));
         taken.push(part);
         left = bytes(rest.as_path());
     }
@@ -86,41 +143,41 @@ fn parts(path: &[u8]) -> Vec<String> {
 fn ancestors(path: &[u8]) -> Vec<String> {
     let fields: Vec<_> = ours(path)
         .ancestors()
-        .map(|it| found(path, Some(it)))
+        .map(|it| Some(it).fields(path))
         .collect();
     assert!(fields.iter().all(|it| it[1] == "0"));
     fields.into_iter().map(|mut it| it.remove(0)).collect()
 }
 
-static CALLS: &[Call] = &[
-    ("components", 1, |a, _| parts(a)),
-    ("next_ancestor", 1, |a, _| ancestors(a)),
-    ("parent", 1, |a, _| found(a, ours(a).parent())),
-    ("file_name", 1, |a, _| found(a, ours(a).file_name())),
-    ("file_stem", 1, |a, _| found(a, ours(a).file_stem())),
-    ("extension", 1, |a, _| found(a, ours(a).extension())),
-    ("file_prefix", 1, |a, _| found(a, ours(a).file_prefix())),
-    ("strip_prefix", 2, |a, b| {
-        found(a, ours(a).strip_prefix(ours(b)).ok())
-    }),
-    ("starts_with", 2, |a, b| truth(ours(a).starts_with(ours(b)))),
-    ("ends_with", 2, |a, b| truth(ours(a).ends_with(ours(b)))),
-    ("equal", 2, |a, b| truth(ours(a) == ours(b))),
-    ("compare", 2, order),
-    ("is_utf8", 1, |a, _| truth(ours(a).to_str().is_some())),
-    ("is_absolute", 1, |a, _| truth(ours(a).is_absolute())),
-    ("join", 2, |a, b| written(ours(a).join(ours(b)))),
-    ("with_file_name", 2, |a, b| {
-        written(ours(a).with_file_name(UnixStr::from_bytes(b)))
-    }),
-    ("with_extension", 2, with_extension),
-    ("canonical", 1, |a, _| written(ours(a).canonical())),
-    ("to_string_lossy", 1, |a, _| {
-        vec![spelled(ours(a).to_string_lossy().as_bytes())]
-    }),
-];
+/// The calls that are asked in a way of their own, and then those of each other shape.
+fn all_calls() -> Vec<Call> {
+    let mut calls: Vec<Call> = vec![
+        ("components", 1, |a, _| parts(a)),
+        ("next_ancestor", 1, |a, _| ancestors(a)),
+        ("with_extension", 2, with_extension),
+    ];
+    macro_rules! of_one {
+        ($($name:ident $(-> $answer:ident)?;)*) => {
+            $(calls.push((stringify!($name), 1, |a, _| ours(a).$name().fields(a)));)*
+        };
+    }
+    macro_rules! of_two {
+        ($($name:ident $(-> $answer:ident)?;)*) => {
+            $(calls.push((stringify!($name), 2, |a, b| {
+                ours(a).$name(UnixStr::from_bytes(b)).fields(a)
+            }));)*
+        };
+    }
+    find!(of_one);
+    ask!(of_one);
+    make!(of_one);
+    find_of_two!(of_two);
+    ask_two!(of_two);
+    make_of_two!(of_two);
+    calls
+}
 
 #[test]
 fn rows() {
-    ask_all(CALLS, LEFT_OUT);
+    ask_all(&all_calls(), LEFT_OUT);
 }

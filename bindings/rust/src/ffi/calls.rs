@@ -1,11 +1,12 @@
 // tools/calls made this file from the exports of crates/unix_path_c/src: the calls by shape.
 //
-// Each macro passes the names of the calls of its shape to another macro.
+// Each macro passes the names of the calls of its shape to another macro, with the types of
+// the answers of questions.
 #[allow(unused_macros)]
 macro_rules! begin {
     ($each:ident) => {
         $each! {
-            components
+            components;
         }
     };
 }
@@ -14,8 +15,8 @@ macro_rules! begin {
 macro_rules! step {
     ($each:ident) => {
         $each! {
-            next
-            next_back
+            next;
+            next_back;
         }
     };
 }
@@ -24,7 +25,7 @@ macro_rules! step {
 macro_rules! left {
     ($each:ident) => {
         $each! {
-            as_path
+            as_path;
         }
     };
 }
@@ -33,7 +34,7 @@ macro_rules! left {
 macro_rules! next_place {
     ($each:ident) => {
         $each! {
-            next_ancestor
+            next_ancestor;
         }
     };
 }
@@ -42,7 +43,7 @@ macro_rules! next_place {
 macro_rules! next_chunk {
     ($each:ident) => {
         $each! {
-            next_chunk
+            next_chunk;
         }
     };
 }
@@ -51,11 +52,11 @@ macro_rules! next_chunk {
 macro_rules! find {
     ($each:ident) => {
         $each! {
-            parent
-            file_name
-            file_stem
-            extension
-            file_prefix
+            parent;
+            file_name;
+            file_stem;
+            extension;
+            file_prefix;
         }
     };
 }
@@ -64,7 +65,7 @@ macro_rules! find {
 macro_rules! find_of_two {
     ($each:ident) => {
         $each! {
-            strip_prefix
+            strip_prefix;
         }
     };
 }
@@ -73,11 +74,11 @@ macro_rules! find_of_two {
 macro_rules! ask_two {
     ($each:ident) => {
         $each! {
-            starts_with
-            ends_with
-            equal
-            compare
-            common_dir
+            starts_with -> bool;
+            ends_with -> bool;
+            equal -> bool;
+            compare -> i32;
+            common_dir -> usize;
         }
     };
 }
@@ -86,12 +87,12 @@ macro_rules! ask_two {
 macro_rules! ask {
     ($each:ident) => {
         $each! {
-            hash
-            is_utf8
-            is_canonical
-            is_absolute
-            climbs
-            check_request
+            hash -> u64;
+            is_utf8 -> bool;
+            is_canonical -> bool;
+            is_absolute -> bool;
+            climbs -> bool;
+            check_request -> i32;
         }
     };
 }
@@ -100,12 +101,12 @@ macro_rules! ask {
 macro_rules! make_of_two {
     ($each:ident) => {
         $each! {
-            join
-            with_file_name
-            with_extension
-            with_added_extension
-            join_plain
-            way
+            join;
+            with_file_name;
+            with_extension;
+            with_added_extension;
+            join_plain;
+            way;
         }
     };
 }
@@ -114,12 +115,12 @@ macro_rules! make_of_two {
 macro_rules! make {
     ($each:ident) => {
         $each! {
-            canonical
-            to_string_lossy
-            resolved
-            key
-            from_key
-            key_end
+            canonical;
+            to_string_lossy;
+            resolved;
+            key;
+            from_key;
+            key_end;
         }
     };
 }
@@ -128,7 +129,7 @@ macro_rules! make {
 macro_rules! make_of_two_as {
     ($each:ident) => {
         $each! {
-            join_below
+            join_below;
         }
     };
 }
