@@ -11,6 +11,16 @@ use std::alloc::{AllocError, Global};
 use unix_bytes::buffers::write_at;
 use unix_path::{Path, PathBuf};
 
+// Returns the path resolved lexically. Not inlined, so that callers whose path mostly is resolved as
+// it is spelled stay small.
+#[inline(never)]
+fn resolved_anew(alloc: Global, path: Path<'_>) -> Result<PathBuf, AllocError>
+    ensures bytes { IfOk result (λ p. path_bytes p ≡ resolved_bytes_of path.entry.bytes.now) }
+    ensures succeeds { path.entry.bytes.now ≡ [] → IsOk result }
+{
+    Layout::of(path).to_path_buf(alloc)
+}
+
 /// Returns the path resolved lexically, in canonical spelling: each `..` takes away the name before
 /// it.
 ///
@@ -30,7 +40,7 @@ pub fn resolved(alloc: Global, path: Path<'_>) -> Result<PathBuf, AllocError>
     if is_spelled_resolved(path) {
         return path.to_path_buf(alloc);
     }
-    Layout::of(path).to_path_buf(alloc)
+    resolved_anew(alloc, path)
 }
 
 /// Writes the path resolved lexically to the beginning of `out`, and returns its length.

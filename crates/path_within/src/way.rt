@@ -84,7 +84,7 @@ fn plain_steps<'a>(from: Path<'_>, to: Path<'a>) -> Layout<'a>
         ≡ way_of (values from.entry.bytes.now) (values to.entry.bytes.now) }
 {
     let (left, onward) = past_shared(from, to);
-    Layout::after_ups(part_count(left), Layout::names_found(onward))
+    Layout::after_ups(part_count(left), Layout::names_of(onward, is_plain(onward)))
 }
 
 // Takes the last `count` names that a walk has left, and returns how many bytes they have, with a
