@@ -11,8 +11,8 @@ use std::alloc::{AllocError, Global};
 use unix_bytes::buffers::write_at;
 use unix_path::{Path, PathBuf};
 
-// Returns the path resolved lexically. Not inlined, so that callers whose path mostly is resolved as
-// it is spelled stay small.
+// Returns the path resolved lexically. Not inlined, so that callers whose path mostly is resolved
+// as it is spelled stay small.
 #[inline(never)]
 fn resolved_anew(alloc: Global, path: Path<'_>) -> Result<PathBuf, AllocError>
     ensures bytes { IfOk result (λ p. path_bytes p ≡ resolved_bytes_of path.entry.bytes.now) }

@@ -1,7 +1,6 @@
 -- Which bytes of a path are filler, and where a piece `..` stands.
-use Rattle.std.specs.Prelude.{◌≡◌, ◌<◌, ℕ, ◌+◌, ◌-◌, nat_lt, ◌==◌, Bool, false, ◌||◌, ◌&&◌}
-use Rattle.std.specs.Prelude.{List, [], ◌∷◌, length}
-use Rattle.std.specs.Prelude.{slice_index, slice_index_or, Option, Some, None}
+use Rattle.std.specs.Prelude.{◌≡◌, ◌<◌, ℕ, ◌+◌, ◌-◌, nat_lt, ◌==◌, Bool, false, ◌||◌, ◌&&◌, List}
+use Rattle.std.specs.Prelude.{[], ◌∷◌, length, slice_index, slice_index_or, Option, Some, None}
 use Rattle.unix_path.specs.Parts.{slash, dot}
 
 -- the byte at i is a slash, or a `.` that a slash or the end follows

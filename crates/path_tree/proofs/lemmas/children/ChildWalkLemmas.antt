@@ -25,17 +25,15 @@ use Rattle.path_tree.specs.Children.{child_row, children_of, is_below}
 use Rattle.path_tree.specs.Read.{is_own, key_values}
 use Rattle.path_tree.specs.Rows.{Key, key_rows}
 use Rattle.path_tree.proofs.lemmas.children.ChildLemmas.{ChildKey, children-fresh, fresh}
-use Rattle.path_tree.proofs.lemmas.children.ChildLemmas.{goes_on_in, is_behind}
-use Rattle.path_tree.proofs.lemmas.children.ChildLemmas.{le_less, new_child, none_left, pass_child}
-use Rattle.path_tree.proofs.lemmas.children.ChildLemmas.{stays_behind}
+use Rattle.path_tree.proofs.lemmas.children.ChildLemmas.{goes_on_in, is_behind, le_less, new_child}
+use Rattle.path_tree.proofs.lemmas.children.ChildLemmas.{none_left, pass_child, stays_behind}
 use Rattle.path_tree.proofs.lemmas.rows.DifferenceLemmas.{some_append}
 use Rattle.path_tree.proofs.lemmas.rows.ManyLemmas.{starts_with-under}
 use Rattle.path_tree.proofs.lemmas.keys.RowLemmas.{AllOwn, Own, all_own, keys_cmp}
 use Rattle.path_tree.proofs.lemmas.keys.UnderLemmas.{between-under, key_begins, values_begin}
 use Rattle.path_tree.proofs.lemmas.rows.WalkLemmas.{all_kept, all_rest, filter-suffix, filter_alike}
 use Rattle.path_tree.proofs.lemmas.rows.WalkLemmas.{kept_pass, length-filter_le, sorted_first}
-use Rattle.path_tree.proofs.lemmas.rows.WalkLemmas.{sorted_rest}
-use Rattle.path_tree.proofs.lemmas.rows.WalkLemmas.{suffix-filter}
+use Rattle.path_tree.proofs.lemmas.rows.WalkLemmas.{sorted_rest, suffix-filter}
 
 -- what a test of bytes tells, of the same bytes by other names
 pub begins_by : (key base k b : List ℕ) (t : Bool) → t ≡ starts_with eqb key base → key ≡ k

@@ -1,9 +1,7 @@
 -- A walk over sorted entries beside keys that rise: what it passes is found at no later key.
-use Rattle.std.proofs.Common.{◌≡◌, ◌∙◌, ℕ, cond, List, [], ◌∷◌, Option, Some, None, true, false}
-use Rattle.std.proofs.Common.{ap, refl, sym, subst, is_gt}
-use Rattle.std.proofs.Common.{Ordering, Less, Equal, Greater}
-use Rattle.std.proofs.lemmas.Cmp.{alike_right, nat_list_cmp_total, on_total, tied_back}
-use Rattle.std.proofs.lemmas.Cmp.{tied_itself}
+use Rattle.std.proofs.Common.{◌≡◌, ◌∙◌, ℕ, cond, List, [], ◌∷◌, Option, Some, None, true, false, ap}
+use Rattle.std.proofs.Common.{refl, sym, subst, is_gt, Ordering, Less, Equal, Greater}
+use Rattle.std.proofs.lemmas.Cmp.{alike_right, nat_list_cmp_total, on_total, tied_back, tied_itself}
 use Rattle.std.proofs.lemmas.List.Elements.{All-tail}
 use Rattle.std.specs.Borrow.{Bor}
 use Rattle.std.specs.Cmp.{IsTotalOrder}
@@ -84,10 +82,6 @@ at_values : {V : Type 0} (key : Key) (es : List (Key × V)) → is_own key.items
     → finds_at items_of key es ≡ value_at (key_values key.items) (key_rows es)
 at_values key es own all =
     lookup-rows_by items_of key.items (key_values key.items) (own-stands key.items own) es all
-
--- at first all is alike
-pub alike_first : {V : Type 0} (key : Key) (es : List (Key × V)) → FindsAlike key es es
-alike_first key es q later = refl
 
 module _ {V : Type 0} (key : Key) (old : List (Key × V)) (e : Key × V) (es : List (Key × V))
     (h : FindsAlike key old (e ∷ es)) where

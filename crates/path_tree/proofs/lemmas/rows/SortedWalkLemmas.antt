@@ -1,7 +1,6 @@
 -- Entries that are listed for items that rise, and the map that is made of them.
 use Rattle.std.proofs.Common.{◌≡◌, ◌∙◌, ⊎_elim, ℕ, Bool, true, false, List, [], ◌∷◌, ◌++◌, ap, ap₂}
-use Rattle.std.proofs.Common.{map, refl, subst, sym, Option, Some}
-use Rattle.std.proofs.Common.{Ordering, Less, Equal, Greater}
+use Rattle.std.proofs.Common.{map, refl, subst, sym, Option, Some, Ordering, Less, Equal, Greater}
 use Rattle.std.proofs.lemmas.Cmp.{eq_by_cmp_equiv, nat_list_cmp_total, on_total}
 use Rattle.std.proofs.lemmas.List.Elements.{All-from_recursion}
 use Rattle.std.proofs.lemmas.Map.Keys.{IsDistinct-from_sorted}

@@ -1,7 +1,6 @@
 -- The cuts that edits make.
-use Rattle.std.proofs.Common.{◌≡◌, ℕ, List, [], ◌∷◌, ◌++◌, length, take, refl}
-use Rattle.std.proofs.Common.{Option, Some, None, is_some, option_map, unwrap_or, true, false}
-use Rattle.std.proofs.Common.{sym, ap, ◌∙◌}
+use Rattle.std.proofs.Common.{◌≡◌, ℕ, List, [], ◌∷◌, ◌++◌, length, take, refl, Option, Some, None}
+use Rattle.std.proofs.Common.{is_some, option_map, unwrap_or, true, false, sym, ap, ◌∙◌}
 use Rattle.std.proofs.Math.Dec.{eqb-suc-zero}
 use Rattle.std.specs.Option.{option_map_or}
 use Rattle.unix_path.specs.Parts.{values}

@@ -2,8 +2,7 @@
 use Rattle.std.proofs.Common.{◌≡◌, ℕ, ◌<◌, Bool, true, false, not, eqb, ◌&&◌, ◌||◌, List, length}
 use Rattle.std.proofs.Common.{get_or, refl, sym}
 use Rattle.unix_bytes.proofs.lemmas.vectors.TestLaneLemmas.{tested, both, either, Tells}
-use Rattle.unix_bytes.proofs.lemmas.vectors.TestLaneLemmas.{Tells-tested, Tells-both}
-use Rattle.unix_bytes.proofs.lemmas.vectors.TestLaneLemmas.{Tells-either}
+use Rattle.unix_bytes.proofs.lemmas.vectors.TestLaneLemmas.{Tells-tested, Tells-both, Tells-either}
 
 -- byte x is neither a slash nor a dot beside a slash y
 abbrev pub stops : ℕ → ℕ → Bool

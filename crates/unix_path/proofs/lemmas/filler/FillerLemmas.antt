@@ -9,11 +9,9 @@ use Rattle.std.proofs.lemmas.Bool.{or_cases, or_parts, and_parts}
 use Rattle.unix_bytes.proofs.lemmas.lists.ListLemmas.{by_test}
 use Rattle.unix_path.proofs.lemmas.parts.PartLemmas.{leading_part-name, nonempty_first_piece}
 use Rattle.unix_path.proofs.lemmas.parts.PieceLemmas.{inner_parts-dot, inner_parts-dot_slash}
-use Rattle.unix_path.proofs.lemmas.parts.PieceLemmas.{inner_parts-first}
-use Rattle.unix_path.proofs.lemmas.parts.PieceLemmas.{inner_parts-nil}
+use Rattle.unix_path.proofs.lemmas.parts.PieceLemmas.{inner_parts-first, inner_parts-nil}
 use Rattle.unix_path.proofs.lemmas.parts.PieceLemmas.{inner_parts-slash, first_piece}
-use Rattle.unix_path.proofs.lemmas.parts.PieceLemmas.{first_piece-other}
-use Rattle.unix_path.proofs.lemmas.parts.PieceLemmas.{first_piece-slash}
+use Rattle.unix_path.proofs.lemmas.parts.PieceLemmas.{first_piece-other, first_piece-slash}
 use Rattle.unix_path.specs.Parts.{CurDir, inner_parts, cur_dir, is_slash, leading_part, parts, Part}
 use Rattle.unix_path.specs.Parts.{value_of_piece, values}
 use Rattle.unix_path.specs.Scan.{is_filler}

@@ -1,10 +1,9 @@
 -- A path cut at its file name.
 use Rattle.std.proofs.Common.{◌≡◌, ℕ, zero, suc, ◌+◌, ◌-◌, ◌≤◌, ◌<◌, Bool, true, false, cond, eqb}
-use Rattle.std.proofs.Common.{ltb, ap₂, take_all}
-use Rattle.std.proofs.Common.{List, [], ◌∷◌, ◌++◌, length, take, drop, get_or, map, Some, refl, sym}
-use Rattle.std.proofs.Common.{ap}
-use Rattle.std.proofs.Common.{subst, ◌∙◌, arith, length-append, length-take-le, take-append-drop}
-use Rattle.std.proofs.Common.{get_or-take, eq-eqb, ltb-true, ltb-false, length-drop}
+use Rattle.std.proofs.Common.{ltb, ap₂, take_all, List, [], ◌∷◌, ◌++◌, length, take, drop, get_or}
+use Rattle.std.proofs.Common.{map, Some, refl, sym, ap, subst, ◌∙◌, arith, length-append}
+use Rattle.std.proofs.Common.{length-take-le, take-append-drop, get_or-take, eq-eqb, ltb-true}
+use Rattle.std.proofs.Common.{ltb-false, length-drop}
 use Rattle.std.specs.List.{position_or_len}
 use Rattle.std.specs.Str.{bytes_eq}
 use Rattle.std.proofs.lemmas.List.{map-append, get_or_default, nil_from_length, drop_all}

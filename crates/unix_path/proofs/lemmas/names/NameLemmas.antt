@@ -1,8 +1,7 @@
 -- The last dot of a file name, and the stem before it.
 use Rattle.std.proofs.Common.{◌≡◌, ◌==◌, ℕ, ◌-◌, ◌≤◌, ◌<◌, Bool, true, false, not, List, length}
-use Rattle.std.proofs.Common.{ltb}
-use Rattle.std.proofs.Common.{take, drop, get_or, Some, None, refl, sym, ap, arith, le-ltb, lt-ltb}
-use Rattle.std.proofs.Common.{◌+◌, ◌∙◌, eq-eqb, get_or-drop, length-drop}
+use Rattle.std.proofs.Common.{ltb, take, drop, get_or, Some, None, refl, sym, ap, arith, le-ltb}
+use Rattle.std.proofs.Common.{lt-ltb, ◌+◌, ◌∙◌, eq-eqb, get_or-drop, length-drop}
 use Rattle.std.specs.List.{position_or_len}
 use Rattle.std.proofs.Math.Seq.{take-length}
 use Rattle.std.proofs.lemmas.List.Sums.{fails_before_first, suffix_len_is}

@@ -27,8 +27,7 @@ use Rattle.unix_path.proofs.lemmas.steps.SpanLemmas.{length-rest_whole, parts_en
 use Rattle.unix_path.proofs.lemmas.steps.SpanLemmas.{rest-trimmed, trims_end}
 use Rattle.unix_path.proofs.lemmas.names.StemLemmas.{length-rest_whole-le}
 use Rattle.unix_path.proofs.lemmas.filler.TrimLemmas.{parts_shorter}
-use Rattle.unix_path.proofs.lemmas.parts.ValueLemmas.{first_value, name_of-some}
-use Rattle.unix_path.proofs.lemmas.parts.ValueLemmas.{value_bytes-first}
+use Rattle.unix_path.proofs.lemmas.parts.ValueLemmas.{first_value, name_of-some, value_bytes-first}
 use Rattle.unix_path.proofs.lemmas.parts.PlaceLemmas.{parts_end}
 
 -- the last piece of s is its file name

@@ -67,11 +67,6 @@ pub file_name_of-push : (s w : List ℕ) (v : Value) → values s ≡ values w +
     → name_of v ≡ file_name_of (values s)
 file_name_of-push s w v is = sym (ap file_name_of is ∙ file_name_of-last (values w) v)
 
--- if there is no file name, the path without it is all of the path
-pub before_name_of-none : (s : List ℕ) → None ≡ file_name_of (values s) → s ≡ before_name_of s
-unfolding before_name_of
-before_name_of-none s e = ap (λ o. cond (is_some o) (rest s 0 1) s) e
-
 -- if there is a file name, the path without it is what is left before the last part
 pub before_name_of-some : (s name : List ℕ) → Some name ≡ file_name_of (values s)
     → rest s 0 1 ≡ before_name_of s

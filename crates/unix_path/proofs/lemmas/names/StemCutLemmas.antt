@@ -16,14 +16,11 @@ use Rattle.unix_path.proofs.lemmas.steps.LastLemmas.{IsLastStart}
 use Rattle.unix_bytes.proofs.lemmas.lists.ListLemmas.{by_test}
 use Rattle.unix_path.proofs.lemmas.names.NameEndLemmas.{name_end_of-some}
 use Rattle.unix_path.proofs.lemmas.names.NameLemmas.{is_dot, past_last-is, split_name-cut}
-use Rattle.unix_path.proofs.lemmas.names.NameLemmas.{split_name-stem}
-use Rattle.unix_path.proofs.lemmas.names.NameLemmas.{split_name-whole}
+use Rattle.unix_path.proofs.lemmas.names.NameLemmas.{split_name-stem, split_name-whole}
 use Rattle.unix_path.proofs.lemmas.names.NamedLemmas.{EndsInName, ends_in_name, last_start_same}
-use Rattle.unix_path.proofs.lemmas.names.NamedLemmas.{parts-named}
-use Rattle.unix_path.proofs.lemmas.names.NamedLemmas.{piece_slash}
+use Rattle.unix_path.proofs.lemmas.names.NamedLemmas.{parts-named, piece_slash}
 use Rattle.unix_path.proofs.lemmas.names.StemLemmas.{length-name, length-rest_whole-le}
-use Rattle.unix_path.proofs.lemmas.names.StemLemmas.{stem_end_of-none}
-use Rattle.unix_path.proofs.lemmas.names.StemLemmas.{stem_end_of-some}
+use Rattle.unix_path.proofs.lemmas.names.StemLemmas.{stem_end_of-none, stem_end_of-some}
 
 -- each byte of s from n on is ordinary: neither a dot nor a slash
 abbrev pub OrdinaryFrom : List ℕ → ℕ → Type 0

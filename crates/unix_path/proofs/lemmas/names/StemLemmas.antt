@@ -1,16 +1,14 @@
 -- Where the stem of a file name ends.
-use Rattle.std.proofs.Common.{◌≡◌, ℕ, ◌+◌, ◌-◌, ◌≤◌, List, [], ◌∷◌, ◌++◌}
-use Rattle.std.proofs.Common.{length, map, Option, Some, None, option_map, refl, sym, ap}
-use Rattle.std.proofs.Common.{subst, ◌∙◌, arith}
+use Rattle.std.proofs.Common.{◌≡◌, ℕ, ◌+◌, ◌-◌, ◌≤◌, List, [], ◌∷◌, ◌++◌, length, map, Option, Some}
+use Rattle.std.proofs.Common.{None, option_map, refl, sym, ap, subst, ◌∙◌, arith}
 use Rattle.std.specs.Option.{option_map_or}
 use Rattle.std.specs.List.{AllByRecursion, before_first, slice_split}
 use Rattle.std.specs.Str.{bytes_eq}
 use Rattle.std.proofs.lemmas.List.{map-append, length-take}
 use Rattle.std.proofs.lemmas.Option.{none-some}
-use Rattle.unix_path.specs.Parts.{Part, Normal, value_bytes}
-use Rattle.unix_path.specs.Parts.{is_slash, cur_dir, counts, parts_of_pieces}
-use Rattle.unix_path.specs.Parts.{inner_parts, leading_part, parts}
-use Rattle.unix_path.specs.Parts.{values, is_rooted}
+use Rattle.unix_path.specs.Parts.{Part, Normal, value_bytes, is_slash, cur_dir, counts}
+use Rattle.unix_path.specs.Parts.{parts_of_pieces, inner_parts, leading_part, parts, values}
+use Rattle.unix_path.specs.Parts.{is_rooted}
 use Rattle.unix_path.specs.Rest.{rest}
 use Rattle.unix_path.proofs.lemmas.parts.PlaceLemmas.{parts_end}
 use Rattle.unix_path.specs.Names.{name_of, file_name_of, split_name}

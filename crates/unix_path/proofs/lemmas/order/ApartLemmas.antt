@@ -18,14 +18,12 @@ use Rattle.unix_path.specs.Parts.{values}
 use Rattle.unix_path.specs.Scan.{is_filler}
 use Rattle.unix_path.specs.Steps.{begins_piece, piece_rank, AreApart}
 use Rattle.unix_path.proofs.lemmas.order.BehindLemmas.{begins_past}
-use Rattle.unix_path.proofs.lemmas.order.CommonPrefixLemmas.{take-common}
-use Rattle.unix_path.proofs.lemmas.order.CommonPrefixLemmas.{take-past_slash, values_cmp-common}
-use Rattle.unix_path.proofs.lemmas.order.CommonPrefixLemmas.{values-past_slash}
+use Rattle.unix_path.proofs.lemmas.order.CommonPrefixLemmas.{take-common, take-past_slash}
+use Rattle.unix_path.proofs.lemmas.order.CommonPrefixLemmas.{values_cmp-common, values-past_slash}
 use Rattle.unix_path.proofs.lemmas.order.DifferLemmas.{Counts, counts_from, head_rank-drop}
 use Rattle.unix_path.proofs.lemmas.order.DifferLemmas.{value_cmp-pieces}
 use Rattle.unix_path.proofs.lemmas.filler.FillerLemmas.{first_piece_dot, first_piece_empty}
-use Rattle.unix_path.proofs.lemmas.filler.FillerLemmas.{inner_parts_busy}
-use Rattle.unix_path.proofs.lemmas.filler.FillerLemmas.{parts-busy}
+use Rattle.unix_path.proofs.lemmas.filler.FillerLemmas.{inner_parts_busy, parts-busy}
 use Rattle.unix_path.proofs.lemmas.steps.LastLemmas.{last_start, IsLastStart}
 use Rattle.unix_path.proofs.lemmas.parts.PartLemmas.{values-nil}
 use Rattle.unix_path.proofs.lemmas.parts.PieceLemmas.{first_piece, first_piece-other}

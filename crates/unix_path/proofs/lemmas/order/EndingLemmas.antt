@@ -1,14 +1,12 @@
 -- The last bytes of two strings tell whether both end in the same part.
-use Rattle.std.proofs.Common.{◌≡◌, ℕ, ◌-◌, ◌<◌, ◌≤◌, true, List, [], ◌∷◌, ◌++◌}
-use Rattle.std.proofs.Common.{length, get_or, take, drop, map, sym, ap, ◌∙◌, subst, arith}
-use Rattle.std.proofs.Common.{get_or-drop, length-drop}
+use Rattle.std.proofs.Common.{◌≡◌, ℕ, ◌-◌, ◌<◌, ◌≤◌, true, List, [], ◌∷◌, ◌++◌, length, get_or}
+use Rattle.std.proofs.Common.{take, drop, map, sym, ap, ◌∙◌, subst, arith, get_or-drop, length-drop}
 use Rattle.std.specs.List.{position_or_len}
 use Rattle.std.proofs.lemmas.List.{map-append}
 use Rattle.std.proofs.lemmas.List.Sums.{fails_before_first}
 use Rattle.unix_path.specs.Parts.{Part, is_slash, parts, value_bytes, values}
 use Rattle.unix_path.specs.Prefixes.{Ends}
-use Rattle.unix_path.specs.Steps.{begins_piece, EndsInPiece, SameEnd}
-use Rattle.unix_path.specs.Steps.{SharesEnd}
+use Rattle.unix_path.specs.Steps.{begins_piece, EndsInPiece, SameEnd, SharesEnd}
 use Rattle.unix_path.proofs.lemmas.steps.LastLemmas.{last_part, last_start, IsLastStart}
 use Rattle.unix_path.proofs.lemmas.lists.SuffixLemmas.{ends_last}
 use Rattle.unix_path.proofs.lemmas.parts.ValueLemmas.{first_value, value_bytes-first}

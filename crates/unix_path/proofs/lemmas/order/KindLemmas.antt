@@ -8,8 +8,7 @@ use Rattle.std.proofs.lemmas.Bool.{false≢true}
 use Rattle.std.proofs.lemmas.Cmp.{tied_itself, nat_cmp_total}
 use Rattle.unix_path.specs.Order.{rank, value_cmp, values_cmp}
 use Rattle.unix_path.specs.Pairs.{first_rank}
-use Rattle.unix_path.specs.Parts.{Part, Value}
-use Rattle.unix_path.specs.Parts.{value_bytes, values}
+use Rattle.unix_path.specs.Parts.{Part, Value, value_bytes, values}
 use Rattle.unix_path.specs.Prefixes.{Begins}
 use Rattle.unix_path.specs.Scan.{begins_with_parent, is_filler}
 use Rattle.unix_path.specs.Steps.{piece_rank, AreApart, DiffersAtStart}
@@ -17,8 +16,7 @@ use Rattle.unix_path.proofs.lemmas.order.ApartLemmas.{apart-values, ranks_end}
 use Rattle.unix_path.proofs.lemmas.order.DifferLemmas.{head_rank-drop, slice_cmp-heads}
 use Rattle.unix_path.proofs.lemmas.steps.LeadLemmas.{first_value-name, parts-dot_first}
 use Rattle.unix_path.proofs.lemmas.steps.LeadLemmas.{parts-parent_first}
-use Rattle.unix_path.proofs.lemmas.parts.PartLemmas.{parts-name, parts-root}
-use Rattle.unix_path.proofs.lemmas.parts.PartLemmas.{values-nil}
+use Rattle.unix_path.proofs.lemmas.parts.PartLemmas.{parts-name, parts-root, values-nil}
 use Rattle.unix_path.proofs.lemmas.parts.PieceLemmas.{first_piece, first_piece-other}
 use Rattle.unix_path.proofs.lemmas.lists.PrefixLemmas.{begins_tail}
 use Rattle.unix_path.proofs.lemmas.parts.ValueLemmas.{first_value, value_bytes-first}

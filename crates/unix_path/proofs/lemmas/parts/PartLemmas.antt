@@ -8,12 +8,10 @@ use Rattle.std.proofs.lemmas.Slice.Eq.{bytes_eq-Decides}
 use Rattle.std.proofs.lemmas.List.{drop_all, nil_from_length}
 use Rattle.unix_bytes.proofs.lemmas.lists.ListLemmas.{by_test}
 use Rattle.unix_path.proofs.lemmas.parts.PieceLemmas.{inner_parts-first, inner_parts-slash}
-use Rattle.unix_path.proofs.lemmas.parts.PieceLemmas.{parts_of_piece}
-use Rattle.unix_path.proofs.lemmas.parts.PieceLemmas.{first_piece, first_piece-other}
-use Rattle.unix_path.proofs.lemmas.parts.PieceLemmas.{length-first_piece}
-use Rattle.unix_path.specs.Parts.{Value, parent_dir, is_rooted, CurDir, Part}
-use Rattle.unix_path.specs.Parts.{RootDir, inner_parts, cur_dir, is_slash}
-use Rattle.unix_path.specs.Parts.{leading_part, parts, value_of_piece, values}
+use Rattle.unix_path.proofs.lemmas.parts.PieceLemmas.{parts_of_piece, first_piece}
+use Rattle.unix_path.proofs.lemmas.parts.PieceLemmas.{first_piece-other, length-first_piece}
+use Rattle.unix_path.specs.Parts.{Value, parent_dir, is_rooted, CurDir, Part, RootDir, inner_parts}
+use Rattle.unix_path.specs.Parts.{cur_dir, is_slash, leading_part, parts, value_of_piece, values}
 use Rattle.unix_path.specs.Rest.{rest, span_of}
 use Rattle.unix_path.proofs.lemmas.parts.ValueLemmas.{first_value}
 

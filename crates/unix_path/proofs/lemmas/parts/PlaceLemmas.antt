@@ -1,6 +1,5 @@
 -- If a string is moved, the places of its parts move with it, and the values stay.
-use Rattle.std.proofs.Common.{◌≡◌, ℕ, ◌+◌, List, [], ◌∷◌, length, map, refl}
-use Rattle.std.proofs.Common.{ap, ap₂, ◌∙◌, arith}
+use Rattle.std.proofs.Common.{◌≡◌, ℕ, ◌+◌, List, [], ◌∷◌, length, map, refl, ap, ap₂, ◌∙◌, arith}
 use Rattle.std.specs.List.{slice_split}
 use Rattle.unix_bytes.proofs.lemmas.lists.ListLemmas.{by_test}
 use Rattle.unix_path.specs.Parts.{Part, inner_parts, counts, is_slash, parts_of_pieces}

@@ -1,16 +1,15 @@
 -- What a rest leaves, and what is left of that.
-use Rattle.std.proofs.Common.{◌≡◌, ℕ, zero, suc, ◌+◌, ◌-◌, ◌≤◌, ltb, List, [], length, take, drop}
+use Rattle.std.proofs.Common.{◌≡◌, ℕ, zero, suc, ◌+◌, ◌-◌, ◌≤◌, ltb, List, length, take, drop}
 use Rattle.std.proofs.Common.{map, refl, sym, ap, ◌∙◌, arith, length-drop, ltb-true, ltb-false}
 use Rattle.std.proofs.lemmas.List.{length-map}
 use Rattle.unix_bytes.proofs.lemmas.lists.ListLemmas.{by_test}
 use Rattle.unix_path.proofs.lemmas.rests.MiddleLemmas.{Middle, map-middle, middle, middle-middle}
-use Rattle.unix_path.proofs.lemmas.rests.MiddleLemmas.{middle_of}
-use Rattle.unix_path.proofs.lemmas.rests.MiddleLemmas.{rest-middle, stands_in}
+use Rattle.unix_path.proofs.lemmas.rests.MiddleLemmas.{middle_of, rest-middle, stands_in}
 use Rattle.unix_path.proofs.lemmas.parts.PartLemmas.{parts-none}
 use Rattle.unix_path.proofs.lemmas.parts.PlaceLemmas.{part_at, part_at-part_at, values-part_at}
 use Rattle.unix_path.proofs.lemmas.rests.SplitLemmas.{drops_to, splits_first}
 use Rattle.unix_path.specs.Parts.{parts, values}
-use Rattle.unix_path.specs.Rest.{rest, span_of}
+use Rattle.unix_path.specs.Rest.{rest}
 
 -- the values of a rest are the path's, without the first k and the last m
 pub values-rest : (s : List ℕ) (k m : ℕ) → values (rest s k m) ≡ middle k m (values s)
@@ -39,14 +38,6 @@ rest-rest s k m i j =
     } in
     ap (λ w. rest w i j) (rest-middle s k m h) ∙ rest-middle w i j g
     ∙ sym (rest-middle s (k + i) (m + j) together)
-
--- if all parts are taken, nothing is left
-pub rest-none : (s : List ℕ) (k m : ℕ) → length (values s) ≤ k + m → rest s k m ≡ []
-unfolding rest values
-rest-none s k m l =
-    let none : length (parts s) - (k + m) ≡ 0 =
-    omega (arith, length-map (parts s) (λ p. p.value)) in
-    ap (λ n. span_of s (take n (drop k (parts s)))) none
 
 -- a string has no more parts than bytes
 few_parts : (n : ℕ) (t : List ℕ) → length t ≤ n → length (parts t) ≤ length t

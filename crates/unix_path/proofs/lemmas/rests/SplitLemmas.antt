@@ -4,8 +4,7 @@ use Rattle.std.proofs.Common.{◌++◌, length, get_or, take, drop, map, sym, ap
 use Rattle.std.proofs.Common.{eqb-true, take_all, length-drop, drop-drop, ltb-true, ltb-false}
 use Rattle.std.proofs.Common.{length-append, length-take-le}
 use Rattle.std.specs.List.{position_or_len}
-use Rattle.std.proofs.lemmas.List.{take-append-le, drop-map, length-take}
-use Rattle.std.proofs.lemmas.List.{take-take}
+use Rattle.std.proofs.lemmas.List.{take-append-le, drop-map, length-take, take-take}
 use Rattle.unix_bytes.proofs.lemmas.lists.ListLemmas.{by_test}
 use Rattle.unix_path.proofs.lemmas.filler.FillerLemmas.{parts-busy, skips_filler}
 use Rattle.unix_path.proofs.lemmas.steps.LastLemmas.{last_part, last_start, root_alone}

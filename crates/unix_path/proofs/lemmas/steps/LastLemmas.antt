@@ -11,13 +11,11 @@ use Rattle.std.proofs.lemmas.List.{drop_all, take_more, drop_more}
 use Rattle.unix_bytes.proofs.lemmas.lists.ListLemmas.{by_test}
 use Rattle.unix_path.proofs.lemmas.parts.PartLemmas.{parts-name, parts-nil, parts-root}
 use Rattle.unix_path.proofs.lemmas.parts.PieceLemmas.{inner_parts-first, inner_parts-nil}
-use Rattle.unix_path.proofs.lemmas.parts.PieceLemmas.{parts_of_piece}
-use Rattle.unix_path.proofs.lemmas.parts.PieceLemmas.{first_piece, no_slash_head}
+use Rattle.unix_path.proofs.lemmas.parts.PieceLemmas.{parts_of_piece, first_piece, no_slash_head}
 use Rattle.unix_path.proofs.lemmas.parts.PieceLemmas.{position_or_len-other}
 use Rattle.unix_path.proofs.lemmas.filler.TrimLemmas.{parts-append}
 use Rattle.unix_path.proofs.lemmas.parts.ValueLemmas.{first_value}
-use Rattle.unix_path.specs.Parts.{RootDir, inner_parts, cur_dir, is_slash, parts}
-use Rattle.unix_path.specs.Parts.{value_of_piece}
+use Rattle.unix_path.specs.Parts.{RootDir, inner_parts, cur_dir, is_slash, parts, value_of_piece}
 use Rattle.unix_path.specs.Scan.{is_trailing, EndsInPart}
 
 -- the last piece begins at `start`

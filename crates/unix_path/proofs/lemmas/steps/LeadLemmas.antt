@@ -1,19 +1,16 @@
 -- The first part of a string, by what it begins with.
-use Rattle.std.proofs.Common.{◌≡◌, ℕ, ◌+◌, ◌≤◌, ◌<◌, true, false, ◌&&◌}
-use Rattle.std.proofs.Common.{eqb, List, [], ◌∷◌, length, get_or, take, drop, refl, sym, ap}
-use Rattle.std.proofs.Common.{ap₂, ◌∙◌, ⊎_elim, arith, eqb-true, drop-drop}
-use Rattle.std.proofs.Common.{length-drop, map}
+use Rattle.std.proofs.Common.{◌≡◌, ℕ, ◌+◌, ◌≤◌, ◌<◌, true, false, ◌&&◌, eqb, List, [], ◌∷◌, length}
+use Rattle.std.proofs.Common.{get_or, take, drop, refl, sym, ap, ap₂, ◌∙◌, ⊎_elim, arith, eqb-true}
+use Rattle.std.proofs.Common.{drop-drop, length-drop, map}
 use Rattle.std.specs.List.{position_or_len}
 use Rattle.std.specs.Str.{bytes_eq}
 use Rattle.std.proofs.lemmas.Bool.{or_parts, and_parts, both_ways}
 use Rattle.unix_bytes.proofs.lemmas.lists.ListLemmas.{by_test}
 use Rattle.unix_path.proofs.lemmas.filler.FillerLemmas.{busy_parts, first_piece_dot, filler_from}
-use Rattle.unix_path.proofs.lemmas.filler.FillerLemmas.{is_filler-drop}
-use Rattle.unix_path.proofs.lemmas.filler.FillerLemmas.{parts-busy}
+use Rattle.unix_path.proofs.lemmas.filler.FillerLemmas.{is_filler-drop, parts-busy}
 use Rattle.unix_path.proofs.lemmas.parts.PartLemmas.{parts-name}
 use Rattle.unix_path.proofs.lemmas.parts.PieceLemmas.{first_piece, first_piece-other}
-use Rattle.unix_path.proofs.lemmas.parts.PieceLemmas.{position_or_len-other}
-use Rattle.unix_path.proofs.lemmas.parts.PieceLemmas.{position_or_len-slash}
+use Rattle.unix_path.proofs.lemmas.parts.PieceLemmas.{position_or_len-other, position_or_len-slash}
 use Rattle.unix_path.proofs.lemmas.steps.StepLemmas.{takes_first}
 use Rattle.unix_path.specs.Parts.{Value, CurDir, ParentDir, Normal, parent_dir, Part}
 use Rattle.unix_path.specs.Parts.{inner_parts, is_slash, parts, values}

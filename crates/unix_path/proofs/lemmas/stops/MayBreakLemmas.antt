@@ -9,9 +9,8 @@ use Rattle.std.proofs.lemmas.Bool.{eqb-false}
 use Rattle.std.proofs.lemmas.Nat.{le_or_l, le_or_r}
 use Rattle.std.proofs.lemmas.Simd.{length-zip2, get_or-zip2, length-chunk}
 use Rattle.unix_bytes.proofs.lemmas.vectors.TestLaneLemmas.{with, length-with, get_or-with, hits}
-use Rattle.unix_bytes.proofs.lemmas.vectors.TestLaneLemmas.{Tells}
-use Rattle.unix_bytes.proofs.lemmas.vectors.TestLaneLemmas.{Tells-hits, TellFrom, lane_at, mask_of}
-use Rattle.unix_bytes.proofs.lemmas.vectors.TestLaneLemmas.{found_set, none_set}
+use Rattle.unix_bytes.proofs.lemmas.vectors.TestLaneLemmas.{Tells, Tells-hits, TellFrom, lane_at}
+use Rattle.unix_bytes.proofs.lemmas.vectors.TestLaneLemmas.{mask_of, found_set, none_set}
 use Rattle.unix_path.specs.Stops.{is_break_of, HasFewBits, IsNearBreak}
 
 abbrev odd : ℕ → ℕ → List ℕ → List ℕ → List ℕ

@@ -1,8 +1,7 @@
 -- Stops: marks behind which no name begins.
-use Rattle.std.proofs.Common.{◌≡◌, ◌<◌, ◌≤◌, ◌+◌, ℕ, Bool, true, false, eqb, List, refl}
-use Rattle.std.proofs.Common.{◌++◌, length, take, get_or, sym, ap, ap₂, ◌∙◌, arith}
-use Rattle.std.proofs.Common.{drop, ◌-◌, take-append-drop}
-use Rattle.std.proofs.Common.{eq-eqb, eqb-true, ⊎_elim, ◌&&◌, ◌||◌}
+use Rattle.std.proofs.Common.{◌≡◌, ◌<◌, ◌≤◌, ◌+◌, ℕ, Bool, true, false, eqb, List, refl, ◌++◌}
+use Rattle.std.proofs.Common.{length, take, get_or, sym, ap, ap₂, ◌∙◌, arith, drop, ◌-◌}
+use Rattle.std.proofs.Common.{take-append-drop, eq-eqb, eqb-true, ⊎_elim, ◌&&◌, ◌||◌}
 use Rattle.std.proofs.lemmas.Bool.{and_parts, cases_lt}
 use Rattle.std.proofs.lemmas.List.{get_or-take, get_or_past, get_or_default, length-take-le}
 use Rattle.std.proofs.lemmas.List.{get_or-append-add}

@@ -1,7 +1,6 @@
 -- The first part of a string, and where what is left behind it stands.
-use Rattle.std.proofs.Common.{◌≡◌, ℕ, ◌+◌, ◌-◌, ◌≤◌, ◌<◌, ltb, List, [], ◌∷◌, length}
-use Rattle.std.proofs.Common.{take, drop, map, sym, ap, ap₂, subst, ◌∙◌, arith}
-use Rattle.std.proofs.Common.{take_all, ltb-true, ltb-false}
+use Rattle.std.proofs.Common.{◌≡◌, ℕ, ◌+◌, ◌-◌, ◌≤◌, ◌<◌, ltb, List, [], ◌∷◌, length, take, drop}
+use Rattle.std.proofs.Common.{map, sym, ap, ap₂, subst, ◌∙◌, arith, take_all, ltb-true, ltb-false}
 use Rattle.std.proofs.lemmas.List.{nil_from_length}
 use Rattle.unix_path.specs.Parts.{Part, Value, parts, value_bytes, values}
 use Rattle.unix_path.specs.Rest.{last_end, rest}

@@ -20,8 +20,7 @@ use Rattle.unix_path.proofs.lemmas.steps.SpanLemmas.{length-rest_whole, parts_en
 use Rattle.unix_path.proofs.lemmas.steps.SpanLemmas.{parts_end-whole}
 use Rattle.unix_path.proofs.lemmas.names.StemLemmas.{length-rest_whole-le}
 use Rattle.unix_path_c.proofs.lemmas.places.FollowLemmas.{BeginsWith, Follow, Follow-parts}
-use Rattle.unix_path_c.proofs.lemmas.places.FollowLemmas.{begins_with}
-use Rattle.unix_path_c.proofs.lemmas.places.FollowLemmas.{ends_with}
+use Rattle.unix_path_c.proofs.lemmas.places.FollowLemmas.{begins_with, ends_with}
 
 -- v is the last value of s, whose parts end at n: v's bytes end there, and before v the first m
 -- bytes are left

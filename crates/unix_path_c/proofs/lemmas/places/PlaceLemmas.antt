@@ -25,10 +25,8 @@ use Rattle.unix_path.proofs.lemmas.names.StemLemmas.{last_start_of-name, length-
 use Rattle.unix_path.proofs.lemmas.names.StemLemmas.{length-rest_whole-le}
 use Rattle.unix_path.proofs.lemmas.names.NameCutLemmas.{name_cut}
 use Rattle.unix_path_c.specs.Places.{name_start_of}
-use Rattle.unix_path_c.proofs.lemmas.places.StretchLemmas.{Stands, stands}
-use Rattle.unix_path_c.proofs.lemmas.places.StretchLemmas.{stands-end, EndsAt}
-use Rattle.unix_path_c.proofs.lemmas.places.StretchLemmas.{nothing_ends}
-use Rattle.unix_path_c.proofs.lemmas.places.StretchLemmas.{range_ends}
+use Rattle.unix_path_c.proofs.lemmas.places.StretchLemmas.{Stands, stands, stands-end, EndsAt}
+use Rattle.unix_path_c.proofs.lemmas.places.StretchLemmas.{nothing_ends, range_ends}
 
 -- a parent is a prefix of its path
 pub parent_stands : (s parent : List ℕ) → Some parent ≡ parent_of s → Stands s 0 parent

@@ -1,10 +1,9 @@
 -- Stretches of bytes: what stands in a string from a place on, or up to one.
-use Rattle.std.proofs.Common.{◌≡◌, ℕ, ◌+◌, ◌-◌, ◌≤◌, ltb, List, []}
-use Rattle.std.proofs.Common.{length, take, drop, refl, sym, ap, ap₂}
-use Rattle.std.proofs.Common.{subst, ◌∙◌, arith, length-drop, ltb-true, ltb-false}
+use Rattle.std.proofs.Common.{◌≡◌, ℕ, ◌+◌, ◌-◌, ◌≤◌, ltb, List, [], length, take, drop, refl, ap}
+use Rattle.std.proofs.Common.{ap₂, subst, ◌∙◌, arith, length-drop, ltb-true, ltb-false}
 use Rattle.std.proofs.Math.Seq.{take-length}
 use Rattle.std.proofs.lemmas.List.{length-take}
-use Rattle.unix_bytes.proofs.lemmas.lists.ListLemmas.{by_test, take-beginning, take-take_front}
+use Rattle.unix_bytes.proofs.lemmas.lists.ListLemmas.{by_test}
 use Rattle.unix_path.proofs.lemmas.rests.MiddleLemmas.{stands_in}
 use Rattle.unix_path.proofs.lemmas.steps.SpanLemmas.{StandsAt}
 use Rattle.unix_path_c.specs.Places.{span_end, span_bytes}
@@ -21,20 +20,6 @@ stands s w i l e = record {
   bytes = e;
   inside = omega (arith, ap length e, length-take (length w) (drop i s), length-drop i s);
 }
-
--- the bytes of a stretch stand where it starts
-pub range_stands : (s : List ℕ) (i n : ℕ) → i ≤ length s → Stands s i (take n (drop i s))
-range_stands s i n l = stands s (take n (drop i s)) i l (take-take_front n (drop i s))
-
--- a beginning of what stands at a place stands there too
-pub stands-beginning : (s w v : List ℕ) (i : ℕ) → Stands s i w
-    → take (length v) w ≡ v → Stands s i v
-stands-beginning s w v i h e =
-    let shorter : length v ≤ length w = omega (arith, ap length e, length-take (length v) w) in
-    record {
-      bytes = sym (take-beginning (drop i s) w (length v) h.bytes shorter) ∙ e;
-      inside = omega (arith, h.inside);
-    }
 
 -- an end of what stands at a place stands further on
 pub stands-end : (s w : List ℕ) (i n : ℕ) → Stands s i w → n ≤ length w

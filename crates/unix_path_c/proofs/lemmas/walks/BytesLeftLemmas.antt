@@ -1,8 +1,7 @@
 -- What is left of a walk, by the walk's places.
 use Rattle.std.proofs.Common.{◌≡◌, ℕ, ◌+◌, ◌-◌, ◌≤◌, ◌<◌, ◌&&◌, cond, leb, ltb, List, [], length}
-use Rattle.std.proofs.Common.{◌⊎◌, ⊎_elim, min, take, drop, map}
-use Rattle.std.proofs.Common.{refl, sym, ap, ap₂, ◌∙◌, arith, drop-drop}
-use Rattle.std.proofs.Common.{take-take, take_all, ltb-true, ltb-false}
+use Rattle.std.proofs.Common.{◌⊎◌, ⊎_elim, min, take, drop, map, refl, sym, ap, ap₂, ◌∙◌, arith}
+use Rattle.std.proofs.Common.{drop-drop, take-take, take_all, ltb-true, ltb-false}
 use Rattle.std.specs.Prelude.{slice_range}
 use Rattle.std.proofs.Math.Nat.{min-le_right}
 use Rattle.std.proofs.lemmas.Bool.{and_parts, le-leb, leb-true}

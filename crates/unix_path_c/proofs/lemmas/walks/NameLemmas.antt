@@ -1,7 +1,6 @@
 -- Steps over a name that stands between bytes that are neither slashes nor dots.
-use Rattle.std.proofs.Common.{◌≡◌, ℕ, ◌-◌, ◌≤◌, ◌<◌, true, false, ltb, eqb, List}
-use Rattle.std.proofs.Common.{length, get_or, take, refl, sym, ap, ◌∙◌, arith}
-use Rattle.std.proofs.Common.{lt-ltb, ltb-true, ltb-false}
+use Rattle.std.proofs.Common.{◌≡◌, ℕ, ◌-◌, ◌≤◌, ◌<◌, true, false, ltb, eqb, List, length, get_or}
+use Rattle.std.proofs.Common.{take, refl, sym, ap, ◌∙◌, arith, lt-ltb, ltb-true, ltb-false}
 use Rattle.std.specs.Str.{bytes_eq}
 use Rattle.std.proofs.lemmas.Bool.{both_ways}
 use Rattle.std.proofs.lemmas.Slice.Eq.{bytes_eq-Decides}

@@ -1,7 +1,6 @@
 -- The first part that is left of a walk, and what is left behind it.
-use Rattle.std.proofs.Common.{◌≡◌, ℕ, ◌+◌, ◌-◌, ◌≤◌, List, [], ◌∷◌, length, map}
-use Rattle.std.proofs.Common.{take, drop}
-use Rattle.std.proofs.Common.{Option, Some, None, refl, sym, ap, ap₂, ◌∙◌, arith}
+use Rattle.std.proofs.Common.{◌≡◌, ℕ, ◌+◌, ◌-◌, ◌≤◌, List, [], ◌∷◌, length, map, take, drop, Option}
+use Rattle.std.proofs.Common.{Some, None, refl, sym, ap, ap₂, ◌∙◌, arith}
 use Rattle.unix_path.specs.Parts as paths
 use Rattle.unix_path.specs.Parts.{Value, parts, value_bytes, values}
 use Rattle.unix_path.specs.Rest.{rest}
@@ -19,8 +18,7 @@ use Rattle.unix_path_c.specs.Steps.{TakenInFront}
 use Rattle.unix_path_c.specs.declared.walks.Part.{Part}
 use Rattle.unix_path_c.specs.declared.walks.Walk.{Walk}
 use Rattle.unix_path_c.proofs.lemmas.walks.BytesLeftLemmas.{stands_between, kind_of-lt}
-use Rattle.unix_path_c.proofs.lemmas.walks.BytesLeftLemmas.{part_value-is}
-use Rattle.unix_path_c.proofs.lemmas.walks.BytesLeftLemmas.{bytes_left-in_range}
+use Rattle.unix_path_c.proofs.lemmas.walks.BytesLeftLemmas.{part_value-is, bytes_left-in_range}
 use Rattle.unix_path_c.proofs.lemmas.walks.BytesLeftLemmas.{range-bytes_left, take-bytes_left}
 use Rattle.unix_path_c.proofs.lemmas.places.FirstLemmas.{some_bytes, takes_in_front}
 

@@ -1,6 +1,5 @@
 -- The last part that is left of a walk, and what is left before it.
-use Rattle.std.proofs.Common.{◌≡◌, ℕ, ◌+◌, ◌-◌, ◌≤◌, List, [], ◌∷◌, ◌++◌, length}
-use Rattle.std.proofs.Common.{take, drop}
+use Rattle.std.proofs.Common.{◌≡◌, ℕ, ◌+◌, ◌-◌, ◌≤◌, List, [], ◌∷◌, ◌++◌, length, take, drop}
 use Rattle.std.proofs.Common.{Option, Some, None, map, refl, sym, ap, ap₂, ◌∙◌, arith}
 use Rattle.std.proofs.Common.{length-append}
 use Rattle.std.proofs.lemmas.List.{map-append}
@@ -20,8 +19,7 @@ use Rattle.unix_path_c.specs.declared.walks.Part.{Part}
 use Rattle.unix_path_c.specs.declared.walks.Walk.{Walk}
 use Rattle.unix_path_c.proofs.lemmas.walks.TakeFirstLemmas.{same_part}
 use Rattle.unix_path_c.proofs.lemmas.walks.BytesLeftLemmas.{stands_between, kind_of-lt}
-use Rattle.unix_path_c.proofs.lemmas.walks.BytesLeftLemmas.{part_value-is}
-use Rattle.unix_path_c.proofs.lemmas.walks.BytesLeftLemmas.{bytes_left-in_range}
+use Rattle.unix_path_c.proofs.lemmas.walks.BytesLeftLemmas.{part_value-is, bytes_left-in_range}
 use Rattle.unix_path_c.proofs.lemmas.walks.BytesLeftLemmas.{range-bytes_left, take-bytes_left}
 use Rattle.unix_path_c.proofs.lemmas.places.FirstLemmas.{some_bytes}
 use Rattle.unix_path_c.proofs.lemmas.places.LastLemmas.{takes_behind}

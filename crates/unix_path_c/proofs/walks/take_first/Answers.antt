@@ -1,7 +1,6 @@
 use Rattle.std.proofs.Common.{true≢false, refl, arith}
 use Rattle.unix_path_c.proofs.lemmas.walks.TakeFirstLemmas.{step_in_front_fits, next_gives}
-use Rattle.unix_path_c.proofs.lemmas.walks.TakeFirstLemmas.{nothing_first}
-use Rattle.unix_path_c.proofs.lemmas.walks.TakeFirstLemmas.{rest-same}
+use Rattle.unix_path_c.proofs.lemmas.walks.TakeFirstLemmas.{nothing_first, rest-same}
 use Rattle.unix_path_c.proofs.walks.take_first.Goals as goal
 
 pub returns-in_default-clause-ended : goal.returns-in_default-clause-ended

@@ -2,8 +2,7 @@ use Rattle.std.proofs.Common.{true≢false, ap, length, arith}
 use Rattle.unix_path.specs.Cursor.{cursor_rest}
 use Rattle.unix_path_c.proofs.lemmas.walks.TakeFirstLemmas.{rest-same}
 use Rattle.unix_path_c.proofs.lemmas.walks.TakeLastLemmas.{StepBehindFits, step_behind_fits}
-use Rattle.unix_path_c.proofs.lemmas.walks.TakeLastLemmas.{next_back_gives}
-use Rattle.unix_path_c.proofs.lemmas.walks.TakeLastLemmas.{nothing_last}
+use Rattle.unix_path_c.proofs.lemmas.walks.TakeLastLemmas.{next_back_gives, nothing_last}
 use Rattle.unix_path_c.proofs.walks.take_last.Goals as goal
 use Rattle.unix_path_c.proofs.walks.take_last.Goals.{After-as_unix_str}
 

@@ -1,5 +1,4 @@
-use Rattle.std.proofs.Common.{◌≡◌, ◌<◌, ◌≤◌, arith, bit_and, get_or, length, set, subst, sym}
-use Rattle.std.proofs.Common.{true}
+use Rattle.std.proofs.Common.{◌≡◌, ◌<◌, ◌≤◌, arith, bit_and, get_or, length, set, subst, sym, true}
 use Rattle.std.proofs.lemmas.List.{get_or_read}
 use Rattle.path_tree.specs.Hashed.{has_bit, hash_of}
 use Rattle.path_tree.proofs.lemmas.keys.MarkLemmas.{has_bit-kept, has_bit-outside, has_bit-set}

@@ -9,11 +9,9 @@ use Rattle.path_tree.specs.Rows.{Key}
 use Rattle.path_tree.specs.Tree.{table_of}
 use Rattle.path_tree.proofs.lemmas.children.ChildLemmas.{ChildKey}
 use Rattle.path_tree.proofs.lemmas.children.ChildWalkLemmas.{FindsChildren, begins_by, below, finds}
-use Rattle.path_tree.proofs.lemmas.children.ChildWalkLemmas.{first_own}
-use Rattle.path_tree.proofs.lemmas.children.ChildWalkLemmas.{found_all, found_at_end, longer}
-use Rattle.path_tree.proofs.lemmas.children.ChildWalkLemmas.{not_none}
-use Rattle.path_tree.proofs.lemmas.children.ChildWalkLemmas.{not_none_found, other, passed_fewer}
-use Rattle.path_tree.proofs.lemmas.children.ChildWalkLemmas.{passes, starts}
+use Rattle.path_tree.proofs.lemmas.children.ChildWalkLemmas.{first_own, found_all, found_at_end}
+use Rattle.path_tree.proofs.lemmas.children.ChildWalkLemmas.{longer, not_none, not_none_found}
+use Rattle.path_tree.proofs.lemmas.children.ChildWalkLemmas.{other, passed_fewer, passes, starts}
 use Rattle.path_tree.proofs.lemmas.rows.DifferenceLemmas.{map_push-append}
 use Rattle.path_tree.proofs.lemmas.rows.ManyLemmas.{starts_with-under}
 use Rattle.path_tree.proofs.tree.PathTree.children.Goals as goal

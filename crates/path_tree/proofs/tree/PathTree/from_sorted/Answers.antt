@@ -2,8 +2,7 @@ use Rattle.std.proofs.Common.{◌≡◌, ◌∷◌, ◌++◌, ◌∙◌, [], rul
 use Rattle.path_tree.specs.Marks.{is_marked}
 use Rattle.path_tree.proofs.lemmas.keys.PassLemmas.{AllKeys-always}
 use Rattle.path_tree.proofs.lemmas.rows.SortedWalkLemmas.{Listed, listed_more, listed_none}
-use Rattle.path_tree.proofs.lemmas.rows.SortedWalkLemmas.{made_own, made_rows}
-use Rattle.path_tree.proofs.lemmas.rows.SortedWalkLemmas.{rise, stops}
+use Rattle.path_tree.proofs.lemmas.rows.SortedWalkLemmas.{made_own, made_rows, rise, stops}
 use Rattle.path_tree.proofs.tree.PathTree.from_sorted.Goals as goal
 
 pub loop-path-init : goal.loop-path-init

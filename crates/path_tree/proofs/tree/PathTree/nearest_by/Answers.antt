@@ -5,8 +5,7 @@ use Rattle.unix_path.specs.Views.{value_of}
 use Rattle.path_table.specs.Table.{value_at}
 use Rattle.path_tree.specs.Tree.{table_of}
 use Rattle.path_tree.proofs.lemmas.keys.NearestLemmas.{GoesUp, code_fits, goes_on, goes_up}
-use Rattle.path_tree.proofs.lemmas.keys.NearestLemmas.{is_nearest}
-use Rattle.path_tree.proofs.lemmas.keys.NearestLemmas.{none_nearer}
+use Rattle.path_tree.proofs.lemmas.keys.NearestLemmas.{is_nearest, none_nearer}
 use Rattle.path_tree.proofs.lemmas.keys.ReadLemmas.{own-of, values-of}
 use Rattle.path_tree.proofs.tree.PathTree.nearest_by.Goals as goal
 

@@ -5,8 +5,7 @@ use Rattle.path_keys.specs.Codes.{Fits}
 use Rattle.path_keys.specs.Keys.{code, key_of}
 use Rattle.path_keys.proofs.lemmas.values.CodeLemmas.{code-length}
 use Rattle.path_tree.proofs.lemmas.keys.ChildKeyLemmas.{child_in_range, child_long, child_own}
-use Rattle.path_tree.proofs.lemmas.keys.ChildKeyLemmas.{child_values}
-use Rattle.path_tree.proofs.lemmas.keys.ChildKeyLemmas.{GoesOn, child_whole, goes_on}
+use Rattle.path_tree.proofs.lemmas.keys.ChildKeyLemmas.{child_values, GoesOn, child_whole, goes_on}
 use Rattle.path_tree.proofs.tree.children.child_key.Goals as goal
 
 -- the code that was measured is that of the value behind the base's

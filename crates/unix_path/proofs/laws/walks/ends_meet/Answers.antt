@@ -1,8 +1,7 @@
 use Rattle.std.proofs.Common.{length, sym, ap, ◌∙◌}
 use Rattle.std.proofs.lemmas.List.{length-map, nil_from_length}
 use Rattle.unix_path.specs.Cursor.{cursor_rest, cursor_values, GivesFirstPart, GivesLastPart}
-use Rattle.unix_path.specs.Cursor.{iter_bytes, iter_rest, name_bytes}
-use Rattle.unix_path.specs.Cursor.{GivesFirstName, GivesLastName}
+use Rattle.unix_path.specs.Cursor.{iter_bytes, iter_rest, name_bytes, GivesFirstName, GivesLastName}
 use Rattle.unix_path.specs.Views.{value_of}
 use Rattle.unix_path.specs.Parts.{value_bytes}
 use Rattle.unix_path.proofs.lemmas.walks.MixedLemmas.{ends_meet, none-cursor_rest, rest_between}

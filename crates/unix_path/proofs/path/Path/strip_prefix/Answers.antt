@@ -6,8 +6,7 @@ use Rattle.unix_path.specs.Prefixes.{Begins}
 use Rattle.unix_path.proofs.lemmas.order.BehindLemmas.{past-nil, shares-past}
 use Rattle.unix_path.proofs.lemmas.rests.SourceLemmas.{IsTail-trans}
 use Rattle.unix_path.proofs.lemmas.order.StripLemmas.{Trims, begins-empty, rest-trims, stripped-end}
-use Rattle.unix_path.proofs.lemmas.order.StripLemmas.{stripped-is}
-use Rattle.unix_path.proofs.lemmas.order.StripLemmas.{stripped-whole, values-trims}
+use Rattle.unix_path.proofs.lemmas.order.StripLemmas.{stripped-is, stripped-whole, values-trims}
 use Rattle.unix_path.proofs.path.Path.strip_prefix.Goals.{After-trimmed_len}
 use Rattle.unix_path.proofs.path.Path.strip_prefix.Goals as goal
 

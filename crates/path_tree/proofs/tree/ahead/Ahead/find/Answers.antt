@@ -1,13 +1,11 @@
-use Rattle.std.proofs.Common.{◌≡◌, ◌∷◌, ◌∙◌, ap, ap₂, rules, subst, sym}
-use Rattle.std.proofs.Common.{Greater, Equal, Less}
+use Rattle.std.proofs.Common.{◌≡◌, ◌∷◌, ◌∙◌, ap, ap₂, rules, subst, sym, Greater, Equal, Less}
 use Rattle.path_keys.specs.Ranges.{bytes_cmp}
 use Rattle.path_tree.specs.Ahead.{ahead_of}
 use Rattle.path_tree.specs.Rows.{Key}
 use Rattle.path_tree.proofs.lemmas.rows.AheadLemmas.{FindsAlike, ahead-steps, alike_more, equal_is}
-use Rattle.path_tree.proofs.lemmas.rows.AheadLemmas.{greater_is}
-use Rattle.path_tree.proofs.lemmas.rows.AheadLemmas.{later_behind, later_same, less_is, own_behind}
-use Rattle.path_tree.proofs.lemmas.rows.AheadLemmas.{sorted_behind, value_at_end, value_first}
-use Rattle.path_tree.proofs.lemmas.rows.AheadLemmas.{value_passed}
+use Rattle.path_tree.proofs.lemmas.rows.AheadLemmas.{greater_is, later_behind, later_same, less_is}
+use Rattle.path_tree.proofs.lemmas.rows.AheadLemmas.{own_behind, sorted_behind, value_at_end}
+use Rattle.path_tree.proofs.lemmas.rows.AheadLemmas.{value_first, value_passed}
 use Rattle.path_tree.proofs.tree.ahead.Ahead.find.Goals as goal
 
 pub returns-then-is_gt-clause-value : goal.returns-then-is_gt-clause-value
