@@ -1,9 +1,26 @@
 PREFIX ?= /usr/local
+LIBDIR ?= $(PREFIX)/lib
+INCLUDEDIR ?= $(PREFIX)/include
+MANDIR ?= $(PREFIX)/share/man
+DOCDIR = $(PREFIX)/share/doc/unix_path
 PROGRAM = crates/pathtool/out/pathtool
 LIBRARIES = $(if $(UNIX_PATH_LIB),$(dir $(UNIX_PATH_LIB)),crates/unix_path_c/out/)
-VERSION = $(shell sed -n 's/^.define UNIX_PATH_VERSION "\(.*\)"/\1/p' include/unix_path.h)
-FILL = s|@PREFIX@|$(PREFIX)|; s|@VERSION@|$(VERSION)|
-PLACE = $(DESTDIR)$(PREFIX)
+VERSION := $(shell sed -n 's/^.define UNIX_PATH_VERSION "\(.*\)"/\1/p' include/unix_path.h)
+MAJOR = $(firstword $(subst ., ,$(VERSION)))
+SHARED = libunix_path.so.$(VERSION).0
+SONAME = libunix_path.so.$(MAJOR)
+# What is put in place: with the program, with the library, and with both; and what was once put
+# there. What is filled in stands here as a file .in, and names no place but relative to its own.
+PROGRAM_FILES = $(PREFIX)/bin/pathtool $(MANDIR)/man1/pathtool.1
+FILLED = pkgconfig/unix_path.pc cmake/unix_path/unix_path-config.cmake \
+	cmake/unix_path/unix_path-config-version.cmake
+LIBRARY_FILES = $(INCLUDEDIR)/unix_path.h $(INCLUDEDIR)/unix_path.hpp \
+	$(addprefix $(LIBDIR)/,libunix_path.a $(FILLED))
+SHARED_FILES = $(addprefix $(LIBDIR)/,$(SHARED) $(SONAME) libunix_path.so)
+LICENCES = $(DOCDIR)/LICENSE-APACHE $(DOCDIR)/LICENSE-MIT
+FORMER_FILES = $(PREFIX)/lib/libunix_path_c.a $(PREFIX)/lib/pkgconfig/unix_path_shared.pc
+FILL = sed 's|@VERSION@|$(VERSION)|; s|@MAJOR@|$(MAJOR)|; s|@SHARED@|$(SHARED)|; \
+	s|@SONAME@|$(SONAME)|; s|@INCLUDE@|$(shell realpath -m --relative-to=$(LIBDIR) $(INCLUDEDIR))|'
 JOBS = crates/path_jobs/out/path_jobs
 SOURCES := $(shell find crates.txt crates -name out -prune -o \
 	\( -name '*.rt' -o -name '*.antt' -o -name crates.txt \) -print)
@@ -33,11 +50,13 @@ help:
 	@echo 'make test-faces    tries the calls from C and from Rust, and the examples over SQLite and'
 	@echo '                   etcd. Proves and builds the library first; needs cc, cargo for the'
 	@echo '                   calls from Rust, and for etcd pathtool, as make run builds it'
-	@echo 'make install       puts the program, its manual page, the libraries, their headers and'
-	@echo '                   their pkg-config files below PREFIX (/usr/local). Proves and builds'
-	@echo '                   first what was not proved from these sources; compares no times.'
+	@echo 'make install       puts the program, its manual page, the libraries, their headers, their'
+	@echo '                   files for pkg-config and CMake, and the licences in place. Proves and'
+	@echo '                   builds first what was not proved from these sources; compares no times.'
 	@echo '                   install_program and install_library put one of the two, and'
-	@echo '                   make uninstall takes all away'
+	@echo '                   make uninstall takes all away. The places are PREFIX (/usr/local),'
+	@echo '                   LIBDIR (PREFIX/lib), INCLUDEDIR (PREFIX/include) and MANDIR'
+	@echo '                   (PREFIX/share/man), all below DESTDIR, which stands in no file'
 	@echo
 	@echo 'A first proof of the program (run, bench, differential, ends, install_program) takes'
 	@echo 'four to seven minutes on four cores, and one of the library (lib, test-faces,'
@@ -93,33 +112,31 @@ install: install_program install_library
 install_program:
 	@tools/stamps.py check pathtool || tools/build pathtool >&2
 	@tools/stamps.py check pathtool
-	@install -D -m 755 $(PROGRAM) $(PLACE)/bin/pathtool
-	@install -D -m 644 man/pathtool.1 $(PLACE)/share/man/man1/pathtool.1
-	@printf 'installed %s\n' $(PLACE)/bin/pathtool $(PLACE)/share/man/man1/pathtool.1
+	@install -D -m 755 -t $(DESTDIR)$(PREFIX)/bin $(PROGRAM)
+	@install -D -m 644 -t $(DESTDIR)$(MANDIR)/man1 man/pathtool.1
+	@install -D -m 644 -t $(DESTDIR)$(DOCDIR) LICENSE-APACHE LICENSE-MIT
+	@printf 'installed %s\n' $(addprefix $(DESTDIR),$(PROGRAM_FILES) $(LICENCES))
 
 install_library:
 	@$(if $(UNIX_PATH_LIB),,tools/library > /dev/null)
 	@tools/stamps.py check unix_path_c $(LIBRARIES) || \
 		{ echo '$(LIBRARIES) was not built from these sources' >&2; exit 1; }
-	@install -d $(PLACE)/lib/pkgconfig $(PLACE)/include
-	@install -m 644 include/unix_path.h include/unix_path.hpp $(PLACE)/include
-	@install -m 644 $(LIBRARIES)libunix_path_c.a $(PLACE)/lib
-	@sed '$(FILL)' unix_path.pc.in > $(PLACE)/lib/pkgconfig/unix_path.pc
-	@printf 'installed $(PLACE)/%s\n' include/unix_path.h include/unix_path.hpp \
-		lib/libunix_path_c.a lib/pkgconfig/unix_path.pc
-	@[ ! -e $(LIBRARIES)libunix_path.so.1 ] || $(MAKE) -s install_shared
+	@install -D -m 644 -t $(DESTDIR)$(INCLUDEDIR) include/unix_path.h include/unix_path.hpp
+	@install -D -m 644 -t $(DESTDIR)$(LIBDIR) $(LIBRARIES)libunix_path.a
+	@for file in $(FILLED); do \
+		$(FILL) $${file##*/}.in | install -D -m 644 /dev/stdin $(DESTDIR)$(LIBDIR)/$$file; done
+	@install -D -m 644 -t $(DESTDIR)$(DOCDIR) LICENSE-APACHE LICENSE-MIT
+	@printf 'installed %s\n' $(addprefix $(DESTDIR),$(LIBRARY_FILES) $(LICENCES))
+	@[ ! -e $(LIBRARIES)$(SHARED) ] || $(MAKE) -s install_shared
 
 # Where there is no cc, there is no shared library.
 install_shared:
-	@install -m 755 $(LIBRARIES)libunix_path.so.1 $(PLACE)/lib
-	@ln -sf libunix_path.so.1 $(PLACE)/lib/libunix_path.so
-	@sed '$(FILL)' unix_path_shared.pc.in > $(PLACE)/lib/pkgconfig/unix_path_shared.pc
-	@printf 'installed $(PLACE)/%s\n' lib/libunix_path.so.1 lib/libunix_path.so \
-		lib/pkgconfig/unix_path_shared.pc
+	@install -m 755 $(LIBRARIES)$(SHARED) $(DESTDIR)$(LIBDIR)
+	@ln -sf $(SHARED) $(DESTDIR)$(LIBDIR)/$(SONAME)
+	@ln -sf $(SONAME) $(DESTDIR)$(LIBDIR)/libunix_path.so
+	@printf 'installed %s\n' $(addprefix $(DESTDIR),$(SHARED_FILES))
 
 uninstall:
-	@for file in bin/pathtool share/man/man1/pathtool.1 include/unix_path.h \
-		include/unix_path.hpp lib/libunix_path_c.a lib/libunix_path.so lib/libunix_path.so.1 \
-		lib/pkgconfig/unix_path.pc lib/pkgconfig/unix_path_shared.pc; do \
-		if [ -e "$(PLACE)/$$file" ]; then \
-			rm "$(PLACE)/$$file" && echo "removed $(PLACE)/$$file"; fi; done
+	@rm -fv $(addprefix $(DESTDIR),$(PROGRAM_FILES) $(LIBRARY_FILES) $(SHARED_FILES) \
+		$(LICENCES) $(FORMER_FILES))
+	@rmdir $(DESTDIR)$(LIBDIR)/cmake/unix_path $(DESTDIR)$(DOCDIR) 2> /dev/null || true

@@ -1,4 +1,4 @@
-/* Unix paths as plain bytes: the calls of the library unix_path_c.
+/* Unix paths as plain bytes: the calls of the library unix_path.
  *
  * A path is a pointer to its bytes and how many there are. It may hold any byte, NUL too, and
  * needs none behind it. Its parts are the root, a leading `.`, and then each name and each `..`;
@@ -28,8 +28,10 @@
  * since a `..` at the root stays there. A server that refuses such a request passes false, and the
  * path without its leading slashes. unix_path_refusal names a refusal.
  *
- * Link with -lunix_path_c, or with what `pkg-config --libs unix_path` prints. It needs nothing of
- * the C library except memcpy, memmove, memset and memcmp.
+ * Link with what `pkg-config --libs unix_path` prints, which is the shared library, -lunix_path. For
+ * the archive add -static, or put -l:libunix_path.a in its place. A project of CMake finds the
+ * package unix_path, with the targets unix_path::unix_path and, for the archive, unix_path::static.
+ * The library needs nothing of the C library except memcpy, memmove, memset and memcmp.
  *
  * For every call:
  *  - It returns, whatever the bytes are, reads nothing but the bytes and records given to it, and

@@ -3,6 +3,9 @@ import collections
 import os
 
 ROOT = os.path.dirname(os.path.dirname(os.path.abspath(__file__)))
+# The library for C: the archive that UNIX_PATH_LIB names, or else the one that `make lib` builds.
+LIBRARY = os.path.abspath(os.environ.get("UNIX_PATH_LIB")
+                          or f"{ROOT}/crates/unix_path_c/out/libunix_path.a")
 
 # What a line of crates.txt says of a crate: what kind it is, and the libraries that it uses.
 Line = collections.namedtuple("Line", "kind libraries")
@@ -31,7 +34,7 @@ def is_program(crate):
 
 
 def built_of(crate):
-    """The path of a program, or of a library for C, once it is built."""
+    """The path of a program, or of what rt builds for C, once it is built."""
     return f"crates/{crate}/out/{crate if is_program(crate) else f'lib{crate}.a'}"
 
 

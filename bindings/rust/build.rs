@@ -1,4 +1,4 @@
-//! Finds `libunix_path_c.a`, which the crate is linked with.
+//! Finds `libunix_path.a`, which the crate is linked with.
 use std::env;
 use std::iter::once;
 use std::path::{Path, PathBuf};
@@ -15,7 +15,7 @@ const VARIABLES: [&str; 6] = [
 ];
 
 /// The file that is looked for.
-const LIBRARY: &str = "libunix_path_c.a";
+const LIBRARY: &str = "libunix_path.a";
 
 fn main() {
     println!("cargo:rerun-if-changed=build.rs");
@@ -92,7 +92,7 @@ fn from_pkg_config() -> Option<PathBuf> {
 fn link(folder: &Path) {
     println!("cargo:rerun-if-changed={}", folder.join(LIBRARY).display());
     println!("cargo:rustc-link-search=native={}", folder.display());
-    println!("cargo:rustc-link-lib=static=unix_path_c");
+    println!("cargo:rustc-link-lib=static=unix_path");
 }
 
 /// Says where the library was looked for and what to do, and ends the build.

@@ -1,4 +1,4 @@
-"""The calls for keys of the library for C, from a shared object that holds it."""
+"""The calls for keys of the library for C, from its shared library."""
 import ctypes
 
 SIZE_MAX = ctypes.c_size_t(-1).value

@@ -1,4 +1,4 @@
-//! The calls of `libunix_path_c`, by what they take and answer. All `unsafe` code of this crate is
+//! The calls of `libunix_path`, by what they take and answer. All `unsafe` code of this crate is
 //! here.
 //!
 //! A type of this module is a shape of calls, and its constants, which `tools/calls` wrote into

@@ -1,4 +1,4 @@
-//! Unix paths as plain bytes, over `libunix_path_c`, a static library whose calls are proved.
+//! Unix paths as plain bytes, over `libunix_path`, a static library whose calls are proved.
 //!
 //! Paths are `&[u8]`, on any platform that the library is built for. What is found in a path is a
 //! slice of it; what is made of paths is written into a buffer that the caller passes:

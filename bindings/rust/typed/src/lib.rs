@@ -1,4 +1,4 @@
-//! `Path` and `PathBuf` for Unix paths on every platform, over `libunix_path_c`, a static library
+//! `Path` and `PathBuf` for Unix paths on every platform, over `libunix_path`, a static library
 //! whose calls are proved.
 //!
 //! The types and methods have the names of Rust's std, and of the crate `unix_path` 1.0.1: a
