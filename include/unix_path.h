@@ -84,7 +84,8 @@
 
 /* The version. While its first number stays, no call goes, and none changes its type or what it
  * answers, nor does a record or a number of this file: a program that was built with an older
- * version runs with the shared library of a newer one. */
+ * version runs with the shared library of a newer one. A program isn't loaded with a shared library
+ * that lacks one of its calls, nor with one whose first number is another. */
 #define UNIX_PATH_VERSION_MAJOR 1
 #define UNIX_PATH_VERSION_MINOR 1
 #define UNIX_PATH_VERSION "1.1"

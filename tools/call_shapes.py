@@ -46,12 +46,6 @@ KIND = re.compile(r"Component::(\w+)(?:\(_\))? => (\w+),")
 NUMBER = re.compile(r"const (\w+): u32 = (\d+);")
 
 
-def read_version():
-    """Returns the version of the library, as the header says it."""
-    with open(f"{ROOT}/include/unix_path.h", encoding="utf-8") as file:
-        return re.search(r'^#define UNIX_PATH_VERSION "(.*)"', file.read(), re.M)[1]
-
-
 def read_sources():
     """Yields the path and the text of each source of the crate, except its tests."""
     for path in sorted(glob.glob(f"{ROOT}/{SOURCES}/**/*.rt", recursive=True)):

@@ -1,0 +1,43 @@
+"""The version of the library for C, and the versions that brought its calls.
+
+The shared library gives each call the name of the version that brought it. So a program that makes
+a newer call isn't loaded over the library, where it would end at the call. Version 1.1 is the first
+with a library for C.
+"""
+import re
+
+from repository import ROOT
+
+# The script by which the calls get their versions.
+MAP = "crates/unix_path_c/calls.map"
+
+
+def read_version():
+    """Returns the version, as the header says it."""
+    with open(f"{ROOT}/include/unix_path.h", encoding="utf-8") as file:
+        return re.search(r'^#define UNIX_PATH_VERSION "(.*)"', file.read(), re.M)[1]
+
+
+def versions_of(script):
+    """Returns the calls of a script, by version, oldest first."""
+    return {version: re.findall(r"\bunix_path_(\w+);", calls)
+            for version, calls in re.findall(r"^UNIX_PATH_(\S+) \{(.*?)^\}", script, re.M | re.S)}
+
+
+def with_calls(versions, names, version):
+    """Returns the calls by version, if this version has these. Those of the others stay there."""
+    older = {it: calls for it, calls in versions.items() if it != version}
+    known = {name for calls in older.values() for name in calls}
+    new = [name for name in names if name not in known]
+    return {**older, version: new} if new else older
+
+
+def script_of(versions):
+    """Returns the script that gives the calls these versions."""
+    text, before = "", ""
+    for version, calls in versions.items():
+        lines = "".join(f"    unix_path_{it};\n" for it in calls)
+        others = "" if before else "local:\n    *;\n"
+        text += f"UNIX_PATH_{version} {{\nglobal:\n{lines}{others}}}{before};\n"
+        before = f" UNIX_PATH_{version}"
+    return text
