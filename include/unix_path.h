@@ -73,7 +73,9 @@
  * None is SIZE_MAX: one more than a refusal is no size that malloc gives.
  *
  * The attributes by which a compiler warns of a misuse are left out if UNIX_PATH_NO_ATTRIBUTES was
- * defined before this file, which needs C11 or C++11.
+ * defined before this file, which needs C11 or C++11. If UNIX_PATH_EXPORTS_ONLY was, this file has
+ * records, numbers and the calls' plain declarations alone, as tools want that read it for another
+ * language.
  */
 #ifndef UNIX_PATH_H
 #define UNIX_PATH_H
@@ -90,11 +92,12 @@
 #define UNIX_PATH_VERSION_MINOR 1
 #define UNIX_PATH_VERSION "1.1"
 
+#if SIZE_MAX != UINT64_MAX
+#error "the library is for lengths of 64 bits"
+#endif
+
 #ifdef __cplusplus
-static_assert(sizeof(size_t) == 8, "the library is for lengths of 64 bits");
 extern "C" {
-#else
-_Static_assert(sizeof(size_t) == 8, "the library is for lengths of 64 bits");
 #endif
 
 /* What unix_path_with_extension and unix_path_with_added_extension answer if the extension has a
@@ -381,10 +384,16 @@ size_t unix_path_from_key(const void *key, size_t key_length, void *out, size_t 
  * exactly if the bytes are the key of no path. Of 61 00, the key of `a`, it is 61 01. */
 size_t unix_path_key_end(const void *key, size_t key_length, void *out, size_t out_length);
 
+#ifndef UNIX_PATH_EXPORTS_ONLY
+
 #ifdef __cplusplus
 #define UNIX_PATH_INLINE inline
+#define UNIX_PATH_NULL nullptr
+#define UNIX_PATH_CHARS static_cast<const char *>
 #else
 #define UNIX_PATH_INLINE static inline
+#define UNIX_PATH_NULL NULL
+#define UNIX_PATH_CHARS (const char *)
 #endif
 
 /* Whether what a call with `out` answers is a length, and no refusal. It is false too for a length
@@ -410,13 +419,13 @@ UNIX_PATH_INLINE const char *unix_path_refusal(size_t answer) {
     case UNIX_PATH_NO_WAY:
         return "UNIX_PATH_NO_WAY";
     default:
-        return unix_path_is_length(answer) ? NULL : "UNIX_PATH_TOO_LONG";
+        return unix_path_is_length(answer) ? UNIX_PATH_NULL : "UNIX_PATH_TOO_LONG";
     }
 }
 
 /* Whether no byte is NUL, so that the system reads all of the path once a NUL stands behind it. */
 UNIX_PATH_INLINE bool unix_path_is_c_string(const void *path, size_t path_length) {
-    const char *bytes = (const char *)path;
+    const char *bytes = UNIX_PATH_CHARS(path);
     for (size_t at = 0; at < path_length; at++) {
         if (bytes[at] == '\0') {
             return false;
@@ -425,15 +434,16 @@ UNIX_PATH_INLINE bool unix_path_is_c_string(const void *path, size_t path_length
     return true;
 }
 
-#ifndef UNIX_PATH_EXPORTS_ONLY
 /* From here on the name of each call stands for a function of this header, which makes the call
  * with a pointer that isn't null in the place of one that may be; it may be passed as a pointer to
  * a function too. Compilers that know how are told what it reads and writes, and that its answer is
  * to be looked at. */
 
-#if defined(__GNUC__) && !defined(UNIX_PATH_NO_ATTRIBUTES)
+#ifdef __GNUC__
 #pragma GCC diagnostic push
 #pragma GCC diagnostic ignored "-Wredundant-decls"
+#endif
+#if defined(__GNUC__) && !defined(UNIX_PATH_NO_ATTRIBUTES)
 #define UNIX_PATH_NONNULL(...) __attribute__((__nonnull__(__VA_ARGS__)))
 #define UNIX_PATH_ALL_NONNULL __attribute__((__nonnull__))
 #if (defined(__cplusplus) && __cplusplus >= 201703L)                                               \
@@ -614,6 +624,9 @@ UNIX_PATH_MAKE(key_end)
 #define unix_path_key_end unix_path_inline_key_end
 /* The end of what tools/calls wrote. */
 
+#undef UNIX_PATH_INLINE
+#undef UNIX_PATH_NULL
+#undef UNIX_PATH_CHARS
 #undef UNIX_PATH_NONNULL
 #undef UNIX_PATH_ALL_NONNULL
 #undef UNIX_PATH_ASKED
@@ -644,12 +657,10 @@ UNIX_PATH_MAKE(key_end)
 #undef UNIX_PATH_MAKE
 #undef UNIX_PATH_MAKE_OF_TWO
 #undef UNIX_PATH_MAKE_OF_TWO_AS
-#if defined(__GNUC__) && !defined(UNIX_PATH_NO_ATTRIBUTES)
+#ifdef __GNUC__
 #pragma GCC diagnostic pop
 #endif
 #endif
-
-#undef UNIX_PATH_INLINE
 
 #ifdef __cplusplus
 }

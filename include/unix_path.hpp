@@ -30,6 +30,10 @@
 #ifndef UNIX_PATH_HPP
 #define UNIX_PATH_HPP
 
+#if __cplusplus < 201703L
+#error "unix_path.hpp needs C++17 or later"
+#else
+
 #include <cstddef>
 #include <cstdint>
 #include <exception>
@@ -387,7 +391,7 @@ class view {
         return is_there ? std::optional(view(text_at(place))) : std::nullopt;
     }
 
-    std::string_view bytes_;
+    std::string_view bytes_{};
 };
 
 /// A walk that takes parts from both ends. Those taken in front, those left, and those taken behind
@@ -424,7 +428,7 @@ class walk {
     }
 
     view path_;
-    unix_path_walk walk_;
+    unix_path_walk walk_{};
 };
 
 namespace detail {
@@ -605,9 +609,9 @@ class ancestors {
 
       private:
         // The path whose ancestors these are, and how many bytes the next has.
-        view whole_;
+        view whole_{};
         std::size_t next_ = SIZE_MAX;
-        std::optional<view> path_;
+        std::optional<view> path_{};
     };
     using const_iterator = iterator;
     using value_type = view;
@@ -660,9 +664,9 @@ class chunks {
 
       private:
         // The path, and where its next chunk begins.
-        view path_;
+        view path_{};
         std::size_t next_ = SIZE_MAX;
-        std::optional<chunk> chunk_;
+        std::optional<chunk> chunk_{};
     };
     using const_iterator = iterator;
     using value_type = chunk;
@@ -921,4 +925,5 @@ struct std::hash<unix_path::view> {
 
 #undef UNIX_PATH_LIFETIME
 
+#endif
 #endif
