@@ -95,6 +95,13 @@ static void ask_order(view a, view b) {
     CHECK_ROW(unix_path_equal(a.bytes, a.length, b.bytes, b.length) == (order == 0));
 }
 
+// Asks for the common dir, which is the same from the other side.
+static void ask_both_sides(view a, view b) {
+    size_t length = common_dir(a, b);
+    add_size_t(length);
+    CHECK_ROW(common_dir(b, a) == length);
+}
+
 static void add_refusal(const char *name) {
     char word[64] = "!";
     for (size_t at = 0; name[at] != '\0'; at++) {
@@ -236,9 +243,22 @@ static void list_chunks(view a, view b) {
     }
 #include "../calls.inc"
 
-// The calls that are asked in a way of their own, and then all.
+// Joins the request in both readings. What refuses it as a path is what it is refused for.
+static void join_below(view a, view b) {
+    size_t answer = write_join_below(a, b, false, room_of_out.begin, 0);
+    bool escapes = answer == UNIX_PATH_ESCAPES;
+    int32_t reason = unix_path_is_absolute(b.bytes, b.length) ? 1 : 2;
+    CHECK_ROW(unix_path_climbs(b.bytes, b.length) == escapes);
+    CHECK_ROW(unix_path_check_request(b.bytes, b.length)
+              == (escapes ? reason : answer == UNIX_PATH_NUL_IN_REQUEST ? 3 : 0));
+    ask_join_below(a, b);
+}
+
+// The calls of which more is asked, and then all.
 static const call calls[] = {
     {"compare", 2, ask_order},
+    {"common_dir", 2, ask_both_sides},
+    {"join_below", 2, join_below},
 #define BEGIN(name) {#name, 1, walk_path},
 #define NEXT_PLACE(name) {#name, 1, list_ancestors},
 #define NEXT_CHUNK(name) {#name, 1, list_chunks},
