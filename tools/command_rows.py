@@ -50,7 +50,7 @@ def read_rows():
     """The rows of the table."""
     rows = []
     with open(f"{ROOT}/{TABLE}", encoding="utf-8") as file:
-        for line in file.read().splitlines():
+        for line in re.sub(r'"\n {8}"', '" "', file.read()).splitlines():
             row, example = ROW.fullmatch(line), EXAMPLE.fullmatch(line)
             if row:
                 name, first, behind, group, std = row.groups()

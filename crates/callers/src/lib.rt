@@ -11,7 +11,5 @@ pub mod router;
 pub mod safe;
 pub mod server;
 pub mod site;
-#[cfg(test)]
-mod tests;
 pub mod tree;
 pub mod url;

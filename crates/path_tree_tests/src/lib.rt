@@ -1,6 +1,11 @@
-//! Tests of path_tree and path_within, in a crate of their own: a crate with tests is proved twice.
+//! Tests of path_tree, path_within and callers, in a crate of their own: a crate with tests is
+//! proved twice.
 #![tactic(auto)]
 
+#[cfg(test)]
+mod errors;
+#[cfg(test)]
+mod examples;
 #[cfg(test)]
 mod tree;
 #[cfg(test)]

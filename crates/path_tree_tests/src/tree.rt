@@ -1,12 +1,12 @@
 //! Rows of calls of a tree, its callers, and a tree beside a list.
 mod beside_list;
-mod callers;
 mod children;
 mod marked;
 mod moved;
 mod nearest;
 mod ranges;
 mod sorted;
+mod uses;
 
 use path_keys::PathKey;
 use path_tree::{LookupError, PathTree};
@@ -74,31 +74,42 @@ fn what_is_found(rt: HostRuntime) -> Result<(), Fail> {
 }
 
 // A path of `len` bytes, whose key has one more.
-fn long_name(alloc: Global, len: usize) -> Result<Vec<u8>, AllocError> {
+fn long_name(alloc: Global, len: u32) -> Result<Vec<u8>, AllocError> {
     let mut name = Vec::new(alloc);
-    name.resize(len, b'a')?;
+    name.resize(len as usize, b'a')?;
     Ok(name)
+}
+
+// Inserts the length of a name at the name.
+fn insert_name(
+    alloc: Global,
+    tree: &mut PathTree<u32>,
+    len: u32,
+) -> Result<Option<u32>, AllocError> {
+    let name = long_name(alloc, len)?;
+    tree.insert(Path::from_bytes(&name), len)
+}
+
+// Whether the name has its length in the tree, and no more once it is removed.
+fn is_taken_out(alloc: Global, tree: &mut PathTree<u32>, len: u32) -> Result<bool, AllocError> {
+    let name = long_name(alloc, len)?;
+    Ok(
+        has_at(alloc, tree, &name, Some(len))?
+            && insert_name(alloc, tree, len)? == Some(len)
+            && tree.remove_path(Path::from_bytes(&name))? == Some(len)
+            && has_at(alloc, tree, &name, None)?,
+    )
 }
 
 // Whether names as long as a key on the stack may be, and one longer, are told apart.
 #[test]
 fn long_paths_are_found(rt: HostRuntime) -> Result<(), Fail> {
-    let alloc = rt.alloc();
-    let mut tree = PathTree::new(alloc);
+    let mut tree = PathTree::new(rt.alloc());
     for len in [510, 511, 512] {
-        let name = long_name(alloc, len)?;
-        tree.insert(Path::from_bytes(&name), len as u32)?;
+        insert_name(rt.alloc(), &mut tree, len)?;
     }
     for len in [510, 511, 512] {
-        let name = long_name(alloc, len)?;
-        assert!(rt; has_at(alloc, &tree, &name, Some(len as u32))?, "{len}");
-        let again = tree.insert(Path::from_bytes(&name), len as u32)?;
-        assert!(rt; again == Some(len as u32), "{len}");
-        assert!(rt;
-            tree.remove_path(Path::from_bytes(&name))? == Some(len as u32),
-            "{len}"
-        );
-        assert!(rt; has_at(alloc, &tree, &name, None)?, "{len}");
+        assert!(rt; is_taken_out(rt.alloc(), &mut tree, len)?, "{len}");
     }
     assert!(rt; tree.is_empty());
     Ok(())
@@ -138,17 +149,21 @@ fn equal_paths_are_one_entry(rt: HostRuntime) -> Result<(), Fail> {
     Ok(())
 }
 
+// Whether the tree has 3 at `a/b`, 2 at `c`, and no more.
+fn has_both(alloc: Global, tree: &PathTree<u32>) -> Result<bool, AllocError> {
+    let is_there = has_at(alloc, tree, b"a/b", Some(3))? && has_at(alloc, tree, b"c", Some(2))?;
+    Ok(is_there && tree.len() == 2)
+}
+
 #[test]
 fn the_last_of_equal_paths_stays(rt: HostRuntime) -> Result<(), Fail> {
-    let alloc = rt.alloc();
-    let mut tree = tree_of(alloc, &["a/b"])?;
     let files = [(Path::from_text("c"), 2), (Path::from_text("a//b"), 3)];
+    let mut tree = tree_of(rt.alloc(), &["a/b"])?;
     tree.extend(files.iter().copied())?;
-    assert!(rt; has_at(alloc, &tree, b"a/b", Some(3))? && has_at(alloc, &tree, b"c", Some(2))?);
     tree.extend(std::iter::empty())?;
-    assert!(rt; tree.len() == 2);
-    let tree = PathTree::from_iter(alloc, files.iter().chain(files.iter()).copied())?;
-    assert!(rt; tree.len() == 2 && has_at(alloc, &tree, b"a/b", Some(3))?);
+    assert!(rt; has_both(rt.alloc(), &tree)?);
+    let tree = PathTree::from_iter(rt.alloc(), files.iter().chain(files.iter()).copied())?;
+    assert!(rt; has_both(rt.alloc(), &tree)?);
     Ok(())
 }
 

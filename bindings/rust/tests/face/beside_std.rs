@@ -99,19 +99,22 @@ fn chunks() {
     }
 }
 
+/// Two paths are compared as std compares them.
+pub fn are_compared(a: &[u8], b: &[u8]) {
+    let (p, q) = (path(a), path(b));
+    assert_eq!(paths::compare(a, b), p.cmp(q));
+    assert_eq!(paths::equal(a, b), p == q);
+    assert_eq!(paths::starts_with(a, b), p.starts_with(q));
+    assert_eq!(paths::ends_with(a, b), p.ends_with(q));
+    let want = p.strip_prefix(q).ok().map(bytes);
+    same_place(paths::strip_prefix(a, b), want, a);
+}
+
 #[test]
 fn comparisons() {
     let strings = over(LETTERS, LONGEST);
     for a in &strings {
-        for b in &strings {
-            let (p, q) = (path(a), path(b));
-            assert_eq!(paths::compare(a, b), p.cmp(q));
-            assert_eq!(paths::equal(a, b), p == q);
-            assert_eq!(paths::starts_with(a, b), p.starts_with(q));
-            assert_eq!(paths::ends_with(a, b), p.ends_with(q));
-            let want = p.strip_prefix(q).ok().map(bytes);
-            same_place(paths::strip_prefix(a, b), want, a);
-        }
+        strings.iter().for_each(|b| are_compared(a, b));
     }
 }
 
@@ -173,11 +176,22 @@ fn common_dirs() {
     }
 }
 
+/// The file name of a long path, and what it is made of.
+fn has_long_name(s: &[u8]) {
+    let (p, of) = (path(s), b"a long path");
+    same_place(paths::file_name(s), p.file_name().map(bytes), of);
+    same_place(paths::file_stem(s), p.file_stem().map(bytes), of);
+    same_place(paths::extension(s), p.extension().map(bytes), of);
+    same_place(paths::file_prefix(s), file_prefix(p), of);
+}
+
 /// Long runs of what is dropped, and of names.
 #[test]
 fn long_paths() {
-    for piece in ["/", "./", "../", "a/", "//a", ".a."] {
-        let s = piece.repeat(50_000).into_bytes();
+    for piece in [
+        "/", "/.", "./", "/./", "../", "a/", "//a", "a/.//", ".a.", ".",
+    ] {
+        let s = piece.repeat(100_000).into_bytes();
         let p = path(&s);
         assert!(paths::components(&s).map(as_std).eq(p.components()));
         assert!(paths::components(&s)
@@ -185,6 +199,10 @@ fn long_paths() {
             .map(as_std)
             .eq(p.components().rev()));
         same_place(paths::parent(&s), p.parent().map(bytes), b"a long path");
+        assert_eq!(paths::ancestors(&s).count(), p.ancestors().count());
+        has_long_name(&s);
+        let want: PathBuf = p.components().collect();
+        assert_eq!(owned::canonical(&s).as_deref(), Ok(bytes(&want)));
         let other = [&s[..], b"/./"].concat();
         assert!(paths::equal(&s, &other) && paths::compare(&s, &other).is_eq());
         assert_eq!(paths::hash(&s), paths::hash(&other));

@@ -54,7 +54,7 @@ fn key_of(path: &[u8]) -> Vec<u8> {
 
 #[test]
 fn keys_of_short_strings() {
-    for s in over(b"/.a0\0", 5) {
+    for s in over(b"/.a0\0\xFF", 5) {
         let key = owned::key(&s).unwrap();
         assert_eq!(key, key_of(&s), "{}", s.escape_ascii());
         assert_eq!(owned::from_key(&key), owned::canonical(&s));
@@ -64,11 +64,11 @@ fn keys_of_short_strings() {
 /// What isn't the key of some path is refused.
 #[test]
 fn short_strings_as_keys() {
-    let keys: HashSet<_> = over(b"/.a\0\x01\x02", 5)
+    let keys: HashSet<_> = over(b"/.a0\0\x01\x02\xFF", 5)
         .iter()
         .map(|s| key_of(s))
         .collect();
-    for bytes in over(b"/a\0\x01\x02\x03", 5) {
+    for bytes in over(b"/a0\0\x01\x02\x03\xFF", 5) {
         match owned::from_key(&bytes) {
             Ok(path) => assert_eq!(key_of(&path), bytes),
             Err(error) => assert_eq!(error, Error::NotAKey),
@@ -80,15 +80,14 @@ fn short_strings_as_keys() {
 /// A store's order of keys is that of the paths, and a range has what starts with its path.
 #[test]
 fn keys_of_pairs() {
-    let strings = over(b"/.a0", 4);
-    for base in &strings {
-        let first = owned::key(base).unwrap();
-        let end = owned::key_end(&first).unwrap();
+    let strings = over(b"/.a0\0\xFF", 5);
+    let keys: Vec<_> = strings.iter().map(|s| owned::key(s).unwrap()).collect();
+    for (base, first) in strings.iter().zip(&keys) {
+        let end = owned::key_end(first).unwrap();
         assert_eq!(end.is_none(), base.is_empty());
-        for s in &strings {
-            let key = owned::key(s).unwrap();
-            assert_eq!(key.cmp(&first), compare(s, base));
-            let is_in_range = first <= key && end.as_ref().map_or(true, |end| key < *end);
+        for (s, key) in strings.iter().zip(&keys) {
+            assert_eq!(key.cmp(first), compare(s, base));
+            let is_in_range = first <= key && end.as_ref().map_or(true, |end| key < end);
             assert_eq!(is_in_range, starts_with(s, base));
         }
     }

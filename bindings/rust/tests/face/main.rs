@@ -2,6 +2,7 @@
 //! short strings.
 mod beside_std;
 mod edits;
+mod families;
 mod keys;
 mod rows;
 mod short_strings;

@@ -79,6 +79,7 @@ fn joined_below_resolved() {
             let joined = owned::join_below(&resolved, request).unwrap();
             let plain = owned::join(root, path).unwrap();
             assert_eq!(joined, spelling(&kept_parts(&plain)));
+            assert_eq!(owned::resolved(&plain).as_ref(), Ok(&joined));
             assert!(starts_with(&joined, &resolved) && !climbs(path));
         }
     }
@@ -86,8 +87,8 @@ fn joined_below_resolved() {
 
 #[test]
 fn joined_plain() {
-    let roots: [&[u8]; 5] = [b"", b"/", b"/www", b"/w\0w", b"/a/../b//."];
-    for request in over(b"/.a\0", 5) {
+    let roots: [&[u8]; 7] = [b"", b"/", b"/www", b"..", b"/w\0w", b"/a/../b//.", b"/b"];
+    for request in over(b"/.a\0", 6) {
         for root in roots {
             assert_eq!(
                 owned::join_plain(root, &request),
@@ -107,12 +108,23 @@ fn joined_names(root: &[u8], request: &[u8]) -> Vec<u8> {
     [root, b"/", &names].concat()
 }
 
+/// Why a path is no request, if it is none.
+fn refusal(path: &[u8]) -> Result<(), RequestError> {
+    match path.first() {
+        Some(b'/') => Err(RequestError::Rooted),
+        _ if goes_out(path) => Err(RequestError::Climbs),
+        _ if path.contains(&0) => Err(RequestError::Nul),
+        _ => Ok(()),
+    }
+}
+
 #[test]
 fn joined_below() {
-    let roots: [&[u8]; 5] = [b"", b"/", b"/www", b"..", b"/a/../b//."];
-    for path in over(b"/.a\0", 5) {
+    let roots: [&[u8]; 6] = [b"", b"/", b"/www", b"..", b"/a/../b//.", b"/b"];
+    for path in over(b"/.a\0", 6) {
         let read = Request::new(&path);
         assert_eq!(read.map(|_| ()), check_request(&path));
+        assert_eq!(check_request(&path), refusal(&path));
         let Ok(request) = Request::below(&path) else {
             assert!(path.contains(&0));
             continue;
@@ -158,8 +170,10 @@ fn ways() {
 fn is_canonical() {
     for s in over(b"/.a", 6) {
         let resolved = owned::resolved(&s).unwrap();
+        let canonical = owned::canonical(&s).unwrap();
         assert_eq!(owned::canonical(&resolved).as_ref(), Ok(&resolved));
-        let is_its_own = owned::canonical(&s).as_ref() == Ok(&s);
-        assert_eq!(unix_path_rattle::is_canonical(&s), is_its_own);
+        assert_eq!(owned::resolved(&resolved).as_ref(), Ok(&resolved));
+        assert_eq!(owned::resolved(&canonical).as_ref(), Ok(&resolved));
+        assert_eq!(unix_path_rattle::is_canonical(&s), canonical == s);
     }
 }

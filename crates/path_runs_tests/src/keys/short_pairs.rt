@@ -1,17 +1,15 @@
-//! The keys of all pairs of short paths, beside the paths.
+//! Keys that own their bytes, compared: those of all pairs of short paths, beside the paths.
 use path_keys::{PathKey, key_starts_with};
 use std::alloc::{AllocError, Global};
-use std::collections::BTreeMap;
 use std::test::Fail;
 use test_inputs::strings_over;
-use unix_path::{Path, PathBuf};
+use unix_path::Path;
 
-// How many strings of at most 3, 4 and 5 letters there are over six letters.
-const STRINGS_OF_THREE: usize = 259;
+// How many strings of at most 4 letters there are over six letters.
+const STRINGS: usize = 1555;
 
-const STRINGS_OF_FOUR: usize = 1555;
-
-const STRINGS_OF_FIVE: usize = 9331;
+// How many strings of at most 3 letters there are over six letters.
+const SHORTER_STRINGS: usize = 259;
 
 // A path, and its key.
 #[derive(Drop)]
@@ -64,81 +62,13 @@ fn paths_alike(a: &KeyedPath<'_>, paths: &[KeyedPath<'_>]) -> usize {
 }
 
 #[test]
-fn keys_of_pairs_of_four_bytes(rt: HostRuntime) -> Result<(), Fail> {
-    let strings = strings_over(rt.alloc(), b"/.a\x000\xFF", STRINGS_OF_THREE)?;
+fn all_short_pairs(rt: HostRuntime) -> Result<(), Fail> {
+    let strings = strings_over(rt.alloc(), b"/.a\x000\xFF", SHORTER_STRINGS)?;
     let paths = keyed_paths(rt.alloc(), &strings)?;
-    assert!(rt; paths.len() == STRINGS_OF_FOUR);
+    assert!(rt; paths.len() == STRINGS);
     for first in paths.iter() {
         let alike = paths_alike(first, &paths);
-        assert!(rt;
-            alike == STRINGS_OF_FOUR,
-            "{:?}, string {alike}",
-            first.path.bytes
-        );
+        assert!(rt; alike == STRINGS, "{:?}, string {alike}", first.path.bytes);
     }
-    Ok(())
-}
-
-// How many paths begin the first exactly if their keys begin its key, before one doesn't.
-fn paths_begin_alike(a: &KeyedPath<'_>, paths: &[KeyedPath<'_>]) -> usize {
-    for (count, b) in paths.iter().enumerate() {
-        if !begin_alike(a, b) {
-            return count;
-        }
-    }
-    paths.len()
-}
-
-#[test]
-fn keys_that_begin_keys_of_five_bytes(rt: HostRuntime) -> Result<(), Fail> {
-    let strings = strings_over(rt.alloc(), b"/.a\x000\xFF", STRINGS_OF_FOUR)?;
-    let paths = keyed_paths(rt.alloc(), &strings)?;
-    assert!(rt; paths.len() == STRINGS_OF_FIVE);
-    for first in paths.iter() {
-        let alike = paths_begin_alike(first, &paths);
-        assert!(rt;
-            alike == STRINGS_OF_FIVE,
-            "{:?}, string {alike}",
-            first.path.bytes
-        );
-    }
-    Ok(())
-}
-
-// Keeps the key by its path; whether an equal path that was there has the same key.
-fn keep(
-    alloc: Global,
-    keys: &mut BTreeMap<PathBuf, PathKey>,
-    path: Path<'_>,
-) -> Result<bool, AllocError> {
-    let key = PathKey::of(alloc, path)?;
-    let path = path.to_path_buf(alloc)?;
-    if let Some(known) = keys.get(&path) {
-        return Ok(*known == key);
-    }
-    keys.insert(path, key)?;
-    Ok(true)
-}
-
-// Whether each key is greater than the one before it.
-fn ascend(keys: &BTreeMap<PathBuf, PathKey>) -> bool {
-    keys.values().zip(keys.values().skip(1)).all(|(a, b)| a < b)
-}
-
-// Paths in path order, each once, have keys that ascend: so all pairs of them are in the order of
-// their keys.
-#[test]
-fn keys_of_pairs_of_five_bytes(rt: HostRuntime) -> Result<(), Fail> {
-    let alloc = rt.alloc();
-    let strings = strings_over(alloc, b"/.a\x000\xFF", STRINGS_OF_FOUR)?;
-    let mut keys = BTreeMap::new(alloc);
-    for string in strings.iter() {
-        assert!(rt;
-            keep(alloc, &mut keys, Path::from_bytes(string))?,
-            "{string:?}"
-        );
-    }
-    assert!(rt; strings.len() == STRINGS_OF_FIVE);
-    assert!(rt; ascend(&keys));
     Ok(())
 }

@@ -1,5 +1,5 @@
-//! What is collected of walks, beside the canonical spelling of what they leave.
-use path_runs::canonical::{canonical, collected};
+//! What is collected of walks, and written of what they leave, beside its canonical spelling.
+use path_runs::canonical::{canonical, collected, write_canonical};
 use std::alloc::{AllocError, Global};
 use std::test::Fail;
 use test_inputs::{Random, strings_over};
@@ -28,11 +28,15 @@ fn left_after<'a>(walk: Components<'a>, turns: &[u8]) -> Components<'a> {
     left
 }
 
-// Whether what is left of the walk is collected to the bytes of its canonical spelling.
+// Whether what is left of the walk is collected to the bytes of its canonical spelling, and these
+// are written to a buffer that has just the room for them.
 fn is_collected(alloc: Global, left: Components<'_>) -> Result<bool, AllocError> {
     let spelled = canonical(alloc, left.as_path())?;
+    let bytes = spelled.as_path().bytes;
     let joined = collected(alloc, left)?;
-    Ok(joined.as_path().as_unix_str() == spelled.as_path().as_unix_str())
+    let mut out = vec![in alloc; b'#'; bytes.len()]?;
+    let len = write_canonical(left.as_path(), out.as_mut_slice());
+    Ok(joined.as_path().bytes == bytes && len == bytes.len() && out.as_slice() == bytes)
 }
 
 // For how many of the lists of turns the rest that they leave of the path is collected to its

@@ -156,7 +156,10 @@ fn are_in_order() -> bool {
         && !is_same_name(a, b)
         && order_of_names(a, b).is_lt()
         && !is_same_part(Component::CurDir, Component::Normal(UnixStr::new(".")))
+        && order_of_parts(Component::RootDir, Component::CurDir).is_lt()
+        && order_of_parts(Component::CurDir, Component::ParentDir).is_lt()
         && order_of_parts(Component::ParentDir, Component::Normal(a)).is_lt()
+        && order_of_parts(Component::Normal(a), Component::Normal(b)).is_lt()
 }
 
 #[test]

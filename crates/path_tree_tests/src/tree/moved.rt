@@ -1,7 +1,7 @@
 //! Entries that are moved from one base to another, by hand.
 use super::tree_of;
 use path_keys::PathKey;
-use path_tree::{MoveError, PathTree};
+use path_tree::PathTree;
 use std::alloc::{AllocError, Global};
 use std::test::Fail;
 use unix_path::Path;
@@ -94,7 +94,5 @@ fn what_is_moved(rt: HostRuntime) -> Result<(), Fail> {
     for row in MOVES.iter() {
         assert!(rt; is_moved(rt.alloc(), row)?, "{} {}", row.1, row.2);
     }
-    let memory = format!(in rt.alloc(); "{:>14}", MoveError::from(AllocError))?;
-    assert!(rt; memory.as_str() == " out of memory", "{memory}");
     Ok(())
 }

@@ -95,53 +95,66 @@ fn is_entry(
     }
 }
 
+// Whether the tree's values, in path order, are 4, 2, 1 and 3.
+fn has_values_in_order(tree: &PathTree<u32>) -> bool {
+    let mut values = [0; 4];
+    for (place, (_, value)) in tree.iter().enumerate() {
+        if place > 3 {
+            return false;
+        }
+        values[place] = *value;
+    }
+    values == [4, 2, 1, 3]
+}
+
 #[test]
-fn first_and_last_entries(rt: HostRuntime) -> Result<(), Fail> {
-    let alloc = rt.alloc();
-    let tree = tree_of(alloc, &["a.b", "a//b", "b", "a"])?;
-    assert!(rt; is_entry(alloc, tree.first(), "a", 4)?);
-    assert!(rt; is_entry(alloc, tree.last(), "b", 3)?);
-    let empty = tree_of(alloc, &[])?;
+fn entries_in_path_order(rt: HostRuntime) -> Result<(), Fail> {
+    let tree = tree_of(rt.alloc(), &["a.b", "a//b", "b", "a"])?;
+    let is_first = is_entry(rt.alloc(), tree.first(), "a", 4)?;
+    let is_last = is_entry(rt.alloc(), tree.last(), "b", 3)?;
+    assert!(rt; is_first && is_last && has_values_in_order(&tree));
+    let empty = tree_of(rt.alloc(), &[])?;
     assert!(rt; empty.first().is_none() && empty.last().is_none());
     Ok(())
 }
 
-#[test]
-fn values_in_path_order(rt: HostRuntime) -> Result<(), Fail> {
-    let alloc = rt.alloc();
-    let tree = tree_of(alloc, &["a.b", "a//b", "b", "a"])?;
-    let mut values = Vec::new(alloc);
-    for (_, value) in tree.iter() {
-        values.push(*value)?;
-    }
-    assert!(rt; values.as_slice() == [4, 2, 1, 3].as_slice());
-    Ok(())
+// Whether the first tree has these entries that the other lacks.
+fn lacks(
+    tree: &PathTree<u32>,
+    other: &PathTree<u32>,
+    want: &[(&[u8], &u32)],
+) -> Result<bool, AllocError> {
+    Ok(tree.difference(other)?.as_slice() == want)
 }
 
 #[test]
 fn what_another_tree_lacks(rt: HostRuntime) -> Result<(), Fail> {
-    let alloc = rt.alloc();
-    let tree = tree_of(alloc, &["a/b", "c", "a.b"])?;
-    let found = tree.difference(&tree_of(alloc, &["a//b", "b"])?)?;
+    let tree = tree_of(rt.alloc(), &["a/b", "c", "a.b"])?;
+    let other = tree_of(rt.alloc(), &["a//b", "b"])?;
     let want: [(&[u8], &u32); 2] = [(b"a/b\x00", &3), (b"c\x00", &2)];
-    assert!(rt; found.as_slice() == want.as_slice());
-    assert!(rt; tree.difference(&tree)?.is_empty());
+    assert!(rt; lacks(&tree, &other, want.as_slice())? && lacks(&tree, &tree, &[])?);
     Ok(())
+}
+
+// Whether the trees have these entries with different values.
+fn differ(
+    tree: &PathTree<u32>,
+    other: &PathTree<u32>,
+    want: &[(&[u8], &u32, &u32)],
+) -> Result<bool, AllocError> {
+    Ok(tree.changed(other)?.as_slice() == want)
 }
 
 #[test]
 fn what_another_tree_has_changed(rt: HostRuntime) -> Result<(), Fail> {
-    let alloc = rt.alloc();
-    let tree = tree_of(alloc, &["a/b", "c", "a.b", "d"])?;
-    let other = tree_of(alloc, &["a//b", "b", "c/", "a.b", "d/."])?;
-    let found = tree.changed(&other)?;
+    let tree = tree_of(rt.alloc(), &["a/b", "c", "a.b", "d"])?;
+    let other = tree_of(rt.alloc(), &["a//b", "b", "c/", "a.b", "d/."])?;
     let want: [(&[u8], &u32, &u32); 3] = [
         (b"a/b\x00", &3, &4),
         (b"c\x00", &2, &3),
         (b"d\x00", &4, &5),
     ];
-    assert!(rt; found.as_slice() == want.as_slice());
-    assert!(rt; tree.changed(&tree)?.is_empty());
+    assert!(rt; differ(&tree, &other, want.as_slice())? && differ(&tree, &tree, &[])?);
     Ok(())
 }
 
@@ -158,14 +171,13 @@ fn tree_of_many(alloc: Global) -> Result<PathTree<u32>, AllocError> {
 // Few keys are looked up in a tree of many; many are walked beside few.
 #[test]
 fn few_beside_many(rt: HostRuntime) -> Result<(), Fail> {
-    let alloc = rt.alloc();
-    let many = tree_of_many(alloc)?;
-    let few = tree_of(alloc, &["a/b", "b//h/", "c"])?;
+    let many = tree_of_many(rt.alloc())?;
+    let few = tree_of(rt.alloc(), &["a/b", "b//h/", "c"])?;
     let lacking: [(&[u8], &u32); 1] = [(b"c\x00", &3)];
-    assert!(rt; few.difference(&many)?.as_slice() == lacking.as_slice());
     let changed: [(&[u8], &u32, &u32); 1] = [(b"a\x00b\x00", &1, &2)];
-    assert!(rt; few.changed(&many)?.as_slice() == changed.as_slice());
+    let back: [(&[u8], &u32, &u32); 1] = [(b"a\x00b\x00", &2, &1)];
+    assert!(rt; lacks(&few, &many, lacking.as_slice())?);
+    assert!(rt; differ(&few, &many, changed.as_slice())? && differ(&many, &few, back.as_slice())?);
     assert!(rt; many.difference(&few)?.len() == 62);
-    assert!(rt; many.changed(&few)?.len() == 1);
     Ok(())
 }

@@ -1,6 +1,6 @@
 //! Trees of paths that rise, by hand, and beside the same paths inserted one by one.
 use super::has_at;
-use path_tree::{LookupError, PathTree, SortedError};
+use path_tree::{PathTree, SortedError};
 use std::alloc::{AllocError, Global};
 use std::test::Fail;
 use unix_path::Path;
@@ -87,19 +87,5 @@ fn is_as_inserted(alloc: Global) -> Result<bool, AllocError> {
 #[test]
 fn many_paths_make_the_tree_of_their_insertions(rt: HostRuntime) -> Result<(), Fail> {
     assert!(rt; is_as_inserted(rt.alloc())?);
-    Ok(())
-}
-
-#[test]
-fn errors_of_trees_are_printed(rt: HostRuntime) -> Result<(), Fail> {
-    let alloc = rt.alloc();
-    let falls = format!(in alloc; "{:>21}", SortedError::NotRising)?;
-    assert!(rt; falls.as_str() == " the paths don't rise", "{falls}");
-    let memory = format!(in alloc; "{}", SortedError::from(AllocError))?;
-    assert!(rt; memory.as_str() == "out of memory", "{memory}");
-    let absent = format!(in alloc; "{:<13}", LookupError::Absent)?;
-    assert!(rt; absent.as_str() == "no such path ", "{absent}");
-    let memory = format!(in alloc; "{}", LookupError::from(AllocError))?;
-    assert!(rt; memory.as_str() == "out of memory", "{memory}");
     Ok(())
 }

@@ -1,15 +1,15 @@
-//! Rows of calls, each of which shows a rule.
-use crate::archive::{UnpackError, target_of};
-use crate::changes::changes_from;
-use crate::index::{place_of, value_at};
-use crate::manifest::normalise;
-use crate::mounts::mounted_file;
-use crate::router::route;
-use crate::safe::stays_below;
-use crate::server::find_file;
-use crate::site::file_of;
-use crate::tree::Tree;
-use crate::url::map_url;
+//! Rows of calls of the crate `callers`, each of which shows a rule.
+use callers::archive::{UnpackError, target_of};
+use callers::changes::changes_from;
+use callers::index::{place_of, value_at};
+use callers::manifest::normalise;
+use callers::mounts::mounted_file;
+use callers::router::route;
+use callers::safe::stays_below;
+use callers::server::find_file;
+use callers::site::file_of;
+use callers::tree::Tree;
+use callers::url::map_url;
 use path_tree::PathTree;
 use path_within::{RequestError, Root, WithinError};
 use std::alloc::{AllocError, Global};
@@ -63,7 +63,7 @@ static URLS: [(&'static str, Option<&'static str>); 7] = [
 ];
 
 // A path, and its file with `/srv` mounted at `/`, and `/home/me` at `/me` and at `me`.
-static MOUNTED: [(&'static str, Option<&'static str>); 8] = [
+static MOUNTED: [(&'static str, Option<&'static str>); 9] = [
     ("/a/b", Some("/srv/a/b")),
     ("/me/a", Some("/home/me/a")),
     ("//me//./a/", Some("/home/me/a")),
@@ -72,6 +72,7 @@ static MOUNTED: [(&'static str, Option<&'static str>); 8] = [
     ("/me/../a", Some("/home/me/a")),
     ("me/a", Some("/home/me/a")),
     ("a", None),
+    ("/a\0", None),
 ];
 
 // A URL's path, and its file with the prefix `/static` and the root `/srv/./www`, with each `..`
@@ -276,32 +277,21 @@ fn listings_are_ordered(rt: HostRuntime) -> Result<(), Fail> {
     Ok(())
 }
 
-// Whether the tree has what is wanted at the path.
-fn has(tree: &Tree<u8>, path: &PathBuf, want: Option<u8>) -> bool {
-    tree.get(path).copied() == want
-}
-
-// Whether inserting the value at the path gives this old value.
-fn replaces(
-    tree: &mut Tree<u8>,
-    alloc: Global,
-    path: &str,
-    value: u8,
-    old: Option<u8>,
-) -> Result<bool, AllocError> {
-    Ok(tree.insert(alloc, Path::from_text(path), value)? == old)
+// Whether `a/b` and `a//b/` are one file of the tree, which is found and taken out at the key.
+fn is_one_file(alloc: Global, tree: &mut Tree<u8>, key: &PathBuf) -> Result<bool, AllocError> {
+    let first = tree.insert(alloc, Path::from_text("a/b"), 1)?;
+    let second = tree.insert(alloc, Path::from_text("a//b/"), 2)?;
+    let found = tree.get(key).copied();
+    let taken = tree.remove(key);
+    let is_replaced = first == None && second == Some(1);
+    Ok(is_replaced && found == Some(2) && taken == Some(2) && tree.get(key).is_none())
 }
 
 #[test]
 fn equal_paths_are_one_file(rt: HostRuntime) -> Result<(), Fail> {
-    let alloc = rt.alloc();
-    let key = PathBuf::from_text(alloc, "a/./b")?;
-    let mut tree = Tree::new(alloc);
-    assert!(rt; replaces(&mut tree, alloc, "a/b", 1, None)?);
-    assert!(rt; replaces(&mut tree, alloc, "a//b/", 2, Some(1))?);
-    assert!(rt; has(&tree, &key, Some(2)));
-    assert!(rt; tree.remove(&key) == Some(2));
-    assert!(rt; has(&tree, &key, None));
+    let key = PathBuf::from_text(rt.alloc(), "a/./b")?;
+    let mut tree = Tree::new(rt.alloc());
+    assert!(rt; is_one_file(rt.alloc(), &mut tree, &key)?);
     Ok(())
 }
 
@@ -313,14 +303,19 @@ fn an_equal_view_is_found(rt: HostRuntime) -> Result<(), Fail> {
     Ok(())
 }
 
+// Whether `a//b` and `a/c` have these places among the files.
+fn have_places(files: &[(PathBuf, u8)], found: usize, missing: usize) -> bool {
+    place_of(files, Path::from_text("a//b")) == Ok(found)
+        && place_of(files, Path::from_text("a/c")) == Err(missing)
+}
+
 #[test]
 fn an_equal_path_is_found_in_order(rt: HostRuntime) -> Result<(), Fail> {
-    let alloc = rt.alloc();
-    let a = PathBuf::from_text(alloc, "a")?;
-    let b = PathBuf::from_text(alloc, "b")?;
-    let files = [(a, 1u8), (PathBuf::from_text(alloc, "a/b")?, 2), (b, 3)];
-    assert!(rt; place_of(files.as_slice(), Path::from_text("a//b")) == Ok(1));
-    assert!(rt; place_of(files.as_slice(), Path::from_text("a/c")) == Err(2));
+    let mut files = Vec::new(rt.alloc());
+    for (path, value) in [("a", 1u8), ("a/b", 2), ("b", 3)] {
+        files.push((PathBuf::from_text(rt.alloc(), path)?, value))?;
+    }
+    assert!(rt; have_places(&files, 1, 2));
     Ok(())
 }
 
@@ -338,14 +333,22 @@ fn mounts(alloc: Global) -> Result<PathTree<Root>, AllocError> {
     Ok(mounts)
 }
 
+// Whether the path has its file.
+fn is_mounted(
+    alloc: Global,
+    mounts: &PathTree<Root>,
+    row: &(&str, Option<&str>),
+) -> Result<bool, AllocError> {
+    let found = mounted_file(alloc, mounts, Path::from_text(row.0))?;
+    Ok(is_wanted(found, row.1))
+}
+
 #[test]
 fn mounts_have_files(rt: HostRuntime) -> Result<(), Fail> {
     let mounts = mounts(rt.alloc())?;
     for row in MOUNTED.iter() {
-        let found = mounted_file(rt.alloc(), &mounts, Path::from_text(row.0))?;
-        assert!(rt; is_wanted(found, row.1), "{}", row.0);
+        assert!(rt; is_mounted(rt.alloc(), &mounts, row)?, "{:?}", row.0);
     }
-    assert!(rt; mounted_file(rt.alloc(), &mounts, Path::from_text("/a\0"))?.is_none());
     Ok(())
 }
 
@@ -391,11 +394,15 @@ fn has_changed(alloc: Global) -> Result<bool, AllocError> {
     )
 }
 
+// Whether nothing has changed from the manifest to itself.
+fn has_stayed(tree: &PathTree<u8>) -> Result<bool, AllocError> {
+    let none = changes_from(tree, tree)?;
+    Ok(none.new.is_empty() && none.gone.is_empty() && none.different.is_empty())
+}
+
 #[test]
 fn manifests_are_compared(rt: HostRuntime) -> Result<(), Fail> {
-    assert!(rt; has_changed(rt.alloc())?);
     let tree = tree_of(rt.alloc(), [("a", 1)].as_slice())?;
-    let none = changes_from(&tree, &tree)?;
-    assert!(rt; none.new.is_empty() && none.gone.is_empty() && none.different.is_empty());
+    assert!(rt; has_changed(rt.alloc())? && has_stayed(&tree)?);
     Ok(())
 }

@@ -1,0 +1,152 @@
+//! What is resolved, joined and led to by calls that allocate, beside the calls that write to
+//! buffers: of all short paths and pairs of them, and of random ones.
+use path_within::resolved::{resolved, write_resolved};
+use path_within::way::{way, write_way};
+use path_within::within::{climbs, has_root_or_up, join_plain, join_within};
+use path_within::{WithinError, has_nul};
+use std::alloc::{AllocError, Global};
+use std::test::Fail;
+use test_inputs::{Random, strings_over};
+use unix_path::Path;
+
+// How many strings of at most 5 letters there are over three letters.
+const SHORTER_PATHS: usize = 364;
+
+// How many strings of at most 4 letters there are over three letters, and of at most 3 over four.
+const SHORTER_STRINGS: usize = 121;
+
+const SHORTER_WITH_NULS: usize = 85;
+
+const RANDOM_PAIRS: u32 = 10_000;
+
+// Whether the path is written resolved, as these bytes, where there is just enough room, and not if
+// there is a byte less.
+fn is_written(path: Path<'_>, want: &[u8]) -> bool {
+    let mut buffer = [b'#'; 65];
+    let len = want.len();
+    if len > 64 {
+        return false;
+    }
+    let needed = write_resolved(path, &mut buffer[..len.saturating_sub(1)]);
+    let is_untouched = buffer == [b'#'; 65];
+    let written = write_resolved(path, &mut buffer[..len]);
+    let is_exact = buffer.as_slice().starts_with(want) && buffer[len] == b'#';
+    needed == len && written == len && is_untouched && is_exact
+}
+
+// Whether the path, of at most 64 bytes, is resolved as it is written resolved.
+fn is_resolved(alloc: Global, path: &[u8]) -> Result<bool, AllocError> {
+    let path = Path::from_bytes(path);
+    let made = resolved(alloc, path)?;
+    Ok(is_written(path, made.as_path().bytes))
+}
+
+// Whether the way is written, as these bytes, where there is just enough room, and not if there is
+// a byte less.
+fn is_way_written(from: Path<'_>, to: Path<'_>, want: &[u8]) -> bool {
+    let mut buffer = [b'#'; 163];
+    let len = want.len();
+    if len > 162 {
+        return false;
+    }
+    let needed = write_way(from, to, &mut buffer[..len.saturating_sub(1)]);
+    let is_untouched = buffer == [b'#'; 163];
+    let written = write_way(from, to, &mut buffer[..len]);
+    let is_exact = buffer.as_slice().starts_with(want) && buffer[len] == b'#';
+    needed == Some(len) && written == Some(len) && is_untouched && is_exact
+}
+
+// Whether the way is the one that is written, or there is none and nothing is written.
+fn is_led(alloc: Global, from: Path<'_>, to: Path<'_>) -> Result<bool, AllocError> {
+    match way(alloc, from, to)? {
+        Some(made) => Ok(is_way_written(from, to, made.as_path().bytes)),
+        None => {
+            let mut buffer = [b'#'; 16];
+            Ok(write_way(from, to, &mut buffer).is_none() && buffer == [b'#'; 16])
+        }
+    }
+}
+
+// Whether the join within is the whole join resolved, or is refused and the request climbs.
+fn is_joined_within(
+    alloc: Global,
+    root: Path<'_>,
+    request: Path<'_>,
+    whole: Path<'_>,
+) -> Result<bool, AllocError> {
+    match join_within(alloc, root, request) {
+        Ok(joined) => {
+            let want = resolved(alloc, whole)?;
+            Ok(!climbs(request) && joined.as_path().bytes == want.as_path().bytes)
+        }
+        Err(error) => Ok(matches!(error, WithinError::Escapes) && climbs(request)),
+    }
+}
+
+// Whether the plain join is the whole join, or is refused for what the request has.
+fn is_joined_plain(alloc: Global, root: Path<'_>, request: Path<'_>, whole: Path<'_>) -> bool {
+    let escapes = has_root_or_up(request);
+    let is_cut = has_nul(request.bytes);
+    match join_plain(alloc, root, request) {
+        Ok(joined) => !escapes && !is_cut && joined.as_path().bytes == whole.bytes,
+        Err(WithinError::Escapes) => escapes,
+        Err(WithinError::Nul) => !escapes && is_cut,
+        Err(WithinError::Memory(_)) => false,
+    }
+}
+
+// Whether all this holds of the two paths.
+fn is_made(alloc: Global, first: &[u8], second: &[u8]) -> Result<bool, AllocError> {
+    let (a, b) = (Path::from_bytes(first), Path::from_bytes(second));
+    let whole = a.join(alloc, b)?;
+    Ok(
+        is_joined_plain(alloc, a, b, whole.as_path())
+            && is_joined_within(alloc, a, b, whole.as_path())?
+            && is_led(alloc, a, b)?,
+    )
+}
+
+// How many of the strings make with the first what they should, before one doesn't.
+fn count_made(alloc: Global, first: &[u8], strings: &[Vec<u8>]) -> Result<usize, AllocError> {
+    for (count, second) in strings.iter().enumerate() {
+        if !is_made(alloc, first, second)? {
+            return Ok(count);
+        }
+    }
+    Ok(strings.len())
+}
+
+#[test]
+fn all_short_paths(rt: HostRuntime) -> Result<(), Fail> {
+    for path in strings_over(rt.alloc(), b"/.a", SHORTER_PATHS)?.iter() {
+        assert!(rt; is_resolved(rt.alloc(), path)?, "{path:?}");
+    }
+    Ok(())
+}
+
+#[test]
+fn all_short_pairs(rt: HostRuntime) -> Result<(), Fail> {
+    let strings = strings_over(rt.alloc(), b"/.a", SHORTER_STRINGS)?;
+    let with_nuls = strings_over(rt.alloc(), b"/.a\0", SHORTER_WITH_NULS)?;
+    for first in strings.iter() {
+        let count = count_made(rt.alloc(), first, &strings)?;
+        let others = count_made(rt.alloc(), first, &with_nuls)?;
+        assert!(rt;
+            count == 364 && others == 341,
+            "{first:?}, {count}, {others}"
+        );
+    }
+    Ok(())
+}
+
+#[test]
+fn random_pairs(rt: HostRuntime) -> Result<(), Fail> {
+    let mut random = Random::new(26);
+    for _ in 0..RANDOM_PAIRS {
+        let first = random.string(rt.alloc())?;
+        let second = random.string(rt.alloc())?;
+        let made = is_resolved(rt.alloc(), &first)? && is_made(rt.alloc(), &first, &second)?;
+        assert!(rt; made, "{first:?} {second:?}");
+    }
+    Ok(())
+}

@@ -1,0 +1,163 @@
+//! Requests below roots: joins that are made anew, in a buffer and written, and what is left of
+//! them; of all short strings and of random ones.
+use path_within::within::has_root_or_up;
+use path_within::{Request, Root, StripError, has_nul};
+use std::alloc::{AllocError, Global};
+use std::test::Fail;
+use test_inputs::{Random, strings_over};
+use unix_path::{Path, PathBuf};
+
+// How many strings of at most 5 letters there are over four letters.
+const SHORTER_STRINGS: usize = 1365;
+
+const RANDOM_STRINGS: u32 = 2_000;
+
+// A root, and what it resolves to.
+static ROOTS: [(&'static [u8], &'static [u8]); 5] = [
+    (b"", b""),
+    (b"/", b"/"),
+    (b"/www", b"/www"),
+    (b"..", b".."),
+    (b"/a/../b//.", b"/b"),
+];
+
+// The names of the request, with a slash between two of them.
+fn names_of(alloc: Global, request: Request<'_>) -> Result<Vec<u8>, AllocError> {
+    let mut names = vec![in alloc; b'#'; request.as_path().bytes.len()]?;
+    let len = request.write_below(Path::from_bytes(b""), &mut names);
+    names.truncate(len);
+    Ok(names)
+}
+
+// Whether the request has these names, and ends in a slash if filler follows its last part, a name.
+fn has_names(request: Request<'_>, names: &[u8]) -> bool {
+    let path = request.as_path();
+    let ends_in_slash = match path.file_name() {
+        Some(name) => !path.bytes.ends_with(name.bytes),
+        None => false,
+    };
+    request.file_name() == Path::from_bytes(names).file_name()
+        && request.is_root() == names.is_empty()
+        && request.ends_in_slash() == ends_in_slash
+}
+
+// Whether the join is written where there is just enough room, and not if there is a byte less.
+fn is_written(root: Path<'_>, request: Request<'_>, want: &[u8]) -> bool {
+    let mut buffer = [b'#'; 80];
+    let len = want.len();
+    if len >= 80 {
+        return false;
+    }
+    let needed = request.write_below(root, &mut buffer[..len.saturating_sub(1)]);
+    let is_untouched = buffer == [b'#'; 80];
+    let written = request.write_below(root, &mut buffer[..len]);
+    let is_exact = buffer.as_slice().starts_with(want) && buffer[len] == b'#';
+    needed == len && written == len && is_untouched && is_exact
+}
+
+// Whether the root contains the path, and these names are left of it without the root.
+fn is_stripped(
+    alloc: Global,
+    root: &Root,
+    path: Path<'_>,
+    names: &[u8],
+) -> Result<bool, AllocError> {
+    match root.strip(path) {
+        Ok(left) => Ok(names_of(alloc, left)?.as_slice() == names && root.contains(path)),
+        Err(_) => Ok(false),
+    }
+}
+
+// Whether the joins of the request are the one that is written, and its names are left of it.
+fn is_joined(
+    alloc: Global,
+    root: &Root,
+    buffer: &mut PathBuf,
+    request: Request<'_>,
+) -> Result<bool, AllocError> {
+    let names = names_of(alloc, request)?;
+    let joined = root.join(alloc, request)?;
+    root.join_into(buffer, request)?;
+    let want = joined.as_path().bytes;
+    Ok(
+        has_names(request, &names)
+            && buffer.as_path().bytes == want
+            && is_written(root.as_path(), request, want)
+            && is_stripped(alloc, root, joined.as_path(), &names)?,
+    )
+}
+
+// Whether the root tells of the path what follows the root in it.
+fn is_told(root: &Root, path: Path<'_>) -> bool {
+    let is_told = match (root.strip(path), path.strip_prefix(root.as_path())) {
+        (Ok(request), Ok(left)) => {
+            request.as_path().bytes == left.bytes && !has_root_or_up(left) && !has_nul(left.bytes)
+        }
+        (Err(StripError::Outside), Ok(left)) => has_root_or_up(left),
+        (Err(StripError::Nul), Ok(left)) => !has_root_or_up(left) && has_nul(left.bytes),
+        (Err(StripError::Outside), Err(_)) => true,
+        _ => false,
+    };
+    is_told && root.contains(path) == root.strip(path).is_ok()
+}
+
+// Whether the path is joined below the root, unless it is no request, and the root tells of it and
+// of its join as it stands.
+fn is_read(
+    alloc: Global,
+    root: &Root,
+    buffer: &mut PathBuf,
+    path: &[u8],
+) -> Result<bool, AllocError> {
+    let path = Path::from_bytes(path);
+    let is_new = match Request::new(path) {
+        Ok(request) => {
+            request.as_path().bytes == path.bytes && is_joined(alloc, root, buffer, request)?
+        }
+        Err(_) => true,
+    };
+    let is_below = match Request::below(path) {
+        Ok(request) => is_joined(alloc, root, buffer, request)?,
+        Err(_) => true,
+    };
+    let whole = root.as_path().join(alloc, path)?;
+    Ok(is_new && is_below && is_told(root, path) && is_told(root, whole.as_path()))
+}
+
+// The first of these strings that is wrong below the root, if one is; the root's bytes, if they
+// aren't those that are wanted.
+fn first_wrong<'a>(
+    alloc: Global,
+    root: &Root,
+    want: &'a [u8],
+    strings: &'a [Vec<u8>],
+) -> Result<Option<&'a [u8]>, AllocError> {
+    if root.as_path().bytes != want {
+        return Ok(Some(want));
+    }
+    let mut buffer = PathBuf::new(alloc);
+    for string in strings {
+        if !is_read(alloc, root, &mut buffer, string)? {
+            return Ok(Some(string));
+        }
+    }
+    Ok(None)
+}
+
+#[test]
+fn requests_below_roots(rt: HostRuntime) -> Result<(), Fail> {
+    let mut strings = strings_over(rt.alloc(), b"/.a\0", SHORTER_STRINGS)?;
+    let mut random = Random::new(27);
+    for _ in 0..RANDOM_STRINGS {
+        strings.push(random.string(rt.alloc())?)?;
+    }
+    for (root, want) in ROOTS.iter() {
+        let kept = Root::kept(rt.alloc(), Path::from_bytes(root))?;
+        let wrong = first_wrong(rt.alloc(), &kept, root, &strings)?;
+        assert!(rt; wrong.is_none(), "{root:?} {wrong:?}");
+        let resolved = Root::new(rt.alloc(), Path::from_bytes(root))?;
+        let wrong = first_wrong(rt.alloc(), &resolved, want, &strings)?;
+        assert!(rt; wrong.is_none(), "{root:?} {wrong:?}");
+    }
+    Ok(())
+}
