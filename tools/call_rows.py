@@ -20,6 +20,9 @@ SAID = {
     "to_string_lossy": "show",
 }
 ORDERS = {b"-1": b"less", b"0": b"equal", b"1": b"greater"}
+# The edits in place that do what a call does to a copy.
+EDITS = {"join": b"push:", "with_file_name": b"name:"}
+NOT_UTF8 = b"path contains invalid UTF-8 characters"
 
 
 @dataclasses.dataclass(frozen=True)
@@ -98,6 +101,20 @@ def lines_of(row):
         yield [b"back", fields[0]], b"\t".join(fields[1::2][::-1])
     elif row.call == "next_ancestor":
         yield [b"ancestors", fields[0]], b"\t".join(fields[1:])
+    elif row.call == "is_utf8" and row.spelled[1] == "false":
+        yield [b"json", fields[0]], NOT_UTF8
+    yield from edits_of(row)
+
+
+def edits_of(row):
+    """The lines of `pathtool` that ask the row of one edit in place, and their answers."""
+    fields = row.fields
+    if row.call in EDITS:
+        yield [b"edit", fields[0], EDITS[row.call] + fields[1]], fields[2] + b"\tok"
+    elif row.call == "parent":
+        is_top = row.spelled[1] == "!none"
+        answer = fields[0] + b"\tfalse" if is_top else fields[1] + b"\ttrue"
+        yield [b"edit", fields[0], b"pop"], answer
 
 
 def write_lines(name):

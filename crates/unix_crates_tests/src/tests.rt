@@ -1,4 +1,6 @@
-//! Tables of calls with their answers, and tests of what no clause says.
+//! Tables of calls that only Rattle has, with their answers, and tests of what no clause says. Rows
+//! of calls that C or pathtool has are in tests/rows.txt and vectors.
+mod answers;
 mod buffers;
 mod bytes;
 mod debug_texts;
@@ -17,7 +19,6 @@ mod order;
 mod parents;
 mod parts;
 mod places;
-mod prefixes;
 mod readme;
 mod recording_hasher;
 mod refusing_writer;

@@ -99,6 +99,33 @@ fn chunks() {
     }
 }
 
+/// Text that is longer than what is read at once, of one width and of all widths, with a byte that
+/// is no text at each place: the first chunk is what comes before it.
+#[test]
+fn long_chunks() {
+    for unit in ["a", "a\u{E9}\u{73BB}\u{1F980}"] {
+        let text = unit.repeat(90 / unit.len()).into_bytes();
+        assert!(paths::is_utf8(&text));
+        for place in 0..text.len() {
+            let mut broken = text.clone();
+            broken[place] = 0xFF;
+            let error = std::str::from_utf8(&broken).unwrap_err();
+            let first = paths::chunks(&broken).next().unwrap();
+            assert!(!paths::is_utf8(&broken), "{place}");
+            assert_eq!(first.valid, &broken[..error.valid_up_to()]);
+            assert_eq!(Some(first.broken.len()), error.error_len(), "{place}");
+        }
+    }
+}
+
+#[test]
+fn long_texts_of_two_widths() {
+    for place in 0..40 {
+        let text = ["a".repeat(place), "\u{E9}".into(), "a".repeat(39 - place)].concat();
+        assert!(paths::is_utf8(text.as_bytes()), "{place}");
+    }
+}
+
 /// Two paths are compared as std compares them.
 pub fn are_compared(a: &[u8], b: &[u8]) {
     let (p, q) = (path(a), path(b));

@@ -1,6 +1,4 @@
-//! Tests of unix_bytes: views, owned bytes, buffers, chunks, lossy texts, searches and failing
-//! writers.
-mod buffers;
+//! Tests of unix_bytes: views, owned bytes, chunks, lossy texts, searches and failing writers.
 mod bytes;
 mod callers;
 mod chunks;

@@ -1,6 +1,6 @@
 //! Rows of debug texts of views and walks, and the text of the error of stripping.
-use super::texts::{assert_debug_text, assert_text};
-use std::test::Fail;
+use super::texts::{assert_debug_text, is_debug_text, is_text};
+use std::alloc::Global;
 use unix_bytes::bytes::UnixStr;
 use unix_path::path::StripPrefixError;
 use unix_path::{Component, Path};
@@ -8,7 +8,7 @@ use unix_path::{Component, Path};
 #[test]
 fn debug_texts(rt: HostRuntime) {
     let alloc = rt.alloc();
-    let path = Path::new(UnixStr::new("/tmp"));
+    let path = Path::from_text("/tmp");
     let mut parts = path.components();
     assert_debug_text(&rt, alloc, &parts, "Components([RootDir, Normal(\"tmp\")])");
     let _ = parts.next();
@@ -43,21 +43,26 @@ fn debug_texts_of_components(rt: HostRuntime) {
 }
 
 fn strip_error(path: &str, base: &str) -> Option<StripPrefixError> {
-    match Path::new(UnixStr::new(path)).strip_prefix(Path::new(UnixStr::new(base))) {
+    match Path::from_text(path).strip_prefix(Path::from_text(base)) {
         Ok(_) => None,
         Err(error) => Some(error),
     }
 }
 
+// Whether there is an error, with the right texts.
+fn has_texts(alloc: Global, error: Option<StripPrefixError>) -> bool {
+    match error {
+        Some(error) => {
+            let text = format!(in alloc; "{error}|{error:>18}");
+            let is_printed = is_text(text, "prefix not found|  prefix not found");
+            is_printed && is_debug_text(alloc, &error, "StripPrefixError(())")
+        }
+        None => false,
+    }
+}
+
 #[test]
-fn texts_of_the_strip_error(rt: HostRuntime) -> Result<(), Fail> {
-    let alloc = rt.alloc();
-    let Some(error) = strip_error("foo/bar", "foo/bar/baz") else {
-        return Err(Fail::new("no error"));
-    };
-    assert_debug_text(&rt, alloc, &error, "StripPrefixError(())");
-    let text = format!(in alloc; "{error}|{error:>18}");
-    assert_text(&rt, text, "prefix not found|  prefix not found");
-    assert!(rt; strip_error("foo", "bar") == Some(error));
-    Ok(())
+fn texts_of_the_strip_error(rt: HostRuntime) {
+    let error = strip_error("foo/bar", "foo/bar/baz");
+    assert!(rt; has_texts(rt.alloc(), error) && strip_error("foo", "bar") == error);
 }

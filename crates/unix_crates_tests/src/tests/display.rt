@@ -1,15 +1,27 @@
 //! Rows of paths as text, and displays into writers that fail.
+ghost use Rattle.std.specs.Prelude.{◌≡◌, IfOk};
+ghost use Rattle.std.specs.String.{string_bytes};
+ghost use Rattle.unix_bytes.specs.Lossy.{lossy_of};
+
+use super::answers::assert_each;
 use super::refusing_writer::RefusingWriter;
 use super::texts::{assert_debug_text, assert_text, is_lossy_text, is_text};
 use std::alloc::{AllocError, Global};
 use std::fmt;
 use std::fmt::Write;
-use std::test::Fail;
-use unix_bytes::bytes::{LossyText, UnixStr};
+use unix_bytes::bytes::LossyText;
+use unix_bytes::lossy::Utf8Lossy;
 use unix_path::{Display, Path};
 
+// What a caller can prove of the text that it prints.
+fn lossy_text(alloc: Global, bytes: &[u8]) -> Result<String, AllocError>
+    ensures { IfOk result (λ text. string_bytes text ≡ lossy_of bytes.now) }
+{
+    format!(in alloc; "{}", Utf8Lossy::from_bytes(bytes))
+}
+
 // Bytes, and their lossy text.
-static LOSSY_TEXTS: [(&[u8], &str); 7] = [
+static LOSSY_TEXTS: [(&[u8], &str); 11] = [
     (b"", ""),
     (b"/tmp", "/tmp"),
     (b"a\xffb\xe2\x82", "a\u{FFFD}b\u{FFFD}"),
@@ -17,12 +29,17 @@ static LOSSY_TEXTS: [(&[u8], &str); 7] = [
     (b"\xed\xa0\x80", "\u{FFFD}\u{FFFD}\u{FFFD}"),
     (b"\xff", "\u{FFFD}"),
     (b"\xef\xbf\xbd", "\u{FFFD}"),
+    (b"a", "a"),
+    (b"\xc3(", "\u{FFFD}("),
+    (b"\xf0\x9f\x98A", "\u{FFFD}A"),
+    (b"\xe0\x80\x80", "\u{FFFD}\u{FFFD}\u{FFFD}"),
 ];
 
 fn is_shown(alloc: Global, bytes: &[u8], want: &str) -> bool {
-    let path = Path::new(UnixStr::from_bytes(bytes));
-    let is_displayed = is_text(format!(in alloc; "{}", path.display()), want);
-    is_displayed && is_lossy_text(path.to_string_lossy(alloc), want)
+    let path = Path::from_bytes(bytes);
+    is_text(lossy_text(alloc, bytes), want)
+        && is_text(format!(in alloc; "{}", path.display()), want)
+        && is_lossy_text(path.to_string_lossy(alloc), want)
 }
 
 #[test]
@@ -32,27 +49,40 @@ fn paths_are_shown(rt: HostRuntime) {
     }
 }
 
+// Text is padded as a `str` is; bytes that are no text ignore width, precision and fill.
 #[test]
 fn text_is_padded(rt: HostRuntime) {
     let alloc = rt.alloc();
-    let ab = Path::new(UnixStr::new("ab")).display();
+    let ab = Display::from_bytes(b"ab");
     assert_text(&rt, format!(in alloc; "{ab:>5}"), "   ab");
-    let empty = Path::new(UnixStr::new("")).display();
+    assert_text(&rt, format!(in alloc; "{ab:.1}"), "a");
+    let empty = Display::from_bytes(b"");
     assert_text(&rt, format!(in alloc; "{empty:*<4}"), "****");
     let broken = Display::from_bytes(b"a\xff");
     assert_text(&rt, format!(in alloc; "{broken:>5}"), "a\u{FFFD}");
+    assert_text(&rt, format!(in alloc; "{broken:*<4.1}"), "a\u{FFFD}");
     assert_debug_text(&rt, alloc, &broken, "\"a\u{FFFD}\"");
 }
 
+// Whether a borrowed lossy text was given, and is this one.
+fn is_borrowed(given: Result<LossyText<'_>, AllocError>, wanted: &str) -> bool {
+    match given {
+        Ok(LossyText::Borrowed(text)) => text == wanted,
+        _ => false,
+    }
+}
+
 #[test]
-fn text_is_borrowed(rt: HostRuntime) -> Result<(), Fail> {
-    let alloc = rt.alloc();
-    let path = Path::new(UnixStr::new("ab"));
-    assert!(rt; path.to_str() == Some("ab"));
-    assert!(rt; matches!(path.to_string_lossy(alloc)?, LossyText::Borrowed(_)));
-    let broken = Path::new(UnixStr::from_bytes(b"a\xff"));
-    assert!(rt; broken.to_str().is_none());
-    Ok(())
+fn text_is_borrowed(rt: HostRuntime) {
+    let (path, broken) = (Path::from_text("ab"), Path::from_bytes(b"a\xff"));
+    assert_each(
+        &rt,
+        &[
+            is_borrowed(path.to_string_lossy(rt.alloc()), "ab"),
+            path.to_str() == Some("ab"),
+            broken.to_str().is_none(),
+        ],
+    );
 }
 
 // Whether the display failed with the one write that was refused, made `most` writes before it, and
@@ -82,31 +112,50 @@ fn writes_of(alloc: Global, path: Path<'_>, whole: &str) -> Option<usize> {
     Some(count)
 }
 
-#[test]
-fn one_refused_write_ends_a_display(rt: HostRuntime) {
-    let path = Path::from_bytes(b"a\xFFb");
-    let writes = writes_of(rt.alloc(), path, "a\u{FFFD}b");
-    assert!(rt; matches!(writes, Some(count) if count > 0));
+// Whether the display gives this text, and ends at each write that is refused.
+fn ends_at_each(alloc: Global, bytes: &[u8], whole: &str) -> bool {
+    match writes_of(alloc, Path::from_bytes(bytes), whole) {
+        Some(count) => count > 0,
+        None => false,
+    }
 }
 
-// Four stretches of 400 letters, each with a byte behind it that is no text; and their lossy text.
-fn long_stretches(alloc: Global) -> Result<(Vec<u8>, String), AllocError> {
-    let mut bytes = Vec::new(alloc);
+#[test]
+fn one_refused_write_ends_a_display(rt: HostRuntime) {
+    let alloc = rt.alloc();
+    assert_each(
+        &rt,
+        &[
+            ends_at_each(alloc, b"ab", "ab"),
+            ends_at_each(alloc, b"a\xFFb", "a\u{FFFD}b"),
+            ends_at_each(alloc, b"a\xFFb\xE2\x82", "a\u{FFFD}b\u{FFFD}"),
+            ends_at_each(alloc, b"\xED\xA0\x80", "\u{FFFD}\u{FFFD}\u{FFFD}"),
+        ],
+    );
+}
+
+// The lossy text of four stretches of 400 letters, each with a byte after it that is no text.
+fn text_of_stretches(alloc: Global) -> Result<String, AllocError> {
     let mut whole = String::new(alloc);
     for letter in ["a", "b", "c", "d"] {
         for _ in 0..400 {
-            bytes.extend_from_slice(letter.as_bytes())?;
             whole.push_str(letter)?;
         }
-        bytes.push(0xFF)?;
         whole.push_str("\u{FFFD}")?;
     }
-    Ok((bytes, whole))
+    Ok(whole)
 }
 
 // How many writes the display of the long stretches makes, if it ends at each that is refused.
 fn writes_of_long_stretches(alloc: Global) -> Result<Option<usize>, AllocError> {
-    let (bytes, whole) = long_stretches(alloc)?;
+    let mut bytes = [0xFF; 1604];
+    for place in 0..400 {
+        bytes[place] = b'a';
+        bytes[place + 401] = b'b';
+        bytes[place + 802] = b'c';
+        bytes[place + 1203] = b'd';
+    }
+    let whole = text_of_stretches(alloc)?;
     Ok(writes_of(alloc, Path::from_bytes(&bytes), whole.as_str()))
 }
 

@@ -3,7 +3,6 @@ use super::edits::has_bytes;
 use super::texts::{assert_text, text_of_error};
 use super::views::path;
 use std::alloc::{AllocError, Global};
-use std::test::Fail;
 use unix_bytes::bytes::UnixStr;
 use unix_path::{ExtensionError, PathBuf};
 
@@ -49,22 +48,6 @@ fn an_extension_is_put_behind_the_stem(rt: HostRuntime) {
         let answer = takes_extension(rt.alloc(), row.0, row.1, row.2, row.3);
         assert!(rt; matches!(answer, Ok(true)), "{} {}", row.0, row.1);
     }
-}
-
-#[test]
-fn a_name_can_become_two_dots(rt: HostRuntime) -> Result<(), Fail> {
-    let mut dots = PathBuf::from_text(rt.alloc(), "...")?;
-    let answer = dots.set_extension(UnixStr::new(""));
-    assert!(rt; matches!(answer, Ok(true)) && dots.as_path().file_name().is_none());
-    Ok(())
-}
-
-#[test]
-fn a_name_can_vanish(rt: HostRuntime) -> Result<(), Fail> {
-    let mut hidden = PathBuf::from_text(rt.alloc(), "a/..foo")?;
-    let answer = hidden.set_extension(UnixStr::new(""));
-    assert!(rt; matches!(answer, Ok(true)) && hidden.as_path() == path("a"));
-    Ok(())
 }
 
 // A path, an extension, what the path becomes, and whether there is a file name.

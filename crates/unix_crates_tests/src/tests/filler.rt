@@ -40,19 +40,32 @@ fn marks_trailing(bytes: &[u8], crosses: &[u8]) -> bool {
     bytes.len() == crosses.len()
 }
 
-#[test]
-fn bytes_are_filler(rt: HostRuntime) {
-    for &(bytes, in_front, behind, len) in &FILLER {
-        assert!(rt; marks_filler(bytes, in_front));
-        assert!(rt; marks_trailing(bytes, behind));
-        assert!(rt; filler_len(bytes) == len);
-        assert!(rt; bytes.get(len..) == Some(past_filler(bytes)));
-    }
+// Whether all is as the row says.
+fn has_filler(row: &Filler) -> bool {
+    let (bytes, in_front, behind, len) = *row;
+    marks_filler(bytes, in_front)
+        && marks_trailing(bytes, behind)
+        && filler_len(bytes) == len
+        && bytes.get(len..) == Some(past_filler(bytes))
 }
 
 #[test]
+fn bytes_are_filler(rt: HostRuntime) {
+    for row in FILLER.iter() {
+        assert!(rt; has_filler(row));
+    }
+}
+
+// Long filler, and what follows it.
+static LONG_FILLER: [(&[u8], &[u8]); 3] = [
+    (b"///////////////////././././././a/", b"a/"),
+    (b"/////////////////////////////////", b""),
+    (b"/././././././././././../././././.", b"../././././."),
+];
+
+#[test]
 fn long_filler_is_passed(rt: HostRuntime) {
-    assert!(rt; past_filler(b"///////////////////././././././a/") == b"a/".as_slice());
-    assert!(rt; past_filler(b"/////////////////////////////////") == b"".as_slice());
-    assert!(rt; past_filler(b"/././././././././././../././././.") == b"../././././.".as_slice());
+    for &(bytes, rest) in &LONG_FILLER {
+        assert!(rt; past_filler(bytes) == rest);
+    }
 }

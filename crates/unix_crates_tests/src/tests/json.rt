@@ -5,7 +5,6 @@ ghost use Rattle.unix_path.specs.Buffers.{path_bytes};
 use super::texts::{assert_text, text_of_error};
 use serde_json::Value;
 use std::alloc::{AllocError, Global};
-use std::test::Fail;
 use unix_bytes::bytes::UnixStr;
 use unix_path::json::{JsonError, from_json, to_json};
 use unix_path::{Path, PathBuf};
@@ -42,22 +41,20 @@ fn is_path(given: Result<PathBuf, JsonError>, text: &str) -> bool {
     }
 }
 
-#[test]
-fn a_written_path_reads_back(rt: HostRuntime) {
-    let alloc = rt.alloc();
-    for text in ["a\"b", "", "a\\b", "\u{1}", "\u{E9}", "a//b/."] {
-        let path = Path::new(UnixStr::new(text));
-        assert!(rt; is_string(to_json(alloc, path), text), "{text}");
-        assert!(rt; is_path(write_then_read(alloc, path), text), "{text}");
-        assert!(rt; is_path(copied(alloc, path), text), "{text}");
-    }
+static TEXTS: [&str; 6] = ["a\"b", "", "a\\b", "\u{1}", "\u{E9}", "a//b/."];
+
+// Whether the path of this text is written as this text, and read back.
+fn reads_back(alloc: Global, text: &str) -> bool {
+    let path = Path::from_text(text);
+    is_string(to_json(alloc, path), text)
+        && is_path(write_then_read(alloc, path), text)
+        && is_path(copied(alloc, path), text)
 }
 
 #[test]
-fn bytes_that_are_not_text_are_refused(rt: HostRuntime) {
-    for bytes in [b"f\xFF".as_slice(), b"\xED\xA0\x80", b"a/\xC3"] {
-        let answer = to_json(rt.alloc(), Path::new(UnixStr::from_bytes(bytes)));
-        assert!(rt; matches!(answer, Err(JsonError::NotUtf8)));
+fn a_written_path_reads_back(rt: HostRuntime) {
+    for text in TEXTS.iter() {
+        assert!(rt; reads_back(rt.alloc(), text), "{text}");
     }
 }
 
@@ -69,15 +66,23 @@ fn is_no_string(alloc: Global, text: &str) -> bool {
     }
 }
 
+// Whether the text is JSON of a string, and of this path.
+fn is_json_of(alloc: Global, text: &str, path: &str) -> bool {
+    match Value::from_str(alloc, text) {
+        Ok(value) => is_path(from_json(alloc, &value), path),
+        Err(_) => false,
+    }
+}
+
+static NO_STRINGS: [&str; 7] = ["7", "-7", "7.5", "null", "true", "[\"a\"]", "{\"a\":\"b\"}"];
+
 #[test]
-fn values_that_are_not_strings_are_refused(rt: HostRuntime) -> Result<(), Fail> {
+fn values_that_are_not_strings_are_refused(rt: HostRuntime) {
     let alloc = rt.alloc();
-    for text in ["7", "-7", "7.5", "null", "true", "[\"a\"]", "{\"a\":\"b\"}"] {
+    for text in NO_STRINGS.iter() {
         assert!(rt; is_no_string(alloc, text), "{text}");
     }
-    let value = Value::from_str(alloc, "\"7\"")?;
-    assert!(rt; is_path(from_json(alloc, &value), "7"));
-    Ok(())
+    assert!(rt; is_json_of(alloc, "\"7\"", "7"));
 }
 
 #[test]

@@ -4,6 +4,7 @@ ghost use Rattle.std.specs.Prelude.{◌↔◌, IsTrue};
 ghost use Rattle.unix_path.specs.Kept.{boxed_bytes};
 ghost use Rattle.unix_path.specs.Parts.{SameValues};
 
+use super::answers::assert_each;
 use super::kept_paths::owners_of;
 use super::recording_hasher::RecordingHasher;
 use super::views::path;
@@ -11,7 +12,6 @@ use std::alloc::{AllocError, Global};
 use std::cmp::Ordering;
 use std::collections::{BTreeMap, HashMap};
 use std::hash::Hash;
-use std::test::Fail;
 use unix_bytes::bytes::UnixStr;
 use unix_path::{BoxedPath, CowPath, Path, PathBuf, RcPath};
 
@@ -58,52 +58,70 @@ fn each_equals_each(paths: &[Path<'_>], others: &[Path<'_>]) -> bool {
     true
 }
 
-#[test]
-fn all_types_compare_alike(rt: HostRuntime) -> Result<(), Fail> {
-    let alloc = rt.alloc();
-    let (buffer, boxed, shared) = owners_of(alloc, "a//b")?;
-    let cow = CowPath::from(&buffer);
-    let paths = [
-        path("a//b"),
-        buffer.as_path(),
-        boxed.as_path(),
-        shared.as_path(),
+// What keeps a path: a buffer, a boxed path and a shared one.
+type Owners = (PathBuf, BoxedPath, RcPath);
+
+// The path of this text, and those of the owners, and of the borrowed or owned path.
+fn views_of<'a>(text: &'a str, owners: &'a Owners, cow: &'a CowPath<'_>) -> [Path<'a>; 5] {
+    [
+        path(text),
+        owners.0.as_path(),
+        owners.1.as_path(),
+        owners.2.as_path(),
         cow.as_path(),
-    ];
-    let (other_buffer, other_boxed, other_shared) = owners_of(alloc, "a/b")?;
-    let other_cow = CowPath::from(other_buffer.clone()?);
-    let others = [
-        path("a/b"),
-        other_buffer.as_path(),
-        other_boxed.as_path(),
-        other_shared.as_path(),
-        other_cow.as_path(),
-    ];
-    assert!(rt; have_text(&paths, "a//b") && have_text(&others, "a/b"));
-    assert!(rt; each_equals_each(&paths, &others));
-    Ok(())
+    ]
+}
+
+// Whether the five types of `a//b` keep its bytes, and equal those of `a/b`, which keep theirs.
+fn compare_alike(owners: &Owners, others: &Owners, owned: CowPath<'_>) -> bool {
+    let cow = CowPath::from(&owners.0);
+    let paths = views_of("a//b", owners, &cow);
+    let others = views_of("a/b", others, &owned);
+    let have_texts = have_text(&paths, "a//b") && have_text(&others, "a/b");
+    have_texts && each_equals_each(&paths, &others)
+}
+
+// Whether that is so of owners that are made.
+fn all_compare_alike(alloc: Global) -> Result<bool, AllocError> {
+    let owners = owners_of(alloc, "a//b")?;
+    let others = owners_of(alloc, "a/b")?;
+    let owned = CowPath::from(others.0.clone()?);
+    Ok(compare_alike(&owners, &others, owned))
+}
+
+#[test]
+fn all_types_compare_alike(rt: HostRuntime) {
+    assert!(rt; matches!(all_compare_alike(rt.alloc()), Ok(true)));
+}
+
+// Whether each of the five types feeds a hasher this input.
+fn feed_alike(owners: &Owners, owned: CowPath<'_>, input: RecordingHasher) -> bool {
+    let cow = CowPath::from(&owners.0);
+    hash_input(&owners.0) == input
+        && hash_input(&owners.1) == input
+        && hash_input(&owners.2) == input
+        && hash_input(&cow) == input
+        && hash_input(&owned) == input
 }
 
 // Whether each type of path with this text feeds a hasher this input.
-fn feed_alike(alloc: Global, text: &str, input: RecordingHasher) -> Result<bool, AllocError> {
+fn all_feed_alike(alloc: Global, text: &str, input: RecordingHasher) -> Result<bool, AllocError> {
     let owners = owners_of(alloc, text)?;
     let owned = CowPath::from(owners.0.clone()?);
-    let inputs = [
-        hash_input(&owners.0),
-        hash_input(&owners.1),
-        hash_input(&owners.2),
-        hash_input(&CowPath::from(&owners.0)),
-        hash_input(&owned),
-    ];
-    Ok(inputs.iter().all(|found| *found == input))
+    Ok(feed_alike(&owners, owned, input))
 }
 
 #[test]
 fn all_types_hash_alike(rt: HostRuntime) {
     let input = hash_input(&path("a/b"));
-    assert!(rt; input.len > 0);
-    assert!(rt; matches!(feed_alike(rt.alloc(), "a/b", input), Ok(true)));
-    assert!(rt; matches!(feed_alike(rt.alloc(), "a//b", input), Ok(true)));
+    assert_each(
+        &rt,
+        &[
+            input.len > 0,
+            matches!(all_feed_alike(rt.alloc(), "a/b", input), Ok(true)),
+            matches!(all_feed_alike(rt.alloc(), "a//b", input), Ok(true)),
+        ],
+    );
 }
 
 // Whether `less` comes before the two others, which are equal.
@@ -131,53 +149,49 @@ fn shared_are_ordered(alloc: Global) -> Result<bool, AllocError> {
     Ok(are_ordered(&less, &a, &b))
 }
 
-#[test]
-fn boxed_and_shared_paths_are_ordered(rt: HostRuntime) {
-    assert!(rt; matches!(boxed_are_ordered(rt.alloc()), Ok(true)));
-    assert!(rt; matches!(shared_are_ordered(rt.alloc()), Ok(true)));
+// Whether borrowed and owned paths are in order.
+fn cows_are_ordered(alloc: Global) -> Result<bool, AllocError> {
+    let less = CowPath::from(PathBuf::from_text(alloc, "a/b")?);
+    let buffer = PathBuf::from_text(alloc, "a.b//")?;
+    let (a, b) = (CowPath::from(&buffer), CowPath::from(path("a.b/.")));
+    Ok(are_ordered(&less, &a, &b))
 }
 
 #[test]
-fn borrowed_and_owned_paths_are_ordered(rt: HostRuntime) -> Result<(), Fail> {
-    let alloc = rt.alloc();
-    let less = CowPath::from(PathBuf::from_text(alloc, "a/b")?);
-    let buffer = PathBuf::from_text(alloc, "a.b//")?;
-    assert!(rt;
-        are_ordered(
-            &less,
-            &CowPath::from(&buffer),
-            &CowPath::from(path("a.b/."))
-        )
+fn kept_paths_are_ordered(rt: HostRuntime) {
+    assert_each(
+        &rt,
+        &[
+            matches!(boxed_are_ordered(rt.alloc()), Ok(true)),
+            matches!(shared_are_ordered(rt.alloc()), Ok(true)),
+            matches!(cows_are_ordered(rt.alloc()), Ok(true)),
+        ],
     );
-    Ok(())
 }
 
 // Whether an ordered map finds a boxed path by an equal one.
-fn ordered_map_finds(alloc: Global, boxed: BoxedPath) -> Result<bool, AllocError> {
+fn ordered_map_finds(alloc: Global) -> Result<bool, AllocError> {
     let mut map = BTreeMap::new(alloc);
-    map.insert(boxed, 1)?;
+    map.insert(BoxedPath::from_path(alloc, path("a//b"))?, 1)?;
     Ok(map.get(&BoxedPath::from_path(alloc, path("a/b/."))?) == Some(&1))
 }
 
 // Whether a hashed map finds a shared path by an equal one.
-fn hashed_map_finds(alloc: Global, shared: RcPath) -> Result<bool, AllocError> {
+fn hashed_map_finds(alloc: Global) -> Result<bool, AllocError> {
     let mut map = HashMap::new(alloc);
-    map.insert(shared, 1)?;
+    map.insert(RcPath::from_path(alloc, path("a//b"))?, 1)?;
     Ok(map.get(&RcPath::from_path(alloc, path("a/b/."))?) == Some(&1))
 }
 
 #[test]
-fn maps_find_equal_paths(rt: HostRuntime) -> Result<(), Fail> {
-    let alloc = rt.alloc();
-    let owners = owners_of(alloc, "a//b")?;
-    assert!(rt; matches!(ordered_map_finds(alloc, owners.1), Ok(true)));
-    assert!(rt; matches!(hashed_map_finds(alloc, owners.2), Ok(true)));
-    Ok(())
+fn maps_find_equal_paths(rt: HostRuntime) {
+    assert!(rt; matches!(ordered_map_finds(rt.alloc()), Ok(true)));
+    assert!(rt; matches!(hashed_map_finds(rt.alloc()), Ok(true)));
 }
 
-#[test]
-fn each_receiver_equals_each(rt: HostRuntime) -> Result<(), Fail> {
-    let alloc = rt.alloc();
+// Whether the path `foo/bar`, the same pushed part by part, and both as borrowed or owned paths are
+// equal, each to each.
+fn receivers_are_equal(alloc: Global) -> Result<bool, AllocError> {
     let borrowed = path("foo/bar");
     let mut owned = PathBuf::new(alloc);
     owned.push(path("foo"))?;
@@ -190,6 +204,10 @@ fn each_receiver_equals_each(rt: HostRuntime) -> Result<(), Fail> {
         borrowed_cow.as_path(),
         owned_cow.as_path(),
     ];
-    assert!(rt; each_equals_each(&all, &all));
-    Ok(())
+    Ok(each_equals_each(&all, &all))
+}
+
+#[test]
+fn each_receiver_equals_each(rt: HostRuntime) {
+    assert!(rt; matches!(receivers_are_equal(rt.alloc()), Ok(true)));
 }

@@ -3,10 +3,10 @@
 ghost use Rattle.std.specs.Prelude.{◌≡◌, IsOk, IfOk};
 ghost use Rattle.unix_path.specs.Buffers.{path_bytes};
 
-use super::texts::is_text;
+use super::answers::assert_each;
+use super::texts::is_debug_text;
 use super::views::path;
 use std::alloc::{AllocError, Global};
-use std::fmt;
 use std::test::Fail;
 use unix_bytes::bytes::UnixStr;
 use unix_path::{BoxedPath, CowPath, Path, PathBuf, RcPath};
@@ -42,7 +42,7 @@ fn has_bytes(path: Path<'_>, text: &str) -> bool {
 
 // Whether a buffer was given and has the bytes of `text`. This function and the next two take the
 // answer of a call, so that a test holds no owner over an assertion.
-fn buffer_has_bytes(given: Result<PathBuf, AllocError>, text: &str) -> bool {
+pub(super) fn buffer_has_bytes(given: Result<PathBuf, AllocError>, text: &str) -> bool {
     match given {
         Ok(buffer) => has_bytes(buffer.as_path(), text),
         Err(AllocError) => false,
@@ -75,13 +75,18 @@ fn are_equal(cow: CowPath<'_>, other: CowPath<'_>) -> bool {
     cow.as_path() == other.as_path()
 }
 
+// Whether the path is equal to what the buffer becomes, as a view, borrowed and owned.
+fn becomes_each(path: Path<'_>, buffer: PathBuf) -> bool {
+    let is_view = are_equal(CowPath::from(path), CowPath::from(buffer.as_path()));
+    let is_borrowed = are_equal(CowPath::from(path), CowPath::from(&buffer));
+    let is_owned = are_equal(CowPath::from(path), CowPath::from(buffer));
+    is_view && is_borrowed && is_owned
+}
+
 #[test]
 fn paths_become_borrowed_or_owned(rt: HostRuntime) -> Result<(), Fail> {
-    let home = path("/home/foo");
     let buffer = PathBuf::from_text(rt.alloc(), "/home/foo")?;
-    assert!(rt; are_equal(CowPath::from(home), CowPath::from(buffer.as_path())));
-    assert!(rt; are_equal(CowPath::from(home), CowPath::from(&buffer)));
-    assert!(rt; are_equal(CowPath::from(home), CowPath::from(buffer)));
+    assert!(rt; becomes_each(path("/home/foo"), buffer));
     Ok(())
 }
 
@@ -97,13 +102,17 @@ fn equal_each_other(path: Path<'_>, boxed: Path<'_>, buffer: Path<'_>) -> bool {
     path == boxed && boxed == buffer && buffer == path
 }
 
+// Whether a box of the path, and a copy that is boxed and unboxed, are equal to it.
+fn is_boxed(alloc: Global, path: Path<'_>) -> Result<bool, AllocError> {
+    let boxed = BoxedPath::from_path(alloc, path)?;
+    let buffer = box_then_unbox(alloc, path)?;
+    Ok(equal_each_other(path, boxed.as_path(), buffer.as_path()))
+}
+
 #[test]
-fn paths_are_boxed(rt: HostRuntime) -> Result<(), Fail> {
-    let some = path("some/sort/of/path");
-    let boxed = BoxedPath::from_path(rt.alloc(), some)?;
-    let buffer = box_then_unbox(rt.alloc(), some)?;
-    assert!(rt; equal_each_other(some, boxed.as_path(), buffer.as_path()));
-    Ok(())
+fn paths_are_boxed(rt: HostRuntime) {
+    let answer = is_boxed(rt.alloc(), path("some/sort/of/path"));
+    assert!(rt; matches!(answer, Ok(true)));
 }
 
 // Whether a shared path was given and is equal to this one.
@@ -144,14 +153,23 @@ fn shares_keep_the_bytes(alloc: Global) -> Result<bool, AllocError> {
     Ok(shared_has_bytes(shared.clone(), "foo/"))
 }
 
+// Whether the box that the buffer `foo/` becomes has these bytes.
+fn a_buffer_becomes_a_box(alloc: Global) -> Result<bool, AllocError> {
+    let boxed = buffer_with_room(alloc)?.into_boxed_path();
+    Ok(boxed_has_bytes(boxed, "foo/"))
+}
+
 #[test]
-fn boxed_and_shared_paths_keep_the_bytes(rt: HostRuntime) -> Result<(), Fail> {
+fn boxed_and_shared_paths_keep_the_bytes(rt: HostRuntime) {
     let alloc = rt.alloc();
-    assert!(rt; boxes_keep_the_bytes(alloc)?);
-    let buffer = buffer_with_room(alloc)?;
-    assert!(rt; boxed_has_bytes(buffer.into_boxed_path(), "foo/"));
-    assert!(rt; shares_keep_the_bytes(alloc)?);
-    Ok(())
+    assert_each(
+        &rt,
+        &[
+            matches!(boxes_keep_the_bytes(alloc), Ok(true)),
+            matches!(a_buffer_becomes_a_box(alloc), Ok(true)),
+            matches!(shares_keep_the_bytes(alloc), Ok(true)),
+        ],
+    );
 }
 
 // Whether a clone of the path `foo/`, and a box of one, have these bytes.
@@ -167,77 +185,64 @@ fn keeps_the_bytes(alloc: Global, path: CowPath<'_>) -> Result<bool, AllocError>
     Ok(buffer_has_bytes(path.into_owned(alloc), "foo/") && is_kept)
 }
 
-#[test]
-fn borrowed_and_owned_paths_keep_the_bytes(rt: HostRuntime) -> Result<(), Fail> {
-    let alloc = rt.alloc();
-    assert!(rt; keeps_the_bytes(alloc, CowPath::from(path("foo/")))?);
-    assert!(rt; keeps_the_bytes(alloc, CowPath::from(buffer_with_room(alloc)?))?);
-    assert!(rt; buffer_has_bytes(rewrap(alloc, buffer_with_room(alloc)?), "foo/"));
-    Ok(())
+// Whether the buffer `foo/` keeps its bytes as a path, and once it is made one and a buffer again.
+fn a_buffer_keeps_the_bytes(alloc: Global) -> Result<bool, AllocError> {
+    let is_kept = keeps_the_bytes(alloc, CowPath::from(buffer_with_room(alloc)?))?;
+    Ok(buffer_has_bytes(rewrap(alloc, buffer_with_room(alloc)?), "foo/") && is_kept)
 }
 
 #[test]
-fn a_buffer_keeps_a_name(rt: HostRuntime) -> Result<(), Fail> {
+fn borrowed_and_owned_paths_keep_the_bytes(rt: HostRuntime) {
+    let alloc = rt.alloc();
+    let is_kept = keeps_the_bytes(alloc, CowPath::from(path("foo/")));
+    assert!(rt; matches!(is_kept, Ok(true)));
+    assert!(rt; matches!(a_buffer_keeps_the_bytes(alloc), Ok(true)));
+}
+
+// Whether the buffers that an owned text and owned bytes become have the bytes of `text`.
+fn owned_keep_a_name(alloc: Global, text: &str) -> Result<bool, AllocError> {
+    let of_text = PathBuf::from(String::from_str(alloc, text)?);
+    let of_bytes = PathBuf::from(UnixStr::new(text).to_unix_string(alloc)?);
+    Ok(has_bytes(of_text.as_path(), text) && has_bytes(of_bytes.as_path(), text))
+}
+
+#[test]
+fn a_buffer_keeps_a_name(rt: HostRuntime) {
     let alloc = rt.alloc();
     let name = UnixStr::new("foo.txt");
-    assert!(rt; buffer_has_bytes(PathBuf::from_unix_str(alloc, name), "foo.txt"));
-    assert!(rt; buffer_has_bytes(PathBuf::from_text(alloc, "foo.txt"), "foo.txt"));
-    let text = String::from_str(alloc, "foo.txt")?;
-    assert!(rt; buffer_has_bytes(Ok(PathBuf::from(text)), "foo.txt"));
-    let bytes = name.to_unix_string(alloc)?;
-    assert!(rt; buffer_has_bytes(Ok(PathBuf::from(bytes)), "foo.txt"));
-    Ok(())
-}
-
-// Whether each owner has the bytes of `text`.
-fn have_bytes(owners: &(PathBuf, BoxedPath, RcPath), text: &str) -> bool {
-    has_bytes(owners.0.as_path(), text)
-        && has_bytes(owners.1.as_path(), text)
-        && has_bytes(owners.2.as_path(), text)
-}
-
-#[test]
-fn each_owner_keeps_a_name(rt: HostRuntime) -> Result<(), Fail> {
-    let owners = owners_of(rt.alloc(), "foo.txt")?;
-    assert!(rt; have_bytes(&owners, "foo.txt"));
-    Ok(())
-}
-
-#[test]
-fn a_borrowed_or_owned_path_keeps_a_name(rt: HostRuntime) -> Result<(), Fail> {
-    let name = UnixStr::new("foo.txt");
-    let buffer = PathBuf::from_unix_str(rt.alloc(), name)?;
-    assert!(rt; cow_has_bytes(CowPath::from(Path::new(name)), "foo.txt"));
-    assert!(rt; cow_has_bytes(CowPath::from(&buffer), "foo.txt"));
-    assert!(rt; cow_has_bytes(CowPath::from(buffer), "foo.txt"));
-    Ok(())
-}
-
-// Whether the debug text is `/tmp` in quotes.
-fn has_debug_text(alloc: Global, value: &impl fmt::Debug) -> bool {
-    is_text(format!(in alloc; "{value:?}"), "\"/tmp\"")
+    assert_each(
+        &rt,
+        &[
+            buffer_has_bytes(PathBuf::from_unix_str(alloc, name), "foo.txt"),
+            buffer_has_bytes(PathBuf::from_text(alloc, "foo.txt"), "foo.txt"),
+            matches!(owned_keep_a_name(alloc, "foo.txt"), Ok(true)),
+        ],
+    );
 }
 
 // Whether the debug text of the borrowed or owned path is `/tmp` in quotes.
 fn cow_has_debug_text(alloc: Global, cow: CowPath<'_>) -> bool {
-    has_debug_text(alloc, &cow)
+    is_debug_text(alloc, &cow, "\"/tmp\"")
 }
 
 // Whether the debug text of each owner is `/tmp` in quotes, and so is that of a borrowed path.
 fn have_debug_text(alloc: Global, owners: &(PathBuf, BoxedPath, RcPath)) -> bool {
-    has_debug_text(alloc, &owners.0)
-        && has_debug_text(alloc, &owners.1)
-        && has_debug_text(alloc, &owners.2)
+    let wanted = "\"/tmp\"";
+    is_debug_text(alloc, &owners.0, wanted)
+        && is_debug_text(alloc, &owners.1, wanted)
+        && is_debug_text(alloc, &owners.2, wanted)
         && cow_has_debug_text(alloc, CowPath::from(&owners.0))
 }
 
-#[test]
-fn debug_texts(rt: HostRuntime) -> Result<(), Fail> {
-    let alloc = rt.alloc();
+// Whether the debug text of each type of path that keeps `/tmp` is that in quotes.
+fn are_quoted(alloc: Global) -> Result<bool, AllocError> {
     let owners = owners_of(alloc, "/tmp")?;
-    assert!(rt; have_debug_text(alloc, &owners));
-    drop(owners);
-    let buffer = PathBuf::from_text(alloc, "/tmp")?;
-    assert!(rt; cow_has_debug_text(alloc, CowPath::from(buffer)));
-    Ok(())
+    let owned = CowPath::from(owners.0.clone()?);
+    let is_quoted = cow_has_debug_text(alloc, owned);
+    Ok(is_quoted && have_debug_text(alloc, &owners))
+}
+
+#[test]
+fn debug_texts(rt: HostRuntime) {
+    assert!(rt; matches!(are_quoted(rt.alloc()), Ok(true)));
 }

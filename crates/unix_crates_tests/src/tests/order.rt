@@ -9,6 +9,7 @@ ghost use Rattle.unix_path.specs.Order.{value_cmp, values_cmp};
 ghost use Rattle.unix_path.specs.Hashed.{value_input, hash_input_of};
 ghost use Rattle.unix_path.specs.Views.{value_of};
 
+use super::answers::assert_each;
 use super::recording_hasher::RecordingHasher;
 use super::views::path;
 use std::cmp::Ordering;
@@ -70,12 +71,6 @@ fn same_paths<'a>(a: Path<'a>, b: Path<'a>) -> bool
     a == b
 }
 
-fn order_paths<'a>(a: Path<'a>, b: Path<'a>) -> Ordering
-    ensures { result ≡ values_cmp (values a.entry.bytes.now) (values b.entry.bytes.now) }
-{
-    a.cmp(&b)
-}
-
 fn feed_path<H: Hasher>(a: Path<'_>, state: &mut H)
     ensures { state.new ≡ fold H.write state.old (hash_input_of (values a.entry.bytes.now)) }
 {
@@ -90,7 +85,7 @@ fn hash_input(text: &str) -> RecordingHasher {
 }
 
 // Two paths, and how the first compares with the second.
-static ORDERS: [(&str, &str, Ordering); 18] = [
+static ORDERS: [(&str, &str, Ordering); 30] = [
     ("a/./b", "a/b", Ordering::Equal),
     ("foo", "foo", Ordering::Equal),
     ("a/b", "a.b", Ordering::Less),
@@ -109,15 +104,29 @@ static ORDERS: [(&str, &str, Ordering); 18] = [
     ("./a/b", "a/b", Ordering::Less),
     ("a/c", "a/b/../c", Ordering::Greater),
     (".", "..", Ordering::Less),
+    ("a/b", "ab", Ordering::Less),
+    ("a/bc", "a/b", Ordering::Greater),
+    ("/./a", "/a", Ordering::Equal),
+    ("a/.", "a/..", Ordering::Less),
+    (".a", ".", Ordering::Greater),
+    ("a/", "a/.", Ordering::Equal),
+    ("a//b", "a/b", Ordering::Equal),
+    ("//", "/", Ordering::Equal),
+    ("x/y/a", "x/y/a", Ordering::Equal),
+    ("x/+", "x/..", Ordering::Greater),
+    ("x/a/b", "x/a.b", Ordering::Less),
+    (
+        "a longer name/of/two/parts",
+        "a longer name/of//two/partial",
+        Ordering::Greater,
+    ),
 ];
 
 // Whether two paths, and walks over both, compare so; equal paths feed a hasher alike.
 fn is_ordered(a: &str, b: &str, order: Ordering) -> bool {
     let (p, q) = (path(a), path(b));
     let (walk, other) = (p.components(), q.components());
-    order_paths(p, q) == order
-        && order_paths(q, p) == order.reverse()
-        && p.partial_cmp(&q) == Some(order)
+    p.partial_cmp(&q) == Some(order)
         && same_paths(p, q) == order.is_eq()
         && order_walks(walk, other) == order
         && PartialOrd::partial_cmp(&walk, &other) == Some(order)
@@ -132,48 +141,19 @@ fn rows_of_the_order(rt: HostRuntime) {
     }
 }
 
-// The order of two paths, and the place just after the last slash of what both begin with.
-static COMMON_DIRS: [(&str, &str, Ordering, usize); 14] = [
-    ("a/./b", "a/b", Ordering::Equal, 2),
-    ("a/b", "ab", Ordering::Less, 0),
-    ("a/bc", "a/b", Ordering::Greater, 2),
-    ("/./a", "/a", Ordering::Equal, 1),
-    ("./a", "a", Ordering::Less, 0),
-    ("a/.", "a/..", Ordering::Less, 2),
-    (".a", ".", Ordering::Greater, 0),
-    ("a/", "a/.", Ordering::Equal, 2),
-    ("a//b", "a/b", Ordering::Equal, 2),
-    ("//", "/", Ordering::Equal, 1),
-    ("x/y/a", "x/y/a", Ordering::Equal, 4),
-    ("x/+", "x/..", Ordering::Greater, 2),
-    ("x/a/b", "x/a.b", Ordering::Less, 2),
-    (
-        "a longer name/of/two/parts",
-        "a longer name/of//two/partial",
-        Ordering::Greater,
-        17,
-    ),
-];
-
-#[test]
-fn rows_of_common_dirs(rt: HostRuntime) {
-    for row in COMMON_DIRS.iter() {
-        let (p, q) = (path(row.0), path(row.1));
-        assert!(rt; is_ordered(row.0, row.1, row.2), "{} {}", row.0, row.1);
-        assert!(rt;
-            p.common_dir(q) == row.3 && q.common_dir(p) == row.3,
-            "{}",
-            row.3
-        );
-    }
-}
-
 #[test]
 fn walks_are_equal_by_what_is_left(rt: HostRuntime) {
     let mut walk = path("x/a/b").components();
-    assert!(rt; !same_walks(walk, path("a//b").components()));
-    assert!(rt; walk.next() == Some(Component::Normal(UnixStr::new("x"))));
-    assert!(rt; same_walks(walk, path("a//b").components()));
+    let other = path("a//b").components();
+    let first = Component::Normal(UnixStr::new("x"));
+    assert_each(
+        &rt,
+        &[
+            !same_walks(walk, other),
+            walk.next() == Some(first),
+            same_walks(walk, other),
+        ],
+    );
 }
 
 // Whether the components ascend, and no two are equal.
@@ -202,9 +182,16 @@ fn components_and_names(rt: HostRuntime) {
         names.0,
         names.1,
     ];
-    assert!(rt; are_ascending(&kinds));
-    assert!(rt; order_names(a, b) == Ordering::Less && order_names(b, a) == Ordering::Greater);
-    assert!(rt; same_names(a, a) && !same_names(a, b));
+    assert_each(
+        &rt,
+        &[
+            are_ascending(&kinds),
+            order_names(a, b) == Ordering::Less,
+            order_names(b, a) == Ordering::Greater,
+            same_names(a, a),
+            !same_names(a, b),
+        ],
+    );
 }
 
 // What paths feed a hasher, counted out by hand: for each part its bytes, a slash, and zeros up to
@@ -264,13 +251,21 @@ fn component_hash_input(part: Component<'_>) -> RecordingHasher {
 
 #[test]
 fn paths_feed_their_components(rt: HostRuntime) {
-    assert!(rt; feed_differently(&["a", "b", "/a", "./a", "..", "ab", "a/b", "b/a", "a\0", ""]));
+    let paths = ["a", "b", "/a", "./a", "..", "ab", "a/b", "b/a", "a\0", ""];
     let mut parts = component_hash_input(Component::Normal(UnixStr::new("a")));
     feed_component(Component::Normal(UnixStr::new("b")), &mut parts);
-    assert!(rt; hash_input("a//b") == parts && parts.len > 0);
     let mut name = RecordingHasher::new();
     feed_name(UnixStr::new("a"), &mut name);
-    assert!(rt; name.len > 0 && name != hash_input("a"));
+    assert_each(
+        &rt,
+        &[
+            feed_differently(&paths),
+            hash_input("a//b") == parts,
+            parts.len > 0,
+            name.len > 0,
+            name != hash_input("a"),
+        ],
+    );
 }
 
 // No path has a name `.` or `..`. Such a name, as a component, is not equal to `CurDir` or
@@ -279,7 +274,13 @@ fn paths_feed_their_components(rt: HostRuntime) {
 fn components_may_feed_alike(rt: HostRuntime) {
     let dot = Component::Normal(UnixStr::new("."));
     let dots = Component::Normal(UnixStr::new(".."));
-    assert!(rt; dot != Component::CurDir && dots != Component::ParentDir);
-    assert!(rt; component_hash_input(dot) == component_hash_input(Component::CurDir));
-    assert!(rt; component_hash_input(dots) == component_hash_input(Component::ParentDir));
+    assert_each(
+        &rt,
+        &[
+            dot != Component::CurDir,
+            dots != Component::ParentDir,
+            component_hash_input(dot) == component_hash_input(Component::CurDir),
+            component_hash_input(dots) == component_hash_input(Component::ParentDir),
+        ],
+    );
 }

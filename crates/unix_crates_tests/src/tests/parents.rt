@@ -1,53 +1,12 @@
-//! Rows of parents and ancestors, and what a caller proves of them.
+//! What a caller proves of ancestors, and how a walk over them ends.
 ghost use Rattle.std.specs.Prelude.{◌≡◌, IfOk, map};
 ghost use Rattle.unix_path.specs.Ancestors.{ancestors_left};
 
-use super::views::{bytes, path, view};
+use super::answers::assert_each;
+use super::views::path;
 use std::alloc::{AllocError, Global};
-use std::test::Fail;
 use unix_bytes::bytes::UnixStr;
 use unix_path::{Ancestors, Path};
-
-// A path and its parent.
-static PARENTS: [(&str, Option<&str>); 5] = [
-    ("./foo/bar.txt", Some("./foo")),
-    ("/tmp/foo/bar.txt", Some("/tmp/foo")),
-    ("/tmp//foo/.", Some("/tmp")),
-    ("//", None),
-    ("", None),
-];
-
-#[test]
-fn parents(rt: HostRuntime) {
-    for row in PARENTS.iter() {
-        assert!(rt; bytes(path(row.0).parent()) == view(row.1), "{}", row.0);
-    }
-}
-
-// A path and its ancestors.
-static ANCESTORS: [(&str, &[&str]); 4] = [
-    ("../a", &["../a", "..", ""]),
-    ("/foo/bar", &["/foo/bar", "/foo", "/"]),
-    ("", &[""]),
-    ("/tmp//foo/.", &["/tmp//foo/.", "/tmp", "/"]),
-];
-
-fn has_ancestors(text: &str, paths: &[&str]) -> bool {
-    let mut walk = path(text).ancestors();
-    for want in paths {
-        if bytes(walk.next()) != Some(UnixStr::new(want)) {
-            return false;
-        }
-    }
-    walk.next().is_none() && walk.next().is_none()
-}
-
-#[test]
-fn ancestors(rt: HostRuntime) {
-    for row in ANCESTORS.iter() {
-        assert!(rt; has_ancestors(row.0, row.1), "{}", row.0);
-    }
-}
 
 // What a caller proves of a walk over the ancestors.
 fn list_ancestors(alloc: Global, walk: Ancestors<'_>) -> Result<Vec<Path<'_>>, AllocError>
@@ -57,10 +16,27 @@ fn list_ancestors(alloc: Global, walk: Ancestors<'_>) -> Result<Vec<Path<'_>>, A
     walk.collect(alloc)
 }
 
+// Whether the list was given, and is that of `/foo/bar`.
+fn is_list(given: Result<Vec<Path<'_>>, AllocError>) -> bool {
+    match given {
+        Ok(list) => list.len() == 3 && list[1].as_unix_str() == UnixStr::new("/foo"),
+        Err(AllocError) => false,
+    }
+}
+
 #[test]
-fn ancestors_are_collected(rt: HostRuntime) -> Result<(), Fail> {
-    let list = list_ancestors(rt.alloc(), path("/foo/bar").ancestors())?;
-    assert_eq!(rt; list.len(), 3);
-    assert!(rt; list[1].as_unix_str() == UnixStr::new("/foo"));
-    Ok(())
+fn ancestors_are_collected(rt: HostRuntime) {
+    let walk = path("/foo/bar").ancestors();
+    assert!(rt; is_list(list_ancestors(rt.alloc(), walk)));
+}
+
+#[test]
+fn ended_ancestors_stay_ended(rt: HostRuntime) {
+    let mut walk = path("/").ancestors();
+    let answers = [
+        walk.next().is_some(),
+        walk.next().is_none(),
+        walk.next().is_none(),
+    ];
+    assert_each(&rt, &answers);
 }

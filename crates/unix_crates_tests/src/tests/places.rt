@@ -3,7 +3,8 @@ ghost use Rattle.std.specs.Prelude.{◌≡◌, length, IfSome};
 ghost use Rattle.unix_path.specs.Places.{BeginsAt, EndsAt, LiesIn, place_of};
 ghost use Rattle.unix_path.specs.Rest.{rest};
 
-use super::views::{bytes, path, view};
+use super::answers::assert_each;
+use super::views::{is_path, path, view};
 use unix_bytes::bytes::UnixStr;
 use unix_path::{Ancestors, Component, Path};
 
@@ -48,14 +49,19 @@ fn viewed_anew<'a>(path: Path<'a>) -> Path<'a>
 
 #[test]
 fn answers_lie_in_the_path(rt: HostRuntime) {
-    assert!(rt; bytes(grandparent(path("/a//b/c"))) == view(Some("/a")));
-    assert!(rt; bytes(grandparent(path("a/b"))) == view(Some("")));
-    assert!(rt; grandparent(path("/a")).is_none());
-    assert!(rt; bytes(left_behind(path("/a//b/"), path("/a"))) == view(Some("b")));
-    assert!(rt; bytes(left_behind(path("a/"), path("a"))) == view(Some("")));
-    assert!(rt; left_behind(path("a"), path("b")).is_none());
-    assert!(rt; before_last(path("a//b")).as_unix_str() == UnixStr::new("a"));
-    assert!(rt; viewed_anew(path("a//b")).as_unix_str() == UnixStr::new("a//b"));
+    assert_each(
+        &rt,
+        &[
+            is_path(grandparent(path("/a//b/c")), Some("/a")),
+            is_path(grandparent(path("a/b")), Some("")),
+            is_path(grandparent(path("/a")), None),
+            is_path(left_behind(path("/a//b/"), path("/a")), Some("b")),
+            is_path(left_behind(path("a/"), path("a")), Some("")),
+            is_path(left_behind(path("a"), path("b")), None),
+            is_path(Some(before_last(path("a//b"))), Some("a")),
+            is_path(Some(viewed_anew(path("a//b"))), Some("a//b")),
+        ],
+    );
 }
 
 // What a path answers: each answer outlives the view that gave it, and `left` outlives the base
@@ -99,17 +105,22 @@ fn are_names(kept: &Answers<'_>) -> bool {
 
 // Whether the paths are those of `a//b.c/.`.
 fn are_paths(kept: &Answers<'_>) -> bool {
-    bytes(kept.parent) == view(Some("a"))
-        && bytes(kept.left) == view(Some("b.c"))
-        && kept.rest.as_unix_str() == UnixStr::new("b.c")
+    is_path(kept.parent, Some("a"))
+        && is_path(kept.left, Some("b.c"))
+        && is_path(Some(kept.rest), Some("b.c"))
 }
 
 #[test]
 fn answers_outlive_the_view(rt: HostRuntime) {
     let kept = ask("a//b.c/.");
-    assert!(rt; are_names(&kept));
-    assert!(rt; are_paths(&kept));
     let mut ancestors = kept.ancestors;
-    assert!(rt; bytes(ancestors.next()) == view(Some("a//b.c/.")));
-    assert!(rt; bytes(ancestors.next()) == view(Some("a")));
+    assert_each(
+        &rt,
+        &[
+            are_names(&kept),
+            are_paths(&kept),
+            is_path(ancestors.next(), Some("a//b.c/.")),
+            is_path(ancestors.next(), Some("a")),
+        ],
+    );
 }

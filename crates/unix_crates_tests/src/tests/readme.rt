@@ -1,20 +1,22 @@
 //! The example of the repository's first page.
-use std::test::Fail;
+use std::alloc::Global;
 use unix_bytes::bytes::UnixStr;
-use unix_path::Path;
+use unix_path::{ExtensionError, Path};
 
 #[test]
-fn example(rt: HostRuntime) -> Result<(), Fail> {
-    let alloc = rt.alloc();
+fn example(rt: HostRuntime) {
     let path = Path::from_text("/tmp//foo/./bar.txt");
     let base = Path::from_text("/tmp/foo/");
     assert!(rt; path.starts_with(base) && base < path);
     assert_eq!(rt; path.strip_prefix(base), Ok(Path::from_text("bar.txt")));
     assert_eq!(rt; path.parent(), Some(base));
+    assert!(rt; matches!(is_renamed(rt.alloc(), base), Ok(true)));
+}
 
+// Whether a name that isn't text is joined to `/tmp/foo`, and takes another extension.
+fn is_renamed(alloc: Global, base: Path<'_>) -> Result<bool, ExtensionError> {
     let mut copy = base.join(alloc, Path::from_bytes(b"caf\xE9.txt"))?;
-    assert!(rt; copy.set_extension(UnixStr::new("bak"))?);
-    assert_eq!(rt; copy.as_path(), Path::from_bytes(b"/tmp/foo/caf\xE9.bak"));
-    assert_eq!(rt; copy.as_path().to_str(), None);
-    Ok(())
+    let is_set = copy.set_extension(UnixStr::new("bak"))?;
+    let path = copy.as_path();
+    Ok(is_set && path == Path::from_bytes(b"/tmp/foo/caf\xE9.bak") && path.to_str().is_none())
 }

@@ -1,4 +1,5 @@
 //! Rows of what is left of a walk, and the bytes of components.
+use super::answers::assert_each;
 use super::views::path;
 use unix_bytes::bytes::UnixStr;
 use unix_path::Component;
@@ -64,15 +65,6 @@ fn rests(rt: HostRuntime) {
     }
 }
 
-#[test]
-fn a_root_is_given_from_behind(rt: HostRuntime) {
-    let p = path("//");
-    let mut parts = p.components();
-    assert!(rt; parts.next_back() == Some(Component::RootDir));
-    assert!(rt; parts.next().is_none() && parts.next_back().is_none());
-    assert!(rt; p.as_unix_str() == UnixStr::new("//"));
-}
-
 // Whether the component has these bytes, also as a path.
 fn is_written(part: Component<'_>, text: &str) -> bool {
     let want = UnixStr::new(text);
@@ -81,8 +73,13 @@ fn is_written(part: Component<'_>, text: &str) -> bool {
 
 #[test]
 fn components_are_written(rt: HostRuntime) {
-    assert!(rt; is_written(Component::RootDir, "/"));
-    assert!(rt; is_written(Component::CurDir, "."));
-    assert!(rt; is_written(Component::ParentDir, ".."));
-    assert!(rt; is_written(Component::Normal(UnixStr::new("tmp")), "tmp"));
+    assert_each(
+        &rt,
+        &[
+            is_written(Component::RootDir, "/"),
+            is_written(Component::CurDir, "."),
+            is_written(Component::ParentDir, ".."),
+            is_written(Component::Normal(UnixStr::new("tmp")), "tmp"),
+        ],
+    );
 }

@@ -1,6 +1,6 @@
-//! Rows of where the stem of a name ends, and of what is put after it.
+//! Rows of where the stem of a name ends.
 use unix_path::lasts::ends_in_name;
-use unix_path::stems::{dot_before, has_slash, stem_end};
+use unix_path::stems::stem_end;
 
 // Bytes that end in a name, how many of them are known to end in a stem, and where the stem ends.
 static STEMS: [(&[u8], usize, usize); 18] = [
@@ -40,12 +40,4 @@ fn stems_at_the_end(rt: HostRuntime) {
     for &(bytes, known, end) in &STEMS {
         assert!(rt; has_stem(bytes, known, end));
     }
-}
-
-#[test]
-fn extensions_have_dots(rt: HostRuntime) {
-    assert!(rt; dot_before(b"") == None);
-    assert!(rt; dot_before(b"rs") == Some(b'.'));
-    assert!(rt; !has_slash(b"rs"));
-    assert!(rt; has_slash(b"x/y"));
 }

@@ -1,4 +1,5 @@
 //! Rows of where names end.
+use super::answers::assert_each;
 use unix_path::stops::{first_stop, is_unstopped, may_break, near_stop, none_begins};
 
 // Bytes, and where their first stop is, or their length. Some have it at the end of a block of 16
@@ -46,34 +47,48 @@ static STOPS: [(&[u8], usize); 34] = [
     ),
 ];
 
+// Whether each search finds the first stop of the path at this place.
+fn has_stop(bytes: &[u8], place: usize) -> bool {
+    first_stop(bytes, b'/', b'.') == place
+        && near_stop(bytes, b'/', b'.') == place
+        && is_unstopped(bytes, b'/', b'.') == (place == bytes.len())
+}
+
 #[test]
 fn stops_are_found(rt: HostRuntime) {
     for &(bytes, place) in &STOPS {
-        assert!(rt; first_stop(bytes, b'/', b'.') == place);
-        assert!(rt; near_stop(bytes, b'/', b'.') == place);
-        assert!(rt; is_unstopped(bytes, b'/', b'.') == (place == bytes.len()));
+        assert!(rt; has_stop(bytes, place));
     }
     // Between names stands a zero byte, and slashes are where a path has dots.
-    assert!(rt; first_stop(b"a/b\0//\0c", 0, b'/') == 3);
-    assert!(rt; near_stop(b"a/b\0//\0c", 0, b'/') == 3);
+    assert!(rt; first_stop(b"a/b\0//\0c", 0, b'/') == 3 && near_stop(b"a/b\0//\0c", 0, b'/') == 3);
 }
 
 #[test]
 fn names_begin(rt: HostRuntime) {
-    assert!(rt; !none_begins(b"a/../b", 0, b'/', b'.'));
-    assert!(rt; none_begins(b"a/../b", 2, b'/', b'.'));
-    assert!(rt; none_begins(b"a/../b", 4, b'/', b'.'));
-    assert!(rt; !none_begins(b"a/../b", 5, b'/', b'.'));
-    assert!(rt; none_begins(b"a/../b", 6, b'/', b'.'));
-    assert!(rt; none_begins(b"a/.", 2, b'/', b'.'));
-    assert!(rt; !none_begins(b"a/.b", 2, b'/', b'.'));
-    assert!(rt; !none_begins(b"a/...", 2, b'/', b'.'));
+    assert_each(
+        &rt,
+        &[
+            !none_begins(b"a/../b", 0, b'/', b'.'),
+            none_begins(b"a/../b", 2, b'/', b'.'),
+            none_begins(b"a/../b", 4, b'/', b'.'),
+            !none_begins(b"a/../b", 5, b'/', b'.'),
+            none_begins(b"a/../b", 6, b'/', b'.'),
+            none_begins(b"a/.", 2, b'/', b'.'),
+            !none_begins(b"a/.b", 2, b'/', b'.'),
+            !none_begins(b"a/...", 2, b'/', b'.'),
+        ],
+    );
 }
 
 #[test]
 fn blocks_may_break(rt: HostRuntime) {
-    assert!(rt; !may_break(b"0123456789abc/ef/", 0, b'/', b'.'));
-    assert!(rt; may_break(b"0123456789abc/.f/", 0, b'/', b'.'));
-    assert!(rt; !may_break(b"a0123456789abcdef/", 1, b'/', b'.'));
-    assert!(rt; may_break(b"a0123456789abcde//", 1, b'/', b'.'));
+    assert_each(
+        &rt,
+        &[
+            !may_break(b"0123456789abc/ef/", 0, b'/', b'.'),
+            may_break(b"0123456789abc/.f/", 0, b'/', b'.'),
+            !may_break(b"a0123456789abcdef/", 1, b'/', b'.'),
+            may_break(b"a0123456789abcde//", 1, b'/', b'.'),
+        ],
+    );
 }

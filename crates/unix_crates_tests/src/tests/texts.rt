@@ -22,6 +22,11 @@ pub(super) fn is_lossy_text(given: Result<LossyText<'_>, AllocError>, wanted: &s
     }
 }
 
+// Whether the debug text of the value is this one.
+pub(super) fn is_debug_text<T: fmt::Debug>(alloc: Global, value: &T, wanted: &str) -> bool {
+    is_text(format!(in alloc; "{value:?}"), wanted)
+}
+
 pub(super) fn assert_text(rt: &impl Abort, given: Result<String, AllocError>, wanted: &str) {
     assert!(rt; is_text(given, wanted), "{wanted}");
 }

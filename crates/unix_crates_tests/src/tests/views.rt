@@ -6,16 +6,17 @@ pub(super) fn path(text: &str) -> Path<'_> {
     Path::from_text(text)
 }
 
-pub(super) fn bytes<'a>(answer: Option<Path<'a>>) -> Option<UnixStr<'a>> {
-    match answer {
-        Some(path) => Some(path.as_unix_str()),
-        None => None,
-    }
-}
-
 pub(super) fn view(text: Option<&str>) -> Option<UnixStr<'_>> {
     match text {
         Some(text) => Some(UnixStr::new(text)),
         None => None,
+    }
+}
+
+// Whether the path was found that the text stands for, or none without a text.
+pub(super) fn is_path(found: Option<Path<'_>>, text: Option<&str>) -> bool {
+    match found {
+        Some(path) => Some(path.as_unix_str()) == view(text),
+        None => text.is_none(),
     }
 }

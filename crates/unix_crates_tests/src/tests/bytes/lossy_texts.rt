@@ -1,9 +1,8 @@
 //! Rows of lossy texts, borrowed and owned.
-use super::super::texts::{assert_debug_text, assert_text};
+use super::super::texts::{assert_text, is_debug_text, is_text};
 use std::alloc::{AllocError, Global};
 use std::cmp::Ordering;
 use std::hash::{DefaultHasher, Hash, Hasher};
-use std::process::Abort;
 use std::test::Fail;
 use unix_bytes::bytes::{LossyText, UnixStr};
 
@@ -17,12 +16,12 @@ fn are_alike<'a>(borrowed: &LossyText<'a>, owned: &LossyText<'a>) -> bool {
         && matches!(owned, LossyText::Owned(_))
 }
 
-// Asserts that the text of 61 FF is printed right: plain, padded, cut and in its debug form.
-fn assert_printed(rt: &impl Abort, alloc: Global, text: &LossyText<'_>) {
-    assert_text(rt, format!(in alloc; "{text}"), "a\u{FFFD}");
-    assert_text(rt, format!(in alloc; "{text:>4}"), "  a\u{FFFD}");
-    assert_text(rt, format!(in alloc; "{text:*<4.1}"), "a***");
-    assert_debug_text(rt, alloc, text, "\"a\u{FFFD}\"");
+// Whether the text of 61 FF is printed right: plain, padded, cut and in its debug form.
+fn is_printed(alloc: Global, text: &LossyText<'_>) -> bool {
+    is_text(format!(in alloc; "{text}"), "a\u{FFFD}")
+        && is_text(format!(in alloc; "{text:>4}"), "  a\u{FFFD}")
+        && is_text(format!(in alloc; "{text:*<4.1}"), "a***")
+        && is_debug_text(alloc, text, "\"a\u{FFFD}\"")
 }
 
 // A borrowed and an owned text of the same bytes are equal, feed a hasher alike and print alike.
@@ -31,9 +30,9 @@ fn borrowed_and_owned_are_alike(rt: HostRuntime) -> Result<(), Fail> {
     let alloc = rt.alloc();
     let borrowed = UnixStr::new("a\u{FFFD}").to_string_lossy(alloc)?;
     let owned = UnixStr::from_bytes(b"a\xFF").to_string_lossy(alloc)?;
-    assert!(rt; are_alike(&borrowed, &owned));
-    assert_printed(&rt, alloc, &borrowed);
-    assert_printed(&rt, alloc, &owned);
+    assert!(rt;
+        are_alike(&borrowed, &owned) && is_printed(alloc, &borrowed) && is_printed(alloc, &owned)
+    );
     Ok(())
 }
 

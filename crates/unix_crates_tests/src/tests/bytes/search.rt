@@ -1,30 +1,26 @@
 //! Rows of places of bytes, and of how long a common beginning is.
-use std::process::Abort;
 use unix_bytes::search::{common_len, first_place, near_common_len, past_last, past_last_of_two};
 
-// Asserts where `:` stands first, and which place is just after the last one.
-fn assert_places(rt: &impl Abort, bytes: &[u8], first: usize, past: usize) {
-    assert_eq!(rt; first_place(bytes, b':'), first);
-    assert_eq!(rt; past_last(bytes, b':'), past);
-}
+// Bytes, where `:` is first, and which place is just after the last one.
+static PLACES: [(&[u8], usize, usize); 11] = [
+    (b"", 0, 0),
+    (b":", 0, 1),
+    (b"a:b:c", 1, 4),
+    (b"abc", 3, 0),
+    (b"123456789abcde:", 14, 15),
+    (b"123456789abcdef:", 15, 16),
+    (b":123456789abcdef", 0, 1),
+    (b"123456789abcdef0:", 16, 17),
+    (b"123456789abcdef0123456789abcdef0", 32, 0),
+    (b"12:456789abcdef0123456789abcd:f01", 2, 30),
+    (b"123456789abcdef0:23456789abcdef01", 16, 17),
+];
 
 #[test]
-fn short_bytes(rt: HostRuntime) {
-    assert_places(&rt, b"", 0, 0);
-    assert_places(&rt, b":", 0, 1);
-    assert_places(&rt, b"a:b:c", 1, 4);
-    assert_places(&rt, b"abc", 3, 0);
-    assert_places(&rt, b"123456789abcde:", 14, 15);
-}
-
-#[test]
-fn long_bytes(rt: HostRuntime) {
-    assert_places(&rt, b"123456789abcdef:", 15, 16);
-    assert_places(&rt, b":123456789abcdef", 0, 1);
-    assert_places(&rt, b"123456789abcdef0:", 16, 17);
-    assert_places(&rt, b"123456789abcdef0123456789abcdef0", 32, 0);
-    assert_places(&rt, b"12:456789abcdef0123456789abcd:f01", 2, 30);
-    assert_places(&rt, b"123456789abcdef0:23456789abcdef01", 16, 17);
+fn first_and_last_bytes(rt: HostRuntime) {
+    for &(bytes, first, past) in &PLACES {
+        assert!(rt; first_place(bytes, b':') == first && past_last(bytes, b':') == past);
+    }
 }
 
 // The place just after the last `:` or `;`. Of the last three, the one byte stands in a block of
@@ -45,8 +41,8 @@ static LAST_OF_TWO: [(&[u8], usize); 10] = [
 #[test]
 fn last_of_two_bytes(rt: HostRuntime) {
     for &(bytes, past) in &LAST_OF_TWO {
-        assert!(rt; past_last_of_two(bytes, b':', b';') == past);
-        assert!(rt; past_last_of_two(bytes, b';', b':') == past);
+        let is_found = past_last_of_two(bytes, b':', b';') == past;
+        assert!(rt; is_found && past_last_of_two(bytes, b';', b':') == past);
     }
 }
 
@@ -89,16 +85,26 @@ fn common_prefixes(rt: HostRuntime) {
     }
 }
 
+// Whether strings of this length, at most 200, have each common beginning that they differ after.
+fn are_common(len: usize) -> bool {
+    let a = [b'a'; 200];
+    if len > 200 {
+        return false;
+    }
+    for place in 0..len {
+        let mut b = a;
+        b[place] = b'b';
+        if !is_common(&a[..len], &b[..len], place) {
+            return false;
+        }
+    }
+    is_common(&a[..len], &a[..len], len)
+}
+
 // Strings of each length up to 200 that differ at one place, or at none.
 #[test]
 fn places_of_differences(rt: HostRuntime) {
-    let a = [b'a'; 200];
     for len in 0..200 {
-        assert!(rt; is_common(&a[..len], &a[..len], len), "{len}");
-        for place in 0..len {
-            let mut b = a;
-            b[place] = b'b';
-            assert!(rt; is_common(&a[..len], &b[..len], place), "{len} {place}");
-        }
+        assert!(rt; are_common(len), "{len}");
     }
 }
