@@ -1,7 +1,8 @@
 /* Loaded before the C library: the read of standard input with the number in INTERRUPTED_READ is
  * interrupted, and the write of standard output with the number in INTERRUPTED_WRITE, counted from
- * 1. Those with the numbers in FAILED_READ and FAILED_WRITE fail. At the end it tells on standard
- * error how many reads and writes there were. */
+ * 1. Those with the numbers in FAILED_READ and FAILED_WRITE fail, and the write with the number in
+ * EMPTY_WRITE takes no byte. No read or write moves more bytes than MOST_BYTES says, if it is set.
+ * At the end it tells on standard error how many reads and writes there were. */
 #define _GNU_SOURCE
 #include <dlfcn.h>
 #include <errno.h>
@@ -29,14 +30,23 @@ static bool is_refused(const char *interrupted, const char *failed, unsigned lon
     return true;
 }
 
+static size_t at_most(size_t size)
+{
+    const char *number = getenv("MOST_BYTES");
+    size_t most = number == NULL ? size : strtoul(number, NULL, 10);
+    return size < most ? size : most;
+}
+
 ssize_t read(int file, void *bytes, size_t size)
 {
     static ssize_t (*next)(int, void *, size_t);
     if (next == NULL)
         next = (ssize_t (*)(int, void *, size_t))dlsym(RTLD_NEXT, "read");
-    if (file == STDIN_FILENO && is_refused("INTERRUPTED_READ", "FAILED_READ", ++reads))
+    if (file != STDIN_FILENO)
+        return next(file, bytes, size);
+    if (is_refused("INTERRUPTED_READ", "FAILED_READ", ++reads))
         return -1;
-    return next(file, bytes, size);
+    return next(file, bytes, at_most(size));
 }
 
 ssize_t write(int file, const void *bytes, size_t size)
@@ -44,9 +54,11 @@ ssize_t write(int file, const void *bytes, size_t size)
     static ssize_t (*next)(int, const void *, size_t);
     if (next == NULL)
         next = (ssize_t (*)(int, const void *, size_t))dlsym(RTLD_NEXT, "write");
-    if (file == STDOUT_FILENO && is_refused("INTERRUPTED_WRITE", "FAILED_WRITE", ++writes))
+    if (file != STDOUT_FILENO)
+        return next(file, bytes, size);
+    if (is_refused("INTERRUPTED_WRITE", "FAILED_WRITE", ++writes))
         return -1;
-    return next(file, bytes, size);
+    return is_named("EMPTY_WRITE", writes) ? 0 : next(file, bytes, at_most(size));
 }
 
 ssize_t __write(int file, const void *bytes, size_t size)

@@ -11,8 +11,9 @@ ROW = re.compile(r"([\w:]+)[^|#]*\| (\w+)(?: of (\w+))? \| (\d+)(?: of (\d+) byt
 
 @dataclasses.dataclass(frozen=True)
 class Row:
-    """A call; the test that makes it, and the test's crate; the requests that the call makes there,
-    and for how many bytes in all, if its documentation says so; and the test's other requests."""
+    """A call; the test that makes it, and the test's crate, or the input of pathtool, and that; the
+    requests that the call makes there, and for how many bytes in all, if its documentation says so;
+    and the test's other requests."""
     call: str
     test: str
     crate: str

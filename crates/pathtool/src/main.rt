@@ -12,8 +12,6 @@ mod paths;
 mod patient;
 mod run;
 mod tables;
-#[cfg(test)]
-mod tests;
 mod texts;
 mod truths;
 mod walks;

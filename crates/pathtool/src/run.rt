@@ -1,6 +1,7 @@
 //! Reads lines to the end of an input, and writes the answer to each.
 ghost use Rattle.std.specs.Prelude.{◌≡◌, ◌↔◌, false, IsTrue, IfOk, OnOk, OnErr, IfErr, IfSome};
 ghost use Rattle.std.specs.Prelude.{Some, IsErrOf, ◌⊎◌};
+ghost use Rattle.std.specs.Fmt.{padded};
 ghost use Rattle.std.specs.Io.KnownBytes.{Appends, Consumes, IsAtEnd, Keeps};
 ghost use Rattle.pathtool.specs.Watched.{has_failed, has_ended, is_flushed, watched_inner};
 ghost use Rattle.pathtool.specs.Watched.{AppendsBeginning};
@@ -23,7 +24,7 @@ use std::fmt;
 /// Displayed as `read error`, `write error` or `out of memory`, padded as text is.
 ///
 /// `RunError::Memory` is displayed as `out of memory`.
-#[derive(Clone, Copy, Debug, PartialEq, Eq)]
+#[derive(Clone, Copy, Debug)]
 pub enum RunError {
     /// The reader failed.
     Read,
@@ -36,6 +37,8 @@ pub enum RunError {
 /// The text of the error, padded as text is.
 impl fmt::Display for RunError {
     ghost output = { λ error. Some (error_text error) };
+
+    ghost styled_output = { λ error spec. Some (padded spec (error_text error)) };
 
     fn fmt<W: fmt::Write>(&self, f: &mut fmt::Formatter<W>) -> fmt::Result {
         f.pad(match self {

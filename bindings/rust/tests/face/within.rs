@@ -1,7 +1,7 @@
 //! Paths from outside: all short strings beside a fold over their parts.
 use crate::short_strings::over;
 use unix_path_rattle::{
-    check_request, climbs, components, owned, starts_with, Component, Error, Request,
+    check_request, climbs, components, owned, starts_with, Component, Error, Request, RequestError,
 };
 
 /// The parts that are kept where each `..` takes the name before it away.
