@@ -27,7 +27,7 @@ pub fn mounted_file(
     ensures none { IfOk result (λ found. found ≡ None
         → IsUnmounted path.entry.bytes.now (table_of mounts.now)) }
 {
-    let Some((left, root)) = mounts.nearest(path)? else {
+    let Some((left, root)) = mounts.longest_prefix(path)? else {
         return Ok(None);
     };
     let Ok(request) = Request::below(left) else {

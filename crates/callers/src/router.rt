@@ -24,7 +24,7 @@ pub fn route<'a, 'r, H>(
     ensures { IfOk result (λ route. IsRouted path.entry.bytes.now (table_of routes.entry.now)
         fallback.entry.now route.1.bytes.now route.0.now) }
 {
-    match routes.nearest(path)? {
+    match routes.longest_prefix(path)? {
         Some((rest, handler)) => Ok((handler, rest)),
         None => Ok((fallback, path)),
     }

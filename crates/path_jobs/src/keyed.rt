@@ -117,7 +117,7 @@ fn find_nearest(
         tree.push(&mut buffer, shuffled(place, seed), 0)?;
         buffer.extend_from_slice(b"/src/lib.rs")?;
         let path = Path::new(UnixStr::from_bytes(&buffer));
-        if let Some((rest, value)) = files.nearest(path)? {
+        if let Some((rest, value)) = files.longest_prefix(path)? {
             sum = sum.wrapping_add(*value ^ rest.as_unix_str().len() as u64);
         }
     }

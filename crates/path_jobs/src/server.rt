@@ -21,7 +21,7 @@ impl Roots {
         let mut kept = Vec::with_capacity(alloc, ROOTS.len())?;
         for root in ROOTS.iter() {
             resolved.push(Root::new(alloc, Path::from_text(root))?)?;
-            kept.push(Root::kept(alloc, Path::from_text(root))?)?;
+            kept.push(Root::verbatim(alloc, Path::from_text(root))?)?;
         }
         Ok(Roots { resolved, kept })
     }

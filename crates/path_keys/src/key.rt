@@ -57,7 +57,7 @@ impl PathKey {
     /// std.
     ///
     /// For `.//a/./b/` it is 00 02 61 00 62 00.
-    pub fn of(alloc: Global, path: Path<'_>) -> Result<PathKey, AllocError>
+    pub fn from_path(alloc: Global, path: Path<'_>) -> Result<PathKey, AllocError>
         ensures key { IfOk result (λ key. key_bytes key ≡ key_of (values path.entry.bytes.now)) }
         ensures succeeds { path.entry.bytes.now ≡ [] → IsOk result }
     {

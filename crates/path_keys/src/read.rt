@@ -49,7 +49,7 @@ impl Error for KeyError {}
 
 /// `Memory`, with the error of the allocation. Does not allocate.
 ///
-/// With it `?` works on a `PathKey::of` in a function whose error is a `KeyError`.
+/// With it `?` works on a `PathKey::from_path` in a function whose error is a `KeyError`.
 impl From<AllocError> for KeyError {
     ghost use Rattle.path_keys.specs.declared.read.KeyError.TheVariants.{Memory};
 

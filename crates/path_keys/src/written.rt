@@ -21,10 +21,10 @@ pub fn key_len(path: Path<'_>) -> usize
 
 /// Writes the key of a path to the beginning of `out`, and returns its length.
 ///
-/// The key is that of `PathKey::of`. The bytes of `out` behind it stay as they were. If `out` has
-/// no room for all of it, nothing is written, and the length that is returned is greater than that
-/// of `out`; two bytes more than the path has are always enough. Does not allocate. Not in Rust's
-/// std.
+/// The key is that of `PathKey::from_path`. The bytes of `out` after it stay as they were. If `out`
+/// has no room for all of it, nothing is written, and the length that is returned is greater than
+/// that of `out`; two bytes more than the path has are always enough. Does not allocate. Not in
+/// Rust's std.
 ///
 /// For `/a` it is 00 01 61 00, of 4 bytes.
 pub fn write_key(path: Path<'_>, out: &mut [u8]) -> usize

@@ -53,7 +53,7 @@ static PARTS: [Parts; 8] = [
 
 // Whether the range, the parent and the name of the path's key are those of the row.
 fn has_key_parts(alloc: Global, row: &Parts) -> Result<bool, AllocError> {
-    let key = PathKey::of(alloc, Path::from_text(row.0))?;
+    let key = PathKey::from_path(alloc, Path::from_text(row.0))?;
     let range = key.range_under()?;
     let end = match &range.end {
         Some(end) => Some(end.as_slice()),

@@ -7,11 +7,11 @@ use Rattle.path_tree.specs.declared.tree.moved.MoveError.{MoveError}
 use Rattle.path_tree.specs.declared.tree.moved.MoveError.TheVariants.{Inside, Occupied}
 use Rattle.path_tree.specs.declared.tree.moved.MoveError.TheVariants as move_errors
 use Rattle.path_tree.specs.declared.tree.sorted.SortedError.{SortedError}
-use Rattle.path_tree.specs.declared.tree.sorted.SortedError.TheVariants.{Memory, NotRising}
+use Rattle.path_tree.specs.declared.tree.sorted.SortedError.TheVariants.{Memory, NotSorted}
 
 -- what an error of items that should rise is printed as
 abbrev pub sorted_error_text : SortedError → List ℕ
-sorted_error_text NotRising = codes "the paths don't rise"
+sorted_error_text NotSorted = codes "paths are not sorted"
 sorted_error_text (Memory error) = codes "out of memory"
 
 -- what an error of a look-up is printed as

@@ -39,7 +39,7 @@ impl<'a> MadeKey<'a> {
         if len <= ROOM {
             return Ok(MadeKey::Short(&room[..len]));
         }
-        let key = PathKey::of(alloc, path)?;
+        let key = PathKey::from_path(alloc, path)?;
         Ok(MadeKey::Long(key))
     }
 
@@ -60,7 +60,7 @@ pub(crate) fn owned_key(alloc: Global, path: Path<'_>) -> Result<Vec<u8>, AllocE
     ensures own { IfOk result (λ key. is_own key.items ≡ true) }
     ensures values { IfOk result (λ key. key_values key.items ≡ values path.entry.bytes.now) }
 {
-    let key = PathKey::of(alloc, path)?;
+    let key = PathKey::from_path(alloc, path)?;
     Ok(key.into_vec())
 }
 

@@ -45,7 +45,7 @@ use unix_path::Path;
 /// no owned path. A path's spelling isn't kept. Not in Rust's std; as a `BTreeMap<PathBuf, V>`.
 ///
 /// A tree of more than 64 entries also keeps marks of its keys, in one to four bytes for each,
-/// which save `nearest` most of its look-ups. They are made anew when they are full; if that
+/// which save `longest_prefix` most of its look-ups. They are made anew when they are full; if that
 /// allocation fails, the tree goes on with those that it has.
 ///
 /// A tree with 1 at `a/b` has 1 at `a//b` too.

@@ -29,10 +29,10 @@ fn are_requests_shown(alloc: Global) -> bool {
 
 // Whether the errors of trees are displayed as their texts.
 fn are_trees_shown(alloc: Global) -> bool {
-    let falls = "the paths don't rise|the paths don't rise     |     the paths don't rise";
+    let falls = "paths are not sorted|paths are not sorted     |     paths are not sorted";
     let absent = "no such path|no such path             |             no such path";
     let memory = "out of memory|out of memory            |            out of memory";
-    is_shown(alloc, &SortedError::NotRising, falls)
+    is_shown(alloc, &SortedError::NotSorted, falls)
         && is_shown(alloc, &LookupError::Absent, absent)
         && is_shown(alloc, &SortedError::from(AllocError), memory)
         && is_shown(alloc, &LookupError::from(AllocError), memory)

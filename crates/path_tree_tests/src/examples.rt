@@ -145,7 +145,7 @@ fn is_unpacked(alloc: Global, root: &Root, row: &(&str, Result<&str, RequestErro
 
 #[test]
 fn entries_are_unpacked(rt: HostRuntime) -> Result<(), Fail> {
-    let root = Root::kept(rt.alloc(), Path::from_text("/tmp/x"))?;
+    let root = Root::verbatim(rt.alloc(), Path::from_text("/tmp/x"))?;
     for row in ENTRIES.iter() {
         assert!(rt; is_unpacked(rt.alloc(), &root, row), "{}", row.0);
     }

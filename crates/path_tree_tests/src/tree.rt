@@ -33,7 +33,7 @@ fn has_at(
     want: Option<u32>,
 ) -> Result<bool, AllocError> {
     let path = Path::from_bytes(path);
-    let key = PathKey::of(alloc, path)?;
+    let key = PathKey::from_path(alloc, path)?;
     let by_path = tree.get_path(path)?.copied() == want;
     let is_known = tree.contains_path(path)? == want.is_some();
     let by_key = tree.get(&key).copied() == want;
@@ -129,7 +129,7 @@ fn writes_by_path(tree: &mut PathTree<u32>) -> bool {
 
 // Whether the tree, of `a.b` and `a//b`, has one entry for all spellings of a path.
 fn has_one_entry(alloc: Global, tree: &mut PathTree<u32>) -> Result<bool, AllocError> {
-    let key = PathKey::of(alloc, Path::from_text("a/./b"))?;
+    let key = PathKey::from_path(alloc, Path::from_text("a/./b"))?;
     let before = tree.insert(Path::from_text("a/b/"), 7)? == Some(2) && tree.len() == 2;
     if let Some(value) = tree.get_mut(&key) {
         *value = 8;

@@ -203,7 +203,7 @@ impl<'a> Request<'a> {
     /// Writes the request joined to a root to the beginning of `out`, and returns the length of the
     /// join.
     ///
-    /// The join is what `Root::join` returns for `Root::kept` of this root: the root's bytes
+    /// The join is what `Root::join` returns for `Root::verbatim` of this root: the root's bytes
     /// verbatim, and after them the request's names, with a `/` between two of them and, where one
     /// is needed, after the root. The bytes of `out` after it stay as they were. If `out` has no
     /// room for all of it, nothing is written, and the length that is returned is greater than that

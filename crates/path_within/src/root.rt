@@ -129,8 +129,8 @@ impl Root {
 
     /// The root with this path, resolved by names.
     ///
-    /// If a part before a `..` may be a link, take `kept`. Allocates the resolved path, once, or
-    /// nothing if it is empty, which stands for the current directory; fails if the allocation
+    /// If a part before a `..` may be a link, take `verbatim`. Allocates the resolved path, once,
+    /// or nothing if it is empty, which stands for the current directory; fails if the allocation
     /// fails. Not in Rust's std.
     ///
     /// For `/srv/a/../www/` it is the root `/srv/www`.
@@ -148,7 +148,7 @@ impl Root {
     /// the allocation fails. Not in Rust's std.
     ///
     /// For `/srv/a/../www/` it is the root `/srv/a/../www/`.
-    pub fn kept(alloc: Global, path: Path<'_>) -> Result<Root, AllocError>
+    pub fn verbatim(alloc: Global, path: Path<'_>) -> Result<Root, AllocError>
         ensures { IfOk result (λ r. root_bytes r ≡ path.entry.bytes.now) }
     {
         let path = path.to_path_buf(alloc)?;

@@ -127,7 +127,7 @@ fn read_request(path: Path<'_>, as_url: bool) -> Result<Request<'_>, RequestErro
 ///
 /// It goes by names alone: if a part below the root may be a link, the system has to refuse links.
 /// A request with no name gives the root itself, and a slash at the request's end goes. Does not
-/// allocate. Not in Rust's std; as `path_within`'s `Root::kept` and `Root::join`.
+/// allocate. Not in Rust's std; as `path_within`'s `Root::verbatim` and `Root::join`.
 ///
 /// `/srv/www` with `a/../b` is `/srv/www/b`; with `/../a` it is `/srv/www/a` as a URL, and else
 /// refused.

@@ -23,7 +23,7 @@ fn keyed_paths(alloc: Global, strings: &[Vec<u8>]) -> Result<Vec<KeyedPath<'_>>,
     let mut paths = Vec::new(alloc);
     for string in strings {
         let path = Path::from_bytes(string.as_slice());
-        let key = PathKey::of(alloc, path)?;
+        let key = PathKey::from_path(alloc, path)?;
         paths.push(KeyedPath { path, key })?;
     }
     Ok(paths)

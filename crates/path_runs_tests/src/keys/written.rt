@@ -60,7 +60,7 @@ fn is_read(alloc: Global, bytes: &[u8]) -> bool {
 // Whether the key's parent is the key of the path's parent.
 fn has_parent(alloc: Global, path: Path<'_>, key: &PathKey) -> Result<bool, AllocError> {
     match (path.parent(), key.parent()) {
-        (Some(parent), Some(bytes)) => Ok(PathKey::of(alloc, parent)?.as_bytes() == bytes),
+        (Some(parent), Some(bytes)) => Ok(PathKey::from_path(alloc, parent)?.as_bytes() == bytes),
         (None, None) => Ok(true),
         _ => Ok(false),
     }
@@ -85,7 +85,7 @@ fn has_name(path: Path<'_>, key: &PathKey) -> bool {
 // Whether all this holds of the path's key.
 fn is_keyed(alloc: Global, bytes: &[u8]) -> Result<bool, AllocError> {
     let path = Path::from_bytes(bytes);
-    let key = PathKey::of(alloc, path)?;
+    let key = PathKey::from_path(alloc, path)?;
     Ok(
         is_as_written(path, key.as_bytes())
             && is_read(alloc, key.as_bytes())

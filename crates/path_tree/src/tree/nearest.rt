@@ -74,7 +74,7 @@ impl<V> PathTree<V> {
     /// Not in Rust's std.
     ///
     /// With 1 at `/`, 2 at `/a/b` and 3 at `/a/bc`, for `/a/b//c/d` it is `c/d` with 2.
-    pub fn nearest<'a>(&self, path: Path<'a>) -> Result<Option<(Path<'a>, &V)>, AllocError>
+    pub fn longest_prefix<'a>(&self, path: Path<'a>) -> Result<Option<(Path<'a>, &V)>, AllocError>
         ensures nearest { IfOk result (λ found. IfSome found (λ near.
             IsNearest path.entry.bytes.now (table_of self.now) near.0.bytes.now near.1.now)) }
         ensures none { IfOk result (λ found. found ≡ None → (base : List Value)

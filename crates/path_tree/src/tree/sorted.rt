@@ -22,15 +22,15 @@ use unix_path::Path;
 /// When it is displayed, its text is padded as any text is. Not in Rust's std.
 #[derive(Debug, Drop)]
 pub enum SortedError {
-    /// A path isn't greater than the one before it. It is printed as `the paths don't rise`.
-    NotRising,
+    /// A path isn't greater than the one before it. It is printed as `paths are not sorted`.
+    NotSorted,
     /// An allocation failed. It is printed as `out of memory`.
     Memory(AllocError),
 }
 
 /// The text of each variant, padded by width, precision, fill and alignment. Does not allocate.
 ///
-/// `SortedError::NotRising` is printed as `the paths don't rise`.
+/// `SortedError::NotSorted` is printed as `paths are not sorted`.
 impl fmt::Display for SortedError {
     ghost use Rattle.path_tree.specs.Errors.{sorted_error_text};
 
@@ -40,7 +40,7 @@ impl fmt::Display for SortedError {
 
     fn fmt<W: fmt::Write>(&self, f: &mut fmt::Formatter<W>) -> fmt::Result {
         f.pad(match self {
-            SortedError::NotRising => "the paths don't rise",
+            SortedError::NotSorted => "paths are not sorted",
             SortedError::Memory(_) => "out of memory",
         })
     }
@@ -119,14 +119,14 @@ impl<V> PathTree<V> {
         requires can { I.can_next items }
         requires ends { IsFinite (I.remaining items) }
         ensures ok { IfOk result (λ tree. ListsAll I.next_gives items (table_of tree)) }
-        ensures not_rising { IsErrOf result SortedError.NotRising
+        ensures not_sorted { IsErrOf result SortedError.NotSorted
             → StopsRising I.next_gives items }
     {
         let mut entries = Vec::new(alloc);
         for (path, value) in items {
             let key = owned_key(alloc, path)?;
             if !rises(&entries, &key) {
-                return Err(SortedError::NotRising);
+                return Err(SortedError::NotSorted);
             }
             put_last(&mut entries, key, value)?;
         }

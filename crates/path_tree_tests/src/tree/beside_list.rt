@@ -76,7 +76,7 @@ impl Listed {
     }
 
     // The value at the longest of the paths that begin this one, and what is left of this path.
-    fn nearest<'a>(&self, path: Path<'a>) -> Option<(Path<'a>, u32)> {
+    fn longest_prefix<'a>(&self, path: Path<'a>) -> Option<(Path<'a>, u32)> {
         let mut most = 0;
         let mut found = None;
         for (base, value) in &self.files {
@@ -136,7 +136,10 @@ fn moves_alike(
     let target = path_from(alloc, random)?;
     let to = target.as_path();
     let is_refused = to.starts_with(from) || listed.count_under(to) > 0;
-    match tree.move_under(&PathKey::of(alloc, from)?, &PathKey::of(alloc, to)?) {
+    match tree.move_under(
+        &PathKey::from_path(alloc, from)?,
+        &PathKey::from_path(alloc, to)?,
+    ) {
         Ok(count) => {
             let is_alike = !is_refused && count == listed.count_under(from);
             for file in listed.files.iter_mut() {
@@ -252,7 +255,7 @@ fn has_children(
     listed: &Listed,
     base: Path<'_>,
 ) -> Result<bool, AllocError> {
-    let found = tree.children(&PathKey::of(alloc, base)?)?;
+    let found = tree.children(&PathKey::from_path(alloc, base)?)?;
     let depth = base.components().count().wrapping_add(1);
     for (key, value) in &found {
         let Ok(path) = path_of(alloc, key) else {
@@ -278,7 +281,7 @@ fn answers_alike(
 ) -> Result<bool, AllocError> {
     let owned = path_from(alloc, random)?;
     let path = owned.as_path();
-    let key = PathKey::of(alloc, path)?;
+    let key = PathKey::from_path(alloc, path)?;
     Ok(match random.next() % 19 {
         0..3 => tree.insert(path, value)? == listed.insert(path.to_path_buf(alloc)?, value)?,
         3 => tree.remove(&key) == listed.remove(path),
@@ -292,7 +295,7 @@ fn answers_alike(
         12 | 13 => has_children(alloc, tree, listed, path)?,
         14 | 15 => moves_alike(alloc, random, tree, listed, path)?,
         10 => tree.remove_under(&key) == listed.remove_under(path) && has_all(tree, listed)?,
-        _ => are_alike(tree.nearest(path)?, listed.nearest(path)),
+        _ => are_alike(tree.longest_prefix(path)?, listed.longest_prefix(path)),
     })
 }
 

@@ -65,10 +65,10 @@ static CHILDREN: [Row; 14] = [
 // Whether the children of the base in the tree of the row's paths are those that the row says.
 fn has_children(alloc: Global, row: &Row) -> Result<bool, AllocError> {
     let tree = tree_of(alloc, row.0)?;
-    let base = PathKey::of(alloc, Path::from_text(row.1))?;
+    let base = PathKey::from_path(alloc, Path::from_text(row.1))?;
     let found = tree.children(&base)?;
     for ((key, value), (path, want)) in found.iter().zip(row.2) {
-        let wanted = PathKey::of(alloc, Path::from_text(path))?;
+        let wanted = PathKey::from_path(alloc, Path::from_text(path))?;
         if *key != wanted.as_bytes() || value.copied() != *want {
             return Ok(false);
         }

@@ -50,7 +50,7 @@ fn filled(alloc: Global) -> Result<PathTree<u64>, AllocError> {
             tree.insert(path_of_number(alloc, number)?.as_path(), number)?;
         }
         if number % 7 == 0 {
-            tree.remove(&PathKey::of(alloc, path_of_number(alloc, number)?.as_path())?);
+            tree.remove(&PathKey::from_path(alloc, path_of_number(alloc, number)?.as_path())?);
         }
     }
     Ok(tree)
@@ -59,7 +59,7 @@ fn filled(alloc: Global) -> Result<PathTree<u64>, AllocError> {
 fn finds_nearest(alloc: Global, tree: &PathTree<u64>, number: u64) -> Result<bool, AllocError> {
     let path = path_of_number(alloc, number)?;
     let (near, names) = nearest_number(number);
-    Ok(match tree.nearest(path.as_path())? {
+    Ok(match tree.longest_prefix(path.as_path())? {
         Some((rest, value)) => *value == near && rest.components().count() == names,
         None => near == 0,
     })

@@ -63,7 +63,7 @@ fn has_entries(
     want: &[(&str, u32)],
 ) -> Result<bool, AllocError> {
     for ((key, value), (path, place)) in tree.iter().zip(want) {
-        let wanted = PathKey::of(alloc, Path::from_text(path))?;
+        let wanted = PathKey::from_path(alloc, Path::from_text(path))?;
         if key.as_slice() != wanted.as_bytes() || *value != *place {
             return Ok(false);
         }
@@ -74,8 +74,8 @@ fn has_entries(
 // Whether the row's tree is moved as it says, or is refused and stays as it was.
 fn is_moved(alloc: Global, row: &Row) -> Result<bool, AllocError> {
     let mut tree = tree_of(alloc, row.0)?;
-    let from = PathKey::of(alloc, Path::from_text(row.1))?;
-    let to = PathKey::of(alloc, Path::from_text(row.2))?;
+    let from = PathKey::from_path(alloc, Path::from_text(row.1))?;
+    let to = PathKey::from_path(alloc, Path::from_text(row.2))?;
     match (tree.move_under(&from, &to), row.3) {
         (Ok(count), Ok((want, entries))) => {
             Ok(count == want && has_entries(alloc, &tree, entries)?)

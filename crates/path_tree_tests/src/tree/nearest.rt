@@ -33,13 +33,15 @@ static NEAREST: [Row; 16] = [
 
 fn has_nearest(alloc: Global, row: &Row) -> Result<bool, AllocError> {
     let tree = tree_of(alloc, row.0)?;
-    Ok(match (tree.nearest(Path::from_text(row.1))?, row.2) {
-        (Some((rest, value)), Some((left, want))) => {
-            rest.as_unix_str().as_bytes() == left.as_bytes() && *value == want
-        }
-        (None, None) => true,
-        _ => false,
-    })
+    Ok(
+        match (tree.longest_prefix(Path::from_text(row.1))?, row.2) {
+            (Some((rest, value)), Some((left, want))) => {
+                rest.as_unix_str().as_bytes() == left.as_bytes() && *value == want
+            }
+            (None, None) => true,
+            _ => false,
+        },
+    )
 }
 
 #[test]
@@ -58,7 +60,7 @@ fn what_is_nearest_to_a_long_path(rt: HostRuntime) -> Result<(), Fail> {
     let name = long_name(alloc, 600)?;
     let path = Path::from_text("a/b").join(alloc, Path::from_bytes(&name))?;
     let left = Path::from_text("b").join(alloc, Path::from_bytes(&name))?;
-    match tree.nearest(path.as_path())? {
+    match tree.longest_prefix(path.as_path())? {
         Some((rest, value)) => assert!(rt; rest == left.as_path() && *value == 1),
         None => assert!(rt; false),
     }

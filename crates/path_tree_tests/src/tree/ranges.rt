@@ -28,13 +28,13 @@ static UNDER: [Row; 11] = [
 ];
 
 fn is_key_of(alloc: Global, key: &[u8], path: &str) -> Result<bool, AllocError> {
-    Ok(PathKey::of(alloc, Path::from_text(path))?.as_bytes() == key)
+    Ok(PathKey::from_path(alloc, Path::from_text(path))?.as_bytes() == key)
 }
 
 // Whether the tree of the row's paths has under the base what the row says.
 fn has_under(alloc: Global, row: &Row) -> Result<bool, AllocError> {
     let tree = tree_of(alloc, row.0)?;
-    let base = PathKey::of(alloc, Path::from_text(row.1))?;
+    let base = PathKey::from_path(alloc, Path::from_text(row.1))?;
     let mut place = 0usize;
     for (key, _) in tree.under(&base)? {
         let Some(path) = row.2.get(place) else {
@@ -61,7 +61,7 @@ fn what_is_under_a_base(rt: HostRuntime) -> Result<(), Fail> {
 fn removes_under(alloc: Global, row: &Row) -> Result<bool, AllocError> {
     let mut tree = tree_of(alloc, row.0)?;
     let base = Path::from_text(row.1);
-    if tree.remove_under(&PathKey::of(alloc, base)?) != row.2.len() {
+    if tree.remove_under(&PathKey::from_path(alloc, base)?) != row.2.len() {
         return Ok(false);
     }
     for path in row.0 {

@@ -45,7 +45,7 @@ fn is_made(alloc: Global, paths: &[&'static str], rise: bool) -> Result<bool, Al
             }
             Ok(rise && tree.len() == paths.len())
         }
-        Err(SortedError::NotRising) => Ok(!rise),
+        Err(SortedError::NotSorted) => Ok(!rise),
         Err(SortedError::Memory(error)) => Err(error),
     }
 }

@@ -70,7 +70,7 @@ fn is_stripped(
     alloc: Global,
     row: &(&str, &str, Result<&str, StripError>),
 ) -> Result<bool, AllocError> {
-    let root = Root::kept(alloc, Path::from_text(row.0))?;
+    let root = Root::verbatim(alloc, Path::from_text(row.0))?;
     let path = Path::from_text(row.1);
     let is_left = match (root.strip(path), row.2) {
         (Ok(request), Ok(want)) => request.as_path().as_unix_str() == UnixStr::new(want),

@@ -152,7 +152,7 @@ fn requests_below_roots(rt: HostRuntime) -> Result<(), Fail> {
         strings.push(random.string(rt.alloc())?)?;
     }
     for (root, want) in ROOTS.iter() {
-        let kept = Root::kept(rt.alloc(), Path::from_bytes(root))?;
+        let kept = Root::verbatim(rt.alloc(), Path::from_bytes(root))?;
         let wrong = first_wrong(rt.alloc(), &kept, root, &strings)?;
         assert!(rt; wrong.is_none(), "{root:?} {wrong:?}");
         let resolved = Root::new(rt.alloc(), Path::from_bytes(root))?;

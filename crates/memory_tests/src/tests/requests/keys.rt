@@ -7,7 +7,7 @@ use std::test::Fail;
 
 #[test]
 fn key_made(rt: HostRuntime) -> Result<(), Fail> {
-    match PathKey::of(rt.alloc(), path("a//b")) {
+    match PathKey::from_path(rt.alloc(), path("a//b")) {
         Ok(key) => report(true, key.as_bytes() == b"\x61\x00\x62\x00".as_slice()),
         Err(AllocError) => report(false, true),
     }
@@ -26,7 +26,7 @@ fn key_set(rt: HostRuntime) -> Result<(), Fail> {
 
 #[test]
 fn range_of_key(rt: HostRuntime) -> Result<(), Fail> {
-    let key = PathKey::of(rt.alloc(), path("a"))?;
+    let key = PathKey::from_path(rt.alloc(), path("a"))?;
     match key.range_under() {
         Ok(range) => match range.end {
             Some(end) => report(true, end.as_slice() == b"\x61\x01".as_slice()),

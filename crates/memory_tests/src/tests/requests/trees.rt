@@ -33,7 +33,7 @@ fn is_as_before(tree: &PathTree<u32>, key: &PathKey) -> bool {
 fn tree_path_inserted(rt: HostRuntime) -> Result<(), Fail> {
     let alloc = rt.alloc();
     let mut tree = PathTree::new(alloc);
-    let key = PathKey::of(alloc, path("a/b"))?;
+    let key = PathKey::from_path(alloc, path("a/b"))?;
     match tree.insert(path("a//b"), 7u32) {
         Ok(before) => report(true, before.is_none() && tree.get(&key) == Some(&7)),
         Err(AllocError) => report(false, tree.is_empty() && tree.get(&key).is_none()),
@@ -50,7 +50,7 @@ fn tree_path_marked(rt: HostRuntime) -> Result<(), Fail> {
     }
     match tree.insert(path("a/b"), 7) {
         Ok(before) => {
-            let is_nearest = match tree.nearest(path("a/b/c"))? {
+            let is_nearest = match tree.longest_prefix(path("a/b/c"))? {
                 Some((rest, value)) => rest == path("c") && *value == 7,
                 None => false,
             };
@@ -84,7 +84,7 @@ fn tree_path_contained(rt: HostRuntime) -> Result<(), Fail> {
 fn tree_path_removed(rt: HostRuntime) -> Result<(), Fail> {
     let name = long_name(rt.alloc())?;
     let mut tree = tree_with(rt.alloc(), &name)?;
-    let key = PathKey::of(rt.alloc(), Path::from_bytes(&name))?;
+    let key = PathKey::from_path(rt.alloc(), Path::from_bytes(&name))?;
     match tree.remove_path(Path::from_bytes(&name)) {
         Ok(found) => report(true, found == Some(1) && tree.len() == 1),
         Err(AllocError) => report(false, is_as_before(&tree, &key)),
@@ -106,7 +106,7 @@ fn tree_path_lent(rt: HostRuntime) -> Result<(), Fail> {
 fn tree_path_nearest(rt: HostRuntime) -> Result<(), Fail> {
     let name = long_name(rt.alloc())?;
     let tree = tree_with(rt.alloc(), &name)?;
-    match tree.nearest(Path::from_bytes(&name)) {
+    match tree.longest_prefix(Path::from_bytes(&name)) {
         Ok(Some((rest, value))) => report(true, rest == path("") && *value == 1),
         Ok(None) => report(true, false),
         Err(AllocError) => report(false, true),
@@ -117,7 +117,7 @@ fn tree_path_nearest(rt: HostRuntime) -> Result<(), Fail> {
 fn tree_paths_under(rt: HostRuntime) -> Result<(), Fail> {
     let name = long_name(rt.alloc())?;
     let tree = tree_with(rt.alloc(), &name)?;
-    let key = PathKey::of(rt.alloc(), Path::from_bytes(&name))?;
+    let key = PathKey::from_path(rt.alloc(), Path::from_bytes(&name))?;
     match tree.under(&key) {
         Ok(found) => report(true, found.count() == 1),
         Err(AllocError) => report(false, is_as_before(&tree, &key)),
@@ -160,7 +160,7 @@ fn tree_of_sorted(rt: HostRuntime) -> Result<(), Fail> {
     match PathTree::from_sorted(rt.alloc(), files.iter().copied()) {
         Ok(tree) => report(true, has_first(&tree, &files)),
         Err(SortedError::Memory(AllocError)) => report(false, true),
-        Err(SortedError::NotRising) => report(true, false),
+        Err(SortedError::NotSorted) => report(true, false),
     }
 }
 
@@ -198,9 +198,9 @@ fn tree_moved(rt: HostRuntime) -> Result<(), Fail> {
             u32::from(letter),
         )?;
     }
-    let from = PathKey::of(alloc, path("d"))?;
-    let to = PathKey::of(alloc, path("e"))?;
-    let key = PathKey::of(alloc, path("e/p"))?;
+    let from = PathKey::from_path(alloc, path("d"))?;
+    let to = PathKey::from_path(alloc, path("e"))?;
+    let key = PathKey::from_path(alloc, path("e/p"))?;
     match tree.move_under(&from, &to) {
         Ok(count) => report(true, count == 16 && tree.len() == 16 && tree.contains(&key)),
         Err(MoveError::Memory(AllocError)) => {

@@ -123,8 +123,8 @@ fn root_resolved_to_nothing(rt: HostRuntime) -> Result<(), Fail> {
 }
 
 #[test]
-fn root_kept(rt: HostRuntime) -> Result<(), Fail> {
-    match Root::kept(rt.alloc(), path("/srv/a/../www/")) {
+fn root_verbatim(rt: HostRuntime) -> Result<(), Fail> {
+    match Root::verbatim(rt.alloc(), path("/srv/a/../www/")) {
         Ok(root) => report(true, root.as_path() == path("/srv/a/../www/")),
         Err(AllocError) => report(false, true),
     }
@@ -140,19 +140,19 @@ fn request(text: &str) -> Result<Request<'_>, Fail> {
 
 #[test]
 fn request_joined(rt: HostRuntime) -> Result<(), Fail> {
-    let root = Root::kept(rt.alloc(), path("/srv/www"))?;
+    let root = Root::verbatim(rt.alloc(), path("/srv/www"))?;
     report_path(root.join(rt.alloc(), request("a/../b/c")?), "/srv/www/b/c")
 }
 
 #[test]
 fn plain_request_joined(rt: HostRuntime) -> Result<(), Fail> {
-    let root = Root::kept(rt.alloc(), path("/srv/www"))?;
+    let root = Root::verbatim(rt.alloc(), path("/srv/www"))?;
     report_path(root.join(rt.alloc(), request("b/c")?), "/srv/www/b/c")
 }
 
 // The result of a test that joins the request in place of `/tmp`.
 fn report_joined_into(alloc: Global, text: &str) -> Result<(), Fail> {
-    let root = Root::kept(alloc, path("/srv/www"))?;
+    let root = Root::verbatim(alloc, path("/srv/www"))?;
     let mut buffer = PathBuf::from_text(alloc, "/tmp")?;
     match root.join_into(&mut buffer, request(text)?) {
         Ok(()) => report(true, holds(&buffer, "/srv/www/b/c")),

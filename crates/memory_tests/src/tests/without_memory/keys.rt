@@ -40,11 +40,12 @@ fn is_written() -> bool {
 #[test]
 fn keys_are_set_and_read_without_memory(rt: HostRuntime) -> Result<(), Fail> {
     let alloc = rt.alloc();
-    let mut key = PathKey::of(alloc, path("a//b"))?;
-    let empty = PathKey::of(alloc, path(""))?;
+    let mut key = PathKey::from_path(alloc, path("a//b"))?;
+    let empty = PathKey::from_path(alloc, path(""))?;
     let _dry = drought(alloc)?;
     let is_set = is_set_in_its_room(&mut key);
-    let is_made = PathKey::of(alloc, path("")).is_ok() && fails(PathKey::of(alloc, path("a")));
+    let is_made = PathKey::from_path(alloc, path("")).is_ok()
+        && fails(PathKey::from_path(alloc, path("a")));
     let has_range = empty.range_under().is_ok();
     let is_told = is_told(alloc);
     assert!(rt; is_set && is_made && has_range && is_told && is_written());

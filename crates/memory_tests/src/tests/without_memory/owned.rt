@@ -149,7 +149,7 @@ fn buffers_need_no_memory(rt: HostRuntime) -> Result<(), Fail> {
     let alloc = rt.alloc();
     let mut foo = PathBuf::from_text(alloc, "foo")?;
     let full = PathBuf::from_text(alloc, "foo")?;
-    let root = Root::kept(alloc, path("/srv/./www/"))?;
+    let root = Root::verbatim(alloc, path("/srv/./www/"))?;
     let closed_root = Root::new(alloc, path("/srv/www"))?;
     let mut file = PathBuf::with_capacity(alloc, 20)?;
     let _dry = drought(alloc)?;

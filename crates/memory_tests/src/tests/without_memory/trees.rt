@@ -11,7 +11,7 @@ use unix_path::Path;
 fn is_found(tree: &PathTree<u8>, key: &PathKey, name: &[u8]) -> Result<bool, AllocError> {
     let by_path = tree.get_path(Path::from_bytes(name))? == Some(&1);
     let is_in = tree.contains(key) && tree.contains_path(path("a//b"))?;
-    let nearest = match tree.nearest(path("a/b/c"))? {
+    let nearest = match tree.longest_prefix(path("a/b/c"))? {
         Some((rest, value)) => rest == path("c") && *value == 2,
         None => false,
     };
@@ -45,8 +45,8 @@ fn trees_are_asked_and_emptied_without_memory(rt: HostRuntime) -> Result<(), Fai
     tree.insert(path("a/b"), 2)?;
     tree.insert(path("x/y"), 3)?;
     tree.insert(path("x"), 4)?;
-    let key = PathKey::of(alloc, path("a/./b"))?;
-    let base = PathKey::of(alloc, path("x/"))?;
+    let key = PathKey::from_path(alloc, path("a/./b"))?;
+    let base = PathKey::from_path(alloc, path("x/"))?;
     let _dry = drought(alloc)?;
     let is_found = is_found(&tree, &key, &name);
     let is_emptied = is_emptied(&mut tree, &key, &name, &base);

@@ -8,8 +8,8 @@ use Rattle.path_tree.proofs.tree.PathTree.from_sorted.Goals as goal
 pub loop-path-init : goal.loop-path-init
 loop-path-init g c = subst (λ l. Listed l []) (sym c.new-entries.ensures.items) listed_none
 
-pub returns-then-not-rises-clause-not_rising : goal.returns-then-not-rises-clause-not_rising
-returns-then-not-rises-clause-not_rising g c = λ _.
+pub returns-then-not-rises-clause-not_sorted : goal.returns-then-not-rises-clause-not_sorted
+returns-then-not-rises-clause-not_sorted g c = λ _.
     let key = c.in_ok-key.key in
     let made = c.in_ok-key.ensures in
     stops c.loop-path.entries.items c.loop-path.yielded c.loop-path.invariant key c.in-Some.path

@@ -4,7 +4,7 @@ use Rattle.unix_path.specs.Parts.{values}
 use Rattle.unix_path.proofs.lemmas.parts.PartLemmas.{values-nil}
 use Rattle.path_keys.specs.Keys.{key_of, IsKey}
 use Rattle.path_keys.proofs.lemmas.values.KeyLemmas.{key_of-nil}
-use Rattle.path_keys.proofs.key.PathKey.of.Goals as goal
+use Rattle.path_keys.proofs.key.PathKey.from_path.Goals as goal
 
 pub returns-then-len-eq0-clause-key : goal.returns-then-len-eq0-clause-key
 returns-then-len-eq0-clause-key c =
