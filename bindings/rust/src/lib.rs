@@ -49,7 +49,7 @@ extern crate alloc;
 extern crate std;
 
 mod buffers;
-mod by_parts;
+mod by_components;
 mod components;
 #[cfg(feature = "alloc")]
 pub mod edits;
@@ -70,7 +70,7 @@ pub use buffers::{
     canonical, join, join_plain, resolved, to_string_lossy, way, with_added_extension,
     with_extension, with_file_name,
 };
-pub use by_parts::ByParts;
+pub use by_components::ByComponents;
 pub use components::{Component, Components};
 pub use error::{Error, RequestError};
 pub use keys::{from_key, key, key_end};

@@ -193,8 +193,8 @@ pub fn compare(a: &[u8], b: &[u8]) -> Ordering {
 
 /// A number that equal paths share, the same in every run and on every machine.
 ///
-/// It has no key: if an attacker may choose the paths, feed [`ByParts`](crate::ByParts) to a hasher
-/// that has one. Not in Rust's std, whose `Path` feeds a hasher.
+/// It has no key: if an attacker may choose the paths, feed [`ByComponents`](crate::ByComponents) to
+/// a hasher that has one. Not in Rust's std, whose `Path` feeds a hasher.
 ///
 /// ```
 /// assert_eq!(unix_path_rattle::hash(b"a//b/."), unix_path_rattle::hash(b"a/b"));

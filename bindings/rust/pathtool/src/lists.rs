@@ -1,6 +1,6 @@
 //! Answers that are lists, with a tab between two items.
 use std::iter::once;
-use unix_path_rattle::{self as paths, owned, ByParts, Component, Error};
+use unix_path_rattle::{self as paths, owned, ByComponents, Component, Error};
 
 /// Adds the items, with a tab between two of them.
 pub fn push_list<'a>(items: impl Iterator<Item = &'a [u8]>, answer: &mut Vec<u8>) {
@@ -44,7 +44,7 @@ pub fn push_walk(path: &[u8], turns: &[u8], answer: &mut Vec<u8>) -> bool {
 /// Adds what follows the base in those of the paths that start with it, in order, each once and
 /// spelled canonically.
 pub fn push_under(base: &[u8], others: &[&[u8]], answer: &mut Vec<u8>) -> Result<(), Error> {
-    let mut others: Vec<_> = others.iter().copied().map(ByParts).collect();
+    let mut others: Vec<_> = others.iter().copied().map(ByComponents).collect();
     others.sort();
     others.dedup();
     let rests = others

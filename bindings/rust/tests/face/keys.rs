@@ -3,7 +3,9 @@ use crate::short_strings::over;
 use std::collections::hash_map::{DefaultHasher, RandomState};
 use std::collections::{BTreeMap, BTreeSet, HashMap, HashSet};
 use std::hash::{BuildHasher, BuildHasherDefault, Hash, Hasher};
-use unix_path_rattle::{compare, components, hash, owned, starts_with, ByParts, Component, Error};
+use unix_path_rattle::{
+    compare, components, hash, owned, starts_with, ByComponents, Component, Error,
+};
 
 #[test]
 fn equal_paths_share_a_hash() {
@@ -20,20 +22,20 @@ fn equal_paths_share_a_hash() {
 }
 
 #[test]
-fn maps_by_parts() {
+fn maps_by_components() {
     let strings = over(b"/.a", 5);
     let mut hashed = HashMap::new();
     let mut ordered = BTreeMap::new();
     let mut spellings = HashSet::new();
     for s in &strings {
-        hashed.entry(ByParts(s)).or_insert(s);
-        ordered.entry(ByParts(s)).or_insert(s);
+        hashed.entry(ByComponents(s)).or_insert(s);
+        ordered.entry(ByComponents(s)).or_insert(s);
         spellings.insert(owned::canonical(s).unwrap());
     }
     assert_eq!(hashed.len(), spellings.len());
     assert_eq!(ordered.len(), spellings.len());
     for s in &strings {
-        assert_eq!(hashed[&ByParts(s)], ordered[&ByParts(s)]);
+        assert_eq!(hashed[&ByComponents(s)], ordered[&ByComponents(s)]);
     }
 }
 
@@ -118,14 +120,14 @@ fn fed_by(key: impl Hash) -> Vec<u8> {
 #[test]
 fn hashers_are_fed_the_parts() {
     let (mut feeds, mut spellings) = (BTreeSet::new(), HashSet::new());
-    let end = fed_by(ByParts(""));
+    let end = fed_by(ByComponents(""));
     for s in over(b"/.ab\0\xFF", 5) {
-        let fed = fed_by(ByParts(&s));
+        let fed = fed_by(ByComponents(&s));
         let parts: Vec<_> = components(&s).map(fed_by).chain([end.clone()]).collect();
         assert_eq!(fed, parts.concat());
         assert_eq!(fed, fed_by(components(&s)));
         let spelling = owned::canonical(&s).unwrap();
-        assert_eq!(fed, fed_by(ByParts(&spelling)), "{}", s.escape_ascii());
+        assert_eq!(fed, fed_by(ByComponents(&spelling)), "{}", s.escape_ascii());
         feeds.insert(fed);
         spellings.insert(spelling);
     }
@@ -136,8 +138,8 @@ fn hashers_are_fed_the_parts() {
 }
 
 /// The lists of two and of three paths whose parts are, one after the other, that many names.
-fn cut_lists(names: usize) -> Vec<Vec<ByParts<String>>> {
-    let path = |count| ByParts(["a"].repeat(count).join("/"));
+fn cut_lists(names: usize) -> Vec<Vec<ByComponents<String>>> {
+    let path = |count| ByComponents(["a"].repeat(count).join("/"));
     let mut lists = vec![];
     for first in 0..=names {
         lists.push(vec![path(first), path(names - first)]);

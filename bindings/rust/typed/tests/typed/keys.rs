@@ -4,7 +4,7 @@ use std::borrow::Cow;
 use std::collections::{BTreeMap, BTreeSet, HashMap, HashSet};
 use std::hash::{BuildHasher, BuildHasherDefault, DefaultHasher, Hash, Hasher, RandomState};
 use std::{rc::Rc, sync::Arc};
-use unix_path_rattle::ByParts;
+use unix_path_rattle::ByComponents;
 use unix_path_typed::{Path, PathBuf, UnixStr, UnixString};
 
 /// A hasher that keeps what it is fed.
@@ -35,7 +35,7 @@ fn fed_by_path(path: &Path) -> Vec<u8> {
     let parts: Vec<_> = parts.chain([fed_by(Path::new(""))]).collect();
     assert_eq!(fed, parts.concat());
     assert_eq!(fed, fed_by(path.components()));
-    assert_eq!(fed, fed_by(ByParts(bytes(path))));
+    assert_eq!(fed, fed_by(ByComponents(bytes(path))));
     assert_eq!(fed, fed_by(path.to_path_buf()));
     assert_eq!(fed, fed_by(Box::<Path>::from(path)));
     assert_eq!(fed, fed_by(Rc::<Path>::from(path)));

@@ -8,31 +8,31 @@ use core::hash::{Hash, Hasher};
 ///
 /// ```
 /// use std::collections::BTreeMap;
-/// use unix_path_rattle::ByParts;
+/// use unix_path_rattle::ByComponents;
 /// let mut sizes = BTreeMap::new();
-/// sizes.insert(ByParts("a//b"), 1);
-/// assert_eq!(sizes.get(&ByParts("a/b/.")), Some(&1));
+/// sizes.insert(ByComponents("a//b"), 1);
+/// assert_eq!(sizes.get(&ByComponents("a/b/.")), Some(&1));
 /// ```
 #[derive(Clone, Copy, Debug, Default)]
-pub struct ByParts<P>(pub P);
+pub struct ByComponents<P>(pub P);
 
-impl<P: AsRef<[u8]>> PartialEq for ByParts<P> {
+impl<P: AsRef<[u8]>> PartialEq for ByComponents<P> {
     #[inline]
     fn eq(&self, other: &Self) -> bool {
         crate::equal(self.0.as_ref(), other.0.as_ref())
     }
 }
 
-impl<P: AsRef<[u8]>> Eq for ByParts<P> {}
+impl<P: AsRef<[u8]>> Eq for ByComponents<P> {}
 
-impl<P: AsRef<[u8]>> PartialOrd for ByParts<P> {
+impl<P: AsRef<[u8]>> PartialOrd for ByComponents<P> {
     #[inline]
     fn partial_cmp(&self, other: &Self) -> Option<Ordering> {
         Some(self.cmp(other))
     }
 }
 
-impl<P: AsRef<[u8]>> Ord for ByParts<P> {
+impl<P: AsRef<[u8]>> Ord for ByComponents<P> {
     #[inline]
     fn cmp(&self, other: &Self) -> Ordering {
         crate::compare(self.0.as_ref(), other.0.as_ref())
@@ -42,7 +42,7 @@ impl<P: AsRef<[u8]>> Ord for ByParts<P> {
 /// Feeds the hasher each part, and an end after the last, as [`Components`](crate::Components)
 /// does: equal paths feed it the same, and if it has a key, that decides which other paths, or
 /// lists of paths, collide.
-impl<P: AsRef<[u8]>> Hash for ByParts<P> {
+impl<P: AsRef<[u8]>> Hash for ByComponents<P> {
     #[inline]
     fn hash<H: Hasher>(&self, state: &mut H) {
         crate::components(self.0.as_ref()).hash(state);
