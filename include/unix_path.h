@@ -26,7 +26,7 @@
  * It prints `/srv/b`. A server of files gives the path of a URL to unix_path_join_below with true
  * in the place of false, once that is decoded: no call here reads `%2e`. Then no request climbs,
  * since a `..` at the root stays there. A server that refuses such a request passes false, and the
- * path without its leading slashes. unix_path_refusal names a refusal.
+ * path without its leading slashes. unix_path_error_name names an error.
  *
  * Link with what `pkg-config --libs unix_path` prints, which is the shared library, -lunix_path. For
  * the archive add -static, or put -l:libunix_path.a in its place. A project of CMake finds the
@@ -53,7 +53,7 @@
  * cuts it at each NUL byte that it holds. Each call below says whether its answer may hold one, and
  * unix_path_is_c_string whether it does.
  *
- * What is no length is a refusal; nothing is written then:
+ * An answer that is no length is an error, and then nothing is written:
  *
  *     UNIX_PATH_SEPARATOR        unix_path_with_extension, unix_path_with_added_extension: the
  *                                extension has a slash
@@ -70,7 +70,7 @@
  *                                answer has more than PTRDIFF_MAX bytes
  *
  * All are greater than the length of any buffer, and unix_path_is_length tells them from lengths.
- * None is SIZE_MAX: one more than a refusal is no size that malloc gives.
+ * None is SIZE_MAX: one more than an error is no size that malloc gives.
  *
  * The attributes by which a compiler warns of a misuse are left out if UNIX_PATH_NO_ATTRIBUTES was
  * defined before this file, which needs C11 or C++11. If UNIX_PATH_EXPORTS_ONLY was, this file has
@@ -396,15 +396,15 @@ size_t unix_path_key_end(const void *key, size_t key_length, void *out, size_t o
 #define UNIX_PATH_CHARS (const char *)
 #endif
 
-/* Whether what a call with `out` answers is a length, and no refusal. It is false too for a length
- * above PTRDIFF_MAX, for which no buffer has room, and which the calls without refusals answer as
- * it is. */
+/* Returns true if what a call with `out` answers is a length, and no error. It is false too for a
+ * length above PTRDIFF_MAX, for which no buffer has room, and which the calls without errors answer
+ * as it is. */
 UNIX_PATH_INLINE bool unix_path_is_length(size_t answer) {
     return answer < UNIX_PATH_TOO_LONG;
 }
 
-/* The name of a refusal, as "UNIX_PATH_ESCAPES"; NULL if the answer is a length. */
-UNIX_PATH_INLINE const char *unix_path_refusal(size_t answer) {
+/* Returns the name of an error, as "UNIX_PATH_ESCAPES"; NULL if the answer is a length. */
+UNIX_PATH_INLINE const char *unix_path_error_name(size_t answer) {
     switch (answer) {
     case UNIX_PATH_SEPARATOR:
         return "UNIX_PATH_SEPARATOR";

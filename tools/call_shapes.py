@@ -41,7 +41,7 @@ EXPORT = re.compile(
     r'\[unsafe\(no_mangle\)\]\npub extern "C" fn unix_path_(\w+)\(([^()]*?),?\s*\)(?: -> (\w+))?\s')
 RECORD = re.compile(r"((?:///.*\n)+)#\[derive.*\n#\[repr\(C\)\]\npub struct (\w+) \{\n([^}]*)\}")
 FIELD = re.compile(r"((?: +///.*\n)*) +pub (\w+): (\w+),\n")
-REFUSAL = re.compile(r"((?:// .*\n)+)const (\w+): usize = (.*);\n")
+ERROR = re.compile(r"((?:// .*\n)+)const (\w+): usize = (.*);\n")
 KIND = re.compile(r"Component::(\w+)(?:\(_\))? => (\w+),")
 NUMBER = re.compile(r"const (\w+): u32 = (\d+);")
 
@@ -95,11 +95,11 @@ def read_records():
     return {name: found[name] for name in RECORDS}
 
 
-def read_refusals():
-    """Returns the refusals, which are the constants whose comments begin with these words, by their
+def read_errors():
+    """Returns the errors, which are the constants whose comments begin with these words, by their
     names, each with its comment and its value in Rust."""
     return {name: (sentence(text), value) for _, source in read_sources()
-            for text, name, value in REFUSAL.findall(source) if text.startswith("// The answer ")}
+            for text, name, value in ERROR.findall(source) if text.startswith("// The answer ")}
 
 
 def read_kinds():

@@ -14,8 +14,8 @@ sys.path.append(f"{os.path.dirname(os.path.abspath(__file__))}/../../tools")
 from call_rows import read_rows, spelled, spelled_row, unescaped
 from call_shapes import read_calls
 
-REFUSALS = {2**64 - 7: "!separator", 2**64 - 2: "!escapes", 2**64 - 4: "!nul_in_request",
-            2**64 - 5: "!not_a_key", 2**64 - 6: "!no_end", 2**64 - 8: "!no_way"}
+ERRORS = {2**64 - 7: "!separator", 2**64 - 2: "!escapes", 2**64 - 4: "!nul_in_request",
+          2**64 - 5: "!not_a_key", 2**64 - 6: "!no_end", 2**64 - 8: "!no_way"}
 
 
 class _Chunk(ctypes.Structure):
@@ -53,7 +53,7 @@ def written(name, *paths, options=()):
     out = ctypes.create_string_buffer(room)
     call = _call(name, c_size_t, _PATH * len(paths), [c_bool] * len(options), _OUT)
     length = call(*words(paths), *options, out, room)
-    return [REFUSALS[length] if length in REFUSALS else spelled(out.raw[:length])]
+    return [ERRORS[length] if length in ERRORS else spelled(out.raw[:length])]
 
 
 def below(name, root, request):

@@ -135,19 +135,20 @@ static void lengths(void) {
     CHECK(UNIX_PATH_TOO_LONG == (size_t)PTRDIFF_MAX + 1, "one byte more than a buffer has");
     CHECK(!unix_path_is_length(UNIX_PATH_TOO_LONG), "no buffer");
     CHECK(!unix_path_is_length(UNIX_PATH_SEPARATOR) && !unix_path_is_length(UNIX_PATH_ESCAPES),
-          "refusals");
-    CHECK(!unix_path_is_length(UNIX_PATH_NUL_IN_REQUEST), "refusals");
-    CHECK(!unix_path_is_length(UNIX_PATH_NO_WAY), "refusals");
-    CHECK(unix_path_refusal(0) == NULL && unix_path_refusal((size_t)PTRDIFF_MAX) == NULL, "names");
-    CHECK(strcmp(unix_path_refusal(UNIX_PATH_TOO_LONG), "UNIX_PATH_TOO_LONG") == 0, "names");
-    CHECK(strcmp(unix_path_refusal(SIZE_MAX), "UNIX_PATH_TOO_LONG") == 0, "no buffer");
-    CHECK(strcmp(unix_path_refusal(UNIX_PATH_SEPARATOR), "UNIX_PATH_SEPARATOR") == 0, "names");
-    CHECK(strcmp(unix_path_refusal(UNIX_PATH_ESCAPES), "UNIX_PATH_ESCAPES") == 0, "names");
-    CHECK(strcmp(unix_path_refusal(UNIX_PATH_NUL_IN_REQUEST), "UNIX_PATH_NUL_IN_REQUEST") == 0,
+          "errors");
+    CHECK(!unix_path_is_length(UNIX_PATH_NUL_IN_REQUEST), "errors");
+    CHECK(!unix_path_is_length(UNIX_PATH_NO_WAY), "errors");
+    CHECK(unix_path_error_name(0) == NULL, "names");
+    CHECK(unix_path_error_name((size_t)PTRDIFF_MAX) == NULL, "names");
+    CHECK(strcmp(unix_path_error_name(UNIX_PATH_TOO_LONG), "UNIX_PATH_TOO_LONG") == 0, "names");
+    CHECK(strcmp(unix_path_error_name(SIZE_MAX), "UNIX_PATH_TOO_LONG") == 0, "no buffer");
+    CHECK(strcmp(unix_path_error_name(UNIX_PATH_SEPARATOR), "UNIX_PATH_SEPARATOR") == 0, "names");
+    CHECK(strcmp(unix_path_error_name(UNIX_PATH_ESCAPES), "UNIX_PATH_ESCAPES") == 0, "names");
+    CHECK(strcmp(unix_path_error_name(UNIX_PATH_NUL_IN_REQUEST), "UNIX_PATH_NUL_IN_REQUEST") == 0,
           "names");
-    CHECK(strcmp(unix_path_refusal(UNIX_PATH_NOT_A_KEY), "UNIX_PATH_NOT_A_KEY") == 0, "names");
-    CHECK(strcmp(unix_path_refusal(UNIX_PATH_NO_END), "UNIX_PATH_NO_END") == 0, "names");
-    CHECK(strcmp(unix_path_refusal(UNIX_PATH_NO_WAY), "UNIX_PATH_NO_WAY") == 0, "names");
+    CHECK(strcmp(unix_path_error_name(UNIX_PATH_NOT_A_KEY), "UNIX_PATH_NOT_A_KEY") == 0, "names");
+    CHECK(strcmp(unix_path_error_name(UNIX_PATH_NO_END), "UNIX_PATH_NO_END") == 0, "names");
+    CHECK(strcmp(unix_path_error_name(UNIX_PATH_NO_WAY), "UNIX_PATH_NO_WAY") == 0, "names");
     char version[16];
     snprintf(version, sizeof version, "%d.%d", UNIX_PATH_VERSION_MAJOR, UNIX_PATH_VERSION_MINOR);
     CHECK(strcmp(version, UNIX_PATH_VERSION) == 0, "version %s", version);

@@ -102,7 +102,7 @@ static void ask_both_sides(view a, view b) {
     CHECK_ROW(common_dir(b, a) == length);
 }
 
-static void add_refusal(const char *name) {
+static void add_error(const char *name) {
     char word[64] = "!";
     for (size_t at = 0; name[at] != '\0'; at++) {
         word[1 + at] = (char)tolower((unsigned char)name[at]);
@@ -126,7 +126,7 @@ static void write_in_each_room(writer write, view a, view b, bool as_url) {
     if (unix_path_is_length(answer)) {
         add_bytes(wanted);
     } else {
-        add_refusal(unix_path_refusal(answer) + strlen("UNIX_PATH_"));
+        add_error(unix_path_error_name(answer) + strlen("UNIX_PATH_"));
     }
 }
 

@@ -124,7 +124,7 @@ bool is_joined_below() {
            && std::equal(want.begin(), want.end(), out.begin());
 }
 
-// Whether the key of a path, read back too, and the end of its range are right, and refusals.
+// Whether the key of a path, read back too, and the end of its range are right, and errors.
 bool is_key_right() {
     uint8_t none = 0;
     std::string_view path = "/a", of_path = "\0\1a\0"sv;

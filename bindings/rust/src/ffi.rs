@@ -17,13 +17,13 @@ mod raw;
 use crate::error::Error;
 #[cfg(feature = "alloc")]
 use alloc::vec::Vec;
-use raw::refusals::*;
+use raw::errors::*;
 use raw::*;
 pub(crate) use raw::{Part, Walk};
 
 /// Why a call wrote nothing, by its answer: a number that is greater than the buffer's length.
 #[cold]
-fn refusal(answer: usize) -> Error {
+fn error_of(answer: usize) -> Error {
     match answer {
         SEPARATOR => Error::Separator,
         ESCAPES => Error::Escapes,
@@ -37,7 +37,7 @@ fn refusal(answer: usize) -> Error {
 /// What a call wrote at the beginning of the buffer, by the number that it answered.
 #[inline]
 fn output(out: &[u8], answer: usize) -> Result<&[u8], Error> {
-    out.get(..answer).ok_or_else(|| refusal(answer))
+    out.get(..answer).ok_or_else(|| error_of(answer))
 }
 
 /// Lets a call write into the vector's capacity behind its first `kept` bytes. The vector then has
@@ -54,7 +54,7 @@ fn fill_behind(
     // SAFETY: the place is in the vector's memory or at its end.
     let answer = call(unsafe { bytes.as_mut_ptr().add(kept) }, room);
     if answer > room {
-        return Err(refusal(answer));
+        return Err(error_of(answer));
     }
     // SAFETY: the capacity has that many bytes; the first were there before, and the library
     // promises that it wrote the others.

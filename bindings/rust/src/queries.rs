@@ -260,7 +260,7 @@ pub fn climbs(path: &[u8]) -> bool {
 
 /// Whether a path from outside is a request that stays below any root by names, or why it is none.
 ///
-/// What tells one refusal is read before what tells the next. Not in Rust's std.
+/// What tells one error is read before what tells the next. Not in Rust's std.
 ///
 /// ```
 /// use unix_path_rattle::{check_request, RequestError};

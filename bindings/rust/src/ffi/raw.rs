@@ -59,7 +59,7 @@ impl Part {
 
 /// What calls answer in place of a length.
 #[allow(dead_code)]
-pub mod refusals {
+pub mod errors {
     /// The answer if an extension has a slash.
     pub const SEPARATOR: usize = usize::MAX - 6;
     /// The answer if bytes are the key of no path.

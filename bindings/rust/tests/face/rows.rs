@@ -47,13 +47,13 @@ impl Answer for Ordering {
 /// The number for which a request is refused.
 impl Answer for Result<(), RequestError> {
     fn fields(self, _: &[u8]) -> Vec<String> {
-        let refusals = [
+        let answers = [
             Ok(()),
             Err(RequestError::Rooted),
             Err(RequestError::Climbs),
             Err(RequestError::Nul),
         ];
-        let number = refusals.iter().position(|it| *it == self);
+        let number = answers.iter().position(|it| *it == self);
         vec![number.unwrap().to_string()]
     }
 }
