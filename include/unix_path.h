@@ -136,6 +136,14 @@ enum {
     UNIX_PATH_NORMAL = 3
 };
 
+/* What unix_path_check_request returns: no other number. */
+enum {
+    UNIX_PATH_REQUEST_OK = 0,
+    UNIX_PATH_REQUEST_HAS_ROOT = 1,
+    UNIX_PATH_REQUEST_ESCAPES = 2,
+    UNIX_PATH_REQUEST_HAS_NUL = 3
+};
+
 /* A part of a path: where its bytes begin in the path, how many they are, and its kind. */
 typedef struct {
     size_t start, length;
@@ -261,8 +269,10 @@ bool unix_path_is_absolute(const void *path, size_t path_length);
  * again. True for `/a` and `a/../../b`, and false for `a/../b`. */
 bool unix_path_climbs(const void *path, size_t path_length);
 
-/* Why a path from outside is no request that stays below a root by names: 1 if it has a root, else
- * 2 if it climbs, else 3 if it has a NUL byte, at which a system call cuts it; 0 if it is one. */
+/* Returns whether a path from outside is a request that stays below a root by names, or why it is
+ * none: UNIX_PATH_REQUEST_HAS_ROOT if and only if it has a root; otherwise
+ * UNIX_PATH_REQUEST_ESCAPES if and only if it climbs; otherwise UNIX_PATH_REQUEST_HAS_NUL if and
+ * only if it has a NUL byte, at which a system call cuts it; otherwise UNIX_PATH_REQUEST_OK. */
 int32_t unix_path_check_request(const void *path, size_t path_length);
 
 /* The place just behind the last slash of the longest string that both begin with; 0 if that

@@ -44,6 +44,12 @@ FIELD = re.compile(r"((?: +///.*\n)*) +pub (\w+): (\w+),\n")
 ERROR = re.compile(r"((?:// .*\n)+)const (\w+): usize = (.*);\n")
 KIND = re.compile(r"Component::(\w+)(?:\(_\))? => (\w+),")
 NUMBER = re.compile(r"const (\w+): u32 = (\d+);")
+CHECKED = re.compile(r"fn unix_path_check_request\(.*?\n}\n", re.S)
+CHECK = re.compile(r"((?:Ok|Err)\(.*\)) => (\d+),")
+# What unix_path_check_request finds, and the names of its answers in C.
+CHECKS = {"Ok(_)": "REQUEST_OK", "Err(RequestError::Rooted)": "REQUEST_HAS_ROOT",
+          "Err(RequestError::Climbs)": "REQUEST_ESCAPES",
+          "Err(RequestError::Nul)": "REQUEST_HAS_NUL"}
 
 
 def read_sources():
@@ -108,3 +114,10 @@ def read_kinds():
     numbers = dict(NUMBER.findall(text))
     return {re.sub(r"\B([A-Z])", r"_\1", name).upper(): int(numbers.get(value, value))
             for name, value in KIND.findall(text)}
+
+
+def read_checks():
+    """Returns what unix_path_check_request answers, by the names in C."""
+    bodies = [it[0] for _, source in read_sources() for it in CHECKED.finditer(source)]
+    return {CHECKS.get(found, found): int(value)
+            for body in bodies for found, value in CHECK.findall(body)}

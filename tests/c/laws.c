@@ -24,7 +24,8 @@ static void questions_of(view path) {
     bool climbs = unix_path_climbs(path.bytes, path.length);
     int32_t reason = unix_path_check_request(path.bytes, path.length);
     CHECK(is_absolute == (path.length > 0 && path.bytes[0] == '/'), "root");
-    CHECK((reason == 1) == is_absolute && (reason == 2) == (climbs && !is_absolute), "request");
+    CHECK((reason == UNIX_PATH_REQUEST_HAS_ROOT) == is_absolute, "request");
+    CHECK((reason == UNIX_PATH_REQUEST_ESCAPES) == (climbs && !is_absolute), "request");
     text spelling = new_text(), lossy = new_text();
     add_one(&spelling, unix_path_canonical, path);
     add_one(&lossy, unix_path_to_string_lossy, path);

@@ -67,7 +67,7 @@ static void questions_of_nothing(void) {
     CHECK(hash(none) == hash(view_of("")) && unix_path_is_utf8(NULL, 0), "hash");
     CHECK(unix_path_is_canonical(NULL, 0), "canonical");
     CHECK(!unix_path_is_absolute(NULL, 0) && !unix_path_climbs(NULL, 0), "root");
-    CHECK(unix_path_check_request(NULL, 0) == 0, "request");
+    CHECK(unix_path_check_request(NULL, 0) == UNIX_PATH_REQUEST_OK, "request");
     for (size_t at = 0; at < other_count; at++) {
         view path = view_of(others[at]);
         CHECK(unix_path_starts_with(path.bytes, path.length, NULL, 0), "row %zu", at);

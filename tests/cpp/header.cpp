@@ -119,7 +119,7 @@ bool is_joined_below() {
         return join_below(root.data(), root.size(), request.data(), request.size(), as_url,
                           out.data(), out.size());
     };
-    return check_request(request.data(), request.size()) == 1
+    return check_request(request.data(), request.size()) == UNIX_PATH_REQUEST_HAS_ROOT
            && join(false) == UNIX_PATH_ESCAPES && join(true) == want.size()
            && std::equal(want.begin(), want.end(), out.begin());
 }
