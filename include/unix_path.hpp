@@ -67,7 +67,7 @@
 namespace unix_path {
 
 /// Why a call gives no bytes.
-enum class refusal {
+enum class error {
     /// The extension has a slash.
     separator,
     /// The request has a root, or goes above where it starts; for join_plain, it has any `..`.
@@ -86,24 +86,24 @@ enum class refusal {
     short_buffer,
 };
 
-/// The refusal's name, as "escapes".
-constexpr const char *name_of(refusal why) noexcept {
+/// Returns the error's name, as "escapes".
+constexpr const char *name_of(error why) noexcept {
     switch (why) {
-    case refusal::separator:
+    case error::separator:
         return "separator";
-    case refusal::escapes:
+    case error::escapes:
         return "escapes";
-    case refusal::nul_in_request:
+    case error::nul_in_request:
         return "nul_in_request";
-    case refusal::not_a_key:
+    case error::not_a_key:
         return "not_a_key";
-    case refusal::no_end:
+    case error::no_end:
         return "no_end";
-    case refusal::no_way:
+    case error::no_way:
         return "no_way";
-    case refusal::too_long:
+    case error::too_long:
         return "too_long";
-    case refusal::short_buffer:
+    case error::short_buffer:
         break;
     }
     return "short_buffer";
@@ -115,7 +115,7 @@ class [[nodiscard]] result {
   public:
     result(T value) noexcept(std::is_nothrow_move_constructible_v<T>)
         : value_(std::move(value)), has_value_(true) {}
-    result(refusal why, std::size_t needed = 0) noexcept : needed_(needed), why_(why) {}
+    result(unix_path::error why, std::size_t needed = 0) noexcept : needed_(needed), why_(why) {}
 
     bool has_value() const noexcept { return has_value_; }
     explicit operator bool() const noexcept { return has_value_; }
@@ -130,8 +130,8 @@ class [[nodiscard]] result {
     T value_or(T other) const { return has_value_ ? value_ : std::move(other); }
 
     /// Why it gives nothing; none if it gives something. `name_of(*answer.why())` names it.
-    std::optional<refusal> why() const noexcept {
-        return has_value_ ? std::nullopt : std::optional<refusal>(why_);
+    std::optional<unix_path::error> why() const noexcept {
+        return has_value_ ? std::nullopt : std::optional<unix_path::error>(why_);
     }
     /// How many bytes the buffer needs, if it was short; else 0.
     std::size_t needed() const noexcept { return needed_; }
@@ -146,7 +146,7 @@ class [[nodiscard]] result {
 
     T value_{};
     std::size_t needed_ = 0;
-    refusal why_ = refusal::too_long;
+    unix_path::error why_ = unix_path::error::too_long;
     bool has_value_ = false;
 };
 
@@ -345,10 +345,10 @@ class view {
     result<std::string_view> join(view path, buffer out) const noexcept;
     std::string with_file_name(view name) const;
     result<std::string_view> with_file_name(view name, buffer out) const noexcept;
-    /// refusal::separator if the extension has a slash; refusal::too_long.
+    /// error::separator if the extension has a slash; error::too_long.
     result<std::string> with_extension(std::string_view extension) const;
     result<std::string_view> with_extension(std::string_view extension, buffer out) const noexcept;
-    /// refusal::separator if the extension has a slash; refusal::too_long.
+    /// error::separator if the extension has a slash; error::too_long.
     result<std::string> with_added_extension(std::string_view extension) const;
     result<std::string_view> with_added_extension(std::string_view extension, buffer out) const
         noexcept;
@@ -359,19 +359,19 @@ class view {
     std::string resolved() const;
     result<std::string_view> resolved(buffer out) const noexcept;
     /// This path is the root, and both stay as they are spelled, for roots that may contain links.
-    /// refusal::escapes if and only if the request has a root or a `..`; otherwise
-    /// refusal::nul_in_request if and only if it has a NUL byte; refusal::too_long.
+    /// error::escapes if and only if the request has a root or a `..`; otherwise
+    /// error::nul_in_request if and only if it has a NUL byte; error::too_long.
     result<std::string> join_plain(view request) const;
     result<std::string_view> join_plain(view request, buffer out) const noexcept;
     /// This path is the root, and stays as it is spelled; behind it stand the names that the
-    /// request resolves to, with no slash at the end. refusal::escapes exactly if the request
-    /// climbs and isn't read as a URL; else refusal::nul_in_request exactly if it has a NUL byte;
-    /// refusal::too_long. To resolve the root's own `..` by names too, join below what `resolved`
-    /// gives of it.
+    /// request resolves to, with no slash at the end. error::escapes if and only if the request
+    /// climbs and isn't read as a URL; otherwise error::nul_in_request if and only if it has a NUL
+    /// byte; error::too_long. To resolve the root's own `..` by names too, join below what
+    /// `resolved` gives of it.
     result<std::string> join_below(view request, reading how) const;
     result<std::string_view> join_below(view request, reading how, buffer out) const noexcept;
-    /// The way from this path to the other by names. refusal::no_way if and only if no path without
-    /// a root leads there; refusal::too_long.
+    /// The way from this path to the other by names. error::no_way if and only if no path without
+    /// a root leads there; error::too_long.
     result<std::string> way(view to) const;
     result<std::string_view> way(view to, buffer out) const noexcept;
     /// The key by which a store that compares keys byte by byte keeps the path; unix_path.h says
@@ -708,15 +708,15 @@ struct hash {
 
 namespace detail {
 
-inline refusal refusal_of(std::size_t answer) noexcept {
+inline error error_of(std::size_t answer) noexcept {
     switch (answer) {
-    case UNIX_PATH_SEPARATOR: return refusal::separator;
-    case UNIX_PATH_ESCAPES: return refusal::escapes;
-    case UNIX_PATH_NUL_IN_REQUEST: return refusal::nul_in_request;
-    case UNIX_PATH_NOT_A_KEY: return refusal::not_a_key;
-    case UNIX_PATH_NO_END: return refusal::no_end;
-    case UNIX_PATH_NO_WAY: return refusal::no_way;
-    default: return refusal::too_long;
+    case UNIX_PATH_SEPARATOR: return error::separator;
+    case UNIX_PATH_ESCAPES: return error::escapes;
+    case UNIX_PATH_NUL_IN_REQUEST: return error::nul_in_request;
+    case UNIX_PATH_NOT_A_KEY: return error::not_a_key;
+    case UNIX_PATH_NO_END: return error::no_end;
+    case UNIX_PATH_NO_WAY: return error::no_way;
+    default: return error::too_long;
     }
 }
 
@@ -727,7 +727,7 @@ result<std::string> grown(std::size_t room, Call call) {
     for (;;) {
         const std::size_t length = call(out.data(), out.size());
         if (!unix_path_is_length(length)) {
-            return refusal_of(length);
+            return error_of(length);
         }
         const bool is_written = length <= out.size();
         out.resize(length);
@@ -742,10 +742,10 @@ template <typename Call>
 result<std::string_view> written(buffer out, Call call) noexcept {
     const std::size_t length = call(out.data(), out.size());
     if (!unix_path_is_length(length)) {
-        return refusal_of(length);
+        return error_of(length);
     }
     if (length > out.size()) {
-        return {refusal::short_buffer, length};
+        return {error::short_buffer, length};
     }
     return std::string_view(out.data(), length);
 }
@@ -897,7 +897,7 @@ inline result<std::string_view> view::key(buffer out) const noexcept {
 }
 
 /// The path of a key, as view::key gives it: the canonical spelling of the paths that have it.
-/// refusal::not_a_key exactly if no path has these bytes as its key.
+/// error::not_a_key if and only if no path has these bytes as its key.
 inline result<std::string> from_key(std::string_view key) {
     return detail::grown(key.size() + key.size() / 2, detail::from_key_call(key));
 }
@@ -905,9 +905,9 @@ inline result<std::string_view> from_key(std::string_view key, buffer out) noexc
     return detail::written(out, detail::from_key_call(key));
 }
 
-/// The end of a key's range: a path starts with the key's path exactly if its own key is not less
-/// than the key and less than this end. refusal::no_end exactly for the empty key, and
-/// refusal::not_a_key exactly if no path has these bytes as its key.
+/// The end of a key's range: a path starts with the key's path if and only if its own key is not
+/// less than the key and less than this end. error::no_end if and only if the key is empty, and
+/// error::not_a_key if and only if no path has these bytes as its key.
 inline result<std::string> key_end(std::string_view key) {
     return detail::grown(key.size(), detail::key_end_call(key));
 }

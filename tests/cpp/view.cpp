@@ -60,8 +60,8 @@ namespace {
 using unix_path::buffer;
 using unix_path::component;
 using unix_path::component_kind;
+using unix_path::error;
 using unix_path::reading;
-using unix_path::refusal;
 using unix_path::result;
 using unix_path::view;
 using namespace std::string_view_literals;
@@ -141,13 +141,13 @@ void comparisons() {
 
 void names() {
     CHECK(unix_path::name_of(*view("../x").way("y").why()) == "no_way"sv);
-    CHECK(unix_path::name_of(refusal::separator) == "separator"sv);
-    CHECK(unix_path::name_of(refusal::escapes) == "escapes"sv);
-    CHECK(unix_path::name_of(refusal::nul_in_request) == "nul_in_request"sv);
-    CHECK(unix_path::name_of(refusal::not_a_key) == "not_a_key"sv);
-    CHECK(unix_path::name_of(refusal::no_end) == "no_end"sv);
-    CHECK(unix_path::name_of(refusal::too_long) == "too_long"sv);
-    CHECK(unix_path::name_of(refusal::short_buffer) == "short_buffer"sv);
+    CHECK(unix_path::name_of(error::separator) == "separator"sv);
+    CHECK(unix_path::name_of(error::escapes) == "escapes"sv);
+    CHECK(unix_path::name_of(error::nul_in_request) == "nul_in_request"sv);
+    CHECK(unix_path::name_of(error::not_a_key) == "not_a_key"sv);
+    CHECK(unix_path::name_of(error::no_end) == "no_end"sv);
+    CHECK(unix_path::name_of(error::too_long) == "too_long"sv);
+    CHECK(unix_path::name_of(error::short_buffer) == "short_buffer"sv);
     CHECK(unix_path::name_of(component_kind::root_dir) == "root_dir"sv);
     CHECK(unix_path::name_of(component_kind::cur_dir) == "cur_dir"sv);
     CHECK(unix_path::name_of(component_kind::parent_dir) == "parent_dir"sv);
@@ -156,7 +156,7 @@ void names() {
 
 void results() {
     CHECK(view("/srv").join_plain("..").value_or("none") == "none");
-    CHECK(view("/srv").join_plain("..").why() == refusal::escapes);
+    CHECK(view("/srv").join_plain("..").why() == error::escapes);
     CHECK(view("/srv").join_plain("a").value_or("none") == "/srv/a");
     CHECK(!view("/srv").join_plain("a").why() && view("/srv").join_plain("a")->size() == 6);
     std::string taken = view("/srv/").join_plain("a").value_or("") + *view("b").way("b");
@@ -353,7 +353,7 @@ void in_each_room(const result<std::string> &whole,
         if (!whole) {
             CHECK(written.why() == whole.why() && written.needed() == 0);
         } else if (whole->size() > room) {
-            CHECK(written.why() == refusal::short_buffer && written.needed() == whole->size());
+            CHECK(written.why() == error::short_buffer && written.needed() == whole->size());
         } else {
             CHECK(*written == *whole && written->data() == memory.data() && !written.why());
         }
@@ -471,7 +471,7 @@ void memory() {
     CHECK(a.join(b, out) && a.with_file_name(b, out) && a.with_extension(".x", out));
     CHECK(a.with_added_extension(".x", out) && a.is_canonical());
     CHECK(a.canonical(out) && a.to_string_lossy(out) && a.resolved(out) && a.way("/a/b", out));
-    CHECK(a.join_plain("c", out) && a.join_plain(b, out).why() == refusal::escapes);
+    CHECK(a.join_plain("c", out) && a.join_plain(b, out).why() == error::escapes);
     CHECK(a.join_below(b, reading::as_path, out) && a == a && a <= a && !b.climbs() && length > 0);
     CHECK(a.strip_prefix("/a/root")->file_name() == "be" && a.common_dir(b) == 0);
     CHECK(requests == before);
@@ -496,7 +496,7 @@ bool ends_program(void (*look)()) {
            && WEXITSTATUS(status) == 7;
 }
 
-void looked_at_refusals() {
+void looked_at_errors() {
     CHECK(ends_program([] { std::puts((*view("a").join_plain("..")).c_str()); }));
     CHECK(ends_program([] { std::puts(view("a").join_plain("..")->c_str()); }));
     CHECK(ends_program([] {
@@ -523,7 +523,7 @@ int main() {
     run("null views", null_views);
     run("maps", maps);
     run("memory", memory);
-    run("refusals that are looked at", looked_at_refusals);
+    run("errors that are looked at", looked_at_errors);
     std::printf("%d passed, %d failed\n", passed_tests, failed_tests);
     return failed_tests != 0;
 }
