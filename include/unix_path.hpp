@@ -15,7 +15,7 @@
 //
 //     unix_path::view root = "/srv/www";
 //     auto file = root.join_below("/img/../a.png", unix_path::reading::as_url);
-//     std::puts(file ? file->c_str() : unix_path::name_of(*file.why()));
+//     std::puts(file ? file->c_str() : unix_path::to_string(*file.why()));
 //
 // It prints `/srv/www/a.png`. Both examples need <cstdio>, and the first <map>; unix_path.h says how
 // to link.
@@ -86,8 +86,8 @@ enum class error {
     short_buffer,
 };
 
-/// Returns the error's name, as "escapes".
-constexpr const char *name_of(error why) noexcept {
+/// Returns the error's name, as "escapes": a string of C, which lives as long as the program.
+constexpr const char *to_string(error why) noexcept {
     switch (why) {
     case error::separator:
         return "separator";
@@ -129,7 +129,7 @@ class [[nodiscard]] result {
     const T *operator->() const noexcept UNIX_PATH_LIFETIME { return &checked().value_; }
     T value_or(T other) const { return has_value_ ? value_ : std::move(other); }
 
-    /// Why it gives nothing; none if it gives something. `name_of(*answer.why())` names it.
+    /// Why it gives nothing; none if it gives something. `to_string(*answer.why())` names it.
     std::optional<unix_path::error> why() const noexcept {
         return has_value_ ? std::nullopt : std::optional<unix_path::error>(why_);
     }
@@ -181,8 +181,8 @@ enum class component_kind : std::uint32_t {
     normal = UNIX_PATH_NORMAL,
 };
 
-/// The kind's name, as "root_dir".
-constexpr const char *name_of(component_kind kind) noexcept {
+/// Returns the kind's name, as "root_dir": a string of C, which lives as long as the program.
+constexpr const char *to_string(component_kind kind) noexcept {
     switch (kind) {
     case component_kind::root_dir:
         return "root_dir";

@@ -140,18 +140,18 @@ void comparisons() {
 }
 
 void names() {
-    CHECK(unix_path::name_of(*view("../x").way("y").why()) == "no_way"sv);
-    CHECK(unix_path::name_of(error::separator) == "separator"sv);
-    CHECK(unix_path::name_of(error::escapes) == "escapes"sv);
-    CHECK(unix_path::name_of(error::nul_in_request) == "nul_in_request"sv);
-    CHECK(unix_path::name_of(error::not_a_key) == "not_a_key"sv);
-    CHECK(unix_path::name_of(error::no_end) == "no_end"sv);
-    CHECK(unix_path::name_of(error::too_long) == "too_long"sv);
-    CHECK(unix_path::name_of(error::short_buffer) == "short_buffer"sv);
-    CHECK(unix_path::name_of(component_kind::root_dir) == "root_dir"sv);
-    CHECK(unix_path::name_of(component_kind::cur_dir) == "cur_dir"sv);
-    CHECK(unix_path::name_of(component_kind::parent_dir) == "parent_dir"sv);
-    CHECK(unix_path::name_of(component_kind::normal) == "normal"sv);
+    CHECK(unix_path::to_string(*view("../x").way("y").why()) == "no_way"sv);
+    CHECK(unix_path::to_string(error::separator) == "separator"sv);
+    CHECK(unix_path::to_string(error::escapes) == "escapes"sv);
+    CHECK(unix_path::to_string(error::nul_in_request) == "nul_in_request"sv);
+    CHECK(unix_path::to_string(error::not_a_key) == "not_a_key"sv);
+    CHECK(unix_path::to_string(error::no_end) == "no_end"sv);
+    CHECK(unix_path::to_string(error::too_long) == "too_long"sv);
+    CHECK(unix_path::to_string(error::short_buffer) == "short_buffer"sv);
+    CHECK(unix_path::to_string(component_kind::root_dir) == "root_dir"sv);
+    CHECK(unix_path::to_string(component_kind::cur_dir) == "cur_dir"sv);
+    CHECK(unix_path::to_string(component_kind::parent_dir) == "parent_dir"sv);
+    CHECK(unix_path::to_string(component_kind::normal) == "normal"sv);
 }
 
 void results() {
