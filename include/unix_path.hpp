@@ -224,7 +224,12 @@ struct chunk {
 enum class reading { as_path, as_url };
 
 /// What a path from outside is as a request that stays below a root by names.
-enum class request_check { is_fine = 0, has_root = 1, climbs = 2, has_nul = 3 };
+enum class request_check : std::int32_t {
+    ok = UNIX_PATH_REQUEST_OK,
+    has_root = UNIX_PATH_REQUEST_HAS_ROOT,
+    escapes = UNIX_PATH_REQUEST_ESCAPES,
+    has_nul = UNIX_PATH_REQUEST_HAS_NUL,
+};
 
 class components;
 class ancestors;
@@ -289,7 +294,8 @@ class view {
     bool is_canonical() const noexcept { return unix_path_is_canonical(data(), size()); }
     /// Whether the path has a root or ever goes above where it starts.
     bool climbs() const noexcept { return unix_path_climbs(data(), size()); }
-    /// Of a path that has a root it is `has_root`, and `climbs` of one that has none.
+    /// Returns `has_root` if and only if the path has a root; otherwise `escapes` if and only if it
+    /// climbs; otherwise `has_nul` if and only if it has a NUL; otherwise `ok`.
     request_check check_request() const noexcept {
         return static_cast<request_check>(unix_path_check_request(data(), size()));
     }

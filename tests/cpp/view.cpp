@@ -163,6 +163,14 @@ void results() {
     CHECK(taken == "/srv/a");
 }
 
+void checked_requests() {
+    using unix_path::request_check;
+    CHECK(view("a/../b").check_request() == request_check::ok);
+    CHECK(view("/../a\0"sv).check_request() == request_check::has_root);
+    CHECK(view("a\0/../.."sv).check_request() == request_check::escapes);
+    CHECK(view("a\0.png"sv).check_request() == request_check::has_nul);
+}
+
 // A name for what stands in the path's own bytes: where it begins and how many they are.
 template <typename T>
 std::string place_of(view path, const std::optional<T> &found) {
@@ -409,7 +417,7 @@ void null_views() {
     CHECK(none == "" && none < "a" && none.hash() == view("").hash() && !none.has_nul());
     CHECK(none.starts_with(none) && none.ends_with(string) && view("a").starts_with(none));
     CHECK(!none.is_absolute() && none.is_utf8() && !none.climbs() && none.common_dir(none) == 0);
-    CHECK(none.check_request() == unix_path::request_check::is_fine && none.is_canonical());
+    CHECK(none.check_request() == unix_path::request_check::ok && none.is_canonical());
     CHECK(!none.parent() && !none.file_name() && !none.file_stem() && !none.extension());
     CHECK(!none.file_prefix() && none.strip_prefix(none)->empty());
     CHECK(view("a").strip_prefix(none)->bytes() == "a" && !none.strip_prefix("a"));
@@ -512,6 +520,7 @@ int main() {
     run("comparisons", comparisons);
     run("names", names);
     run("results", results);
+    run("checked requests", checked_requests);
     run("places", places);
     run("iterators", iterators);
     run("reversed parts", reversed_parts);
