@@ -82,7 +82,7 @@ enum class error {
     no_way,
     /// The answer has more bytes than a buffer can have.
     too_long,
-    /// The caller's buffer has less room than result::needed() says.
+    /// The caller's buffer has less room than result::required_size() says.
     short_buffer,
 };
 
@@ -115,7 +115,8 @@ class [[nodiscard]] result {
   public:
     result(T value) noexcept(std::is_nothrow_move_constructible_v<T>)
         : value_(std::move(value)), has_value_(true) {}
-    result(unix_path::error why, std::size_t needed = 0) noexcept : needed_(needed), why_(why) {}
+    result(unix_path::error why, std::size_t size = 0) noexcept
+        : required_size_(size), why_(why) {}
 
     bool has_value() const noexcept { return has_value_; }
     explicit operator bool() const noexcept { return has_value_; }
@@ -133,8 +134,8 @@ class [[nodiscard]] result {
     std::optional<unix_path::error> why() const noexcept {
         return has_value_ ? std::nullopt : std::optional<unix_path::error>(why_);
     }
-    /// How many bytes the buffer needs, if it was short; else 0.
-    std::size_t needed() const noexcept { return needed_; }
+    /// Returns how many bytes the buffer needs, if the error is `short_buffer`; otherwise 0.
+    std::size_t required_size() const noexcept { return required_size_; }
 
   private:
     const result &checked() const noexcept {
@@ -145,7 +146,7 @@ class [[nodiscard]] result {
     }
 
     T value_{};
-    std::size_t needed_ = 0;
+    std::size_t required_size_ = 0;
     unix_path::error why_ = unix_path::error::too_long;
     bool has_value_ = false;
 };

@@ -359,9 +359,10 @@ void in_each_room(const result<std::string> &whole,
         const auto written = call(buffer(memory.data(), room));
         const std::size_t length = written ? written->size() : 0;
         if (!whole) {
-            CHECK(written.why() == whole.why() && written.needed() == 0);
+            CHECK(written.why() == whole.why() && written.required_size() == 0);
         } else if (whole->size() > room) {
-            CHECK(written.why() == error::short_buffer && written.needed() == whole->size());
+            CHECK(written.why() == error::short_buffer);
+            CHECK(written.required_size() == whole->size());
         } else {
             CHECK(*written == *whole && written->data() == memory.data() && !written.why());
         }
@@ -439,7 +440,7 @@ void null_views() {
     CHECK(none.join_below(none, reading::as_url, room)->empty());
     CHECK(none.key().empty() && none.key(room)->empty() && unix_path::from_key({})->empty());
     CHECK(unix_path::from_key({}, room)->empty() && !unix_path::key_end({}, room));
-    CHECK(view("a").canonical(room).needed() == 1);
+    CHECK(view("a").canonical(room).required_size() == 1);
 }
 
 void maps() {
