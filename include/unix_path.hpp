@@ -15,10 +15,10 @@
 //
 //     unix_path::view root = "/srv/www";
 //     auto file = root.join_below("/img/../a.png", unix_path::reading::as_url);
-//     std::puts(file ? file->c_str() : unix_path::to_string(*file.why()));
+//     std::puts(file ? file->c_str() : unix_path::to_string(file.error()));
 //
-// It prints `/srv/www/a.png`. Both examples need <cstdio>, and the first <map>; unix_path.h says how
-// to link.
+// It prints `/srv/www/a.png`. Both examples need <cstdio>, and the first <map>; unix_path.h says
+// how to link.
 //
 // The calls of the library are proved, and what each answers stands in unix_path.h. This file isn't
 // proved: tests alone show that it passes them what they are to get, and hands on what they answer.
@@ -109,46 +109,89 @@ constexpr const char *to_string(error why) noexcept {
     return "short_buffer";
 }
 
-/// What a call gives, or why it gives nothing.
+/// What a call gives, or the error for which it gives nothing, with the names of std::expected. To
+/// ask for what isn't there ends the program by std::terminate.
 template <typename T>
 class [[nodiscard]] result {
   public:
-    result(T value) noexcept(std::is_nothrow_move_constructible_v<T>)
-        : value_(std::move(value)), has_value_(true) {}
-    result(unix_path::error why, std::size_t size = 0) noexcept
-        : required_size_(size), why_(why) {}
+    using value_type = T;
+    using error_type = unix_path::error;
 
-    bool has_value() const noexcept { return has_value_; }
-    explicit operator bool() const noexcept { return has_value_; }
+    result(T value) noexcept(std::is_nothrow_move_constructible_v<T>) : value_(std::move(value)) {}
+    result(error_type why, std::size_t size = 0) noexcept : required_size_(size), error_(why) {}
 
-    /// What the call gives. If it gives nothing, this ends the program by std::terminate.
-    const T &operator*() const & noexcept UNIX_PATH_LIFETIME { return checked().value_; }
-    T operator*() && noexcept(std::is_nothrow_move_constructible_v<T>) {
+    bool has_value() const noexcept { return value_.has_value(); }
+    explicit operator bool() const noexcept { return has_value(); }
+
+    /// Returns what the call gives, as `*` does: of an rvalue, moved out of it. If the call gives
+    /// nothing, this ends the program by std::terminate, since nothing here throws, and so do `*`
+    /// and `->`.
+    const T &value() const & noexcept UNIX_PATH_LIFETIME { return checked(); }
+    T value() && noexcept(std::is_nothrow_move_constructible_v<T>) {
         checked();
-        return std::move(value_);
+        return std::move(*value_);
     }
-    const T *operator->() const noexcept UNIX_PATH_LIFETIME { return &checked().value_; }
-    T value_or(T other) const { return has_value_ ? value_ : std::move(other); }
+    const T &operator*() const & noexcept UNIX_PATH_LIFETIME { return checked(); }
+    T operator*() && noexcept(std::is_nothrow_move_constructible_v<T>) {
+        return std::move(*this).value();
+    }
+    const T *operator->() const noexcept UNIX_PATH_LIFETIME { return &checked(); }
+    /// Returns what the call gives, or the other value if it gives nothing.
+    T value_or(T other) const & { return has_value() ? *value_ : std::move(other); }
+    T value_or(T other) && { return std::move(has_value() ? *value_ : other); }
 
-    /// Why it gives nothing; none if it gives something. `to_string(*answer.why())` names it.
-    std::optional<unix_path::error> why() const noexcept {
-        return has_value_ ? std::nullopt : std::optional<unix_path::error>(why_);
+    /// Returns the error. If the call gives something, this ends the program by std::terminate.
+    /// `to_string(answer.error())` names the error.
+    error_type error() const noexcept {
+        if (has_value()) {
+            std::terminate();
+        }
+        return error_;
     }
     /// Returns how many bytes the buffer needs, if the error is `short_buffer`; otherwise 0.
     std::size_t required_size() const noexcept { return required_size_; }
 
-  private:
-    const result &checked() const noexcept {
-        if (!has_value_) {
-            std::terminate();
-        }
-        return *this;
+    /// Calls the function with what the call gives, and returns the result that the function
+    /// returns. If the call gives nothing, returns a result of the same type with the error and
+    /// with `required_size()`.
+    template <typename Function>
+    auto and_then(Function &&function) const & {
+        using next = std::decay_t<std::invoke_result_t<Function, const T &>>;
+        return has_value() ? next(std::invoke(std::forward<Function>(function), *value_))
+                           : next(error_, required_size_);
+    }
+    template <typename Function>
+    auto and_then(Function &&function) && {
+        using next = std::decay_t<std::invoke_result_t<Function, T>>;
+        return has_value() ? next(std::invoke(std::forward<Function>(function), std::move(*value_)))
+                           : next(error_, required_size_);
+    }
+    /// Calls the function with what the call gives, and returns a result with what the function
+    /// returns, which isn't void. If the call gives nothing, does as `and_then`.
+    template <typename Function>
+    auto transform(Function &&function) const & {
+        using next = result<std::decay_t<std::invoke_result_t<Function, const T &>>>;
+        return has_value() ? next(std::invoke(std::forward<Function>(function), *value_))
+                           : next(error_, required_size_);
+    }
+    template <typename Function>
+    auto transform(Function &&function) && {
+        using next = result<std::decay_t<std::invoke_result_t<Function, T>>>;
+        return has_value() ? next(std::invoke(std::forward<Function>(function), std::move(*value_)))
+                           : next(error_, required_size_);
     }
 
-    T value_{};
+  private:
+    const T &checked() const noexcept {
+        if (!has_value()) {
+            std::terminate();
+        }
+        return *value_;
+    }
+
+    std::optional<T> value_{};
     std::size_t required_size_ = 0;
-    unix_path::error why_ = unix_path::error::too_long;
-    bool has_value_ = false;
+    error_type error_ = error_type::too_long;
 };
 
 /// The caller's room for an answer: a pointer and how many bytes may be written there, an array of

@@ -12,6 +12,7 @@
 #include <functional>
 #include <iterator>
 #include <map>
+#include <memory>
 #include <new>
 #include <set>
 #include <string>
@@ -140,7 +141,7 @@ void comparisons() {
 }
 
 void names() {
-    CHECK(unix_path::to_string(*view("../x").way("y").why()) == "no_way"sv);
+    CHECK(unix_path::to_string(view("../x").way("y").error()) == "no_way"sv);
     CHECK(unix_path::to_string(error::separator) == "separator"sv);
     CHECK(unix_path::to_string(error::escapes) == "escapes"sv);
     CHECK(unix_path::to_string(error::nul_in_request) == "nul_in_request"sv);
@@ -154,13 +155,99 @@ void names() {
     CHECK(unix_path::to_string(component_kind::normal) == "normal"sv);
 }
 
+using answer = result<std::string>;
+static_assert(std::is_same_v<answer::value_type, std::string>);
+static_assert(std::is_same_v<answer::error_type, error>);
+static_assert(std::is_same_v<decltype(std::declval<answer &>().value()), const std::string &>);
+static_assert(std::is_same_v<decltype(*std::declval<answer &>()), const std::string &>);
+static_assert(std::is_same_v<decltype(std::declval<answer>().value()), std::string>);
+static_assert(std::is_same_v<decltype(*std::declval<answer>()), std::string>);
+static_assert(noexcept(std::declval<answer &>().value()) && noexcept(std::declval<answer>().value())
+              && noexcept(std::declval<answer &>().error()));
+static_assert(!std::is_convertible_v<answer, bool> && std::is_constructible_v<bool, answer>);
+static_assert(std::is_trivially_copyable_v<result<std::string_view>>);
+
 void results() {
+    const answer joined = view("/srv").join_plain("a"), refused = view("/srv").join_plain("..");
+    CHECK(joined && joined.has_value() && joined.value() == "/srv/a" && joined->size() == 6);
+    CHECK(&*joined == &joined.value() && joined.operator->() == &joined.value());
+    CHECK(joined.value_or("none") == "/srv/a" && joined.required_size() == 0);
+    CHECK(!refused && !refused.has_value() && refused.error() == error::escapes);
+    CHECK(refused.value_or("none") == "none" && refused.required_size() == 0);
+    CHECK(view("/srv").join_plain("a").value() == "/srv/a");
     CHECK(view("/srv").join_plain("..").value_or("none") == "none");
-    CHECK(view("/srv").join_plain("..").why() == error::escapes);
     CHECK(view("/srv").join_plain("a").value_or("none") == "/srv/a");
-    CHECK(!view("/srv").join_plain("a").why() && view("/srv").join_plain("a")->size() == 6);
     std::string taken = view("/srv/").join_plain("a").value_or("") + *view("b").way("b");
     CHECK(taken == "/srv/a");
+}
+
+// A result that is given up hands on its own string, and one that stays keeps it.
+void moved_results() {
+    const std::string text(100, 'a');
+    const auto moves = [&](auto take) {
+        answer whole = text;
+        const char *bytes = whole->data();
+        const bool stays = take(whole) == text && whole->data() == bytes && *whole == text;
+        const std::string taken = take(std::move(whole));
+        return stays && taken == text && taken.data() == bytes;
+    };
+    CHECK(moves([](auto &&it) { return std::forward<decltype(it)>(it).value(); }));
+    CHECK(moves([](auto &&it) { return *std::forward<decltype(it)>(it); }));
+    CHECK(moves([](auto &&it) { return std::forward<decltype(it)>(it).value_or(""); }));
+    CHECK(moves([](auto &&it) {
+        return *std::forward<decltype(it)>(it).and_then([](auto &&value) {
+            return answer(std::forward<decltype(value)>(value));
+        });
+    }));
+    CHECK(moves([](auto &&it) {
+        return *std::forward<decltype(it)>(it).transform([](auto &&value) -> std::string {
+            return std::forward<decltype(value)>(value);
+        });
+    }));
+}
+
+answer with_gz(const std::string &path) { return view(path).with_added_extension("gz"); }
+
+std::size_t size_of(const std::string &path) { return path.size(); }
+
+// What a function makes of a value, and that no function is called of an error, which stays.
+void chained_results() {
+    const answer joined = view("/srv").join_plain("a.b"), refused = view("/srv").join_plain("..");
+    static_assert(std::is_same_v<decltype(joined.and_then(with_gz)), answer>);
+    static_assert(std::is_same_v<decltype(joined.transform(size_of)), result<std::size_t>>);
+    CHECK(joined.and_then(with_gz).value() == "/srv/a.b.gz" && *joined.transform(size_of) == 8);
+    CHECK(view("a").join_plain("b").and_then(with_gz).and_then(with_gz).value() == "a/b.gz.gz");
+    CHECK(view("a").join_plain("b").transform(size_of).value() == 3);
+    const auto with_slash = [](const std::string &path) { return view(path).with_extension("/"); };
+    CHECK(joined.and_then(with_slash).error() == error::separator);
+    int calls = 0;
+    const auto count = [&](const std::string &) { return ++calls; };
+    const auto count_on = [&](const std::string &) { return result<int>(++calls); };
+    CHECK(refused.and_then(count_on).error() == error::escapes);
+    CHECK(refused.transform(count).error() == error::escapes);
+    CHECK(view("a").join_plain("..").and_then(count_on).error() == error::escapes);
+    CHECK(view("a").join_plain("..").transform(count).error() == error::escapes);
+    CHECK(calls == 0 && *joined.transform(count) == 1 && *joined.and_then(count_on) == 2);
+}
+
+// How much room there has to be is handed on too, and a value needs no value that stands for none.
+void chained_buffers() {
+    char out[2];
+    const auto size = [](std::string_view bytes) { return bytes.size(); };
+    const auto again = [&](std::string_view bytes) { return view(bytes).resolved(out); };
+    const auto written = view("a/b").canonical(out);
+    const auto is_short = [](const auto &it) {
+        return it.error() == error::short_buffer && it.required_size() == 3;
+    };
+    CHECK(is_short(written.transform(size)) && is_short(written.and_then(again)));
+    CHECK(is_short(view("a/b").canonical(out).transform(size)));
+    CHECK(is_short(view("a/b").canonical(out).and_then(again)));
+    struct named {
+        explicit named(const std::string &path) : bytes(std::make_unique<std::string>(path)) {}
+        std::unique_ptr<std::string> bytes;
+    };
+    auto made = view("a").join_plain("b").transform([](std::string path) { return named(path); });
+    CHECK(*made->bytes == "a/b" && *std::move(made).value().bytes == "a/b");
 }
 
 void checked_requests() {
@@ -359,12 +446,13 @@ void in_each_room(const result<std::string> &whole,
         const auto written = call(buffer(memory.data(), room));
         const std::size_t length = written ? written->size() : 0;
         if (!whole) {
-            CHECK(written.why() == whole.why() && written.required_size() == 0);
+            CHECK(!written && written.error() == whole.error() && written.required_size() == 0);
         } else if (whole->size() > room) {
-            CHECK(written.why() == error::short_buffer);
+            CHECK(!written && written.error() == error::short_buffer);
             CHECK(written.required_size() == whole->size());
         } else {
-            CHECK(*written == *whole && written->data() == memory.data() && !written.why());
+            CHECK(written && *written == *whole && written->data() == memory.data());
+            CHECK(written.required_size() == 0);
         }
         CHECK(std::all_of(memory.begin() + std::ptrdiff_t(length), memory.end(),
                           [](char byte) { return byte == '\x5A'; }));
@@ -480,7 +568,7 @@ void memory() {
     CHECK(a.join(b, out) && a.with_file_name(b, out) && a.with_extension(".x", out));
     CHECK(a.with_added_extension(".x", out) && a.is_canonical());
     CHECK(a.canonical(out) && a.to_string_lossy(out) && a.resolved(out) && a.way("/a/b", out));
-    CHECK(a.join_plain("c", out) && a.join_plain(b, out).why() == error::escapes);
+    CHECK(a.join_plain("c", out) && a.join_plain(b, out).error() == error::escapes);
     CHECK(a.join_below(b, reading::as_path, out) && a == a && a <= a && !b.climbs() && length > 0);
     CHECK(a.strip_prefix("/a/root")->file_name() == "be" && a.common_dir(b) == 0);
     CHECK(requests == before);
@@ -512,7 +600,14 @@ void looked_at_errors() {
         const auto refused = view("a").with_extension("/");
         std::puts((*refused).c_str());
     }));
-    CHECK(!ends_program([] { (void)view("a").join_plain("..").why(); }));
+    CHECK(ends_program([] { std::puts(view("a").join_plain("..").value().c_str()); }));
+    CHECK(ends_program([] {
+        const auto refused = view("a").with_extension("/");
+        std::puts(refused.value().c_str());
+    }));
+    CHECK(ends_program([] { (void)view("a").join_plain("b").error(); }));
+    CHECK(!ends_program([] { (void)view("a").join_plain("..").error(); }));
+    CHECK(!ends_program([] { (void)view("a").join_plain("b").value(); }));
 }
 
 }  // namespace
@@ -521,6 +616,9 @@ int main() {
     run("comparisons", comparisons);
     run("names", names);
     run("results", results);
+    run("results that are moved", moved_results);
+    run("results by functions", chained_results);
+    run("results in buffers, by functions", chained_buffers);
     run("checked requests", checked_requests);
     run("places", places);
     run("iterators", iterators);

@@ -66,7 +66,7 @@ fields shown(view, unix_path::request_check check) {
 fields shown(view, const std::string &bytes) { return {spelled(bytes)}; }
 
 fields shown(view, const result<std::string> &answer) {
-    return {answer ? spelled(*answer) : std::string("!") + unix_path::to_string(*answer.why())};
+    return {answer ? spelled(*answer) : std::string("!") + unix_path::to_string(answer.error())};
 }
 
 fields shown(view path, std::optional<view> place) {
