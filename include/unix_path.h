@@ -28,8 +28,8 @@
  * since a `..` at the root stays there. A server that refuses such a request passes false, and the
  * path without its leading slashes. unix_path_error_name names an error.
  *
- * Link with what `pkg-config --libs unix_path` prints, which is the shared library, -lunix_path. For
- * the archive add -static, or put -l:libunix_path.a in its place. A project of CMake finds the
+ * Link with what `pkg-config --libs unix_path` prints: the shared library, by -lunix_path. For the
+ * archive add -static, or put -l:libunix_path.a in its place. A project of CMake finds the
  * package unix_path, with the targets unix_path::unix_path and, for the archive, unix_path::static.
  * The library needs nothing of the C library except memcpy, memmove, memset and memcmp.
  *
@@ -57,16 +57,16 @@
  *
  *     UNIX_PATH_SEPARATOR        unix_path_with_extension, unix_path_with_added_extension: the
  *                                extension has a slash
- *     UNIX_PATH_ESCAPES          unix_path_join_below: the request climbs; unix_path_join_plain:
+ *     UNIX_PATH_ESCAPES          unix_path_join_below: the request climbs; unix_path_join_verbatim:
  *                                it has a root or a `..`
- *     UNIX_PATH_NUL_IN_REQUEST   unix_path_join_below, unix_path_join_plain: the request has a NUL
- *                                byte
+ *     UNIX_PATH_NUL_IN_REQUEST   unix_path_join_below, unix_path_join_verbatim: the request has a
+ *                                NUL byte
  *     UNIX_PATH_NOT_A_KEY        unix_path_from_key, unix_path_key_end: no path has this key
  *     UNIX_PATH_NO_END           unix_path_key_end: the key is empty, and every key in its range
  *     UNIX_PATH_NO_WAY           unix_path_way: no path without a root leads there
  *     UNIX_PATH_TOO_LONG         unix_path_to_string_lossy, unix_path_with_extension,
  *                                unix_path_with_added_extension, unix_path_join_below,
- *                                unix_path_join_plain, unix_path_way, unix_path_from_key: the
+ *                                unix_path_join_verbatim, unix_path_way, unix_path_from_key: the
  *                                answer has more than PTRDIFF_MAX bytes
  *
  * All are greater than the length of any buffer, and unix_path_is_length tells them from lengths.
@@ -103,11 +103,11 @@ extern "C" {
 /* What unix_path_with_extension and unix_path_with_added_extension answer if the extension has a
  * slash. */
 #define UNIX_PATH_SEPARATOR (SIZE_MAX - 6)
-/* What unix_path_join_below answers if the request climbs, and unix_path_join_plain if it has a
+/* What unix_path_join_below answers if the request climbs, and unix_path_join_verbatim if it has a
  * root or a `..`. */
 #define UNIX_PATH_ESCAPES (SIZE_MAX - 1)
-/* What unix_path_join_below and unix_path_join_plain answer if the request has a NUL byte and isn't
- * refused as UNIX_PATH_ESCAPES. */
+/* What unix_path_join_below and unix_path_join_verbatim answer if the request has a NUL byte and
+ * isn't refused as UNIX_PATH_ESCAPES. */
 #define UNIX_PATH_NUL_IN_REQUEST (SIZE_MAX - 3)
 /* What unix_path_from_key and unix_path_key_end answer if the bytes are the key of no path. */
 #define UNIX_PATH_NOT_A_KEY (SIZE_MAX - 4)
@@ -332,7 +332,7 @@ size_t unix_path_resolved(const void *path, size_t path_length, void *out,
  * and only if it has a NUL byte, at which a system call would cut the answer. The answer has at
  * most as many bytes as both and one more, and holds a NUL only if the root does. `/srv/../www`
  * with `./a` gives `/srv/../www/./a`; `a/../b` and `..\0/a` are refused. */
-size_t unix_path_join_plain(const void *root, size_t root_length, const void *request,
+size_t unix_path_join_verbatim(const void *root, size_t root_length, const void *request,
                             size_t request_length, void *out, size_t out_length);
 
 /* The request joined below the root: the root as it stands, byte for byte, and behind it the names
@@ -589,7 +589,7 @@ UNIX_PATH_MAKE_OF_TWO(with_added_extension)
 UNIX_PATH_MAKE(canonical)
 UNIX_PATH_MAKE(to_string_lossy)
 UNIX_PATH_MAKE(resolved)
-UNIX_PATH_MAKE_OF_TWO(join_plain)
+UNIX_PATH_MAKE_OF_TWO(join_verbatim)
 UNIX_PATH_MAKE_OF_TWO_AS(join_below)
 UNIX_PATH_MAKE_OF_TWO(way)
 UNIX_PATH_MAKE(key)
@@ -626,7 +626,7 @@ UNIX_PATH_MAKE(key_end)
 #define unix_path_canonical unix_path_inline_canonical
 #define unix_path_to_string_lossy unix_path_inline_to_string_lossy
 #define unix_path_resolved unix_path_inline_resolved
-#define unix_path_join_plain unix_path_inline_join_plain
+#define unix_path_join_verbatim unix_path_inline_join_verbatim
 #define unix_path_join_below unix_path_inline_join_below
 #define unix_path_way unix_path_inline_way
 #define unix_path_key unix_path_inline_key

@@ -70,7 +70,7 @@ namespace unix_path {
 enum class error {
     /// The extension has a slash.
     separator,
-    /// The request has a root, or goes above where it starts; for join_plain, it has any `..`.
+    /// The request has a root, or goes above where it starts; for join_verbatim, it has any `..`.
     escapes,
     /// The request has a NUL byte, at which a system call cuts it.
     nul_in_request,
@@ -411,8 +411,8 @@ class view {
     /// This path is the root, and both stay as they are spelled, for roots that may contain links.
     /// error::escapes if and only if the request has a root or a `..`; otherwise
     /// error::nul_in_request if and only if it has a NUL byte; error::too_long.
-    result<std::string> join_plain(view request) const;
-    result<std::string_view> join_plain(view request, buffer out) const noexcept;
+    result<std::string> join_verbatim(view request) const;
+    result<std::string_view> join_verbatim(view request, buffer out) const noexcept;
     /// This path is the root, and stays as it is spelled; behind it stand the names that the
     /// request resolves to, with no slash at the end. error::escapes if and only if the request
     /// climbs and isn't read as a URL; otherwise error::nul_in_request if and only if it has a NUL
@@ -835,9 +835,9 @@ inline auto resolved_call(view a) noexcept {
         return unix_path_resolved(a.data(), a.size(), out, room);
     };
 }
-inline auto join_plain_call(view a, view b) noexcept {
+inline auto join_verbatim_call(view a, view b) noexcept {
     return [a, b](char *out, std::size_t room) noexcept {
-        return unix_path_join_plain(a.data(), a.size(), b.data(), b.size(), out, room);
+        return unix_path_join_verbatim(a.data(), a.size(), b.data(), b.size(), out, room);
     };
 }
 inline auto join_below_call(view a, view b, reading how) noexcept {
@@ -919,11 +919,12 @@ inline std::string view::resolved() const {
 inline result<std::string_view> view::resolved(buffer out) const noexcept {
     return detail::written(out, detail::resolved_call(*this));
 }
-inline result<std::string> view::join_plain(view request) const {
-    return detail::grown(detail::room_of(*this, request), detail::join_plain_call(*this, request));
+inline result<std::string> view::join_verbatim(view request) const {
+    return detail::grown(detail::room_of(*this, request),
+                         detail::join_verbatim_call(*this, request));
 }
-inline result<std::string_view> view::join_plain(view request, buffer out) const noexcept {
-    return detail::written(out, detail::join_plain_call(*this, request));
+inline result<std::string_view> view::join_verbatim(view request, buffer out) const noexcept {
+    return detail::written(out, detail::join_verbatim_call(*this, request));
 }
 inline result<std::string> view::join_below(view request, reading how) const {
     return detail::grown(detail::room_of(*this, request),

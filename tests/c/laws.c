@@ -51,7 +51,7 @@ static void room_for_one(view path) {
 static void room_for_two(view a, view b) {
     static const call_of_two calls[] = {unix_path_join, unix_path_with_file_name,
                                         unix_path_with_extension, unix_path_with_added_extension,
-                                        unix_path_join_plain};
+                                        unix_path_join_verbatim};
     uint8_t out[16];
     size_t room = a.length + 1 + b.length;
     for (size_t at = 0; at < sizeof calls / sizeof *calls; at++) {
@@ -223,7 +223,7 @@ static void pair_with(view path) {
         CHECK(unix_path_equal(first.bytes, first.length, a.bytes, a.length), "rejoined");
     }
     bool climbs = unix_path_climbs(b.bytes, b.length);
-    CHECK(add_two(&second, unix_path_join_plain, a, b) == !has_root_or_up(b), "root or up");
+    CHECK(add_two(&second, unix_path_join_verbatim, a, b) == !has_root_or_up(b), "root or up");
     joins_below(a, b, climbs);
     way_leads(a, b);
     room_for_two(a, b);

@@ -116,9 +116,9 @@ static void written_of_nothing(void) {
     write_both(unix_path_with_extension, name, none, view_of("a"));
     write_both(unix_path_with_added_extension, none, name, nothing);
     write_both(unix_path_with_added_extension, name, none, name);
-    write_both(unix_path_join_plain, none, none, nothing);
-    write_both(unix_path_join_plain, none, name, name);
-    write_both(unix_path_join_plain, name, none, view_of("a.b/"));
+    write_both(unix_path_join_verbatim, none, none, nothing);
+    write_both(unix_path_join_verbatim, none, name, name);
+    write_both(unix_path_join_verbatim, name, none, view_of("a.b/"));
     write_both(unix_path_way, none, none, nothing);
     write_both(unix_path_way, none, name, name);
     write_both(unix_path_way, name, none, view_of(".."));

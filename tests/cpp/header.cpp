@@ -49,7 +49,7 @@ constexpr std::array<OfOne, 3> of_one{unix_path_canonical, unix_path_to_string_l
                                       unix_path_resolved};
 constexpr std::array<OfTwo, 5> of_two{unix_path_join, unix_path_with_file_name,
                                       unix_path_with_extension, unix_path_with_added_extension,
-                                      unix_path_join_plain};
+                                      unix_path_join_verbatim};
 constexpr std::array<Turn, 2> turns{unix_path_next, unix_path_next_back};
 constexpr std::array<Place, 5> places{unix_path_parent, unix_path_file_name, unix_path_file_stem,
                                       unix_path_extension, unix_path_file_prefix};

@@ -73,7 +73,7 @@ static_assert(!std::is_convertible_v<view, std::string_view>, "bytes are compare
 static_assert(view("a/b").size() == 3 && view().empty() && view("a\0b"sv).has_nul());
 static_assert(std::is_nothrow_invocable_v<unix_path::less, std::string, view>);
 static_assert(noexcept(view().join_below(view(), reading::as_path, std::declval<buffer>())));
-static_assert(noexcept(view().join_plain(view(), std::declval<buffer>())));
+static_assert(noexcept(view().join_verbatim(view(), std::declval<buffer>())));
 static_assert(noexcept(view().parent()) && noexcept(view().compare(view())));
 static_assert(!std::is_constructible_v<buffer, const std::string &>);
 static_assert(!std::is_constructible_v<buffer, const char (&)[4]>);
@@ -168,16 +168,17 @@ static_assert(!std::is_convertible_v<answer, bool> && std::is_constructible_v<bo
 static_assert(std::is_trivially_copyable_v<result<std::string_view>>);
 
 void results() {
-    const answer joined = view("/srv").join_plain("a"), refused = view("/srv").join_plain("..");
+    const answer joined = view("/srv").join_verbatim("a");
+    const answer refused = view("/srv").join_verbatim("..");
     CHECK(joined && joined.has_value() && joined.value() == "/srv/a" && joined->size() == 6);
     CHECK(&*joined == &joined.value() && joined.operator->() == &joined.value());
     CHECK(joined.value_or("none") == "/srv/a" && joined.required_size() == 0);
     CHECK(!refused && !refused.has_value() && refused.error() == error::escapes);
     CHECK(refused.value_or("none") == "none" && refused.required_size() == 0);
-    CHECK(view("/srv").join_plain("a").value() == "/srv/a");
-    CHECK(view("/srv").join_plain("..").value_or("none") == "none");
-    CHECK(view("/srv").join_plain("a").value_or("none") == "/srv/a");
-    std::string taken = view("/srv/").join_plain("a").value_or("") + *view("b").way("b");
+    CHECK(view("/srv").join_verbatim("a").value() == "/srv/a");
+    CHECK(view("/srv").join_verbatim("..").value_or("none") == "none");
+    CHECK(view("/srv").join_verbatim("a").value_or("none") == "/srv/a");
+    std::string taken = view("/srv/").join_verbatim("a").value_or("") + *view("b").way("b");
     CHECK(taken == "/srv/a");
 }
 
@@ -212,12 +213,13 @@ std::size_t size_of(const std::string &path) { return path.size(); }
 
 // What a function makes of a value, and that no function is called of an error, which stays.
 void chained_results() {
-    const answer joined = view("/srv").join_plain("a.b"), refused = view("/srv").join_plain("..");
+    const answer joined = view("/srv").join_verbatim("a.b");
+    const answer refused = view("/srv").join_verbatim("..");
     static_assert(std::is_same_v<decltype(joined.and_then(with_gz)), answer>);
     static_assert(std::is_same_v<decltype(joined.transform(size_of)), result<std::size_t>>);
     CHECK(joined.and_then(with_gz).value() == "/srv/a.b.gz" && *joined.transform(size_of) == 8);
-    CHECK(view("a").join_plain("b").and_then(with_gz).and_then(with_gz).value() == "a/b.gz.gz");
-    CHECK(view("a").join_plain("b").transform(size_of).value() == 3);
+    CHECK(view("a").join_verbatim("b").and_then(with_gz).and_then(with_gz).value() == "a/b.gz.gz");
+    CHECK(view("a").join_verbatim("b").transform(size_of).value() == 3);
     const auto with_slash = [](const std::string &path) { return view(path).with_extension("/"); };
     CHECK(joined.and_then(with_slash).error() == error::separator);
     int calls = 0;
@@ -225,8 +227,8 @@ void chained_results() {
     const auto count_on = [&](const std::string &) { return result<int>(++calls); };
     CHECK(refused.and_then(count_on).error() == error::escapes);
     CHECK(refused.transform(count).error() == error::escapes);
-    CHECK(view("a").join_plain("..").and_then(count_on).error() == error::escapes);
-    CHECK(view("a").join_plain("..").transform(count).error() == error::escapes);
+    CHECK(view("a").join_verbatim("..").and_then(count_on).error() == error::escapes);
+    CHECK(view("a").join_verbatim("..").transform(count).error() == error::escapes);
     CHECK(calls == 0 && *joined.transform(count) == 1 && *joined.and_then(count_on) == 2);
 }
 
@@ -246,7 +248,8 @@ void chained_buffers() {
         explicit named(const std::string &path) : bytes(std::make_unique<std::string>(path)) {}
         std::unique_ptr<std::string> bytes;
     };
-    auto made = view("a").join_plain("b").transform([](std::string path) { return named(path); });
+    auto made = view("a").join_verbatim("b").transform(
+        [](std::string path) { return named(path); });
     CHECK(*made->bytes == "a/b" && *std::move(made).value().bytes == "a/b");
 }
 
@@ -484,7 +487,7 @@ void buffers() {
                          [=](buffer out) { return a.with_extension(b.bytes(), out); });
             in_each_room(a.with_added_extension(b.bytes()),
                          [=](buffer out) { return a.with_added_extension(b.bytes(), out); });
-            in_each_room(a.join_plain(b), [=](buffer out) { return a.join_plain(b, out); });
+            in_each_room(a.join_verbatim(b), [=](buffer out) { return a.join_verbatim(b, out); });
             in_each_room(a.way(b), [=](buffer out) { return a.way(b, out); });
             in_each_room(a.join_below(b, how),
                          [=](buffer out) { return a.join_below(b, how, out); });
@@ -524,7 +527,7 @@ void null_views() {
     CHECK(none.with_extension({}, room)->empty() && none.canonical(room)->empty());
     CHECK(none.to_string_lossy(room)->empty() && none.resolved(room)->empty());
     CHECK(none.way(none)->empty() && none.way(none, room)->empty());
-    CHECK(none.join_plain(none)->empty() && none.join_plain(none, room)->empty());
+    CHECK(none.join_verbatim(none)->empty() && none.join_verbatim(none, room)->empty());
     CHECK(none.join_below(none, reading::as_url, room)->empty());
     CHECK(none.key().empty() && none.key(room)->empty() && unix_path::from_key({})->empty());
     CHECK(unix_path::from_key({}, room)->empty() && !unix_path::key_end({}, room));
@@ -568,7 +571,7 @@ void memory() {
     CHECK(a.join(b, out) && a.with_file_name(b, out) && a.with_extension(".x", out));
     CHECK(a.with_added_extension(".x", out) && a.is_canonical());
     CHECK(a.canonical(out) && a.to_string_lossy(out) && a.resolved(out) && a.way("/a/b", out));
-    CHECK(a.join_plain("c", out) && a.join_plain(b, out).error() == error::escapes);
+    CHECK(a.join_verbatim("c", out) && a.join_verbatim(b, out).error() == error::escapes);
     CHECK(a.join_below(b, reading::as_path, out) && a == a && a <= a && !b.climbs() && length > 0);
     CHECK(a.strip_prefix("/a/root")->file_name() == "be" && a.common_dir(b) == 0);
     CHECK(requests == before);
@@ -594,20 +597,20 @@ bool ends_program(void (*look)()) {
 }
 
 void looked_at_errors() {
-    CHECK(ends_program([] { std::puts((*view("a").join_plain("..")).c_str()); }));
-    CHECK(ends_program([] { std::puts(view("a").join_plain("..")->c_str()); }));
+    CHECK(ends_program([] { std::puts((*view("a").join_verbatim("..")).c_str()); }));
+    CHECK(ends_program([] { std::puts(view("a").join_verbatim("..")->c_str()); }));
     CHECK(ends_program([] {
         const auto refused = view("a").with_extension("/");
         std::puts((*refused).c_str());
     }));
-    CHECK(ends_program([] { std::puts(view("a").join_plain("..").value().c_str()); }));
+    CHECK(ends_program([] { std::puts(view("a").join_verbatim("..").value().c_str()); }));
     CHECK(ends_program([] {
         const auto refused = view("a").with_extension("/");
         std::puts(refused.value().c_str());
     }));
-    CHECK(ends_program([] { (void)view("a").join_plain("b").error(); }));
-    CHECK(!ends_program([] { (void)view("a").join_plain("..").error(); }));
-    CHECK(!ends_program([] { (void)view("a").join_plain("b").value(); }));
+    CHECK(ends_program([] { (void)view("a").join_verbatim("b").error(); }));
+    CHECK(!ends_program([] { (void)view("a").join_verbatim("..").error(); }));
+    CHECK(!ends_program([] { (void)view("a").join_verbatim("b").value(); }));
 }
 
 }  // namespace

@@ -214,7 +214,7 @@ def families():
     yield from PAIRS + PATHS
     for title, make, sizes in REQUESTS:
         yield title, lambda n, make=make: (make(n), b""), sizes, "climbs check_request"
-        yield title, lambda n, make=make: (ROOT, make(n)), sizes, "join_plain join_below"
+        yield title, lambda n, make=make: (ROOT, make(n)), sizes, "join_verbatim join_below"
     for title, make, sizes in URLS:
         yield title, lambda n, make=make: (ROOT, make(n)), sizes, "join_below"
     for title, make, sizes in KEYS:

@@ -3,7 +3,7 @@ use crate::digest::Digest;
 use crate::lines::path_of;
 use crate::random::Random;
 use crate::tree::{noise_of, push_tag, Tree};
-use crate::within::{climbs, join_plain, join_within, resolved, way};
+use crate::within::{climbs, join_verbatim, join_within, resolved, way};
 use std::path::Path;
 
 pub static ROOTS: [&str; 8] = [
@@ -89,11 +89,11 @@ fn answer(root: &Path, request: &Path, digest: &mut Digest) {
     }
 }
 
-/// Adds the answer of those who trust no link: the plain join, if the request has no root, no `..`
-/// and no NUL.
-fn answer_plain_join(root: &Path, request: &Path, digest: &mut Digest) {
+/// Adds the answer of those who trust no link: the verbatim join, if the request has no root, no
+/// `..` and no NUL.
+fn answer_verbatim_join(root: &Path, request: &Path, digest: &mut Digest) {
     digest.add_flag(climbs(request));
-    match join_plain(root, request) {
+    match join_verbatim(root, request) {
         Some(path) => digest.add_path(&path),
         None => digest.add(0),
     }
@@ -125,7 +125,7 @@ pub fn run(seed: u64, count: u64) -> u64 {
         for turn in 0..3 {
             answer(root_at(turn), asked, &mut digest);
         }
-        answer_plain_join(root_at(3), asked, &mut digest);
+        answer_verbatim_join(root_at(3), asked, &mut digest);
         answer_link(path_of(&page), asked, &mut digest);
         page.clone_from(&request);
     }

@@ -51,7 +51,7 @@ pub fn join_within(root: &Path, request: &Path) -> Option<PathBuf> {
 
 /// The request joined to the root, both as they stand; `None` if the request has a root, a `..` or
 /// a NUL.
-pub fn join_plain(root: &Path, request: &Path) -> Option<PathBuf> {
+pub fn join_verbatim(root: &Path, request: &Path) -> Option<PathBuf> {
     let leaves = |part| matches!(part, Component::RootDir | Component::ParentDir);
     if request.components().any(leaves) || request.as_os_str().as_bytes().contains(&0) {
         return None;

@@ -132,15 +132,19 @@ pub fn resolved<'o>(path: &[u8], out: &'o mut [u8]) -> Result<&'o [u8], Error> {
 /// the answer; and with `Short`. Does not allocate. Not in Rust's std.
 ///
 /// ```
-/// use unix_path_rattle::{join_plain, Error};
+/// use unix_path_rattle::{join_verbatim, Error};
 /// let mut out = [0; 24];
-/// assert_eq!(join_plain(b"/srv/../www", b"./a", &mut out), Ok(&b"/srv/../www/./a"[..]));
-/// assert_eq!(join_plain(b"/srv/../www", b"a/../b", &mut out), Err(Error::Escapes));
-/// assert_eq!(join_plain(b"/srv/../www", b"..\0/a", &mut out), Err(Error::Nul));
+/// assert_eq!(join_verbatim(b"/srv/../www", b"./a", &mut out), Ok(&b"/srv/../www/./a"[..]));
+/// assert_eq!(join_verbatim(b"/srv/../www", b"a/../b", &mut out), Err(Error::Escapes));
+/// assert_eq!(join_verbatim(b"/srv/../www", b"..\0/a", &mut out), Err(Error::Nul));
 /// ```
 #[inline]
-pub fn join_plain<'o>(root: &[u8], request: &[u8], out: &'o mut [u8]) -> Result<&'o [u8], Error> {
-    MakeOfTwo::JOIN_PLAIN.write(root, request, out)
+pub fn join_verbatim<'o>(
+    root: &[u8],
+    request: &[u8],
+    out: &'o mut [u8],
+) -> Result<&'o [u8], Error> {
+    MakeOfTwo::JOIN_VERBATIM.write(root, request, out)
 }
 
 /// The way from one path to another by names: of both resolved, without the parts that they then

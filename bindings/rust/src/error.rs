@@ -19,9 +19,9 @@ pub enum Error {
     },
     /// The extension has a slash.
     Separator,
-    /// The request of `join_plain` has a root or a `..`.
+    /// The request of `join_verbatim` has a root or a `..`.
     Escapes,
-    /// The request of `join_plain` has neither a root nor a `..`, and has a NUL byte.
+    /// The request of `join_verbatim` has neither a root nor a `..`, and has a NUL byte.
     Nul,
     /// An allocation failed.
     NoMemory,

@@ -67,7 +67,7 @@ mod request;
 mod walks;
 
 pub use buffers::{
-    canonical, join, join_plain, resolved, to_string_lossy, way, with_added_extension,
+    canonical, join, join_verbatim, resolved, to_string_lossy, way, with_added_extension,
     with_extension, with_file_name,
 };
 pub use by_components::ByComponents;

@@ -252,15 +252,15 @@ make_as! {
     /// ```
     resolved(path: Path) -> PathBuf, path_buf;
 
-    /// As [`owned::join_plain`].
+    /// As [`owned::join_verbatim`].
     ///
     /// ```
     /// # use std::path::Path;
-    /// use unix_path_rattle::{os::join_plain, Error};
-    /// assert_eq!(join_plain("/srv/..", "a").unwrap(), Path::new("/srv/../a"));
-    /// assert_eq!(join_plain("/srv/..", "a/../b"), Err(Error::Escapes));
+    /// use unix_path_rattle::{os::join_verbatim, Error};
+    /// assert_eq!(join_verbatim("/srv/..", "a").unwrap(), Path::new("/srv/../a"));
+    /// assert_eq!(join_verbatim("/srv/..", "a/../b"), Err(Error::Escapes));
     /// ```
-    join_plain(root: Path, request: Path) -> PathBuf, path_buf;
+    join_verbatim(root: Path, request: Path) -> PathBuf, path_buf;
 
     /// As [`owned::way`].
     ///

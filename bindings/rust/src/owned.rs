@@ -119,16 +119,16 @@ pub fn resolved(path: &[u8]) -> Result<Vec<u8>, Error> {
     vec_of(path.len(), |bytes| Make::RESOLVED.fill(path, bytes))
 }
 
-/// As [`join_plain`](crate::join_plain), in memory of its own.
+/// As [`join_verbatim`](crate::join_verbatim), in memory of its own.
 ///
 /// ```
 /// use unix_path_rattle::{owned, Error};
-/// assert_eq!(owned::join_plain(b"/srv/..", b"./a").unwrap(), b"/srv/.././a");
-/// assert_eq!(owned::join_plain(b"/srv/..", b"a/../b"), Err(Error::Escapes));
+/// assert_eq!(owned::join_verbatim(b"/srv/..", b"./a").unwrap(), b"/srv/.././a");
+/// assert_eq!(owned::join_verbatim(b"/srv/..", b"a/../b"), Err(Error::Escapes));
 /// ```
-pub fn join_plain(root: &[u8], request: &[u8]) -> Result<Vec<u8>, Error> {
+pub fn join_verbatim(root: &[u8], request: &[u8]) -> Result<Vec<u8>, Error> {
     vec_of(root.len() + 1 + request.len(), |bytes| {
-        MakeOfTwo::JOIN_PLAIN.fill(root, request, bytes)
+        MakeOfTwo::JOIN_VERBATIM.fill(root, request, bytes)
     })
 }
 

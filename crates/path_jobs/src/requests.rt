@@ -4,7 +4,7 @@ use crate::random::Random;
 use crate::tree::{Tree, noise_of, push_tag};
 use path_within::resolved::resolved;
 use path_within::way::way;
-use path_within::within::{WithinError, climbs, join_plain, join_within};
+use path_within::within::{WithinError, climbs, join_verbatim, join_within};
 use std::alloc::{AllocError, Global};
 use unix_path::Path;
 
@@ -106,16 +106,16 @@ fn answer(
     Ok(())
 }
 
-// Adds the answer of those who trust no link: the plain join, if the request has no root, no `..`
-// and no NUL.
-fn answer_plain_join(
+// Adds the answer of those who trust no link: the verbatim join, if the request has no root, no
+// `..` and no NUL.
+fn answer_verbatim_join(
     alloc: Global,
     root: Path<'_>,
     request: Path<'_>,
     digest: &mut Digest,
 ) -> Result<(), AllocError> {
     digest.add_flag(climbs(request));
-    match join_plain(alloc, root, request) {
+    match join_verbatim(alloc, root, request) {
         Ok(path) => digest.add_path(path.as_path()),
         Err(WithinError::Escapes | WithinError::Nul) => digest.add(0),
         Err(WithinError::Memory(error)) => return Err(error),
@@ -156,7 +156,7 @@ pub(crate) fn run(alloc: Global, seed: u64, count: u64) -> Result<u64, AllocErro
             answer(alloc, root, asked, &mut digest)?;
         }
         let root = Path::from_text(ROOTS[(place.wrapping_add(3) & 7) as usize]);
-        answer_plain_join(alloc, root, asked, &mut digest)?;
+        answer_verbatim_join(alloc, root, asked, &mut digest)?;
         answer_link(alloc, Path::from_bytes(&page), asked, &mut digest)?;
         page.clear();
         page.extend_from_slice(&request)?;

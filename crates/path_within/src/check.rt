@@ -130,7 +130,7 @@ pub fn climbs(path: Path<'_>) -> bool
 
 /// Returns true if the path has a root or any `..`.
 ///
-/// A path that has neither only goes down by its names when it is joined to a root: `join_plain`
+/// A path that has neither only goes down by its names when it is joined to a root: `join_verbatim`
 /// refuses all others. Does not allocate. Not in Rust's std.
 ///
 /// For `/a` and `a/../b` it is true; for `./a` and `..a` it is false.

@@ -24,11 +24,11 @@ use unix_path::{Path, PathBuf};
 /// When it is displayed, its text is padded as any text is. Not in Rust's std.
 #[derive(Debug, Drop)]
 pub enum WithinError {
-    /// The request would leave the root or, for `join_plain`, has a root or a `..`. It is printed
-    /// as `path leaves its root`.
+    /// The request would leave the root or, for `join_verbatim`, has a root or a `..`. It is
+    /// printed as `path leaves its root`.
     Escapes,
-    /// The request of `join_plain` has neither a root nor a `..`, and has a NUL byte. It is printed
-    /// as `path has a NUL byte`.
+    /// The request of `join_verbatim` has neither a root nor a `..`, and has a NUL byte. It is
+    /// printed as `path has a NUL byte`.
     Nul,
     /// An allocation failed. It is printed as `out of memory`.
     Memory(AllocError),
@@ -73,8 +73,9 @@ impl From<AllocError> for WithinError {
 /// The error is `Escapes` exactly if the request climbs, before anything is allocated, and `Memory`
 /// if the allocation fails. A trailing slash of the request is dropped, and the answer may be the
 /// root itself. A request with a leading slash is refused: for paths of URLs use `Request::below`.
-/// It is lexical: if a part of the root or of the request may be a link, use `join_plain` and let
-/// the system refuse links. Allocates the join, once, or nothing if it is empty. Not in Rust's std.
+/// It is lexical: if a part of the root or of the request may be a link, use `join_verbatim` and
+/// let the system refuse links. Allocates the join, once, or nothing if it is empty. Not in Rust's
+/// std.
 ///
 /// A request with a NUL byte isn't refused, and `..\0` is a name. A system call reads a path only
 /// up to its first NUL, so it may read the answer as the root's parent: it reads `/srv/..\0/a`, the
@@ -117,7 +118,11 @@ pub fn join_within(alloc: Global, root: Path<'_>, request: Path<'_>) -> Result<P
 /// if both are empty; then it succeeds. Not in Rust's std.
 ///
 /// `/srv/../www` with `./a` is `/srv/../www/./a`, and with `a/../b` or `..\0/a` it is refused.
-pub fn join_plain(alloc: Global, root: Path<'_>, request: Path<'_>) -> Result<PathBuf, WithinError>
+pub fn join_verbatim(
+    alloc: Global,
+    root: Path<'_>,
+    request: Path<'_>,
+) -> Result<PathBuf, WithinError>
     ensures escapes { IsErrOf result WithinError.Escapes
         ↔ (has_root_or_up (values request.entry.bytes.now) ≡ true) }
     ensures nul { IsErrOf result WithinError.Nul

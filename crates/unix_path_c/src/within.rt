@@ -59,12 +59,12 @@ pub extern "C" fn unix_path_resolved(path: &[u8], out: &mut [u8]) -> usize
 ///
 /// A trailing slash of the request stays, the root may have a NUL, and the answer may be the root
 /// itself, with a trailing slash. Does not allocate. Not in Rust's std; as `path_within`'s
-/// `join_plain`.
+/// `join_verbatim`.
 ///
 /// `/srv/../www` with `./a` is `/srv/../www/./a`, and with `a/../b` or `..\0/a` it is refused.
 #[tactic(auto, using(crate::proofs::lemmas::buffers::BoundLemmas::bounds))]
 #[unsafe(no_mangle)]
-pub extern "C" fn unix_path_join_plain(root: &[u8], request: &[u8], out: &mut [u8]) -> usize
+pub extern "C" fn unix_path_join_verbatim(root: &[u8], request: &[u8], out: &mut [u8]) -> usize
     ensures answers { IsLength result
         ⊎ ((result ≡ escapes) ⊎ ((result ≡ nul_in_request) ⊎ (result ≡ too_long))) }
     ensures escapes { (result ≡ escapes) ↔ (has_root_or_up (values request.now) ≡ true) }

@@ -105,7 +105,7 @@ macro_rules! make_of_two {
             with_file_name;
             with_extension;
             with_added_extension;
-            join_plain;
+            join_verbatim;
             way;
         }
     };

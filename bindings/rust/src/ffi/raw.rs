@@ -124,7 +124,7 @@ extern "C" {
         out_length: usize) -> usize;
     pub fn unix_path_resolved(path: Start, path_length: usize, out: *mut u8, out_length: usize)
         -> usize;
-    pub fn unix_path_join_plain(root: Start, root_length: usize, request: Start,
+    pub fn unix_path_join_verbatim(root: Start, root_length: usize, request: Start,
         request_length: usize, out: *mut u8, out_length: usize) -> usize;
     pub fn unix_path_join_below(root: Start, root_length: usize, request: Start,
         request_length: usize, as_url: bool, out: *mut u8, out_length: usize) -> usize;
@@ -188,7 +188,7 @@ impl MakeOfTwo {
     pub const WITH_FILE_NAME: Self = Self(unix_path_with_file_name);
     pub const WITH_EXTENSION: Self = Self(unix_path_with_extension);
     pub const WITH_ADDED_EXTENSION: Self = Self(unix_path_with_added_extension);
-    pub const JOIN_PLAIN: Self = Self(unix_path_join_plain);
+    pub const JOIN_VERBATIM: Self = Self(unix_path_join_verbatim);
     pub const WAY: Self = Self(unix_path_way);
 }
 

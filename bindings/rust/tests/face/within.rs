@@ -54,7 +54,7 @@ fn resolved_and_climbing() {
 }
 
 /// The join, if the request has neither a root nor a `..`, nor a NUL.
-fn plain_join(root: &[u8], request: &[u8]) -> Result<Vec<u8>, Error> {
+fn verbatim_join(root: &[u8], request: &[u8]) -> Result<Vec<u8>, Error> {
     if components(request).any(|part| matches!(part, Component::RootDir | Component::ParentDir)) {
         return Err(Error::Escapes);
     }
@@ -71,7 +71,7 @@ fn joined_below_resolved() {
     for root in &strings {
         let resolved = owned::resolved(root).unwrap();
         for path in &strings {
-            assert_eq!(owned::join_plain(root, path), plain_join(root, path));
+            assert_eq!(owned::join_verbatim(root, path), verbatim_join(root, path));
             let Ok(request) = Request::new(path) else {
                 assert!(climbs(path));
                 continue;
@@ -86,13 +86,13 @@ fn joined_below_resolved() {
 }
 
 #[test]
-fn joined_plain() {
+fn joined_verbatim() {
     let roots: [&[u8]; 7] = [b"", b"/", b"/www", b"..", b"/w\0w", b"/a/../b//.", b"/b"];
     for request in over(b"/.a\0", 6) {
         for root in roots {
             assert_eq!(
-                owned::join_plain(root, &request),
-                plain_join(root, &request)
+                owned::join_verbatim(root, &request),
+                verbatim_join(root, &request)
             );
         }
     }

@@ -2,7 +2,7 @@
 //! buffers: of all short paths and pairs of them, and of random ones.
 use path_within::resolved::{resolved, write_resolved};
 use path_within::way::{way, write_way};
-use path_within::within::{climbs, has_root_or_up, join_plain, join_within};
+use path_within::within::{climbs, has_root_or_up, join_verbatim, join_within};
 use path_within::{WithinError, has_nul};
 use std::alloc::{AllocError, Global};
 use std::test::Fail;
@@ -83,11 +83,11 @@ fn is_joined_within(
     }
 }
 
-// Whether the plain join is the whole join, or is refused for what the request has.
-fn is_joined_plain(alloc: Global, root: Path<'_>, request: Path<'_>, whole: Path<'_>) -> bool {
+// Whether the verbatim join is the whole join, or is refused for what the request has.
+fn is_joined_verbatim(alloc: Global, root: Path<'_>, request: Path<'_>, whole: Path<'_>) -> bool {
     let escapes = has_root_or_up(request);
     let is_cut = has_nul(request.bytes);
-    match join_plain(alloc, root, request) {
+    match join_verbatim(alloc, root, request) {
         Ok(joined) => !escapes && !is_cut && joined.as_path().bytes == whole.bytes,
         Err(WithinError::Escapes) => escapes,
         Err(WithinError::Nul) => !escapes && is_cut,
@@ -100,7 +100,7 @@ fn is_made(alloc: Global, first: &[u8], second: &[u8]) -> Result<bool, AllocErro
     let (a, b) = (Path::from_bytes(first), Path::from_bytes(second));
     let whole = a.join(alloc, b)?;
     Ok(
-        is_joined_plain(alloc, a, b, whole.as_path())
+        is_joined_verbatim(alloc, a, b, whole.as_path())
             && is_joined_within(alloc, a, b, whole.as_path())?
             && is_led(alloc, a, b)?,
     )

@@ -104,7 +104,7 @@ macro_rules! lacking {
 }
 lacking! {
     hash() is_canonical() climbs() check_request() common_dir(_) with_added_extension(_)
-    join_plain(_) way(_) resolved() key() from_key() key_end()
+    join_verbatim(_) way(_) resolved() key() from_key() key_end()
 }
 
 /// The path with that extension, of which a slash makes the method panic.

@@ -5,7 +5,7 @@ use path_keys::{KeyError, path_of};
 use path_runs::edits::rejoin;
 use path_within::WithinError;
 use path_within::way::way;
-use path_within::within::{join_plain, join_within};
+use path_within::within::{join_verbatim, join_within};
 use serde_json::Value;
 use std::alloc::AllocError;
 use std::test::Fail;
@@ -104,13 +104,13 @@ fn climb_not_joined(rt: HostRuntime) -> Result<(), Fail> {
 }
 
 #[test]
-fn up_not_joined_plainly(rt: HostRuntime) -> Result<(), Fail> {
-    report_escape(join_plain(rt.alloc(), path("/srv"), path("a/../b")))
+fn up_not_joined_verbatim(rt: HostRuntime) -> Result<(), Fail> {
+    report_escape(join_verbatim(rt.alloc(), path("/srv"), path("a/../b")))
 }
 
 #[test]
-fn nul_not_joined_plainly(rt: HostRuntime) -> Result<(), Fail> {
-    match join_plain(rt.alloc(), path("/srv"), path("..\0/a")) {
+fn nul_not_joined_verbatim(rt: HostRuntime) -> Result<(), Fail> {
+    match join_verbatim(rt.alloc(), path("/srv"), path("..\0/a")) {
         Err(WithinError::Nul) => report(true, true),
         Err(WithinError::Memory(_)) => report(false, true),
         _ => report(true, false),

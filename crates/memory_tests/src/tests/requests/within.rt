@@ -3,7 +3,7 @@ use super::super::{holds, path};
 use super::{report, report_path};
 use path_within::resolved::resolved;
 use path_within::way::way;
-use path_within::within::{join_plain, join_within};
+use path_within::within::{join_verbatim, join_within};
 use path_within::{Request, Root, WithinError};
 use std::alloc::{AllocError, Global};
 use std::test::Fail;
@@ -56,8 +56,8 @@ fn nothing_joined_within(rt: HostRuntime) -> Result<(), Fail> {
 }
 
 #[test]
-fn path_joined_plainly(rt: HostRuntime) -> Result<(), Fail> {
-    let given = join_plain(rt.alloc(), path("/srv/www"), path("a/b"));
+fn path_joined_verbatim(rt: HostRuntime) -> Result<(), Fail> {
+    let given = join_verbatim(rt.alloc(), path("/srv/www"), path("a/b"));
     report_join(given, "/srv/www/a/b")
 }
 

@@ -6,7 +6,7 @@ use path_runs::edits::{Edit, apply, rejoin};
 use path_runs::walk::{Turn, walk};
 use path_within::resolved::{resolved, write_resolved};
 use path_within::way::{way, write_way};
-use path_within::within::join_plain;
+use path_within::within::join_verbatim;
 use path_within::{Request, Root};
 use std::alloc::Global;
 use std::test::Fail;
@@ -51,7 +51,7 @@ fn runs_over_nothing(alloc: Global) -> bool {
 
 // Without a byte nothing is resolved or joined.
 fn resolves_nothing(alloc: Global) -> bool {
-    resolved(alloc, path("")).is_ok() && join_plain(alloc, path(""), path("")).is_ok()
+    resolved(alloc, path("")).is_ok() && join_verbatim(alloc, path(""), path("")).is_ok()
 }
 
 // A way from a path to itself is the empty path.

@@ -1,7 +1,7 @@
 use Rattle.std.proofs.Common.{arith}
 use Rattle.path_runs.proofs.lemmas.joins.AssociativeLemmas.{join_of-nil}
 use Rattle.unix_path.proofs.lemmas.parts.PartLemmas.{values-nil}
-use Rattle.path_within.proofs.within.join_plain.Goals as goal
+use Rattle.path_within.proofs.within.join_verbatim.Goals as goal
 
 pub returns-then-has_root_or_up-clause-succeeds : goal.returns-then-has_root_or_up-clause-succeeds
 returns-then-has_root_or_up-clause-succeeds c = grind (arith, values-nil)

@@ -4,7 +4,7 @@ use Rattle.path_runs.specs.JoinLaws.{values_added}
 use Rattle.path_runs.proofs.lemmas.joins.LeadLemmas.{values-join_of_values_added}
 use Rattle.path_within.specs.Climbs.{has_root_or_up}
 use Rattle.path_within.proofs.lemmas.plain.RequestLemmas.{request_rootless}
-use Rattle.unix_path_c.proofs.within.unix_path_join_plain.Goals as goal
+use Rattle.unix_path_c.proofs.within.unix_path_join_verbatim.Goals as goal
 
 pub returns-clause-within : goal.returns-clause-within
 returns-clause-within c = λ _.
