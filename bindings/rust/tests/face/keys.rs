@@ -1,8 +1,7 @@
 //! Paths as keys: hashes, maps by parts, and keys for ordered stores.
+use crate::feeds::{self, fed_by};
 use crate::short_strings::over;
-use std::collections::hash_map::{DefaultHasher, RandomState};
 use std::collections::{BTreeMap, BTreeSet, HashMap, HashSet};
-use std::hash::{BuildHasher, BuildHasherDefault, Hash, Hasher};
 use unix_path_rattle::{
     compare, components, hash, owned, starts_with, ByComponents, Component, Error,
 };
@@ -95,27 +94,6 @@ fn keys_of_pairs() {
     }
 }
 
-/// A hasher that keeps what it is fed.
-#[derive(Default)]
-struct Fed(Vec<u8>);
-
-impl Hasher for Fed {
-    fn write(&mut self, bytes: &[u8]) {
-        self.0.extend_from_slice(bytes);
-    }
-
-    fn finish(&self) -> u64 {
-        0
-    }
-}
-
-/// What the key feeds a hasher.
-fn fed_by(key: impl Hash) -> Vec<u8> {
-    let mut hasher = Fed::default();
-    key.hash(&mut hasher);
-    hasher.0
-}
-
 /// So no two different paths collide under each key of a hasher, nor two different lists of paths.
 #[test]
 fn hashers_are_fed_the_parts() {
@@ -137,27 +115,7 @@ fn hashers_are_fed_the_parts() {
     assert!(feeds.windows(2).all(|pair| !pair[1].starts_with(&pair[0])));
 }
 
-/// The lists of two and of three paths whose parts are, one after the other, that many names.
-fn cut_lists(names: usize) -> Vec<Vec<ByComponents<String>>> {
-    let path = |count| ByComponents(["a"].repeat(count).join("/"));
-    let mut lists = vec![];
-    for first in 0..=names {
-        lists.push(vec![path(first), path(names - first)]);
-        for second in 0..=names - first {
-            lists.push([first, second, names - first - second].map(path).into());
-        }
-    }
-    lists
-}
-
 #[test]
 fn cut_lists_differ() {
-    let lists = cut_lists(64);
-    let fixed = BuildHasherDefault::<DefaultHasher>::default();
-    let random = RandomState::new();
-    let feeds: HashSet<_> = lists.iter().map(fed_by).collect();
-    let hashes: HashSet<_> = lists.iter().map(|it| fixed.hash_one(it)).collect();
-    let keyed: HashSet<_> = lists.iter().map(|it| random.hash_one(it)).collect();
-    assert_eq!(lists.len(), 65 + 65 * 66 / 2);
-    assert_eq!([feeds.len(), hashes.len(), keyed.len()], [lists.len(); 3]);
+    feeds::cut_lists_differ(|names| ByComponents(["a"].repeat(names).join("/")));
 }

@@ -3,6 +3,7 @@
 mod beside_std;
 mod edits;
 mod families;
+mod feeds;
 mod keys;
 mod rows;
 mod short_strings;

@@ -5,44 +5,12 @@
 mod calls;
 mod reader;
 
-use reader::{ask_all, spelled, Call};
-use std::cmp::Ordering;
+use reader::{ask_all, spelled, Answer, Call};
 use unix_path_rattle::Component::{self, CurDir, Normal, ParentDir, RootDir};
 use unix_path_rattle::{self as paths, os, owned, Error, Request, RequestError};
 
 /// What a buffer holds before a call.
 const OLD: u8 = 0xA5;
-
-/// What a call answers of a path.
-trait Answer {
-    /// The fields of a row.
-    fn fields(self, path: &[u8]) -> Vec<String>;
-}
-
-impl Answer for bool {
-    fn fields(self, _: &[u8]) -> Vec<String> {
-        vec![self.to_string()]
-    }
-}
-
-/// A hash.
-impl Answer for u64 {
-    fn fields(self, _: &[u8]) -> Vec<String> {
-        vec![format!("{self:#018x}")]
-    }
-}
-
-impl Answer for usize {
-    fn fields(self, _: &[u8]) -> Vec<String> {
-        vec![self.to_string()]
-    }
-}
-
-impl Answer for Ordering {
-    fn fields(self, _: &[u8]) -> Vec<String> {
-        vec![(self as i8).to_string()]
-    }
-}
 
 /// The number for which a request is refused.
 impl Answer for Result<(), RequestError> {

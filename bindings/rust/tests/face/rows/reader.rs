@@ -1,10 +1,43 @@
 //! Asks the rows of `tests/rows.txt`: each is spelled anew with the answer of its call. A row that
 //! is spelled otherwise is wrong, or no row.
 
+use std::cmp::Ordering;
+
 static ROWS: &str = include_str!("../../../../../tests/rows.txt");
 
 /// A call: its name, how many paths it takes, and what asks it, as the fields of its answer.
 pub type Call = (&'static str, usize, fn(&[u8], &[u8]) -> Vec<String>);
+
+/// What a call answers of a path.
+pub trait Answer {
+    /// The fields of a row.
+    fn fields(self, path: &[u8]) -> Vec<String>;
+}
+
+impl Answer for bool {
+    fn fields(self, _: &[u8]) -> Vec<String> {
+        vec![self.to_string()]
+    }
+}
+
+/// A hash.
+impl Answer for u64 {
+    fn fields(self, _: &[u8]) -> Vec<String> {
+        vec![format!("{self:#018x}")]
+    }
+}
+
+impl Answer for usize {
+    fn fields(self, _: &[u8]) -> Vec<String> {
+        vec![self.to_string()]
+    }
+}
+
+impl Answer for Ordering {
+    fn fields(self, _: &[u8]) -> Vec<String> {
+        vec![(self as i8).to_string()]
+    }
+}
 
 /// The field that stands for these bytes.
 pub fn spelled(bytes: &[u8]) -> String {

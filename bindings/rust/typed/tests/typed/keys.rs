@@ -1,32 +1,15 @@
 //! Paths as keys of maps, looked up by another spelling.
+#[path = "../../../tests/face/feeds.rs"]
+mod feeds;
+
 use crate::strings::*;
+use feeds::fed_by;
 use std::borrow::Cow;
-use std::collections::{BTreeMap, BTreeSet, HashMap, HashSet};
-use std::hash::{BuildHasher, BuildHasherDefault, DefaultHasher, Hash, Hasher, RandomState};
+use std::collections::{BTreeMap, BTreeSet, HashMap};
+use std::hash::{BuildHasher, RandomState};
 use std::{rc::Rc, sync::Arc};
 use unix_path_rattle::ByComponents;
 use unix_path_typed::{Path, PathBuf, UnixStr, UnixString};
-
-/// A hasher that keeps what it is fed.
-#[derive(Default)]
-struct Fed(Vec<u8>);
-
-impl Hasher for Fed {
-    fn write(&mut self, bytes: &[u8]) {
-        self.0.extend_from_slice(bytes);
-    }
-
-    fn finish(&self) -> u64 {
-        0
-    }
-}
-
-/// What the key feeds a hasher.
-fn fed_by(key: impl Hash) -> Vec<u8> {
-    let mut hasher = Fed::default();
-    key.hash(&mut hasher);
-    hasher.0
-}
 
 /// What a path feeds: its parts and then an end, be it borrowed, owned or a walk.
 fn fed_by_path(path: &Path) -> Vec<u8> {
@@ -61,29 +44,9 @@ fn hashers_are_fed_the_parts() {
     assert!(sorted.windows(2).all(|pair| !pair[1].starts_with(pair[0])));
 }
 
-/// The lists of two and of three paths whose parts are, one after the other, that many names.
-fn cut_lists(names: usize) -> Vec<Vec<PathBuf>> {
-    let path = |count| PathBuf::from_iter(["a"].repeat(count));
-    let mut lists = vec![];
-    for first in 0..=names {
-        lists.push(vec![path(first), path(names - first)]);
-        for second in 0..=names - first {
-            lists.push([first, second, names - first - second].map(path).into());
-        }
-    }
-    lists
-}
-
 #[test]
 fn cut_lists_differ() {
-    let lists = cut_lists(64);
-    let fixed = BuildHasherDefault::<DefaultHasher>::default();
-    let random = RandomState::new();
-    let feeds: HashSet<_> = lists.iter().map(fed_by).collect();
-    let hashes: HashSet<_> = lists.iter().map(|it| fixed.hash_one(it)).collect();
-    let keyed: HashSet<_> = lists.iter().map(|it| random.hash_one(it)).collect();
-    assert_eq!(lists.len(), 65 + 65 * 66 / 2);
-    assert_eq!([feeds.len(), hashes.len(), keyed.len()], [lists.len(); 3]);
+    feeds::cut_lists_differ(|names| PathBuf::from_iter(["a"].repeat(names)));
 }
 
 #[test]

@@ -6,35 +6,11 @@ mod calls;
 mod reader;
 
 use crate::strings::{bytes, ours};
-use reader::{ask_all, spelled, Call};
+use reader::{ask_all, spelled, Answer, Call};
 use std::borrow::Cow;
 use std::cmp::Ordering;
 use std::panic::catch_unwind;
 use unix_path_typed::{Component, Path, PathBuf, StripPrefixError, UnixStr};
-
-/// What a method answers of a path.
-trait Answer {
-    /// The fields of a row.
-    fn fields(self, path: &[u8]) -> Vec<String>;
-}
-
-impl Answer for bool {
-    fn fields(self, _: &[u8]) -> Vec<String> {
-        vec![self.to_string()]
-    }
-}
-
-impl Answer for usize {
-    fn fields(self, _: &[u8]) -> Vec<String> {
-        vec![self.to_string()]
-    }
-}
-
-impl Answer for Ordering {
-    fn fields(self, _: &[u8]) -> Vec<String> {
-        vec![(self as i8).to_string()]
-    }
-}
 
 impl Answer for PathBuf {
     fn fields(self, _: &[u8]) -> Vec<String> {

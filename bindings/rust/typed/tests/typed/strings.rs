@@ -1,4 +1,8 @@
 //! The byte strings that the tests take, and both sides' views of them.
+#[path = "../../../tests/face/short_strings.rs"]
+mod short_strings;
+
+pub use short_strings::over;
 use std::ffi::OsStr;
 use std::os::unix::ffi::OsStrExt;
 use unix_path_typed::{Path, UnixStr};
@@ -6,20 +10,6 @@ use unix_path_typed::{Path, UnixStr};
 /// The strings of at most `longest` bytes over `/`, `.` and `a`, shorter ones first.
 pub fn short(longest: usize) -> Vec<Vec<u8>> {
     over(b"/.a", longest)
-}
-
-/// The strings of at most `longest` bytes over these letters, shorter ones first.
-pub fn over(letters: &[u8], longest: usize) -> Vec<Vec<u8>> {
-    let mut strings = vec![vec![]];
-    let mut at = 0;
-    while strings[at].len() < longest {
-        for letter in letters {
-            let longer = [&strings[at][..], &[*letter]].concat();
-            strings.push(longer);
-        }
-        at += 1;
-    }
-    strings
 }
 
 /// Numbers that look random, the same in every run (xorshift64).
