@@ -1,4 +1,4 @@
-//! Callers of walks and laws, edits, and what only owned paths and texts answer.
+//! Callers of walks and laws, edits, pairs of paths, and what only owned paths and texts answer.
 ghost use Rattle.std.specs.Prelude.{◌≡◌, is_some};
 ghost use Rattle.unix_path.specs.Names.{name_of};
 ghost use Rattle.unix_path.specs.Views.{value_of};
@@ -11,6 +11,7 @@ mod edits;
 mod facts;
 mod fits;
 mod loops;
+mod pairs;
 mod texts;
 
 use std::alloc::AllocError;

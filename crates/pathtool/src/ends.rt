@@ -11,7 +11,7 @@ use std::io::{Read, Write};
 /// The library has no relation of one call, so nothing but the one line of each body below says
 /// that it is one: these three lines are trusted.
 ///
-/// `End::new(b"a".as_slice())` is a source of one byte.
+/// `End::new(7).into_inner()` is 7.
 #[derive(Drop)]
 pub struct End<T> {
     inner: T,
@@ -20,11 +20,21 @@ pub struct End<T> {
 impl<T> End<T> {
     /// Makes a source of a reader, or a sink of a writer.
     ///
-    /// `End::new(Vec::new(alloc))` is a sink.
+    /// `End::new(b"a".as_slice())` is a source of one byte.
     pub fn new(inner: T) -> End<T>
         ensures { end_inner result ≡ inner }
     {
         End { inner }
+    }
+
+    /// Gives back the reader or the writer.
+    ///
+    /// `End::new(7).into_inner()` is 7.
+    pub fn into_inner(self) -> T
+        ensures { result ≡ end_inner self }
+    {
+        let End { inner } = self;
+        inner
     }
 }
 

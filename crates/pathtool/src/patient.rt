@@ -23,11 +23,21 @@ pub struct Patient<T> {
 impl<T> Patient<T> {
     /// Tries the calls of this source or sink again.
     ///
-    /// `Patient::new(End::new(Vec::new(alloc)))` is a sink.
+    /// `Patient::new(7).into_inner()` is 7.
     pub fn new(inner: T) -> Patient<T>
         ensures { patient_inner result ≡ inner }
     {
         Patient { inner }
+    }
+
+    /// Gives back the source or the sink.
+    ///
+    /// `Patient::new(7).into_inner()` is 7.
+    pub fn into_inner(self) -> T
+        ensures { result ≡ patient_inner self }
+    {
+        let Patient { inner } = self;
+        inner
     }
 }
 

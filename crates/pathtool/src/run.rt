@@ -24,7 +24,7 @@ use std::fmt;
 /// Displayed as `read error`, `write error` or `out of memory`, padded as text is.
 ///
 /// `RunError::Memory` is displayed as `out of memory`.
-#[derive(Clone, Copy, Debug)]
+#[derive(Clone, Copy, Debug, PartialEq, Eq)]
 pub enum RunError {
     /// The reader failed.
     Read,

@@ -26,7 +26,7 @@ pub struct Watched<T> {
 impl<T> Watched<T> {
     /// Watches `inner`, as one that hasn't failed, hasn't ended and isn't flushed.
     ///
-    /// `Watched::new(reader)` hasn't failed before its first read.
+    /// `Watched::new(reader).has_failed()` is false.
     pub fn new(inner: T) -> Watched<T>
         ensures inner { watched_inner result ≡ inner }
         ensures failed { has_failed result ≡ false }
@@ -39,6 +39,46 @@ impl<T> Watched<T> {
             ended: false,
             flushed: false,
         }
+    }
+
+    /// Whether a call has failed, or a write of some bytes took none.
+    ///
+    /// It is true after a `flush` that failed.
+    pub fn has_failed(&self) -> bool
+        ensures { result ≡ has_failed self.now }
+    {
+        let Watched { failed, .. } = self;
+        *failed
+    }
+
+    /// Whether a read with room for a byte found none.
+    ///
+    /// It is false after a read into an empty slice.
+    pub fn has_ended(&self) -> bool
+        ensures { result ≡ has_ended self.now }
+    {
+        let Watched { ended, .. } = self;
+        *ended
+    }
+
+    /// Whether a flush was Ok, and nothing was written or flushed since.
+    ///
+    /// It is false after a `write`.
+    pub fn is_flushed(&self) -> bool
+        ensures { result ≡ is_flushed self.now }
+    {
+        let Watched { flushed, .. } = self;
+        *flushed
+    }
+
+    /// Gives back the reader or the writer.
+    ///
+    /// `Watched::new(7).into_inner()` is 7.
+    pub fn into_inner(self) -> T
+        ensures { result ≡ watched_inner self }
+    {
+        let Watched { inner, .. } = self;
+        inner
     }
 }
 
